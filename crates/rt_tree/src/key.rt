@@ -1,0 +1,130 @@
+// A key of an object.
+ghost use Rattle.std.specs.Prelude.{◌≡◌, ◌⊎◌, IfOk, IfErr, OnOk, Some};
+ghost use Rattle.std.specs.List.{list_all};
+ghost use Rattle.rt_tree.specs.Key.{IsKey, is_allowed, key_fault};
+
+use crate::error::TreeError;
+use std::alloc::{AllocError, Global};
+use std::cmp::Ordering;
+use std::marker::Model;
+use std::sync::ArcStr;
+
+#[derive(Drop)]
+pub struct Key {
+    text: ArcStr,
+}
+
+impl Model for Key {
+    ghost use Rattle.std.specs.Prelude.{List, ℕ};
+    ghost use Rattle.std.specs.Arc.{arc_str_bytes};
+    ghost use Rattle.rt_tree.specs.Key.{IsKey};
+
+    ghost Value = { List ℕ };
+
+    ghost view = { λ a. arc_str_bytes a.text };
+
+    ghost invariant = { λ a. IsKey (arc_str_bytes a.text) };
+}
+
+fn is_allowed(byte: u8) -> bool
+    ensures { result ≡ is_allowed byte }
+{
+    byte >= 32 && byte != 127 && !matches!(byte, b'.' | b'$' | b'#' | b'[' | b']' | b'/')
+}
+
+fn all_allowed(text: &str) -> bool
+    ensures { result ≡ list_all is_allowed text.now }
+{
+    text.as_bytes().iter().all(|b| is_allowed(*b))
+}
+
+impl Key {
+    pub fn parse(alloc: Global, text: &str) -> Result<Key, TreeError>
+        ensures ok { IfOk result (λ key. key ≡ text.now) }
+        ensures valid { OnOk result (IsKey text.now) }
+        ensures fault { IfErr result (λ e. (key_fault text.now ≡ Some e) ⊎ (e ≡ TreeError.NoMemory)) }
+    {
+        if text.is_empty() {
+            return Err(TreeError::BadKey);
+        }
+        if text.len() > 768 {
+            return Err(TreeError::KeyTooLong);
+        }
+        if !all_allowed(text) {
+            return Err(TreeError::BadKey);
+        }
+        match ArcStr::from_str(alloc, text) {
+            Ok(text) => Ok(Key { text }),
+            Err(_) => Err(TreeError::NoMemory),
+        }
+    }
+
+    pub fn text(&self) -> &str
+        ensures text { result.now ≡ self.now }
+        ensures key { IsKey self.now }
+    {
+        self.text.as_str()
+    }
+
+    pub fn copy(&self) -> Result<Key, AllocError>
+        ensures { IfOk result (λ k. k ≡ self.now) }
+    {
+        let text = self.text.clone()?;
+        Ok(Key { text })
+    }
+}
+
+impl PartialEq for Key {
+    ghost use Rattle.std.specs.Prelude.{◌==◌};
+    ghost use Rattle.std.specs.Cmp.Lexicographic.{pointwise, nat_list_eq_equiv};
+    ghost use Rattle.std.specs.Cmp as Cmp;
+
+    ghost eq = { pointwise ◌==◌ };
+
+    ghost laws = { Cmp.partial_equiv_from_equiv nat_list_eq_equiv };
+
+    fn eq(&self, other: &Key) -> bool {
+        self.text.as_bytes() == other.text.as_bytes()
+    }
+}
+
+impl Eq for Key {
+    ghost use Rattle.std.specs.Cmp.Lexicographic.{nat_list_eq_equiv};
+
+    ghost laws = { nat_list_eq_equiv };
+}
+
+impl PartialOrd for Key {
+    ghost use Rattle.std.specs.Ordering.{as_partial_cmp, nat_cmp};
+    ghost use Rattle.std.specs.Cmp.Lexicographic.{slice_cmp};
+    ghost use Rattle.std.specs.Cmp.{partial_order_from_own_ties};
+    ghost use Rattle.std.specs.Cmp.Rules.{comparing};
+    ghost use Rattle.std.proofs.Common.{rules};
+
+    ghost partial_cmp = { as_partial_cmp (slice_cmp nat_cmp) };
+
+    ghost laws = { partial_order_from_own_ties (Prim.search (comparing, rules)) (Prim.search (comparing, rules)) };
+
+    fn partial_cmp(&self, other: &Key) -> Option<Ordering> {
+        Some(self.cmp(other))
+    }
+}
+
+impl Ord for Key {
+    ghost use Rattle.std.specs.Ordering.{nat_cmp};
+    ghost use Rattle.std.specs.Cmp.Lexicographic.{slice_cmp};
+    ghost use Rattle.std.specs.Cmp.Rules.{comparing};
+    ghost use Rattle.std.proofs.Common.{rules};
+
+    ghost cmp = { slice_cmp nat_cmp };
+
+    ghost total = { Prim.search (comparing, rules) };
+
+    ghost matches_partial_cmp = { Prim.search (comparing, rules) };
+
+    ghost matches_eq = { Prim.search (comparing, rules) };
+
+    fn cmp(&self, other: &Key) -> Ordering {
+        self.text.as_bytes().cmp(other.text.as_bytes())
+    }
+}

@@ -1,0 +1,372 @@
+// A tree of leaves.
+ghost use Rattle.std.specs.Prelude.{[], ◌≡◌, ◌<◌, ◌≤◌, ◌+◌, false, length, IsTrue, ◌↔◌, IfOk, IfErr, OnOk, OnErr, ◌⊎◌, is_some, IfSome, IfNone};
+ghost use Rattle.std.specs.Option.{option_copied};
+ghost use Rattle.std.specs.Arc.{arc_value};
+ghost use Rattle.std.specs.BTreeMap.{IsOrdered, insert_entry};
+ghost use Rattle.rt_tree.specs.PathTree.{leaf_at, null, of_leaf, is_null, sub, put, non_null, levels, key_cmp, PutsBelow, AllFull};
+ghost use Rattle.rt_tree.specs.Children.{is_object, children_of};
+
+use crate::error::TreeError;
+use crate::key::Key;
+use crate::leaf::Leaf;
+use crate::path::Path;
+use std::alloc::{AllocError, Global};
+use std::collections::BTreeMap;
+use std::marker::Model;
+use std::sync::Arc;
+
+#[cycle(tree)]
+#[derive(Drop)]
+pub struct Tree {
+    node: Node,
+}
+
+#[cycle(tree)]
+#[derive(Drop)]
+enum Node {
+    Null,
+    Leaf(Leaf),
+    Object(Arc<BTreeMap<Key, Tree>, Global>),
+}
+
+impl Model for Tree {
+    ghost use Rattle.rt_tree.specs.PathTree.{PathTree, tree_code, levels};
+
+    ghost Value = { PathTree };
+
+    ghost coded = { tree_code };
+
+    ghost use Rattle.rt_tree.specs.TreeView.{tree_of, IsNode};
+
+    ghost view = { λ a. tree_of a.node };
+
+    ghost invariant = { λ a. IsNode a.node };
+
+    ghost size = { levels };
+
+    ghost use Rattle.rt_tree.specs.TreeFalls.{deep_le_levels};
+
+    ghost size_decreases = { λ a h. deep_le_levels a.node h };
+}
+
+impl Tree {
+    pub fn null() -> Tree
+        ensures { result ≡ null }
+    {
+        Tree { node: Node::Null }
+    }
+
+    pub fn leaf(leaf: Leaf) -> Tree
+        ensures { result ≡ of_leaf leaf }
+    {
+        Tree {
+            node: Node::Leaf(leaf),
+        }
+    }
+
+    pub fn is_null(&self) -> bool
+        ensures { result ≡ is_null self.now }
+    {
+        match &self.node {
+            Node::Null => true,
+            Node::Leaf(_) => false,
+            Node::Object(_) => false,
+        }
+    }
+
+    /// The part of the tree at the path, where there is one.
+    pub fn get(&self, path: &Path) -> Option<&Tree>
+        ensures { option_copied result ≡ non_null (sub self.now path.now) }
+    {
+        self.at(path.keys())
+    }
+
+    fn at(&self, keys: &[Key]) -> Option<&Tree>
+        ensures { option_copied result ≡ non_null (sub self.now keys.now) }
+    {
+        let Some((key, rest)) = keys.split_first() else {
+            return if self.is_null() { None } else { Some(self) };
+        };
+        match &self.node {
+            Node::Object(children) => match children.get(key) {
+                Some(child) => child.at(rest),
+                None => None,
+            },
+            Node::Null => None,
+            Node::Leaf(_) => None,
+        }
+    }
+
+    /// The children of an object, in the order of their keys' bytes.
+    pub fn children(&self) -> Option<&BTreeMap<Key, Tree>>
+        ensures object { is_some result ≡ is_object self.now }
+        ensures children { IfSome result (λ children. children.now.entries ≡ children_of self.now) }
+        ensures none { IfNone result (children_of self.now ≡ []) }
+    {
+        match &self.node {
+            Node::Object(children) => Some(&**children),
+            Node::Null => None,
+            Node::Leaf(_) => None,
+        }
+    }
+
+    pub fn copy(&self, alloc: Global) -> Result<Tree, AllocError>
+        ensures { IfOk result (λ tree. tree ≡ self.now) }
+    {
+        match &self.node {
+            Node::Null => Ok(Tree { node: Node::Null }),
+            Node::Leaf(leaf) => {
+                let leaf = leaf.copy(alloc)?;
+                Ok(Tree {
+                    node: Node::Leaf(leaf),
+                })
+            }
+            Node::Object(children) => {
+                let children = Arc::try_clone(children)?;
+                Ok(Tree {
+                    node: Node::Object(children),
+                })
+            }
+        }
+    }
+
+    /// The leaf, where the tree is one.
+    pub fn as_leaf(&self) -> Option<&Leaf>
+        ensures { option_copied result ≡ leaf_at self.now [] }
+    {
+        match &self.node {
+            Node::Leaf(leaf) => Some(leaf),
+            Node::Null => None,
+            Node::Object(_) => None,
+        }
+    }
+
+    /// One more than the number of keys of the longest path to a leaf; 0 for null.
+    pub fn levels(&self) -> usize
+        ensures levels { result ≡ levels self.now }
+        ensures shallow { result ≤ 33 }
+    {
+        match &self.node {
+            Node::Null => 0,
+            Node::Leaf(_) => 1,
+            Node::Object(children) => {
+                let mut most = 0;
+                for child in children.values() {
+                    most = most.max(child.levels());
+                }
+                most + 1
+            }
+        }
+    }
+
+    /// Puts a tree at a path.
+    pub fn put(&mut self, alloc: Global, path: &Path, tree: Tree) -> Result<(), TreeError>
+        ensures ok { OnOk result (self.new ≡ put self.old path.now tree) }
+        ensures err { OnErr result (self.new ≡ self.old) }
+        ensures too_deep { (result ≡ Err TreeError.TooDeep) ↔ (33 < length path.now + levels tree) }
+        ensures errors { IfErr result (λ e. (e ≡ TreeError.TooDeep) ⊎ (e ≡ TreeError.NoMemory)) }
+    {
+        let keys = path.keys();
+        if tree.levels() > 33 - keys.len() {
+            return Err(TreeError::TooDeep);
+        }
+        match self.put_at(alloc, keys, tree) {
+            Ok(()) => Ok(()),
+            Err(_) => Err(TreeError::NoMemory),
+        }
+    }
+
+    #[cycle(put)]
+    fn put_at(&mut self, alloc: Global, keys: &[Key], tree: Tree) -> Result<(), AllocError>
+        requires { length keys.now + levels tree ≤ 33 }
+        ensures ok { OnOk result (self.new ≡ put self.old keys.now tree) }
+        ensures err { OnErr result (self.new ≡ self.old) }
+    {
+        let Some((key, rest)) = keys.split_first() else {
+            *self = tree;
+            return Ok(());
+        };
+        if let Node::Object(children) = &mut self.node {
+            put_shared(children, alloc, key, rest, tree)?;
+            if children.is_empty() {
+                self.node = Node::Null;
+            }
+            return Ok(());
+        }
+        if !tree.is_null() {
+            *self = Tree::branch(alloc, keys, tree)?;
+        }
+        Ok(())
+    }
+
+    // A tree with nothing but `tree` at `keys`.
+    fn branch(alloc: Global, keys: &[Key], tree: Tree) -> Result<Tree, AllocError>
+        requires full { is_null tree ≡ false }
+        requires shallow { length keys.now + levels tree ≤ 33 }
+        ensures { IfOk result (λ t. t ≡ put null keys.now tree) }
+    {
+        let Some((key, rest)) = keys.split_first() else {
+            return Ok(tree);
+        };
+        let inner = Tree::branch(alloc, rest, tree)?;
+        let key = key.copy()?;
+        let mut children = BTreeMap::new(alloc);
+        children.insert(key, inner)?;
+        let children = Arc::new(alloc, children)?;
+        Ok(Tree {
+            node: Node::Object(children),
+        })
+    }
+}
+
+// `insert`, without the old child.
+fn set_child(children: &mut BTreeMap<Key, Tree>, key: Key, child: Tree) -> Result<(), AllocError>
+    ensures { OnOk result (children.new.entries ≡ insert_entry key_cmp children.old.entries key child) }
+{
+    children.insert(key, child)?;
+    Ok(())
+}
+
+// The same children in a map of their own.
+fn copy_children(
+    alloc: Global,
+    children: &BTreeMap<Key, Tree>,
+) -> Result<BTreeMap<Key, Tree>, AllocError>
+    requires { IsOrdered key_cmp children.now }
+    ensures { IfOk result (λ copies. copies.entries ≡ children.now.entries) }
+{
+    let mut copies = BTreeMap::new(alloc);
+    for (key, child) in children {
+        let key = key.copy()?;
+        let child = child.copy(alloc)?;
+        set_child(&mut copies, key, child)?;
+    }
+    Ok(copies)
+}
+
+// Puts a tree at a path below the child at `key`. Children that another tree shares are copied first.
+#[cycle(put)]
+fn put_shared(
+    shared: &mut Arc<BTreeMap<Key, Tree>, Global>,
+    alloc: Global,
+    key: &Key,
+    rest: &[Key],
+    tree: Tree,
+) -> Result<(), AllocError>
+    requires shallow { length rest.now + levels tree ≤ 32 }
+    requires full { AllFull (arc_value shared.old).entries }
+    requires sorted { IsOrdered key_cmp (arc_value shared.old) }
+    ensures ok { OnOk result (PutsBelow (arc_value shared.old).entries (arc_value shared.new).entries key.now rest.now tree) }
+    ensures err { OnErr result ((arc_value shared.new).entries ≡ (arc_value shared.old).entries) }
+    ensures ordered { IsOrdered key_cmp (arc_value shared.new) }
+{
+    if let Some(children) = Arc::get_mut(shared) {
+        return put_below(children, alloc, key, rest, tree);
+    }
+    let mut children = copy_children(alloc, shared)?;
+    put_below(&mut children, alloc, key, rest, tree)?;
+    *shared = Arc::new(alloc, children)?;
+    Ok(())
+}
+
+// Puts a tree at a path below the child at `key`, and takes out a child that became null.
+#[cycle(put)]
+fn put_below(
+    children: &mut BTreeMap<Key, Tree>,
+    alloc: Global,
+    key: &Key,
+    rest: &[Key],
+    tree: Tree,
+) -> Result<(), AllocError>
+    requires shallow { length rest.now + levels tree ≤ 32 }
+    requires full { AllFull children.old.entries }
+    ensures ok { OnOk result (PutsBelow children.old.entries children.new.entries key.now rest.now tree) }
+    ensures err { OnErr result (children.new.entries ≡ children.old.entries) }
+    ensures ordered { IsOrdered key_cmp children.new }
+{
+    let Some(child) = children.get_mut(key) else {
+        if tree.is_null() {
+            return Ok(());
+        }
+        let branch = Tree::branch(alloc, rest, tree)?;
+        let key = key.copy()?;
+        children.insert(key, branch)?;
+        return Ok(());
+    };
+    child.put_at(alloc, rest, tree)?;
+    if child.is_null() {
+        children.remove(key);
+    }
+    Ok(())
+}
+
+#[cfg(test)]
+mod tests {
+    use super::*;
+    use std::test::Fail;
+
+    #[test]
+    fn puts(rt: HostRuntime) -> Result<(), Fail> {
+        let alloc = rt.alloc();
+        let mut tree = Tree::null();
+        let a = Path::parse(alloc, "/a/b/")?;
+        let ab = Path::parse(alloc, "a//b/c")?;
+        tree.put(alloc, &a, Tree::leaf(Leaf::truth(true)))?;
+        assert!(rt; tree.get(&a).is_some());
+        assert!(rt; tree.get(&ab).is_none());
+        tree.put(alloc, &ab, Tree::null())?;
+        assert!(rt; tree.get(&a).is_some());
+        tree.put(alloc, &ab, Tree::leaf(Leaf::truth(false)))?;
+        assert!(rt; tree.get(&ab).is_some());
+        let copy = tree.copy(alloc)?;
+        tree.put(alloc, &ab, Tree::null())?;
+        assert!(rt; tree.is_null());
+        assert!(rt; tree.get(&Path::root(alloc)).is_none());
+        assert!(rt; copy.children().is_some());
+        assert_eq!(rt; copy.levels(), 4);
+        Ok(())
+    }
+
+    fn owners(tree: &Tree) -> usize {
+        match &tree.node {
+            Node::Object(children) => Arc::strong_count(children),
+            Node::Leaf(_) => 0,
+            Node::Null => 0,
+        }
+    }
+
+    // A copy shares all; a write to one of the two leaves the other as it was, and shares what it did not change.
+    #[test]
+    fn shares(rt: HostRuntime) -> Result<(), Fail> {
+        let alloc = rt.alloc();
+        let mut tree = Tree::null();
+        let a = Path::parse(alloc, "a")?;
+        let ax = Path::parse(alloc, "a/x")?;
+        let b = Path::parse(alloc, "b")?;
+        let by = Path::parse(alloc, "b/y")?;
+        tree.put(alloc, &ax, Tree::leaf(Leaf::truth(true)))?;
+        tree.put(alloc, &by, Tree::leaf(Leaf::truth(true)))?;
+        let mut copy = tree.copy(alloc)?;
+        assert_eq!(rt; owners(&tree), 2);
+        copy.put(alloc, &ax, Tree::null())?;
+        assert_eq!(rt; owners(&tree), 1);
+        assert_eq!(rt; owners(&copy), 1);
+        assert!(rt; tree.get(&ax).is_some());
+        assert!(rt; copy.get(&ax).is_none());
+        assert_eq!(rt; tree.get(&a).map(owners), Some(1));
+        assert_eq!(rt; tree.get(&b).map(owners), Some(2));
+        drop(copy);
+        assert_eq!(rt; tree.get(&b).map(owners), Some(1));
+        Ok(())
+    }
+
+    fn crosses<T: Send + Sync + Drop>(value: T) {
+        drop(value);
+    }
+
+    #[test]
+    fn is_send(_rt: HostRuntime) -> Result<(), Fail> {
+        crosses(Tree::null());
+        Ok(())
+    }
+}
