@@ -5,13 +5,30 @@ use rt_tree::{Key, Tree};
 #[derive(Drop)]
 pub enum Change {
     /// The child was there, and is there no more.
-    Removed { key: Key, old: Tree },
+    Removed {
+        key: Key,
+        old: Tree,
+    },
     /// The child is there now, and was not.
-    Added { key: Key, value: Tree, after: Option<Key> },
+    Added {
+        key: Key,
+        value: Tree,
+        after: Option<Key>,
+    },
     /// The child's sort value differs.
-    Moved { key: Key, value: Tree, after: Option<Key> },
+    Moved {
+        key: Key,
+        value: Tree,
+        after: Option<Key>,
+    },
     /// The child's value differs.
-    Changed { key: Key, value: Tree, after: Option<Key> },
+    Changed {
+        key: Key,
+        value: Tree,
+        after: Option<Key>,
+    },
     /// The whole view, as a tree.
-    Value { value: Tree },
+    Value {
+        value: Tree,
+    },
 }
