@@ -14,6 +14,7 @@ use Rattle.rt_query.specs.Select.{Shown, tree_of}
 use Rattle.rt_query.specs.QueryEq.{shown_eq}
 use Rattle.rt_view.specs.declared.change.Change.{Change}
 use Rattle.rt_view.specs.declared.change.Change.TheVariants.{Removed, Added, Moved, Changed, Value}
+use Rattle.rt_view.specs.Kinds.{is_same}
 use Rattle.rt_view.specs.Changes.{placed, is_added, is_moved, is_changed, row_changes, changes, replay, by_keys, rows_in, last_change, Turns}
 use Rattle.rt_view.proofs.Tests.{shown_eq_tells}
 use Rattle.rt_view.proofs.ReplayLaws.{row_at-cons, fold-append, replay-row_changes}
@@ -138,3 +139,15 @@ turns-append a b c xs (y ∷ ys) first second = record {
     more : (xs : List Change) → xs ++ y ∷ ys ≢ []
     more [] e = cc
     more (x ∷ xs) e = cc
+
+-- ---- what is given
+
+-- where there was no other view, no changes
+pub changes-alike : (index : Index) (old : Option Shown) (new : Shown) → HasDistinctKeys new.rows → is_same old new ≡ true → [] ≡ changes index old new
+changes-alike index None new d e = cc
+changes-alike index (Some old) new d e = let same : old ≡ new = (shown_eq_tells old new).0 e in sym (ap (λ o. changes index (Some o) new) same ∙ changes-same index new d)
+
+-- where there was another one, or none, the changes of the rows, and then the whole view
+pub changes-differ : (index : Index) (old : Option Shown) (new : Shown) → is_same old new ≡ false → row_changes index (rows_in old) new.rows ++ Value (tree_of new) ∷ [] ≡ changes index old new
+changes-differ index None new e = refl
+changes-differ index (Some old) new e = ap (λ b. row_changes index old.rows new.rows ++ cond b [] (Value (tree_of new) ∷ [])) (sym e)

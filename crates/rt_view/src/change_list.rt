@@ -20,6 +20,13 @@ impl Model for ChangeList {
 }
 
 impl ChangeList {
+    /// The list of these changes.
+    pub fn of(changes: Vec<Change>) -> ChangeList
+        ensures { result ≡ changes.items }
+    {
+        ChangeList { items: changes }
+    }
+
     /// The changes, in order.
     pub fn as_slice(&self) -> &[Change]
         ensures { result.now ≡ self.now }

@@ -5,6 +5,7 @@ mod batch;
 mod change;
 mod change_list;
 mod compare;
+mod kind;
 mod laws;
 
 pub use batch::Batch;
