@@ -1,0 +1,2 @@
+pub mod SelectLaws
+pub mod Tests
