@@ -40,8 +40,8 @@ pub fn value_cmp(a: &SortRef<'_>, b: &SortRef<'_>) -> Ordering
     }
 }
 
-/// What a whole tree is sorted by.
-pub fn own_sort_value(tree: &Tree) -> SortRef<'_>
+// What a whole tree is sorted by.
+pub(crate) fn own_sort_value(tree: &Tree) -> SortRef<'_>
     ensures { value_of result ≡ own_sort_value tree.now }
 {
     match tree.as_leaf() {
