@@ -2,9 +2,8 @@
 ghost use Rattle.std.specs.Prelude.{◌≡◌, ◌++◌, IfOk, OnOk};
 ghost use Rattle.std.specs.Option.{option_copied};
 ghost use Rattle.std.specs.Cmp.Lexicographic.{pointwise};
-ghost use Rattle.rt_query.specs.Select.{tree_of};
 ghost use Rattle.rt_query.specs.QueryEq.{row_eq};
-ghost use Rattle.rt_query.specs.Rows.{HasDistinctKeys, row_at};
+ghost use Rattle.rt_query.specs.Rows.{row_at};
 ghost use Rattle.rt_view.specs.Changes.{changes, placed_changes, removals, rows_in};
 ghost use Rattle.rt_view.specs.Kinds.{change_of, is_given, is_same};
 
@@ -15,23 +14,6 @@ use rt_order::Index;
 use rt_query::{Row, Shown};
 use rt_tree::{Key, Tree};
 use std::alloc::{AllocError, Global};
-
-fn row<'a>(shown: &'a Shown, key: &Key) -> Option<&'a Tree>
-    ensures { option_copied result ≡ row_at shown.now.rows key.now }
-{
-    for row in shown.rows() {
-        if row.key == *key {
-            return Some(&row.value);
-        }
-    }
-    None
-}
-
-fn tree(alloc: Global, shown: &Shown) -> Result<Tree, AllocError>
-    ensures { IfOk result (λ t. t ≡ tree_of shown.now) }
-{
-    Err(AllocError)
-}
 
 // The rows of a view, or none.
 fn rows_in<'a>(view: Option<&'a Shown>) -> &'a [Row]
@@ -48,7 +30,7 @@ fn value_in<'a>(view: Option<&'a Shown>, key: &Key) -> Option<&'a Tree>
     ensures { option_copied result ≡ row_at (rows_in (option_copied view.entry)) key.now }
 {
     match view {
-        Some(shown) => row(shown, key),
+        Some(shown) => shown.row(key),
         None => None,
     }
 }
@@ -95,7 +77,7 @@ fn push_removals(
     ensures { OnOk result (changes.new.items ≡ changes.old.items ++ removals old.now new.now.rows) }
 {
     for gone in old {
-        if row(new, &gone.key).is_none() {
+        if new.row(&gone.key).is_none() {
             let key = gone.key.copy()?;
             let old = gone.value.copy(alloc)?;
             changes.push(Change::Removed { key, old })?;
@@ -111,12 +93,12 @@ fn push_placed(
     kind: Kind,
     index: &Index,
     old: Option<&Shown>,
-    new: &Shown,
+    new: &[Row],
 ) -> Result<(), AllocError>
-    ensures { OnOk result (changes.new.items ≡ changes.old.items ++ placed_changes (is_given kind index.now) (change_of kind) (rows_in (option_copied old.entry)) new.now.rows) }
+    ensures { OnOk result (changes.new.items ≡ changes.old.items ++ placed_changes (is_given kind index.now) (change_of kind) (rows_in (option_copied old.entry)) new.now) }
 {
     let mut before = None;
-    for row in new.rows() {
+    for row in new {
         if kind.is_given(index, value_in(old, &row.key), &row.value) {
             changes.push(kind.change(alloc, row, before)?)?;
         }
@@ -132,18 +114,18 @@ pub fn changes(
     old: Option<&Shown>,
     new: &Shown,
 ) -> Result<ChangeList, AllocError>
-    requires new_keys { HasDistinctKeys new.now.rows }
     ensures { IfOk result (λ list. list ≡ changes index.now (option_copied old.entry) new.now) }
 {
     let mut changes = Vec::new(alloc);
+    let rows = new.rows();
     if is_same(old, new) {
         return Ok(ChangeList::of(changes));
     }
     push_removals(&mut changes, alloc, rows_in(old), new)?;
-    push_placed(&mut changes, alloc, Kind::Added, index, old, new)?;
-    push_placed(&mut changes, alloc, Kind::Moved, index, old, new)?;
-    push_placed(&mut changes, alloc, Kind::Changed, index, old, new)?;
-    let value = tree(alloc, new)?;
+    push_placed(&mut changes, alloc, Kind::Added, index, old, rows)?;
+    push_placed(&mut changes, alloc, Kind::Moved, index, old, rows)?;
+    push_placed(&mut changes, alloc, Kind::Changed, index, old, rows)?;
+    let value = new.tree().copy(alloc)?;
     changes.push(Change::Value { value })?;
     Ok(ChangeList::of(changes))
 }

@@ -3,7 +3,7 @@ ghost use Rattle.std.specs.Prelude.{◌≡◌, IfOk};
 ghost use Rattle.std.specs.Option.{option_copied};
 ghost use Rattle.rt_view.specs.Kinds.{change_of, is_given};
 
-use crate::change::Change;
+use crate::change::{Change, copy_key};
 use rt_order::{Index, sort_value, value_cmp};
 use rt_query::Row;
 use rt_tree::{Key, Tree};
@@ -43,10 +43,7 @@ impl Kind {
     {
         let key = row.key.copy()?;
         let value = row.value.copy(alloc)?;
-        let after = match before {
-            Some(before) => Some(before.copy()?),
-            None => None,
-        };
+        let after = copy_key(before)?;
         Ok(match self {
             Kind::Added => Change::Added { key, value, after },
             Kind::Moved => Change::Moved { key, value, after },

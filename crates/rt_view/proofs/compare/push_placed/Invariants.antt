@@ -7,5 +7,5 @@ use Rattle.rt_view.proofs.compare.push_placed.Given as goal
 
 abbrev pub invariant-loop-row : goal.invariant-loop-row
 invariant-loop-row l =
-    l.changes.items ++ given (is_given l.kind l.index) (change_of l.kind) (rows_in (option_copied l.old)) (option_copied l.before) (drop l.row-index l.row-items)
-    ≡ l.initial.changes.items ++ given (is_given l.kind l.index) (change_of l.kind) (rows_in (option_copied l.old)) (option_copied l.initial.before) l.row-items
+    l.changes.items ++ given (is_given l.kind l.index) (change_of l.kind) (rows_in (option_copied l.old)) (option_copied l.before) (drop l.row-index l.new)
+    ≡ l.initial.changes.items ++ given (is_given l.kind l.index) (change_of l.kind) (rows_in (option_copied l.old)) (option_copied l.initial.before) l.new
