@@ -14,7 +14,7 @@ use Rattle.rt_query.specs.Select.{Shown, tree_of}
 use Rattle.rt_query.specs.QueryEq.{shown_eq}
 use Rattle.rt_view.specs.declared.change.Change.{Change}
 use Rattle.rt_view.specs.declared.change.Change.TheVariants.{Removed, Added, Moved, Changed, Value}
-use Rattle.rt_view.specs.Kinds.{is_same}
+use Rattle.rt_view.specs.Given.{is_same}
 use Rattle.rt_view.specs.Changes.{placed, is_added, is_moved, is_changed, row_changes, changes, replay, by_keys, rows_in, last_change, Turns}
 use Rattle.rt_query.proofs.Tests.{shown_eq_tells}
 use Rattle.rt_view.proofs.ReplayLaws.{row_at-cons, fold-append, replay-row_changes}

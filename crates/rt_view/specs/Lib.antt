@@ -1,4 +1,4 @@
 pub mod Changes
 pub mod Examples
-pub mod Kinds
+pub mod Given
 pub mod Laws

@@ -1,11 +1,11 @@
 // The changes from one view to the next.
-ghost use Rattle.std.specs.Prelude.{◌≡◌, ◌++◌, IfOk, OnOk};
+ghost use Rattle.std.specs.Prelude.{◌≡◌, ◌++◌, IfOk, OnOk, Some};
 ghost use Rattle.std.specs.Option.{option_copied};
 ghost use Rattle.std.specs.Cmp.Lexicographic.{pointwise};
 ghost use Rattle.rt_query.specs.QueryEq.{row_eq};
 ghost use Rattle.rt_query.specs.Rows.{row_at};
-ghost use Rattle.rt_view.specs.Changes.{changes, placed_changes, removals, rows_in};
-ghost use Rattle.rt_view.specs.Kinds.{change_of, is_given, is_same};
+ghost use Rattle.rt_view.specs.Changes.{Turns, changes, placed_changes, removals, rows_in};
+ghost use Rattle.rt_view.specs.Given.{change_of, is_given, is_same};
 
 use crate::change::Change;
 use crate::change_list::ChangeList;
@@ -107,14 +107,18 @@ fn push_placed(
     Ok(())
 }
 
-/// The changes from the old view, or none, to the new one: removed, added, moved, changed, then the whole view, where it differs or is the first.
+/// The changes from the old view, or none, to the new one, in the order in which they are told: the removed rows by
+/// their old places; then those added, those moved (their sort value differs) and those changed (their value differs),
+/// each kind by the new places; then the whole view, where it differs or is the first. Played over the old rows they
+/// give the new ones. The order of kinds is that of the Firebase SDKs. Fails for want of memory alone.
 pub fn changes(
     alloc: Global,
     index: &Index,
     old: Option<&Shown>,
     new: &Shown,
 ) -> Result<ChangeList, AllocError>
-    ensures { IfOk result (λ list. list ≡ changes index.now (option_copied old.entry) new.now) }
+    ensures exact { IfOk result (λ list. list ≡ changes index.now (option_copied old.entry) new.now) }
+    ensures turns { IfOk result (λ list. Turns (option_copied old.entry) list (Some new.now)) }
 {
     let mut changes = Vec::new(alloc);
     let rows = new.rows();
