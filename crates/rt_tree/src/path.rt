@@ -72,6 +72,11 @@ impl Path {
         self.keys.as_slice()
     }
 
+    /// The allocator of the keys.
+    pub fn allocator(&self) -> Global {
+        *self.keys.allocator()
+    }
+
     pub fn is_prefix_of(&self, other: &Path) -> bool
         ensures { result ≡ is_some (strip self.now other.now) }
     {
