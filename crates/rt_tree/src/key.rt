@@ -1,5 +1,5 @@
 // A key of an object.
-ghost use Rattle.std.specs.Prelude.{◌≡◌, ◌⊎◌, IfOk, IfErr, OnOk, Some};
+ghost use Rattle.std.specs.Prelude.{◌≡◌, ◌⊎◌, IfOk, IfErr, IfSome, OnOk, Some};
 ghost use Rattle.std.specs.List.{list_all};
 ghost use Rattle.rt_tree.specs.Key.{IsKey, is_allowed, key_fault};
 
@@ -9,6 +9,10 @@ use std::cmp::Ordering;
 use std::marker::Model;
 use std::sync::ArcStr;
 
+/// The name of a child: 1 to 768 bytes of UTF-8 without the characters 0 to 31 and 127 and without `.` `$` `#` `[` `]`
+/// `/`, as Firebase has them.
+///
+/// Keys compare by their bytes. A copy shares its text with the original.
 #[derive(Drop)]
 pub struct Key {
     text: ArcStr,
@@ -26,6 +30,7 @@ impl Model for Key {
     ghost invariant = { λ a. IsKey (arc_str_bytes a.text) };
 }
 
+// Whether the byte may stand in a key. The bytes of a character above 127 all may.
 fn is_allowed(byte: u8) -> bool
     ensures { result ≡ is_allowed byte }
 {
@@ -38,27 +43,52 @@ fn all_allowed(text: &str) -> bool
     text.as_bytes().iter().all(|b| is_allowed(*b))
 }
 
+/// Why the text is no key, if it is none. Takes no memory.
+pub(crate) fn fault_of(text: &str) -> Option<TreeError>
+    ensures { result ≡ key_fault text.now }
+{
+    if text.is_empty() {
+        return Some(TreeError::BadKey);
+    }
+    if text.len() > 768 {
+        return Some(TreeError::KeyTooLong);
+    }
+    if !all_allowed(text) {
+        return Some(TreeError::BadKey);
+    }
+    None
+}
+
 impl Key {
+    /// Reads a key: the text itself, where it is one.
+    ///
+    /// `BadKey` for the empty text, then `KeyTooLong` for one above 768 bytes, then `BadKey` for a character that no key
+    /// has.
     pub fn parse(alloc: Global, text: &str) -> Result<Key, TreeError>
         ensures ok { IfOk result (λ key. key ≡ text.now) }
         ensures valid { OnOk result (IsKey text.now) }
+        ensures refused { IfSome (key_fault text.now) (λ e. result ≡ Err e) }
         ensures fault { IfErr result (λ e. (key_fault text.now ≡ Some e) ⊎ (e ≡ TreeError.NoMemory)) }
     {
-        if text.is_empty() {
-            return Err(TreeError::BadKey);
+        if let Some(fault) = fault_of(text) {
+            return Err(fault);
         }
-        if text.len() > 768 {
-            return Err(TreeError::KeyTooLong);
-        }
-        if !all_allowed(text) {
-            return Err(TreeError::BadKey);
-        }
-        match ArcStr::from_str(alloc, text) {
-            Ok(text) => Ok(Key { text }),
+        match Key::checked(alloc, text) {
+            Ok(key) => Ok(key),
             Err(_) => Err(TreeError::NoMemory),
         }
     }
 
+    /// The key of a text that was found to be one.
+    pub(crate) fn checked(alloc: Global, text: &str) -> Result<Key, AllocError>
+        requires { IsKey text.now }
+        ensures { IfOk result (λ key. key ≡ text.now) }
+    {
+        let text = ArcStr::from_str(alloc, text)?;
+        Ok(Key { text })
+    }
+
+    /// The text of the key.
     pub fn text(&self) -> &str
         ensures text { result.now ≡ self.now }
         ensures key { IsKey self.now }
@@ -66,8 +96,9 @@ impl Key {
         self.text.as_str()
     }
 
+    /// An equal key that shares the text.
     pub fn copy(&self) -> Result<Key, AllocError>
-        ensures { IfOk result (λ k. k ≡ self.now) }
+        ensures { IfOk result (λ key. key ≡ self.now) }
     {
         let text = self.text.clone()?;
         Ok(Key { text })
