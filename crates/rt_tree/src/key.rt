@@ -70,12 +70,9 @@ impl Key {
         ensures refused { IfSome (key_fault text.now) (λ e. result ≡ Err e) }
         ensures fault { IfErr result (λ e. (key_fault text.now ≡ Some e) ⊎ (e ≡ TreeError.NoMemory)) }
     {
-        if let Some(fault) = fault_of(text) {
-            return Err(fault);
-        }
-        match Key::checked(alloc, text) {
-            Ok(key) => Ok(key),
-            Err(_) => Err(TreeError::NoMemory),
+        match fault_of(text) {
+            Some(fault) => Err(fault),
+            None => Ok(Key::checked(alloc, text)?),
         }
     }
 

@@ -1,5 +1,5 @@
 // A place in a tree.
-ghost use Rattle.std.specs.Prelude.{◌≡◌, ◌<◌, ◌↔◌, ◌++◌, ◌∷◌, [], length, IfOk, IfErr, IfSome, OnOk, Some, ◌⊎◌, is_some, string_bytes};
+ghost use Rattle.std.specs.Prelude.{◌≡◌, ◌↔◌, ◌++◌, ◌∷◌, [], length, IfOk, IfErr, IfSome, OnOk, Some, ◌⊎◌, is_some, string_bytes};
 ghost use Rattle.rt_tree.specs.Path.{IsPath, path_keys, path_text, path_fault};
 ghost use Rattle.rt_tree.specs.PathTree.{strip};
 
@@ -83,12 +83,11 @@ impl Path {
         ensures refused { IfSome (path_fault text.now) (λ e. result ≡ Err e) }
         ensures fault { IfErr result (λ e. (path_fault text.now ≡ Some e) ⊎ (e ≡ TreeError.NoMemory)) }
     {
-        if let Some(fault) = fault_of(text) {
-            return Err(fault);
-        }
-        match checked_keys(alloc, text) {
-            Ok(keys) => Ok(Path { keys }),
-            Err(_) => Err(TreeError::NoMemory),
+        match fault_of(text) {
+            Some(fault) => Err(fault),
+            None => Ok(Path {
+                keys: checked_keys(alloc, text)?,
+            }),
         }
     }
 
@@ -144,18 +143,6 @@ impl Path {
         if self.keys.len() == 32 {
             return Err(TreeError::TooDeep);
         }
-        match self.longer(key) {
-            Ok(path) => Ok(path),
-            Err(_) => Err(TreeError::NoMemory),
-        }
-    }
-
-    // The path one key further down.
-    fn longer(&self, key: &Key) -> Result<Path, AllocError>
-        requires { length self.now < 32 }
-        ensures { IfOk result (λ path. path ≡ self.now ++ key.now ∷ []) }
-    {
-        let _ = key.text();
         let mut path = self.copy()?;
         path.keys.push(key.copy()?)?;
         Ok(path)

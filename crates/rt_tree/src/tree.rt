@@ -170,10 +170,8 @@ impl Tree {
         if tree.levels() > 33 - keys.len() {
             return Err(TreeError::TooDeep);
         }
-        match self.put_at(alloc, keys, tree) {
-            Ok(()) => Ok(()),
-            Err(_) => Err(TreeError::NoMemory),
-        }
+        self.put_at(alloc, keys, tree)?;
+        Ok(())
     }
 
     #[cycle(put)]
@@ -217,6 +215,31 @@ impl Tree {
             node: Node::Object(children),
         })
     }
+}
+
+/// Trees are equal where they have the same leaves.
+impl PartialEq for Tree {
+    ghost use Rattle.std.specs.Cmp as Cmp;
+    ghost use Rattle.rt_tree.specs.TreeEq.{tree_eq, tree_eq_tells, equivalence};
+
+    ghost eq = { tree_eq };
+
+    ghost laws = { Cmp.partial_equiv_from_equiv (equivalence tree_eq_tells) };
+
+    fn eq(&self, other: &Tree) -> bool {
+        match (&self.node, &other.node) {
+            (Node::Null, Node::Null) => true,
+            (Node::Leaf(left), Node::Leaf(right)) => left == right,
+            (Node::Object(left), Node::Object(right)) => **left == **right,
+            _ => false,
+        }
+    }
+}
+
+impl Eq for Tree {
+    ghost use Rattle.rt_tree.specs.TreeEq.{tree_eq_tells, equivalence};
+
+    ghost laws = { equivalence tree_eq_tells };
 }
 
 // `insert`, without the old child.
