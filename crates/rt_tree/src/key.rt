@@ -13,7 +13,7 @@ use std::sync::ArcStr;
 /// `/`, as Firebase has them.
 ///
 /// Keys compare by their bytes. A copy shares its text with the original.
-#[derive(Drop)]
+#[derive(Debug, Drop)]
 pub struct Key {
     text: ArcStr,
 }

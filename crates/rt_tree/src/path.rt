@@ -12,7 +12,7 @@ use std::marker::Model;
 /// A place in a tree: at most 32 keys, from the root down. The root has none.
 ///
 /// Paths compare key by key, each by its bytes, so that a path stands right before all that lie under it.
-#[derive(Drop)]
+#[derive(Debug, Drop)]
 pub struct Path {
     keys: Vec<Key>,
 }

@@ -15,14 +15,19 @@ use std::collections::BTreeMap;
 use std::marker::Model;
 use std::sync::Arc;
 
+/// A tree of values: null, a leaf, or an object of children. No child is null, and an object without children is null.
+/// At most 32 keys stand above a leaf.
+///
+/// A copy shares all of its original, and takes next to no time. [`Tree::put`] copies what it changes only where another
+/// tree shares it.
 #[cycle(tree)]
-#[derive(Drop)]
+#[derive(Debug, Drop)]
 pub struct Tree {
     node: Node,
 }
 
 #[cycle(tree)]
-#[derive(Drop)]
+#[derive(Debug, Drop)]
 enum Node {
     Null,
     Leaf(Leaf),
@@ -50,12 +55,14 @@ impl Model for Tree {
 }
 
 impl Tree {
+    /// The tree with nothing in it.
     pub fn null() -> Tree
         ensures { result ≡ null }
     {
         Tree { node: Node::Null }
     }
 
+    /// A leaf as a tree.
     pub fn leaf(leaf: Leaf) -> Tree
         ensures { result ≡ of_leaf leaf }
     {
@@ -64,6 +71,7 @@ impl Tree {
         }
     }
 
+    /// Whether there is nothing in the tree.
     pub fn is_null(&self) -> bool
         ensures { result ≡ is_null self.now }
     {
@@ -74,7 +82,7 @@ impl Tree {
         }
     }
 
-    /// The part of the tree at the path, where there is one.
+    /// The part of the tree at the path; `None` where that is null. Costs by the path alone.
     pub fn get(&self, path: &Path) -> Option<&Tree>
         ensures { option_copied result ≡ non_null (sub self.now path.now) }
     {
@@ -97,7 +105,7 @@ impl Tree {
         }
     }
 
-    /// The children of an object, in the order of their keys' bytes.
+    /// The children of an object, in the order of their keys' bytes; `None` for null and a leaf.
     pub fn children(&self) -> Option<&BTreeMap<Key, Tree>>
         ensures object { is_some result ≡ is_object self.now }
         ensures children { IfSome result (λ children. children.now.entries ≡ children_of self.now) }
@@ -110,6 +118,7 @@ impl Tree {
         }
     }
 
+    /// An equal tree, which shares the children with this one.
     pub fn copy(&self, alloc: Global) -> Result<Tree, AllocError>
         ensures { IfOk result (λ tree. tree ≡ self.now) }
     {
@@ -130,7 +139,7 @@ impl Tree {
         }
     }
 
-    /// The leaf, where the tree is one.
+    /// The leaf that the tree is; `None` for null and an object.
     pub fn as_leaf(&self) -> Option<&Leaf>
         ensures { option_copied result ≡ leaf_at self.now [] }
     {
@@ -141,7 +150,7 @@ impl Tree {
         }
     }
 
-    /// One more than the number of keys of the longest path to a leaf; 0 for null.
+    /// One more than the number of keys above the deepest leaf; 0 for null. Walks the whole tree.
     pub fn levels(&self) -> usize
         ensures levels { result ≡ levels self.now }
         ensures shallow { result ≤ 33 }
@@ -159,7 +168,12 @@ impl Tree {
         }
     }
 
-    /// Puts a tree at a path.
+    /// Puts a tree in the place of what stands at the path. Null takes that out, and with it each object above that is
+    /// left without children. Any other tree replaces a leaf above the path by an object; null leaves such a leaf.
+    ///
+    /// `TooDeep` where path and tree together have more than 32 keys. A refused tree is dropped, and nothing changes.
+    /// Costs by the path and by the tree that is put, and, the first time after a copy, by the number of children along the
+    /// path.
     pub fn put(&mut self, alloc: Global, path: &Path, tree: Tree) -> Result<(), TreeError>
         ensures ok { OnOk result (self.new ≡ put self.old path.now tree) }
         ensures err { OnErr result (self.new ≡ self.old) }
