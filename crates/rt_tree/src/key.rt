@@ -1,5 +1,6 @@
 // A key of an object.
 ghost use Rattle.std.specs.Prelude.{◌≡◌, ◌⊎◌, IfOk, IfErr, IfSome, OnOk, Some};
+ghost use Rattle.std.specs.Result.{result_err};
 ghost use Rattle.std.specs.List.{list_all};
 ghost use Rattle.rt_tree.specs.Key.{IsKey, is_allowed, key_fault};
 
@@ -43,20 +44,29 @@ fn all_allowed(text: &str) -> bool
     text.as_bytes().iter().all(|b| is_allowed(*b))
 }
 
-/// Why the text is no key, if it is none. Takes no memory.
-pub(crate) fn fault_of(text: &str) -> Option<TreeError>
-    ensures { result ≡ key_fault text.now }
+// Whether a text is a key, or why it is none.
+pub fn check_key(text: &str) -> Result<(), TreeError>
+    ensures { result_err result ≡ key_fault text.now }
 {
     if text.is_empty() {
-        return Some(TreeError::BadKey);
+        return Err(TreeError::BadKey);
     }
     if text.len() > 768 {
-        return Some(TreeError::KeyTooLong);
+        return Err(TreeError::KeyTooLong);
     }
     if !all_allowed(text) {
-        return Some(TreeError::BadKey);
+        return Err(TreeError::BadKey);
     }
-    None
+    Ok(())
+}
+
+// The key of a text that is one.
+pub fn valid_key(alloc: Global, text: &str) -> Result<Key, AllocError>
+    requires { IsKey text.now }
+    ensures { IfOk result (λ key. key ≡ text.now) }
+{
+    let text = ArcStr::from_str(alloc, text)?;
+    Ok(Key { text })
 }
 
 impl Key {
@@ -70,19 +80,8 @@ impl Key {
         ensures refused { IfSome (key_fault text.now) (λ e. result ≡ Err e) }
         ensures fault { IfErr result (λ e. (key_fault text.now ≡ Some e) ⊎ (e ≡ TreeError.NoMemory)) }
     {
-        match fault_of(text) {
-            Some(fault) => Err(fault),
-            None => Ok(Key::checked(alloc, text)?),
-        }
-    }
-
-    /// The key of a text that was found to be one.
-    pub(crate) fn checked(alloc: Global, text: &str) -> Result<Key, AllocError>
-        requires { IsKey text.now }
-        ensures { IfOk result (λ key. key ≡ text.now) }
-    {
-        let text = ArcStr::from_str(alloc, text)?;
-        Ok(Key { text })
+        check_key(text)?;
+        Ok(valid_key(alloc, text)?)
     }
 
     /// The text of the key.

@@ -1,10 +1,11 @@
 // A place in a tree.
 ghost use Rattle.std.specs.Prelude.{◌≡◌, ◌↔◌, ◌++◌, ◌∷◌, [], length, IfOk, IfErr, IfSome, OnOk, Some, ◌⊎◌, is_some, string_bytes};
+ghost use Rattle.std.specs.Result.{result_err};
 ghost use Rattle.rt_tree.specs.Path.{IsPath, path_keys, path_text, path_fault};
 ghost use Rattle.rt_tree.specs.PathTree.{strip};
 
 use crate::error::TreeError;
-use crate::key::{self, Key};
+use crate::key::{Key, check_key, valid_key};
 use std::alloc::{AllocError, Global};
 use std::cmp::Ordering;
 use std::marker::Model;
@@ -28,9 +29,9 @@ impl Model for Path {
     ghost invariant = { λ a. IsPath a.keys.items };
 }
 
-// Why the text is no path, if it is none: the first fault from left to right.
-fn fault_of(text: &str) -> Option<TreeError>
-    ensures { result ≡ path_fault text.now }
+// Whether a text is a path, or why it is none: the first fault from left to right.
+fn check_path(text: &str) -> Result<(), TreeError>
+    ensures { result_err result ≡ path_fault text.now }
 {
     let mut count: usize = 0;
     for piece in text.split('/') {
@@ -38,25 +39,23 @@ fn fault_of(text: &str) -> Option<TreeError>
             continue;
         }
         if count == 32 {
-            return Some(TreeError::TooDeep);
+            return Err(TreeError::TooDeep);
         }
-        if let Some(fault) = key::fault_of(piece) {
-            return Some(fault);
-        }
+        check_key(piece)?;
         count += 1;
     }
-    None
+    Ok(())
 }
 
-// The keys of a text that was found to be a path.
-fn checked_keys(alloc: Global, text: &str) -> Result<Vec<Key>, AllocError>
+// The keys of a text that is a path.
+fn valid_keys(alloc: Global, text: &str) -> Result<Vec<Key>, AllocError>
     requires { IsPath (path_keys text.now) }
     ensures { IfOk result (λ keys. keys.items ≡ path_keys text.now) }
 {
     let mut keys = Vec::new(alloc);
     for piece in text.split('/') {
         if !piece.is_empty() {
-            keys.push(Key::checked(alloc, piece)?)?;
+            keys.push(valid_key(alloc, piece)?)?;
         }
     }
     Ok(keys)
@@ -83,12 +82,10 @@ impl Path {
         ensures refused { IfSome (path_fault text.now) (λ e. result ≡ Err e) }
         ensures fault { IfErr result (λ e. (path_fault text.now ≡ Some e) ⊎ (e ≡ TreeError.NoMemory)) }
     {
-        match fault_of(text) {
-            Some(fault) => Err(fault),
-            None => Ok(Path {
-                keys: checked_keys(alloc, text)?,
-            }),
-        }
+        check_path(text)?;
+        Ok(Path {
+            keys: valid_keys(alloc, text)?,
+        })
     }
 
     /// The keys of the path, from the root down.

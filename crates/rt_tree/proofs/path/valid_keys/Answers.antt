@@ -3,7 +3,7 @@ use Rattle.std.specs.List.{filter, slice_split}
 use Rattle.std.proofs.lemmas.Iterator.Splits.{YieldsList-from_str_split}
 use Rattle.rt_tree.specs.Path.{path_keys, is_nonempty}
 use Rattle.rt_tree.proofs.PathLemmas.{Coming, comes_next, comes_none, filter-empty, next_key, next_is_key}
-use Rattle.rt_tree.proofs.path.checked_keys.Goals as goal
+use Rattle.rt_tree.proofs.path.valid_keys.Goals as goal
 
 pub loop-piece-init : goal.loop-piece-init
 loop-piece-init c = (
@@ -13,8 +13,8 @@ loop-piece-init c = (
   ap (λ ks. ks ++ path_keys c.args.text.now) c.new-keys.ensures.items,
 )
 
-pub checked-requires : goal.checked-requires
-checked-requires c =
+pub valid_key-requires : goal.valid_key-requires
+valid_key-requires c =
     let kept = c.loop-piece.invariant in
     let next = comes_next c.loop-piece.piece-iterator c.next.new.self c.in-Some.piece kept.0 kept.1 c.in-Some.ensures.steps in
     next_is_key c.loop-piece.keys.items c.in-Some.piece.now (filter is_nonempty next.0) (path_keys c.args.text.now) c.requires
@@ -26,7 +26,7 @@ loop-piece-preserved-in_ok-push c =
     let next = comes_next c.loop-piece.piece-iterator c.next.new.self c.in-Some.piece kept.0 kept.1 c.in-Some.ensures.steps in (
       next.0,
       next.2,
-      ap (λ ks. ks ++ filter is_nonempty next.0) (c.in_ok-push.ensures.items ∙ ap (λ key. c.loop-piece.keys.items ++ key ∷ []) c.in_ok-checked.ensures)
+      ap (λ ks. ks ++ filter is_nonempty next.0) (c.in_ok-push.ensures.items ∙ ap (λ key. c.loop-piece.keys.items ++ key ∷ []) c.in_ok-valid_key.ensures)
           ∙ append_assoc c.loop-piece.keys.items (c.in-Some.piece.now ∷ []) (filter is_nonempty next.0)
           ∙ next_key c.loop-piece.keys.items c.in-Some.piece.now kept.0 next.0 (path_keys c.args.text.now) kept.2 next.1 (ap not (sym c.is_empty.ensures ∙ c.if-not-is_empty.true)),
     )

@@ -1,9 +1,10 @@
 use Rattle.std.proofs.Common.{◌<◌, ◌==◌, lit<, ap, sym, subst, not, ◌∙◌, arith}
 use Rattle.std.specs.List.{filter, slice_split}
+use Rattle.std.proofs.lemmas.Result.{err_from_is_err_and}
 use Rattle.std.proofs.lemmas.Iterator.Splits.{YieldsList-from_str_split}
 use Rattle.rt_tree.specs.Path.{is_nonempty}
 use Rattle.rt_tree.proofs.PathLemmas.{Coming, comes_next, comes_none, fault_after, fault_after-start, fault_after-nil, fault_after-full, fault_after-fault, fault_after-key, filter-empty, key_first}
-use Rattle.rt_tree.proofs.path.fault_of.Goals as goal
+use Rattle.rt_tree.proofs.path.check_path.Goals as goal
 
 pub loop-piece-init : goal.loop-piece-init
 loop-piece-init c = (
@@ -36,12 +37,14 @@ returns-then-count-eq32 c =
     sym (kept.1.2 ∙ key_first c.loop-piece.count c.in-Some.piece.now kept.1.0 next.0 next.1 (ap not (sym c.is_empty.ensures ∙ c.if-is_empty.false))
     ∙ fault_after-full c.loop-piece.count c.in-Some.piece.now (filter is_nonempty next.0) c.if-count-eq32.true)
 
-pub returns-in-Some-fault_of : goal.returns-in-Some-fault_of
-returns-in-Some-fault_of c =
+pub returns-in_err-check_key : goal.returns-in_err-check_key
+returns-in_err-check_key c =
     let kept = c.loop-piece.invariant in
     let next = comes_next c.loop-piece.piece-iterator c.next.new.self c.in-Some.piece kept.1.0 kept.1.1 c.in-Some.ensures.steps in
-    sym (kept.1.2 ∙ key_first c.loop-piece.count c.in-Some.piece.now kept.1.0 next.0 next.1 (ap not (sym c.is_empty.ensures ∙ c.if-is_empty.false))
-    ∙ fault_after-fault c.loop-piece.count c.in-Some.piece.now (filter is_nonempty next.0) c.in-Some-fault_of.fault (omega (arith, kept.0, c.if-count-eq32.false)) (sym c.in-Some-fault_of.ensures))
+    let p = err_from_is_err_and c.from_residual.result c.from_residual.ensures.1 in
+    rw (p.1, p.2)
+    (sym (kept.1.2 ∙ key_first c.loop-piece.count c.in-Some.piece.now kept.1.0 next.0 next.1 (ap not (sym c.is_empty.ensures ∙ c.if-is_empty.false))
+    ∙ fault_after-fault c.loop-piece.count c.in-Some.piece.now (filter is_nonempty next.0) c.in_err-check_key.field-0.0 (omega (arith, kept.0, c.if-count-eq32.false)) (sym c.in_err-check_key.ensures)))
 
 pub loop-piece-preserved : goal.loop-piece-preserved
 loop-piece-preserved c =
@@ -53,7 +56,7 @@ loop-piece-preserved c =
         next.0,
         next.2,
         kept.1.2 ∙ key_first c.loop-piece.count c.in-Some.piece.now kept.1.0 next.0 next.1 (ap not (sym c.is_empty.ensures ∙ c.if-is_empty.false))
-            ∙ fault_after-key c.loop-piece.count c.in-Some.piece.now (filter is_nonempty next.0) few (sym c.in_default.ensures),
+            ∙ fault_after-key c.loop-piece.count c.in-Some.piece.now (filter is_nonempty next.0) few (sym c.in_ok-check_key.ensures),
       ),
     )
 
