@@ -1,9 +1,10 @@
 // A tree of leaves.
-ghost use Rattle.std.specs.Prelude.{[], ◌≡◌, ◌<◌, ◌≤◌, ◌+◌, false, length, IsTrue, ◌↔◌, IfOk, IfErr, OnOk, OnErr, ◌⊎◌, is_some, IfSome, IfNone};
+ghost use Rattle.std.specs.Prelude.{[], ◌∷◌, ◌≡◌, ◌<◌, ◌≤◌, ◌+◌, false, length, IsTrue, ◌↔◌, IfOk, IfErr, OnOk, OnErr, ◌⊎◌, is_some, IfSome, IfNone};
 ghost use Rattle.std.specs.Option.{option_copied};
 ghost use Rattle.std.specs.Arc.{arc_value};
 ghost use Rattle.std.specs.BTreeMap.{IsOrdered, insert_entry};
 ghost use Rattle.rt_tree.specs.PathTree.{leaf_at, null, of_leaf, is_null, sub, put, non_null, levels, key_cmp, PutsBelow, AllFull};
+ghost use Rattle.rt_tree.specs.Allowed.{IsAllowed, MayStandAt};
 ghost use Rattle.rt_tree.specs.Children.{is_object, children_of};
 
 use crate::error::TreeError;
@@ -66,6 +67,7 @@ impl Tree {
     pub fn leaf(leaf: Leaf) -> Tree
         ensures { result ≡ of_leaf leaf }
     {
+        let _ = leaf.value();
         Tree {
             node: Node::Leaf(leaf),
         }
@@ -110,6 +112,7 @@ impl Tree {
         ensures object { is_some result ≡ is_object self.now }
         ensures children { IfSome result (λ children. children.now.entries ≡ children_of self.now) }
         ensures none { IfNone result (children_of self.now ≡ []) }
+        ensures allowed { IsAllowed self.now }
     {
         match &self.node {
             Node::Object(children) => Some(&**children),
@@ -154,6 +157,7 @@ impl Tree {
     pub fn levels(&self) -> usize
         ensures levels { result ≡ levels self.now }
         ensures shallow { result ≤ 33 }
+        ensures allowed { IsAllowed self.now }
     {
         match &self.node {
             Node::Null => 0,
@@ -190,7 +194,7 @@ impl Tree {
 
     #[cycle(put)]
     fn put_at(&mut self, alloc: Global, keys: &[Key], tree: Tree) -> Result<(), AllocError>
-        requires { length keys.now + levels tree ≤ 33 }
+        requires { MayStandAt keys.now tree }
         ensures ok { OnOk result (self.new ≡ put self.old keys.now tree) }
         ensures err { OnErr result (self.new ≡ self.old) }
     {
@@ -214,7 +218,7 @@ impl Tree {
     // A tree with nothing but `tree` at `keys`.
     fn branch(alloc: Global, keys: &[Key], tree: Tree) -> Result<Tree, AllocError>
         requires full { is_null tree ≡ false }
-        requires shallow { length keys.now + levels tree ≤ 33 }
+        requires allowed { MayStandAt keys.now tree }
         ensures { IfOk result (λ t. t ≡ put null keys.now tree) }
     {
         let Some((key, rest)) = keys.split_first() else {
@@ -290,7 +294,7 @@ fn put_shared(
     rest: &[Key],
     tree: Tree,
 ) -> Result<(), AllocError>
-    requires shallow { length rest.now + levels tree ≤ 32 }
+    requires allowed { MayStandAt (key.now ∷ rest.now) tree }
     requires full { AllFull (arc_value shared.old).entries }
     requires sorted { IsOrdered key_cmp (arc_value shared.old) }
     ensures ok { OnOk result (PutsBelow (arc_value shared.old).entries (arc_value shared.new).entries key.now rest.now tree) }
@@ -315,7 +319,7 @@ fn put_below(
     rest: &[Key],
     tree: Tree,
 ) -> Result<(), AllocError>
-    requires shallow { length rest.now + levels tree ≤ 32 }
+    requires allowed { MayStandAt (key.now ∷ rest.now) tree }
     requires full { AllFull children.old.entries }
     ensures ok { OnOk result (PutsBelow children.old.entries children.new.entries key.now rest.now tree) }
     ensures err { OnErr result (children.new.entries ≡ children.old.entries) }
