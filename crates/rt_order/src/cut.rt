@@ -6,7 +6,7 @@ ghost use Rattle.rt_order.specs.SortRef.{value_of};
 
 use crate::index::{Index, sort_value};
 use crate::key::key_cmp;
-use crate::value::{SortRef, value_cmp};
+use crate::value::{SortRef, leaf_cmp, value_cmp};
 use rt_tree::{Key, Leaf, Tree};
 use std::alloc::{AllocError, Global};
 use std::cmp::Ordering;
@@ -146,4 +146,93 @@ impl Range {
         };
         is_above && is_below
     }
+}
+
+impl PartialEq for Mark {
+    ghost use Rattle.std.specs.Cmp as Cmp;
+    ghost use Rattle.rt_order.specs.Equality.{mark_eq};
+    ghost use Rattle.rt_order.specs.EqualityLaws.{mark_equiv};
+
+    ghost eq = { mark_eq };
+
+    ghost laws = { Cmp.partial_equiv_from_equiv mark_equiv };
+
+    fn eq(&self, other: &Mark) -> bool {
+        match (self, other) {
+            (Mark::Null, Mark::Null) => true,
+            (Mark::Leaf(leaf), Mark::Leaf(other)) => leaf_cmp(leaf, other).is_eq(),
+            _ => false,
+        }
+    }
+}
+
+impl Eq for Mark {
+    ghost use Rattle.rt_order.specs.EqualityLaws.{mark_equiv};
+
+    ghost laws = { mark_equiv };
+}
+
+impl PartialEq for Place {
+    ghost use Rattle.std.specs.Cmp as Cmp;
+    ghost use Rattle.rt_order.specs.Equality.{place_eq};
+    ghost use Rattle.rt_order.specs.EqualityLaws.{place_equiv};
+
+    ghost eq = { place_eq };
+
+    ghost laws = { Cmp.partial_equiv_from_equiv place_equiv };
+
+    fn eq(&self, other: &Place) -> bool {
+        match (self, other) {
+            (Place::Min, Place::Min) | (Place::Max, Place::Max) => true,
+            (Place::Before(key), Place::Before(other)) => key == other,
+            (Place::After(key), Place::After(other)) => key == other,
+            _ => false,
+        }
+    }
+}
+
+impl Eq for Place {
+    ghost use Rattle.rt_order.specs.EqualityLaws.{place_equiv};
+
+    ghost laws = { place_equiv };
+}
+
+impl PartialEq for Cut {
+    ghost use Rattle.std.specs.Cmp as Cmp;
+    ghost use Rattle.rt_order.specs.Equality.{cut_eq};
+    ghost use Rattle.rt_order.specs.EqualityLaws.{cut_equiv};
+
+    ghost eq = { cut_eq };
+
+    ghost laws = { Cmp.partial_equiv_from_equiv cut_equiv };
+
+    fn eq(&self, other: &Cut) -> bool {
+        self.value == other.value && self.place == other.place
+    }
+}
+
+impl Eq for Cut {
+    ghost use Rattle.rt_order.specs.EqualityLaws.{cut_equiv};
+
+    ghost laws = { cut_equiv };
+}
+
+impl PartialEq for Range {
+    ghost use Rattle.std.specs.Cmp as Cmp;
+    ghost use Rattle.rt_order.specs.Equality.{range_eq};
+    ghost use Rattle.rt_order.specs.EqualityLaws.{range_equiv};
+
+    ghost eq = { range_eq };
+
+    ghost laws = { Cmp.partial_equiv_from_equiv range_equiv };
+
+    fn eq(&self, other: &Range) -> bool {
+        self.lower == other.lower && self.upper == other.upper
+    }
+}
+
+impl Eq for Range {
+    ghost use Rattle.rt_order.specs.EqualityLaws.{range_equiv};
+
+    ghost laws = { range_equiv };
 }

@@ -30,6 +30,30 @@ impl Index {
     }
 }
 
+impl PartialEq for Index {
+    ghost use Rattle.std.specs.Cmp as Cmp;
+    ghost use Rattle.rt_order.specs.Equality.{index_eq};
+    ghost use Rattle.rt_order.specs.EqualityLaws.{index_equiv};
+
+    ghost eq = { index_eq };
+
+    ghost laws = { Cmp.partial_equiv_from_equiv index_equiv };
+
+    fn eq(&self, other: &Index) -> bool {
+        match (self, other) {
+            (Index::Key, Index::Key) | (Index::Value, Index::Value) => true,
+            (Index::Child(path), Index::Child(other)) => path.keys() == other.keys(),
+            _ => false,
+        }
+    }
+}
+
+impl Eq for Index {
+    ghost use Rattle.rt_order.specs.EqualityLaws.{index_equiv};
+
+    ghost laws = { index_equiv };
+}
+
 /// What a child is sorted by: null in key order, its own value in value order, the value at the path in child order.
 pub fn sort_value<'a>(index: &Index, tree: &'a Tree) -> SortRef<'a>
     ensures { value_of result ≡ sort_value index.now tree.now }
