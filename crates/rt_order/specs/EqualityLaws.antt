@@ -1,8 +1,6 @@
 -- The tests of equality tell exactly the equal indexes, cuts and ranges.
-use Rattle.std.proofs.Common.{◌≡◌, sym, Bool, true, refl, ap, Option, Some, None}
+use Rattle.std.proofs.Common.{◌≡◌, Bool, true, refl, ap, Option, Some, None}
 use Rattle.std.specs.Option.{option_eq}
-use Rattle.std.specs.Bool.{one_answer}
-use Rattle.std.specs.Cmp.{IsEquivalence}
 use Rattle.rt_tree.specs.PathTree.{key_eq-is, key_eq-same, path_eq-is, path_eq-same}
 use Rattle.rt_tree.specs.TreeEq.{Tells, tells, leaf_eq_tells, both, both_first, both_second}
 use Rattle.rt_order.specs.declared.index.Index.{Index}
@@ -102,28 +100,3 @@ range_eq_tells = tells
       upper = (option_eq_tells cut_eq_tells r.upper s.upper).0 (both_second (option_eq cut_eq r.lower s.lower) _ e) i;
     })
     (λ r. both _ _ (own_option cut_eq_tells r.lower) (own_option cut_eq_tells r.upper))
-
--- ---- as the code's `==`
-
--- a test that tells exactly the equal ones is an equivalence
-equivalence : {X : Type 0} {E : X → X → Bool} → Tells E → IsEquivalence E
-equivalence {E = E} h = record {
-  refl = λ x. (h x x).1 refl;
-  symm = λ x y. one_answer (E x y) (E y x) (h x y) (λ e. sym ((h y x).0 e), λ e. (h y x).1 (sym e));
-  congr = λ x y z e. ap (λ w. E w z) ((h x y).0 e);
-}
-
-pub index_equiv : IsEquivalence index_eq
-index_equiv = equivalence index_eq_tells
-
-pub mark_equiv : IsEquivalence mark_eq
-mark_equiv = equivalence mark_eq_tells
-
-pub place_equiv : IsEquivalence place_eq
-place_equiv = equivalence place_eq_tells
-
-pub cut_equiv : IsEquivalence cut_eq
-cut_equiv = equivalence cut_eq_tells
-
-pub range_equiv : IsEquivalence range_eq
-range_equiv = equivalence range_eq_tells

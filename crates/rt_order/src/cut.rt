@@ -6,7 +6,7 @@ ghost use Rattle.rt_order.specs.SortRef.{value_of};
 
 use crate::index::{Index, sort_value};
 use crate::key::key_cmp;
-use crate::value::{SortRef, leaf_cmp, value_cmp};
+use crate::value::{SortRef, value_cmp};
 use rt_tree::{Key, Leaf, Tree};
 use std::alloc::{AllocError, Global};
 use std::cmp::Ordering;
@@ -151,35 +151,38 @@ impl Range {
 impl PartialEq for Mark {
     ghost use Rattle.std.specs.Cmp as Cmp;
     ghost use Rattle.rt_order.specs.Equality.{mark_eq};
-    ghost use Rattle.rt_order.specs.EqualityLaws.{mark_equiv};
+    ghost use Rattle.rt_order.specs.EqualityLaws.{mark_eq_tells};
+    ghost use Rattle.rt_tree.specs.TreeEq.{equivalence};
 
     ghost eq = { mark_eq };
 
-    ghost laws = { Cmp.partial_equiv_from_equiv mark_equiv };
+    ghost laws = { Cmp.partial_equiv_from_equiv (equivalence mark_eq_tells) };
 
     fn eq(&self, other: &Mark) -> bool {
         match (self, other) {
             (Mark::Null, Mark::Null) => true,
-            (Mark::Leaf(leaf), Mark::Leaf(other)) => leaf_cmp(leaf, other).is_eq(),
+            (Mark::Leaf(leaf), Mark::Leaf(other)) => leaf == other,
             _ => false,
         }
     }
 }
 
 impl Eq for Mark {
-    ghost use Rattle.rt_order.specs.EqualityLaws.{mark_equiv};
+    ghost use Rattle.rt_order.specs.EqualityLaws.{mark_eq_tells};
+    ghost use Rattle.rt_tree.specs.TreeEq.{equivalence};
 
-    ghost laws = { mark_equiv };
+    ghost laws = { equivalence mark_eq_tells };
 }
 
 impl PartialEq for Place {
     ghost use Rattle.std.specs.Cmp as Cmp;
     ghost use Rattle.rt_order.specs.Equality.{place_eq};
-    ghost use Rattle.rt_order.specs.EqualityLaws.{place_equiv};
+    ghost use Rattle.rt_order.specs.EqualityLaws.{place_eq_tells};
+    ghost use Rattle.rt_tree.specs.TreeEq.{equivalence};
 
     ghost eq = { place_eq };
 
-    ghost laws = { Cmp.partial_equiv_from_equiv place_equiv };
+    ghost laws = { Cmp.partial_equiv_from_equiv (equivalence place_eq_tells) };
 
     fn eq(&self, other: &Place) -> bool {
         match (self, other) {
@@ -192,19 +195,21 @@ impl PartialEq for Place {
 }
 
 impl Eq for Place {
-    ghost use Rattle.rt_order.specs.EqualityLaws.{place_equiv};
+    ghost use Rattle.rt_order.specs.EqualityLaws.{place_eq_tells};
+    ghost use Rattle.rt_tree.specs.TreeEq.{equivalence};
 
-    ghost laws = { place_equiv };
+    ghost laws = { equivalence place_eq_tells };
 }
 
 impl PartialEq for Cut {
     ghost use Rattle.std.specs.Cmp as Cmp;
     ghost use Rattle.rt_order.specs.Equality.{cut_eq};
-    ghost use Rattle.rt_order.specs.EqualityLaws.{cut_equiv};
+    ghost use Rattle.rt_order.specs.EqualityLaws.{cut_eq_tells};
+    ghost use Rattle.rt_tree.specs.TreeEq.{equivalence};
 
     ghost eq = { cut_eq };
 
-    ghost laws = { Cmp.partial_equiv_from_equiv cut_equiv };
+    ghost laws = { Cmp.partial_equiv_from_equiv (equivalence cut_eq_tells) };
 
     fn eq(&self, other: &Cut) -> bool {
         self.value == other.value && self.place == other.place
@@ -212,19 +217,21 @@ impl PartialEq for Cut {
 }
 
 impl Eq for Cut {
-    ghost use Rattle.rt_order.specs.EqualityLaws.{cut_equiv};
+    ghost use Rattle.rt_order.specs.EqualityLaws.{cut_eq_tells};
+    ghost use Rattle.rt_tree.specs.TreeEq.{equivalence};
 
-    ghost laws = { cut_equiv };
+    ghost laws = { equivalence cut_eq_tells };
 }
 
 impl PartialEq for Range {
     ghost use Rattle.std.specs.Cmp as Cmp;
     ghost use Rattle.rt_order.specs.Equality.{range_eq};
-    ghost use Rattle.rt_order.specs.EqualityLaws.{range_equiv};
+    ghost use Rattle.rt_order.specs.EqualityLaws.{range_eq_tells};
+    ghost use Rattle.rt_tree.specs.TreeEq.{equivalence};
 
     ghost eq = { range_eq };
 
-    ghost laws = { Cmp.partial_equiv_from_equiv range_equiv };
+    ghost laws = { Cmp.partial_equiv_from_equiv (equivalence range_eq_tells) };
 
     fn eq(&self, other: &Range) -> bool {
         self.lower == other.lower && self.upper == other.upper
@@ -232,7 +239,8 @@ impl PartialEq for Range {
 }
 
 impl Eq for Range {
-    ghost use Rattle.rt_order.specs.EqualityLaws.{range_equiv};
+    ghost use Rattle.rt_order.specs.EqualityLaws.{range_eq_tells};
+    ghost use Rattle.rt_tree.specs.TreeEq.{equivalence};
 
-    ghost laws = { range_equiv };
+    ghost laws = { equivalence range_eq_tells };
 }
