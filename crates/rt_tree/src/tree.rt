@@ -70,10 +70,9 @@ impl Tree {
     pub fn leaf(leaf: Leaf) -> Tree
         ensures { result ≡ of_leaf leaf }
     {
-        let _ = leaf.value();
-        Tree {
-            node: Node::Leaf(leaf),
-        }
+        let _in_range = leaf.value();
+        let node = Node::Leaf(leaf);
+        Tree { node }
     }
 
     /// The object of these children; null where there are none.
