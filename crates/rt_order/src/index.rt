@@ -30,6 +30,32 @@ impl Index {
     }
 }
 
+impl PartialEq for Index {
+    ghost use Rattle.std.specs.Cmp as Cmp;
+    ghost use Rattle.rt_order.specs.Equality.{index_eq};
+    ghost use Rattle.rt_order.specs.EqualityLaws.{index_eq_tells};
+    ghost use Rattle.rt_tree.specs.TreeEq.{equivalence};
+
+    ghost eq = { index_eq };
+
+    ghost laws = { Cmp.partial_equiv_from_equiv (equivalence index_eq_tells) };
+
+    fn eq(&self, other: &Index) -> bool {
+        match (self, other) {
+            (Index::Key, Index::Key) | (Index::Value, Index::Value) => true,
+            (Index::Child(path), Index::Child(other)) => path == other,
+            _ => false,
+        }
+    }
+}
+
+impl Eq for Index {
+    ghost use Rattle.rt_order.specs.EqualityLaws.{index_eq_tells};
+    ghost use Rattle.rt_tree.specs.TreeEq.{equivalence};
+
+    ghost laws = { equivalence index_eq_tells };
+}
+
 /// What a child is sorted by: null in key order, its own value in value order, the value at the path in child order.
 pub fn sort_value<'a>(index: &Index, tree: &'a Tree) -> SortRef<'a>
     ensures { value_of result ≡ sort_value index.now tree.now }

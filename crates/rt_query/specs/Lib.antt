@@ -5,4 +5,5 @@ pub mod QueryEq
 pub mod Rows
 pub mod Select
 pub mod ShownView
+pub mod Sorting
 pub mod Supply
