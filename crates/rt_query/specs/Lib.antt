@@ -2,6 +2,7 @@ pub mod Drafts
 pub mod Laws
 pub mod Queries
 pub mod QueryEq
+pub mod QueryEqLaws
 pub mod Rows
 pub mod Select
 pub mod ShownView
