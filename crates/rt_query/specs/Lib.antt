@@ -1,4 +1,5 @@
 pub mod Drafts
+pub mod Examples
 pub mod Laws
 pub mod Queries
 pub mod QueryEq

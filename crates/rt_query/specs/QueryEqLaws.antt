@@ -1,5 +1,5 @@
 -- The tests of equality tell exactly the equal ones.
-use Rattle.std.proofs.Common.{◌≡◌, ℕ, Bool, true, ◌&&◌, refl, sym, ap, subst, ◌==◌}
+use Rattle.std.proofs.Common.{◌≡◌, ℕ, true, ◌&&◌, refl, sym, ap, subst, ◌==◌}
 use lib.Dec.{T, eqb→eq}
 use lib.Pointwise.{pointwise_decides}
 use Rattle.std.specs.Option.{option_eq}
