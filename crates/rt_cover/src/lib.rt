@@ -1,0 +1,2 @@
+//! The listens kept: the definitions of the fewest listens, and their law.
+#![tactic(auto)]

@@ -1,0 +1,7 @@
+pub mod Answers
+pub mod Headline
+pub mod Refusals
+pub mod Runs
+pub mod Steps
+pub mod Views
+pub mod World

@@ -1,0 +1,12 @@
+//! The changes from one view to the next, and their replay.
+#![tactic(auto)]
+
+mod batch;
+mod change;
+mod change_list;
+mod compare;
+
+pub use batch::Batch;
+pub use change::Change;
+pub use change_list::ChangeList;
+pub use compare::changes;
