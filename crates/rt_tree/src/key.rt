@@ -1,6 +1,7 @@
 // A key of an object.
-ghost use Rattle.std.specs.Prelude.{◌≡◌, ◌⊎◌, IfOk, IfErr, OnOk, Some};
+ghost use Rattle.std.specs.Prelude.{◌≡◌, ◌⊎◌, IfOk, IfErr, OnOk, Some, decimal};
 ghost use Rattle.std.specs.List.{list_all};
+ghost use Rattle.std.specs.Result.{result_err};
 ghost use Rattle.rt_tree.specs.Key.{IsKey, is_allowed, key_fault};
 
 use crate::error::TreeError;
@@ -38,25 +39,47 @@ fn all_allowed(text: &str) -> bool
     text.as_bytes().iter().all(|b| is_allowed(*b))
 }
 
+// Whether a text is a key, or why it is none.
+pub fn check_key(text: &str) -> Result<(), TreeError>
+    ensures { result_err result ≡ key_fault text.now }
+{
+    if text.is_empty() {
+        return Err(TreeError::BadKey);
+    }
+    if text.len() > 768 {
+        return Err(TreeError::KeyTooLong);
+    }
+    if !all_allowed(text) {
+        return Err(TreeError::BadKey);
+    }
+    Ok(())
+}
+
+// The key of a text that is one.
+pub fn valid_key(alloc: Global, text: &str) -> Result<Key, AllocError>
+    requires { IsKey text.now }
+    ensures { IfOk result (λ key. key ≡ text.now) }
+{
+    let text = ArcStr::from_str(alloc, text)?;
+    Ok(Key { text })
+}
+
+// The key of a place in an array.
+pub fn index_key(alloc: Global, index: usize) -> Result<Key, AllocError>
+    ensures { IfOk result (λ key. key ≡ decimal index) }
+{
+    let text = index.to_string(alloc)?;
+    valid_key(alloc, text.as_str())
+}
+
 impl Key {
     pub fn parse(alloc: Global, text: &str) -> Result<Key, TreeError>
         ensures ok { IfOk result (λ key. key ≡ text.now) }
         ensures valid { OnOk result (IsKey text.now) }
         ensures fault { IfErr result (λ e. (key_fault text.now ≡ Some e) ⊎ (e ≡ TreeError.NoMemory)) }
     {
-        if text.is_empty() {
-            return Err(TreeError::BadKey);
-        }
-        if text.len() > 768 {
-            return Err(TreeError::KeyTooLong);
-        }
-        if !all_allowed(text) {
-            return Err(TreeError::BadKey);
-        }
-        match ArcStr::from_str(alloc, text) {
-            Ok(text) => Ok(Key { text }),
-            Err(_) => Err(TreeError::NoMemory),
-        }
+        check_key(text)?;
+        Ok(valid_key(alloc, text)?)
     }
 
     pub fn text(&self) -> &str
