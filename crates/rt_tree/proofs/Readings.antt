@@ -19,6 +19,8 @@ use Rattle.serde_json.specs.declared.value.Value.{Value}
 use Rattle.rt_tree.specs.declared.error.TreeError.{TreeError}
 use Rattle.rt_tree.specs.declared.error.TreeError.TheVariants.{TooDeep, TooManyNodes}
 use Rattle.rt_tree.specs.Key.{IsKey, key_fault}
+use Rattle.rt_tree.specs.Path.{IsPath}
+use Rattle.rt_tree.specs.Allowed.{MayStandAt, IsAllowed, may_stand, allowed-object}
 use Rattle.rt_tree.specs.Leaf.{LeafValue, truth, number, text}
 use Rattle.rt_tree.specs.PathTree.{Key, Path, PathTree, key_cmp, key_eq, key_eq-is, key_eq-symm, leaf_at, same_tree, is_null, null, levels-null, of_leaf, object, child_of, leaf_at-object-root, leaf_at-object, non_null, AllFull, AddsChild, levels, levels_le, length_lt_levels}
 use Rattle.rt_tree.specs.Reading.{tree_of_data, number_tree, item_trees, member_trees, Visit, visit, visits, item_visits, member_visits, place_fault, name_fault, value_fault, HasPlace, IsTreeData, AreTreeItems, AreTreeMembers, walked}
@@ -41,6 +43,7 @@ pub record Building (all children rest : List (Key × PathTree)) : Type 0 where
   pub apart : (j : Key) → is_some (child_of rest j) ≡ true → child_of children j ≡ None
   pub full : AllFull children
   pub ordered : IsStrictlySortedBy key_cmp (keys_of children)
+  pub allowed : (j : Key) (t : PathTree) → child_of children j ≡ Some t → MayStandAt (j ∷ []) t
   pub distinct : Distinct rest
 
 nothing_sorted : IsStrictlySortedBy key_cmp []
@@ -48,7 +51,7 @@ unfolding IsStrictlySortedBy
 nothing_sorted = tt
 
 pub building_begins : (all : List (Key × PathTree)) → Distinct all → Building all [] all
-building_begins all h = record { same = λ j. refl; apart = λ j e. refl; full = λ j t e. cc; ordered = nothing_sorted; distinct = h }
+building_begins all h = record { same = λ j. refl; apart = λ j e. refl; full = λ j t e. cc; ordered = nothing_sorted; allowed = λ j t e. cc; distinct = h }
 
 or_nones : (o : Option PathTree) → option_or (option_map_or Some o None) None ≡ o
 or_nones None = refl
@@ -61,7 +64,7 @@ full_or t u o h e =
       | false ↦ λ n f. cc
     ] refl e
 
-module _ (all children new rest : List (Key × PathTree)) (k : Key) (t : PathTree) (h : Building all children ((k, t) ∷ rest)) (adds : AddsChild children new k t) where
+module _ (all children new rest : List (Key × PathTree)) (k : Key) (t : PathTree) (h : Building all children ((k, t) ∷ rest)) (adds : AddsChild children new k t) (stands : MayStandAt (k ∷ []) t) where
   gone : (j : Key) → key_eq k j ≡ true → child_of rest j ≡ None
   gone j e = ap (child_of rest) (sym (key_eq-is k j e)) ∙ h.distinct.0
 
@@ -80,12 +83,21 @@ module _ (all children new rest : List (Key × PathTree)) (k : Key) (t : PathTre
   whole j u true e = full_or t u (child_of children j) (h.full j u) e
   whole j u false e = h.full j u e
 
+  added : (j : Key) (u : PathTree) → key_eq k j ≡ true → (n : Bool) → option_map_or Some (cond n None (Some t)) (child_of children j) ≡ Some u → MayStandAt (j ∷ []) u
+  added j u e true f = h.allowed j u f
+  added j u e false f = subst (λ v. MayStandAt (j ∷ []) v) (let same : t ≡ u = cc in same) (subst (λ i. MayStandAt (i ∷ []) t) (key_eq-is k j e) stands)
+
+  standing : (j : Key) (u : PathTree) (b : Bool) → key_eq k j ≡ b → cond b (option_map_or Some (non_null t) (child_of children j)) (child_of children j) ≡ Some u → MayStandAt (j ∷ []) u
+  standing j u true e f = added j u e (is_null t) f
+  standing j u false e f = h.allowed j u f
+
   pub building_goes_on : IsStrictlySortedBy key_cmp (keys_of new) → Building all new rest
   building_goes_on sorted = record {
     same = λ j. ap (λ o. option_or o (found rest j)) (adds j) ∙ here j (key_eq k j) refl ∙ ap (λ b. option_or (child_of children j) (option_and_then non_null (cond b (Some t) (child_of rest j)))) (key_eq-symm k j) ∙ h.same j;
     apart = λ j s. adds j ∙ later j (key_eq k j) refl s;
     full = λ j u e. whole j u (key_eq k j) (sym (adds j) ∙ e);
     ordered = sorted;
+    allowed = λ j u e. standing j u (key_eq k j) refl (sym (adds j) ∙ e);
     distinct = h.distinct.1;
   }
 
@@ -196,25 +208,6 @@ mutual
       (levels-data d level (Some n) (visits-first (visits level (Some n) d) (member_visits level ms) h))
       (levels-member ms level (visits-second (visits level (Some n) d) (member_visits level ms) h) k t)
 
-pub levels-items : (ds : Items) → AreTreeItems ds → levels (object (item_trees 0 ds)) ≤ 33
-levels-items ds h = levels-object_le (item_trees 0 ds) 32 (λ k t is. omega (arith, levels-item 0 ds (suc h.0) h.1 k t is))
-
-pub levels-members : (ms : Members) → AreTreeMembers ms → levels (object (member_trees ms)) ≤ 33
-levels-members ms h = levels-object_le (member_trees ms) 32 (λ k t is. omega (arith, levels-member ms (suc h.0) h.1 k t is))
-
--- ---- what the loops keep
-pub first_item : (d : Data) (ds : Items) → AreTreeItems (item d ds) → IsTreeData d
-first_item d ds h = (suc h.0, None, visits-first (visits (suc h.0) None d) (item_visits (suc h.0) ds) h.1)
-
-pub other_items : (d : Data) (ds : Items) → AreTreeItems (item d ds) → AreTreeItems ds
-other_items d ds h = (h.0, visits-second (visits (suc h.0) None d) (item_visits (suc h.0) ds) h.1)
-
-pub first_member : (k : List ℕ) (d : Data) (ms : Members) → AreTreeMembers (member k d ms) → IsTreeData d
-first_member k d ms h = (suc h.0, Some k, visits-first (visits (suc h.0) (Some k) d) (member_visits (suc h.0) ms) h.1)
-
-pub other_members : (k : List ℕ) (d : Data) (ms : Members) → AreTreeMembers (member k d ms) → AreTreeMembers ms
-other_members k d ms h = (h.0, visits-second (visits (suc h.0) (Some k) d) (member_visits (suc h.0) ms) h.1)
-
 key_place : (level : ℕ) (k : List ℕ) (d : Data) → HasPlace (visit level (Some k) d) → IsKey k
 key_place level k d h =
     elim (nat_lt 32 level) as (λ b. cond b (Some TooDeep) (option_or (key_fault k) (value_fault d)) ≡ None → key_fault k ≡ None) [
@@ -233,6 +226,35 @@ head_place level k (json.object ms) h = h.0
 pub first_name : (k : List ℕ) (d : Data) (ms : Members) → AreTreeMembers (member k d ms) → IsKey k
 first_name k d ms h = key_place (suc h.0) k d (head_place (suc h.0) (Some k) d (visits-first (visits (suc h.0) (Some k) d) (member_visits (suc h.0) ms) h.1))
 
+-- the children may stand at the root
+pub allowed_children : (all children rest : List (Key × PathTree)) → Building all children rest → IsAllowed (object children)
+allowed_children all children rest h = allowed-object children h.allowed
+
+one_key : (k : Key) → IsKey k → IsPath (k ∷ [])
+one_key k h = record { short = omega arith; keys = (h, tt) }
+
+-- the tree of an item or of a member may stand at its key
+pub item_stands : (k : Key) (d : Data) (ds : Items) (t : PathTree) → AreTreeItems (item d ds) → t ≡ tree_of_data d → IsKey k → IsAllowed t → MayStandAt (k ∷ []) t
+item_stands k d ds t h is key allowed =
+    may_stand (k ∷ []) t (one_key k key) allowed (omega (arith, ap levels is, levels-data d (suc h.0) None (visits-first (visits (suc h.0) None d) (item_visits (suc h.0) ds) h.1)))
+
+pub member_stands : (k : Key) (d : Data) (ms : Members) (t : PathTree) → AreTreeMembers (member k d ms) → t ≡ tree_of_data d → IsAllowed t → MayStandAt (k ∷ []) t
+member_stands k d ms t h is allowed =
+    may_stand (k ∷ []) t (one_key k (first_name k d ms h)) allowed (omega (arith, ap levels is, levels-data d (suc h.0) (Some k) (visits-first (visits (suc h.0) (Some k) d) (member_visits (suc h.0) ms) h.1)))
+
+-- ---- what the loops keep
+pub first_item : (d : Data) (ds : Items) → AreTreeItems (item d ds) → IsTreeData d
+first_item d ds h = (suc h.0, None, visits-first (visits (suc h.0) None d) (item_visits (suc h.0) ds) h.1)
+
+pub other_items : (d : Data) (ds : Items) → AreTreeItems (item d ds) → AreTreeItems ds
+other_items d ds h = (h.0, visits-second (visits (suc h.0) None d) (item_visits (suc h.0) ds) h.1)
+
+pub first_member : (k : List ℕ) (d : Data) (ms : Members) → AreTreeMembers (member k d ms) → IsTreeData d
+first_member k d ms h = (suc h.0, Some k, visits-first (visits (suc h.0) (Some k) d) (member_visits (suc h.0) ms) h.1)
+
+pub other_members : (k : List ℕ) (d : Data) (ms : Members) → AreTreeMembers (member k d ms) → AreTreeMembers ms
+other_members k d ms h = (h.0, visits-second (visits (suc h.0) (Some k) d) (member_visits (suc h.0) ms) h.1)
+
 pub building_items : (xs : List Value) → length xs < 2 ^ 64 → (children : List (Key × PathTree)) → children ≡ [] → Building (item_trees 0 (items_view xs)) children (item_trees 0 (items_view xs))
 building_items xs short children none =
     subst (λ fs. Building (item_trees 0 (items_view xs)) fs (item_trees 0 (items_view xs))) (sym none)
@@ -245,21 +267,21 @@ building_members es sorted children none =
 
 pub building_item : (all children new : List (Key × PathTree)) (xs : List Value) (i : ℕ) (x : Value) (k : Key) (t : PathTree) → i < length xs → x ≡ get_or xs i x
     → Building all children (item_trees i (items_view (drop i xs))) → k ≡ decimal i → t ≡ tree_of_data (view x)
-    → AddsChild children new k t → IsStrictlySortedBy key_cmp (keys_of new) → Building all new (item_trees (i + 1) (items_view (drop (i + 1) xs)))
-building_item all children new xs i x k t within is h key tree adds sorted =
+    → MayStandAt (decimal i ∷ []) t → AddsChild children new k t → IsStrictlySortedBy key_cmp (keys_of new) → Building all new (item_trees (i + 1) (items_view (drop (i + 1) xs)))
+building_item all children new xs i x k t within is h key tree stands adds sorted =
     let next : suc i ≡ i + 1 = omega arith in
     subst (λ n. Building all new (item_trees n (items_view (drop (i + 1) xs)))) next
     (building_goes_on all children new (item_trees (suc i) (items_view (drop (i + 1) xs))) (decimal i) (tree_of_data (view x))
     (subst (λ ds. Building all children (item_trees i ds)) (item_next xs i x within is) h)
-    (subst (λ u. AddsChild children new (decimal i) u) tree (subst (λ j. AddsChild children new j t) key adds)) sorted)
+    (subst (λ u. AddsChild children new (decimal i) u) tree (subst (λ j. AddsChild children new j t) key adds)) (subst (MayStandAt (decimal i ∷ [])) tree stands) sorted)
 
 pub building_member : (all children new : List (Key × PathTree)) (es rest : List (String Global × Value)) (name : String Global) (x : Value) (k : Key) (t : PathTree) → es ≡ (name, x) ∷ rest
     → Building all children (member_trees (members_view es)) → k ≡ string_bytes name → t ≡ tree_of_data (view x)
-    → AddsChild children new k t → IsStrictlySortedBy key_cmp (keys_of new) → Building all new (member_trees (members_view rest))
-building_member all children new es rest name x k t is h key tree adds sorted =
+    → MayStandAt (string_bytes name ∷ []) t → AddsChild children new k t → IsStrictlySortedBy key_cmp (keys_of new) → Building all new (member_trees (members_view rest))
+building_member all children new es rest name x k t is h key tree stands adds sorted =
     building_goes_on all children new (member_trees (members_view rest)) (string_bytes name) (tree_of_data (view x))
     (subst (λ ms. Building all children (member_trees ms)) (member_next es rest name x is) h)
-    (subst (λ u. AddsChild children new (string_bytes name) u) tree (subst (λ j. AddsChild children new j t) key adds)) sorted
+    (subst (λ u. AddsChild children new (string_bytes name) u) tree (subst (λ j. AddsChild children new j t) key adds)) (subst (MayStandAt (string_bytes name ∷ [])) tree stands) sorted
 
 pub no_items_left : (all children : List (Key × PathTree)) (xs : List Value) (i : ℕ) → length xs ≤ i → Building all children (item_trees i (items_view (drop i xs))) → object children ≡ object all
 no_items_left all children xs i past h = building_ends all children (subst (λ ys. Building all children (item_trees i (items_view ys))) (drop_all i xs past) h)

@@ -4,7 +4,8 @@ ghost use Rattle.std.specs.Option.{option_map};
 ghost use Rattle.std.specs.BTreeMap.{IsOrdered};
 ghost use Rattle.serde_json.specs.Read.{read};
 ghost use Rattle.serde_json.specs.View.{view, items_view, members_view};
-ghost use Rattle.rt_tree.specs.PathTree.{key_cmp, object, levels, AllFull, AddsChild};
+ghost use Rattle.rt_tree.specs.PathTree.{key_cmp, object, AllFull, AddsChild};
+ghost use Rattle.rt_tree.specs.Allowed.{IsAllowed};
 ghost use Rattle.rt_tree.specs.Reading.{tree_of_data, item_trees, member_trees, visits, item_visits, member_visits, walked, data_fault, text_fault, IsTreeData, AreTreeItems, AreTreeMembers};
 
 use super::{Node, Tree, set_child};
@@ -110,7 +111,7 @@ impl Tree {
     fn from_children(alloc: Global, children: BTreeMap<Key, Tree>) -> Result<Tree, AllocError>
         requires ordered { IsOrdered key_cmp children }
         requires full { AllFull children.entries }
-        requires shallow { levels (object children.entries) ≤ 33 }
+        requires allowed { IsAllowed (object children.entries) }
         ensures { IfOk result (λ tree. tree ≡ object children.entries) }
     {
         if children.is_empty() {

@@ -5,7 +5,8 @@ ghost use Rattle.serde_json.specs.Data.{put};
 ghost use Rattle.serde_json.specs.Read.{read};
 ghost use Rattle.serde_json.specs.View.{view, members_view};
 ghost use Rattle.serde_json.specs.Written.{compact_text};
-ghost use Rattle.rt_tree.specs.PathTree.{key_cmp, levels, object, of_leaf};
+ghost use Rattle.rt_tree.specs.Allowed.{IsAllowed};
+ghost use Rattle.rt_tree.specs.PathTree.{key_cmp, of_leaf};
 ghost use Rattle.rt_tree.specs.Reading.{tree_of_data, member_trees};
 ghost use Rattle.rt_tree.specs.Writing.{leaf_data, members_with, data_of};
 
@@ -24,7 +25,7 @@ impl Tree {
     pub fn to_value(&self, alloc: Global) -> Result<Value, AllocError>
         ensures value { IfOk result (λ value. view value ≡ data_of self.now) }
         ensures same_tree { IfOk result (λ value. tree_of_data (view value) ≡ self.now) }
-        ensures shallow { levels self.now ≤ 33 }
+        ensures allowed { IsAllowed self.now }
     {
         match &self.node {
             Node::Null => Ok(Value::Null),

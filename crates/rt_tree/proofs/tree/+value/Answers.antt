@@ -9,12 +9,13 @@ use Rattle.serde_json.specs.View.{view, members_view}
 use Rattle.serde_json.proofs.Views.{view-Object}
 use denote.Param.Weighed.{most}
 use Rattle.rt_tree.specs.PathTree.{key_cmp, levels, levels-null}
+use Rattle.rt_tree.specs.Allowed.{IsAllowed}
 use Rattle.rt_tree.specs.Reading.{tree_of_data}
 use Rattle.rt_tree.specs.Writing.{leaf_data, members_with, data_of}
 use Rattle.rt_tree.specs.declared.tree.Tree.TheDeep.{size-Tree}
 use Rattle.rt_tree.proofs.Depths.{levels-of_leaf}
 use Rattle.rt_tree.proofs.Equals.{below}
-use Rattle.rt_tree.proofs.Nodes.{at-Null, at-Leaf, at-Object, kept-Object}
+use Rattle.rt_tree.proofs.Nodes.{at-Null, at-Leaf, at-Object, kept-Object, allowed-node}
 use Rattle.rt_tree.proofs.Writings.{view-Null, data_of-null, data_of-of_leaf, data_of-object, writing_begins, writing_goes_on, writing_ends, Writing}
 use Rattle.rt_tree.proofs.tree.+value.Goals as goal
 
@@ -28,16 +29,10 @@ Tree::to_value-members_of-requires t c =
 pub Tree::to_value-returns-in-Null-clause-value : goal.Tree::to_value-returns-in-Null-clause-value
 Tree::to_value-returns-in-Null-clause-value t c = view-Null ∙ sym (ap data_of (at-Null c.self.view_is c.in-Null.is) ∙ data_of-null)
 
-pub Tree::to_value-returns-in-Null-clause-shallow : goal.Tree::to_value-returns-in-Null-clause-shallow
-Tree::to_value-returns-in-Null-clause-shallow t c = omega (arith, ap levels (at-Null c.self.view_is c.in-Null.is), levels-null)
-
 pub Tree::to_value-returns-in-Leaf-clause-value : goal.Tree::to_value-returns-in-Leaf-clause-value
 Tree::to_value-returns-in-Leaf-clause-value t c =
     IfOk-weaker c.leaf_value.result (λ v. view v ≡ leaf_data c.in-Leaf.leaf) (λ v. view v ≡ data_of c.args.self.now)
     (λ v p. p ∙ sym (ap data_of (at-Leaf c.self.view_is c.in-Leaf.is) ∙ data_of-of_leaf c.in-Leaf.leaf)) c.leaf_value.ensures.value
-
-pub Tree::to_value-returns-in-Leaf-clause-shallow : goal.Tree::to_value-returns-in-Leaf-clause-shallow
-Tree::to_value-returns-in-Leaf-clause-shallow t c = omega (arith, ap levels (at-Leaf c.self.view_is c.in-Leaf.is), levels-of_leaf c.in-Leaf.leaf)
 
 pub Tree::to_value-returns-in_ok-members-in-Object-clause-value : goal.Tree::to_value-returns-in_ok-members-in-Object-clause-value
 Tree::to_value-returns-in_ok-members-in-Object-clause-value t c =
@@ -66,3 +61,9 @@ pub writing::members_of-returns-clause-same_trees : goal.writing::members_of-ret
 writing::members_of-returns-clause-same_trees t c =
     let gives : c.into_iter-key-iterator.result ≡ c.args.children.now.entries = c.into_iter-key-iterator.ensures.into_iter_gives.0 in
     (writing_ends _ _ (subst (Writing c.into_iter-key-iterator.result (members_view c.loop-key.members.entries)) c.in-None.ensures.steps.0 c.loop-key.invariant)).1 ∙ gives
+
+pub Tree::to_value-returns-in-Null-clause-allowed : goal.Tree::to_value-returns-in-Null-clause-allowed
+Tree::to_value-returns-in-Null-clause-allowed t c = subst IsAllowed c.self.view_is (allowed-node c.self.inside.node c.self.invariant)
+
+pub Tree::to_value-returns-in-Leaf-clause-allowed : goal.Tree::to_value-returns-in-Leaf-clause-allowed
+Tree::to_value-returns-in-Leaf-clause-allowed t c = subst IsAllowed c.self.view_is (allowed-node c.self.inside.node c.self.invariant)
