@@ -152,6 +152,31 @@ impl Query {
     }
 }
 
+impl PartialEq for Query {
+    ghost use Rattle.std.specs.Cmp as Cmp;
+    ghost use Rattle.rt_query.specs.QueryEq.{query_eq};
+    ghost use Rattle.rt_query.specs.QueryEqLaws.{query_eq_tells};
+    ghost use Rattle.rt_tree.specs.TreeEq.{equivalence};
+
+    ghost eq = { query_eq };
+
+    ghost laws = { Cmp.partial_equiv_from_equiv (equivalence query_eq_tells) };
+
+    fn eq(&self, other: &Query) -> bool {
+        self.path == other.path
+            && self.index == other.index
+            && self.range == other.range
+            && self.limit == other.limit
+    }
+}
+
+impl Eq for Query {
+    ghost use Rattle.rt_query.specs.QueryEqLaws.{query_eq_tells};
+    ghost use Rattle.rt_tree.specs.TreeEq.{equivalence};
+
+    ghost laws = { equivalence query_eq_tells };
+}
+
 // The leaf that a tree is, if it is one.
 fn copy_leaf(alloc: Global, tree: &Tree) -> Result<Option<Leaf>, AllocError>
     ensures { IfOk result (λ leaf. leaf ≡ leaf_of tree.now) }
