@@ -1,5 +1,6 @@
 pub mod Alone
 pub mod Answers
+pub mod Examples
 pub mod Headline
 pub mod Refusals
 pub mod Runs
