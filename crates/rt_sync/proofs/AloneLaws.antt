@@ -17,7 +17,8 @@ use Rattle.rt_cover.specs.Cover.{Tagged, forms, needed, kept_for}
 use Rattle.rt_sync.specs.declared.error.CoreError.{CoreError}
 use Rattle.rt_sync.specs.declared.step.Step.{Step}
 use Rattle.rt_sync.specs.declared.step.Step.TheVariants as Step
-use Rattle.rt_sync.specs.World.{World, Listener, registered, pending, listen_of}
+use Rattle.rt_sync.specs.declared.limits.Limits.{Limits}
+use Rattle.rt_sync.specs.World.{World, Listener, empty_world, limits_from, registered, pending, listen_of}
 use Rattle.rt_sync.specs.Views.{is_known, view_of}
 use Rattle.rt_sync.specs.Steps.{listeners_after, requests_after, forms_after, kept_after, brought_after, pushed, renewed, next}
 use Rattle.rt_sync.specs.Refusals.{conditions, needs_tag, refusal, is_stale, is_bad_push, has_too_many_listeners}
@@ -314,3 +315,7 @@ brought_of_applies_all (s ∷ steps) (a ∷ answers) w v e h u =
         let b = brings_of_applies w x s a one h (All-head IsPlainStep s steps u) in
         go x rest b.alone ∙ ap (λ y. fold push_plain y (of_each push_taken steps answers)) b.brought ∙ sym (fold-append push_plain w.brought (push_taken s a) (of_each push_taken steps answers))
     through None one rest go = absurd (failed_stays steps answers v rest)
+
+-- a new core's world
+pub alone_empty : (limits : Limits) → IsAlone (empty_world (limits_from limits))
+alone_empty limits = record { limit = omega arith; windows = refl; state = inl (record { listeners = refl; kept = refl; regions = refl }) }
