@@ -3,7 +3,7 @@ ghost use Rattle.std.specs.Prelude.{[], ◌∷◌, ◌≡◌, ◌<◌, ◌≤◌
 ghost use Rattle.std.specs.Option.{option_copied};
 ghost use Rattle.std.specs.Arc.{arc_value};
 ghost use Rattle.std.specs.BTreeMap.{IsOrdered, insert_entry};
-ghost use Rattle.rt_tree.specs.PathTree.{leaf_at, null, of_leaf, is_null, sub, put, non_null, levels, key_cmp, key_eq, child_of, PutsBelow, AllFull};
+ghost use Rattle.rt_tree.specs.PathTree.{leaf_at, null, of_leaf, is_null, sub, put, non_null, object, levels, key_cmp, key_eq, child_of, PutsBelow, AllFull};
 ghost use Rattle.rt_tree.specs.Allowed.{IsAllowed, MayStandAt};
 ghost use Rattle.rt_tree.specs.Children.{is_object, children_of};
 
@@ -75,6 +75,20 @@ impl Tree {
         let _in_range = leaf.value();
         let node = Node::Leaf(leaf);
         Tree { node }
+    }
+
+    /// The object of these children; null where there are none.
+    pub fn object(alloc: Global, children: BTreeMap<Key, Tree>) -> Result<Tree, AllocError>
+        requires ordered { IsOrdered key_cmp children }
+        requires full { AllFull children.entries }
+        requires allowed { IsAllowed (object children.entries) }
+        ensures { IfOk result (λ tree. tree ≡ object children.entries) }
+    {
+        if children.is_empty() {
+            return Ok(Tree::null());
+        }
+        let node = Node::Object(Arc::new(alloc, children)?);
+        Ok(Tree { node })
     }
 
     /// Whether there is nothing in the tree.

@@ -1,0 +1,95 @@
+-- What the listens brought: regions under plain listens, windows of filtered ones.
+use Rattle.std.specs.Prelude.{Bool, true, false, ◌&&◌, not, if◌then◌else◌, List, [], ◌∷◌, map, Option, Some, None, is_some}
+use Rattle.std.specs.List.{filter}
+use Rattle.std.specs.Option.{option_map, option_map_or, option_or}
+use Rattle.std.specs.FinMap as map_of
+use Rattle.rt_tree.specs.PathTree.{Path, path_cmp, path_eq, strip, PathTree, sub, put, children_alone}
+use Rattle.rt_tree.specs.Assignments.{is_at_or_above, Assignment}
+use Rattle.rt_query.specs.Queries.{Query, is_filtered}
+use Rattle.rt_query.specs.QueryEq.{query_eq}
+use Rattle.rt_query.specs.Supply.{form}
+
+-- known children of a filtered query; whole where they are all that its path has
+pub record Window : Type 0 where
+  pub children : PathTree
+  pub is_whole : Bool
+
+-- regions at paths of which none is at or above another, in the order of paths; windows by their filtered form, in order of registration
+pub record Brought : Type 0 where
+  pub regions : List (Path × PathTree)
+  pub windows : List (Query × Window)
+
+-- before any push
+abbrev pub nothing_brought : Brought
+nothing_brought = record { regions = []; windows = [] }
+
+-- ---- what is there
+
+-- the part at p of the region at or above p
+abbrev pub region_part : List (Path × PathTree) → Path → Option PathTree
+region_part [] p = None
+region_part (r ∷ rs) p = option_or (option_map (sub r.1) (strip r.0 p)) (region_part rs p)
+
+-- the window of a filtered form
+abbrev pub window_of : List (Query × Window) → Query → Option Window
+window_of [] q = None
+window_of (w ∷ ws) q = if query_eq w.0 q then Some w.1 else window_of ws q
+
+-- what is brought for a query; whole where it is all that its path has
+pub record Base : Type 0 where
+  pub tree : PathTree
+  pub is_whole : Bool
+
+-- the region's part, else the window of the query's form, else nothing
+abbrev pub base : Brought → Query → Option Base
+base b q = option_or
+    (option_map (λ t. record { tree = t; is_whole = true }) (region_part b.regions q.path))
+    (option_map (λ w. record { tree = w.children; is_whole = w.is_whole }) (window_of b.windows (form q)))
+
+-- whether something is brought for the query
+abbrev pub knows : Brought → Query → Bool
+knows b q = is_some (base b q)
+
+-- ---- pushes
+
+-- the window set, in place of an older one of that query
+abbrev pub with_window : Query → Window → List (Query × Window) → List (Query × Window)
+with_window q window [] = (q, window) ∷ []
+with_window q window (w ∷ ws) = if query_eq w.0 q then (q, window) ∷ ws else w ∷ with_window q window ws
+
+-- the region with u put at p, if it is at or above p
+abbrev pub region_put : Assignment → Path × PathTree → Path × PathTree
+region_put a r = (r.0, option_map_or (λ rest. put r.1 rest a.1) (strip r.0 a.0) r.1)
+
+-- a push on a plain listen changes the region at or above its path, or makes one that takes in all regions and windows below
+abbrev pub push_plain : Brought → Assignment → Brought
+push_plain b a =
+    if is_some (region_part b.regions a.0)
+    then record b { regions = map (region_put a) b.regions }
+    else record {
+      regions = map_of.put path_cmp a.0 a.1 (filter (λ r. not (is_at_or_above a.0 r.0)) b.regions);
+      windows = filter (λ w. not (is_at_or_above a.0 w.0.path)) b.windows;
+    }
+
+-- the window after a push of u at its path (nothing follows it) or below, where it stands
+abbrev pub window_pushed : Path → PathTree → Option Window → Option Window
+window_pushed [] u w = Some (record { children = children_alone u; is_whole = false })
+window_pushed (k ∷ rest) u (Some w) = Some (record w { children = put w.children (k ∷ rest) u })
+window_pushed (k ∷ rest) u None = None
+
+-- a push on a filtered listen at its path replaces its window by the children; one below is put into the window, if there is one
+abbrev pub push_filtered : Brought → Query → Path → PathTree → Brought
+push_filtered b q rest u = record b {
+  windows = option_map_or (λ w. with_window q w b.windows) (window_pushed rest u (window_of b.windows q)) b.windows;
+}
+
+-- a push on a kept listen
+abbrev pub push : Query → Brought → Assignment → Brought
+push q b a =
+    if is_filtered q
+    then option_map_or (λ rest. push_filtered b q rest a.1) (strip q.path a.0) b
+    else push_plain b a
+
+-- whether a push on a kept listen changes nothing, for want of a window
+abbrev pub is_without_window : Brought → Query → Assignment → Bool
+is_without_window b q a = is_filtered q && not (path_eq q.path a.0) && not (is_some (window_of b.windows q))

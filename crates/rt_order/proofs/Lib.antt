@@ -1,0 +1,3 @@
+pub mod CutLaws
+pub mod Numerals
+pub mod Orders

@@ -1,0 +1,246 @@
+// Places between entries, and ranges.
+ghost use Rattle.std.specs.Prelude.{◌≡◌, IfOk};
+ghost use Rattle.rt_order.specs.Cuts.{has, is_after, is_past, mark_value};
+ghost use Rattle.rt_order.specs.Entries.{entry};
+ghost use Rattle.rt_order.specs.SortRef.{value_of};
+
+use crate::index::{Index, sort_value};
+use crate::key::key_cmp;
+use crate::value::{SortRef, value_cmp};
+use rt_tree::{Key, Leaf, Tree};
+use std::alloc::{AllocError, Global};
+use std::cmp::Ordering;
+
+/// The value of a cut.
+#[derive(Debug, Drop)]
+pub enum Mark {
+    Null,
+    Leaf(Leaf),
+}
+
+/// Where a cut lies among the entries of its value: before all, next to a key, or after all.
+#[derive(Debug, Drop)]
+pub enum Place {
+    Min,
+    Before(Key),
+    After(Key),
+    Max,
+}
+
+/// A place between entries.
+#[derive(Debug, Drop)]
+pub struct Cut {
+    pub value: Mark,
+    pub place: Place,
+}
+
+/// The entries after the lower and before the upper cut. An absent cut bounds nothing.
+#[derive(Debug, Drop)]
+pub struct Range {
+    pub lower: Option<Cut>,
+    pub upper: Option<Cut>,
+}
+
+impl Mark {
+    /// An equal mark.
+    pub fn copy(&self, alloc: Global) -> Result<Mark, AllocError>
+        ensures { IfOk result (λ mark. mark ≡ self.now) }
+    {
+        match self {
+            Mark::Null => Ok(Mark::Null),
+            Mark::Leaf(leaf) => Ok(Mark::Leaf(leaf.copy(alloc)?)),
+        }
+    }
+
+    // What the entries of the mark are sorted by.
+    fn sort_value(&self) -> SortRef<'_>
+        ensures { value_of result ≡ mark_value self.now }
+    {
+        match self {
+            Mark::Null => SortRef::Null,
+            Mark::Leaf(leaf) => SortRef::Leaf(leaf),
+        }
+    }
+}
+
+impl Place {
+    /// An equal place.
+    pub fn copy(&self, _alloc: Global) -> Result<Place, AllocError>
+        ensures { IfOk result (λ place. place ≡ self.now) }
+    {
+        match self {
+            Place::Min => Ok(Place::Min),
+            Place::Before(key) => Ok(Place::Before(key.copy()?)),
+            Place::After(key) => Ok(Place::After(key.copy()?)),
+            Place::Max => Ok(Place::Max),
+        }
+    }
+
+    // Whether a key lies after the place.
+    fn is_before(&self, key: &Key) -> bool
+        ensures { result ≡ is_past self.now key.now }
+    {
+        match self {
+            Place::Min => true,
+            Place::Before(bound) => key_cmp(bound, key).is_le(),
+            Place::After(bound) => key_cmp(bound, key).is_lt(),
+            Place::Max => false,
+        }
+    }
+}
+
+impl Cut {
+    /// An equal cut.
+    pub fn copy(&self, alloc: Global) -> Result<Cut, AllocError>
+        ensures { IfOk result (λ cut. cut ≡ self.now) }
+    {
+        let value = self.value.copy(alloc)?;
+        let place = self.place.copy(alloc)?;
+        Ok(Cut { value, place })
+    }
+
+    // Whether an entry lies after the cut.
+    fn is_before(&self, value: &SortRef<'_>, key: &Key) -> bool
+        ensures { result ≡ is_after self.now (value_of value.now, key.now) }
+    {
+        match value_cmp(&self.value.sort_value(), value) {
+            Ordering::Less => true,
+            Ordering::Equal => self.place.is_before(key),
+            Ordering::Greater => false,
+        }
+    }
+}
+
+// An equal cut, where there is one.
+fn copy_cut(cut: &Option<Cut>, alloc: Global) -> Result<Option<Cut>, AllocError>
+    ensures { IfOk result (λ copy. copy ≡ cut.now) }
+{
+    match cut {
+        None => Ok(None),
+        Some(cut) => Ok(Some(cut.copy(alloc)?)),
+    }
+}
+
+impl Range {
+    /// An equal range.
+    pub fn copy(&self, alloc: Global) -> Result<Range, AllocError>
+        ensures { IfOk result (λ range. range ≡ self.now) }
+    {
+        let lower = copy_cut(&self.lower, alloc)?;
+        let upper = copy_cut(&self.upper, alloc)?;
+        Ok(Range { lower, upper })
+    }
+
+    /// Whether a child's entry lies in the range.
+    pub fn has(&self, index: &Index, key: &Key, tree: &Tree) -> bool
+        ensures { result ≡ has self.now (entry index.now (key.now, tree.now)) }
+    {
+        let value = sort_value(index, tree);
+        let is_above = match &self.lower {
+            Some(cut) => cut.is_before(&value, key),
+            None => true,
+        };
+        let is_below = match &self.upper {
+            Some(cut) => !cut.is_before(&value, key),
+            None => true,
+        };
+        is_above && is_below
+    }
+}
+
+impl PartialEq for Mark {
+    ghost use Rattle.std.specs.Cmp as Cmp;
+    ghost use Rattle.rt_order.specs.Equality.{mark_eq};
+    ghost use Rattle.rt_order.specs.EqualityLaws.{mark_eq_tells};
+    ghost use Rattle.rt_tree.specs.TreeEq.{equivalence};
+
+    ghost eq = { mark_eq };
+
+    ghost laws = { Cmp.partial_equiv_from_equiv (equivalence mark_eq_tells) };
+
+    fn eq(&self, other: &Mark) -> bool {
+        match (self, other) {
+            (Mark::Null, Mark::Null) => true,
+            (Mark::Leaf(leaf), Mark::Leaf(other)) => leaf == other,
+            _ => false,
+        }
+    }
+}
+
+impl Eq for Mark {
+    ghost use Rattle.rt_order.specs.EqualityLaws.{mark_eq_tells};
+    ghost use Rattle.rt_tree.specs.TreeEq.{equivalence};
+
+    ghost laws = { equivalence mark_eq_tells };
+}
+
+impl PartialEq for Place {
+    ghost use Rattle.std.specs.Cmp as Cmp;
+    ghost use Rattle.rt_order.specs.Equality.{place_eq};
+    ghost use Rattle.rt_order.specs.EqualityLaws.{place_eq_tells};
+    ghost use Rattle.rt_tree.specs.TreeEq.{equivalence};
+
+    ghost eq = { place_eq };
+
+    ghost laws = { Cmp.partial_equiv_from_equiv (equivalence place_eq_tells) };
+
+    fn eq(&self, other: &Place) -> bool {
+        match (self, other) {
+            (Place::Min, Place::Min) | (Place::Max, Place::Max) => true,
+            (Place::Before(key), Place::Before(other)) => key == other,
+            (Place::After(key), Place::After(other)) => key == other,
+            _ => false,
+        }
+    }
+}
+
+impl Eq for Place {
+    ghost use Rattle.rt_order.specs.EqualityLaws.{place_eq_tells};
+    ghost use Rattle.rt_tree.specs.TreeEq.{equivalence};
+
+    ghost laws = { equivalence place_eq_tells };
+}
+
+impl PartialEq for Cut {
+    ghost use Rattle.std.specs.Cmp as Cmp;
+    ghost use Rattle.rt_order.specs.Equality.{cut_eq};
+    ghost use Rattle.rt_order.specs.EqualityLaws.{cut_eq_tells};
+    ghost use Rattle.rt_tree.specs.TreeEq.{equivalence};
+
+    ghost eq = { cut_eq };
+
+    ghost laws = { Cmp.partial_equiv_from_equiv (equivalence cut_eq_tells) };
+
+    fn eq(&self, other: &Cut) -> bool {
+        self.value == other.value && self.place == other.place
+    }
+}
+
+impl Eq for Cut {
+    ghost use Rattle.rt_order.specs.EqualityLaws.{cut_eq_tells};
+    ghost use Rattle.rt_tree.specs.TreeEq.{equivalence};
+
+    ghost laws = { equivalence cut_eq_tells };
+}
+
+impl PartialEq for Range {
+    ghost use Rattle.std.specs.Cmp as Cmp;
+    ghost use Rattle.rt_order.specs.Equality.{range_eq};
+    ghost use Rattle.rt_order.specs.EqualityLaws.{range_eq_tells};
+    ghost use Rattle.rt_tree.specs.TreeEq.{equivalence};
+
+    ghost eq = { range_eq };
+
+    ghost laws = { Cmp.partial_equiv_from_equiv (equivalence range_eq_tells) };
+
+    fn eq(&self, other: &Range) -> bool {
+        self.lower == other.lower && self.upper == other.upper
+    }
+}
+
+impl Eq for Range {
+    ghost use Rattle.rt_order.specs.EqualityLaws.{range_eq_tells};
+    ghost use Rattle.rt_tree.specs.TreeEq.{equivalence};
+
+    ghost laws = { equivalence range_eq_tells };
+}

@@ -1,0 +1,20 @@
+//! Queries: a path, an order, a range and a limit; what a query shows of a tree; and which query's listen supplies which.
+#![tactic(auto)]
+
+mod draft;
+mod examples;
+mod laws;
+mod limit;
+mod query;
+mod row;
+mod shown;
+#[cfg(test)]
+mod tests;
+
+pub use draft::Draft;
+pub use examples::{bound_examples, order_examples};
+pub use laws::{equality_laws, select_laws};
+pub use limit::Limit;
+pub use query::Query;
+pub use row::Row;
+pub use shown::Shown;

@@ -1,0 +1,10 @@
+pub mod Alone
+pub mod Answers
+pub mod Examples
+pub mod Headline
+pub mod Refusals
+pub mod Runs
+pub mod Sound
+pub mod Steps
+pub mod Views
+pub mod World
