@@ -1,5 +1,7 @@
 pub mod Answers
+pub mod Codes
 pub mod Headline
+pub mod Inside
 pub mod Refusals
 pub mod Runs
 pub mod Steps
