@@ -4,4 +4,5 @@ pub mod Queries
 pub mod QueryEq
 pub mod Rows
 pub mod Select
+pub mod ShownView
 pub mod Supply
