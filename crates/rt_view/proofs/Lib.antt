@@ -1,0 +1,4 @@
+pub mod Placed
+pub mod ReplayLaws
+pub mod Tests
+pub mod TurnLaws

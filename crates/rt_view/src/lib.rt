@@ -5,8 +5,11 @@ mod batch;
 mod change;
 mod change_list;
 mod compare;
+mod kind;
+mod laws;
 
 pub use batch::Batch;
 pub use change::Change;
 pub use change_list::ChangeList;
 pub use compare::changes;
+pub use laws::{replay_laws, turn_laws};
