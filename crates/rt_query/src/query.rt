@@ -43,6 +43,13 @@ impl Query {
         &self.path
     }
 
+    /// The order that is asked for.
+    pub fn index(&self) -> &Index
+        ensures { result.now ≡ self.now.index }
+    {
+        &self.index
+    }
+
     /// What the query shows of a tree: filter, order and cut of its children; a leaf only where the query is not filtered.
     pub fn select(&self, tree: &Tree) -> Result<Shown, AllocError>
         ensures { IfOk result (λ shown. shown ≡ select self.now tree.now) }
