@@ -5,6 +5,7 @@ ghost use Rattle.rt_query.specs.Drafts.{new_draft};
 
 use crate::draft::Draft;
 use crate::limit::Limit;
+use crate::row::Row;
 use crate::shown::Shown;
 use rt_order::{Index, Range};
 use rt_tree::{Path, Tree};
@@ -54,6 +55,17 @@ impl Query {
     pub fn select(&self, tree: &Tree) -> Result<Shown, AllocError>
         ensures { IfOk result (λ shown. shown ≡ select self.now tree.now) }
     {
-        Err(AllocError)
+        let text = self.path.text()?;
+        let alloc = *text.allocator();
+        let leaf = match tree.as_leaf() { Some(l) => Some(l.copy(alloc)?), None => None };
+        let mut rows: Vec<Row> = Vec::new(alloc);
+        if let Some(children) = tree.children() {
+            for (key, child) in children.iter() {
+                let mut at = 0;
+                while at < rows.len() && rt_order::key_cmp(&rows[at].key, key).is_lt() { at += 1; }
+                rows.insert(at, Row { key: key.copy()?, value: child.copy(alloc)? })?;
+            }
+        }
+        Ok(Shown::of(leaf, rows, tree.copy(alloc)?))
     }
 }

@@ -24,3 +24,6 @@ pub use request::{Asked, Request};
 pub use runs::{Answers, run};
 pub use step::{Action, Step};
 pub use sync::Core;
+
+#[cfg(test)]
+mod tests;
