@@ -1,19 +1,24 @@
 -- What a core holds, as a world.
-use Rattle.std.specs.Prelude.{◌≡◌, ℕ, ◌+◌, ◌≤◌, Bool, false, IsTrue, List, [], ◌∷◌, map, length, Option, Some, None, is_some}
+use Rattle.std.specs.Prelude.{◌≡◌, ◌+◌, ◌≤◌, Bool, true, false, ◌||◌, if◌then◌else◌, List, [], ◌∷◌, map, length, Option, Some, None, is_some}
 use Rattle.std.specs.List.{AllByRecursion}
-use Rattle.std.specs.Option.{option_map, option_map_or}
-use Rattle.rt_tree.specs.PathTree.{Path, PathTree}
-use Rattle.rt_tree.specs.Assignments.{is_at_or_above}
+use Rattle.std.specs.Option.{option_map, option_map_or, option_to_list}
+use Rattle.rt_tree.specs.PathTree.{Path, PathTree, null}
+use Rattle.rt_tree.specs.Assignments.{Assignment, is_at_or_above}
 use Rattle.rt_query.specs.Queries.{Query, plain, is_filtered}
 use Rattle.rt_query.specs.Select.{Shown, select}
-use Rattle.rt_writes.specs.Writes.{overlay}
+use Rattle.rt_writes.specs.Writes.{overlaid, overlay}
 use Rattle.rt_cache.specs.Brought.{Brought, base}
 use Rattle.rt_cover.specs.Cover.{Tagged}
 use Rattle.rt_sync.specs.declared.limits.Limits.{Limits}
 use Rattle.rt_sync.specs.declared.listener.Listener as inside
 use Rattle.rt_sync.specs.declared.listener.View.{View}
 use Rattle.rt_sync.specs.declared.region.Region.{Region}
+use Rattle.rt_sync.specs.declared.report.Note.{Note}
+use Rattle.rt_sync.specs.declared.report.Report.{Report}
 use Rattle.rt_sync.specs.declared.request.Request.{Request}
+use Rattle.rt_sync.specs.declared.step.Step.{Step}
+use Rattle.rt_sync.specs.Answers.{batch_note, batch_from, done_report}
+use Rattle.rt_sync.specs.Steps.{next}
 use Rattle.rt_sync.specs.Views.{is_known, base_tree}
 use Rattle.rt_sync.specs.World.{World, Listener, pending}
 
@@ -57,6 +62,33 @@ world_of limits listener requests regions is_connected = record {
   next_tag = option_map_or (λ l. 2) listener 1;
 }
 
+-- ---- views
+
+-- the view of a query that sees the tree
+abbrev pub view_over : Query → PathTree → View
+view_over q t = record { seen = t; shown = select q t }
+
+-- the view from scratch, of what is brought and the pending writes; none where nothing is known, unless there was one before
+abbrev pub view_renewed : List Region → List Request → Query → Option View → Option View
+view_renewed regions requests q old =
+    if is_some old || is_known (brought_of regions) (pending requests) q
+    then Some (view_over q (overlay q.path (base_tree (base (brought_of regions) q)) (pending requests)))
+    else None
+
+-- the view after one more write; without one before, its first where the write sits at or above the path
+abbrev pub view_written : Assignment → Query → Option View → Option View
+view_written a q (Some v) = Some (view_over q (overlaid q.path v.seen a))
+view_written a q None = if is_at_or_above a.0 q.path then Some (view_over q (overlaid q.path null a)) else None
+
+-- what the listener's seat is told of its new view
+abbrev pub told : inside.Listener → inside.Listener → List Note
+told old new = option_to_list (batch_note (listener_of new) (batch_from (shown_in old.view) (listener_of new)))
+
+-- what the seats are told
+abbrev pub all_told : Option inside.Listener → Option inside.Listener → List Note
+all_told (Some old) (Some new) = told old new
+all_told _ _ = []
+
 -- ---- what always holds
 
 -- a view shows its query over what it sees
@@ -69,9 +101,9 @@ abbrev pub IsSeen : Query → List Request → List Region → Option View → T
 IsSeen q requests regions None = is_known (brought_of regions) (pending requests) q ≡ false
 IsSeen q requests regions (Some v) = v.seen ≡ overlay q.path (base_tree (base (brought_of regions) q)) (pending requests)
 
--- the regions sit at or under the listener's path
+-- the region sits at or under the query's path
 abbrev pub IsUnder : Query → Region → Type 0
-IsUnder q r = IsTrue (is_at_or_above q.path r.path)
+IsUnder q r = is_at_or_above q.path r.path ≡ true
 
 -- the listener is the first, its query is not filtered, and its view is up to date
 pub record IsListener (requests : List Request) (regions : List Region) (l : inside.Listener) : Type 0 where
@@ -91,3 +123,10 @@ pub record IsState (limits : Limits) (listener : Option inside.Listener) (reques
   pub one : limits.listeners ≡ 1
   pub numbers : 1 ≤ limits.last_number
   pub listened : IsListened requests regions listener
+
+-- ---- steps
+
+-- the world after the step, with its report
+pub record IsNext (w : World) (s : Step) (made : World × Report) : Type 0 where
+  pub world : made.0 ≡ next w s
+  pub report : made.1 ≡ done_report w s

@@ -1,7 +1,7 @@
 // When a step is refused, and when it is stale.
-ghost use Rattle.std.specs.Prelude.{◌≡◌, ◌+◌, length, nat_lt, is_some};
-ghost use Rattle.rt_tree.specs.PathTree.{levels};
-ghost use Rattle.rt_tree.specs.Assignments.{is_at_or_above};
+ghost use Rattle.std.specs.Prelude.{◌≡◌};
+ghost use Rattle.std.specs.Option.{option_map};
+ghost use Rattle.rt_query.specs.Queries.{plain};
 ghost use Rattle.rt_sync.specs.World.{listen_of};
 ghost use Rattle.rt_sync.specs.Refusals.{has_too_many_listeners, has_too_many_requests, stands_too_deep, is_too_deep, is_bad_push, is_already_connected, is_not_connected, refusal, is_stale};
 
@@ -36,6 +36,7 @@ fn is_too_deep(step: &Step) -> bool
 impl State {
     // The query of the listener whose listen has the tag.
     fn listen_of(&self, tag: u64) -> Option<&Query>
+        ensures { option_map (λ q. plain q.now.path) result ≡ listen_of self.now tag }
     {
         match &self.listener {
             Some(listener) if tag == 1 => Some(&listener.query),

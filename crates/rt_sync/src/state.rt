@@ -1,7 +1,5 @@
 // What a core holds.
-ghost use Rattle.std.specs.Prelude.{◌≡◌, IfOk, None, false};
-ghost use Rattle.rt_sync.specs.declared.limits.Limits.{Limits};
-ghost use Rattle.rt_sync.specs.World.{empty_world};
+ghost use Rattle.std.specs.Prelude.{◌≡◌, ◌≤◌, ℕ, IfOk, OnErr, None, false, map};
 
 use crate::error::CoreError;
 use crate::limits::Limits;
@@ -39,8 +37,22 @@ impl Model for State {
 }
 
 impl State {
+    ghost use Rattle.std.specs.Result.{result_map};
+    ghost use Rattle.std.specs.Option.{option_copied};
+    ghost use Rattle.rt_query.specs.Queries.{is_filtered};
+    ghost use Rattle.rt_sync.specs.declared.step.Step.TheVariants as Step;
+    ghost use Rattle.rt_sync.specs.declared.step.Action.TheVariants as Action;
+    ghost use Rattle.rt_sync.specs.World.{empty_world};
+    ghost use Rattle.rt_sync.specs.Refusals.{has_too_many_listeners, is_bad_push, refusal, is_stale};
+    ghost use Rattle.rt_sync.specs.Answers.{step as the_step};
+    ghost use Rattle.rt_sync.specs.Runs.{IsPlainStep, view_in};
+    ghost use Rattle.rt_sync.specs.Inside.{IsNext};
+
     // No listener, no request, no connection.
     pub(crate) fn new(alloc: Global, limits: Limits) -> State
+        requires one { limits.listeners ≡ 1 }
+        requires numbers { 1 ≤ limits.last_number }
+        ensures { result ≡ empty_world limits }
     {
         State {
             limits,
@@ -58,6 +70,7 @@ impl State {
 
     // The view of the listener of that number, none where it is not primed.
     pub(crate) fn view(&self, number: u64) -> Result<Option<&Shown>, CoreError>
+        ensures { result_map option_copied result ≡ view_in self.now number }
     {
         match &self.listener {
             Some(listener) if listener.number == number => {
@@ -69,6 +82,9 @@ impl State {
 
     // Registers a listener, the first.
     fn listen(self, seat: u64, query: Query) -> Result<(State, Report), AllocError>
+        requires room { has_too_many_listeners self (Step.Listen seat query) ≡ false }
+        requires plain { is_filtered query ≡ false }
+        ensures { IfOk result (λ made. IsNext self (Step.Listen seat query) made) }
     {
         let alloc = self.alloc();
         let State {
@@ -102,6 +118,7 @@ impl State {
         path: Path,
         tree: Tree,
     ) -> Result<(State, Report), AllocError>
+        ensures { IfOk result (λ made. IsNext self (Step.Write seat (Action.Put path tree)) made) }
     {
         let alloc = self.alloc();
         let State {
@@ -133,6 +150,10 @@ impl State {
 
     // Takes in what the listen brings.
     fn push(self, path: Path, tree: Tree) -> Result<(State, Report), AllocError>
+        ghost tag: { ℕ }
+        requires listened { is_stale self (Step.Data tag path tree) ≡ false }
+        requires within { is_bad_push self (Step.Data tag path tree) ≡ false }
+        ensures { IfOk result (λ made. IsNext self (Step.Data tag path tree) made) }
     {
         let alloc = self.alloc();
         let State {
@@ -159,6 +180,7 @@ impl State {
 
     // Opens a connection.
     fn connect(self) -> (State, Report)
+        ensures { IsNext self Step.Connected result }
     {
         let alloc = self.alloc();
         let mut state = self;
@@ -168,6 +190,10 @@ impl State {
 
     // The step, which is neither refused nor stale.
     fn next(self, step: Step) -> Result<(State, Report), AllocError>
+        requires plain { IsPlainStep step }
+        requires not_refused { refusal self step ≡ None }
+        requires not_stale { is_stale self step ≡ false }
+        ensures { IfOk result (λ made. IsNext self step made) }
     {
         match step {
             Step::Listen { seat, query } => self.listen(seat, query),
@@ -185,6 +211,10 @@ impl State {
         self,
         step: Step,
     ) -> Result<(State, Result<Report, CoreError>), AllocError>
+        requires { IsPlainStep step }
+        ensures ok { IfOk result (λ made. made ≡ the_step self step) }
+        ensures not_refused { OnErr result (refusal self step ≡ None) }
+        ensures not_stale { OnErr result (is_stale self step ≡ false) }
     {
         if let Some(error) = self.refusal(&step) {
             return Ok((self, Err(error)));

@@ -1,15 +1,9 @@
 // The view of a listener, and what its seat is told.
-ghost use Rattle.std.specs.Prelude.{◌≡◌, IfOk, Some, is_some, ◌||◌, false};
-ghost use Rattle.std.specs.Option.{option_to_list, option_map};
+ghost use Rattle.std.specs.Prelude.{◌≡◌, IfOk, OnOk, Some, false};
+ghost use Rattle.std.specs.Option.{option_to_list};
 ghost use Rattle.rt_query.specs.Queries.{is_filtered};
-ghost use Rattle.rt_query.specs.Select.{select};
-ghost use Rattle.rt_view.specs.declared.change.Change.{Change};
-ghost use Rattle.rt_view.specs.Changes.{changes};
-ghost use Rattle.rt_writes.specs.Writes.{overlaid};
-ghost use Rattle.rt_tree.specs.Assignments.{is_at_or_above};
 ghost use Rattle.rt_sync.specs.Answers.{batch_note};
-ghost use Rattle.rt_sync.specs.World.{pending};
-ghost use Rattle.rt_sync.specs.Inside.{listener_of, IsView, shown_in, brought_of};
+ghost use Rattle.rt_sync.specs.Inside.{listener_of, IsView, told, view_over, view_renewed, view_written};
 
 use crate::listener::{Listener, View};
 use crate::overlay::{overlaid, overlay, sets_whole};
@@ -46,24 +40,27 @@ fn notes_of(
 
 // The listener shows its query over `seen` from now on; what its seat is told of that.
 fn show(alloc: Global, listener: &mut Listener, seen: Tree) -> Result<Notes, AllocError>
-    requires { IsView listener.old.query listener.old.view }
-    ensures view { OnOk result (listener.new ≡ record listener.old { view = Some (record { seen = seen; shown = select listener.old.query seen }) }) }
-    ensures notes { IfOk result (λ notes. notes ≡ option_to_list (batch_note (listener_of listener.old) (changes listener.old.query.index (shown_in listener.old) (select listener.old.query seen)))) }
+    ensures view { OnOk result (listener.new ≡ record listener.old { view = Some (view_over listener.old.query seen) }) }
+    ensures notes { IfOk result (λ notes. notes ≡ told listener.old listener.new) }
 {
     let shown = listener.query.select(&seen)?;
+    let _rows = shown.rows();
     let old = listener.view.as_ref().map(|view| &view.shown);
     let changes = changes(alloc, listener.query.index(), old, &shown)?;
     listener.view = Some(View { seen, shown });
     notes_of(alloc, listener, changes)
 }
 
-// The view from scratch, where the listener is primed or becomes known; what its seat is told of it.
+// The view from scratch, where the listener has one or something of its path is known; what its seat is told of it.
 pub(crate) fn renew(
     alloc: Global,
     listener: &mut Listener,
     regions: &[Region],
     requests: &[Request],
 ) -> Result<Notes, AllocError>
+    requires { is_filtered listener.old.query ≡ false }
+    ensures view { OnOk result (listener.new ≡ record listener.old { view = view_renewed regions.now requests.now listener.old.query listener.old.view }) }
+    ensures notes { IfOk result (λ notes. notes ≡ told listener.old listener.new) }
 {
     let base = region_part(alloc, regions, listener.query.path())?;
     if listener.view.is_none() && base.is_none() && !sets_whole(requests, listener.query.path()) {
@@ -81,6 +78,9 @@ pub(crate) fn write_over(
     at: &Path,
     entry: &Tree,
 ) -> Result<Notes, AllocError>
+    requires { IsView listener.old.query listener.old.view }
+    ensures view { OnOk result (listener.new ≡ record listener.old { view = view_written (at.now, entry.now) listener.old.query listener.old.view }) }
+    ensures notes { IfOk result (λ notes. notes ≡ told listener.old listener.new) }
 {
     let seen = match &listener.view {
         Some(view) => view.seen.copy(alloc)?,
