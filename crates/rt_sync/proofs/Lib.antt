@@ -1,0 +1,5 @@
+pub mod HeadlineLaws
+pub mod Listeners
+pub mod Pending
+pub mod PlainWorlds
+pub mod ShowLaws

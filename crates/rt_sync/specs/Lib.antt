@@ -4,6 +4,7 @@ pub mod Headline
 pub mod Inside
 pub mod Refusals
 pub mod Runs
+pub mod Sound
 pub mod Steps
 pub mod Views
 pub mod World
