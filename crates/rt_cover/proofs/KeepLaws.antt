@@ -1,5 +1,5 @@
 -- The listens kept for some forms have just these forms; for the needed ones they are the fewest.
-use Rattle.std.proofs.Common.{◌≡◌, ℕ, zero, suc, ◌<◌, Bool, true, false, cond, not, inl, inr, List, [], ◌∷◌, ◌++◌, map, length, ◌+◌, refl, sym, ap, subst, ◌∙◌, arith, slice_index_or}
+use Rattle.std.proofs.Common.{◌≡◌, ℕ, zero, suc, ◌<◌, true, false, cond, not, inl, inr, List, [], ◌∷◌, ◌++◌, map, length, ◌+◌, refl, sym, ap, subst, ◌∙◌, arith, slice_index_or}
 use Rattle.std.specs.List.{filter, list_any, enumerate_from, All, Contains}
 use Rattle.std.proofs.lemmas.List.{map-append}
 use Rattle.std.proofs.lemmas.List.Elements.{All-head, All-tail, All-cons, All-map, All-contains, All-filter, All-weaker, Contains-get_or, Contains-append_left, Contains-append_right, Contains-append_cases}
@@ -8,7 +8,7 @@ use Rattle.rt_query.specs.Queries.{Query, is_filtered, plain}
 use Rattle.rt_query.specs.QueryEq.{query_eq}
 use Rattle.rt_query.specs.Supply.{form}
 use Rattle.rt_cover.specs.Cover.{IsFewest, needed, distinct, Registered, forms, Tagged, is_kept, started, kept_for}
-use Rattle.rt_cover.proofs.Tests.{query_eq_tells}
+use Rattle.rt_query.proofs.Tests.{query_eq_tells}
 use Rattle.rt_cover.proofs.CoverLaws.{IsForm, Contains-filter, Contains-from_filter, passes-from_filter, needed_fewest, needed_in}
 
 -- ---- lists

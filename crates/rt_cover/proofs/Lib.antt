@@ -1,4 +1,3 @@
 pub mod CoverLaws
 pub mod KeepLaws
 pub mod Paths
-pub mod Tests

@@ -1,5 +1,5 @@
 -- After each step each listener's view is that of what is brought, and what it is told turns its view before into it.
-use Rattle.std.proofs.Common.{◌≡◌, ℕ, zero, suc, ◌+◌, ◌<◌, Bool, true, false, cond, ◌||◌, ◌==◌, inl, inr, List, [], ◌∷◌, ◌++◌, map, length, refl, sym, ap, subst, ◌∙◌, append-nil, arith, slice_index_or, Option, Some, None, Ok, Err}
+use Rattle.std.proofs.Common.{◌≡◌, ℕ, zero, suc, ◌<◌, Bool, true, false, cond, ◌||◌, ◌==◌, inl, inr, List, [], ◌∷◌, ◌++◌, map, length, refl, sym, ap, subst, ◌∙◌, append-nil, arith, slice_index_or, Option, Some, None, Ok, Err}
 use mathlib.Core.Bool.{true≢false}
 use Rattle.std.specs.Cmp.{nat_eq_equiv}
 use Rattle.std.specs.List.{filter, filter_map, flat_map, cons_option, All, Contains}
@@ -13,14 +13,14 @@ use Rattle.rt_view.specs.Changes.{changes, Turns}
 use Rattle.rt_sync.specs.declared.error.CoreError.{CoreError}
 use Rattle.rt_sync.specs.declared.report.Note.{Note}
 use Rattle.rt_sync.specs.declared.step.Step.{Step}
-use Rattle.rt_sync.specs.declared.step.Step.TheVariants as Step
 use Rattle.rt_sync.specs.Views.{is_known, seen_over, view_of}
 use Rattle.rt_sync.specs.World.{World, Listener, pending}
 use Rattle.rt_sync.specs.Steps.{listeners_after, brought_after, requests_after, renewed, renewed_after, listener_given, counted, next}
 use Rattle.rt_sync.specs.Answers.{step_by, Answer, batch_note, batch_from, view_before, done_report, stale_report}
 use Rattle.rt_sync.specs.Headline.{view_by, changes_in, changes_told, IsUpToDate}
 use Rattle.rt_sync.specs.Sound.{Rises, IsSound}
-use Rattle.rt_sync.proofs.Pending.{select-distinct, turns, turns_not, changes-same}
+use Rattle.rt_query.proofs.SelectLaws.{select-distinct}
+use Rattle.rt_view.proofs.TurnLaws.{turns, turns_not, changes-same}
 use Rattle.rt_sync.proofs.Listeners.{same_number, or_false_left, or_false_right, has_number, has_number-there, has_number-renewed, not_above, not_bound, view_before-there, view_before-none, Rises-push, Rises-renewed, below-push, primed_view}
 
 -- ---- listeners after a step

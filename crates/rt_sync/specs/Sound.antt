@@ -1,5 +1,5 @@
 -- What holds of a world between steps.
-use Rattle.std.specs.Prelude.{◌≡◌, ℕ, ◌<◌, Bool, true, List, [], ◌∷◌, map}
+use Rattle.std.specs.Prelude.{◌≡◌, ◌<◌, true, List, [], ◌∷◌, map}
 use Rattle.std.specs.List.{All, Contains}
 use Rattle.rt_query.specs.Queries.{Query}
 use Rattle.rt_cover.specs.Cover.{forms, needed}
