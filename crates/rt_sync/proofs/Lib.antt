@@ -1,4 +1,11 @@
+pub mod AppliedAll
 pub mod HeadlineLaws
+pub mod Insides
 pub mod Listeners
+pub mod NextWorlds
+pub mod Places
 pub mod PlainWorlds
+pub mod RefusalLaws
+pub mod Requests
 pub mod ShowLaws
+pub mod Strips
