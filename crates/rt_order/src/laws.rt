@@ -6,7 +6,7 @@ ghost use Rattle.rt_order.specs.Equality.{index_eq, cut_eq, mark_eq, place_eq, r
 ghost use Rattle.rt_order.specs.KeyOrder.{key_cmp};
 ghost use Rattle.rt_order.specs.Values.{value_cmp};
 ghost use Rattle.rt_order.specs.Entries.{entry_cmp, ObjectsGoByKey};
-ghost use Rattle.rt_order.specs.Cuts.{BeforeIsNextTo, AfterIsNextTo};
+ghost use Rattle.rt_order.specs.Cuts.{AboveStaysAfter, AfterIsNextTo, BeforeIsNextTo, RangesAreRuns};
 
 /// The order of keys is total, and only equal keys are equal in it.
 pub fn key_laws()
@@ -23,10 +23,12 @@ pub fn entry_laws()
     ensures objects { ObjectsGoByKey }
 {}
 
-/// A cut next to a key stands next to the entry of its value and that key.
+/// A cut next to a key stands next to the entry of its value and that key; a range is a run of entries.
 pub fn cut_laws()
     ensures before { BeforeIsNextTo }
     ensures after { AfterIsNextTo }
+    ensures above { AboveStaysAfter }
+    ensures runs { RangesAreRuns }
 {}
 
 /// The tests of equality tell exactly the equal indexes, cuts and ranges.

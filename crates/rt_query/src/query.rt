@@ -1,15 +1,22 @@
 // A query.
 ghost use Rattle.std.specs.Prelude.{◌≡◌, IfOk};
-ghost use Rattle.rt_query.specs.Select.{select};
+ghost use Rattle.rt_tree.specs.Allowed.{IsAllowed};
+ghost use Rattle.rt_tree.specs.PathTree.{leaf_of};
+ghost use Rattle.rt_tree.specs.Children.{children_of};
+ghost use Rattle.rt_query.specs.Queries.{is_filtered};
 ghost use Rattle.rt_query.specs.Drafts.{new_draft};
+ghost use Rattle.rt_query.specs.Select.{select, rows_of};
+ghost use Rattle.rt_query.specs.Sorting.{in_range};
+ghost use Rattle.rt_query.specs.Supply.{form};
 
 use crate::draft::Draft;
-use crate::limit::Limit;
-use crate::row::Row;
+use crate::limit::{Limit, cut};
+use crate::row::{Row, object_of, sort};
 use crate::shown::Shown;
 use rt_order::{Index, Range};
-use rt_tree::{Path, Tree};
-use std::alloc::AllocError;
+use rt_tree::{Key, Leaf, Path, Tree};
+use std::alloc::{AllocError, Global};
+use std::collections::BTreeMap;
 use std::marker::Model;
 
 /// What a listener asks for: the children of a path in an order, of these a range, and of that a limited number.
@@ -44,28 +51,141 @@ impl Query {
         &self.path
     }
 
-    /// The order that is asked for.
+    /// What the children are ordered by.
     pub fn index(&self) -> &Index
         ensures { result.now ≡ self.now.index }
     {
         &self.index
     }
 
-    /// What the query shows of a tree: filter, order and cut of its children; a leaf only where the query is not filtered.
+    /// The range of the children that are shown.
+    pub fn range(&self) -> &Range
+        ensures { result.now ≡ self.now.range }
+    {
+        &self.range
+    }
+
+    /// How many are shown at most, if the query says so.
+    pub fn limit(&self) -> Option<Limit>
+        ensures { result ≡ self.now.limit }
+    {
+        self.limit
+    }
+
+    /// Whether the query has a start, an end or a limit. Any other shows all that is at its path.
+    pub fn is_filtered(&self) -> bool
+        ensures { result ≡ is_filtered self.now }
+    {
+        self.range.lower.is_some() || self.range.upper.is_some() || self.limit.is_some()
+    }
+
+    /// An equal query.
+    pub fn copy(&self) -> Result<Query, AllocError>
+        ensures { IfOk result (λ query. query ≡ self.now) }
+    {
+        let alloc = self.path.allocator();
+        let path = self.path.copy()?;
+        let index = self.index.copy(alloc)?;
+        let range = self.range.copy(alloc)?;
+        Ok(Query {
+            path,
+            index,
+            range,
+            limit: self.limit,
+        })
+    }
+
+    /// What is listened to for this query: an unfiltered query is listened to as the plain query of its path.
+    pub fn listening_form(&self) -> Result<Query, AllocError>
+        ensures { IfOk result (λ query. query ≡ form self.now) }
+    {
+        if self.is_filtered() {
+            self.copy()
+        } else {
+            Ok(Query::at(self.path.copy()?).done())
+        }
+    }
+
+    /// What the query shows of a tree, as the Firebase reference has it: the children in the range, in order, and of these the
+    /// first or the last n. Of a leaf it shows no rows, and the leaf itself only where the query is not filtered.
+    ///
+    /// The tree's children are shared. Each is looked at once, and those in the range are sorted once.
     pub fn select(&self, tree: &Tree) -> Result<Shown, AllocError>
         ensures { IfOk result (λ shown. shown ≡ select self.now tree.now) }
     {
-        let text = self.path.text()?;
-        let alloc = *text.allocator();
-        let leaf = match tree.as_leaf() { Some(l) => Some(l.copy(alloc)?), None => None };
-        let mut rows: Vec<Row> = Vec::new(alloc);
-        if let Some(children) = tree.children() {
-            for (key, child) in children.iter() {
-                let mut at = 0;
-                while at < rows.len() && rt_order::key_cmp(&rows[at].key, key).is_lt() { at += 1; }
-                rows.insert(at, Row { key: key.copy()?, value: child.copy(alloc)? })?;
+        let alloc = self.path.allocator();
+        let rows = self.rows(tree)?;
+        if self.is_filtered() {
+            let whole = object_of(alloc, rows.as_slice())?;
+            return Ok(Shown::of(None, rows, whole));
+        }
+        let leaf = copy_leaf(alloc, tree)?;
+        let whole = tree.copy(alloc)?;
+        Ok(Shown::of(leaf, rows, whole))
+    }
+
+    // The rows that the query shows.
+    fn rows(&self, tree: &Tree) -> Result<Vec<Row>, AllocError>
+        ensures rows { IfOk result (λ rows. rows.items ≡ rows_of self.now (children_of tree.now)) }
+        ensures allowed { IsAllowed tree.now }
+    {
+        let Some(children) = tree.children() else {
+            return Ok(Vec::new(self.path.allocator()));
+        };
+        let mut rows = self.rows_in_range(children)?;
+        sort(&self.index, &mut rows);
+        cut(self.limit, &mut rows);
+        Ok(rows)
+    }
+
+    // The children in the range, in the order of their keys' bytes.
+    fn rows_in_range(&self, children: &BTreeMap<Key, Tree>) -> Result<Vec<Row>, AllocError>
+        ensures { IfOk result (λ rows. rows.items ≡ in_range self.now children.now.entries) }
+    {
+        let alloc = self.path.allocator();
+        let mut rows = Vec::new(alloc);
+        for (key, value) in children {
+            if self.range.has(&self.index, key, value) {
+                let key = key.copy()?;
+                let value = value.copy(alloc)?;
+                rows.push(Row { key, value })?;
             }
         }
-        Ok(Shown::of(leaf, rows, tree.copy(alloc)?))
+        Ok(rows)
+    }
+}
+
+impl PartialEq for Query {
+    ghost use Rattle.std.specs.Cmp as Cmp;
+    ghost use Rattle.rt_query.specs.QueryEq.{query_eq};
+    ghost use Rattle.rt_query.specs.QueryEqLaws.{query_eq_tells};
+    ghost use Rattle.rt_tree.specs.TreeEq.{equivalence};
+
+    ghost eq = { query_eq };
+
+    ghost laws = { Cmp.partial_equiv_from_equiv (equivalence query_eq_tells) };
+
+    fn eq(&self, other: &Query) -> bool {
+        self.path == other.path
+            && self.index == other.index
+            && self.range == other.range
+            && self.limit == other.limit
+    }
+}
+
+impl Eq for Query {
+    ghost use Rattle.rt_query.specs.QueryEqLaws.{query_eq_tells};
+    ghost use Rattle.rt_tree.specs.TreeEq.{equivalence};
+
+    ghost laws = { equivalence query_eq_tells };
+}
+
+// The leaf that a tree is, if it is one.
+fn copy_leaf(alloc: Global, tree: &Tree) -> Result<Option<Leaf>, AllocError>
+    ensures { IfOk result (λ leaf. leaf ≡ leaf_of tree.now) }
+{
+    match tree.as_leaf() {
+        Some(leaf) => Ok(Some(leaf.copy(alloc)?)),
+        None => Ok(None),
     }
 }

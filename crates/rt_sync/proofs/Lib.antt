@@ -1,4 +1,6 @@
+pub mod AloneLaws
 pub mod AppliedAll
+pub mod Headline
 pub mod HeadlineLaws
 pub mod Insides
 pub mod Listeners
@@ -9,3 +11,4 @@ pub mod RefusalLaws
 pub mod Requests
 pub mod ShowLaws
 pub mod Strips
+pub mod WrittenLaws

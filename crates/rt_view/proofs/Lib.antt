@@ -1,4 +1,3 @@
 pub mod Placed
 pub mod ReplayLaws
-pub mod Tests
 pub mod TurnLaws

@@ -1,3 +1,4 @@
 pub mod Changes
-pub mod Kinds
+pub mod Examples
+pub mod Given
 pub mod Laws

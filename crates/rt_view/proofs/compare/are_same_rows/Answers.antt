@@ -1,4 +1,4 @@
-use Rattle.std.proofs.Common.{◌≡◌, ◌&&◌, refl, sym, ap, ◌∙◌, drop, ◌+◌, length, ◌<◌, subst}
+use Rattle.std.proofs.Common.{◌&&◌, sym, ap, ◌∙◌, drop, ◌+◌, ◌<◌, subst}
 use Rattle.std.specs.Cmp.Lexicographic.{pointwise}
 use Rattle.rt_query.specs.QueryEq.{row_eq}
 use Rattle.rt_view.proofs.Placed.{same_rows-from}

@@ -1,4 +1,4 @@
-use Rattle.std.proofs.Common.{◌≡◌, ◌&&◌, true, sym, ap, ◌∙◌}
+use Rattle.std.proofs.Common.{◌&&◌, sym, ap, ◌∙◌}
 use Rattle.std.specs.Cmp.Lexicographic.{texts_ties}
 use Rattle.rt_tree.specs.TreeEq.{tree_eq}
 use Rattle.rt_view.proofs.compare.is_same_row.Goals as goal
