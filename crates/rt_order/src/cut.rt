@@ -12,14 +12,14 @@ use std::alloc::{AllocError, Global};
 use std::cmp::Ordering;
 
 /// The value of a cut.
-#[derive(Drop)]
+#[derive(Debug, Drop)]
 pub enum Mark {
     Null,
     Leaf(Leaf),
 }
 
 /// Where a cut lies among the entries of its value: before all, next to a key, or after all.
-#[derive(Drop)]
+#[derive(Debug, Drop)]
 pub enum Place {
     Min,
     Before(Key),
@@ -28,14 +28,14 @@ pub enum Place {
 }
 
 /// A place between entries.
-#[derive(Drop)]
+#[derive(Debug, Drop)]
 pub struct Cut {
     pub value: Mark,
     pub place: Place,
 }
 
 /// The entries after the lower and before the upper cut. An absent cut bounds nothing.
-#[derive(Drop)]
+#[derive(Debug, Drop)]
 pub struct Range {
     pub lower: Option<Cut>,
     pub upper: Option<Cut>,

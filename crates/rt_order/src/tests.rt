@@ -77,8 +77,8 @@ fn mixed_children(alloc: Global) -> Result<Vec<(Key, Tree)>, Fail> {
 fn child_order_by_rank(rt: HostRuntime) -> Result<(), Fail> {
     let alloc = rt.alloc();
     let index = Index::Child(Path::parse(alloc, "v")?);
-    assert!(rt; index.copy(alloc)? == index);
-    assert!(rt; index != Index::Value);
+    assert_eq!(rt; index.copy(alloc)?, index);
+    assert_ne!(rt; index, Index::Value);
     let mut children = mixed_children(alloc)?;
     children.sort_by(|a, b| entry_cmp(&index, (&a.0, &a.1), (&b.0, &b.1)))?;
     let mut sorted = String::new(alloc);
@@ -154,7 +154,7 @@ fn copies_are_equal(rt: HostRuntime) -> Result<(), Fail> {
         lower: None,
         upper: at_five(Place::Max)?,
     };
-    assert!(rt; range.copy(alloc)? == range);
-    assert!(rt; range != other);
+    assert_eq!(rt; range.copy(alloc)?, range);
+    assert_ne!(rt; range, other);
     Ok(())
 }

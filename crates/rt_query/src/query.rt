@@ -106,7 +106,10 @@ impl Query {
         }
     }
 
-    /// What the query shows of a tree: filter, order and cut of its children; a leaf only where the query is not filtered.
+    /// What the query shows of a tree, as the Firebase reference has it: the children in the range, in order, and of these the
+    /// first or the last n. Of a leaf it shows no rows, and the leaf itself only where the query is not filtered.
+    ///
+    /// The tree's children are shared. Each is looked at once, and those in the range are sorted once.
     pub fn select(&self, tree: &Tree) -> Result<Shown, AllocError>
         ensures { IfOk result (λ shown. shown ≡ select self.now tree.now) }
     {

@@ -1,7 +1,12 @@
+pub mod Alone
 pub mod Answers
+pub mod Codes
+pub mod Examples
 pub mod Headline
+pub mod Inside
 pub mod Refusals
 pub mod Runs
+pub mod Sound
 pub mod Steps
 pub mod Views
 pub mod World
