@@ -1,0 +1,15 @@
+// What holds of all push ids.
+ghost use Rattle.rt_push.specs.Examples.{EarlierCountsUp, FirstCauseCounts, IdsAsWritten};
+ghost use Rattle.rt_push.specs.Laws.{IdsRise};
+
+/// Whatever calls one `PushIds` gets, each id that it gives is above those before it, by bytes.
+pub fn ids_rise()
+    ensures { IdsRise }
+{}
+
+/// Ids, and what they are made of, that the prover computes.
+pub fn examples()
+    ensures written { IdsAsWritten }
+    ensures earlier { EarlierCountsUp }
+    ensures causes { FirstCauseCounts }
+{}
