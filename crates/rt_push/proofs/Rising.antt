@@ -16,7 +16,7 @@ use Rattle.rt_push.specs.PushIds.{Stamp, push_fault, push_id, used}
 use Rattle.rt_push.specs.Laws.{Call, ids}
 use Rattle.rt_push.specs.declared.error.PushError.{PushError}
 use Rattle.rt_push.specs.declared.error.PushError.TheVariants.{Exhausted, MomentTooLarge, RandomOutOfRange}
-use Rattle.rt_push.proofs.DigitLaws.{text-suc, length-text}
+use Rattle.rt_push.proofs.DigitLaws.{and-first, and-second, text-suc, length-text}
 
 -- ---- bytes of digits
 
@@ -28,14 +28,6 @@ bytes_rise (suc n) = nat_lt (digit_byte n) (digit_byte (suc n)) && bytes_rise n
 all_bytes_rise : bytes_rise 63 ≡ true
 unfolding digit_byte
 all_bytes_rise = refl
-
-and-first : (a b : Bool) → (a && b) ≡ true → a ≡ true
-and-first true b e = refl
-and-first false b e = e
-
-and-second : (a b : Bool) → (a && b) ≡ true → b ≡ true
-and-second true b e = e
-and-second false b e = cc
 
 next_byte : (n d : ℕ) → bytes_rise n ≡ true → d < n → digit_byte d < digit_byte (suc d)
 next_byte zero d e h = absurd (omega arith)

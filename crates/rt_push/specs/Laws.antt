@@ -1,9 +1,10 @@
--- Ids rise.
-use Rattle.std.specs.Prelude.{ℕ, List, [], ◌∷◌, Option, Some, None, is_some, if◌then◌else◌}
+-- Ids rise, and digits stand in them as they were given.
+use Rattle.std.specs.Prelude.{◌≡◌, ℕ, true, length, List, [], ◌∷◌, Option, Some, None, is_some, if◌then◌else◌}
+use Rattle.std.specs.List.{list_all}
 use Rattle.std.specs.List.Sorted.{IsStrictlySortedBy}
 use Rattle.std.specs.Ordering.{nat_cmp}
 use Rattle.std.specs.Cmp.Lexicographic.{slice_cmp}
-use Rattle.rt_push.specs.Digits.{number}
+use Rattle.rt_push.specs.Digits.{is_digit, number, digits}
 use Rattle.rt_push.specs.PushIds.{Stamp, push_fault, push_id, used}
 
 -- a call: the moment now, and the digits of a random part
@@ -20,3 +21,7 @@ ids last (call ∷ calls) =
 -- of the ids that calls give, each is above those before it, by bytes
 abbrev pub IdsRise : Type 0
 IdsRise = (calls : List Call) → IsStrictlySortedBy (slice_cmp nat_cmp) (ids None calls)
+
+-- the number that digits write has just these digits
+abbrev pub DigitsStand : Type 0
+DigitsStand = (values : List ℕ) → list_all is_digit values ≡ true → digits (length values) (number values) ≡ values

@@ -1,5 +1,5 @@
 -- Push ids: what each is made of, and which calls are refused.
-use Rattle.std.specs.Prelude.{ℕ, ◌+◌, ◌^◌, Bool, not, nat_lt, if◌then◌else◌, List, ◌++◌, Option, Some, None}
+use Rattle.std.specs.Prelude.{ℕ, ◌+◌, ◌^◌, not, nat_lt, if◌then◌else◌, List, ◌++◌, Option, Some, None}
 use Rattle.std.specs.List.{list_all}
 use Rattle.rt_push.specs.Digits.{is_digit, number, text}
 use Rattle.rt_push.specs.declared.error.PushError.{PushError}

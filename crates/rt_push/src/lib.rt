@@ -9,5 +9,5 @@ mod push_ids;
 mod tests;
 
 pub use error::PushError;
-pub use laws::{examples, ids_rise};
+pub use laws::{digits_stand, examples, ids_rise};
 pub use push_ids::PushIds;
