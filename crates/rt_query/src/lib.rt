@@ -8,8 +8,6 @@ mod limit;
 mod query;
 mod row;
 mod shown;
-#[cfg(test)]
-mod tests;
 
 pub use draft::Draft;
 pub use examples::{bound_examples, order_examples};
