@@ -219,6 +219,31 @@ impl Tree {
     }
 }
 
+/// Trees are equal where they have the same leaves.
+impl PartialEq for Tree {
+    ghost use Rattle.std.specs.Cmp as Cmp;
+    ghost use Rattle.rt_tree.specs.TreeEq.{tree_eq, tree_eq_tells, equivalence};
+
+    ghost eq = { tree_eq };
+
+    ghost laws = { Cmp.partial_equiv_from_equiv (equivalence tree_eq_tells) };
+
+    fn eq(&self, other: &Tree) -> bool {
+        match (&self.node, &other.node) {
+            (Node::Null, Node::Null) => true,
+            (Node::Leaf(left), Node::Leaf(right)) => left == right,
+            (Node::Object(left), Node::Object(right)) => **left == **right,
+            _ => false,
+        }
+    }
+}
+
+impl Eq for Tree {
+    ghost use Rattle.rt_tree.specs.TreeEq.{tree_eq_tells, equivalence};
+
+    ghost laws = { equivalence tree_eq_tells };
+}
+
 // `insert`, without the old child.
 fn set_child(children: &mut BTreeMap<Key, Tree>, key: Key, child: Tree) -> Result<(), AllocError>
     ensures { OnOk result (children.new.entries ≡ insert_entry key_cmp children.old.entries key child) }
