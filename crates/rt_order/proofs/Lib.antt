@@ -1,2 +1,4 @@
 pub mod CutLaws
+pub mod Equalities
+pub mod Numerals
 pub mod Orders

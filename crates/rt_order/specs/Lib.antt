@@ -1,7 +1,11 @@
 pub mod Cuts
 pub mod Entries
+pub mod Equality
+pub mod Examples
 pub mod KeyOrder
+pub mod SortRef
 pub mod Values
 pub use Rattle.rt_tree.specs.Leaf
 pub use Rattle.rt_tree.specs.Path
 pub use Rattle.rt_tree.specs.PathTree
+pub use Rattle.rt_tree.specs.TreeEq

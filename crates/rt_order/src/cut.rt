@@ -1,8 +1,15 @@
 // Places between entries, and ranges.
 ghost use Rattle.std.specs.Prelude.{◌≡◌, IfOk};
+ghost use Rattle.rt_order.specs.Cuts.{has, is_after, is_past, mark_value};
+ghost use Rattle.rt_order.specs.Entries.{entry};
+ghost use Rattle.rt_order.specs.SortRef.{value_of};
 
-use rt_tree::{Key, Leaf};
+use crate::index::{Index, sort_value};
+use crate::key::key_cmp;
+use crate::value::{SortRef, value_cmp};
+use rt_tree::{Key, Leaf, Tree};
 use std::alloc::{AllocError, Global};
+use std::cmp::Ordering;
 
 /// The value of a cut.
 #[derive(Drop)]
@@ -44,6 +51,16 @@ impl Mark {
             Mark::Leaf(leaf) => Ok(Mark::Leaf(leaf.copy(alloc)?)),
         }
     }
+
+    // What the entries of the mark are sorted by.
+    fn sort_value(&self) -> SortRef<'_>
+        ensures { value_of result ≡ mark_value self.now }
+    {
+        match self {
+            Mark::Null => SortRef::Null,
+            Mark::Leaf(leaf) => SortRef::Leaf(leaf),
+        }
+    }
 }
 
 impl Place {
@@ -58,6 +75,18 @@ impl Place {
             Place::Max => Ok(Place::Max),
         }
     }
+
+    // Whether a key lies after the place.
+    fn is_before(&self, key: &Key) -> bool
+        ensures { result ≡ is_past self.now key.now }
+    {
+        match self {
+            Place::Min => true,
+            Place::Before(bound) => key_cmp(bound, key).is_le(),
+            Place::After(bound) => key_cmp(bound, key).is_lt(),
+            Place::Max => false,
+        }
+    }
 }
 
 impl Cut {
@@ -68,6 +97,17 @@ impl Cut {
         let value = self.value.copy(alloc)?;
         let place = self.place.copy(alloc)?;
         Ok(Cut { value, place })
+    }
+
+    // Whether an entry lies after the cut.
+    fn is_before(&self, value: &SortRef<'_>, key: &Key) -> bool
+        ensures { result ≡ is_after self.now (value_of value.now, key.now) }
+    {
+        match value_cmp(&self.value.sort_value(), value) {
+            Ordering::Less => true,
+            Ordering::Equal => self.place.is_before(key),
+            Ordering::Greater => false,
+        }
     }
 }
 
@@ -89,5 +129,21 @@ impl Range {
         let lower = copy_cut(&self.lower, alloc)?;
         let upper = copy_cut(&self.upper, alloc)?;
         Ok(Range { lower, upper })
+    }
+
+    /// Whether a child's entry lies in the range.
+    pub fn has(&self, index: &Index, key: &Key, tree: &Tree) -> bool
+        ensures { result ≡ has self.now (entry index.now (key.now, tree.now)) }
+    {
+        let value = sort_value(index, tree);
+        let is_above = match &self.lower {
+            Some(cut) => cut.is_before(&value, key),
+            None => true,
+        };
+        let is_below = match &self.upper {
+            Some(cut) => !cut.is_before(&value, key),
+            None => true,
+        };
+        is_above && is_below
     }
 }

@@ -1,8 +1,13 @@
 // What the children of a path are ordered by.
 ghost use Rattle.std.specs.Prelude.{◌≡◌, IfOk};
+ghost use Rattle.rt_order.specs.Entries.{entry, entry_cmp, sort_value};
+ghost use Rattle.rt_order.specs.SortRef.{value_of};
 
-use rt_tree::Path;
+use crate::key::key_cmp;
+use crate::value::{SortRef, own_sort_value, value_cmp};
+use rt_tree::{Key, Path, Tree};
 use std::alloc::{AllocError, Global};
+use std::cmp::Ordering;
 
 /// What the children of a path are ordered by: their keys, the values at a path below each, or their own values.
 #[derive(Drop)]
@@ -23,4 +28,26 @@ impl Index {
             Index::Value => Ok(Index::Value),
         }
     }
+}
+
+/// What a child is sorted by: null in key order, its own value in value order, the value at the path in child order.
+pub fn sort_value<'a>(index: &Index, tree: &'a Tree) -> SortRef<'a>
+    ensures { value_of result ≡ sort_value index.now tree.now }
+{
+    match index {
+        Index::Key => SortRef::Null,
+        Index::Child(path) => match tree.get(path) {
+            Some(part) => own_sort_value(part),
+            None => SortRef::Null,
+        },
+        Index::Value => own_sort_value(tree),
+    }
+}
+
+/// The order of children: by sort value, then by key.
+pub fn entry_cmp(index: &Index, a: (&Key, &Tree), b: (&Key, &Tree)) -> Ordering
+    ensures { result ≡ entry_cmp (entry index.now (a.entry.0.now, a.entry.1.now)) (entry index.now (b.entry.0.now, b.entry.1.now)) }
+{
+    let value = sort_value(index, a.1);
+    value_cmp(&value, &sort_value(index, b.1)).then_with(|| key_cmp(a.0, b.0))
 }

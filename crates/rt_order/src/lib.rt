@@ -2,9 +2,17 @@
 #![tactic(auto)]
 
 mod cut;
+mod examples;
 mod index;
+mod key;
 mod laws;
+#[cfg(test)]
+mod tests;
+mod value;
 
 pub use cut::{Cut, Mark, Place, Range};
-pub use index::Index;
-pub use laws::{cut_laws, entry_laws, key_laws};
+pub use examples::{key_examples, range_examples, value_examples};
+pub use index::{Index, entry_cmp, sort_value};
+pub use key::key_cmp;
+pub use laws::{cut_laws, entry_laws, equality_laws, key_laws};
+pub use value::{SortRef, leaf_cmp, value_cmp};

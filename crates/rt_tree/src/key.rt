@@ -1,5 +1,6 @@
 // A key of an object.
-ghost use Rattle.std.specs.Prelude.{◌≡◌, ◌⊎◌, IfOk, IfErr, OnOk, Some};
+ghost use Rattle.std.specs.Prelude.{◌≡◌, ◌⊎◌, IfOk, IfErr, IfSome, OnOk, Some};
+ghost use Rattle.std.specs.Result.{result_err};
 ghost use Rattle.std.specs.List.{list_all};
 ghost use Rattle.rt_tree.specs.Key.{IsKey, is_allowed, key_fault};
 
@@ -9,7 +10,11 @@ use std::cmp::Ordering;
 use std::marker::Model;
 use std::sync::ArcStr;
 
-#[derive(Drop)]
+/// The name of a child: 1 to 768 bytes of UTF-8 without the characters 0 to 31 and 127 and without `.` `$` `#` `[` `]`
+/// `/`, as Firebase has them.
+///
+/// Keys compare by their bytes. A copy shares its text with the original.
+#[derive(Debug, Drop)]
 pub struct Key {
     text: ArcStr,
 }
@@ -26,6 +31,7 @@ impl Model for Key {
     ghost invariant = { λ a. IsKey (arc_str_bytes a.text) };
 }
 
+// Whether the byte may stand in a key. The bytes of a character above 127 all may.
 fn is_allowed(byte: u8) -> bool
     ensures { result ≡ is_allowed byte }
 {
@@ -38,27 +44,47 @@ fn all_allowed(text: &str) -> bool
     text.as_bytes().iter().all(|b| is_allowed(*b))
 }
 
+// Whether a text is a key, or why it is none.
+pub fn check_key(text: &str) -> Result<(), TreeError>
+    ensures { result_err result ≡ key_fault text.now }
+{
+    if text.is_empty() {
+        return Err(TreeError::BadKey);
+    }
+    if text.len() > 768 {
+        return Err(TreeError::KeyTooLong);
+    }
+    if !all_allowed(text) {
+        return Err(TreeError::BadKey);
+    }
+    Ok(())
+}
+
+// The key of a text that is one.
+pub fn valid_key(alloc: Global, text: &str) -> Result<Key, AllocError>
+    requires { IsKey text.now }
+    ensures { IfOk result (λ key. key ≡ text.now) }
+{
+    let text = ArcStr::from_str(alloc, text)?;
+    Ok(Key { text })
+}
+
 impl Key {
+    /// Reads a key: the text itself, where it is one.
+    ///
+    /// `BadKey` for the empty text, then `KeyTooLong` for one above 768 bytes, then `BadKey` for a character that no key
+    /// has.
     pub fn parse(alloc: Global, text: &str) -> Result<Key, TreeError>
         ensures ok { IfOk result (λ key. key ≡ text.now) }
         ensures valid { OnOk result (IsKey text.now) }
+        ensures refused { IfSome (key_fault text.now) (λ e. result ≡ Err e) }
         ensures fault { IfErr result (λ e. (key_fault text.now ≡ Some e) ⊎ (e ≡ TreeError.NoMemory)) }
     {
-        if text.is_empty() {
-            return Err(TreeError::BadKey);
-        }
-        if text.len() > 768 {
-            return Err(TreeError::KeyTooLong);
-        }
-        if !all_allowed(text) {
-            return Err(TreeError::BadKey);
-        }
-        match ArcStr::from_str(alloc, text) {
-            Ok(text) => Ok(Key { text }),
-            Err(_) => Err(TreeError::NoMemory),
-        }
+        check_key(text)?;
+        Ok(valid_key(alloc, text)?)
     }
 
+    /// The text of the key.
     pub fn text(&self) -> &str
         ensures text { result.now ≡ self.now }
         ensures key { IsKey self.now }
@@ -66,8 +92,9 @@ impl Key {
         self.text.as_str()
     }
 
+    /// An equal key that shares the text.
     pub fn copy(&self) -> Result<Key, AllocError>
-        ensures { IfOk result (λ k. k ≡ self.now) }
+        ensures { IfOk result (λ key. key ≡ self.now) }
     {
         let text = self.text.clone()?;
         Ok(Key { text })

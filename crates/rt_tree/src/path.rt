@@ -1,15 +1,19 @@
 // A place in a tree.
-ghost use Rattle.std.specs.Prelude.{◌≡◌, ◌≤◌, ◌++◌, ◌∷◌, [], length, IfOk, IfErr, OnOk, map, ◌==◌, ◌⊎◌, is_some, string_bytes};
-ghost use Rattle.std.specs.List.{slice_split};
-ghost use Rattle.rt_tree.specs.Path.{IsPath, path_keys, path_text, HasPathFault};
+ghost use Rattle.std.specs.Prelude.{◌≡◌, ◌↔◌, ◌++◌, ◌∷◌, [], length, IfOk, IfErr, IfSome, OnOk, Some, ◌⊎◌, is_some, string_bytes};
+ghost use Rattle.std.specs.Result.{result_err};
+ghost use Rattle.rt_tree.specs.Path.{IsPath, path_keys, path_text, path_fault};
 ghost use Rattle.rt_tree.specs.PathTree.{strip};
 
 use crate::error::TreeError;
-use crate::key::Key;
+use crate::key::{Key, check_key, valid_key};
 use std::alloc::{AllocError, Global};
+use std::cmp::Ordering;
 use std::marker::Model;
 
-#[derive(Drop)]
+/// A place in a tree: at most 32 keys, from the root down. The root has none.
+///
+/// Paths compare key by key, each by its bytes, so that a path stands right before all that lie under it.
+#[derive(Debug, Drop)]
 pub struct Path {
     keys: Vec<Key>,
 }
@@ -25,14 +29,40 @@ impl Model for Path {
     ghost invariant = { λ a. IsPath a.keys.items };
 }
 
-// The pieces of a text between slashes.
-fn pieces(alloc: Global, text: &str) -> Result<Vec<&str>, AllocError>
-    ensures { IfOk result (λ pieces. map (λ x. x.now) pieces.items ≡ slice_split (λ b. b == 47) text.now) }
+// Whether a text is a path, or why it is none: the first fault from left to right.
+fn check_path(text: &str) -> Result<(), TreeError>
+    ensures { result_err result ≡ path_fault text.now }
 {
-    text.split('/').collect(alloc)
+    let mut count: usize = 0;
+    for piece in text.split('/') {
+        if piece.is_empty() {
+            continue;
+        }
+        if count == 32 {
+            return Err(TreeError::TooDeep);
+        }
+        check_key(piece)?;
+        count += 1;
+    }
+    Ok(())
+}
+
+// The keys of a text that is a path.
+fn valid_keys(alloc: Global, text: &str) -> Result<Vec<Key>, AllocError>
+    requires { IsPath (path_keys text.now) }
+    ensures { IfOk result (λ keys. keys.items ≡ path_keys text.now) }
+{
+    let mut keys = Vec::new(alloc);
+    for piece in text.split('/') {
+        if !piece.is_empty() {
+            keys.push(valid_key(alloc, piece)?)?;
+        }
+    }
+    Ok(keys)
 }
 
 impl Path {
+    /// The path of the whole tree, `/`.
     pub fn root(alloc: Global) -> Path
         ensures { result ≡ [] }
     {
@@ -41,30 +71,24 @@ impl Path {
         }
     }
 
+    /// Reads a path. The text is cut at each `/`, and empty pieces are dropped: `a//b/` is `/a/b`, and both `/` and the
+    /// empty text are the root.
+    ///
+    /// The pieces are looked at from left to right: a 33rd is `TooDeep`, and a piece that is no key is refused as
+    /// [`Key::parse`] refuses it.
     pub fn parse(alloc: Global, text: &str) -> Result<Path, TreeError>
         ensures ok { IfOk result (λ path. path ≡ path_keys text.now) }
         ensures valid { OnOk result (IsPath (path_keys text.now)) }
-        ensures fault { IfErr result (λ e. HasPathFault text.now e ⊎ (e ≡ TreeError.NoMemory)) }
+        ensures refused { IfSome (path_fault text.now) (λ e. result ≡ Err e) }
+        ensures fault { IfErr result (λ e. (path_fault text.now ≡ Some e) ⊎ (e ≡ TreeError.NoMemory)) }
     {
-        let Ok(pieces) = pieces(alloc, text) else {
-            return Err(TreeError::NoMemory);
-        };
-        let mut keys = Vec::new(alloc);
-        for piece in &pieces {
-            if piece.is_empty() {
-                continue;
-            }
-            if keys.len() == 32 {
-                return Err(TreeError::TooDeep);
-            }
-            let key = Key::parse(alloc, piece)?;
-            if keys.push(key).is_err() {
-                return Err(TreeError::NoMemory);
-            }
-        }
-        Ok(Path { keys })
+        check_path(text)?;
+        Ok(Path {
+            keys: valid_keys(alloc, text)?,
+        })
     }
 
+    /// The keys of the path, from the root down.
     pub fn keys(&self) -> &[Key]
         ensures keys { result.now ≡ self.now }
         ensures valid { IsPath self.now }
@@ -72,12 +96,14 @@ impl Path {
         self.keys.as_slice()
     }
 
+    /// Whether the other path is this one or lies under it.
     pub fn is_prefix_of(&self, other: &Path) -> bool
         ensures { result ≡ is_some (strip self.now other.now) }
     {
         other.keys.as_slice().starts_with(self.keys.as_slice())
     }
 
+    /// The path as it is printed: `/` and its keys joined by `/`. [`Path::parse`] reads it back.
     pub fn text(&self) -> Result<String, AllocError>
         ensures text { IfOk result (λ text. string_bytes text ≡ path_text self.now) }
         ensures reads_back { path_keys (path_text self.now) ≡ self.now }
@@ -93,6 +119,7 @@ impl Path {
         Ok(text)
     }
 
+    /// An equal path, whose keys share their texts.
     pub fn copy(&self) -> Result<Path, AllocError>
         ensures { IfOk result (λ path. path ≡ self.now) }
     {
@@ -103,23 +130,69 @@ impl Path {
         Ok(Path { keys })
     }
 
+    /// The path one key further down. `TooDeep` where this one has 32 keys already.
     pub fn child(&self, key: &Key) -> Result<Path, TreeError>
         ensures ok { IfOk result (λ path. path ≡ self.now ++ key.now ∷ []) }
-        ensures too_deep { result ≡ Err TreeError.TooDeep → length self.now ≡ 32 }
+        ensures too_deep { (result ≡ Err TreeError.TooDeep) ↔ (length self.now ≡ 32) }
+        ensures errors { IfErr result (λ e. (e ≡ TreeError.TooDeep) ⊎ (e ≡ TreeError.NoMemory)) }
     {
         let _ = key.text();
         if self.keys.len() == 32 {
             return Err(TreeError::TooDeep);
         }
-        let Ok(mut path) = self.copy() else {
-            return Err(TreeError::NoMemory);
-        };
-        let Ok(key) = key.copy() else {
-            return Err(TreeError::NoMemory);
-        };
-        if path.keys.push(key).is_err() {
-            return Err(TreeError::NoMemory);
-        }
+        let mut path = self.copy()?;
+        path.keys.push(key.copy()?)?;
         Ok(path)
+    }
+}
+
+impl PartialEq for Path {
+    ghost use Rattle.std.specs.Cmp as Cmp;
+    ghost use Rattle.rt_tree.specs.PathTree.{path_eq, paths_total};
+
+    ghost eq = { path_eq };
+
+    ghost laws = { Cmp.partial_equiv_from_equiv (Cmp.eq_by_cmp_equiv paths_total) };
+
+    fn eq(&self, other: &Path) -> bool {
+        self.cmp(other).is_eq()
+    }
+}
+
+impl Eq for Path {
+    ghost use Rattle.std.specs.Cmp.{eq_by_cmp_equiv};
+    ghost use Rattle.rt_tree.specs.PathTree.{paths_total};
+
+    ghost laws = { eq_by_cmp_equiv paths_total };
+}
+
+impl PartialOrd for Path {
+    ghost use Rattle.std.specs.Ordering.{as_partial_cmp};
+    ghost use Rattle.std.specs.Cmp.{partial_order_from_total};
+    ghost use Rattle.rt_tree.specs.PathTree.{path_cmp, paths_total};
+
+    ghost partial_cmp = { as_partial_cmp path_cmp };
+
+    ghost laws = { partial_order_from_total paths_total };
+
+    fn partial_cmp(&self, other: &Path) -> Option<Ordering> {
+        Some(self.cmp(other))
+    }
+}
+
+impl Ord for Path {
+    ghost use Rattle.rt_tree.specs.PathTree.{path_cmp, paths_total};
+    ghost use Rattle.std.proofs.Common.{rules};
+
+    ghost cmp = { path_cmp };
+
+    ghost total = { paths_total };
+
+    ghost matches_partial_cmp = { Prim.search rules };
+
+    ghost matches_eq = { Prim.search rules };
+
+    fn cmp(&self, other: &Path) -> Ordering {
+        self.keys.as_slice().cmp(other.keys.as_slice())
     }
 }

@@ -1,9 +1,10 @@
 // A tree of leaves.
-ghost use Rattle.std.specs.Prelude.{[], ◌≡◌, ◌<◌, ◌≤◌, ◌+◌, false, length, IsTrue, ◌↔◌, IfOk, IfErr, OnOk, OnErr, ◌⊎◌, is_some, IfSome, IfNone};
+ghost use Rattle.std.specs.Prelude.{[], ◌∷◌, ◌≡◌, ◌<◌, ◌≤◌, ◌+◌, false, length, IsTrue, ◌↔◌, IfOk, IfErr, OnOk, OnErr, ◌⊎◌, is_some, IfSome, IfNone};
 ghost use Rattle.std.specs.Option.{option_copied};
 ghost use Rattle.std.specs.Arc.{arc_value};
 ghost use Rattle.std.specs.BTreeMap.{IsOrdered, insert_entry};
 ghost use Rattle.rt_tree.specs.PathTree.{leaf_at, null, of_leaf, is_null, sub, put, non_null, levels, key_cmp, PutsBelow, AllFull};
+ghost use Rattle.rt_tree.specs.Allowed.{IsAllowed, MayStandAt};
 ghost use Rattle.rt_tree.specs.Children.{is_object, children_of};
 
 use crate::error::TreeError;
@@ -15,14 +16,19 @@ use std::collections::BTreeMap;
 use std::marker::Model;
 use std::sync::Arc;
 
+/// A tree of values: null, a leaf, or an object of children. No child is null, and an object without children is null.
+/// At most 32 keys stand above a leaf.
+///
+/// A copy shares all of its original, and takes next to no time. [`Tree::put`] copies what it changes only where another
+/// tree shares it.
 #[cycle(tree)]
-#[derive(Drop)]
+#[derive(Debug, Drop)]
 pub struct Tree {
     node: Node,
 }
 
 #[cycle(tree)]
-#[derive(Drop)]
+#[derive(Debug, Drop)]
 enum Node {
     Null,
     Leaf(Leaf),
@@ -50,20 +56,24 @@ impl Model for Tree {
 }
 
 impl Tree {
+    /// The tree with nothing in it.
     pub fn null() -> Tree
         ensures { result ≡ null }
     {
         Tree { node: Node::Null }
     }
 
+    /// A leaf as a tree.
     pub fn leaf(leaf: Leaf) -> Tree
         ensures { result ≡ of_leaf leaf }
     {
+        let _ = leaf.value();
         Tree {
             node: Node::Leaf(leaf),
         }
     }
 
+    /// Whether there is nothing in the tree.
     pub fn is_null(&self) -> bool
         ensures { result ≡ is_null self.now }
     {
@@ -74,7 +84,7 @@ impl Tree {
         }
     }
 
-    /// The part of the tree at the path, where there is one.
+    /// The part of the tree at the path; `None` where that is null. Costs by the path alone.
     pub fn get(&self, path: &Path) -> Option<&Tree>
         ensures { option_copied result ≡ non_null (sub self.now path.now) }
     {
@@ -97,11 +107,12 @@ impl Tree {
         }
     }
 
-    /// The children of an object, in the order of their keys' bytes.
+    /// The children of an object, in the order of their keys' bytes; `None` for null and a leaf.
     pub fn children(&self) -> Option<&BTreeMap<Key, Tree>>
         ensures object { is_some result ≡ is_object self.now }
         ensures children { IfSome result (λ children. children.now.entries ≡ children_of self.now) }
         ensures none { IfNone result (children_of self.now ≡ []) }
+        ensures allowed { IsAllowed self.now }
     {
         match &self.node {
             Node::Object(children) => Some(&**children),
@@ -110,6 +121,7 @@ impl Tree {
         }
     }
 
+    /// An equal tree, which shares the children with this one.
     pub fn copy(&self, alloc: Global) -> Result<Tree, AllocError>
         ensures { IfOk result (λ tree. tree ≡ self.now) }
     {
@@ -130,7 +142,7 @@ impl Tree {
         }
     }
 
-    /// The leaf, where the tree is one.
+    /// The leaf that the tree is; `None` for null and an object.
     pub fn as_leaf(&self) -> Option<&Leaf>
         ensures { option_copied result ≡ leaf_at self.now [] }
     {
@@ -141,10 +153,11 @@ impl Tree {
         }
     }
 
-    /// One more than the number of keys of the longest path to a leaf; 0 for null.
+    /// One more than the number of keys above the deepest leaf; 0 for null. Walks the whole tree.
     pub fn levels(&self) -> usize
         ensures levels { result ≡ levels self.now }
         ensures shallow { result ≤ 33 }
+        ensures allowed { IsAllowed self.now }
     {
         match &self.node {
             Node::Null => 0,
@@ -159,7 +172,12 @@ impl Tree {
         }
     }
 
-    /// Puts a tree at a path.
+    /// Puts a tree in the place of what stands at the path. Null takes that out, and with it each object above that is
+    /// left without children. Any other tree replaces a leaf above the path by an object; null leaves such a leaf.
+    ///
+    /// `TooDeep` where path and tree together have more than 32 keys. A refused tree is dropped, and nothing changes.
+    /// Costs by the path and by the tree that is put, and, the first time after a copy, by the number of children along the
+    /// path.
     pub fn put(&mut self, alloc: Global, path: &Path, tree: Tree) -> Result<(), TreeError>
         ensures ok { OnOk result (self.new ≡ put self.old path.now tree) }
         ensures err { OnErr result (self.new ≡ self.old) }
@@ -170,15 +188,13 @@ impl Tree {
         if tree.levels() > 33 - keys.len() {
             return Err(TreeError::TooDeep);
         }
-        match self.put_at(alloc, keys, tree) {
-            Ok(()) => Ok(()),
-            Err(_) => Err(TreeError::NoMemory),
-        }
+        self.put_at(alloc, keys, tree)?;
+        Ok(())
     }
 
     #[cycle(put)]
     fn put_at(&mut self, alloc: Global, keys: &[Key], tree: Tree) -> Result<(), AllocError>
-        requires { length keys.now + levels tree ≤ 33 }
+        requires { MayStandAt keys.now tree }
         ensures ok { OnOk result (self.new ≡ put self.old keys.now tree) }
         ensures err { OnErr result (self.new ≡ self.old) }
     {
@@ -202,7 +218,7 @@ impl Tree {
     // A tree with nothing but `tree` at `keys`.
     fn branch(alloc: Global, keys: &[Key], tree: Tree) -> Result<Tree, AllocError>
         requires full { is_null tree ≡ false }
-        requires shallow { length keys.now + levels tree ≤ 33 }
+        requires allowed { MayStandAt keys.now tree }
         ensures { IfOk result (λ t. t ≡ put null keys.now tree) }
     {
         let Some((key, rest)) = keys.split_first() else {
@@ -278,7 +294,7 @@ fn put_shared(
     rest: &[Key],
     tree: Tree,
 ) -> Result<(), AllocError>
-    requires shallow { length rest.now + levels tree ≤ 32 }
+    requires allowed { MayStandAt (key.now ∷ rest.now) tree }
     requires full { AllFull (arc_value shared.old).entries }
     requires sorted { IsOrdered key_cmp (arc_value shared.old) }
     ensures ok { OnOk result (PutsBelow (arc_value shared.old).entries (arc_value shared.new).entries key.now rest.now tree) }
@@ -303,7 +319,7 @@ fn put_below(
     rest: &[Key],
     tree: Tree,
 ) -> Result<(), AllocError>
-    requires shallow { length rest.now + levels tree ≤ 32 }
+    requires allowed { MayStandAt (key.now ∷ rest.now) tree }
     requires full { AllFull children.old.entries }
     ensures ok { OnOk result (PutsBelow children.old.entries children.new.entries key.now rest.now tree) }
     ensures err { OnErr result (children.new.entries ≡ children.old.entries) }

@@ -1,3 +1,4 @@
+use Rattle.std.proofs.Common.{refl}
 use Rattle.rt_order.proofs.laws.entry_laws.Goals as goal
 use Rattle.rt_order.proofs.Orders.{value_cmp_total, value_cmp-IsAntisymmetric, entry_cmp_total, entry_cmp-IsAntisymmetric}
 
@@ -7,4 +8,5 @@ returns c = record {
   value_exact = value_cmp-IsAntisymmetric;
   entry_total = entry_cmp_total;
   entry_exact = entry_cmp-IsAntisymmetric;
+  objects = λ j k. refl;
 }
