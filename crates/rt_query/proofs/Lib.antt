@@ -1,0 +1,3 @@
+pub mod SelectLaws
+pub mod ShownLaws
+pub mod Tests

@@ -4,4 +4,6 @@ pub mod Queries
 pub mod QueryEq
 pub mod Rows
 pub mod Select
+pub mod ShownView
+pub mod Sorting
 pub mod Supply

@@ -2,7 +2,6 @@
 use Rattle.std.specs.Prelude.{Bool, ◌||◌, Option, None, is_some}
 use Rattle.rt_tree.specs.PathTree.{Path}
 use Rattle.rt_order.specs.declared.index.Index.{Index}
-use Rattle.rt_order.specs.declared.index.Index.TheVariants as Index
 use Rattle.rt_order.specs.declared.cut.Range.{Range}
 use Rattle.rt_query.specs.declared.limit.Limit.{Limit}
 

@@ -2,12 +2,14 @@
 #![tactic(auto)]
 
 mod draft;
+mod laws;
 mod limit;
 mod query;
 mod row;
 mod shown;
 
 pub use draft::Draft;
+pub use laws::{equality_laws, select_laws};
 pub use limit::Limit;
 pub use query::Query;
 pub use row::Row;

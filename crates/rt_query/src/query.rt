@@ -1,14 +1,22 @@
 // A query.
 ghost use Rattle.std.specs.Prelude.{◌≡◌, IfOk};
-ghost use Rattle.rt_query.specs.Select.{select};
+ghost use Rattle.std.specs.List.Sorted.{IsPermutation, IsSorted};
+ghost use Rattle.rt_tree.specs.PathTree.{object};
+ghost use Rattle.rt_tree.specs.Children.{children_of};
+ghost use Rattle.rt_query.specs.Queries.{is_filtered};
 ghost use Rattle.rt_query.specs.Drafts.{new_draft};
+ghost use Rattle.rt_query.specs.Select.{select, rows_of, as_children};
+ghost use Rattle.rt_query.specs.Sorting.{in_range, row_cmp};
+ghost use Rattle.rt_query.specs.Supply.{form};
 
 use crate::draft::Draft;
 use crate::limit::Limit;
+use crate::row::Row;
 use crate::shown::Shown;
-use rt_order::{Index, Range};
-use rt_tree::{Path, Tree};
-use std::alloc::AllocError;
+use rt_order::{Index, Range, entry_cmp};
+use rt_tree::{Key, Path, Tree};
+use std::alloc::{AllocError, Global};
+use std::collections::BTreeMap;
 use std::marker::Model;
 
 /// What a listener asks for: the children of a path in an order, of these a range, and of that a limited number.
@@ -43,10 +51,129 @@ impl Query {
         &self.path
     }
 
+    /// What the children are ordered by.
+    pub fn index(&self) -> &Index
+        ensures { result.now ≡ self.now.index }
+    {
+        &self.index
+    }
+
+    /// The range of the children that are shown.
+    pub fn range(&self) -> &Range
+        ensures { result.now ≡ self.now.range }
+    {
+        &self.range
+    }
+
+    /// How many are shown at most, if the query says so.
+    pub fn limit(&self) -> Option<Limit>
+        ensures { result ≡ self.now.limit }
+    {
+        self.limit
+    }
+
+    /// Whether the query has a start, an end or a limit. Any other shows all that is at its path.
+    pub fn is_filtered(&self) -> bool
+        ensures { result ≡ is_filtered self.now }
+    {
+        self.range.lower.is_some() || self.range.upper.is_some() || self.limit.is_some()
+    }
+
+    /// An equal query.
+    pub fn copy(&self) -> Result<Query, AllocError>
+        ensures { IfOk result (λ query. query ≡ self.now) }
+    {
+        let alloc = self.path.allocator();
+        let path = self.path.copy()?;
+        let index = self.index.copy(alloc)?;
+        let range = self.range.copy(alloc)?;
+        Ok(Query {
+            path,
+            index,
+            range,
+            limit: self.limit,
+        })
+    }
+
+    /// What is listened to for this query: an unfiltered query is listened to as the plain query of its path.
+    pub fn listening_form(&self) -> Result<Query, AllocError>
+        ensures { IfOk result (λ query. query ≡ form self.now) }
+    {
+        if self.is_filtered() {
+            self.copy()
+        } else {
+            Ok(Query::at(self.path.copy()?).done())
+        }
+    }
+
     /// What the query shows of a tree: filter, order and cut of its children; a leaf only where the query is not filtered.
     pub fn select(&self, tree: &Tree) -> Result<Shown, AllocError>
         ensures { IfOk result (λ shown. shown ≡ select self.now tree.now) }
     {
-        Err(AllocError)
+        let alloc = self.path.allocator();
+        let rows = self.rows(tree)?;
+        if self.is_filtered() {
+            let whole = object_of(alloc, &rows)?;
+            return Ok(Shown::of(None, rows, whole));
+        }
+        let leaf = match tree.as_leaf() {
+            Some(leaf) => Some(leaf.copy(alloc)?),
+            None => None,
+        };
+        let whole = tree.copy(alloc)?;
+        Ok(Shown::of(leaf, rows, whole))
     }
+
+    // The rows that the query shows.
+    fn rows(&self, tree: &Tree) -> Result<Vec<Row>, AllocError>
+        ensures { IfOk result (λ rows. rows.items ≡ rows_of self.now (children_of tree.now)) }
+    {
+        let Some(children) = tree.children() else {
+            return Ok(Vec::new(self.path.allocator()));
+        };
+        let mut rows = self.rows_in_range(children)?;
+        self.sort(&mut rows);
+        if let Some(limit) = self.limit {
+            limit.cut(&mut rows);
+        }
+        Ok(rows)
+    }
+
+    // The children in the range, in the order of their keys' bytes.
+    fn rows_in_range(&self, children: &BTreeMap<Key, Tree>) -> Result<Vec<Row>, AllocError>
+        ensures { IfOk result (λ rows. rows.items ≡ in_range self.now children.now.entries) }
+    {
+        let alloc = self.path.allocator();
+        let mut rows = Vec::new(alloc);
+        for (key, value) in children {
+            if self.range.has(&self.index, key, value) {
+                let key = key.copy()?;
+                let value = value.copy(alloc)?;
+                rows.push(Row { key, value })?;
+            }
+        }
+        Ok(rows)
+    }
+
+    // Puts rows in the query's order.
+    fn sort(&self, rows: &mut Vec<Row>)
+        ensures permutation { IsPermutation rows.old.items rows.new.items }
+        ensures sorted { IsSorted (row_cmp self.now.index) rows.new.items }
+    {
+        rows.sort_unstable_by(|a, b| {
+            entry_cmp(&self.index, (&a.key, &a.value), (&b.key, &b.value))
+        });
+    }
+}
+
+// The object of the rows.
+fn object_of(alloc: Global, rows: &[Row]) -> Result<Tree, AllocError>
+    ensures { IfOk result (λ tree. tree ≡ object (as_children rows.now)) }
+{
+    let mut tree = Tree::null();
+    for row in rows.iter().rev() {
+        let path = Path::root(alloc).child(&row.key)?;
+        tree.put(alloc, &path, row.value.copy(alloc)?)?;
+    }
+    Ok(tree)
 }

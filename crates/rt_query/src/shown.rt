@@ -1,11 +1,12 @@
 // What a query shows of a tree.
-ghost use Rattle.std.specs.Prelude.{◌≡◌, IfOk};
+ghost use Rattle.std.specs.Prelude.{◌≡◌, [], IfOk, OnSome};
 ghost use Rattle.std.specs.Option.{option_copied};
 ghost use Rattle.rt_query.specs.Select.{tree_of};
-ghost use Rattle.rt_query.specs.Rows.{HasDistinctKeys};
+ghost use Rattle.rt_query.specs.Rows.{HasDistinctKeys, HasNoNull, row_at};
+ghost use Rattle.rt_query.specs.ShownView.{IsShown};
 
-use crate::row::Row;
-use rt_tree::{Leaf, Tree};
+use crate::row::{Row, copy_rows};
+use rt_tree::{Key, Leaf, Tree};
 use std::alloc::AllocError;
 use std::marker::Model;
 
@@ -14,35 +15,74 @@ use std::marker::Model;
 pub struct Shown {
     leaf: Option<Leaf>,
     rows: Vec<Row>,
+    tree: Tree,
 }
 
 impl Model for Shown {
     ghost use Rattle.rt_query.specs.Select.{Shown};
+    ghost use Rattle.rt_query.specs.ShownView.{IsShown};
 
     ghost Value = { Shown };
 
     ghost view = { λ a. record { leaf = a.leaf; rows = a.rows.items } };
+
+    ghost invariant = { λ a. IsShown a.leaf a.rows.items a.tree };
 }
 
 impl Shown {
-    /// The leaf, where the tree is one and the query shows it.
+    // A leaf, or rows, and the tree that they are.
+    pub(crate) fn of(leaf: Option<Leaf>, rows: Vec<Row>, tree: Tree) -> Shown
+        requires { IsShown leaf rows.items tree }
+        ensures { result ≡ record { leaf = leaf; rows = rows.items } }
+    {
+        Shown { leaf, rows, tree }
+    }
+
+    /// The leaf, where the tree is one and the query shows it. There are no rows then.
     pub fn leaf(&self) -> Option<&Leaf>
-        ensures { option_copied result ≡ self.now.leaf }
+        ensures leaf { option_copied result ≡ self.now.leaf }
+        ensures alone { OnSome result (self.now.rows ≡ []) }
     {
         self.leaf.as_ref()
     }
 
-    /// The rows, in the query's order.
+    /// The rows, in the query's order. Each key stands once, and no row is null.
     pub fn rows(&self) -> &[Row]
-        ensures { result.now ≡ self.now.rows }
+        ensures rows { result.now ≡ self.now.rows }
+        ensures distinct { HasDistinctKeys self.now.rows }
+        ensures full { HasNoNull self.now.rows }
     {
         self.rows.as_slice()
     }
 
-    /// An equal view.
+    /// The value of the row of that key.
+    pub fn row(&self, key: &Key) -> Option<&Tree>
+        ensures { option_copied result ≡ row_at self.now.rows key.now }
+    {
+        match self.tree.children() {
+            Some(children) => children.get(key),
+            None => None,
+        }
+    }
+
+    /// What is shown, as one tree: the leaf, or the object of the rows.
+    pub fn tree(&self) -> &Tree
+        ensures { result.now ≡ tree_of self.now }
+    {
+        &self.tree
+    }
+
+    /// An equal view. Its trees are shared.
     pub fn copy(&self) -> Result<Shown, AllocError>
         ensures { IfOk result (λ shown. shown ≡ self.now) }
     {
-        Err(AllocError)
+        let alloc = *self.rows.allocator();
+        let leaf = match &self.leaf {
+            Some(leaf) => Some(leaf.copy(alloc)?),
+            None => None,
+        };
+        let rows = copy_rows(&self.rows)?;
+        let tree = self.tree.copy(alloc)?;
+        Ok(Shown { leaf, rows, tree })
     }
 }

@@ -96,6 +96,11 @@ impl Path {
         self.keys.as_slice()
     }
 
+    /// The allocator of the keys.
+    pub fn allocator(&self) -> Global {
+        *self.keys.allocator()
+    }
+
     /// Whether the other path is this one or lies under it.
     pub fn is_prefix_of(&self, other: &Path) -> bool
         ensures { result ≡ is_some (strip self.now other.now) }

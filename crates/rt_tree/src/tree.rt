@@ -3,9 +3,12 @@ ghost use Rattle.std.specs.Prelude.{[], ◌∷◌, ◌≡◌, ◌<◌, ◌≤◌
 ghost use Rattle.std.specs.Option.{option_copied};
 ghost use Rattle.std.specs.Arc.{arc_value};
 ghost use Rattle.std.specs.BTreeMap.{IsOrdered, insert_entry};
-ghost use Rattle.rt_tree.specs.PathTree.{leaf_at, null, of_leaf, is_null, sub, put, non_null, levels, key_cmp, PutsBelow, AllFull};
+ghost use Rattle.rt_tree.specs.PathTree.{leaf_at, null, of_leaf, is_null, sub, put, non_null, object, levels, key_cmp, PutsBelow, AllFull};
 ghost use Rattle.rt_tree.specs.Allowed.{IsAllowed, MayStandAt};
 ghost use Rattle.rt_tree.specs.Children.{is_object, children_of};
+
+#[cfg(test)]
+mod tests;
 
 use crate::error::TreeError;
 use crate::key::Key;
@@ -71,6 +74,20 @@ impl Tree {
         Tree {
             node: Node::Leaf(leaf),
         }
+    }
+
+    /// The object of these children; null where there are none.
+    pub fn object(alloc: Global, children: BTreeMap<Key, Tree>) -> Result<Tree, AllocError>
+        requires ordered { IsOrdered key_cmp children }
+        requires full { AllFull children.entries }
+        requires allowed { IsAllowed (object children.entries) }
+        ensures { IfOk result (λ tree. tree ≡ object children.entries) }
+    {
+        if children.is_empty() {
+            return Ok(Tree::null());
+        }
+        let node = Node::Object(Arc::new(alloc, children)?);
+        Ok(Tree { node })
     }
 
     /// Whether there is nothing in the tree.
@@ -339,75 +356,4 @@ fn put_below(
         children.remove(key);
     }
     Ok(())
-}
-
-#[cfg(test)]
-mod tests {
-    use super::*;
-    use std::test::Fail;
-
-    #[test]
-    fn puts(rt: HostRuntime) -> Result<(), Fail> {
-        let alloc = rt.alloc();
-        let mut tree = Tree::null();
-        let a = Path::parse(alloc, "/a/b/")?;
-        let ab = Path::parse(alloc, "a//b/c")?;
-        tree.put(alloc, &a, Tree::leaf(Leaf::truth(true)))?;
-        assert!(rt; tree.get(&a).is_some());
-        assert!(rt; tree.get(&ab).is_none());
-        tree.put(alloc, &ab, Tree::null())?;
-        assert!(rt; tree.get(&a).is_some());
-        tree.put(alloc, &ab, Tree::leaf(Leaf::truth(false)))?;
-        assert!(rt; tree.get(&ab).is_some());
-        let copy = tree.copy(alloc)?;
-        tree.put(alloc, &ab, Tree::null())?;
-        assert!(rt; tree.is_null());
-        assert!(rt; tree.get(&Path::root(alloc)).is_none());
-        assert!(rt; copy.children().is_some());
-        assert_eq!(rt; copy.levels(), 4);
-        Ok(())
-    }
-
-    fn owners(tree: &Tree) -> usize {
-        match &tree.node {
-            Node::Object(children) => Arc::strong_count(children),
-            Node::Leaf(_) => 0,
-            Node::Null => 0,
-        }
-    }
-
-    // A copy shares all; a write to one of the two leaves the other as it was, and shares what it did not change.
-    #[test]
-    fn shares(rt: HostRuntime) -> Result<(), Fail> {
-        let alloc = rt.alloc();
-        let mut tree = Tree::null();
-        let a = Path::parse(alloc, "a")?;
-        let ax = Path::parse(alloc, "a/x")?;
-        let b = Path::parse(alloc, "b")?;
-        let by = Path::parse(alloc, "b/y")?;
-        tree.put(alloc, &ax, Tree::leaf(Leaf::truth(true)))?;
-        tree.put(alloc, &by, Tree::leaf(Leaf::truth(true)))?;
-        let mut copy = tree.copy(alloc)?;
-        assert_eq!(rt; owners(&tree), 2);
-        copy.put(alloc, &ax, Tree::null())?;
-        assert_eq!(rt; owners(&tree), 1);
-        assert_eq!(rt; owners(&copy), 1);
-        assert!(rt; tree.get(&ax).is_some());
-        assert!(rt; copy.get(&ax).is_none());
-        assert_eq!(rt; tree.get(&a).map(owners), Some(1));
-        assert_eq!(rt; tree.get(&b).map(owners), Some(2));
-        drop(copy);
-        assert_eq!(rt; tree.get(&b).map(owners), Some(1));
-        Ok(())
-    }
-
-    fn crosses<T: Send + Sync + Drop>(value: T) {
-        drop(value);
-    }
-
-    #[test]
-    fn is_send(_rt: HostRuntime) -> Result<(), Fail> {
-        crosses(Tree::null());
-        Ok(())
-    }
 }

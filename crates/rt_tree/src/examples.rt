@@ -1,0 +1,49 @@
+//! Examples that the prover computes: trees are opened here, and nowhere else.
+#![tactic(auto, unfolding(crate::specs::PathTree::null, crate::specs::PathTree::of_leaf, crate::specs::PathTree::is_null, crate::specs::PathTree::leaf_at, crate::specs::PathTree::sub, crate::specs::PathTree::put, crate::specs::PathTree::levels, crate::specs::Children::children_of))]
+
+ghost use Rattle.rt_tree.specs.Examples.{EmptyPiecesDrop, KeysHaveFaults, FirstFaultCounts, PrefixesAreAtOrAbove, LeafStaysUnderNull, EmptyObjectsGo, PutReplaces, ChildrenInOrder, LevelsCount};
+
+/// Empty pieces of a path's text drop, and a slash stands before each key that is printed.
+pub fn empty_pieces_drop()
+    ensures { EmptyPiecesDrop }
+{}
+
+/// A key has 1 to 768 bytes, and none of the refused characters.
+pub fn keys_have_faults()
+    ensures { KeysHaveFaults }
+{}
+
+/// A path's text is refused by its first fault.
+pub fn first_fault_counts()
+    ensures { FirstFaultCounts }
+{}
+
+/// A path is a prefix of itself and of what lies under it.
+pub fn prefixes_are_at_or_above()
+    ensures { PrefixesAreAtOrAbove }
+{}
+
+/// Null under a leaf leaves the leaf; another tree makes it an object.
+pub fn leaf_stays_under_null()
+    ensures { LeafStaysUnderNull }
+{}
+
+/// An object that loses its last child is null, all the way up.
+pub fn empty_objects_go()
+    ensures { EmptyObjectsGo }
+{}
+
+/// What is put takes the place of all that stood there.
+pub fn put_replaces()
+    ensures { PutReplaces }
+{}
+
+/// Children stand in the order of their keys' bytes.
+pub fn children_in_order()
+    ensures { ChildrenInOrder }
+{}
+
+/// A leaf has one level, and each key above it one more.
+pub fn levels_count()
+    ensures { LevelsCount }
+{}
