@@ -1,0 +1,3 @@
+pub mod Placed
+pub mod ReplayLaws
+pub mod TurnLaws

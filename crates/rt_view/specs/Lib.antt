@@ -1,2 +1,4 @@
 pub mod Changes
+pub mod Examples
+pub mod Given
 pub mod Laws
