@@ -1,0 +1,3 @@
+pub mod CoverLaws
+pub mod KeepLaws
+pub mod Paths

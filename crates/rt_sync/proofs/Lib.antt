@@ -1,0 +1,4 @@
+pub mod HeadlineLaws
+pub mod Listeners
+pub mod PlainWorlds
+pub mod ShowLaws

@@ -1,7 +1,10 @@
 pub mod Answers
+pub mod Codes
 pub mod Headline
+pub mod Inside
 pub mod Refusals
 pub mod Runs
+pub mod Sound
 pub mod Steps
 pub mod Views
 pub mod World

@@ -1,7 +1,9 @@
 // What a step answers.
-ghost use Rattle.std.specs.Prelude.{◌≡◌};
+ghost use Rattle.std.specs.Prelude.{◌≡◌, [], ◌∷◌, IfOk};
+ghost use Rattle.rt_sync.specs.Answers.{stale_report};
 
 use rt_view::Batch;
+use std::alloc::{AllocError, Global};
 use std::marker::Model;
 
 /// Whether a step was made, or changed nothing since it came too late.
@@ -41,6 +43,24 @@ impl Model for Notes {
 }
 
 impl Notes {
+    /// No notes.
+    pub fn new(alloc: Global) -> Notes
+        ensures { result ≡ [] }
+    {
+        Notes {
+            items: Vec::new(alloc),
+        }
+    }
+
+    // One note.
+    pub(crate) fn of(alloc: Global, note: Note) -> Result<Notes, AllocError>
+        ensures { IfOk result (λ notes. notes ≡ note ∷ []) }
+    {
+        let mut items = Vec::with_capacity(alloc, 1)?;
+        items.push(note)?;
+        Ok(Notes { items })
+    }
+
     /// The notes, in order.
     pub fn as_slice(&self) -> &[Note]
         ensures { result.now ≡ self.now }
@@ -55,4 +75,30 @@ pub struct Report {
     pub outcome: Outcome,
     pub given: Option<u64>,
     pub notes: Notes,
+}
+
+impl Report {
+    // The report of a step that changes nothing since it came too late.
+    pub(crate) fn stale(alloc: Global) -> Report
+        ensures { result ≡ stale_report }
+    {
+        Report {
+            outcome: Outcome::Stale,
+            given: None,
+            notes: Notes::new(alloc),
+        }
+    }
+
+    // The report of a step that was made.
+    pub(crate) fn done(given: Option<u64>, notes: Notes) -> Report
+        ensures outcome { result.outcome ≡ Done }
+        ensures given { result.given ≡ given }
+        ensures notes { result.notes ≡ notes }
+    {
+        Report {
+            outcome: Outcome::Done,
+            given,
+            notes,
+        }
+    }
 }

@@ -1,0 +1,94 @@
+// What the listens brought: trees at paths.
+ghost use Rattle.std.specs.Prelude.{◌≡◌, IfOk, OnOk, is_some, not, false};
+ghost use Rattle.std.specs.List.{filter, list_any};
+ghost use Rattle.std.specs.FinMap as map_of;
+ghost use Rattle.rt_tree.specs.PathTree.{path_cmp};
+ghost use Rattle.rt_tree.specs.Assignments.{is_at_or_above};
+ghost use Rattle.rt_cache.specs.Brought.{region_part, region_put, push_plain};
+ghost use Rattle.rt_sync.specs.Inside.{pair_of, pairs_of, brought_of};
+
+use crate::paths::{part_of, rest_of, with_part};
+use crate::region::Region;
+use rt_tree::{Path, Tree};
+use std::alloc::{AllocError, Global};
+use std::mem;
+
+// The part at the path of the region at or above it.
+pub(crate) fn region_part(
+    alloc: Global,
+    regions: &[Region],
+    path: &Path,
+) -> Result<Option<Tree>, AllocError>
+    ensures { IfOk result (λ part. part ≡ region_part (pairs_of regions.now) path.now) }
+{
+    for region in regions {
+        if let Some(rest) = rest_of(alloc, &region.path, path)? {
+            let part = part_of(alloc, &region.tree, &rest)?;
+            return Ok(Some(part));
+        }
+    }
+    Ok(None)
+}
+
+// Whether a region sits at or above the path.
+fn is_in_region(regions: &[Region], path: &Path) -> bool
+    ensures { result ≡ is_some (region_part (pairs_of regions.now) path.now) }
+{
+    for region in regions {
+        if region.path.is_prefix_of(path) {
+            return true;
+        }
+    }
+    false
+}
+
+// The tree put into the region, if that is at or above the path.
+fn put_into(
+    alloc: Global,
+    region: &mut Region,
+    path: &Path,
+    tree: &Tree,
+) -> Result<(), AllocError>
+    ensures { OnOk result (pair_of region.new ≡ region_put (path.now, tree.now) (pair_of region.old)) }
+{
+    if let Some(rest) = rest_of(alloc, &region.path, path)? {
+        let old = mem::replace(&mut region.tree, Tree::null());
+        region.tree = with_part(alloc, old, &rest, tree)?;
+    }
+    Ok(())
+}
+
+// The region in its place.
+fn insert(regions: &mut Vec<Region>, region: Region) -> Result<(), AllocError>
+    requires { list_any (λ r. is_at_or_above region.path r.path) regions.old.items ≡ false }
+    ensures { OnOk result (pairs_of regions.new.items ≡ map_of.put path_cmp region.path region.tree (pairs_of regions.old.items)) }
+{
+    let mut at = 0;
+    for other in regions.iter() {
+        if region.path.keys().cmp(other.path.keys()).is_lt() {
+            break;
+        }
+        at += 1;
+    }
+    regions.insert(at, region)?;
+    Ok(())
+}
+
+// A push changes the region at or above its path, or makes one that takes in all regions below.
+pub(crate) fn push(
+    alloc: Global,
+    regions: &mut Vec<Region>,
+    path: Path,
+    tree: Tree,
+) -> Result<(), AllocError>
+    ensures { OnOk result (brought_of regions.new.items ≡ push_plain (brought_of regions.old.items) (path, tree)) }
+{
+    if !is_in_region(regions, &path) {
+        regions.retain(|region| !path.is_prefix_of(&region.path));
+        return insert(regions, Region { path, tree });
+    }
+    for region in regions.iter_mut() {
+        put_into(alloc, region, &path, &tree)?;
+    }
+    Ok(())
+}

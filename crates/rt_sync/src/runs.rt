@@ -1,0 +1,48 @@
+// Many steps, one after another.
+ghost use Rattle.std.specs.Prelude.{◌≡◌, IfOk, IfSome, OnErr};
+ghost use Rattle.std.specs.List.{All};
+ghost use Rattle.rt_sync.specs.Runs.{AppliesAll, IsPlainStep};
+
+use crate::error::CoreError;
+use crate::report::Report;
+use crate::step::Step;
+use crate::sync::Core;
+use std::alloc::{AllocError, Global};
+use std::marker::Model;
+
+/// The answers to steps, in order.
+#[derive(Drop)]
+pub struct Answers {
+    items: Vec<Result<Report, CoreError>>,
+}
+
+impl Model for Answers {
+    ghost use Rattle.std.specs.Prelude.{List};
+    ghost use Rattle.rt_sync.specs.Answers.{Answer};
+
+    ghost Value = { List Answer };
+
+    ghost view = { λ a. a.items.items };
+}
+
+impl Answers {
+    /// The answers, in order.
+    pub fn as_slice(&self) -> &[Result<Report, CoreError>]
+        ensures { result.now ≡ self.now }
+    {
+        self.items.as_slice()
+    }
+}
+
+/// Makes the steps, one after another, and answers each. Only the list of answers can be refused, and then no step is made.
+pub fn run(alloc: Global, core: &mut Core, steps: Vec<Step>) -> Result<Answers, AllocError>
+    requires { All IsPlainStep steps.items }
+    ensures unchanged { OnErr result (core.new ≡ core.old) }
+    ensures answered { IfOk result (λ answers. AppliesAll core.old steps.items answers core.new) }
+{
+    let mut items = Vec::with_capacity(alloc, steps.len())?;
+    for step in steps {
+        items.push(core.apply(step))?;
+    }
+    Ok(Answers { items })
+}
