@@ -1,3 +1,6 @@
+pub mod ObjectLaws
+pub mod RowLaws
 pub mod SelectLaws
 pub mod ShownLaws
+pub mod SortLaws
 pub mod Tests

@@ -18,5 +18,5 @@ abbrev pub in_range : Query → List (Key × PathTree) → List Row
 in_range q cs = map child_row (filter (λ c. has q.range (entry q.index c)) cs)
 
 -- by sort value, then by key
-abbrev pub row_cmp : Index → Row → Row → Ordering
+unfoldable pub row_cmp : Index → Row → Row → Ordering
 row_cmp index a b = entry_cmp (entry index (a.key, a.value)) (entry index (b.key, b.value))

@@ -1,20 +1,20 @@
 // A query.
 ghost use Rattle.std.specs.Prelude.{◌≡◌, IfOk};
-ghost use Rattle.std.specs.List.Sorted.{IsPermutation, IsSorted};
-ghost use Rattle.rt_tree.specs.PathTree.{object};
+ghost use Rattle.rt_tree.specs.Allowed.{IsAllowed};
+ghost use Rattle.rt_tree.specs.PathTree.{leaf_of};
 ghost use Rattle.rt_tree.specs.Children.{children_of};
 ghost use Rattle.rt_query.specs.Queries.{is_filtered};
 ghost use Rattle.rt_query.specs.Drafts.{new_draft};
-ghost use Rattle.rt_query.specs.Select.{select, rows_of, as_children};
-ghost use Rattle.rt_query.specs.Sorting.{in_range, row_cmp};
+ghost use Rattle.rt_query.specs.Select.{select, rows_of};
+ghost use Rattle.rt_query.specs.Sorting.{in_range};
 ghost use Rattle.rt_query.specs.Supply.{form};
 
 use crate::draft::Draft;
-use crate::limit::Limit;
-use crate::row::Row;
+use crate::limit::{Limit, cut};
+use crate::row::{Row, object_of, sort};
 use crate::shown::Shown;
-use rt_order::{Index, Range, entry_cmp};
-use rt_tree::{Key, Path, Tree};
+use rt_order::{Index, Range};
+use rt_tree::{Key, Leaf, Path, Tree};
 use std::alloc::{AllocError, Global};
 use std::collections::BTreeMap;
 use std::marker::Model;
@@ -113,29 +113,25 @@ impl Query {
         let alloc = self.path.allocator();
         let rows = self.rows(tree)?;
         if self.is_filtered() {
-            let whole = object_of(alloc, &rows)?;
+            let whole = object_of(alloc, rows.as_slice())?;
             return Ok(Shown::of(None, rows, whole));
         }
-        let leaf = match tree.as_leaf() {
-            Some(leaf) => Some(leaf.copy(alloc)?),
-            None => None,
-        };
+        let leaf = copy_leaf(alloc, tree)?;
         let whole = tree.copy(alloc)?;
         Ok(Shown::of(leaf, rows, whole))
     }
 
     // The rows that the query shows.
     fn rows(&self, tree: &Tree) -> Result<Vec<Row>, AllocError>
-        ensures { IfOk result (λ rows. rows.items ≡ rows_of self.now (children_of tree.now)) }
+        ensures rows { IfOk result (λ rows. rows.items ≡ rows_of self.now (children_of tree.now)) }
+        ensures allowed { IsAllowed tree.now }
     {
         let Some(children) = tree.children() else {
             return Ok(Vec::new(self.path.allocator()));
         };
         let mut rows = self.rows_in_range(children)?;
-        self.sort(&mut rows);
-        if let Some(limit) = self.limit {
-            limit.cut(&mut rows);
-        }
+        sort(&self.index, &mut rows);
+        cut(self.limit, &mut rows);
         Ok(rows)
     }
 
@@ -154,26 +150,14 @@ impl Query {
         }
         Ok(rows)
     }
-
-    // Puts rows in the query's order.
-    fn sort(&self, rows: &mut Vec<Row>)
-        ensures permutation { IsPermutation rows.old.items rows.new.items }
-        ensures sorted { IsSorted (row_cmp self.now.index) rows.new.items }
-    {
-        rows.sort_unstable_by(|a, b| {
-            entry_cmp(&self.index, (&a.key, &a.value), (&b.key, &b.value))
-        });
-    }
 }
 
-// The object of the rows.
-fn object_of(alloc: Global, rows: &[Row]) -> Result<Tree, AllocError>
-    ensures { IfOk result (λ tree. tree ≡ object (as_children rows.now)) }
+// The leaf that a tree is, if it is one.
+fn copy_leaf(alloc: Global, tree: &Tree) -> Result<Option<Leaf>, AllocError>
+    ensures { IfOk result (λ leaf. leaf ≡ leaf_of tree.now) }
 {
-    let mut tree = Tree::null();
-    for row in rows.iter().rev() {
-        let path = Path::root(alloc).child(&row.key)?;
-        tree.put(alloc, &path, row.value.copy(alloc)?)?;
+    match tree.as_leaf() {
+        Some(leaf) => Ok(Some(leaf.copy(alloc)?)),
+        None => Ok(None),
     }
-    Ok(tree)
 }

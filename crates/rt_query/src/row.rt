@@ -1,8 +1,18 @@
 // A child as a query shows it.
-ghost use Rattle.std.specs.Prelude.{◌≡◌, IfOk};
+ghost use Rattle.std.specs.Prelude.{◌≡◌, IfOk, OnOk, cond, Some};
+ghost use Rattle.std.specs.BTreeMap.{IsOrdered};
+ghost use Rattle.std.specs.List.Sorted.{IsPermutation, IsSorted};
+ghost use Rattle.rt_tree.specs.Allowed.{IsAllowed};
+ghost use Rattle.rt_tree.specs.PathTree.{Key as KeyValue, key_cmp, key_eq, child_of, object};
+ghost use Rattle.rt_query.specs.Rows.{HasDistinctKeys, HasNoNull, row_at};
+ghost use Rattle.rt_query.specs.Select.{as_children};
+ghost use Rattle.rt_query.specs.Sorting.{row_cmp};
 
+use rt_order::{Index, entry_cmp};
 use rt_tree::{Key, Tree};
 use std::alloc::{AllocError, Global};
+use std::cmp::Ordering;
+use std::collections::BTreeMap;
 
 /// A child and its key, as a query shows them.
 #[derive(Drop)]
@@ -22,6 +32,22 @@ impl Row {
     }
 }
 
+// The order of rows: by sort value, then by key.
+#[tactic(auto, unfolding(crate::specs::Sorting::row_cmp))]
+fn row_cmp(index: &Index, a: &Row, b: &Row) -> Ordering
+    ensures { result ≡ row_cmp index.now a.now b.now }
+{
+    entry_cmp(index, (&a.key, &a.value), (&b.key, &b.value))
+}
+
+// Puts rows in order.
+pub(crate) fn sort(index: &Index, rows: &mut Vec<Row>)
+    ensures permutation { IsPermutation rows.old.items rows.new.items }
+    ensures sorted { IsSorted (row_cmp index.now) rows.new.items }
+{
+    rows.sort_unstable_by(|a, b| row_cmp(index, a, b));
+}
+
 // Equal rows.
 pub(crate) fn copy_rows(rows: &Vec<Row>) -> Result<Vec<Row>, AllocError>
     ensures { IfOk result (λ copies. copies.items ≡ rows.now.items) }
@@ -32,4 +58,39 @@ pub(crate) fn copy_rows(rows: &Vec<Row>) -> Result<Vec<Row>, AllocError>
         copies.push(row.copy(alloc)?)?;
     }
     Ok(copies)
+}
+
+// `insert`, without an old child.
+fn add(children: &mut BTreeMap<Key, Tree>, key: Key, child: Tree) -> Result<(), AllocError>
+    ensures set { OnOk result ((k : KeyValue) → child_of children.new.entries k ≡ cond (key_eq key k) (Some child) (child_of children.old.entries k)) }
+    ensures ordered { OnOk result (IsOrdered key_cmp children.new) }
+{
+    children.insert(key, child)?;
+    Ok(())
+}
+
+// The rows as children, in a map.
+fn children_of(alloc: Global, rows: &[Row]) -> Result<BTreeMap<Key, Tree>, AllocError>
+    requires { HasDistinctKeys rows.now }
+    ensures same { IfOk result (λ children. (k : KeyValue) → child_of children.entries k ≡ row_at rows.now k) }
+    ensures ordered { IfOk result (λ children. IsOrdered key_cmp children) }
+{
+    let mut children = BTreeMap::new(alloc);
+    for row in rows {
+        let key = row.key.copy()?;
+        let child = row.value.copy(alloc)?;
+        add(&mut children, key, child)?;
+    }
+    Ok(children)
+}
+
+// The object of the rows.
+pub(crate) fn object_of(alloc: Global, rows: &[Row]) -> Result<Tree, AllocError>
+    requires distinct { HasDistinctKeys rows.now }
+    requires full { HasNoNull rows.now }
+    requires allowed { IsAllowed (object (as_children rows.now)) }
+    ensures { IfOk result (λ tree. tree ≡ object (as_children rows.now)) }
+{
+    let children = children_of(alloc, rows)?;
+    Tree::object(alloc, children)
 }

@@ -30,10 +30,17 @@ fn key_and_path_limits(rt: HostRuntime) -> Result<(), Fail> {
     assert_eq!(rt; Path::parse(alloc, deepest.as_str())?.keys().len(), 32);
     let too_long = repeated(alloc, "k", 769)?;
     let too_deep = repeated(alloc, "/k", 33)?;
-    for (text, fault) in [("", TreeError::BadKey), ("a/b", TreeError::BadKey), ("a\tb", TreeError::BadKey)] {
+    for (text, fault) in [
+        ("", TreeError::BadKey),
+        ("a/b", TreeError::BadKey),
+        ("a\tb", TreeError::BadKey),
+    ] {
         assert_eq!(rt; Key::parse(alloc, text).err(), Some(fault));
     }
-    assert_eq!(rt; Key::parse(alloc, too_long.as_str()).err(), Some(TreeError::KeyTooLong));
+    assert_eq!(rt;
+        Key::parse(alloc, too_long.as_str()).err(),
+        Some(TreeError::KeyTooLong)
+    );
     for (text, fault) in [
         ("/a/b.c", TreeError::BadKey),
         (too_long.as_str(), TreeError::KeyTooLong),
@@ -54,9 +61,18 @@ fn small_calls(rt: HostRuntime) -> Result<(), Fail> {
     assert!(rt; path == Path::parse(alloc, "a//b/")?);
     assert!(rt; Path::parse(alloc, "/a")?.is_prefix_of(&path));
     assert!(rt; !path.is_prefix_of(&Path::parse(alloc, "/a")?));
-    assert_eq!(rt; Leaf::number(9007199254740992).err(), Some(TreeError::NotWhole));
-    assert_eq!(rt; Leaf::number(-9007199254740992).err(), Some(TreeError::NotWhole));
-    assert_eq!(rt; Leaf::text(repeated(alloc, "x", 65537)?).err(), Some(TreeError::TextTooLong));
+    assert_eq!(rt;
+        Leaf::number(9007199254740992).err(),
+        Some(TreeError::NotWhole)
+    );
+    assert_eq!(rt;
+        Leaf::number(-9007199254740992).err(),
+        Some(TreeError::NotWhole)
+    );
+    assert_eq!(rt;
+        Leaf::text(repeated(alloc, "x", 65537)?).err(),
+        Some(TreeError::TextTooLong)
+    );
     assert!(rt; Leaf::text(repeated(alloc, "x", 65536)?).is_ok());
     let deepest = Path::parse(alloc, repeated(alloc, "/k", 32)?.as_str())?;
     assert_eq!(rt; deepest.child(&key).err(), Some(TreeError::TooDeep));
@@ -65,7 +81,10 @@ fn small_calls(rt: HostRuntime) -> Result<(), Fail> {
     let before = tree.copy(alloc)?;
     let mut object = Tree::null();
     put_leaf(&mut object, alloc, "/k", 1)?;
-    assert_eq!(rt; tree.put(alloc, &deepest, object).err(), Some(TreeError::TooDeep));
+    assert_eq!(rt;
+        tree.put(alloc, &deepest, object).err(),
+        Some(TreeError::TooDeep)
+    );
     assert!(rt; tree == before);
     Ok(())
 }
@@ -97,7 +116,9 @@ fn puts_and_gets(rt: HostRuntime) -> Result<(), Fail> {
     put_leaf(&mut tree, alloc, "/a/b", 1)?;
     put_leaf(&mut tree, alloc, "/a/c", 2)?;
     assert_eq!(rt; tree.levels(), 3);
-    let found = tree.get(&Path::parse(alloc, "/a")?).and_then(|part| part.children());
+    let found = tree
+        .get(&Path::parse(alloc, "/a")?)
+        .and_then(|part| part.children());
     assert_eq!(rt; found.map(|children| children.len()), Some(2));
     let b = Path::parse(alloc, "/a/b")?;
     let leaf = tree.get(&b).and_then(|part| part.as_leaf());

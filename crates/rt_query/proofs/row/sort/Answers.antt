@@ -1,0 +1,11 @@
+use Rattle.std.proofs.Common.{rules}
+use Rattle.std.specs.Ordering.{is_lt}
+use Rattle.std.proofs.lemmas.Fn.{always_returns_same}
+use Rattle.rt_query.specs.Sorting.{row_cmp}
+use Rattle.rt_query.proofs.SortLaws.{row_cmp_ranks}
+use Rattle.rt_query.proofs.row.sort.Goals as goal
+
+pub returns-clause-sorted : goal.returns-clause-sorted
+returns-clause-sorted c =
+    c.sort_unstable_by.ensures.sorted (λ a b. is_lt (row_cmp c.args.index.now a b)) (row_cmp_ranks c.args.index.now)
+    (always_returns_same _ _ _ (λ a r f' h. search rules))
