@@ -1,2 +1,5 @@
 pub mod Errors
 pub mod Faults
+pub mod Lines
+pub mod Tasks
+pub mod Words

@@ -7,7 +7,10 @@ pub enum Form<'a> {
     /// `["connected"]`
     Connected,
     /// `["listen",seat,path,[]]`
-    Listen { seat: u64, path: &'a str },
+    Listen {
+        seat: u64,
+        path: &'a str,
+    },
     /// `["data",tag,path,value]`
     Data {
         tag: u64,
@@ -21,7 +24,9 @@ pub enum Form<'a> {
         value: &'a Value,
     },
     /// `["view",listener]`
-    View { listener: u64 },
+    View {
+        listener: u64,
+    },
 }
 
 // A seat: a whole number from 1.

@@ -95,11 +95,7 @@ pub fn push_report(out: &mut String, alloc: Global, report: &Report) -> Result<(
 }
 
 /// Prints the view of a listener: `unknown` where it isn't primed, `leaf VALUE`, a `row KEY VALUE` for each row in order, or `empty`.
-pub fn push_view(
-    out: &mut String,
-    alloc: Global,
-    view: Option<&Shown>,
-) -> Result<(), AllocError> {
+pub fn push_view(out: &mut String, alloc: Global, view: Option<&Shown>) -> Result<(), AllocError> {
     let Some(shown) = view else {
         return out.push_str("unknown\n");
     };

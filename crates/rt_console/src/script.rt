@@ -1,16 +1,14 @@
 // A run of a script.
-ghost use Rattle.std.specs.Prelude.{◌≡◌, ◌+◌, ◌<◌, ◌≤◌, ◌^◌, ◌⊎◌, IfErr, OnOk, IsErrOf};
+ghost use Rattle.std.specs.Prelude.{◌≡◌, ◌+◌, ◌<◌, ◌≤◌, ◌^◌, ◌⊎◌, ◌++◌, ◌∷◌, length, IfSome, IfOk, IfErr, OnOk, IsErrOf};
 ghost use Rattle.std.specs.Io.KnownBytes.{IsAtEnd};
 ghost use Rattle.rt_sync.specs.Answers.{Answer};
 ghost use Rattle.rt_sync.specs.Runs.{Applies, IsPlainStep};
 ghost use Rattle.rt_console.specs.Faults.{NoneFailed, Tells, WriteTells, most_input};
 
 use crate::error::ConsoleError;
-use crate::form;
-use crate::print;
 use crate::stream::{Drain, Source};
-use crate::task;
 use crate::task::Task;
+use crate::{form, print, task};
 use rt_sync::{Core, CoreError, Limits, Step};
 use rt_tree::TreeError;
 use serde_json::Value;
@@ -37,12 +35,7 @@ struct Script {
 }
 
 // Makes a step, and prints what the core answers.
-fn make_step(
-    core: &mut Core,
-    alloc: Global,
-    step: Step,
-    out: &mut String,
-) -> Result<(), AllocError>
+fn make_step(core: &mut Core, alloc: Global, step: Step, out: &mut String) -> Result<(), AllocError>
     requires { IsPlainStep step }
     ensures { (answer : Answer) × Applies core.old step answer core.new }
 {
@@ -96,6 +89,38 @@ fn do_line(
         Err(error) => print::push_tree_error(out, error)?,
     }
     Ok(true)
+}
+
+// The bytes before the first line feed, and those behind it.
+fn split_line<'a>(bytes: &'a [u8]) -> Option<(&'a [u8], &'a [u8])>
+    ensures { IfSome result (λ pieces. bytes.entry.now ≡ pieces.0.now ++ 10 ∷ pieces.1.now) }
+{
+    let end = bytes.iter().position(|byte| *byte == b'\n')?;
+    Some((&bytes[..end], &bytes[end + 1..]))
+}
+
+// A slice of that length to read into.
+fn room_for(alloc: Global, len: usize) -> Result<Vec<u8>, AllocError>
+    ensures { IfOk result (λ room. length room.items ≡ len) }
+{
+    vec![in alloc; 0u8; len]
+}
+
+// Reads some of the input, and answers how many bytes: none only at its end.
+fn read_some<S: Source>(reader: &mut S, chunk: &mut [u8]) -> Result<usize, ConsoleError>
+    requires bytes { S.given reader.old + length chunk.old < 2 ^ 64 }
+    requires failures { S.failures reader.old + 1 < 2 ^ 64 }
+    requires room { 0 < length chunk.old }
+    ensures fits { IfOk result (λ n. n ≤ length chunk.old) }
+    ensures given { IfOk result (λ n. S.given reader.new ≡ S.given reader.old + n) }
+    ensures none_failed { OnOk result (S.failures reader.new ≡ S.failures reader.old) }
+    ensures end { IfOk result (λ n. n ≡ 0 → IsAtEnd (S.remaining reader.new)) }
+    ensures fault { IfErr result (λ e. (e ≡ ConsoleError.ReadFault) × (S.failures reader.new ≡ S.failures reader.old + 1)) }
+{
+    match reader.read(chunk) {
+        Ok(count) => Ok(count),
+        Err(_) => Err(ConsoleError::ReadFault),
+    }
 }
 
 impl Script {
@@ -159,12 +184,23 @@ impl Script {
         ensures ok { OnOk result (D.failures writer.new ≡ D.failures writer.old) }
         ensures fault { IfErr result (λ e. WriteTells e (D.failures writer.old) (D.failures writer.new)) }
     {
-        for (index, piece) in bytes.split(|byte| *byte == b'\n').enumerate() {
-            if index > 0 {
-                self.end_line_to(writer)?;
-            }
-            self.line.extend_from_slice(piece)?;
+        let mut rest = bytes;
+        while let Some((end, behind)) = split_line(rest) {
+            self.line.extend_from_slice(end)?;
+            self.end_line_to(writer)?;
+            rest = behind;
         }
+        self.line.extend_from_slice(rest)?;
+        self.write_out(writer)
+    }
+
+    // The input ends, and with it its last line.
+    fn finish<D: Drain>(&mut self, writer: &mut D) -> Result<(), ConsoleError>
+        requires { D.failures writer.old + 1 < 2 ^ 64 }
+        ensures ok { OnOk result (D.failures writer.new ≡ D.failures writer.old) }
+        ensures fault { IfErr result (λ e. WriteTells e (D.failures writer.old) (D.failures writer.new)) }
+    {
+        self.end_line()?;
         self.write_out(writer)
     }
 
@@ -182,15 +218,12 @@ impl Script {
         ensures fault { IfErr result (λ e. Tells e (record { given = S.given reader.old; failed_reads = S.failures reader.old; failed_writes = D.failures writer.old }) (record { given = S.given reader.new; failed_reads = S.failures reader.new; failed_writes = D.failures writer.new })) }
         ensures ok { OnOk result (NoneFailed (record { given = S.given reader.old; failed_reads = S.failures reader.old; failed_writes = D.failures writer.old }) (record { given = S.given reader.new; failed_reads = S.failures reader.new; failed_writes = D.failures writer.new })) }
     {
-        let mut chunk = vec![in self.alloc; 0u8; CHUNK]?;
+        let mut chunk = room_for(self.alloc, CHUNK)?;
         let mut taken = 0;
         while taken <= MOST_INPUT {
-            let Ok(count) = reader.read(chunk.as_mut_slice()) else {
-                return Err(ConsoleError::ReadFault);
-            };
+            let count = read_some(reader, chunk.as_mut_slice())?;
             if count == 0 {
-                self.end_line()?;
-                return self.write_out(writer);
+                return self.finish(writer);
             }
             taken += count;
             if taken <= MOST_INPUT {

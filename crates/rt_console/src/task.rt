@@ -1,4 +1,7 @@
 // What a line of the script asks for.
+ghost use Rattle.std.specs.Prelude.{IfOk};
+ghost use Rattle.rt_console.specs.Tasks.{IsPlainTask};
+
 use crate::form::Form;
 use rt_query::Query;
 use rt_sync::{Action, Step};
@@ -15,7 +18,9 @@ pub enum Task {
 }
 
 /// What a line of a form asks for. Its words are looked at in their order, so the answer to a line with several faults is the first.
-pub fn task_of(alloc: Global, form: Form<'_>) -> Result<Task, TreeError> {
+pub fn task_of(alloc: Global, form: Form<'_>) -> Result<Task, TreeError>
+    ensures plain { IfOk result IsPlainTask }
+{
     match form {
         Form::Connected => Ok(Task::Step(Step::Connected)),
         Form::Listen { seat, path } => {

@@ -93,9 +93,11 @@ row \"b\" true
 // line of no form, a draft call, a seat 0, a number with a point, a number too many.
 #[test]
 fn bad_lines(rt: HostRuntime) -> Result<(), Fail> {
-    let script = "[\"connected\"]\n\n \n\r\n[\"closed\"]\n[\"listen\",1,\"/\",[[\"orderByKey\"]]]\n[\"set\",0,\"/\",1]\n\
+    let script =
+        "[\"connected\"]\n\n \n\r\n[\"closed\"]\n[\"listen\",1,\"/\",[[\"orderByKey\"]]]\n[\"set\",0,\"/\",1]\n\
         [\"view\",1.0]\n[\"view\",1,2]\n[\"listen\",1,\"/\",[]]\r\n[\"view\",1]";
-    let text = "done\nbad line 3\nbad line 4\nbad line 5\nbad line 6\nbad line 7\nbad line 8\nbad line 9\ndone 1\nunknown\n";
+    let text =
+        "done\nbad line 3\nbad line 4\nbad line 5\nbad line 6\nbad line 7\nbad line 8\nbad line 9\ndone 1\nunknown\n";
     prints(&rt, rt.alloc(), script, 7, text)
 }
 
@@ -299,8 +301,14 @@ fn refused_allocations_root_listen(rt: HostRuntime) -> Result<(), Fail> {
 fn small_calls(rt: HostRuntime) -> Result<(), Fail> {
     let alloc = rt.alloc();
     assert_eq!(rt; read_words(alloc, &["script"]), Ok(Work::Script));
-    assert_eq!(rt; read_words(alloc, &["scripts"]), Err(ConsoleError::BadWords));
-    assert_eq!(rt; read_words(alloc, &["script", "now"]), Err(ConsoleError::BadWords));
+    assert_eq!(rt;
+        read_words(alloc, &["scripts"]),
+        Err(ConsoleError::BadWords)
+    );
+    assert_eq!(rt;
+        read_words(alloc, &["script", "now"]),
+        Err(ConsoleError::BadWords)
+    );
     assert_eq!(rt; read_words(alloc, &[]), Err(ConsoleError::BadWords));
     assert_eq!(rt; ConsoleError::BadWords.code(), 3);
     assert_eq!(rt; ConsoleError::BadWords.name(), "BadWords");

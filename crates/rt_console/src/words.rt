@@ -1,4 +1,9 @@
 // The command line.
+ghost use Rattle.std.specs.Prelude.{◌≡◌, ◌≢◌, ◌⊎◌, [], map, codes, false, IfOk, IfErr, OnOk};
+ghost use Rattle.clap.specs.Words.{app_of, fault_of, new_app, FailsBy};
+ghost use Rattle.clap.specs.declared.builder.command.Command.TheViews.{out-Command as fields_of};
+ghost use Rattle.rt_console.specs.Words.{base_app, console_app};
+
 use crate::error::ConsoleError;
 use clap::error::ErrorKind;
 use clap::{ArgMatches, Command, Error};
@@ -30,17 +35,32 @@ pub enum Work {
 }
 
 // `script`
-fn script_command<'a>(alloc: Global) -> Command<'a> {
-    Command::new(alloc, "script").about(SCRIPT).after_help(LINES)
+fn script_command<'a>(alloc: Global) -> Command<'a>
+    ensures app { app_of result ≡ new_app (codes "script") }
+    ensures local { (fields_of result).has_globals ≡ false }
+{
+    Command::new(alloc, "script")
+        .about(SCRIPT)
+        .after_help(LINES)
 }
 
-// The command line of the program.
-fn console_command<'a>(alloc: Global) -> Result<Command<'a>, AllocError> {
+// The program, with no subcommand yet.
+fn base_command<'a>(alloc: Global) -> Command<'a>
+    ensures app { app_of result ≡ base_app }
+    ensures local { (fields_of result).has_globals ≡ false }
+{
     Command::new(alloc, "rt_console")
         .about(ABOUT)
         .no_binary_name(true)
         .subcommand_required(true)
-        .subcommand(script_command(alloc))
+}
+
+// The program's command line.
+fn console_command<'a>(alloc: Global) -> Result<Command<'a>, AllocError>
+    ensures { IfOk result (λ command. app_of command ≡ console_app) }
+{
+    let command = base_command(alloc).subcommand(script_command(alloc))?;
+    Ok(command)
 }
 
 // The work that the words name. The command takes no other subcommand.
@@ -49,7 +69,9 @@ fn work_of(_matches: &ArgMatches<'_>) -> Work {
 }
 
 /// Reads the words after the program's name, and explains where they make no command.
-pub fn command_line<'a, S: AsStr>(alloc: Global, words: &'a [S]) -> Result<Work, Error> {
+pub fn command_line<'a, S: AsStr>(alloc: Global, words: &'a [S]) -> Result<Work, Error>
+    ensures { FailsBy (fault_of console_app (map S.text words.entry.now)) result }
+{
     let command = console_command(alloc)?;
     let matches = command.try_get_matches_from(words)?;
     Ok(work_of(&matches))
@@ -65,7 +87,11 @@ pub fn explain<R: Print + Eprint>(rt: &R, error: &Error) -> u8 {
 }
 
 /// Reads the words after the program's name.
-pub fn read_words<'a>(alloc: Global, words: &'a [&'a str]) -> Result<Work, ConsoleError> {
+pub fn read_words<'a>(alloc: Global, words: &'a [&'a str]) -> Result<Work, ConsoleError>
+    ensures ok { OnOk result (fault_of console_app (map (λ word. word.now) words.entry.now) ≡ []) }
+    ensures fault { IfErr result (λ e. (e ≡ ConsoleError.NoMemory)
+        ⊎ ((e ≡ ConsoleError.BadWords) × (fault_of console_app (map (λ word. word.now) words.entry.now) ≢ []))) }
+{
     match command_line(alloc, words) {
         Ok(work) => Ok(work),
         Err(error) if error.kind() == ErrorKind::OutOfMemory => Err(ConsoleError::NoMemory),
