@@ -106,6 +106,10 @@ needed_is_kept n kept fs f m =
 pub needed_kept_for : (n : ℕ) (kept : List Tagged) (fs : List Query) → All (Contains (map (λ (k : Tagged). k.form) (kept_for n kept fs))) fs
 needed_kept_for n kept fs k d lt = needed_is_kept n kept fs (slice_index_or fs k d) (Contains-get_or fs k d lt)
 
+-- a listen whose form stays needed stays
+pub stays : (n : ℕ) (kept : List Tagged) (fs : List Query) (k : Tagged) → Contains kept k → Contains fs k.form → Contains (kept_for n kept fs) k
+stays n kept fs k m is = Contains-append_left _ _ k (Contains-filter (λ (x : Tagged). list_any (query_eq x.form) fs) kept k m (test-from_Contains k.form fs is))
+
 -- forms that are just the needed ones are the fewest
 pub fewest_kept : (registered kept : List Query) → All IsForm registered → All (Contains (needed registered)) kept → All (Contains kept) (needed registered) → IsFewest kept registered
 fewest_kept registered kept are only all =

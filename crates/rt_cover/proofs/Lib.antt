@@ -1,3 +1,4 @@
 pub mod CoverLaws
 pub mod KeepLaws
 pub mod Paths
+pub mod TagLaws

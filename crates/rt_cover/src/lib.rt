@@ -1,6 +1,6 @@
-//! The listens kept: the definitions of the fewest listens, and their law.
+//! The listens kept: the definitions of the fewest listens, and their laws.
 #![tactic(auto)]
 
 mod laws;
 
-pub use laws::needed_law;
+pub use laws::{kept_law, needed_law};

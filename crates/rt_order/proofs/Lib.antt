@@ -1,4 +1,3 @@
 pub mod CutLaws
-pub mod Equalities
 pub mod Numerals
 pub mod Orders

@@ -1,6 +1,7 @@
 pub mod Cuts
 pub mod Entries
 pub mod Equality
+pub mod EqualityLaws
 pub mod Examples
 pub mod KeyOrder
 pub mod SortRef

@@ -12,14 +12,14 @@ use std::alloc::{AllocError, Global};
 use std::cmp::Ordering;
 
 /// The value of a cut.
-#[derive(Drop)]
+#[derive(Debug, Drop)]
 pub enum Mark {
     Null,
     Leaf(Leaf),
 }
 
 /// Where a cut lies among the entries of its value: before all, next to a key, or after all.
-#[derive(Drop)]
+#[derive(Debug, Drop)]
 pub enum Place {
     Min,
     Before(Key),
@@ -28,14 +28,14 @@ pub enum Place {
 }
 
 /// A place between entries.
-#[derive(Drop)]
+#[derive(Debug, Drop)]
 pub struct Cut {
     pub value: Mark,
     pub place: Place,
 }
 
 /// The entries after the lower and before the upper cut. An absent cut bounds nothing.
-#[derive(Drop)]
+#[derive(Debug, Drop)]
 pub struct Range {
     pub lower: Option<Cut>,
     pub upper: Option<Cut>,
@@ -146,4 +146,101 @@ impl Range {
         };
         is_above && is_below
     }
+}
+
+impl PartialEq for Mark {
+    ghost use Rattle.std.specs.Cmp as Cmp;
+    ghost use Rattle.rt_order.specs.Equality.{mark_eq};
+    ghost use Rattle.rt_order.specs.EqualityLaws.{mark_eq_tells};
+    ghost use Rattle.rt_tree.specs.TreeEq.{equivalence};
+
+    ghost eq = { mark_eq };
+
+    ghost laws = { Cmp.partial_equiv_from_equiv (equivalence mark_eq_tells) };
+
+    fn eq(&self, other: &Mark) -> bool {
+        match (self, other) {
+            (Mark::Null, Mark::Null) => true,
+            (Mark::Leaf(leaf), Mark::Leaf(other)) => leaf == other,
+            _ => false,
+        }
+    }
+}
+
+impl Eq for Mark {
+    ghost use Rattle.rt_order.specs.EqualityLaws.{mark_eq_tells};
+    ghost use Rattle.rt_tree.specs.TreeEq.{equivalence};
+
+    ghost laws = { equivalence mark_eq_tells };
+}
+
+impl PartialEq for Place {
+    ghost use Rattle.std.specs.Cmp as Cmp;
+    ghost use Rattle.rt_order.specs.Equality.{place_eq};
+    ghost use Rattle.rt_order.specs.EqualityLaws.{place_eq_tells};
+    ghost use Rattle.rt_tree.specs.TreeEq.{equivalence};
+
+    ghost eq = { place_eq };
+
+    ghost laws = { Cmp.partial_equiv_from_equiv (equivalence place_eq_tells) };
+
+    fn eq(&self, other: &Place) -> bool {
+        match (self, other) {
+            (Place::Min, Place::Min) | (Place::Max, Place::Max) => true,
+            (Place::Before(key), Place::Before(other)) => key == other,
+            (Place::After(key), Place::After(other)) => key == other,
+            _ => false,
+        }
+    }
+}
+
+impl Eq for Place {
+    ghost use Rattle.rt_order.specs.EqualityLaws.{place_eq_tells};
+    ghost use Rattle.rt_tree.specs.TreeEq.{equivalence};
+
+    ghost laws = { equivalence place_eq_tells };
+}
+
+impl PartialEq for Cut {
+    ghost use Rattle.std.specs.Cmp as Cmp;
+    ghost use Rattle.rt_order.specs.Equality.{cut_eq};
+    ghost use Rattle.rt_order.specs.EqualityLaws.{cut_eq_tells};
+    ghost use Rattle.rt_tree.specs.TreeEq.{equivalence};
+
+    ghost eq = { cut_eq };
+
+    ghost laws = { Cmp.partial_equiv_from_equiv (equivalence cut_eq_tells) };
+
+    fn eq(&self, other: &Cut) -> bool {
+        self.value == other.value && self.place == other.place
+    }
+}
+
+impl Eq for Cut {
+    ghost use Rattle.rt_order.specs.EqualityLaws.{cut_eq_tells};
+    ghost use Rattle.rt_tree.specs.TreeEq.{equivalence};
+
+    ghost laws = { equivalence cut_eq_tells };
+}
+
+impl PartialEq for Range {
+    ghost use Rattle.std.specs.Cmp as Cmp;
+    ghost use Rattle.rt_order.specs.Equality.{range_eq};
+    ghost use Rattle.rt_order.specs.EqualityLaws.{range_eq_tells};
+    ghost use Rattle.rt_tree.specs.TreeEq.{equivalence};
+
+    ghost eq = { range_eq };
+
+    ghost laws = { Cmp.partial_equiv_from_equiv (equivalence range_eq_tells) };
+
+    fn eq(&self, other: &Range) -> bool {
+        self.lower == other.lower && self.upper == other.upper
+    }
+}
+
+impl Eq for Range {
+    ghost use Rattle.rt_order.specs.EqualityLaws.{range_eq_tells};
+    ghost use Rattle.rt_tree.specs.TreeEq.{equivalence};
+
+    ghost laws = { equivalence range_eq_tells };
 }

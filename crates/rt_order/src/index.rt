@@ -10,7 +10,7 @@ use std::alloc::{AllocError, Global};
 use std::cmp::Ordering;
 
 /// What the children of a path are ordered by: their keys, the values at a path below each, or their own values.
-#[derive(Drop)]
+#[derive(Debug, Drop)]
 pub enum Index {
     Key,
     Child(Path),
@@ -28,6 +28,32 @@ impl Index {
             Index::Value => Ok(Index::Value),
         }
     }
+}
+
+impl PartialEq for Index {
+    ghost use Rattle.std.specs.Cmp as Cmp;
+    ghost use Rattle.rt_order.specs.Equality.{index_eq};
+    ghost use Rattle.rt_order.specs.EqualityLaws.{index_eq_tells};
+    ghost use Rattle.rt_tree.specs.TreeEq.{equivalence};
+
+    ghost eq = { index_eq };
+
+    ghost laws = { Cmp.partial_equiv_from_equiv (equivalence index_eq_tells) };
+
+    fn eq(&self, other: &Index) -> bool {
+        match (self, other) {
+            (Index::Key, Index::Key) | (Index::Value, Index::Value) => true,
+            (Index::Child(path), Index::Child(other)) => path == other,
+            _ => false,
+        }
+    }
+}
+
+impl Eq for Index {
+    ghost use Rattle.rt_order.specs.EqualityLaws.{index_eq_tells};
+    ghost use Rattle.rt_tree.specs.TreeEq.{equivalence};
+
+    ghost laws = { equivalence index_eq_tells };
 }
 
 /// What a child is sorted by: null in key order, its own value in value order, the value at the path in child order.
@@ -48,6 +74,6 @@ pub fn sort_value<'a>(index: &Index, tree: &'a Tree) -> SortRef<'a>
 pub fn entry_cmp(index: &Index, a: (&Key, &Tree), b: (&Key, &Tree)) -> Ordering
     ensures { result ≡ entry_cmp (entry index.now (a.entry.0.now, a.entry.1.now)) (entry index.now (b.entry.0.now, b.entry.1.now)) }
 {
-    let value = sort_value(index, a.1);
-    value_cmp(&value, &sort_value(index, b.1)).then_with(|| key_cmp(a.0, b.0))
+    let by_value = value_cmp(&sort_value(index, a.1), &sort_value(index, b.1));
+    by_value.then_with(|| key_cmp(a.0, b.0))
 }

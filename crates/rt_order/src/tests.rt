@@ -77,7 +77,8 @@ fn mixed_children(alloc: Global) -> Result<Vec<(Key, Tree)>, Fail> {
 fn child_order_by_rank(rt: HostRuntime) -> Result<(), Fail> {
     let alloc = rt.alloc();
     let index = Index::Child(Path::parse(alloc, "v")?);
-    let index = index.copy(alloc)?;
+    assert_eq!(rt; index.copy(alloc)?, index);
+    assert_ne!(rt; index, Index::Value);
     let mut children = mixed_children(alloc)?;
     children.sort_by(|a, b| entry_cmp(&index, (&a.0, &a.1), (&b.0, &b.1)))?;
     let mut sorted = String::new(alloc);
@@ -107,7 +108,6 @@ fn at_five(place: Place) -> Result<Option<Cut>, Fail> {
 // Which of four children of the number 5 the range has.
 fn among_fives(alloc: Global, lower: Option<Cut>, upper: Option<Cut>) -> Result<String, Fail> {
     let range = Range { lower, upper };
-    let range = range.copy(alloc)?;
     let five = Tree::leaf(Leaf::number(5)?);
     let mut found = String::new(alloc);
     for text in &["j", "k", "l", "m"] {
@@ -140,5 +140,21 @@ fn value_bounds(rt: HostRuntime) -> Result<(), Fail> {
     assert_eq!(rt; among_fives(alloc, None, after_k()?)?.as_str(), "jk");
     assert_eq!(rt; among_fives(alloc, None, before_k()?)?.as_str(), "j");
     assert_eq!(rt; among_fives(alloc, before_k()?, after_k()?)?.as_str(), "k");
+    Ok(())
+}
+
+#[test]
+fn copies_are_equal(rt: HostRuntime) -> Result<(), Fail> {
+    let alloc = rt.alloc();
+    let range = Range {
+        lower: at_five(Place::After(Key::parse(alloc, "k")?))?,
+        upper: at_five(Place::Max)?,
+    };
+    let other = Range {
+        lower: None,
+        upper: at_five(Place::Max)?,
+    };
+    assert_eq!(rt; range.copy(alloc)?, range);
+    assert_ne!(rt; range, other);
     Ok(())
 }

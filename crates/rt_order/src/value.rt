@@ -8,7 +8,7 @@ use rt_tree::{Leaf, LeafRef, Tree};
 use std::cmp::Ordering;
 
 /// What a value is sorted by. Of an object only that it is one: two objects are equal here.
-#[derive(Clone, Copy)]
+#[derive(Clone, Copy, Debug)]
 pub enum SortRef<'a> {
     Null,
     Leaf(&'a Leaf),

@@ -1,7 +1,9 @@
 pub mod Drafts
+pub mod Examples
 pub mod Laws
 pub mod Queries
 pub mod QueryEq
+pub mod QueryEqLaws
 pub mod Rows
 pub mod Select
 pub mod ShownView

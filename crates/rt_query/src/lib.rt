@@ -2,13 +2,17 @@
 #![tactic(auto)]
 
 mod draft;
+mod examples;
 mod laws;
 mod limit;
 mod query;
 mod row;
 mod shown;
+#[cfg(test)]
+mod tests;
 
 pub use draft::Draft;
+pub use examples::{bound_examples, order_examples};
 pub use laws::{equality_laws, select_laws};
 pub use limit::Limit;
 pub use query::Query;

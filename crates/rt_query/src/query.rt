@@ -106,7 +106,10 @@ impl Query {
         }
     }
 
-    /// What the query shows of a tree: filter, order and cut of its children; a leaf only where the query is not filtered.
+    /// What the query shows of a tree, as the Firebase reference has it: the children in the range, in order, and of these the
+    /// first or the last n. Of a leaf it shows no rows, and the leaf itself only where the query is not filtered.
+    ///
+    /// The tree's children are shared. Each is looked at once, and those in the range are sorted once.
     pub fn select(&self, tree: &Tree) -> Result<Shown, AllocError>
         ensures { IfOk result (λ shown. shown ≡ select self.now tree.now) }
     {
@@ -150,6 +153,31 @@ impl Query {
         }
         Ok(rows)
     }
+}
+
+impl PartialEq for Query {
+    ghost use Rattle.std.specs.Cmp as Cmp;
+    ghost use Rattle.rt_query.specs.QueryEq.{query_eq};
+    ghost use Rattle.rt_query.specs.QueryEqLaws.{query_eq_tells};
+    ghost use Rattle.rt_tree.specs.TreeEq.{equivalence};
+
+    ghost eq = { query_eq };
+
+    ghost laws = { Cmp.partial_equiv_from_equiv (equivalence query_eq_tells) };
+
+    fn eq(&self, other: &Query) -> bool {
+        self.path == other.path
+            && self.index == other.index
+            && self.range == other.range
+            && self.limit == other.limit
+    }
+}
+
+impl Eq for Query {
+    ghost use Rattle.rt_query.specs.QueryEqLaws.{query_eq_tells};
+    ghost use Rattle.rt_tree.specs.TreeEq.{equivalence};
+
+    ghost laws = { equivalence query_eq_tells };
 }
 
 // The leaf that a tree is, if it is one.

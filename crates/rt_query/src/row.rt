@@ -32,6 +32,28 @@ impl Row {
     }
 }
 
+impl PartialEq for Row {
+    ghost use Rattle.std.specs.Cmp as Cmp;
+    ghost use Rattle.rt_query.specs.QueryEq.{row_eq};
+    ghost use Rattle.rt_query.specs.QueryEqLaws.{row_eq_tells};
+    ghost use Rattle.rt_tree.specs.TreeEq.{equivalence};
+
+    ghost eq = { row_eq };
+
+    ghost laws = { Cmp.partial_equiv_from_equiv (equivalence row_eq_tells) };
+
+    fn eq(&self, other: &Row) -> bool {
+        self.key == other.key && self.value == other.value
+    }
+}
+
+impl Eq for Row {
+    ghost use Rattle.rt_query.specs.QueryEqLaws.{row_eq_tells};
+    ghost use Rattle.rt_tree.specs.TreeEq.{equivalence};
+
+    ghost laws = { equivalence row_eq_tells };
+}
+
 // The order of rows: by sort value, then by key.
 #[tactic(auto, unfolding(crate::specs::Sorting::row_cmp))]
 fn row_cmp(index: &Index, a: &Row, b: &Row) -> Ordering

@@ -86,3 +86,25 @@ impl Shown {
         Ok(Shown { leaf, rows, tree })
     }
 }
+
+impl PartialEq for Shown {
+    ghost use Rattle.std.specs.Cmp as Cmp;
+    ghost use Rattle.rt_query.specs.QueryEq.{shown_eq};
+    ghost use Rattle.rt_query.specs.QueryEqLaws.{shown_eq_tells};
+    ghost use Rattle.rt_tree.specs.TreeEq.{equivalence};
+
+    ghost eq = { shown_eq };
+
+    ghost laws = { Cmp.partial_equiv_from_equiv (equivalence shown_eq_tells) };
+
+    fn eq(&self, other: &Shown) -> bool {
+        self.leaf == other.leaf && self.rows == other.rows
+    }
+}
+
+impl Eq for Shown {
+    ghost use Rattle.rt_query.specs.QueryEqLaws.{shown_eq_tells};
+    ghost use Rattle.rt_tree.specs.TreeEq.{equivalence};
+
+    ghost laws = { equivalence shown_eq_tells };
+}

@@ -58,7 +58,7 @@ made w v s a (inl m) = (m.told, let e = m.world in let same : v ≡ (step w s).0
 made w v s a (inr m) = let e = m.failed in absurd (let none : ⊥ = cc in none)
 
 -- what holds of the world's step holds of the core's
-by_step : (P : Answer → World → Type 0) (w v : World) (s : Step) (a : Answer) → Applies (Some w) s a (Some v) → P (step w s).1 (step w s).0 → P a v
+pub by_step : (P : Answer → World → Type 0) (w v : World) (s : Step) (a : Answer) → Applies (Some w) s a (Some v) → P (step w s).1 (step w s).0 → P a v
 by_step P w v s a m h =
     let e = made w v s a m in
     subst (λ (x : Answer × World). P x.0 x.1) (λ i. (sym e.0 i, sym e.1 i)) h
@@ -102,7 +102,7 @@ turned_of_applies w v s a n m h = by_step (λ a v. Turns (view_before w.listener
 -- ---- runs
 
 -- a core that has failed stays so
-failed_stays : (steps : List Step) (answers : List Answer) (v : World) → AppliesAll None steps answers (Some v) → ⊥
+pub failed_stays : (steps : List Step) (answers : List Answer) (v : World) → AppliesAll None steps answers (Some v) → ⊥
 failed_stays [] [] v e = cc
 failed_stays [] (a ∷ answers) v e = e
 failed_stays (s ∷ steps) [] v e = e
@@ -132,18 +132,3 @@ pub turned_of_applies_all : (n : ℕ) (steps : List Step) (answers : List Answer
 turned_of_applies_all n =
     over_run (λ w answers v. Turns (view_before w.listeners n) (flat_map (changes_told n) answers) (view_before v.listeners n)) (λ w h. turns_not (view_before w.listeners n))
     (λ w u v s a answers h one rest. turns-append (view_before w.listeners n) (view_before u.listeners n) (view_before v.listeners n) (changes_told n a) (flat_map (changes_told n) answers) (turned_of_applies w u s a n one h) rest)
-
--- the headline of a run
-pub headline_of_applies_all : (steps : List Step) (answers : List Answer) (w v : World) → AppliesAll (Some w) steps answers (Some v) → IsSound w → Headline w answers v
-headline_of_applies_all steps answers w v all h =
-    let g = sound_of_applies_all steps answers w v all h in
-    record {
-      fewest = fewest_kept (forms (registered v.listeners)) (map (λ (k : Tagged). k.form) v.kept) (forms_are (registered v.listeners)) g.only g.all;
-      shown = λ k d lt.
-          let l = slice_index_or v.listeners k d in
-          record {
-            view = g.views k d lt;
-            turned = subst (Turns (view_before w.listeners l.number) (flat_map (changes_told l.number) answers)) (view_before-there v.listeners l g.rises (Contains-get_or v.listeners k d lt))
-                (turned_of_applies_all l.number steps answers w v all h);
-          };
-    }

@@ -1,5 +1,7 @@
+pub mod Alone
 pub mod Answers
 pub mod Codes
+pub mod Examples
 pub mod Headline
 pub mod Inside
 pub mod Refusals

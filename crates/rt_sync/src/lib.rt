@@ -2,6 +2,7 @@
 #![tactic(auto)]
 
 mod error;
+pub mod examples;
 mod limits;
 mod listener;
 mod overlay;

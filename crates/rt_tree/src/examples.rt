@@ -1,6 +1,7 @@
 //! Examples that the prover computes: trees are opened here, and nowhere else.
 #![tactic(auto, unfolding(crate::specs::PathTree::null, crate::specs::PathTree::of_leaf, crate::specs::PathTree::is_null, crate::specs::PathTree::leaf_at, crate::specs::PathTree::sub, crate::specs::PathTree::put, crate::specs::PathTree::levels, crate::specs::Children::children_of))]
 
+ghost use Rattle.rt_tree.specs.JsonExamples.{TextsAreRead, TextsAreRefused, FaultsComeInOrder};
 ghost use Rattle.rt_tree.specs.Examples.{EmptyPiecesDrop, KeysHaveFaults, FirstFaultCounts, PrefixesAreAtOrAbove, LeafStaysUnderNull, EmptyObjectsGo, PutReplaces, ChildrenInOrder, LevelsCount};
 
 /// Empty pieces of a path's text drop, and a slash stands before each key that is printed.
@@ -46,4 +47,19 @@ pub fn children_in_order()
 /// A leaf has one level, and each key above it one more.
 pub fn levels_count()
     ensures { LevelsCount }
+{}
+
+/// The elements of an array have their places as keys, nulls drop, and an empty object is null.
+pub fn texts_are_read()
+    ensures { TextsAreRead }
+{}
+
+/// Fractions, large numbers, bad keys and what is no JSON are refused.
+pub fn texts_are_refused()
+    ensures { TextsAreRefused }
+{}
+
+/// Of several faults the first on the walk is answered.
+pub fn faults_come_in_order()
+    ensures { FaultsComeInOrder }
 {}

@@ -1,7 +1,7 @@
 // A key of an object.
-ghost use Rattle.std.specs.Prelude.{◌≡◌, ◌⊎◌, IfOk, IfErr, IfSome, OnOk, Some};
-ghost use Rattle.std.specs.Result.{result_err};
+ghost use Rattle.std.specs.Prelude.{◌≡◌, ◌⊎◌, IfOk, IfErr, IfSome, OnOk, Some, decimal};
 ghost use Rattle.std.specs.List.{list_all};
+ghost use Rattle.std.specs.Result.{result_err};
 ghost use Rattle.rt_tree.specs.Key.{IsKey, is_allowed, key_fault};
 
 use crate::error::TreeError;
@@ -67,6 +67,15 @@ pub fn valid_key(alloc: Global, text: &str) -> Result<Key, AllocError>
 {
     let text = ArcStr::from_str(alloc, text)?;
     Ok(Key { text })
+}
+
+// The key of a place in an array.
+pub fn index_key(alloc: Global, index: usize) -> Result<Key, AllocError>
+    ensures key { IfOk result (λ key. key ≡ decimal index) }
+    ensures valid { OnOk result (IsKey (decimal index)) }
+{
+    let text = index.to_string(alloc)?;
+    valid_key(alloc, text.as_str())
 }
 
 impl Key {

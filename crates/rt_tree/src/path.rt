@@ -105,7 +105,7 @@ impl Path {
     pub fn is_prefix_of(&self, other: &Path) -> bool
         ensures { result ≡ is_some (strip self.now other.now) }
     {
-        other.keys.as_slice().starts_with(self.keys.as_slice())
+        other.keys().starts_with(self.keys())
     }
 
     /// The path as it is printed: `/` and its keys joined by `/`. [`Path::parse`] reads it back.
@@ -198,6 +198,6 @@ impl Ord for Path {
     ghost matches_eq = { Prim.search rules };
 
     fn cmp(&self, other: &Path) -> Ordering {
-        self.keys.as_slice().cmp(other.keys.as_slice())
+        self.keys().cmp(other.keys())
     }
 }

@@ -1,14 +1,16 @@
 // A tree of leaves.
-ghost use Rattle.std.specs.Prelude.{[], ◌∷◌, ◌≡◌, ◌<◌, ◌≤◌, ◌+◌, false, length, IsTrue, ◌↔◌, IfOk, IfErr, OnOk, OnErr, ◌⊎◌, is_some, IfSome, IfNone};
+ghost use Rattle.std.specs.Prelude.{[], ◌∷◌, ◌≡◌, ◌<◌, ◌≤◌, ◌+◌, false, length, IsTrue, ◌↔◌, IfOk, IfErr, OnOk, OnErr, ◌⊎◌, is_some, IfSome, IfNone, List, ℕ, Some, if◌then◌else◌};
 ghost use Rattle.std.specs.Option.{option_copied};
 ghost use Rattle.std.specs.Arc.{arc_value};
 ghost use Rattle.std.specs.BTreeMap.{IsOrdered, insert_entry};
-ghost use Rattle.rt_tree.specs.PathTree.{leaf_at, null, of_leaf, is_null, sub, put, non_null, object, levels, key_cmp, PutsBelow, AllFull};
+ghost use Rattle.rt_tree.specs.PathTree.{leaf_at, null, of_leaf, is_null, sub, put, non_null, object, levels, key_cmp, key_eq, child_of, PutsBelow, AllFull};
 ghost use Rattle.rt_tree.specs.Allowed.{IsAllowed, MayStandAt};
 ghost use Rattle.rt_tree.specs.Children.{is_object, children_of};
 
+mod reading;
 #[cfg(test)]
 mod tests;
+mod writing;
 
 use crate::error::TreeError;
 use crate::key::Key;
@@ -70,10 +72,9 @@ impl Tree {
     pub fn leaf(leaf: Leaf) -> Tree
         ensures { result ≡ of_leaf leaf }
     {
-        let _ = leaf.value();
-        Tree {
-            node: Node::Leaf(leaf),
-        }
+        let _in_range = leaf.value();
+        let node = Node::Leaf(leaf);
+        Tree { node }
     }
 
     /// The object of these children; null where there are none.
@@ -279,7 +280,9 @@ impl Eq for Tree {
 
 // `insert`, without the old child.
 fn set_child(children: &mut BTreeMap<Key, Tree>, key: Key, child: Tree) -> Result<(), AllocError>
-    ensures { OnOk result (children.new.entries ≡ insert_entry key_cmp children.old.entries key child) }
+    ensures entries { OnOk result (children.new.entries ≡ insert_entry key_cmp children.old.entries key child) }
+    ensures sets { OnOk result ((j : List ℕ) → child_of children.new.entries j ≡ if key_eq key j then Some child else child_of children.old.entries j) }
+    ensures ordered { IsOrdered key_cmp children.new }
 {
     children.insert(key, child)?;
     Ok(())

@@ -8,6 +8,8 @@ mod compare;
 mod examples;
 mod kind;
 mod laws;
+#[cfg(test)]
+mod tests;
 
 pub use batch::Batch;
 pub use change::Change;

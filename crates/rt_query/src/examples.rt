@@ -1,0 +1,22 @@
+// Outside examples of what queries show: trees compute here.
+#![tactic(auto, unfolding(rt_tree::specs::PathTree::null, rt_tree::specs::PathTree::of_leaf, rt_tree::specs::PathTree::is_null, rt_tree::specs::PathTree::leaf_at, rt_tree::specs::PathTree::sub, rt_tree::specs::PathTree::put, rt_tree::specs::Children::children_of))]
+
+ghost use Rattle.rt_query.specs.Examples.{ByChild, StartsAtValue, StartsAfterValue, StartsAtKey, StartsAfterKey, EndsAtKey, EndsBeforeKey, EqualsKey, LastTwo, FirstTwo};
+
+/// By a child: null, false, true, numbers, texts, objects.
+pub fn order_examples()
+    ensures { ByChild }
+{}
+
+/// Bounds and limits among equal values.
+pub fn bound_examples()
+    ensures start_at { StartsAtValue }
+    ensures start_after { StartsAfterValue }
+    ensures start_at_key { StartsAtKey }
+    ensures start_after_key { StartsAfterKey }
+    ensures end_at_key { EndsAtKey }
+    ensures end_before_key { EndsBeforeKey }
+    ensures equal_to_key { EqualsKey }
+    ensures last { LastTwo }
+    ensures first { FirstTwo }
+{}

@@ -1,0 +1,38 @@
+-- Which JSON data a tree is written as.
+use Rattle.std.specs.Prelude.{ℕ, zero, suc, List, [], ◌∷◌, Option, Some, None}
+use Rattle.serde_json.specs.Data.{Data, Members, no_members, member}
+use Rattle.serde_json.specs.Data as json
+use Rattle.serde_json.specs.Find.{of_integer}
+use Rattle.rt_tree.specs.Leaf.{LeafValue, truth, number, text}
+use Rattle.rt_tree.specs.PathTree.{Key, PathTree, leaf_of, levels}
+use Rattle.rt_tree.specs.Children.{children_of}
+
+-- the data of a leaf
+abbrev pub leaf_data : LeafValue → Data
+leaf_data (truth b) = json.boolean b
+leaf_data (number z) = json.number (of_integer z)
+leaf_data (text s) = json.string s
+
+-- a member for each child, of the data that f gives
+abbrev pub members_with : (PathTree → Data) → List (Key × PathTree) → Members
+members_with f [] = no_members
+members_with f (e ∷ es) = member e.0 (f e.1) (members_with f es)
+
+-- the object of these members; null where there are none
+abbrev pub object_data : Members → Data
+object_data no_members = json.null
+object_data (member k d ms) = json.object (member k d ms)
+
+-- the data of a leaf, if there is one, or else of the members
+abbrev pub leaf_or : Option LeafValue → Members → Data
+leaf_or (Some l) ms = leaf_data l
+leaf_or None ms = object_data ms
+
+-- the data of a tree that has at most n levels: members in the order of their keys' bytes
+abbrev pub data_at : ℕ → PathTree → Data
+data_at zero t = json.null
+data_at (suc n) t = leaf_or (leaf_of t) (members_with (data_at n) (children_of t))
+
+-- the data of a tree
+unfoldable pub data_of : PathTree → Data
+data_of t = data_at (levels t) t
