@@ -1,5 +1,6 @@
 pub mod Errors
 pub mod Faults
+pub mod Forms
 pub mod Lines
 pub mod Tasks
 pub mod Words

@@ -1,4 +1,8 @@
 // The forms of a script's lines.
+ghost use Rattle.std.specs.Prelude.{◌≡◌, option_map};
+ghost use Rattle.serde_json.specs.View.{view, items_view};
+ghost use Rattle.rt_console.specs.Forms.{line_of, seat_in, is_empty_array, connected_in, listen_in, data_in, set_in, view_in};
+
 use serde_json::Value;
 
 /// A line of one of the script's forms, its parts as they stand there.
@@ -30,21 +34,27 @@ pub enum Form<'a> {
 }
 
 // A seat: a whole number from 1.
-fn seat_of(value: &Value) -> Option<u64> {
+fn seat_of(value: &Value) -> Option<u64>
+    ensures { result ≡ seat_in (view value.now) }
+{
     match value.as_u64() {
         Some(0) => None,
         seat => seat,
     }
 }
 
-fn is_empty_array(value: &Value) -> bool {
+fn is_empty_array(value: &Value) -> bool
+    ensures { result ≡ is_empty_array (view value.now) }
+{
     match value.as_array() {
         Some(items) => items.is_empty(),
         None => false,
     }
 }
 
-fn connected(parts: &[Value]) -> Option<Form<'_>> {
+fn connected(parts: &[Value]) -> Option<Form<'_>>
+    ensures { option_map line_of result ≡ connected_in (items_view parts.now) }
+{
     if parts.is_empty() {
         Some(Form::Connected)
     } else {
@@ -52,7 +62,9 @@ fn connected(parts: &[Value]) -> Option<Form<'_>> {
     }
 }
 
-fn listen(parts: &[Value]) -> Option<Form<'_>> {
+fn listen(parts: &[Value]) -> Option<Form<'_>>
+    ensures { option_map line_of result ≡ listen_in (items_view parts.now) }
+{
     let [seat, path, calls] = parts else {
         return None;
     };
@@ -65,7 +77,9 @@ fn listen(parts: &[Value]) -> Option<Form<'_>> {
     })
 }
 
-fn data(parts: &[Value]) -> Option<Form<'_>> {
+fn data(parts: &[Value]) -> Option<Form<'_>>
+    ensures { option_map line_of result ≡ data_in (items_view parts.now) }
+{
     let [tag, path, value] = parts else {
         return None;
     };
@@ -76,7 +90,9 @@ fn data(parts: &[Value]) -> Option<Form<'_>> {
     })
 }
 
-fn set(parts: &[Value]) -> Option<Form<'_>> {
+fn set(parts: &[Value]) -> Option<Form<'_>>
+    ensures { option_map line_of result ≡ set_in (items_view parts.now) }
+{
     let [seat, path, value] = parts else {
         return None;
     };
@@ -87,7 +103,9 @@ fn set(parts: &[Value]) -> Option<Form<'_>> {
     })
 }
 
-fn view(parts: &[Value]) -> Option<Form<'_>> {
+fn view(parts: &[Value]) -> Option<Form<'_>>
+    ensures { option_map line_of result ≡ view_in (items_view parts.now) }
+{
     let [listener] = parts else {
         return None;
     };
