@@ -1,7 +1,14 @@
 pub mod AloneLaws
+pub mod AppliedAll
 pub mod Headline
 pub mod HeadlineLaws
+pub mod Insides
 pub mod Listeners
+pub mod NextWorlds
+pub mod Places
 pub mod PlainWorlds
+pub mod RefusalLaws
+pub mod Requests
 pub mod ShowLaws
+pub mod Strips
 pub mod WrittenLaws

@@ -1,6 +1,6 @@
 -- What a core holds, as a world.
 use Rattle.std.specs.Prelude.{◌≡◌, ◌+◌, ◌≤◌, Bool, true, false, ◌||◌, if◌then◌else◌, List, [], ◌∷◌, map, length, Option, Some, None, is_some}
-use Rattle.std.specs.List.{AllByRecursion}
+use Rattle.std.specs.List.{All}
 use Rattle.std.specs.Option.{option_map, option_map_or, option_to_list}
 use Rattle.rt_tree.specs.PathTree.{Path, PathTree, null}
 use Rattle.rt_tree.specs.Assignments.{Assignment, is_at_or_above}
@@ -80,11 +80,19 @@ abbrev pub view_written : Assignment → Query → Option View → Option View
 view_written a q (Some v) = Some (view_over q (overlaid q.path v.seen a))
 view_written a q None = if is_at_or_above a.0 q.path then Some (view_over q (overlaid q.path null a)) else None
 
+-- the listener with its view from scratch
+abbrev pub renewed_listener : List Region → List Request → inside.Listener → inside.Listener
+renewed_listener regions requests l = record l { view = view_renewed regions requests l.query l.view }
+
+-- the listener with its view after one more write
+abbrev pub written_listener : Assignment → inside.Listener → inside.Listener
+written_listener a l = record l { view = view_written a l.query l.view }
+
 -- what the listener's seat is told of its new view
 abbrev pub told : inside.Listener → inside.Listener → List Note
 told old new = option_to_list (batch_note (listener_of new) (batch_from (shown_in old.view) (listener_of new)))
 
--- what the seats are told
+-- what the seats are told, where there is a listener
 abbrev pub all_told : Option inside.Listener → Option inside.Listener → List Note
 all_told (Some old) (Some new) = told old new
 all_told _ _ = []
@@ -101,15 +109,15 @@ abbrev pub IsSeen : Query → List Request → List Region → Option View → T
 IsSeen q requests regions None = is_known (brought_of regions) (pending requests) q ≡ false
 IsSeen q requests regions (Some v) = v.seen ≡ overlay q.path (base_tree (base (brought_of regions) q)) (pending requests)
 
--- the region sits at or under the query's path
-abbrev pub IsUnder : Query → Region → Type 0
-IsUnder q r = is_at_or_above q.path r.path ≡ true
+-- the regions sit at or under the path
+abbrev pub AreUnder : Path → List Region → Type 0
+AreUnder p regions = All (λ (r : Path × PathTree). is_at_or_above p r.0 ≡ true) (pairs_of regions)
 
 -- the listener is the first, its query is not filtered, and its view is up to date
 pub record IsListener (requests : List Request) (regions : List Region) (l : inside.Listener) : Type 0 where
   pub first : l.number ≡ 1
   pub plain : is_filtered l.query ≡ false
-  pub under : AllByRecursion (IsUnder l.query) regions
+  pub under : AreUnder l.query.path regions
   pub view : IsView l.query l.view
   pub seen : IsSeen l.query requests regions l.view
 

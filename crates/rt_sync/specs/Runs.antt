@@ -1,5 +1,5 @@
 -- What a core answers to steps, and what it becomes: a world, or none once it has lacked memory.
-use Rattle.std.specs.Prelude.{◌≡◌, ℕ, false, ◌⊎◌, List, [], ◌∷◌, ◌==◌, Option, Some, None, Err, Ok, Result}
+use Rattle.std.specs.Prelude.{◌≡◌, ℕ, false, ◌⊎◌, List, [], ◌∷◌, ◌==◌, Option, Some, None, Err, Ok, Result, IsOk}
 use Rattle.std.specs.List.{find}
 use Rattle.std.specs.Option.{option_map_or}
 use Rattle.rt_query.specs.Queries.{is_filtered}
@@ -43,3 +43,8 @@ IsPlainStep _ = Unit {0}
 -- the view of the listener of that number, if it is registered; none where it is not primed
 abbrev pub view_in : World → ℕ → Result (Option Shown) CoreError
 view_in w number = option_map_or (λ l. Ok l.view) (find (λ l. l.number == number) w.listeners) (Err UnknownListener)
+
+-- a core that has failed says so; else the listener's view is answered, unless it lacks memory, which no refusal does
+abbrev pub Views : Option World → ℕ → Result (Option Shown) CoreError → Type 0
+Views None number answer = answer ≡ Err Failed
+Views (Some w) number answer = (answer ≡ view_in w number) ⊎ ((answer ≡ Err NoMemory) × IsOk (view_in w number))

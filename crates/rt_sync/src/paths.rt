@@ -27,7 +27,8 @@ pub(crate) fn rest_of(
     if !above.is_prefix_of(path) {
         return Ok(None);
     }
-    let rest = path_of(alloc, &path.keys()[above.keys().len()..])?;
+    let (_, keys) = path.keys().split_at(above.keys().len());
+    let rest = path_of(alloc, keys)?;
     Ok(Some(rest))
 }
 

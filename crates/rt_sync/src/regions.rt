@@ -1,6 +1,7 @@
 // What the listens brought: trees at paths.
-ghost use Rattle.std.specs.Prelude.{◌≡◌, IfOk, OnOk, is_some, not, false};
-ghost use Rattle.std.specs.List.{filter, list_any};
+ghost use Rattle.std.specs.Prelude.{◌≡◌, ◌≤◌, length, IfOk, OnOk, is_some, not, false, map, filter};
+ghost use Rattle.std.specs.List.{list_any, position_or_len};
+ghost use Rattle.std.specs.Ordering.{is_lt};
 ghost use Rattle.std.specs.FinMap as map_of;
 ghost use Rattle.rt_tree.specs.PathTree.{path_cmp};
 ghost use Rattle.rt_tree.specs.Assignments.{is_at_or_above};
@@ -58,20 +59,49 @@ fn put_into(
     Ok(())
 }
 
+// The tree put into each region at or above the path.
+fn put_into_each(
+    alloc: Global,
+    regions: &mut [Region],
+    path: &Path,
+    tree: &Tree,
+) -> Result<(), AllocError>
+    ensures { OnOk result (pairs_of regions.new ≡ map (region_put (path.now, tree.now)) (pairs_of regions.old)) }
+{
+    for region in regions.iter_mut() {
+        put_into(alloc, region, path, tree)?;
+    }
+    Ok(())
+}
+
+// How many regions come before the path.
+fn place_of(regions: &[Region], path: &Path) -> usize
+    ensures first { result ≡ position_or_len (λ r. is_lt (path_cmp path.now r.path)) regions.now }
+    ensures within { result ≤ length regions.now }
+{
+    for (place, region) in regions.iter().enumerate() {
+        if path.keys().cmp(region.path.keys()).is_lt() {
+            return place;
+        }
+    }
+    regions.len()
+}
+
 // The region in its place.
 fn insert(regions: &mut Vec<Region>, region: Region) -> Result<(), AllocError>
     requires { list_any (λ r. is_at_or_above region.path r.path) regions.old.items ≡ false }
     ensures { OnOk result (pairs_of regions.new.items ≡ map_of.put path_cmp region.path region.tree (pairs_of regions.old.items)) }
 {
-    let mut at = 0;
-    for other in regions.iter() {
-        if region.path.keys().cmp(other.path.keys()).is_lt() {
-            break;
-        }
-        at += 1;
-    }
-    regions.insert(at, region)?;
+    let place = place_of(regions, &region.path);
+    regions.insert(place, region)?;
     Ok(())
+}
+
+// The regions that are not at or under the path.
+fn remove_under(regions: &mut Vec<Region>, path: &Path)
+    ensures { regions.new.items ≡ filter (λ r. not (is_at_or_above path.now r.path)) regions.old.items }
+{
+    regions.retain(|region| !path.is_prefix_of(&region.path));
 }
 
 // A push changes the region at or above its path, or makes one that takes in all regions below.
@@ -83,12 +113,11 @@ pub(crate) fn push(
 ) -> Result<(), AllocError>
     ensures { OnOk result (brought_of regions.new.items ≡ push_plain (brought_of regions.old.items) (path, tree)) }
 {
-    if !is_in_region(regions, &path) {
-        regions.retain(|region| !path.is_prefix_of(&region.path));
-        return insert(regions, Region { path, tree });
+    if is_in_region(regions, &path) {
+        return put_into_each(alloc, regions, &path, &tree);
     }
-    for region in regions.iter_mut() {
-        put_into(alloc, region, &path, &tree)?;
-    }
+    remove_under(regions, &path);
+    let region = Region { path, tree };
+    insert(regions, region)?;
     Ok(())
 }

@@ -91,9 +91,7 @@ impl Report {
 
     // The report of a step that was made.
     pub(crate) fn done(given: Option<u64>, notes: Notes) -> Report
-        ensures outcome { result.outcome ≡ Done }
-        ensures given { result.given ≡ given }
-        ensures notes { result.notes ≡ notes }
+        ensures { result ≡ record { outcome = Outcome.Done; given = given; notes = notes } }
     {
         Report {
             outcome: Outcome::Done,

@@ -1,6 +1,8 @@
 // Many steps, one after another.
-ghost use Rattle.std.specs.Prelude.{◌≡◌, IfOk, IfSome, OnErr};
+ghost use Rattle.std.specs.Prelude.{◌≡◌, Some, IfOk, OnErr};
 ghost use Rattle.std.specs.List.{All};
+ghost use Rattle.rt_sync.specs.World.{World};
+ghost use Rattle.rt_sync.specs.Headline.{Headline};
 ghost use Rattle.rt_sync.specs.Runs.{AppliesAll, IsPlainStep};
 
 use crate::error::CoreError;
@@ -34,15 +36,17 @@ impl Answers {
     }
 }
 
-/// Makes the steps, one after another, and answers each. Only the list of answers can be refused, and then no step is made.
+/// Makes the steps, one after another, and answers each in order. Only the list of answers can be refused, and then no step is made.
 pub fn run(alloc: Global, core: &mut Core, steps: Vec<Step>) -> Result<Answers, AllocError>
     requires { All IsPlainStep steps.items }
     ensures unchanged { OnErr result (core.new ≡ core.old) }
     ensures answered { IfOk result (λ answers. AppliesAll core.old steps.items answers core.new) }
+    ensures headline { IfOk result (λ answers. (w v : World) → core.old ≡ Some w → core.new ≡ Some v → Headline w answers v) }
 {
+    let _sound = &core.state;
     let mut items = Vec::with_capacity(alloc, steps.len())?;
     for step in steps {
-        items.push(core.apply(step))?;
+        items.push_reserved(core.apply(step));
     }
     Ok(Answers { items })
 }

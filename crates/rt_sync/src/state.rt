@@ -1,5 +1,5 @@
 // What a core holds.
-ghost use Rattle.std.specs.Prelude.{◌≡◌, ◌≤◌, ℕ, IfOk, OnErr, None, false, map};
+ghost use Rattle.std.specs.Prelude.{◌≡◌, ◌≤◌, ℕ, IfOk, OnErr, Ok, Err, None, false, MatchResult};
 
 use crate::error::CoreError;
 use crate::limits::Limits;
@@ -9,7 +9,7 @@ use crate::regions;
 use crate::report::{Notes, Report};
 use crate::request::{Asked, Request};
 use crate::step::{Action, Step};
-use crate::views::{renew, write_over};
+use crate::views::{renew, renew_any, write_over_any};
 use rt_query::{Query, Shown};
 use rt_tree::{Path, Tree};
 use std::alloc::{AllocError, Global};
@@ -37,7 +37,6 @@ impl Model for State {
 }
 
 impl State {
-    ghost use Rattle.std.specs.Result.{result_map};
     ghost use Rattle.std.specs.Option.{option_copied};
     ghost use Rattle.rt_query.specs.Queries.{is_filtered};
     ghost use Rattle.rt_sync.specs.declared.step.Step.TheVariants as Step;
@@ -70,7 +69,7 @@ impl State {
 
     // The view of the listener of that number, none where it is not primed.
     pub(crate) fn view(&self, number: u64) -> Result<Option<&Shown>, CoreError>
-        ensures { result_map option_copied result ≡ view_in self.now number }
+        ensures { MatchResult result (λ shown. view_in self.now number ≡ Ok (option_copied shown)) (λ e. view_in self.now number ≡ Err e) }
     {
         match &self.listener {
             Some(listener) if listener.number == number => {
@@ -128,10 +127,7 @@ impl State {
             regions,
             is_connected,
         } = self;
-        let notes = match &mut listener {
-            Some(listener) => write_over(alloc, listener, &path, &tree)?,
-            None => Notes::new(alloc),
-        };
+        let notes = write_over_any(alloc, &mut listener, &path, &tree)?;
         let id = requests.len() as u64 + 1;
         requests.push(Request {
             id,
@@ -150,10 +146,8 @@ impl State {
 
     // Takes in what the listen brings.
     fn push(self, path: Path, tree: Tree) -> Result<(State, Report), AllocError>
-        ghost tag: { ℕ }
-        requires listened { is_stale self (Step.Data tag path tree) ≡ false }
-        requires within { is_bad_push self (Step.Data tag path tree) ≡ false }
-        ensures { IfOk result (λ made. IsNext self (Step.Data tag path tree) made) }
+        requires { (tag : ℕ) × (is_stale self (Step.Data tag path tree) ≡ false) × (is_bad_push self (Step.Data tag path tree) ≡ false) }
+        ensures { IfOk result (λ made. (tag : ℕ) → is_stale self (Step.Data tag path tree) ≡ false → IsNext self (Step.Data tag path tree) made) }
     {
         let alloc = self.alloc();
         let State {
@@ -164,10 +158,7 @@ impl State {
             is_connected,
         } = self;
         regions::push(alloc, &mut regions, path, tree)?;
-        let notes = match &mut listener {
-            Some(listener) => renew(alloc, listener, &regions, &requests)?,
-            None => Notes::new(alloc),
-        };
+        let notes = renew_any(alloc, &mut listener, &regions, &requests)?;
         let state = State {
             limits,
             listener,

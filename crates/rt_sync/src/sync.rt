@@ -1,8 +1,9 @@
 // The core.
-ghost use Rattle.std.specs.Prelude.{◌≡◌, ◌⊎◌, Some, None, Ok, Err, IfOk, IfErr, OnErr, OnOk};
+ghost use Rattle.std.specs.Prelude.{◌≡◌, Some};
 ghost use Rattle.std.specs.List.{All};
 ghost use Rattle.rt_sync.specs.World.{World, empty_world, limits_from};
-ghost use Rattle.rt_sync.specs.Runs.{Applies, AppliesAll, IsPlainStep, view_in};
+ghost use Rattle.rt_sync.specs.Runs.{Applies, IsPlainStep, Views};
+ghost use Rattle.rt_sync.specs.Headline.{IsUpToDate};
 
 use crate::error::CoreError;
 use crate::limits::Limits;
@@ -16,16 +17,19 @@ use std::marker::Model;
 /// The core of a client: takes one step after another. Once a step has lacked memory the core has failed, and answers nothing else from then on.
 #[derive(Drop)]
 pub struct Core {
-    state: Option<State>,
+    pub(crate) state: Option<State>,
 }
 
 impl Model for Core {
-    ghost use Rattle.std.specs.Prelude.{Option};
+    ghost use Rattle.std.specs.Prelude.{Option, IfSome};
     ghost use Rattle.rt_sync.specs.World.{World};
+    ghost use Rattle.rt_sync.specs.Sound.{IsSound};
 
     ghost Value = { Option World };
 
     ghost view = { λ a. a.state };
+
+    ghost invariant = { λ a. IfSome a.state IsSound };
 }
 
 impl Core {
@@ -41,7 +45,8 @@ impl Core {
     /// Makes one step. Refused and stale steps change nothing; a step that lacks memory is not made, and the core has failed then.
     pub fn apply(&mut self, step: Step) -> Result<Report, CoreError>
         requires { IsPlainStep step }
-        ensures { Applies self.old step result self.new }
+        ensures applied { Applies self.old step result self.new }
+        ensures shown { (w v : World) → self.old ≡ Some w → self.new ≡ Some v → All (IsUpToDate w result v) v.listeners }
     {
         let Some(state) = self.state.take() else {
             return Err(CoreError::Failed);
@@ -53,12 +58,12 @@ impl Core {
 
     /// What the listener of that number shows; none where nothing is known of its path.
     pub fn view(&self, listener: u64) -> Result<Option<Shown>, CoreError>
+        ensures { Views self.now listener result }
     {
         let Some(state) = &self.state else {
             return Err(CoreError::Failed);
         };
-        let shown = state.view(listener)?;
-        match shown {
+        match state.view(listener)? {
             Some(shown) => Ok(Some(shown.copy()?)),
             None => Ok(None),
         }

@@ -1,9 +1,9 @@
 // The view of a listener, and what its seat is told.
-ghost use Rattle.std.specs.Prelude.{◌≡◌, IfOk, OnOk, Some, false};
-ghost use Rattle.std.specs.Option.{option_to_list};
+ghost use Rattle.std.specs.Prelude.{◌≡◌, IfOk, IfSome, OnOk, Some, false};
+ghost use Rattle.std.specs.Option.{option_map, option_to_list};
 ghost use Rattle.rt_query.specs.Queries.{is_filtered};
 ghost use Rattle.rt_sync.specs.Answers.{batch_note};
-ghost use Rattle.rt_sync.specs.Inside.{listener_of, IsView, told, view_over, view_renewed, view_written};
+ghost use Rattle.rt_sync.specs.Inside.{listener_of, told, all_told, view_over, renewed_listener, written_listener};
 
 use crate::listener::{Listener, View};
 use crate::overlay::{overlaid, overlay, sets_whole};
@@ -15,7 +15,7 @@ use rt_tree::{Path, Tree};
 use rt_view::{Batch, ChangeList, changes};
 use std::alloc::{AllocError, Global};
 
-// The note of these changes, if there are any.
+// The note of these changes to the listener's seat, if there are any.
 fn notes_of(
     alloc: Global,
     listener: &Listener,
@@ -47,8 +47,9 @@ fn show(alloc: Global, listener: &mut Listener, seen: Tree) -> Result<Notes, All
     let _rows = shown.rows();
     let old = listener.view.as_ref().map(|view| &view.shown);
     let changes = changes(alloc, listener.query.index(), old, &shown)?;
-    listener.view = Some(View { seen, shown });
-    notes_of(alloc, listener, changes)
+    let notes = notes_of(alloc, listener, changes)?;
+    drop(listener.view.replace(View { seen, shown }));
+    Ok(notes)
 }
 
 // The view from scratch, where the listener has one or something of its path is known; what its seat is told of it.
@@ -59,7 +60,7 @@ pub(crate) fn renew(
     requests: &[Request],
 ) -> Result<Notes, AllocError>
     requires { is_filtered listener.old.query ≡ false }
-    ensures view { OnOk result (listener.new ≡ record listener.old { view = view_renewed regions.now requests.now listener.old.query listener.old.view }) }
+    ensures view { OnOk result (listener.new ≡ renewed_listener regions.now requests.now listener.old) }
     ensures notes { IfOk result (λ notes. notes ≡ told listener.old listener.new) }
 {
     let base = region_part(alloc, regions, listener.query.path())?;
@@ -71,15 +72,31 @@ pub(crate) fn renew(
     show(alloc, listener, seen)
 }
 
+// The same of the listener, if there is one.
+pub(crate) fn renew_any(
+    alloc: Global,
+    listener: &mut Option<Listener>,
+    regions: &[Region],
+    requests: &[Request],
+) -> Result<Notes, AllocError>
+    requires { IfSome listener.old (λ l. is_filtered l.query ≡ false) }
+    ensures view { OnOk result (listener.new ≡ option_map (renewed_listener regions.now requests.now) listener.old) }
+    ensures notes { IfOk result (λ notes. notes ≡ all_told listener.old listener.new) }
+{
+    match listener {
+        Some(listener) => renew(alloc, listener, regions, requests),
+        None => Ok(Notes::new(alloc)),
+    }
+}
+
 // The view after one more write, the last of all; what the seat is told of it. A listener without a view gets its first where the write sits at or above its path.
-pub(crate) fn write_over(
+fn write_over(
     alloc: Global,
     listener: &mut Listener,
     at: &Path,
     entry: &Tree,
 ) -> Result<Notes, AllocError>
-    requires { IsView listener.old.query listener.old.view }
-    ensures view { OnOk result (listener.new ≡ record listener.old { view = view_written (at.now, entry.now) listener.old.query listener.old.view }) }
+    ensures view { OnOk result (listener.new ≡ written_listener (at.now, entry.now) listener.old) }
     ensures notes { IfOk result (λ notes. notes ≡ told listener.old listener.new) }
 {
     let seen = match &listener.view {
@@ -89,4 +106,20 @@ pub(crate) fn write_over(
     };
     let seen = overlaid(alloc, listener.query.path(), seen, at, entry)?;
     show(alloc, listener, seen)
+}
+
+// The same of the listener, if there is one.
+pub(crate) fn write_over_any(
+    alloc: Global,
+    listener: &mut Option<Listener>,
+    at: &Path,
+    entry: &Tree,
+) -> Result<Notes, AllocError>
+    ensures view { OnOk result (listener.new ≡ option_map (written_listener (at.now, entry.now)) listener.old) }
+    ensures notes { IfOk result (λ notes. notes ≡ all_told listener.old listener.new) }
+{
+    match listener {
+        Some(listener) => write_over(alloc, listener, at, entry),
+        None => Ok(Notes::new(alloc)),
+    }
 }

@@ -1,0 +1,40 @@
+-- What follows a path, and parts of trees that are there or not.
+use Rattle.std.proofs.Common.{◌≡◌, ℕ, ◌+◌, ◌≤◌, Bool, true, false, cond, List, [], ◌∷◌, ◌++◌, length, drop, refl, sym, ap, ◌∙◌, subst, arith, Option, Some, None, is_some}
+use Rattle.std.specs.Option.{unwrap_or}
+use Rattle.rt_tree.specs.PathTree.{Path, PathTree, strip, strip-some, length-strip, null, is_null, null_of_is_null, non_null}
+
+pub none_of_not : {X : Type 0} (o : Option X) → is_some o ≡ false → o ≡ None
+none_of_not None e = refl
+none_of_not (Some x) e = cc
+
+pub some_of : {X : Type 0} (o : Option X) → is_some o ≡ true → (x : X) × (o ≡ Some x)
+some_of None e = cc
+some_of (Some x) e = (x, refl)
+
+drop_front : (p r : Path) → drop (length p) (p ++ r) ≡ r
+drop_front [] r = refl
+drop_front (k ∷ p) r = drop_front p r
+
+-- what follows is what is left after as many keys
+pub strip_drop : (p q : Path) → is_some (strip p q) ≡ true → Some (drop (length p) q) ≡ strip p q
+strip_drop p q e =
+    let r = some_of (strip p q) e in
+    ap (λ x. Some (drop (length p) x)) (strip-some p q r.0 r.1) ∙ ap Some (drop_front p r.0) ∙ sym r.1
+
+pub strip_fits : (p q : Path) → is_some (strip p q) ≡ true → length p ≤ length q
+strip_fits p q e = let r = some_of (strip p q) e in omega (arith, length-strip p q r.0 r.1)
+
+-- ---- parts
+pub non_null-some : (t u : PathTree) → non_null t ≡ Some u → u ≡ t
+non_null-some t u e =
+    elim (is_null t) as (λ b. cond b None (Some t) ≡ Some u → u ≡ t) [
+      | true ↦ λ x. cc
+      | false ↦ λ x. ap (λ o. unwrap_or o u) (sym x)
+    ] e
+
+pub non_null-none : (t : PathTree) → non_null t ≡ None → null ≡ t
+non_null-none t e =
+    elim (is_null t) as (λ b. is_null t ≡ b → cond b None (Some t) ≡ None → null ≡ t) [
+      | true ↦ λ n x. sym (null_of_is_null t n)
+      | false ↦ λ n x. cc
+    ] refl e
