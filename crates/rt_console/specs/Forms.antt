@@ -57,3 +57,21 @@ set_in _ = None
 abbrev pub view_in : Items → Option Line
 view_in (item listener no_items) = option_map lines.view (number_in listener)
 view_in _ = None
+
+-- the elements behind each name
+abbrev pub named_in : List ℕ → Items → Option Line
+named_in name parts =
+    if pointwise ◌==◌ name (codes "connected") then connected_in parts
+    else if pointwise ◌==◌ name (codes "listen") then listen_in parts
+    else if pointwise ◌==◌ name (codes "data") then data_in parts
+    else if pointwise ◌==◌ name (codes "set") then set_in parts
+    else if pointwise ◌==◌ name (codes "view") then view_in parts
+    else None
+
+abbrev pub words_in : Items → Option Line
+words_in no_items = None
+words_in (item name parts) = option_and_then (λ n. named_in n parts) (as_str name)
+
+-- the line that the data is
+abbrev pub line_in : Data → Option Line
+line_in d = option_and_then words_in (as_array d)

@@ -1,7 +1,7 @@
 // The forms of a script's lines.
 ghost use Rattle.std.specs.Prelude.{◌≡◌, option_map};
 ghost use Rattle.serde_json.specs.View.{view, items_view};
-ghost use Rattle.rt_console.specs.Forms.{line_of, seat_in, is_empty_array, connected_in, listen_in, data_in, set_in, view_in};
+ghost use Rattle.rt_console.specs.Forms.{line_of, line_in, is_none_left, seat_in, is_empty_array, connected_in, listen_in, data_in, set_in, view_in};
 
 use serde_json::Value;
 
@@ -47,8 +47,17 @@ fn is_empty_array(value: &Value) -> bool
     ensures { result ≡ is_empty_array (view value.now) }
 {
     match value.as_array() {
-        Some(items) => items.is_empty(),
+        Some(items) => is_empty(items.as_slice()),
         None => false,
+    }
+}
+
+fn is_empty(items: &[Value]) -> bool
+    ensures { result ≡ is_none_left (items_view items.now) }
+{
+    match items.first() {
+        Some(_) => false,
+        None => true,
     }
 }
 
@@ -115,7 +124,9 @@ fn view(parts: &[Value]) -> Option<Form<'_>>
 }
 
 /// The form of a line, or none where it has none: such a line is a bad line.
-pub fn form_of(line: &Value) -> Option<Form<'_>> {
+pub fn form_of(line: &Value) -> Option<Form<'_>>
+    ensures { option_map line_of result ≡ line_in (view line.now) }
+{
     let (name, parts) = line.as_array()?.as_slice().split_first()?;
     match name.as_str()? {
         "connected" => connected(parts),
