@@ -1,6 +1,8 @@
 //! Queries: a path, an order, a range and a limit; what a query shows of a tree; and which query's listen supplies which.
 #![tactic(auto)]
 
+#[cfg(test)]
+mod call_tests;
 mod draft;
 mod examples;
 mod laws;
@@ -8,8 +10,6 @@ mod limit;
 mod query;
 mod row;
 mod shown;
-#[cfg(test)]
-mod tests;
 
 pub use draft::Draft;
 pub use examples::{bound_examples, order_examples};

@@ -41,7 +41,7 @@ pub fn run(alloc: Global, core: &mut Core, steps: Vec<Step>) -> Result<Answers, 
     requires { All IsPlainStep steps.items }
     ensures unchanged { OnErr result (core.new ≡ core.old) }
     ensures answered { IfOk result (λ answers. AppliesAll core.old steps.items answers core.new) }
-    ensures headline { IfOk result (λ answers. (w v : World) → core.old ≡ Some w → core.new ≡ Some v → Headline w answers v) }
+    ensures headline { IfOk result (λ answers. (w v : World) → core.old ≡ Some w → core.new ≡ Some v → Headline w steps.items answers v) }
 {
     let _sound = &core.state;
     let mut items = Vec::with_capacity(alloc, steps.len())?;

@@ -23,13 +23,14 @@ pub struct Core {
 impl Model for Core {
     ghost use Rattle.std.specs.Prelude.{Option, IfSome};
     ghost use Rattle.rt_sync.specs.World.{World};
+    ghost use Rattle.rt_sync.specs.Alone.{IsAlone};
     ghost use Rattle.rt_sync.specs.Sound.{IsSound};
 
     ghost Value = { Option World };
 
     ghost view = { λ a. a.state };
 
-    ghost invariant = { λ a. IfSome a.state IsSound };
+    ghost invariant = { λ a. IfSome a.state (λ w. IsSound w × IsAlone w) };
 }
 
 impl Core {

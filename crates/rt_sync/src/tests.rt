@@ -272,3 +272,82 @@ fn answers_in_order(rt: HostRuntime) -> Result<(), Fail> {
     }
     Ok(())
 }
+
+#[test]
+fn refusals_have_words(rt: HostRuntime) -> Result<(), Fail> {
+    let limits = Limits::full();
+    assert_eq!(rt; limits.listeners, 65_536);
+    assert_eq!(rt; CoreError::BadPush.code(), 8);
+    assert_eq!(rt; CoreError::BadPush.name(), "BadPush");
+    Ok(())
+}
+
+// The steps of `root_listen`.
+fn root_steps(alloc: Global) -> Result<Vec<Step>, CoreError> {
+    let pushed = with(alloc, Tree::null(), "b", number(1)?)?;
+    let pushed = with(alloc, pushed, "a", truth())?;
+    let listened = listen(alloc, "/")?;
+    let pushed = data(alloc, 1, "/", pushed)?;
+    let written = set(alloc, "/c", text(alloc, "x")?)?;
+    vec![in alloc; Step::Connected, listened, pushed, written].map_err(|_| CoreError::NoMemory)
+}
+
+fn has_rows(shown: &Option<Shown>, count: usize) -> bool {
+    match shown {
+        Some(shown) => shown.rows().len() == count,
+        None => false,
+    }
+}
+
+// Whichever allocation is refused: the steps before are answered as in `root_listen`, that step lacks memory, and the core has failed from then on.
+#[test]
+fn refused_allocations_of_steps(rt: HostRuntime) -> Result<(), Fail> {
+    let alloc = rt.alloc();
+    let Ok(steps) = root_steps(alloc) else {
+        return Ok(());
+    };
+    let mut core = Core::new(alloc, Limits::full());
+    let mut has_failed = false;
+    let mut told = 0;
+    for step in steps {
+        match core.apply(step) {
+            Ok(report) => {
+                assert!(rt; !has_failed);
+                told = changes_of(&report).len();
+            }
+            Err(CoreError::NoMemory) => {
+                assert!(rt; !has_failed);
+                has_failed = true;
+            }
+            Err(error) => assert!(rt; has_failed && error == CoreError::Failed),
+        }
+    }
+    if has_failed {
+        assert!(rt; matches!(core.view(1), Err(CoreError::Failed)));
+        return Ok(());
+    }
+    assert_eq!(rt; told, 2);
+    match core.view(1) {
+        Ok(shown) => assert!(rt; has_rows(&shown, 3)),
+        Err(error) => {
+            assert!(rt; error == CoreError::NoMemory);
+            assert!(rt; has_rows(&core.view(1)?, 3));
+        }
+    }
+    Ok(())
+}
+
+// A refused list of answers leaves the core as it was.
+#[test]
+fn refused_allocations_of_a_run(rt: HostRuntime) -> Result<(), Fail> {
+    let alloc = rt.alloc();
+    let Ok(steps) = root_steps(alloc) else {
+        return Ok(());
+    };
+    let mut core = Core::new(alloc, Limits::full());
+    match run(alloc, &mut core, steps) {
+        Ok(answers) => assert_eq!(rt; answers.as_slice().len(), 4),
+        Err(_) => assert!(rt; is_done(&core.apply(Step::Connected)?, None, 0)),
+    }
+    Ok(())
+}

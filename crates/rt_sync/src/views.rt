@@ -44,7 +44,6 @@ fn show(alloc: Global, listener: &mut Listener, seen: Tree) -> Result<Notes, All
     ensures notes { IfOk result (λ notes. notes ≡ told listener.old listener.new) }
 {
     let shown = listener.query.select(&seen)?;
-    let _rows = shown.rows();
     let old = listener.view.as_ref().map(|view| &view.shown);
     let changes = changes(alloc, listener.query.index(), old, &shown)?;
     let notes = notes_of(alloc, listener, changes)?;

@@ -1,5 +1,5 @@
 -- Children that are put together one by one, and how deep the tree of data is.
-use Rattle.std.proofs.Common.{◌≡◌, ℕ, ℤ, suc, ◌+◌, ◌-◌, ◌<◌, ◌≤◌, ◌^◌, get_or, drop, Result, Ok, Err, nat_le, Bool, true, false, cond, List, [], ◌∷◌, ◌++◌, length, Option, Some, None, is_some, String, Global, string_bytes, string_cmp, Less, decimal, nat_lt, refl, sym, ap, ◌∙◌, arith, subst}
+use Rattle.std.proofs.Common.{◌≡◌, ℕ, ℤ, suc, ◌+◌, ◌-◌, ◌<◌, ◌≤◌, ◌^◌, get_or, drop, Ok, Err, nat_le, Bool, true, false, cond, List, [], ◌∷◌, ◌++◌, length, Option, Some, None, is_some, String, Global, string_bytes, string_cmp, Less, decimal, nat_lt, refl, sym, ap, ◌∙◌, arith, subst}
 use Rattle.std.specs.Option.{option_and_then, option_map_or, option_or}
 use Rattle.std.specs.Ordering.{is_eq}
 use Rattle.std.specs.List.{AllByRecursion}
@@ -16,13 +16,12 @@ use Rattle.serde_json.proofs.Views.{items_len-items_view}
 use Rattle.std.proofs.lemmas.Bool.{ltb-false}
 use Rattle.std.proofs.lemmas.List.{drop_all}
 use Rattle.serde_json.specs.declared.value.Value.{Value}
-use Rattle.rt_tree.specs.declared.error.TreeError.{TreeError}
 use Rattle.rt_tree.specs.declared.error.TreeError.TheVariants.{TooDeep, TooManyNodes}
 use Rattle.rt_tree.specs.Key.{IsKey, key_fault}
 use Rattle.rt_tree.specs.Path.{IsPath}
 use Rattle.rt_tree.specs.Allowed.{MayStandAt, IsAllowed, may_stand, allowed-object}
 use Rattle.rt_tree.specs.Leaf.{LeafValue, truth, number, text}
-use Rattle.rt_tree.specs.PathTree.{Key, Path, PathTree, key_cmp, key_eq, key_eq-is, key_eq-symm, leaf_at, same_tree, is_null, null, levels-null, of_leaf, object, child_of, leaf_at-object-root, leaf_at-object, non_null, AllFull, AddsChild, levels, levels_le, length_lt_levels}
+use Rattle.rt_tree.specs.PathTree.{Key, Path, PathTree, key_cmp, key_eq, key_eq-is, key_eq-symm, leaf_at, same_tree, is_null, levels-null, object, child_of, leaf_at-object-root, leaf_at-object, non_null, AllFull, AddsChild, levels, levels_le, length_lt_levels}
 use Rattle.rt_tree.specs.Reading.{tree_of_data, number_tree, item_trees, member_trees, Visit, visit, visits, item_visits, member_visits, place_fault, name_fault, value_fault, HasPlace, IsTreeData, AreTreeItems, AreTreeMembers, walked}
 use Rattle.rt_tree.proofs.Depths.{levels-of_leaf}
 use Rattle.rt_tree.proofs.Walks.{item_next, member_next}

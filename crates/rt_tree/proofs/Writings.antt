@@ -1,12 +1,11 @@
 -- The data that a tree is written as.
-use Rattle.std.proofs.Common.{rules, ◌≡◌, ℕ, zero, suc, ◌+◌, ◌<◌, ◌≤◌, ◌^◌, max, Bool, true, false, cond, ◌||◌, ℤ, pos, negsuc, List, [], ◌∷◌, ◌++◌, length, Option, Some, None, Greater, Less, nat_lt, refl, sym, ap, ◌∙◌, arith, subst, append_assoc, append-nil}
+use Rattle.std.proofs.Common.{rules, ◌≡◌, ℕ, zero, suc, ◌+◌, ◌<◌, ◌≤◌, false, ◌||◌, ℤ, pos, negsuc, List, [], ◌∷◌, ◌++◌, length, Some, None, Less, refl, sym, ap, ◌∙◌, arith, subst, append_assoc, append-nil}
 use Rattle.std.specs.Ordering.{ordering_reverse, match_ordering}
 use Rattle.std.specs.Cmp.Lexicographic.{nat_list_cmp_total}
 use Rattle.std.specs.List.{AllByRecursion}
 use Rattle.std.specs.List.Sorted.{IsStrictlySortedBy}
 use Rattle.std.specs.Map.{keys_of, values_of}
 use Rattle.std.specs.Option.{option_and_then}
-use Rattle.std.proofs.lemmas.Bool.{lt-ltb}
 use Rattle.std.proofs.lemmas.Grind.{common_steps}
 use Rattle.std.proofs.lemmas.Map.Keys.{sorted_head, sorted_tail}
 use Rattle.serde_json.specs.Data.{Data, Members, no_members, member, put, depth, members_depth}
@@ -17,7 +16,7 @@ use Rattle.serde_json.specs.View.{view}
 use Rattle.serde_json.specs.declared.value.Value.{Null, the_lemmas}
 use denote.Param.Weighed.{most}
 use Rattle.rt_tree.specs.Leaf.{LeafValue, truth, number, text, IsInRange}
-use Rattle.rt_tree.specs.PathTree.{Key, Path, PathTree, key_cmp, leaf_at, leaf_at-null, leaf_at-sub, leaf_of, leaf_of_root, same_tree, null, is_null, of_leaf, leaf_at-of_leaf, object, child_of, leaf_at-object-root, leaf_at-object, non_null, levels, levels-null, null_of_levels, child_levels, sub}
+use Rattle.rt_tree.specs.PathTree.{Key, Path, PathTree, key_cmp, leaf_at, leaf_at-null, leaf_at-sub, same_tree, null, of_leaf, leaf_at-of_leaf, object, leaf_at-object-root, leaf_at-object, levels, null_of_levels, child_levels, sub}
 use Rattle.rt_tree.specs.Children.{children_of, children_sorted, child_of-children_of}
 use Rattle.rt_tree.specs.Reading.{tree_of_data, number_tree, member_trees}
 use Rattle.rt_tree.specs.Writing.{leaf_data, members_with, object_data, leaf_or, data_at, data_of}

@@ -10,6 +10,9 @@ use std::alloc::{AllocError, Global};
 use std::cmp::Ordering;
 use std::marker::Model;
 
+// The most keys that a path has.
+const MAX_KEYS: usize = 32;
+
 /// A place in a tree: at most 32 keys, from the root down. The root has none.
 ///
 /// Paths compare key by key, each by its bytes, so that a path stands right before all that lie under it.
@@ -38,7 +41,7 @@ fn check_path(text: &str) -> Result<(), TreeError>
         if piece.is_empty() {
             continue;
         }
-        if count == 32 {
+        if count == MAX_KEYS {
             return Err(TreeError::TooDeep);
         }
         check_key(piece)?;
@@ -142,7 +145,7 @@ impl Path {
         ensures errors { IfErr result (λ e. (e ≡ TreeError.TooDeep) ⊎ (e ≡ TreeError.NoMemory)) }
     {
         let _ = key.text();
-        if self.keys.len() == 32 {
+        if self.keys.len() == MAX_KEYS {
             return Err(TreeError::TooDeep);
         }
         let mut path = self.copy()?;

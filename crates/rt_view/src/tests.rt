@@ -1,5 +1,6 @@
 // The changes of views over outside examples.
 use crate::*;
+use rt_order::Index;
 use rt_query::{Query, Shown};
 use rt_tree::{Key, Leaf, LeafRef, Path, Tree};
 use std::alloc::Global;
@@ -46,69 +47,77 @@ fn push_row(
     Ok(())
 }
 
+fn push_change(text: &mut String, change: &Change) -> Result<(), Fail> {
+    match change {
+        Change::Removed { key, old } => push_removed(text, key, old),
+        Change::Added { key, value, after } => push_row(text, "added", key, value, after),
+        Change::Moved { key, value, after } => push_row(text, "moved", key, value, after),
+        Change::Changed { key, value, after } => push_row(text, "changed", key, value, after),
+        Change::Value { value } => push_whole(text, value),
+    }
+}
+
+fn push_removed(text: &mut String, key: &Key, old: &Tree) -> Result<(), Fail> {
+    write!(text, "removed {}", key.text())?;
+    push_value(text, old)?;
+    write!(text, "; ")?;
+    Ok(())
+}
+
+fn push_whole(text: &mut String, value: &Tree) -> Result<(), Fail> {
+    write!(text, "value")?;
+    push_value(text, value)
+}
+
 fn words(alloc: Global, changes: &ChangeList) -> Result<String, Fail> {
     let mut text = String::new(alloc);
     for change in changes.as_slice() {
-        match change {
-            Change::Removed { key, old } => {
-                write!(text, "removed {}", key.text())?;
-                push_value(&mut text, old)?;
-                write!(text, "; ")?;
-            }
-            Change::Added { key, value, after } => {
-                push_row(&mut text, "added", key, value, after)?
-            }
-            Change::Moved { key, value, after } => {
-                push_row(&mut text, "moved", key, value, after)?
-            }
-            Change::Changed { key, value, after } => {
-                push_row(&mut text, "changed", key, value, after)?
-            }
-            Change::Value { value } => {
-                write!(text, "value")?;
-                push_value(&mut text, value)?;
-            }
-        }
+        push_change(&mut text, change)?;
     }
     Ok(text)
 }
 
+// The changes from the old view, or none, to the new one.
+fn changes_of(alloc: Global, old: &Option<Shown>, new: &Shown) -> Result<ChangeList, Fail> {
+    Ok(changes(alloc, &Index::Key, old.as_ref(), new)?)
+}
+
+// What a copy of the batch tells.
+fn told(alloc: Global, old: &Option<Shown>, numbers: &[(&str, i64)]) -> Result<String, Fail> {
+    let new = plain(alloc, numbers)?;
+    let changes = changes_of(alloc, old, &new)?;
+    let batch = Batch {
+        listener: 1,
+        changes,
+    };
+    let copy = batch.copy()?;
+    words(alloc, &copy.changes)
+}
+
 #[test]
-fn plain_views(rt: HostRuntime) -> Result<(), Fail> {
+fn first_views(rt: HostRuntime) -> Result<(), Fail> {
     let alloc = rt.alloc();
-    let null = plain(alloc, &[])?;
-    let leaf = plain(alloc, &[("/", 7)])?;
-    let two = plain(alloc, &[("/b", 1), ("/a", 2)])?;
-    let three = plain(alloc, &[("/a", 2), ("/b", 3), ("/c", 4)])?;
-    let table = [
-        (None, &null, "value of 0"),
-        (None, &leaf, "value 7"),
-        (Some(&null), &null, ""),
-        (Some(&leaf), &null, "value of 0"),
-        (None, &two, "added a 2 first; added b 1 after a; value of 2"),
-        (Some(&two), &two, ""),
-        (
-            Some(&two),
-            &three,
-            "added c 4 after b; changed b 3 after a; value of 3",
-        ),
-        (
-            Some(&three),
-            &leaf,
-            "removed a 2; removed b 3; removed c 4; value 7",
-        ),
-    ];
-    for (old, new, wanted) in table {
-        let changes = changes(alloc, &rt_order::Index::Key, old, new)?;
-        let batch = Batch {
-            listener: 1,
-            changes,
-        };
-        let copy = batch.copy()?;
-        assert_eq!(rt; words(alloc, &batch.changes)?.as_str(), wanted);
-        assert_eq!(rt; words(alloc, &copy.changes)?.as_str(), wanted);
-        assert_eq!(rt; copy.changes.is_empty(), wanted.is_empty());
-        assert_eq!(rt; copy.listener, 1);
-    }
+    assert_eq!(rt; told(alloc, &None, &[])?.as_str(), "value of 0");
+    assert_eq!(rt; told(alloc, &None, &[("/", 7)])?.as_str(), "value 7");
+    let words = told(alloc, &None, &[("/b", 1), ("/a", 2)])?;
+    assert_eq!(rt;
+        words.as_str(),
+        "added a 2 first; added b 1 after a; value of 2"
+    );
+    Ok(())
+}
+
+#[test]
+fn next_views(rt: HostRuntime) -> Result<(), Fail> {
+    let alloc = rt.alloc();
+    let two = Some(plain(alloc, &[("/b", 1), ("/a", 2)])?);
+    assert_eq!(rt; told(alloc, &two, &[("/a", 2), ("/b", 1)])?.as_str(), "");
+    let words = told(alloc, &two, &[("/a", 2), ("/b", 3), ("/c", 4)])?;
+    assert_eq!(rt;
+        words.as_str(),
+        "added c 4 after b; changed b 3 after a; value of 3"
+    );
+    let words = told(alloc, &two, &[("/", 7)])?;
+    assert_eq!(rt; words.as_str(), "removed a 2; removed b 1; value 7");
     Ok(())
 }

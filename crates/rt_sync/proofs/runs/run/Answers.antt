@@ -4,12 +4,13 @@ use Rattle.std.specs.Vec.{vec_capacity, vec_len}
 use Rattle.std.specs.Vec.Iter.{into_iter_items}
 use Rattle.std.proofs.lemmas.List.Elements.{All-rest}
 use Rattle.rt_sync.specs.declared.step.Step.{Step}
+use Rattle.rt_sync.specs.Alone.{IsAlone}
 use Rattle.rt_sync.specs.Answers.{Answer}
 use Rattle.rt_sync.specs.Runs.{AppliesAll, IsPlainStep}
 use Rattle.rt_sync.specs.Sound.{IsSound}
 use Rattle.rt_sync.specs.World.{World}
 use Rattle.rt_sync.proofs.AppliedAll.{Continues, continues_more}
-use Rattle.rt_sync.proofs.HeadlineLaws.{headline_of_applies_all}
+use Rattle.rt_sync.proofs.Headline.{headline_of_applies_all}
 use Rattle.rt_sync.proofs.runs.run.Goals as goal
 
 nothing_left : {X : Type 0} (xs : List X) → length xs ≡ 0 → xs ≡ []
@@ -47,6 +48,6 @@ pub returns-clause-headline : goal.returns-clause-headline
 returns-clause-headline c w v e f =
     let applied = all_told c.args.core.now c.loop-step.core c.args.steps.items (into_iter_items c.loop-step.step-iterator) c.loop-step.items.items c.loop-step.invariant.2
     (sym c.loop-step.invariant.3 ∙ c.in-None.ensures.steps.0) in
-    let sound : IsSound w = subst (λ o. IfSome o IsSound) (c.core.view_is ∙ e) c.core.invariant in
+    let held : IsSound w × IsAlone w = subst (λ o. IfSome o (λ x. IsSound x × IsAlone x)) (c.core.view_is ∙ e) c.core.invariant in
     headline_of_applies_all c.args.steps.items c.loop-step.items.items w v
-    (subst (λ (x : Option World × Option World). AppliesAll x.0 c.args.steps.items c.loop-step.items.items x.1) (λ i. (e i, f i)) applied) sound
+    (subst (λ (x : Option World × Option World). AppliesAll x.0 c.args.steps.items c.loop-step.items.items x.1) (λ i. (e i, f i)) applied) held.0 held.1 c.requires

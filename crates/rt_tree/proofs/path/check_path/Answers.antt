@@ -30,12 +30,12 @@ loop-piece-preserved-then-is_empty c =
       ),
     )
 
-pub returns-then-count-eq32 : goal.returns-then-count-eq32
-returns-then-count-eq32 c =
+pub returns-then-count-eq-MAX_KEYS : goal.returns-then-count-eq-MAX_KEYS
+returns-then-count-eq-MAX_KEYS c =
     let kept = c.loop-piece.invariant in
     let next = comes_next c.loop-piece.piece-iterator c.next.new.self c.in-Some.piece kept.1.0 kept.1.1 c.in-Some.ensures.steps in
     sym (kept.1.2 ∙ key_first c.loop-piece.count c.in-Some.piece.now kept.1.0 next.0 next.1 (ap not (sym c.is_empty.ensures ∙ c.if-is_empty.false))
-    ∙ fault_after-full c.loop-piece.count c.in-Some.piece.now (filter is_nonempty next.0) c.if-count-eq32.true)
+    ∙ fault_after-full c.loop-piece.count c.in-Some.piece.now (filter is_nonempty next.0) c.if-count-eq-MAX_KEYS.true)
 
 pub returns-in_err-check_key : goal.returns-in_err-check_key
 returns-in_err-check_key c =
@@ -44,12 +44,12 @@ returns-in_err-check_key c =
     let p = err_from_is_err_and c.from_residual.result c.from_residual.ensures.1 in
     rw (p.1, p.2)
     (sym (kept.1.2 ∙ key_first c.loop-piece.count c.in-Some.piece.now kept.1.0 next.0 next.1 (ap not (sym c.is_empty.ensures ∙ c.if-is_empty.false))
-    ∙ fault_after-fault c.loop-piece.count c.in-Some.piece.now (filter is_nonempty next.0) c.in_err-check_key.field-0.0 (omega (arith, kept.0, c.if-count-eq32.false)) (sym c.in_err-check_key.ensures)))
+    ∙ fault_after-fault c.loop-piece.count c.in-Some.piece.now (filter is_nonempty next.0) c.in_err-check_key.field-0.0 (omega (arith, kept.0, c.if-count-eq-MAX_KEYS.false)) (sym c.in_err-check_key.ensures)))
 
 pub loop-piece-preserved : goal.loop-piece-preserved
 loop-piece-preserved c =
     let kept = c.loop-piece.invariant in
-    let few : c.loop-piece.count < 32 = omega (arith, kept.0, c.if-count-eq32.false) in
+    let few : c.loop-piece.count < 32 = omega (arith, kept.0, c.if-count-eq-MAX_KEYS.false) in
     let next = comes_next c.loop-piece.piece-iterator c.next.new.self c.in-Some.piece kept.1.0 kept.1.1 c.in-Some.ensures.steps in (
       omega arith,
       (

@@ -1,4 +1,4 @@
-use Rattle.std.proofs.Common.{◌≡◌, refl, ap, sym, ◌∙◌, subst, arith}
+use Rattle.std.proofs.Common.{◌≡◌, ap, sym, ◌∙◌, subst, arith}
 use Rattle.std.specs.BTreeMap.{IsOrdered, values}
 use Rattle.std.specs.Map.{keys_of}
 use Rattle.std.specs.List.Sorted.{IsStrictlySortedBy}
@@ -8,12 +8,11 @@ use Rattle.serde_json.specs.Data.{put}
 use Rattle.serde_json.specs.View.{view, members_view}
 use Rattle.serde_json.proofs.Views.{view-Object}
 use denote.Param.Weighed.{most}
-use Rattle.rt_tree.specs.PathTree.{key_cmp, levels, levels-null}
+use Rattle.rt_tree.specs.PathTree.{key_cmp, levels}
 use Rattle.rt_tree.specs.Allowed.{IsAllowed}
 use Rattle.rt_tree.specs.Reading.{tree_of_data}
 use Rattle.rt_tree.specs.Writing.{leaf_data, members_with, data_of}
 use Rattle.rt_tree.specs.declared.tree.Tree.TheDeep.{size-Tree}
-use Rattle.rt_tree.proofs.Depths.{levels-of_leaf}
 use Rattle.rt_tree.proofs.Equals.{below}
 use Rattle.rt_tree.proofs.Nodes.{at-Null, at-Leaf, at-Object, kept-Object, allowed-node}
 use Rattle.rt_tree.proofs.Writings.{view-Null, data_of-null, data_of-of_leaf, data_of-object, writing_begins, writing_goes_on, writing_ends, Writing}

@@ -1,5 +1,5 @@
-use Rattle.std.proofs.Common.{◌≡◌, ◌≤◌, ◌∙◌, ap, sym, subst, drop, decimal, refl, arith}
-use Rattle.serde_json.specs.View.{items_view, members_view, view}
+use Rattle.std.proofs.Common.{◌≡◌, ◌∙◌, ap, sym, subst, decimal, refl, arith}
+use Rattle.serde_json.specs.View.{members_view}
 use Rattle.rt_tree.specs.Key.{IsKey}
 use Rattle.rt_tree.specs.Allowed.{IsAllowed}
 use Rattle.rt_tree.specs.PathTree.{object}

@@ -1,5 +1,5 @@
-use Rattle.std.proofs.Common.{◌≡◌, ◌∙◌, ap, sym, Some, None, Ok, Err}
-use Rattle.serde_json.specs.View.{view, items_view, members_view}
+use Rattle.std.proofs.Common.{◌∙◌, ap, sym, Some}
+use Rattle.serde_json.specs.View.{view}
 use Rattle.rt_tree.specs.Reading.{walked, visits, item_visits, member_visits}
 use Rattle.rt_tree.proofs.Walks.{walked-goes_on, walked-stops, passed_on, item_next, member_next}
 use Rattle.rt_tree.proofs.tree.reading.+walk.Goals as goal
