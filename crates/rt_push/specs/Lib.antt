@@ -1,0 +1,5 @@
+pub mod Digits
+pub mod Errors
+pub mod Examples
+pub mod Laws
+pub mod PushIds

@@ -1,0 +1,13 @@
+//! Push ids: keys of 20 characters that rise with the time at which they are made, as Firebase's `push` makes them.
+#![tactic(auto)]
+
+mod digits;
+mod error;
+mod laws;
+mod push_ids;
+#[cfg(test)]
+mod tests;
+
+pub use error::PushError;
+pub use laws::{digits_stand, examples, ids_rise};
+pub use push_ids::PushIds;

@@ -1,0 +1,104 @@
+// The source of push ids.
+ghost use Rattle.std.specs.Prelude.{◌≡◌, ◌≤◌, ◌<◌, ◌^◌, ℕ, Option, Some, None, IfOk, OnOk, OnErr};
+ghost use Rattle.std.specs.Result.{result_err};
+ghost use Rattle.rt_push.specs.Digits.{number};
+ghost use Rattle.rt_push.specs.PushIds.{Stamp, push_fault, push_id, used};
+
+use crate::digits;
+use crate::error::PushError;
+use std::marker::Model;
+
+/// The moments that eight digits write, and so the first that they do not.
+const MOMENTS: u64 = 1 << 48;
+
+/// The random parts that twelve digits write.
+const RANDOM_PARTS: u128 = 1 << 72;
+
+// What an id is made of: its moment, in milliseconds since 1970, and its random part, the number that twelve digits write.
+#[derive(Clone, Copy)]
+struct Stamp {
+    moment: u64,
+    random: u128,
+}
+
+impl Stamp {
+    fn id(&self) -> [u8; 20]
+        ensures { result ≡ push_id (self.now.moment, self.now.random) }
+    {
+        let mut id = [0; 20];
+        digits::write(&mut id[..8], u128::from(self.moment));
+        digits::write(&mut id[8..], self.random);
+        id
+    }
+}
+
+/// Makes push ids, each above the ones that it made before.
+#[derive(Drop)]
+pub struct PushIds {
+    last: Option<Stamp>,
+}
+
+impl Model for PushIds {
+    ghost use Rattle.std.specs.Prelude.{◌<◌, ◌^◌, Option, IfSome};
+    ghost use Rattle.std.specs.Option.{option_map};
+    ghost use Rattle.rt_push.specs.PushIds.{Stamp};
+
+    ghost Value = { Option Stamp };
+
+    ghost view = { λ ids. option_map (λ last. (last.moment, last.random)) ids.last };
+
+    ghost invariant = { λ ids. IfSome ids.last (λ last. (last.moment < 2 ^ 48) × (last.random < 64 ^ 12)) };
+}
+
+impl PushIds {
+    /// A source that has given no id yet.
+    pub fn new() -> PushIds
+        ensures { result ≡ None }
+    {
+        PushIds { last: None }
+    }
+
+    // What an id of this moment and random part is made of.
+    fn stamp(&self, now_ms: u64, random: u128) -> Stamp
+        requires { random < 64 ^ 12 }
+        ensures { (result.moment, result.random) ≡ used self.now now_ms random }
+    {
+        match self.last {
+            Some(last) if now_ms <= last.moment => Stamp {
+                moment: last.moment,
+                random: last.random + 1,
+            },
+            _ => Stamp {
+                moment: now_ms,
+                random,
+            },
+        }
+    }
+
+    /// The next id, for the moment now in milliseconds since 1970 and twelve random digits, each from 0 to 63.
+    ///
+    /// An id is 8 characters of its moment and 12 of its random part, in base 64, most significant first. In the moment
+    /// last used the last random part is counted up by one, as a number; an earlier moment counts as the last one used.
+    ///
+    /// `MomentTooLarge` from 2^48 on, then `RandomOutOfRange` where one of the twelve is 64 or more, then `Exhausted`
+    /// where the random part cannot be counted up. A refusal changes nothing.
+    pub fn next(&mut self, now_ms: u64, random: [u8; 12]) -> Result<[u8; 20], PushError>
+        ensures fault { result_err result ≡ push_fault self.old now_ms random }
+        ensures id { IfOk result (λ id. id ≡ push_id (used self.old now_ms (number random))) }
+        ensures used { OnOk result (self.new ≡ Some (used self.old now_ms (number random))) }
+        ensures unchanged { OnErr result (self.new ≡ self.old) }
+    {
+        if now_ms >= MOMENTS {
+            return Err(PushError::MomentTooLarge);
+        }
+        if !digits::all_digits(&random) {
+            return Err(PushError::RandomOutOfRange);
+        }
+        let stamp = self.stamp(now_ms, digits::number(&random));
+        if stamp.random >= RANDOM_PARTS {
+            return Err(PushError::Exhausted);
+        }
+        self.last = Some(stamp);
+        Ok(stamp.id())
+    }
+}
