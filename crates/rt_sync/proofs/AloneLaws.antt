@@ -147,7 +147,7 @@ none_yet w seat query h e = elim h.state [
   | inl none ↦ none
   | inr one ↦
       let full : has_too_many_listeners w (Step.Listen seat query) ≡ true =
-          λ i. nat_le (h.limit i) (length (one.listeners i)) || nat_lt (w.limits).last_number w.next_listener || needs_tag w (Step.Listen seat query) in
+      λ i. nat_le (h.limit i) (length (one.listeners i)) || nat_lt (w.limits).last_number w.next_listener || needs_tag w (Step.Listen seat query) in
       absurd (true≢false (sym full ∙ listeners_few w (Step.Listen seat query) e))
 ]
 
@@ -197,7 +197,7 @@ stale_unless_kept w tag path tree e =
 kept_tag : (w : World) (one : HasOne w) (tag : ℕ) (path : Path) (tree : PathTree) → is_stale w (Step.Data tag path tree) ≡ false → listen_of w tag ≡ Some (plain ((one.listener).query).path)
 kept_tag w one tag path tree fresh =
     let found : listen_of w tag ≡ option_map (λ (k : Tagged). k.form) (cond ((one.listen).tag == tag) (Some one.listen) None) =
-        ap (λ ks. option_map (λ (k : Tagged). k.form) (find (λ (k : Tagged). k.tag == tag) ks)) one.kept in
+    ap (λ ks. option_map (λ (k : Tagged). k.form) (find (λ (k : Tagged). k.tag == tag) ks)) one.kept in
     elim ((one.listen).tag == tag) as (λ b. listen_of w tag ≡ option_map (λ (k : Tagged). k.form) (cond b (Some one.listen) None) → listen_of w tag ≡ Some (plain ((one.listener).query).path)) [
       | true ↦ λ f. f ∙ ap Some one.form
       | false ↦ λ f. absurd (true≢false (sym (stale_unless_kept w tag path tree f) ∙ fresh))
@@ -207,7 +207,7 @@ kept_tag w one tag path tree fresh =
 within_listen : (w : World) (p : Path) (tag : ℕ) (path : Path) (tree : PathTree) → listen_of w tag ≡ Some (plain p) → is_bad_push w (Step.Data tag path tree) ≡ false → is_at_or_above p path ≡ true
 within_listen w p tag path tree e good =
     let at : is_bad_push w (Step.Data tag path tree) ≡ ((not (is_at_or_above p path && true) || false) || false) =
-        ap (λ o. list_any (λ (x : Option Query). not (option_map_or (λ q. list_all (λ (a : Assignment). is_at_or_above q.path a.0) ((path, tree) ∷ [])) x true) || false) (o ∷ [])) e in
+    ap (λ o. list_any (λ (x : Option Query). not (option_map_or (λ q. list_all (λ (a : Assignment). is_at_or_above q.path a.0) ((path, tree) ∷ [])) x true) || false) (o ∷ [])) e in
     elim (is_at_or_above p path) as (λ b. ((not (b && true) || false) || false) ≡ false → b ≡ true) [
       | true ↦ λ _. refl
       | false ↦ λ f. absurd (true≢false f)

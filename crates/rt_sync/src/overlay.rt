@@ -39,10 +39,12 @@ pub(crate) fn overlay(
 {
     let mut tree = base;
     for request in requests {
-        let Asked::Now(Action::Put {
-            path: at,
-            tree: entry,
-        }) = &request.asked;
+        let Asked::Now(
+            Action::Put {
+                path: at,
+                tree: entry,
+            },
+        ) = &request.asked;
         tree = overlaid(alloc, path, tree, at, entry)?;
     }
     Ok(tree)

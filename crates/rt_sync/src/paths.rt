@@ -17,11 +17,7 @@ fn path_of(alloc: Global, keys: &[Key]) -> Result<Path, AllocError>
 }
 
 // What follows `above` in `path`, where `above` is at or above it.
-pub(crate) fn rest_of(
-    alloc: Global,
-    above: &Path,
-    path: &Path,
-) -> Result<Option<Path>, AllocError>
+pub(crate) fn rest_of(alloc: Global, above: &Path, path: &Path) -> Result<Option<Path>, AllocError>
     ensures { IfOk result (λ rest. rest ≡ strip above.now path.now) }
 {
     if !above.is_prefix_of(path) {

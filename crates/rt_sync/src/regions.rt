@@ -44,12 +44,7 @@ fn is_in_region(regions: &[Region], path: &Path) -> bool
 }
 
 // The tree put into the region, if that is at or above the path.
-fn put_into(
-    alloc: Global,
-    region: &mut Region,
-    path: &Path,
-    tree: &Tree,
-) -> Result<(), AllocError>
+fn put_into(alloc: Global, region: &mut Region, path: &Path, tree: &Tree) -> Result<(), AllocError>
     ensures { OnOk result (pair_of region.new ≡ region_put (path.now, tree.now) (pair_of region.old)) }
 {
     if let Some(rest) = rest_of(alloc, &region.path, path)? {

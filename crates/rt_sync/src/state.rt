@@ -111,12 +111,7 @@ impl State {
     }
 
     // Adds a request, which shows at once.
-    fn write(
-        self,
-        seat: u64,
-        path: Path,
-        tree: Tree,
-    ) -> Result<(State, Report), AllocError>
+    fn write(self, seat: u64, path: Path, tree: Tree) -> Result<(State, Report), AllocError>
         ensures { IfOk result (λ made. IsNext self (Step.Write seat (Action.Put path tree)) made) }
     {
         let alloc = self.alloc();
@@ -198,10 +193,7 @@ impl State {
     }
 
     // The step, and its answer.
-    pub(crate) fn after(
-        self,
-        step: Step,
-    ) -> Result<(State, Result<Report, CoreError>), AllocError>
+    pub(crate) fn after(self, step: Step) -> Result<(State, Result<Report, CoreError>), AllocError>
         requires { IsPlainStep step }
         ensures ok { IfOk result (λ made. made ≡ the_step self step) }
         ensures not_refused { OnErr result (refusal self step ≡ None) }

@@ -2,7 +2,7 @@
 use crate::error::CoreError;
 use crate::limits::Limits;
 use crate::report::{Body, Outcome, Report};
-use crate::runs::run;
+use crate::runs::{Answers, run};
 use crate::step::{Action, Step};
 use crate::sync::Core;
 use rt_query::{Query, Shown};
@@ -64,7 +64,9 @@ fn is_error(answer: &Result<Report, CoreError>, error: CoreError) -> bool {
 
 // Whether the step was made, with that number and that many notes.
 fn is_done(report: &Report, given: Option<u64>, notes: usize) -> bool {
-    report.outcome == Outcome::Done && report.given == given && report.notes.as_slice().len() == notes
+    report.outcome == Outcome::Done
+        && report.given == given
+        && report.notes.as_slice().len() == notes
 }
 
 // The changes of the one batch for listener 1 of seat 1; none where there is another number of notes.
@@ -183,7 +185,12 @@ fn root_listen(rt: HostRuntime) -> Result<(), Fail> {
     assert!(rt; is_added(&changes[0], "c", &text(alloc, "x")?, "b"));
     let written = with(alloc, pushed, "c", text(alloc, "x")?)?;
     assert!(rt; is_value(&changes[1], &written));
-    assert!(rt; is_error(&core.apply(listen(alloc, "/x")?), CoreError::TooManyListeners));
+    assert!(rt;
+        is_error(
+            &core.apply(listen(alloc, "/x")?),
+            CoreError::TooManyListeners
+        )
+    );
     Ok(())
 }
 
@@ -237,21 +244,48 @@ fn refusals(rt: HostRuntime) -> Result<(), Fail> {
         last_number: 0,
     };
     let mut core = Core::new(alloc, limits);
-    assert!(rt; is_error(&core.apply(data(alloc, 1, "/a", truth())?), CoreError::NotConnected));
+    assert!(rt;
+        is_error(
+            &core.apply(data(alloc, 1, "/a", truth())?),
+            CoreError::NotConnected
+        )
+    );
     drop(core.apply(Step::Connected)?);
     assert!(rt; is_error(&core.apply(Step::Connected), CoreError::AlreadyConnected));
     assert!(rt; matches!(core.view(1), Err(CoreError::UnknownListener)));
-    assert_eq!(rt; core.apply(data(alloc, 1, "/a", truth())?)?.outcome, Outcome::Stale);
+    assert_eq!(rt;
+        core.apply(data(alloc, 1, "/a", truth())?)?.outcome,
+        Outcome::Stale
+    );
     drop(core.apply(listen(alloc, "/a")?)?);
-    assert!(rt; is_error(&core.apply(listen(alloc, "/a")?), CoreError::TooManyListeners));
-    assert!(rt; is_error(&core.apply(data(alloc, 1, "/b", truth())?), CoreError::BadPush));
-    assert_eq!(rt; core.apply(data(alloc, 2, "/b", truth())?)?.outcome, Outcome::Stale);
-    let deep = "/a/1/2/3/4/5/6/7/8/9/10/11/12/13/14/15/16/17/18/19/20/21/22/23/24/25/26/27/28/29/30/31";
+    assert!(rt;
+        is_error(
+            &core.apply(listen(alloc, "/a")?),
+            CoreError::TooManyListeners
+        )
+    );
+    assert!(rt;
+        is_error(
+            &core.apply(data(alloc, 1, "/b", truth())?),
+            CoreError::BadPush
+        )
+    );
+    assert_eq!(rt;
+        core.apply(data(alloc, 2, "/b", truth())?)?.outcome,
+        Outcome::Stale
+    );
+    let deep =
+        "/a/1/2/3/4/5/6/7/8/9/10/11/12/13/14/15/16/17/18/19/20/21/22/23/24/25/26/27/28/29/30/31";
     let child = with(alloc, Tree::null(), "k", truth())?;
     assert!(rt; is_error(&core.apply(set(alloc, deep, child)?), CoreError::TooDeep));
     assert!(rt; core.view(1)?.is_none());
     drop(core.apply(set(alloc, "/a", number(1)?)?)?);
-    assert!(rt; is_error(&core.apply(set(alloc, "/a", number(2)?)?), CoreError::TooManyRequests));
+    assert!(rt;
+        is_error(
+            &core.apply(set(alloc, "/a", number(2)?)?),
+            CoreError::TooManyRequests
+        )
+    );
     assert!(rt; is_leaf(&core.view(1)?, &number(1)?));
     assert!(rt; matches!(core.view(2), Err(CoreError::UnknownListener)));
     Ok(())
@@ -328,13 +362,25 @@ fn refused_allocations_of_steps(rt: HostRuntime) -> Result<(), Fail> {
     }
     assert_eq!(rt; told, 2);
     match core.view(1) {
-        Ok(shown) => assert!(rt; has_rows(&shown, 3)),
+        Ok(shown) => {
+            assert!(rt; has_rows(&shown, 3));
+            println!(rt; "no allocation was refused")?;
+        }
         Err(error) => {
             assert!(rt; error == CoreError::NoMemory);
             assert!(rt; has_rows(&core.view(1)?, 3));
         }
     }
     Ok(())
+}
+
+fn are_made(answers: &Answers) -> bool {
+    for answer in answers.as_slice() {
+        if answer.is_err() {
+            return false;
+        }
+    }
+    true
 }
 
 // A refused list of answers leaves the core as it was.
@@ -346,7 +392,12 @@ fn refused_allocations_of_a_run(rt: HostRuntime) -> Result<(), Fail> {
     };
     let mut core = Core::new(alloc, Limits::full());
     match run(alloc, &mut core, steps) {
-        Ok(answers) => assert_eq!(rt; answers.as_slice().len(), 4),
+        Ok(answers) => {
+            assert_eq!(rt; answers.as_slice().len(), 4);
+            if are_made(&answers) {
+                println!(rt; "no allocation was refused")?;
+            }
+        }
         Err(_) => assert!(rt; is_done(&core.apply(Step::Connected)?, None, 0)),
     }
     Ok(())

@@ -16,11 +16,7 @@ use rt_view::{Batch, ChangeList, changes};
 use std::alloc::{AllocError, Global};
 
 // The note of these changes to the listener's seat, if there are any.
-fn notes_of(
-    alloc: Global,
-    listener: &Listener,
-    changes: ChangeList,
-) -> Result<Notes, AllocError>
+fn notes_of(alloc: Global, listener: &Listener, changes: ChangeList) -> Result<Notes, AllocError>
     ensures { IfOk result (λ notes. notes ≡ option_to_list (batch_note (listener_of listener.now) changes)) }
 {
     if changes.as_slice().is_empty() {

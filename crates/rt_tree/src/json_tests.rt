@@ -144,12 +144,23 @@ fn small_calls(rt: HostRuntime) -> Result<(), Fail> {
     Ok(())
 }
 
-// A tree and a refusal, which take memory on their way.
-fn some_limits(alloc: Global) -> Result<bool, TreeError> {
-    Ok(
-        answers(alloc, "[1,null,\"x\"]", "{\"0\":1,\"2\":\"x\"}")?
-            && answers(alloc, "{\"a.b\":1}", "BadKey")?,
-    )
+const LIMITS: [(&str, &str); 6] = [
+    ("[1,null,3]", "{\"0\":1,\"2\":3}"),
+    ("{\"a\":{}}", "null"),
+    ("1.5", "NotWhole"),
+    ("9007199254740992", "NotWhole"),
+    ("{\"a.b\":1}", "BadKey"),
+    ("{", "NotJson"),
+];
+
+// Whether each text is answered as it should be.
+fn all_limits(alloc: Global) -> Result<bool, TreeError> {
+    for (text, wanted) in LIMITS {
+        if !answers(alloc, text, wanted)? {
+            return Ok(false);
+        }
+    }
+    Ok(true)
 }
 
 // Where one allocation is refused, the answer is NoMemory, and the right one at the next call. A run in which none was
@@ -157,14 +168,14 @@ fn some_limits(alloc: Global) -> Result<bool, TreeError> {
 #[test]
 fn refused_allocations_tree_limits(rt: HostRuntime) -> Result<(), Fail> {
     let alloc = rt.alloc();
-    match some_limits(alloc) {
+    match all_limits(alloc) {
         Ok(all) => {
             assert!(rt; all);
             println!(rt; "no allocation was refused")?;
         }
         Err(fault) => {
             assert_eq!(rt; fault, TreeError::NoMemory);
-            assert!(rt; some_limits(alloc)?);
+            assert!(rt; all_limits(alloc)?);
         }
     }
     Ok(())

@@ -31,8 +31,7 @@ loop-step-preserved c =
     let more = continues_more c.args.core.now c.args.steps.items c.loop-step.items.items c.loop-step.core c.in-Some.step left c.apply.result c.apply.new.self
     (subst (Continues c.args.core.now c.args.steps.items c.loop-step.items.items c.loop-step.core) rest c.loop-step.invariant.2) c.apply.ensures.applied in
     let room : vec_len c.push_reserved.new.self + length left ≤ vec_capacity c.push_reserved.new.self =
-    omega (arith, c.loop-step.invariant.1, c.push_reserved.ensures.len, c.push_reserved.ensures.capacity, short) in
-    (
+    omega (arith, c.loop-step.invariant.1, c.push_reserved.ensures.len, c.push_reserved.ensures.capacity, short) in (
       All-rest IsPlainStep c.in-Some.step left (into_iter_items c.loop-step.step-iterator) rest c.loop-step.invariant.0,
       room,
       subst (λ told. Continues c.args.core.now c.args.steps.items told c.apply.new.self left) (sym c.push_reserved.ensures.items) more,

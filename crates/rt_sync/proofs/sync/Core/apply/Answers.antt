@@ -18,8 +18,7 @@ invariant_of-self-2 c =
     let held : IsSound old × IsAlone old = subst (λ o. IfSome o (λ w. IsSound w × IsAlone w)) there c.self.invariant in
     let made : c.in_ok-state.answer ≡ (step old c.args.step).1 = ap (λ (m : World × Answer). m.1) c.in_ok-state.ensures.ok in
     let after : c.in_ok-state.state ≡ (step old c.args.step).0 = ap (λ (m : World × Answer). m.0) c.in_ok-state.ensures.ok in
-    let applied : Applies (Some old) c.args.step c.in_ok-state.answer (Some c.in_ok-state.state) = inl (record { told = made; world = ap Some after }) in
-    (
+    let applied : Applies (Some old) c.args.step c.in_ok-state.answer (Some c.in_ok-state.state) = inl (record { told = made; world = ap Some after }) in (
       sound_of_applies old c.in_ok-state.state c.args.step c.in_ok-state.answer applied held.0,
       alone_of_applies old c.in_ok-state.state c.args.step c.in_ok-state.answer applied held.1 c.requires,
     )
