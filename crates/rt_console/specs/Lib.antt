@@ -1,6 +1,4 @@
 pub mod Errors
 pub mod Faults
-pub mod Forms
-pub mod Lines
 pub mod Tasks
 pub mod Words

@@ -1,8 +1,4 @@
 // The forms of a script's lines.
-ghost use Rattle.std.specs.Prelude.{◌≡◌, option_map};
-ghost use Rattle.serde_json.specs.View.{view, items_view};
-ghost use Rattle.rt_console.specs.Forms.{line_of, line_in, is_none_left, seat_in, is_empty_array, connected_in, listen_in, data_in, set_in, view_in};
-
 use serde_json::Value;
 
 /// A line of one of the script's forms, its parts as they stand there.
@@ -34,36 +30,21 @@ pub enum Form<'a> {
 }
 
 // A seat: a whole number from 1.
-fn seat_of(value: &Value) -> Option<u64>
-    ensures { result ≡ seat_in (view value.now) }
-{
+fn seat_of(value: &Value) -> Option<u64> {
     match value.as_u64() {
         Some(0) => None,
         seat => seat,
     }
 }
 
-fn is_empty_array(value: &Value) -> bool
-    ensures { result ≡ is_empty_array (view value.now) }
-{
+fn is_empty_array(value: &Value) -> bool {
     match value.as_array() {
-        Some(items) => is_empty(items.as_slice()),
+        Some(items) => items.is_empty(),
         None => false,
     }
 }
 
-fn is_empty(items: &[Value]) -> bool
-    ensures { result ≡ is_none_left (items_view items.now) }
-{
-    match items.first() {
-        Some(_) => false,
-        None => true,
-    }
-}
-
-fn connected(parts: &[Value]) -> Option<Form<'_>>
-    ensures { option_map line_of result ≡ connected_in (items_view parts.now) }
-{
+fn connected(parts: &[Value]) -> Option<Form<'_>> {
     if parts.is_empty() {
         Some(Form::Connected)
     } else {
@@ -71,9 +52,7 @@ fn connected(parts: &[Value]) -> Option<Form<'_>>
     }
 }
 
-fn listen(parts: &[Value]) -> Option<Form<'_>>
-    ensures { option_map line_of result ≡ listen_in (items_view parts.now) }
-{
+fn listen(parts: &[Value]) -> Option<Form<'_>> {
     let [seat, path, calls] = parts else {
         return None;
     };
@@ -86,9 +65,7 @@ fn listen(parts: &[Value]) -> Option<Form<'_>>
     })
 }
 
-fn data(parts: &[Value]) -> Option<Form<'_>>
-    ensures { option_map line_of result ≡ data_in (items_view parts.now) }
-{
+fn data(parts: &[Value]) -> Option<Form<'_>> {
     let [tag, path, value] = parts else {
         return None;
     };
@@ -99,9 +76,7 @@ fn data(parts: &[Value]) -> Option<Form<'_>>
     })
 }
 
-fn set(parts: &[Value]) -> Option<Form<'_>>
-    ensures { option_map line_of result ≡ set_in (items_view parts.now) }
-{
+fn set(parts: &[Value]) -> Option<Form<'_>> {
     let [seat, path, value] = parts else {
         return None;
     };
@@ -112,9 +87,7 @@ fn set(parts: &[Value]) -> Option<Form<'_>>
     })
 }
 
-fn view(parts: &[Value]) -> Option<Form<'_>>
-    ensures { option_map line_of result ≡ view_in (items_view parts.now) }
-{
+fn view(parts: &[Value]) -> Option<Form<'_>> {
     let [listener] = parts else {
         return None;
     };
@@ -124,9 +97,7 @@ fn view(parts: &[Value]) -> Option<Form<'_>>
 }
 
 /// The form of a line, or none where it has none: such a line is a bad line.
-pub fn form_of(line: &Value) -> Option<Form<'_>>
-    ensures { option_map line_of result ≡ line_in (view line.now) }
-{
+pub fn form_of(line: &Value) -> Option<Form<'_>> {
     let (name, parts) = line.as_array()?.as_slice().split_first()?;
     match name.as_str()? {
         "connected" => connected(parts),

@@ -232,6 +232,36 @@ impl Script {
         }
         Err(ConsoleError::ReadFault)
     }
+
+    // Reads to the end of the input, does its lines, and answers how many of them were bad.
+    fn run<S: Source, D: Drain>(
+        &mut self,
+        reader: &mut S,
+        writer: &mut D,
+    ) -> Result<u64, ConsoleError>
+        requires bytes { S.given reader.old ≤ 2 ^ 63 }
+        requires reads { S.failures reader.old + 1 < 2 ^ 64 }
+        requires writes { D.failures writer.old + 1 < 2 ^ 64 }
+        ensures end { OnOk result (IsAtEnd (S.remaining reader.new)) }
+        ensures within { OnOk result (S.given reader.new ≤ S.given reader.old + most_input) }
+        ensures none_failed { OnOk result ((S.failures reader.new ≡ S.failures reader.old) × (D.failures writer.new ≡ D.failures writer.old)) }
+        ensures read_fault { IsErrOf result ConsoleError.ReadFault
+            → (S.failures reader.old < S.failures reader.new) ⊎ (S.given reader.old + most_input < S.given reader.new) }
+        ensures write_fault { IsErrOf result ConsoleError.WriteFault → D.failures writer.old < D.failures writer.new }
+        ensures failed_read { S.failures reader.old < S.failures reader.new → IsErrOf result ConsoleError.ReadFault }
+        ensures never { IsErrOf result ConsoleError.BadWords → ⊥ }
+    {
+        match self.read_all(reader, writer) {
+            Ok(()) => Ok(self.bad_lines),
+            Err(error) => {
+                // What the lines before the fault printed is written, where the writer takes it.
+                if error == ConsoleError::NoMemory {
+                    let _ = self.write_out(writer);
+                }
+                Err(error)
+            }
+        }
+    }
 }
 
 /// Runs the script that a reader gives over one new core, and writes what its lines print. Answers the number of bad lines.
@@ -255,15 +285,5 @@ pub fn run_script<S: Source, D: Drain>(
     ensures failed_read { S.failures reader.old < S.failures reader.new → IsErrOf result ConsoleError.ReadFault }
     ensures never { IsErrOf result ConsoleError.BadWords → ⊥ }
 {
-    let mut script = Script::new(alloc);
-    match script.read_all(reader, writer) {
-        Ok(()) => Ok(script.bad_lines),
-        Err(error) => {
-            // What the lines before the fault printed is written, where the writer takes it.
-            if error == ConsoleError::NoMemory {
-                let _ = script.write_out(writer);
-            }
-            Err(error)
-        }
-    }
+    Script::new(alloc).run(reader, writer)
 }

@@ -284,15 +284,14 @@ fn failing_writes(rt: HostRuntime) -> Result<(), Fail> {
 fn refused_allocations_root_listen(rt: HostRuntime) -> Result<(), Fail> {
     let mut reader = Trickle::of(ROOT_LISTEN, NEVER);
     let mut page = Page::new(NEVER);
-    match run_script(rt.alloc(), &mut reader, &mut page) {
+    let outcome = run_script(rt.alloc(), &mut reader, &mut page);
+    assert!(rt; ROOT_LISTEN_PRINTS.as_bytes().starts_with(page.written()));
+    match outcome {
         Ok(bad_lines) => {
-            assert_eq!(rt; bad_lines, 0);
-            assert_eq!(rt; page.written(), ROOT_LISTEN_PRINTS.as_bytes());
+            assert!(rt; bad_lines == 0 && page.len == ROOT_LISTEN_PRINTS.len());
+            println!(rt; "no allocation was refused")?;
         }
-        Err(error) => {
-            assert_eq!(rt; error, ConsoleError::NoMemory);
-            assert!(rt; ROOT_LISTEN_PRINTS.as_bytes().starts_with(page.written()));
-        }
+        Err(error) => assert_eq!(rt; error, ConsoleError::NoMemory),
     }
     Ok(())
 }
