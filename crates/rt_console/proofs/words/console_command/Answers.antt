@@ -1,0 +1,7 @@
+use Rattle.std.proofs.Common.{rules, ap, ap₂, ◌∙◌}
+use Rattle.clap.specs.Words.{App, with_subcommand}
+use Rattle.rt_console.proofs.words.console_command.Goals as goal
+
+pub returns : goal.returns
+returns c = c.in_ok-command.ensures.shape (search rules)
+    ∙ ap₂ with_subcommand c.base_command.ensures.app (ap (λ (a : App). a.top) c.script_command.ensures.app)

@@ -1,0 +1,4 @@
+pub mod Errors
+pub mod Faults
+pub mod Tasks
+pub mod Words

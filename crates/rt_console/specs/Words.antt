@@ -1,0 +1,11 @@
+-- The command line.
+use Rattle.std.specs.Prelude.{true, codes}
+use Rattle.clap.specs.Words.{App, new_app, with_subcommand}
+
+-- the program with no subcommand yet: its words begin behind its name, and it needs a subcommand
+abbrev pub base_app : App
+base_app = let a = new_app (codes "rt_console") in record a { top = record a.top { no_binary_name = true; subcommand_required = true } }
+
+-- `script`
+abbrev pub console_app : App
+console_app = with_subcommand base_app (new_app (codes "script")).top

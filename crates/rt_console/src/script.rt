@@ -1,0 +1,289 @@
+// A run of a script.
+ghost use Rattle.std.specs.Prelude.{◌≡◌, ◌+◌, ◌<◌, ◌≤◌, ◌^◌, ◌⊎◌, ◌++◌, ◌∷◌, length, IfSome, IfOk, IfErr, OnOk, IsErrOf};
+ghost use Rattle.std.specs.Io.KnownBytes.{IsAtEnd};
+ghost use Rattle.rt_sync.specs.Answers.{Answer};
+ghost use Rattle.rt_sync.specs.Runs.{Applies, IsPlainStep};
+ghost use Rattle.rt_console.specs.Faults.{NoneFailed, Tells, WriteTells, most_input};
+
+use crate::error::ConsoleError;
+use crate::stream::{Drain, Source};
+use crate::task::Task;
+use crate::{form, print, task};
+use rt_sync::{Core, CoreError, Limits, Step};
+use rt_tree::TreeError;
+use serde_json::Value;
+use std::alloc::{AllocError, Global};
+use std::fmt::Write;
+
+/// The most bytes of input that a run takes.
+const MOST_INPUT: usize = 67_108_864;
+
+// How many bytes are read at once.
+const CHUNK: usize = 65_536;
+
+// A core, and where its script stands.
+#[derive(Drop)]
+struct Script {
+    alloc: Global,
+    core: Core,
+    // The line that is being read, and how many were read before it.
+    line: Vec<u8>,
+    lines: u64,
+    bad_lines: u64,
+    // What was printed and is not written yet.
+    printed: String,
+}
+
+// Makes a step, and prints what the core answers.
+fn make_step(core: &mut Core, alloc: Global, step: Step, out: &mut String) -> Result<(), AllocError>
+    requires { IsPlainStep step }
+    ensures { (answer : Answer) × Applies core.old step answer core.new }
+{
+    match core.apply(step) {
+        Ok(report) => print::push_report(out, alloc, &report),
+        Err(CoreError::NoMemory) => Err(AllocError),
+        Err(error) => print::push_core_error(out, error),
+    }
+}
+
+// Prints the view of a listener.
+fn show_view(
+    core: &Core,
+    alloc: Global,
+    listener: u64,
+    out: &mut String,
+) -> Result<(), AllocError> {
+    match core.view(listener) {
+        Ok(view) => print::push_view(out, alloc, view.as_ref()),
+        Err(CoreError::NoMemory) => Err(AllocError),
+        Err(error) => print::push_core_error(out, error),
+    }
+}
+
+// The value of a line, or none where it is no JSON.
+fn value_of(alloc: Global, line: &[u8]) -> Result<Option<Value>, AllocError> {
+    match Value::from_slice(alloc, line) {
+        Ok(value) => Ok(Some(value)),
+        Err(error) if error.is_memory() => Err(AllocError),
+        Err(_) => Ok(None),
+    }
+}
+
+// Does what a line asks for, and answers whether it has a form.
+fn do_line(
+    core: &mut Core,
+    alloc: Global,
+    line: &[u8],
+    out: &mut String,
+) -> Result<bool, AllocError> {
+    let Some(value) = value_of(alloc, line)? else {
+        return Ok(false);
+    };
+    let Some(form) = form::form_of(&value) else {
+        return Ok(false);
+    };
+    match task::task_of(alloc, form) {
+        Ok(Task::Step(step)) => make_step(core, alloc, step, out)?,
+        Ok(Task::View(listener)) => show_view(core, alloc, listener, out)?,
+        Err(TreeError::NoMemory) => return Err(AllocError),
+        Err(error) => print::push_tree_error(out, error)?,
+    }
+    Ok(true)
+}
+
+// The bytes before the first line feed, and those behind it.
+fn split_line<'a>(bytes: &'a [u8]) -> Option<(&'a [u8], &'a [u8])>
+    ensures { IfSome result (λ pieces. bytes.entry.now ≡ pieces.0.now ++ 10 ∷ pieces.1.now) }
+{
+    let end = bytes.iter().position(|byte| *byte == b'\n')?;
+    Some((&bytes[..end], &bytes[end + 1..]))
+}
+
+// A slice of that length to read into.
+fn room_for(alloc: Global, len: usize) -> Result<Vec<u8>, AllocError>
+    ensures { IfOk result (λ room. length room.items ≡ len) }
+{
+    vec![in alloc; 0u8; len]
+}
+
+// Reads some of the input, and answers how many bytes: none only at its end.
+fn read_some<S: Source>(reader: &mut S, chunk: &mut [u8]) -> Result<usize, ConsoleError>
+    requires bytes { S.given reader.old + length chunk.old < 2 ^ 64 }
+    requires failures { S.failures reader.old + 1 < 2 ^ 64 }
+    requires room { 0 < length chunk.old }
+    ensures fits { IfOk result (λ n. n ≤ length chunk.old) }
+    ensures given { IfOk result (λ n. S.given reader.new ≡ S.given reader.old + n) }
+    ensures none_failed { OnOk result (S.failures reader.new ≡ S.failures reader.old) }
+    ensures end { IfOk result (λ n. n ≡ 0 → IsAtEnd (S.remaining reader.new)) }
+    ensures fault { IfErr result (λ e. (e ≡ ConsoleError.ReadFault) × (S.failures reader.new ≡ S.failures reader.old + 1)) }
+{
+    match reader.read(chunk) {
+        Ok(count) => Ok(count),
+        Err(_) => Err(ConsoleError::ReadFault),
+    }
+}
+
+impl Script {
+    fn new(alloc: Global) -> Script {
+        Script {
+            alloc,
+            core: Core::new(alloc, Limits::full()),
+            line: Vec::new(alloc),
+            lines: 0,
+            bad_lines: 0,
+            printed: String::new(alloc),
+        }
+    }
+
+    // The line that is being read ends: it is done, or passed over where it is empty.
+    fn end_line(&mut self) -> Result<(), AllocError> {
+        self.lines = self.lines.saturating_add(1);
+        if self.line.is_empty() {
+            return Ok(());
+        }
+        let line = self.line.as_slice();
+        if !do_line(&mut self.core, self.alloc, line, &mut self.printed)? {
+            self.bad_lines = self.bad_lines.saturating_add(1);
+            let number = self.lines;
+            writeln!(self.printed, "bad line {number}")?;
+        }
+        self.line.clear();
+        Ok(())
+    }
+
+    // Writes what was printed.
+    fn write_out<D: Drain>(&mut self, writer: &mut D) -> Result<(), ConsoleError>
+        requires { D.failures writer.old + 1 < 2 ^ 64 }
+        ensures ok { OnOk result (D.failures writer.new ≡ D.failures writer.old) }
+        ensures fault { IfErr result (λ e. (e ≡ ConsoleError.WriteFault) × (D.failures writer.new ≡ D.failures writer.old + 1)) }
+    {
+        if self.printed.is_empty() {
+            return Ok(());
+        }
+        let outcome = writer.write(self.printed.as_bytes());
+        self.printed.clear();
+        outcome.map_err(|_| ConsoleError::WriteFault)
+    }
+
+    // The line ends, and what was printed is written once it is much.
+    fn end_line_to<D: Drain>(&mut self, writer: &mut D) -> Result<(), ConsoleError>
+        requires { D.failures writer.old + 1 < 2 ^ 64 }
+        ensures ok { OnOk result (D.failures writer.new ≡ D.failures writer.old) }
+        ensures fault { IfErr result (λ e. WriteTells e (D.failures writer.old) (D.failures writer.new)) }
+    {
+        self.end_line()?;
+        if self.printed.len() < CHUNK {
+            return Ok(());
+        }
+        self.write_out(writer)
+    }
+
+    // Takes more of the input, and writes what its lines print.
+    fn take<D: Drain>(&mut self, bytes: &[u8], writer: &mut D) -> Result<(), ConsoleError>
+        requires { D.failures writer.old + 1 < 2 ^ 64 }
+        ensures ok { OnOk result (D.failures writer.new ≡ D.failures writer.old) }
+        ensures fault { IfErr result (λ e. WriteTells e (D.failures writer.old) (D.failures writer.new)) }
+    {
+        let mut rest = bytes;
+        while let Some((end, behind)) = split_line(rest) {
+            self.line.extend_from_slice(end)?;
+            self.end_line_to(writer)?;
+            rest = behind;
+        }
+        self.line.extend_from_slice(rest)?;
+        self.write_out(writer)
+    }
+
+    // The input ends, and with it its last line.
+    fn finish<D: Drain>(&mut self, writer: &mut D) -> Result<(), ConsoleError>
+        requires { D.failures writer.old + 1 < 2 ^ 64 }
+        ensures ok { OnOk result (D.failures writer.new ≡ D.failures writer.old) }
+        ensures fault { IfErr result (λ e. WriteTells e (D.failures writer.old) (D.failures writer.new)) }
+    {
+        self.end_line()?;
+        self.write_out(writer)
+    }
+
+    // Reads to the end of the input, and does its lines.
+    fn read_all<S: Source, D: Drain>(
+        &mut self,
+        reader: &mut S,
+        writer: &mut D,
+    ) -> Result<(), ConsoleError>
+        requires bytes { S.given reader.old ≤ 2 ^ 63 }
+        requires reads { S.failures reader.old + 1 < 2 ^ 64 }
+        requires writes { D.failures writer.old + 1 < 2 ^ 64 }
+        ensures end { OnOk result (IsAtEnd (S.remaining reader.new)) }
+        ensures within { OnOk result (S.given reader.new ≤ S.given reader.old + most_input) }
+        ensures fault { IfErr result (λ e. Tells e (record { given = S.given reader.old; failed_reads = S.failures reader.old; failed_writes = D.failures writer.old }) (record { given = S.given reader.new; failed_reads = S.failures reader.new; failed_writes = D.failures writer.new })) }
+        ensures ok { OnOk result (NoneFailed (record { given = S.given reader.old; failed_reads = S.failures reader.old; failed_writes = D.failures writer.old }) (record { given = S.given reader.new; failed_reads = S.failures reader.new; failed_writes = D.failures writer.new })) }
+    {
+        let mut chunk = room_for(self.alloc, CHUNK)?;
+        let mut taken = 0;
+        while taken <= MOST_INPUT {
+            let count = read_some(reader, chunk.as_mut_slice())?;
+            if count == 0 {
+                return self.finish(writer);
+            }
+            taken += count;
+            if taken <= MOST_INPUT {
+                self.take(&chunk[..count], writer)?;
+            }
+        }
+        Err(ConsoleError::ReadFault)
+    }
+
+    // Reads to the end of the input, does its lines, and answers how many of them were bad.
+    fn run<S: Source, D: Drain>(
+        &mut self,
+        reader: &mut S,
+        writer: &mut D,
+    ) -> Result<u64, ConsoleError>
+        requires bytes { S.given reader.old ≤ 2 ^ 63 }
+        requires reads { S.failures reader.old + 1 < 2 ^ 64 }
+        requires writes { D.failures writer.old + 1 < 2 ^ 64 }
+        ensures end { OnOk result (IsAtEnd (S.remaining reader.new)) }
+        ensures within { OnOk result (S.given reader.new ≤ S.given reader.old + most_input) }
+        ensures none_failed { OnOk result ((S.failures reader.new ≡ S.failures reader.old) × (D.failures writer.new ≡ D.failures writer.old)) }
+        ensures read_fault { IsErrOf result ConsoleError.ReadFault
+            → (S.failures reader.old < S.failures reader.new) ⊎ (S.given reader.old + most_input < S.given reader.new) }
+        ensures write_fault { IsErrOf result ConsoleError.WriteFault → D.failures writer.old < D.failures writer.new }
+        ensures failed_read { S.failures reader.old < S.failures reader.new → IsErrOf result ConsoleError.ReadFault }
+        ensures never { IsErrOf result ConsoleError.BadWords → ⊥ }
+    {
+        match self.read_all(reader, writer) {
+            Ok(()) => Ok(self.bad_lines),
+            Err(error) => {
+                // What the lines before the fault printed is written, where the writer takes it.
+                if error == ConsoleError::NoMemory {
+                    let _ = self.write_out(writer);
+                }
+                Err(error)
+            }
+        }
+    }
+}
+
+/// Runs the script that a reader gives over one new core, and writes what its lines print. Answers the number of bad lines.
+///
+/// A `ReadFault` is a failure of the reader, or more than 67,108,864 bytes of input, and a `WriteFault` a failure of the writer.
+/// What is written before a fault is what the whole run would have written first.
+pub fn run_script<S: Source, D: Drain>(
+    alloc: Global,
+    reader: &mut S,
+    writer: &mut D,
+) -> Result<u64, ConsoleError>
+    requires bytes { S.given reader.old ≤ 2 ^ 63 }
+    requires reads { S.failures reader.old + 1 < 2 ^ 64 }
+    requires writes { D.failures writer.old + 1 < 2 ^ 64 }
+    ensures end { OnOk result (IsAtEnd (S.remaining reader.new)) }
+    ensures within { OnOk result (S.given reader.new ≤ S.given reader.old + most_input) }
+    ensures none_failed { OnOk result ((S.failures reader.new ≡ S.failures reader.old) × (D.failures writer.new ≡ D.failures writer.old)) }
+    ensures read_fault { IsErrOf result ConsoleError.ReadFault
+        → (S.failures reader.old < S.failures reader.new) ⊎ (S.given reader.old + most_input < S.given reader.new) }
+    ensures write_fault { IsErrOf result ConsoleError.WriteFault → D.failures writer.old < D.failures writer.new }
+    ensures failed_read { S.failures reader.old < S.failures reader.new → IsErrOf result ConsoleError.ReadFault }
+    ensures never { IsErrOf result ConsoleError.BadWords → ⊥ }
+{
+    Script::new(alloc).run(reader, writer)
+}

@@ -1,0 +1,100 @@
+// The command line.
+ghost use Rattle.std.specs.Prelude.{◌≡◌, ◌≢◌, ◌⊎◌, [], map, codes, false, IfOk, IfErr, OnOk};
+ghost use Rattle.clap.specs.Words.{app_of, fault_of, new_app, FailsBy};
+ghost use Rattle.clap.specs.declared.builder.command.Command.TheViews.{out-Command as fields_of};
+ghost use Rattle.rt_console.specs.Words.{base_app, console_app};
+
+use crate::error::ConsoleError;
+use clap::error::ErrorKind;
+use clap::{ArgMatches, Command, Error};
+use std::alloc::{AllocError, Global};
+use std::convert::AsStr;
+
+const ABOUT: &str = "Runs a Firebase Realtime Database sync client from the command line";
+
+const SCRIPT: &str =
+    "Reads lines from standard input, does what they ask of one client, and prints what each answers";
+
+const LINES: &str = "\
+Each line is a JSON array:
+  [\"connected\"]                    the connection to the server is open
+  [\"listen\",SEAT,PATH,[]]          a listener of a path; prints its number
+  [\"data\",TAG,PATH,VALUE]          the server pushes a value on the listen with that tag
+  [\"set\",SEAT,PATH,VALUE]          a write; prints its number
+  [\"view\",LISTENER]                prints what a listener shows
+A step prints 'done', 'done N' or 'stale', and then each listener's changes.
+A line that can't be made prints why: 'refused LAYER CODE NAME'.
+A line that is none of these prints 'bad line N', and the run goes on.
+Exit status: 0 done; 1 a fault, or a bad line was printed; 2 a bad command line.";
+
+/// What the command line asks for.
+#[derive(Clone, Copy, Debug, PartialEq, Eq)]
+pub enum Work {
+    /// Run the script of the standard input.
+    Script,
+}
+
+// `script`
+fn script_command<'a>(alloc: Global) -> Command<'a>
+    ensures app { app_of result ≡ new_app (codes "script") }
+    ensures local { (fields_of result).has_globals ≡ false }
+{
+    Command::new(alloc, "script")
+        .about(SCRIPT)
+        .after_help(LINES)
+}
+
+// The program, with no subcommand yet.
+fn base_command<'a>(alloc: Global) -> Command<'a>
+    ensures app { app_of result ≡ base_app }
+    ensures local { (fields_of result).has_globals ≡ false }
+{
+    Command::new(alloc, "rt_console")
+        .about(ABOUT)
+        .no_binary_name(true)
+        .subcommand_required(true)
+}
+
+// The program's command line.
+fn console_command<'a>(alloc: Global) -> Result<Command<'a>, AllocError>
+    ensures { IfOk result (λ command. app_of command ≡ console_app) }
+{
+    let command = base_command(alloc).subcommand(script_command(alloc))?;
+    Ok(command)
+}
+
+// The work that the words name. The command takes no other subcommand.
+fn work_of(_matches: &ArgMatches<'_>) -> Work {
+    Work::Script
+}
+
+/// Reads the words after the program's name, and explains where they make no command.
+pub fn command_line<'a, S: AsStr>(alloc: Global, words: &'a [S]) -> Result<Work, Error>
+    ensures { FailsBy (fault_of console_app (map S.text words.entry.now)) result }
+{
+    let command = console_command(alloc)?;
+    let matches = command.try_get_matches_from(words)?;
+    Ok(work_of(&matches))
+}
+
+/// Prints why the words make no command, or the help that they ask for, and answers the exit status.
+pub fn explain<R: Print + Eprint>(rt: &R, error: &Error) -> u8 {
+    let printed = error.print(rt);
+    if error.kind() == ErrorKind::OutOfMemory || printed.is_err() {
+        return 1;
+    }
+    if error.use_stderr() { 2 } else { 0 }
+}
+
+/// Reads the words after the program's name.
+pub fn read_words<'a>(alloc: Global, words: &'a [&'a str]) -> Result<Work, ConsoleError>
+    ensures ok { OnOk result (fault_of console_app (map (λ word. word.now) words.entry.now) ≡ []) }
+    ensures fault { IfErr result (λ e. (e ≡ ConsoleError.NoMemory)
+        ⊎ ((e ≡ ConsoleError.BadWords) × (fault_of console_app (map (λ word. word.now) words.entry.now) ≢ []))) }
+{
+    match command_line(alloc, words) {
+        Ok(work) => Ok(work),
+        Err(error) if error.kind() == ErrorKind::OutOfMemory => Err(ConsoleError::NoMemory),
+        Err(_) => Err(ConsoleError::BadWords),
+    }
+}
