@@ -198,7 +198,7 @@ unfolding data_of
 depth-data_of t = depth-data_at (levels t) t
 
 -- ---- a leaf is read back
-integer_back : (z : ℤ) → IsInRange (number z) → as_i64 (of_integer z) ≡ Some z
+pub integer_back : (z : ℤ) → IsInRange (number z) → as_i64 (of_integer z) ≡ Some z
 integer_back (pos n) h = grind (arith, common_steps)
 integer_back (negsuc n) h = refl
 

@@ -1,11 +1,14 @@
 -- Which JSON data a tree is written as.
-use Rattle.std.specs.Prelude.{ℕ, zero, suc, List, [], ◌∷◌, Option, Some, None}
+use Rattle.std.specs.Prelude.{ℕ, zero, suc, List, [], ◌∷◌, length, nat_lt, if◌then◌else◌, Option, Some, None}
 use Rattle.serde_json.specs.Data.{Data, Members, no_members, member}
 use Rattle.serde_json.specs.Data as json
 use Rattle.serde_json.specs.Find.{of_integer}
 use Rattle.rt_tree.specs.Leaf.{LeafValue, truth, number, text}
 use Rattle.rt_tree.specs.PathTree.{Key, PathTree, leaf_of, levels}
 use Rattle.rt_tree.specs.Children.{children_of}
+use Rattle.rt_tree.specs.Reading.{visits}
+use Rattle.rt_tree.specs.declared.error.TreeError.{TreeError}
+use Rattle.rt_tree.specs.declared.error.TreeError.TheVariants.{TooManyNodes}
 
 -- the data of a leaf
 abbrev pub leaf_data : LeafValue → Data
@@ -36,3 +39,11 @@ data_at (suc n) t = leaf_or (leaf_of t) (members_with (data_at n) (children_of t
 -- the data of a tree
 unfoldable pub data_of : PathTree → Data
 data_of t = data_at (levels t) t
+
+-- how many values a tree is written as: itself and all that is in it
+abbrev pub value_count : PathTree → ℕ
+value_count t = length (visits 0 None (data_of t))
+
+-- why a tree is not read back: only that it has more than 65536 values
+abbrev pub back_fault : PathTree → Option TreeError
+back_fault t = if nat_lt 65536 (value_count t) then Some TooManyNodes else None

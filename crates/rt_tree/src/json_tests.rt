@@ -1,24 +1,9 @@
 // What JSON texts are read as, and what is refused; each allocation may fail.
-use crate::{Key, Path, Tree, TreeError};
+use crate::tests::repeated;
+use crate::{Tree, TreeError};
 use serde_json::Value;
 use std::alloc::{AllocError, Global};
 use std::test::Fail;
-
-fn repeated(alloc: Global, piece: &str, count: usize) -> Result<String, AllocError> {
-    let mut text = String::new(alloc);
-    for _ in 0..count {
-        text.push_str(piece)?;
-    }
-    Ok(text)
-}
-
-fn nested(alloc: Global, count: usize) -> Result<String, AllocError> {
-    let mut text = repeated(alloc, "[", count)?;
-    for _ in 0..count {
-        text.push_str("]")?;
-    }
-    Ok(text)
-}
 
 // What a text is read as, written again.
 fn written(alloc: Global, text: &str) -> Result<String, TreeError> {
@@ -65,25 +50,21 @@ const READINGS: [(&str, &str); 24] = [
 ];
 
 #[test]
-fn tree_limits(rt: HostRuntime) -> Result<(), Fail> {
-    let alloc = rt.alloc();
-    let deepest = Path::parse(alloc, repeated(alloc, "/k", 32)?.as_str())?;
-    assert_eq!(rt; deepest.keys().len(), 32);
-    let deeper = Path::parse(alloc, repeated(alloc, "/k", 33)?.as_str());
-    assert_eq!(rt; deeper.err(), Some(TreeError::TooDeep));
-    assert!(rt; Key::parse(alloc, repeated(alloc, "k", 768)?.as_str()).is_ok());
-    let longer = Key::parse(alloc, repeated(alloc, "k", 769)?.as_str());
-    assert_eq!(rt; longer.err(), Some(TreeError::KeyTooLong));
+fn tree_limits(rt: HostRuntime) {
     for (text, wanted) in READINGS {
-        assert!(rt; answers(alloc, text, wanted)?, "at {text}");
+        assert_eq!(rt; answers(rt.alloc(), text, wanted), Ok(true), "at {text}");
     }
-    Ok(())
+}
+
+fn nested_answers(alloc: Global, count: usize, wanted: &str) -> Result<bool, TreeError> {
+    let mut text = repeated(alloc, "[", count)?;
+    text.push_str(repeated(alloc, "]", count)?.as_str())?;
+    answers(alloc, text.as_str(), wanted)
 }
 
 // Each level is looked at before what stands there; serde_json reads 127 levels.
 #[test]
-fn nested_arrays(rt: HostRuntime) -> Result<(), Fail> {
-    let alloc = rt.alloc();
+fn nested_arrays(rt: HostRuntime) {
     for (count, wanted) in [
         (33, "null"),
         (34, "TooDeep"),
@@ -93,56 +74,96 @@ fn nested_arrays(rt: HostRuntime) -> Result<(), Fail> {
         (200, "NotJson"),
         (100000, "NotJson"),
     ] {
-        let text = nested(alloc, count)?;
-        assert!(rt; answers(alloc, text.as_str(), wanted)?, "at {count}");
+        assert_eq!(rt;
+            nested_answers(rt.alloc(), count, wanted),
+            Ok(true),
+            "at {count}"
+        );
+    }
+}
+
+// How many children an array of a zero and so many more is read as.
+fn wide_children(alloc: Global, more: usize) -> Result<Option<usize>, TreeError> {
+    let mut text = String::from_str(alloc, "[0")?;
+    text.push_str(repeated(alloc, ",0", more)?.as_str())?;
+    text.push(']')?;
+    let tree = Tree::read(alloc, text.as_str())?;
+    Ok(tree.children().map(|children| children.len()))
+}
+
+// The 65,537th value is one too many, the array itself counted.
+#[test]
+fn wide_arrays(rt: HostRuntime) {
+    for (more, wanted) in [
+        (65534, Ok(Some(65535))),
+        (65535, Err(TreeError::TooManyNodes)),
+    ] {
+        assert_eq!(rt; wide_children(rt.alloc(), more), wanted);
+    }
+}
+
+// Why a text of so many bytes is not read.
+fn long_fault(alloc: Global, count: usize) -> Result<Option<TreeError>, AllocError> {
+    let mut text = repeated(alloc, "x", count)?;
+    text.insert(0, '"')?;
+    text.push('"')?;
+    Ok(Tree::read(alloc, text.as_str()).err())
+}
+
+// A text is refused above 65,536 bytes.
+#[test]
+fn long_texts(rt: HostRuntime) -> Result<(), Fail> {
+    for (count, fault) in [(65536, None), (65537, Some(TreeError::TextTooLong))] {
+        assert_eq!(rt; long_fault(rt.alloc(), count)?, fault);
     }
     Ok(())
 }
 
-// The 65,537th value is one too many, the array itself counted; a text is refused above 65,536 bytes.
-#[test]
-fn wide_and_long(rt: HostRuntime) -> Result<(), Fail> {
-    let alloc = rt.alloc();
-    for (zeros, wanted) in [(65535, true), (65536, false)] {
-        let mut text = String::from_str(alloc, "[0")?;
-        text.push_str(repeated(alloc, ",0", zeros - 1)?.as_str())?;
-        text.push_str("]")?;
-        match Tree::read(alloc, text.as_str()) {
-            Ok(tree) => {
-                assert!(rt; wanted);
-                assert_eq!(rt; tree.children().map(|all| all.len()), Some(zeros));
-            }
-            Err(fault) => {
-                assert!(rt; !wanted);
-                assert_eq!(rt; fault, TreeError::TooManyNodes);
-            }
-        }
-    }
-    for (count, wanted) in [(65536, None), (65537, Some(TreeError::TextTooLong))] {
-        let mut text = repeated(alloc, "x", count)?;
-        text.insert(0, '"')?;
-        text.push('"')?;
-        assert_eq!(rt; Tree::read(alloc, text.as_str()).err(), wanted);
-    }
-    Ok(())
+// Whether the tree of a value is written as that value again.
+fn comes_back(alloc: Global, value: &Value) -> Result<bool, TreeError> {
+    Ok(Tree::from_value(alloc, value)?.to_value(alloc)? == *value)
 }
 
 #[test]
-fn small_calls(rt: HostRuntime) -> Result<(), Fail> {
-    let alloc = rt.alloc();
-    let value = Value::from_str(alloc, "{\"b\":1}")?;
-    let tree = Tree::from_value(alloc, &value)?;
-    assert!(rt; tree.to_value(alloc)? == value);
-    assert!(rt; tree == Tree::read(alloc, " { \"b\" : 1 } ")?);
-    assert!(rt; tree != Tree::read(alloc, "{\"b\":2}")?);
-    assert!(rt; tree != Tree::read(alloc, "{\"a\":1}")?);
-    assert!(rt; tree != Tree::null());
+fn small_calls_values(rt: HostRuntime) -> Result<(), Fail> {
+    let value = Value::from_str(rt.alloc(), "{\"b\":1}")?;
+    assert_eq!(rt; comes_back(rt.alloc(), &value), Ok(true));
+    Ok(())
+}
+
+fn are_equal_readings(alloc: Global, left: &str, right: &str) -> Result<bool, TreeError> {
+    Ok(Tree::read(alloc, left)? == Tree::read(alloc, right)?)
+}
+
+#[test]
+fn small_calls_equal_trees(rt: HostRuntime) {
+    for (text, is_equal) in [
+        (" { \"b\" : 1 } ", true),
+        ("{\"b\":2}", false),
+        ("{\"a\":1}", false),
+        ("null", false),
+    ] {
+        assert_eq!(rt;
+            are_equal_readings(rt.alloc(), "{\"b\":1}", text),
+            Ok(is_equal)
+        );
+    }
+}
+
+#[test]
+fn small_calls_error_names(rt: HostRuntime) {
     assert_eq!(rt; TreeError::TooManyNodes.code(), 6);
     assert_eq!(rt; TreeError::TooManyNodes.name(), "TooManyNodes");
-    let message = TreeError::KeyTooLong.to_string(alloc)?;
+}
+
+#[test]
+fn small_calls_messages(rt: HostRuntime) -> Result<(), Fail> {
+    let message = TreeError::KeyTooLong.to_string(rt.alloc())?;
     assert_eq!(rt; message.as_str(), "a key must have at most 768 bytes");
     Ok(())
 }
+
+// ---- each allocation refused in turn
 
 const LIMITS: [(&str, &str); 6] = [
     ("[1,null,3]", "{\"0\":1,\"2\":3}"),
@@ -163,20 +184,43 @@ fn all_limits(alloc: Global) -> Result<bool, TreeError> {
     Ok(true)
 }
 
-// Where one allocation is refused, the answer is NoMemory, and the right one at the next call. A run in which none was
-// refused says so.
-#[test]
-fn refused_allocations_tree_limits(rt: HostRuntime) -> Result<(), Fail> {
-    let alloc = rt.alloc();
+// Takes so many allocations, one at a time.
+fn take(alloc: Global, count: usize) -> Result<(), AllocError> {
+    for _ in 0..count {
+        drop(String::from_str(alloc, "x")?);
+    }
+    Ok(())
+}
+
+// Whether an allocation was refused, after so many that were granted, and whether all is answered as it should be: where one
+// was refused the answer is NoMemory, and the right one at the next call.
+fn limits_after(alloc: Global, granted: usize) -> Result<(bool, bool), TreeError> {
+    take(alloc, granted)?;
     match all_limits(alloc) {
-        Ok(all) => {
-            assert!(rt; all);
-            println!(rt; "no allocation was refused")?;
-        }
-        Err(fault) => {
-            assert_eq!(rt; fault, TreeError::NoMemory);
-            assert!(rt; all_limits(alloc)?);
-        }
+        Ok(all) => Ok((false, all)),
+        Err(TreeError::NoMemory) => Ok((true, all_limits(alloc)?)),
+        Err(fault) => Err(fault),
+    }
+}
+
+// With the Nth allocation of the run refused, each of these tests refuses another one of the limits: `after_B` their (N - B)th.
+// So sixteen runs, from N = 17 on, refuse the first 32 in turn. A run in which none was refused says so.
+#[test]
+fn refused_allocations_tree_limits_after_0(rt: HostRuntime) -> Result<(), Fail> {
+    let (is_refused, all) = limits_after(rt.alloc(), 0)?;
+    assert!(rt; all);
+    if !is_refused {
+        println!(rt; "no allocation was refused")?;
+    }
+    Ok(())
+}
+
+#[test]
+fn refused_allocations_tree_limits_after_16(rt: HostRuntime) -> Result<(), Fail> {
+    let (is_refused, all) = limits_after(rt.alloc(), 16)?;
+    assert!(rt; all);
+    if !is_refused {
+        println!(rt; "no allocation was refused")?;
     }
     Ok(())
 }

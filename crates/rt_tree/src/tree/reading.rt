@@ -4,18 +4,16 @@ ghost use Rattle.std.specs.Option.{option_map};
 ghost use Rattle.std.specs.BTreeMap.{IsOrdered};
 ghost use Rattle.serde_json.specs.Read.{read};
 ghost use Rattle.serde_json.specs.View.{view, items_view, members_view};
-ghost use Rattle.rt_tree.specs.PathTree.{key_cmp, object, AllFull, AddsChild};
-ghost use Rattle.rt_tree.specs.Allowed.{IsAllowed};
+ghost use Rattle.rt_tree.specs.PathTree.{key_cmp, object, AddsChild};
 ghost use Rattle.rt_tree.specs.Reading.{tree_of_data, item_trees, member_trees, visits, item_visits, member_visits, walked, data_fault, text_fault, IsTreeData, AreTreeItems, AreTreeMembers};
 
-use super::{Node, Tree, set_child};
+use super::{Tree, set_child};
 use crate::error::TreeError;
 use crate::key::{Key, check_key, index_key, valid_key};
 use crate::leaf::{Leaf, short_text, whole_number};
 use serde_json::Value;
 use std::alloc::{AllocError, Global};
 use std::collections::BTreeMap;
-use std::sync::Arc;
 
 impl Tree {
     /// The tree that a JSON text stands for, read as RFC 8259 has it.
@@ -89,7 +87,7 @@ impl Tree {
             add_child(&mut children, key, child)?;
             place += 1;
         }
-        Tree::from_children(alloc, children)
+        Tree::object(alloc, children)
     }
 
     // The object of the members, each at its name.
@@ -104,23 +102,7 @@ impl Tree {
             let key = valid_key(alloc, name.as_str())?;
             add_child(&mut children, key, child)?;
         }
-        Tree::from_children(alloc, children)
-    }
-
-    // The object with these children; null where there are none.
-    fn from_children(alloc: Global, children: BTreeMap<Key, Tree>) -> Result<Tree, AllocError>
-        requires ordered { IsOrdered key_cmp children }
-        requires full { AllFull children.entries }
-        requires allowed { IsAllowed (object children.entries) }
-        ensures { IfOk result (λ tree. tree ≡ object children.entries) }
-    {
-        if children.is_empty() {
-            return Ok(Tree::null());
-        }
-        let children = Arc::new(alloc, children)?;
-        Ok(Tree {
-            node: Node::Object(children),
-        })
+        Tree::object(alloc, children)
     }
 }
 

@@ -7,8 +7,8 @@ ghost use Rattle.serde_json.specs.View.{view, members_view};
 ghost use Rattle.serde_json.specs.Written.{compact_text};
 ghost use Rattle.rt_tree.specs.Allowed.{IsAllowed};
 ghost use Rattle.rt_tree.specs.PathTree.{key_cmp, of_leaf};
-ghost use Rattle.rt_tree.specs.Reading.{tree_of_data, member_trees};
-ghost use Rattle.rt_tree.specs.Writing.{leaf_data, members_with, data_of};
+ghost use Rattle.rt_tree.specs.Reading.{tree_of_data, member_trees, text_fault};
+ghost use Rattle.rt_tree.specs.Writing.{leaf_data, members_with, data_of, back_fault};
 
 use super::{Node, Tree};
 use crate::key::Key;
@@ -42,6 +42,7 @@ impl Tree {
         ensures text { IfOk result (λ text. string_bytes text ≡ compact_text (data_of self.now)) }
         ensures reads_back { IfOk result (λ text. read (string_bytes text) ≡ Some (data_of self.now)) }
         ensures same_tree { IfOk result (λ _. tree_of_data (data_of self.now) ≡ self.now) }
+        ensures read_fault { IfOk result (λ text. text_fault (string_bytes text) ≡ back_fault self.now) }
     {
         let value = self.to_value(alloc)?;
         value.to_string(alloc)

@@ -32,11 +32,11 @@ of_items-loop-item-preserved t c = (
   other_items _ _ (subst AreTreeItems (item_next c.args.items.now c.loop-item.item-index c.item-item.result c.loop-item-test.true c.item-item.is) c.loop-item.invariant.2),
 )
 
-pub of_items-from_children-requires-clause-allowed : goal.of_items-from_children-requires-clause-allowed
-of_items-from_children-requires-clause-allowed t c = allowed_children _ _ _ c.loop-item.invariant.1
+pub of_items-object-requires-clause-allowed : goal.of_items-object-requires-clause-allowed
+of_items-object-requires-clause-allowed t c = allowed_children _ _ _ c.loop-item.invariant.1
 
 pub of_items-returns : goal.of_items-returns
-of_items-returns t c = IfOk-weaker c.from_children.result (λ u. u ≡ object c.loop-item.children.entries) (λ u. u ≡ object _) (λ _ p. p ∙ no_items_left _ _ c.args.items.now c.loop-item.item-index c.loop-item-test.false c.loop-item.invariant.1) c.from_children.ensures
+of_items-returns t c = IfOk-weaker c.object.result (λ u. u ≡ object c.loop-item.children.entries) (λ u. u ≡ object _) (λ _ p. p ∙ no_items_left _ _ c.args.items.now c.loop-item.item-index c.loop-item-test.false c.loop-item.invariant.1) c.object.ensures
 
 pub of_members-loop-name-init : goal.of_members-loop-name-init
 of_members-loop-name-init t c =
@@ -63,10 +63,10 @@ of_members-loop-name-preserved t c = (
   omega (arith, c.loop-name.invariant.2, ap (λ es. most the_size (values_of es)) c.in-Some.ensures.steps),
 )
 
-pub of_members-from_children-requires-clause-allowed : goal.of_members-from_children-requires-clause-allowed
-of_members-from_children-requires-clause-allowed t c = allowed_children _ _ _ c.loop-name.invariant.0
+pub of_members-object-requires-clause-allowed : goal.of_members-object-requires-clause-allowed
+of_members-object-requires-clause-allowed t c = allowed_children _ _ _ c.loop-name.invariant.0
 
 pub of_members-returns : goal.of_members-returns
 of_members-returns t c =
-    IfOk-weaker c.from_children.result (λ u. u ≡ object c.loop-name.children.entries) (λ u. u ≡ object _)
-    (λ _ p. p ∙ no_members_left _ _ c.loop-name.name-iterator c.in-None.ensures.steps.0 c.loop-name.invariant.0) c.from_children.ensures
+    IfOk-weaker c.object.result (λ u. u ≡ object c.loop-name.children.entries) (λ u. u ≡ object _)
+    (λ _ p. p ∙ no_members_left _ _ c.loop-name.name-iterator c.in-None.ensures.steps.0 c.loop-name.invariant.0) c.object.ensures
