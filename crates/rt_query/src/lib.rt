@@ -1,9 +1,11 @@
 //! Queries: a path, an order, a range and a limit; what a query shows of a tree; and which query's listen supplies which.
 #![tactic(auto)]
 
+mod bound;
 #[cfg(test)]
 mod call_tests;
 mod draft;
+mod error;
 mod examples;
 mod laws;
 mod limit;
@@ -12,6 +14,7 @@ mod row;
 mod shown;
 
 pub use draft::Draft;
+pub use error::QueryError;
 pub use examples::{bound_examples, order_examples};
 pub use laws::{equality_laws, select_laws};
 pub use limit::Limit;
