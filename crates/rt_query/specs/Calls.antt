@@ -1,5 +1,5 @@
 -- The calls on a draft: what they make of it, and when they are refused.
-use Rattle.std.specs.Prelude.{ℕ, Bool, false, ◌&&◌, List, [], ◌∷◌, ◌==◌, Option, Some, None, is_some, is_none, unwrap_or, option_map}
+use Rattle.std.specs.Prelude.{ℕ, Bool, false, ◌&&◌, List, [], ◌∷◌, ◌==◌, Option, Some, is_some, is_none, unwrap_or, option_map}
 use Rattle.std.specs.List.{find}
 use Rattle.std.specs.Option.{option_map_or}
 use Rattle.rt_tree.specs.Key.{key_fault}

@@ -15,8 +15,8 @@ mod shown;
 
 pub use draft::Draft;
 pub use error::QueryError;
-pub use examples::{bound_examples, order_examples};
-pub use laws::{equality_laws, select_laws};
+pub use examples::{bound_examples, order_examples, refusal_examples};
+pub use laws::{bound_laws, equality_laws, select_laws};
 pub use limit::Limit;
 pub use query::Query;
 pub use row::Row;
