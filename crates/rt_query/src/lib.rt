@@ -11,6 +11,8 @@ mod laws;
 mod limit;
 mod query;
 mod row;
+#[cfg(test)]
+mod row_tests;
 mod shown;
 
 pub use draft::Draft;
