@@ -4,6 +4,7 @@
 mod bound;
 #[cfg(test)]
 mod call_tests;
+mod child;
 mod draft;
 mod error;
 mod examples;
