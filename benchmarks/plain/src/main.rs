@@ -1,5 +1,6 @@
 //! The work of `rt_bench` in plain Rust: nested maps whose nodes are shared.
 mod json;
+mod select;
 
 use std::collections::BTreeMap;
 use std::sync::Arc;
@@ -108,7 +109,7 @@ fn json_text() -> String {
     text
 }
 
-fn report(name: &str, start: Instant) {
+pub fn report(name: &str, start: Instant) {
     eprintln!("time {name} {}", start.elapsed().as_micros());
 }
 
@@ -153,8 +154,43 @@ fn round() {
     println!("written {}", written.len());
 }
 
+// A text of 10 MB: the JSON of 200 objects of 299 texts of some 150 bytes, 60,001 values.
+fn large_text() -> String {
+    let fill = "It is a truth universally acknowledged, that a single man in possession of a good fortune, must be in want of a wife. However little known. ";
+    let mut text = String::from("{");
+    for room in 0..200 {
+        text.push_str(if room == 0 { "" } else { "," });
+        text.push_str(&format!("\"room{room}\":{{"));
+        for seat in 0..299 {
+            text.push_str(if seat == 0 { "" } else { "," });
+            text.push_str(&format!("\"seat{seat}\":\"{fill}{}\"", room * 299 + seat));
+        }
+        text.push('}');
+    }
+    text.push('}');
+    text
+}
+
+fn read_large(text: &str) {
+    let start = Instant::now();
+    let tree = json::read(text).unwrap();
+    report("read_large", start);
+    println!("levels {}", tree.levels());
+}
+
 fn main() {
     for _ in 0..ROUNDS {
         round();
+    }
+    let numbers = select::children(false);
+    let objects = select::children(true);
+    for _ in 0..ROUNDS {
+        select::queries(&numbers, &objects);
+    }
+    let text = large_text();
+    println!("bytes {}", text.len());
+    for _ in 0..ROUNDS {
+        read_large(&text);
+        println!("object true");
     }
 }

@@ -1,3 +1,4 @@
+pub mod BoundLaws
 pub mod ObjectLaws
 pub mod RowLaws
 pub mod SelectLaws

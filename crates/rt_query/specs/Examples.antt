@@ -2,19 +2,36 @@
 use Rattle.std.specs.Prelude.{◌≡◌, ℕ, false, true, List, [], ◌∷◌, map, pos, negsuc, Option, Some, None, codes}
 use Rattle.rt_tree.specs.Leaf.{truth, number, text}
 use Rattle.rt_tree.specs.PathTree.{Key, PathTree, of_leaf, object}
-use Rattle.rt_order.specs.declared.index.Index.{Index}
 use Rattle.rt_order.specs.declared.index.Index.TheVariants as index
+use Rattle.rt_order.specs.declared.cut.Mark.{Mark}
 use Rattle.rt_order.specs.declared.cut.Mark.TheVariants as mark
-use Rattle.rt_order.specs.declared.cut.Place.{Place}
-use Rattle.rt_order.specs.declared.cut.Place.TheVariants.{Min, Before, After, Max}
-use Rattle.rt_order.specs.declared.cut.Cut.{Cut}
-use Rattle.rt_query.specs.declared.limit.Limit.{Limit}
+use Rattle.rt_query.specs.declared.error.QueryError.TheVariants.{OrderTwice, StartTwice, EndTwice, LimitTwice, LimitZero, NeedsText, KeyNotAllowed, NoOrder, BadBoundKey}
 use Rattle.rt_query.specs.declared.limit.Limit.TheVariants.{First, Last}
+use Rattle.rt_query.specs.Bounds.{Bound, start_at, start_after, end_at, end_before, equal_to}
+use Rattle.rt_query.specs.Calls.{ordered_by, order_refusal, limited_to, limit_refusal, bounded_by, bound_refusal}
+use Rattle.rt_query.specs.Drafts.{Draft, new_draft, finished}
 use Rattle.rt_query.specs.Select.{select}
 
--- the keys that a query of the root shows, in order
-abbrev pub keys_shown : Index → Option Cut → Option Cut → Option Limit → PathTree → List Key
-keys_shown by lower upper limit t = map (λ row. row.key) ((select (record { path = []; index = by; range = record { lower = lower; upper = upper }; limit = limit }) t).rows)
+-- drafts of the root: without an order, in key order, in value order
+abbrev pub fresh : Draft
+fresh = new_draft []
+
+abbrev pub by_key : Draft
+by_key = ordered_by index.Key fresh
+
+abbrev pub by_value : Draft
+by_value = ordered_by index.Value fresh
+
+-- a number and a text to bound by
+abbrev pub numbered : ℕ → Mark
+numbered n = mark.Leaf (number (pos n))
+
+abbrev pub worded : List ℕ → Mark
+worded bytes = mark.Leaf (text bytes)
+
+-- the keys that a draft's query shows, in order
+abbrev pub keys_shown : Draft → PathTree → List Key
+keys_shown d t = map (λ row. row.key) ((select (finished d) t).rows)
 
 -- keys of one letter
 abbrev pub letters : List ℕ → List Key
@@ -34,52 +51,80 @@ mixed = object (
     ∷ (codes "e", with_v (of_leaf (truth true))) ∷ (codes "f", with_v (of_leaf (truth false))) ∷ (codes "g", of_leaf (number (pos 1))) ∷ [])
 
 abbrev pub ByChild : Type 0
-ByChild = keys_shown (index.Child (codes "v" ∷ [])) None None None mixed ≡ letters (codes "gfedcba")
+ByChild = keys_shown (ordered_by (index.Child (codes "v" ∷ [])) fresh) mixed ≡ letters (codes "gfedcba")
 
--- ---- cuts among equal values
+-- ---- bounds among equal values
 
 -- {"j":5,"k":5,"l":5,"m":5}
 abbrev pub fives : PathTree
 fives = object (map (λ k. (k, of_leaf (number (pos 5)))) (letters (codes "jklm")))
 
--- a cut of the number 5
-abbrev pub at_five : Place → Option Cut
-at_five place = Some (record { value = mark.Leaf (number (pos 5)); place = place })
+-- the children by value that a bound at 5 shows
+abbrev pub among_fives : Bound → Option Key → List Key
+among_fives b key = keys_shown (bounded_by b (numbered 5) key by_value) fives
 
--- the children by value, from a cut on
-abbrev pub from_five : Place → Option Limit → List Key
-from_five place limit = keys_shown index.Value (at_five place) None limit fives
-
--- up to a cut
-abbrev pub to_five : Place → List Key
-to_five place = keys_shown index.Value None (at_five place) None fives
-
--- {startAt: 5} and {startAfter: 5}; with the key "k" besides
+-- startAt(5) and startAfter(5); with the key "k" besides
 abbrev pub StartsAtValue : Type 0
-StartsAtValue = from_five Min None ≡ letters (codes "jklm")
+StartsAtValue = among_fives start_at None ≡ letters (codes "jklm")
 
 abbrev pub StartsAfterValue : Type 0
-StartsAfterValue = from_five Max None ≡ []
+StartsAfterValue = among_fives start_after None ≡ []
 
 abbrev pub StartsAtKey : Type 0
-StartsAtKey = from_five (Before (codes "k")) None ≡ letters (codes "klm")
+StartsAtKey = among_fives start_at (Some (codes "k")) ≡ letters (codes "klm")
 
 abbrev pub StartsAfterKey : Type 0
-StartsAfterKey = from_five (After (codes "k")) None ≡ letters (codes "lm")
+StartsAfterKey = among_fives start_after (Some (codes "k")) ≡ letters (codes "lm")
 
--- {endAt: 5, "k"}, {endBefore: 5, "k"} and {equalTo: 5, "k"}
+-- endAt(5,"k"), endBefore(5,"k") and equalTo(5,"k")
 abbrev pub EndsAtKey : Type 0
-EndsAtKey = to_five (After (codes "k")) ≡ letters (codes "jk")
+EndsAtKey = among_fives end_at (Some (codes "k")) ≡ letters (codes "jk")
 
 abbrev pub EndsBeforeKey : Type 0
-EndsBeforeKey = to_five (Before (codes "k")) ≡ letters (codes "j")
+EndsBeforeKey = among_fives end_before (Some (codes "k")) ≡ letters (codes "j")
 
 abbrev pub EqualsKey : Type 0
-EqualsKey = keys_shown index.Value (at_five (Before (codes "k"))) (at_five (After (codes "k"))) None fives ≡ letters (codes "k")
+EqualsKey = among_fives equal_to (Some (codes "k")) ≡ letters (codes "k")
 
--- {startAt: 5, limitToLast: 2} and {startAt: 5, limitToFirst: 2}
+-- startAt(5) with limitToLast(2), and with limitToFirst(2)
 abbrev pub LastTwo : Type 0
-LastTwo = from_five Min (Some (Last 2)) ≡ letters (codes "lm")
+LastTwo = keys_shown (limited_to (Last 2) (bounded_by start_at (numbered 5) None by_value)) fives ≡ letters (codes "lm")
 
 abbrev pub FirstTwo : Type 0
-FirstTwo = from_five Min (Some (First 2)) ≡ letters (codes "jk")
+FirstTwo = keys_shown (limited_to (First 2) (bounded_by start_at (numbered 5) None by_value)) fives ≡ letters (codes "jk")
+
+-- startAt("b") in key order over {"a":1,"b":2,"10":3}
+abbrev pub StartsAtText : Type 0
+StartsAtText =
+    keys_shown (bounded_by start_at (worded (codes "b")) None by_key) (object (
+    (codes "10", of_leaf (number (pos 3))) ∷ (codes "a", of_leaf (number (pos 1))) ∷ (codes "b", of_leaf (number (pos 2))) ∷ []))
+    ≡ letters (codes "b")
+
+-- ---- refusals
+
+-- an order, and a limit, after another, and a limit of 0
+abbrev pub GivenTwice : Type 0
+GivenTwice =
+    order_refusal by_key ∷ limit_refusal 1 (limited_to (First 1) fresh) ∷ limit_refusal 0 fresh ∷ []
+    ≡ Some OrderTwice ∷ Some LimitTwice ∷ Some LimitZero ∷ []
+
+-- startAfter(2) after startAt(1); equalTo(1) after startAt(1); endAt(2) after equalTo(1); startAt(1) without an order
+abbrev pub BoundTwice : Type 0
+BoundTwice =
+    bound_refusal start_after (numbered 2) None (bounded_by start_at (numbered 1) None by_value)
+    ∷ bound_refusal equal_to (numbered 1) None (bounded_by start_at (numbered 1) None by_value)
+    ∷ bound_refusal end_at (numbered 2) None (bounded_by equal_to (numbered 1) None by_value)
+    ∷ bound_refusal start_at (numbered 1) None fresh
+    ∷ []
+    ≡ Some StartTwice ∷ Some StartTwice ∷ Some EndTwice ∷ Some NoOrder ∷ []
+
+-- in key order startAt(5), startAt("a","k"), startAt("a.b") and startAt("b"); in value order startAt(1,"a.b")
+abbrev pub BadlyNamed : Type 0
+BadlyNamed =
+    bound_refusal start_at (numbered 5) None by_key
+    ∷ bound_refusal start_at (worded (codes "a")) (Some (codes "k")) by_key
+    ∷ bound_refusal start_at (worded (codes "a.b")) None by_key
+    ∷ bound_refusal start_at (worded (codes "b")) None by_key
+    ∷ bound_refusal start_at (numbered 1) (Some (codes "a.b")) by_value
+    ∷ []
+    ≡ Some NeedsText ∷ Some KeyNotAllowed ∷ Some BadBoundKey ∷ None ∷ Some BadBoundKey ∷ []

@@ -1,4 +1,7 @@
+pub mod Bounds
+pub mod Calls
 pub mod Drafts
+pub mod Errors
 pub mod Examples
 pub mod Laws
 pub mod Queries

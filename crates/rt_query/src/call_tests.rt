@@ -38,10 +38,16 @@ fn small_calls(rt: HostRuntime) -> Result<(), Fail> {
     Ok(())
 }
 
+fn by_value(alloc: Global) -> Result<Query, Fail> {
+    let mut draft = Query::at(Path::parse(alloc, "/a")?);
+    draft.order_by_value()?;
+    Ok(draft.done())
+}
+
 #[test]
-fn plain_is_its_form(rt: HostRuntime) -> Result<(), Fail> {
-    let query = plain(rt.alloc())?;
-    assert!(rt; query.listening_form()? == query);
+fn unfiltered_is_listened_to_as_plain(rt: HostRuntime) -> Result<(), Fail> {
+    let form = by_value(rt.alloc())?.listening_form()?;
+    assert!(rt; form == plain(rt.alloc())?);
     Ok(())
 }
 

@@ -1,14 +1,27 @@
 // A query that is being made.
-ghost use Rattle.std.specs.Prelude.{◌≡◌};
+ghost use Rattle.std.specs.Prelude.{◌≡◌, ◌⊎◌, IfOk, IfErr, IfSome, OnOk, OnErr, IsSome, Some, None, is_some, option_copied};
+ghost use Rattle.std.specs.Result.{result_err};
+ghost use Rattle.rt_order.specs.declared.index.Index.TheVariants as index;
+ghost use Rattle.rt_query.specs.Bounds.{start_at, start_after, end_at, end_before, equal_to, named};
+ghost use Rattle.rt_query.specs.Calls.{ordered_by, order_refusal, limited_to, limit_refusal, order_of, bounded_by, bound_refusal};
 ghost use Rattle.rt_query.specs.Drafts.{new_draft, finished};
+ghost use Rattle.rt_query.specs.declared.limit.Limit.TheVariants.{First, Last};
 
+use crate::bound::Named;
+use crate::error::QueryError;
 use crate::limit::Limit;
 use crate::query::Query;
-use rt_order::{Index, Range};
+use rt_order::{Index, Mark, Range};
 use rt_tree::Path;
 use std::marker::Model;
 
-/// A query that is being made: `Query::at` begins one, `done` ends it.
+/// A query that is being made: `Query::at` begins one, its calls say what is asked for, and `done` ends it.
+///
+/// An order is named before a bound. A start is set by `start_at`, `start_after` or `equal_to`, an end by `end_at`,
+/// `end_before` or `equal_to`, each once; and so is a limit. A refused call changes nothing.
+///
+/// A bound names a value, and perhaps a key among the children of that value. In key order it is given a text and no key,
+/// and names the child of that key.
 #[derive(Drop)]
 pub struct Draft {
     path: Path,
@@ -40,6 +53,152 @@ impl Draft {
         }
     }
 
+    /// In the order of the children's keys. `OrderTwice` where an order is named already.
+    pub fn order_by_key(&mut self) -> Result<(), QueryError>
+        ensures made { OnOk result (self.new ≡ ordered_by index.Key self.old) }
+        ensures refused { result_err result ≡ order_refusal self.old }
+        ensures unchanged { OnErr result (self.new ≡ self.old) }
+    {
+        self.order_by(Index::Key)
+    }
+
+    /// In the order of what stands at a path below each child; of a child's own value at the root path. `OrderTwice` where
+    /// an order is named already.
+    pub fn order_by_child(&mut self, path: Path) -> Result<(), QueryError>
+        ensures made { OnOk result (self.new ≡ ordered_by (index.Child path) self.old) }
+        ensures refused { result_err result ≡ order_refusal self.old }
+        ensures unchanged { OnErr result (self.new ≡ self.old) }
+    {
+        self.order_by(Index::Child(path))
+    }
+
+    /// In the order of the children's values. `OrderTwice` where an order is named already.
+    pub fn order_by_value(&mut self) -> Result<(), QueryError>
+        ensures made { OnOk result (self.new ≡ ordered_by index.Value self.old) }
+        ensures refused { result_err result ≡ order_refusal self.old }
+        ensures unchanged { OnErr result (self.new ≡ self.old) }
+    {
+        self.order_by(Index::Value)
+    }
+
+    fn order_by(&mut self, index: Index) -> Result<(), QueryError>
+        ensures made { OnOk result (self.new ≡ ordered_by index self.old) }
+        ensures refused { result_err result ≡ order_refusal self.old }
+        ensures unchanged { OnErr result (self.new ≡ self.old) }
+    {
+        if self.index.is_some() {
+            return Err(QueryError::OrderTwice);
+        }
+        self.index = Some(index);
+        Ok(())
+    }
+
+    /// From the value on; with a key, from that key among the children of the value on.
+    ///
+    /// Refused as NoOrder, StartTwice, NeedsText, KeyNotAllowed or BadBoundKey, looked at in this order. Takes memory where
+    /// a key is named.
+    pub fn start_at(&mut self, value: Mark, key: Option<&str>) -> Result<(), QueryError>
+        ensures made { OnOk result (self.new ≡ bounded_by start_at value (option_copied key.entry) self.old) }
+        ensures refused { IfSome (bound_refusal start_at value (option_copied key.entry) self.old) (λ e. result ≡ Err e) }
+        ensures errors { IfErr result (λ e. (bound_refusal start_at value (option_copied key.entry) self.old ≡ Some e)
+            ⊎ (e ≡ QueryError.NoMemory) × IsSome (named (order_of self.old) value (option_copied key.entry)).key) }
+        ensures unchanged { OnErr result (self.new ≡ self.old) }
+    {
+        let named = self.new_start(value, key)?;
+        self.range.lower = Some(named.below());
+        Ok(())
+    }
+
+    /// After the value; with a key, after that key among the children of the value. Refused as [`Draft::start_at`] is.
+    pub fn start_after(&mut self, value: Mark, key: Option<&str>) -> Result<(), QueryError>
+        ensures made { OnOk result (self.new ≡ bounded_by start_after value (option_copied key.entry) self.old) }
+        ensures refused { IfSome (bound_refusal start_after value (option_copied key.entry) self.old) (λ e. result ≡ Err e) }
+        ensures errors { IfErr result (λ e. (bound_refusal start_after value (option_copied key.entry) self.old ≡ Some e)
+            ⊎ (e ≡ QueryError.NoMemory) × IsSome (named (order_of self.old) value (option_copied key.entry)).key) }
+        ensures unchanged { OnErr result (self.new ≡ self.old) }
+    {
+        let named = self.new_start(value, key)?;
+        self.range.lower = Some(named.above());
+        Ok(())
+    }
+
+    /// To the value; with a key, to that key among the children of the value.
+    ///
+    /// Refused as NoOrder, EndTwice, NeedsText, KeyNotAllowed or BadBoundKey, looked at in this order. Takes memory where a
+    /// key is named.
+    pub fn end_at(&mut self, value: Mark, key: Option<&str>) -> Result<(), QueryError>
+        ensures made { OnOk result (self.new ≡ bounded_by end_at value (option_copied key.entry) self.old) }
+        ensures refused { IfSome (bound_refusal end_at value (option_copied key.entry) self.old) (λ e. result ≡ Err e) }
+        ensures errors { IfErr result (λ e. (bound_refusal end_at value (option_copied key.entry) self.old ≡ Some e)
+            ⊎ (e ≡ QueryError.NoMemory) × IsSome (named (order_of self.old) value (option_copied key.entry)).key) }
+        ensures unchanged { OnErr result (self.new ≡ self.old) }
+    {
+        let named = self.new_end(value, key)?;
+        self.range.upper = Some(named.above());
+        Ok(())
+    }
+
+    /// To before the value; with a key, to before that key among the children of the value. Refused as [`Draft::end_at`] is.
+    pub fn end_before(&mut self, value: Mark, key: Option<&str>) -> Result<(), QueryError>
+        ensures made { OnOk result (self.new ≡ bounded_by end_before value (option_copied key.entry) self.old) }
+        ensures refused { IfSome (bound_refusal end_before value (option_copied key.entry) self.old) (λ e. result ≡ Err e) }
+        ensures errors { IfErr result (λ e. (bound_refusal end_before value (option_copied key.entry) self.old ≡ Some e)
+            ⊎ (e ≡ QueryError.NoMemory) × IsSome (named (order_of self.old) value (option_copied key.entry)).key) }
+        ensures unchanged { OnErr result (self.new ≡ self.old) }
+    {
+        let named = self.new_end(value, key)?;
+        self.range.upper = Some(named.below());
+        Ok(())
+    }
+
+    /// The children of the value alone; with a key, of these the one of that key. Sets the start and the end.
+    ///
+    /// Refused as NoOrder, StartTwice, EndTwice, NeedsText, KeyNotAllowed or BadBoundKey, looked at in this order.
+    pub fn equal_to(&mut self, value: Mark, key: Option<&str>) -> Result<(), QueryError>
+        ensures made { OnOk result (self.new ≡ bounded_by equal_to value (option_copied key.entry) self.old) }
+        ensures refused { IfSome (bound_refusal equal_to value (option_copied key.entry) self.old) (λ e. result ≡ Err e) }
+        ensures errors { IfErr result (λ e. (bound_refusal equal_to value (option_copied key.entry) self.old ≡ Some e) ⊎ (e ≡ QueryError.NoMemory)) }
+        ensures unchanged { OnErr result (self.new ≡ self.old) }
+    {
+        let alloc = self.path.allocator();
+        let index = self.order()?;
+        if self.range.lower.is_some() {
+            return Err(QueryError::StartTwice);
+        }
+        if self.range.upper.is_some() {
+            return Err(QueryError::EndTwice);
+        }
+        let named = Named::read(alloc, index, value, key)?;
+        let lower = named.copy(alloc)?.below();
+        self.range = Range {
+            lower: Some(lower),
+            upper: Some(named.above()),
+        };
+        Ok(())
+    }
+
+    /// At most the first `n` children. `LimitTwice` where there is a limit already, then `LimitZero` for 0.
+    pub fn limit_to_first(&mut self, n: u32) -> Result<(), QueryError>
+        ensures made { OnOk result (self.new ≡ limited_to (First n) self.old) }
+        ensures refused { result_err result ≡ limit_refusal n self.old }
+        ensures unchanged { OnErr result (self.new ≡ self.old) }
+    {
+        self.check_limit(n)?;
+        self.limit = Some(Limit::First(n));
+        Ok(())
+    }
+
+    /// At most the last `n` children, in the same order. Refused as [`Draft::limit_to_first`] is.
+    pub fn limit_to_last(&mut self, n: u32) -> Result<(), QueryError>
+        ensures made { OnOk result (self.new ≡ limited_to (Last n) self.old) }
+        ensures refused { result_err result ≡ limit_refusal n self.old }
+        ensures unchanged { OnErr result (self.new ≡ self.old) }
+    {
+        self.check_limit(n)?;
+        self.limit = Some(Limit::Last(n));
+        Ok(())
+    }
+
     /// The query; in key order, where no order was named.
     pub fn done(self) -> Query
         ensures { result ≡ finished self }
@@ -50,5 +209,54 @@ impl Draft {
             range: self.range,
             limit: self.limit,
         }
+    }
+
+    // The order, which a bound wants.
+    fn order(&self) -> Result<&Index, QueryError>
+        ensures ok { IfOk result (λ index. self.now.index ≡ Some index.now) }
+        ensures err { IfErr result (λ e. (e ≡ QueryError.NoOrder) × (self.now.index ≡ None)) }
+    {
+        self.index.as_ref().ok_or(QueryError::NoOrder)
+    }
+
+    // What a start names, where there is none yet.
+    fn new_start(&self, value: Mark, key: Option<&str>) -> Result<Named, QueryError>
+        ensures ok { IfOk result (λ n. n ≡ named (order_of self.now) value (option_copied key.entry)) }
+        ensures refused { IfSome (bound_refusal start_at value (option_copied key.entry) self.now) (λ e. result ≡ Err e) }
+        ensures errors { IfErr result (λ e. (bound_refusal start_at value (option_copied key.entry) self.now ≡ Some e)
+            ⊎ (e ≡ QueryError.NoMemory) × IsSome (named (order_of self.now) value (option_copied key.entry)).key) }
+    {
+        let index = self.order()?;
+        if self.range.lower.is_some() {
+            return Err(QueryError::StartTwice);
+        }
+        Named::read(self.path.allocator(), index, value, key)
+    }
+
+    // What an end names, where there is none yet.
+    fn new_end(&self, value: Mark, key: Option<&str>) -> Result<Named, QueryError>
+        ensures ok { IfOk result (λ n. n ≡ named (order_of self.now) value (option_copied key.entry)) }
+        ensures refused { IfSome (bound_refusal end_at value (option_copied key.entry) self.now) (λ e. result ≡ Err e) }
+        ensures errors { IfErr result (λ e. (bound_refusal end_at value (option_copied key.entry) self.now ≡ Some e)
+            ⊎ (e ≡ QueryError.NoMemory) × IsSome (named (order_of self.now) value (option_copied key.entry)).key) }
+    {
+        let index = self.order()?;
+        if self.range.upper.is_some() {
+            return Err(QueryError::EndTwice);
+        }
+        Named::read(self.path.allocator(), index, value, key)
+    }
+
+    // A limit is given once, and not 0.
+    fn check_limit(&self, n: u32) -> Result<(), QueryError>
+        ensures { result_err result ≡ limit_refusal n self.now }
+    {
+        if self.limit.is_some() {
+            return Err(QueryError::LimitTwice);
+        }
+        if n == 0 {
+            return Err(QueryError::LimitZero);
+        }
+        Ok(())
     }
 }

@@ -1,19 +1,25 @@
 //! Queries: a path, an order, a range and a limit; what a query shows of a tree; and which query's listen supplies which.
 #![tactic(auto)]
 
+mod bound;
 #[cfg(test)]
 mod call_tests;
+mod child;
 mod draft;
+mod error;
 mod examples;
 mod laws;
 mod limit;
 mod query;
 mod row;
+#[cfg(test)]
+mod row_tests;
 mod shown;
 
 pub use draft::Draft;
-pub use examples::{bound_examples, order_examples};
-pub use laws::{equality_laws, select_laws};
+pub use error::QueryError;
+pub use examples::{bound_examples, order_examples, refusal_examples};
+pub use laws::{bound_laws, equality_laws, select_laws};
 pub use limit::Limit;
 pub use query::Query;
 pub use row::Row;

@@ -1,17 +1,18 @@
 // A query.
-ghost use Rattle.std.specs.Prelude.{◌≡◌, IfOk};
+ghost use Rattle.std.specs.Prelude.{◌≡◌, IfOk, map};
 ghost use Rattle.rt_tree.specs.Allowed.{IsAllowed};
 ghost use Rattle.rt_tree.specs.PathTree.{leaf_of};
 ghost use Rattle.rt_tree.specs.Children.{children_of};
 ghost use Rattle.rt_query.specs.Queries.{is_filtered};
 ghost use Rattle.rt_query.specs.Drafts.{new_draft};
 ghost use Rattle.rt_query.specs.Select.{select, rows_of};
-ghost use Rattle.rt_query.specs.Sorting.{in_range};
+ghost use Rattle.rt_query.specs.Sorting.{in_range, seen};
 ghost use Rattle.rt_query.specs.Supply.{form};
 
+use crate::child::{self, Child};
 use crate::draft::Draft;
 use crate::limit::{Limit, cut};
-use crate::row::{Row, object_of, sort};
+use crate::row::{Row, object_of};
 use crate::shown::Shown;
 use rt_order::{Index, Range};
 use rt_tree::{Key, Leaf, Path, Tree};
@@ -109,7 +110,8 @@ impl Query {
     /// What the query shows of a tree, as the Firebase reference has it: the children in the range, in order, and of these the
     /// first or the last n. Of a leaf it shows no rows, and the leaf itself only where the query is not filtered.
     ///
-    /// The tree's children are shared. Each is looked at once, and those in the range are sorted once.
+    /// The tree's children are shared. Each is looked at once, those in the range are sorted once where they stand, and rows
+    /// are made only of those that are shown.
     pub fn select(&self, tree: &Tree) -> Result<Shown, AllocError>
         ensures { IfOk result (λ shown. shown ≡ select self.now tree.now) }
     {
@@ -132,26 +134,26 @@ impl Query {
         let Some(children) = tree.children() else {
             return Ok(Vec::new(self.path.allocator()));
         };
-        let mut rows = self.rows_in_range(children)?;
-        sort(&self.index, &mut rows);
-        cut(self.limit, &mut rows);
-        Ok(rows)
+        let mut children = self.children_in_range(children)?;
+        child::sort(&mut children);
+        cut(self.limit, &mut children);
+        child::rows(self.path.allocator(), children.as_slice())
     }
 
     // The children in the range, in the order of their keys' bytes.
-    fn rows_in_range(&self, children: &BTreeMap<Key, Tree>) -> Result<Vec<Row>, AllocError>
-        ensures { IfOk result (λ rows. rows.items ≡ in_range self.now children.now.entries) }
+    fn children_in_range<'a>(
+        &self,
+        children: &'a BTreeMap<Key, Tree>,
+    ) -> Result<Vec<Child<'a>>, AllocError>
+        ensures { IfOk result (λ found. map seen found.items ≡ in_range self.now children.now.entries) }
     {
-        let alloc = self.path.allocator();
-        let mut rows = Vec::new(alloc);
-        for (key, value) in children {
-            if self.range.has(&self.index, key, value) {
-                let key = key.copy()?;
-                let value = value.copy(alloc)?;
-                rows.push(Row { key, value })?;
+        let mut found = Vec::with_capacity(self.path.allocator(), children.len())?;
+        for (key, tree) in children {
+            if self.range.has(&self.index, key, tree) {
+                found.push(Child::of(&self.index, key, tree))?;
             }
         }
-        Ok(rows)
+        Ok(found)
     }
 }
 

@@ -1,17 +1,13 @@
 // A child as a query shows it.
 ghost use Rattle.std.specs.Prelude.{◌≡◌, IfOk, OnOk, cond, Some};
 ghost use Rattle.std.specs.BTreeMap.{IsOrdered};
-ghost use Rattle.std.specs.List.Sorted.{IsPermutation, IsSorted};
 ghost use Rattle.rt_tree.specs.Allowed.{IsAllowed};
 ghost use Rattle.rt_tree.specs.PathTree.{Key as KeyValue, key_cmp, key_eq, child_of, object};
 ghost use Rattle.rt_query.specs.Rows.{HasDistinctKeys, HasNoNull, row_at};
 ghost use Rattle.rt_query.specs.Select.{as_children};
-ghost use Rattle.rt_query.specs.Sorting.{row_cmp};
 
-use rt_order::{Index, entry_cmp};
 use rt_tree::{Key, Tree};
 use std::alloc::{AllocError, Global};
-use std::cmp::Ordering;
 use std::collections::BTreeMap;
 
 /// A child and its key, as a query shows them.
@@ -52,22 +48,6 @@ impl Eq for Row {
     ghost use Rattle.rt_tree.specs.TreeEq.{equivalence};
 
     ghost laws = { equivalence row_eq_tells };
-}
-
-// The order of rows: by sort value, then by key.
-#[tactic(auto, unfolding(crate::specs::Sorting::row_cmp))]
-fn row_cmp(index: &Index, a: &Row, b: &Row) -> Ordering
-    ensures { result ≡ row_cmp index.now a.now b.now }
-{
-    entry_cmp(index, (&a.key, &a.value), (&b.key, &b.value))
-}
-
-// Puts rows in order.
-pub(crate) fn sort(index: &Index, rows: &mut Vec<Row>)
-    ensures permutation { IsPermutation rows.old.items rows.new.items }
-    ensures sorted { IsSorted (row_cmp index.now) rows.new.items }
-{
-    rows.sort_unstable_by(|a, b| row_cmp(index, a, b));
 }
 
 // Equal rows.
