@@ -1,5 +1,5 @@
 -- The changes between two views, and their replay.
-use Rattle.std.specs.Prelude.{◌≡◌, Bool, not, false, if◌then◌else◌, List, [], ◌∷◌, ◌++◌, map, Option, Some, None, is_some}
+use Rattle.std.specs.Prelude.{◌≡◌, ◌<◌, ℕ, Bool, not, false, if◌then◌else◌, List, [], ◌∷◌, ◌++◌, length, take, map, Option, Some, None, is_some}
 use Rattle.std.specs.List.{filter, fold}
 use Rattle.std.specs.Option.{option_map_or}
 use Rattle.std.specs.Ordering.{is_eq}
@@ -68,6 +68,10 @@ after_change children (Value value) = children
 abbrev pub replay : List Change → List (Key × PathTree) → List (Key × PathTree)
 replay cs children = fold after_change children cs
 
+-- some first changes were played, and not all
+abbrev pub PlaysSome : List Change → List (Key × PathTree) → List (Key × PathTree) → Type 0
+PlaysSome cs before after = (n : ℕ) × (n < length cs) × (after ≡ replay (take n cs) before)
+
 -- the rows by their keys, in order of bytes
 abbrev pub by_keys : List Row → List (Key × PathTree)
 by_keys [] = []
@@ -90,3 +94,7 @@ pub record Turns (old : Option Shown) (batch : List Change) (new : Option Shown)
   pub rows : replay batch (by_keys (rows_in old)) ≡ by_keys (rows_in new)
   pub last : (c : Change) → last_change batch ≡ Some c → (shown : Shown) × (new ≡ Some shown) × (c ≡ Value (tree_of shown))
   pub same : batch ≡ [] → new ≡ old
+
+-- children that were the old rows are the new ones, whatever views the changes turn into one another
+abbrev pub TurnsRows : List Change → List (Key × PathTree) → List (Key × PathTree) → Type 0
+TurnsRows batch before after = (old new : Option Shown) → Turns old batch new → before ≡ by_keys (rows_in old) → after ≡ by_keys (rows_in new)
