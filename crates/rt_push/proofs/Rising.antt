@@ -1,5 +1,5 @@
 -- Ids rise.
-use Rattle.std.proofs.Common.{◌≡◌, ℕ, zero, suc, ◌+◌, ◌*◌, ◌/◌, ◌%◌, ◌^◌, ◌<◌, Bool, true, false, not, ◌&&◌, if◌then◌else◌, nat_lt, List, [], ◌∷◌, ◌++◌, length, Option, Some, None, inl, inr, refl, ap, sym, subst, ◌∙◌, arith}
+use Rattle.std.proofs.Common.{◌≡◌, ℕ, zero, suc, ◌+◌, ◌*◌, ◌/◌, ◌%◌, ◌^◌, ◌<◌, Bool, true, false, not, ◌&&◌, if◌then◌else◌, nat_lt, List, [], ◌∷◌, ◌++◌, map, length, Option, Some, None, inl, inr, refl, ap, sym, subst, ◌∙◌, arith}
 use Rattle.std.specs.Option.{is_some}
 use Rattle.std.specs.List.{AllByRecursion, list_all}
 use Rattle.std.specs.List.Sorted.{IsStrictlySortedBy}
@@ -13,7 +13,7 @@ use Rattle.std.proofs.lemmas.Bool.{cases_lt, ltb-true}
 use Rattle.std.proofs.lemmas.Cmp.{nat_list_cmp_total}
 use Rattle.rt_push.specs.Digits.{digit_byte, is_digit, number, text}
 use Rattle.rt_push.specs.PushIds.{Stamp, push_fault, push_id, used}
-use Rattle.rt_push.specs.Laws.{Call, ids}
+use Rattle.rt_push.specs.Laws.{Call, ids, stamps}
 use Rattle.rt_push.specs.declared.error.PushError.{PushError}
 use Rattle.rt_push.specs.declared.error.PushError.TheVariants.{Exhausted, MomentTooLarge, RandomOutOfRange}
 use Rattle.rt_push.proofs.DigitLaws.{and-first, and-second, text-suc, length-text}
@@ -130,7 +130,7 @@ abbrev Rise : Option Stamp → List (List ℕ) → Type 0
 Rise last ys = AllByRecursion (Above last) ys × IsStrictlySortedBy (slice_cmp nat_cmp) ys
 
 rise_more : (last : Option Stamp) (call : Call) (calls : List Call) (fault : Option PushError) → push_fault last call.0 call.1 ≡ fault → ((l : Option Stamp) → Rise l (ids l calls)) →
-    Rise last (if is_some fault then ids last calls else push_id (used last call.0 (number call.1)) ∷ ids (Some (used last call.0 (number call.1))) calls)
+    let stamp = used last call.0 (number call.1) in Rise last (map push_id (if is_some fault then stamps last calls else stamp ∷ stamps (Some stamp) calls))
 unfolding IsStrictlySortedBy
 rise_more last call calls (Some e) f rest = rest last
 rise_more last call calls None f rest =

@@ -1,3 +1,4 @@
+pub mod Children
 pub mod Placed
 pub mod ReplayLaws
 pub mod TurnLaws

@@ -1,4 +1,5 @@
 pub mod Changes
 pub mod Examples
 pub mod Given
+pub mod Kinds
 pub mod Laws

@@ -1,19 +1,23 @@
 //! The changes from one view to the next, and their replay.
 #![tactic(auto)]
 
+mod apply;
 mod batch;
 mod change;
 mod change_list;
 mod compare;
 mod examples;
 mod kind;
+mod kinds;
 mod laws;
 #[cfg(test)]
 mod tests;
 
+pub use apply::apply_changes;
 pub use batch::Batch;
 pub use change::Change;
 pub use change_list::ChangeList;
 pub use compare::changes;
-pub use examples::{order_examples, plain_examples, window_examples};
+pub use examples::{kind_examples, order_examples, plain_examples, window_examples};
+pub use kinds::{Kinds, of_kinds};
 pub use laws::{replay_laws, turn_laws};

@@ -1,0 +1,8 @@
+//! What the orders and the push ids are together: the keys that push ids are.
+#![tactic(auto)]
+
+mod laws;
+#[cfg(test)]
+mod tests;
+
+pub use laws::{ids_are_keys, keys_rise, push_key_examples};
