@@ -1,1 +1,4 @@
+pub mod AtChild
+pub mod Lists
 pub mod OverlayLaws
+pub mod PartLaws

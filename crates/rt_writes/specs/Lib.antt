@@ -1,2 +1,4 @@
+pub mod Errors
+pub mod Kept
 pub mod Laws
 pub mod Writes
