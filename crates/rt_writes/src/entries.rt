@@ -6,7 +6,7 @@ ghost use Rattle.rt_tree.specs.Assignments.{is_at_or_above, do_overlap, have_ove
 ghost use Rattle.rt_writes.specs.Writes.{IsShallow, overlaid};
 
 use crate::parts::{copy_part, keys_below, path_of};
-use rt_tree::{Key, Path, Tree};
+use rt_tree::{Key, Path, Tree, TreeError};
 use std::alloc::{AllocError, Global};
 use std::marker::Model;
 
@@ -96,8 +96,10 @@ impl Entries {
         path: &Path,
         tree: Tree,
     ) -> Result<Tree, AllocError>
-        requires { All IsShallow self.now }
+        requires tree { IsShallow (path.now, tree) }
+        requires entries { All IsShallow self.now }
         ensures overlaid { IfOk result (λ after. after ≡ fold (overlaid path.now) tree self.now) }
+        ensures shallow { IfOk result (λ after. IsShallow (path.now, after)) }
         ensures touched { OnErr result (list_any (λ a. do_overlap a.0 path.now) self.now ≡ true) }
     {
         let mut after = tree;
@@ -132,7 +134,8 @@ fn is_at_or_above_child(at: &Path, path: &Path, key: &Key) -> bool
     }
 }
 
-// The tree at `path` after an entry at `at`: one at or above the path gives its part, one below is put.
+// The tree at `path` after an entry at `at`: one at or above the path gives its part, one below is put. No leaf is too
+// deep, so only memory can refuse.
 fn overlaid(
     alloc: Global,
     path: &Path,
@@ -140,8 +143,10 @@ fn overlaid(
     at: &Path,
     entry: &Tree,
 ) -> Result<Tree, AllocError>
-    requires { IsShallow (at.now, entry.now) }
+    requires tree { IsShallow (path.now, tree) }
+    requires entry { IsShallow (at.now, entry.now) }
     ensures overlaid { IfOk result (λ after. after ≡ overlaid path.now tree (at.now, entry.now)) }
+    ensures shallow { IfOk result (λ after. IsShallow (path.now, after)) }
     ensures touched { OnErr result (do_overlap at.now path.now ≡ true) }
 {
     if let Some(rest) = keys_below(at, path) {
@@ -153,7 +158,9 @@ fn overlaid(
     let rest = path_of(alloc, rest)?;
     let entry = entry.copy(alloc)?;
     let mut after = tree;
-    // No leaf of an entry is too deep, so only memory can refuse.
-    after.put(alloc, &rest, entry).map_err(|_| AllocError)?;
-    Ok(after)
+    match after.put(alloc, &rest, entry) {
+        Ok(()) => Ok(after),
+        Err(TreeError::NoMemory) => Err(AllocError),
+        Err(_) => unreachable!(),
+    }
 }

@@ -5,9 +5,12 @@
 
 mod entries;
 mod error;
+pub mod examples;
 mod laws;
 mod parts;
 mod pending;
+#[cfg(test)]
+mod tests;
 mod write;
 
 pub use entries::{Entries, is_shallow};

@@ -1,14 +1,15 @@
 // Keys below paths, and parts of trees.
-ghost use Rattle.std.specs.Prelude.{◌≡◌, ◌≤◌, length, IfOk};
+ghost use Rattle.std.specs.Prelude.{◌≡◌, ◌≤◌, length, IfOk, IfSome};
 ghost use Rattle.std.specs.Option.{option_copied};
 ghost use Rattle.rt_tree.specs.PathTree.{strip, sub, non_null};
 
-use rt_tree::{Key, Path, Tree};
+use rt_tree::{Key, Path, Tree, TreeError};
 use std::alloc::{AllocError, Global};
 
 // What follows `above` in the keys of `path`, where it is at or above it.
 pub(crate) fn keys_below<'a>(above: &Path, path: &'a Path) -> Option<&'a [Key]>
-    ensures { option_copied result ≡ strip above.now path.now }
+    ensures rest { option_copied result ≡ strip above.now path.now }
+    ensures short { IfSome result (λ rest. length rest.now ≤ 32) }
 {
     if !above.is_prefix_of(path) {
         return None;
@@ -17,13 +18,18 @@ pub(crate) fn keys_below<'a>(above: &Path, path: &'a Path) -> Option<&'a [Key]>
     Some(rest)
 }
 
-// The path of these keys.
+// The path of these keys. They are not too many, so only memory can refuse.
 pub(crate) fn path_of(alloc: Global, keys: &[Key]) -> Result<Path, AllocError>
+    requires { length keys.now ≤ 32 }
     ensures { IfOk result (λ path. path ≡ keys.now) }
 {
     let mut path = Path::root(alloc);
     for key in keys {
-        path = path.child(key).map_err(|_| AllocError)?;
+        path = match path.child(key) {
+            Ok(path) => path,
+            Err(TreeError::NoMemory) => return Err(AllocError),
+            Err(_) => unreachable!(),
+        };
     }
     Ok(path)
 }

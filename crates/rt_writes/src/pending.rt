@@ -116,6 +116,7 @@ impl Pending {
     pub fn overlay(&self, path: &Path, tree: Tree) -> Result<Tree, AllocError>
         requires { IsShallow (path.now, tree) }
         ensures overlay { IfOk result (λ after. after ≡ overlay path.now tree self.now) }
+        ensures shallow { IfOk result (λ after. IsShallow (path.now, after)) }
         ensures touched { OnErr result (touches self.now path.now ≡ true) }
     {
         let alloc = *self.writes.allocator();

@@ -9,7 +9,7 @@ split_at-requires c =
     let fits = strip_fits c.args.above.now c.args.path.now above in
     omega (arith, fits, ap length c.keys.ensures.keys, ap length c.keys-2.ensures.keys)
 
-pub returns : goal.returns
-returns c =
+pub returns-clause-rest : goal.returns-clause-rest
+returns-clause-rest c =
     let above : is_some (strip c.args.above.now c.args.path.now) ≡ true = search rules in
     ap Some (c.split_at.ensures.back ∙ (λ i. drop (length (c.keys-2.ensures.keys i)) (c.keys.ensures.keys i))) ∙ strip_drop c.args.above.now c.args.path.now above
