@@ -19,7 +19,7 @@ shallow-below p e r t u s fits h =
   where
     at : (q : Path) (l : LeafValue) (o : Option Path) → strip r q ≡ o → after_put o (leaf_at u) (not (is_null u) && is_some (strip q r)) (leaf_at t q) ≡ Some l → length q < 33 - length p
     at q l None is f =
-        let deep : length q < levels t = length_lt_levels t q l (shown _ _ l f) in
+        let deep : length q < levels t = length_lt_levels t q l (shown (not (is_null u) && is_some (strip q r)) (leaf_at t q) l f) in
         omega arith
     at q l (Some x) is f =
         let deep : length x < levels u = length_lt_levels u x l f in

@@ -2,10 +2,13 @@
 use Rattle.std.specs.Prelude.{ℕ, ◌+◌, ◌≤◌, Bool, not, List, [], ◌∷◌, ◌++◌, length, ◌==◌, Option, Some, None}
 use Rattle.std.specs.List.{fold, filter, find, flat_map, list_any}
 use Rattle.std.specs.Option.{option_map}
+use Rattle.rt_writes.specs.declared.write.Write as declared
 use Rattle.rt_tree.specs.PathTree.{Key, Path, strip, PathTree, sub, put, levels}
 use Rattle.rt_tree.specs.Assignments.{is_at_or_above, do_overlap, Assignment}
--- a write under its number
-pub use Rattle.rt_writes.specs.declared.write.Write.{Write}
+
+-- a write: its number `id` and its `entries`, in order, as the code declares it
+abbrev pub Write : Type 0
+Write = declared.Write
 
 -- the entries of the writes, one after another
 abbrev pub assignments : List Write → List Assignment
