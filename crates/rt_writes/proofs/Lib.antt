@@ -1,1 +1,5 @@
+pub mod AtChild
+pub mod Lists
 pub mod OverlayLaws
+pub mod PartLaws
+pub mod Shallow

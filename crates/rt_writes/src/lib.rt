@@ -1,9 +1,19 @@
-//! Pending writes and what they lay over a tree: the definitions and their laws.
+//! Pending writes: sets, updates and removals that show before the server has settled them.
+//!
+//! A contract sees [`Pending`] as the list of its writes, each a number and its entries in order (`specs/Writes.antt`).
 #![tactic(auto)]
 
-ghost use Rattle.rt_writes.specs.Laws.{OverlayOfPart};
+mod entries;
+mod error;
+pub mod examples;
+mod laws;
+mod parts;
+mod pending;
+#[cfg(test)]
+mod tests;
+mod write;
 
-/// Each part of an overlaid tree is the overlay of that part.
-pub fn overlay_law()
-    ensures { OverlayOfPart }
-{}
+pub use entries::{Entries, is_shallow};
+pub use error::WriteError;
+pub use laws::overlay_law;
+pub use pending::Pending;

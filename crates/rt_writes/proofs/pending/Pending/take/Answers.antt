@@ -1,0 +1,29 @@
+use Rattle.std.proofs.Common.{◌≡◌, Some, ap, sym, ◌∙◌, rules}
+use Rattle.std.specs.Prelude.{◌==◌}
+use Rattle.std.specs.List.{position}
+use Rattle.std.specs.Option.{option_map}
+use Rattle.std.proofs.lemmas.List.Quantifiers.{position-Some}
+use Rattle.rt_writes.specs.Writes.{entries_of, without}
+use Rattle.rt_writes.proofs.Lists.{find-position, find-no_position, filter-not_found, remove-without}
+use Rattle.rt_writes.proofs.pending.Pending.take.Goals as goal
+
+pub returns-in_default-clause-taken : goal.returns-in_default-clause-taken
+returns-in_default-clause-taken c = sym (ap (option_map (λ w. w.entries)) (find-no_position (λ w. w.id == c.args.id) c.args.self.now (sym c.in_default.ensures)))
+
+pub returns-in_default-clause-rest : goal.returns-in_default-clause-rest
+returns-in_default-clause-rest c = filter-not_found (λ w. w.id == c.args.id) c.args.self.now (find-no_position (λ w. w.id == c.args.id) c.args.self.now (sym c.in_default.ensures))
+
+pub returns-clause-taken : goal.returns-clause-taken
+returns-clause-taken c =
+    let writes = c.self.inside.writes.items in
+    let at : position (λ w. w.id == c.args.id) writes ≡ Some c.in-Some.place = search rules in
+    ap Some (c.into_vec.ensures ∙ ap (λ w. w.entries) c.remove-write.ensures.value)
+    ∙ sym (ap (option_map (λ w. w.entries)) (find-position (λ w. w.id == c.args.id) writes c.in-Some.place c.remove-write.result at))
+    ∙ ap (entries_of c.args.id) c.self.view_is
+
+pub returns-clause-rest : goal.returns-clause-rest
+returns-clause-rest c =
+    let writes = c.self.inside.writes.items in
+    let at : position (λ w. w.id == c.args.id) writes ≡ Some c.in-Some.place = search rules in
+    let within = (position-Some (λ w. w.id == c.args.id) writes c.in-Some.place c.remove-write.result at).0 in
+    c.remove-write.ensures.items ∙ remove-without c.args.id writes c.in-Some.place within c.self.invariant.rises at ∙ ap (without c.args.id) c.self.view_is

@@ -1,0 +1,166 @@
+// The entries of a write.
+ghost use Rattle.std.specs.Prelude.{◌≡◌, ◌↔◌, ◌+◌, ◌≤◌, ◌∷◌, [], ◌++◌, ◌||◌, length, IfOk, OnErr, IsTrue, true};
+ghost use Rattle.std.specs.List.{All, fold, list_any};
+ghost use Rattle.rt_tree.specs.PathTree.{levels};
+ghost use Rattle.rt_tree.specs.Assignments.{is_at_or_above, do_overlap, have_overlap};
+ghost use Rattle.rt_writes.specs.Writes.{IsShallow, overlaid};
+
+use crate::parts::{copy_part, keys_below, path_of};
+use rt_tree::{Key, Path, Tree, TreeError};
+use std::alloc::{AllocError, Global};
+use std::marker::Model;
+
+/// Trees set at paths, in order: what a write sets, or a push brings.
+#[derive(Debug, Drop)]
+pub struct Entries {
+    items: Vec<(Path, Tree)>,
+}
+
+impl Model for Entries {
+    ghost use Rattle.std.specs.Prelude.{List};
+    ghost use Rattle.rt_tree.specs.Assignments.{Assignment};
+
+    ghost Value = { List Assignment };
+
+    ghost view = { λ a. a.items.items };
+}
+
+impl Entries {
+    /// The entries of the list, as they are.
+    pub fn of(items: Vec<(Path, Tree)>) -> Entries
+        ensures { result ≡ items.items }
+    {
+        Entries { items }
+    }
+
+    /// The entries, in order.
+    pub fn as_slice(&self) -> &[(Path, Tree)]
+        ensures { result.now ≡ self.now }
+    {
+        self.items.as_slice()
+    }
+
+    /// The list of the entries.
+    pub fn into_vec(self) -> Vec<(Path, Tree)>
+        ensures { result.items ≡ self }
+    {
+        self.items
+    }
+
+    /// Equal entries. Their keys and trees are shared.
+    pub fn copy(&self) -> Result<Entries, AllocError>
+        ensures { IfOk result (λ entries. entries ≡ self.now) }
+    {
+        let alloc = *self.items.allocator();
+        let mut items = Vec::new(alloc);
+        for (path, tree) in &self.items {
+            items.push((path.copy()?, tree.copy(alloc)?))?;
+        }
+        Ok(Entries { items })
+    }
+
+    /// Whether of two entries one is at or above the other. Compares each with each.
+    pub fn have_overlap(&self) -> bool
+        ensures { result ≡ have_overlap self.now }
+    {
+        let mut rest = self.items.as_slice();
+        while let Some((first, others)) = rest.split_first() {
+            if others.iter().any(|other| do_overlap(&first.0, &other.0)) {
+                return true;
+            }
+            rest = others;
+        }
+        false
+    }
+
+    // Whether an entry sits at or above the path.
+    pub(crate) fn set_whole(&self, path: &Path) -> bool
+        ensures { result ≡ list_any (λ a. is_at_or_above a.0 path.now) self.now }
+    {
+        self.items.iter().any(|entry| entry.0.is_prefix_of(path))
+    }
+
+    // Whether an entry sits at or above the child's path.
+    pub(crate) fn set_child_whole(&self, path: &Path, key: &Key) -> bool
+        ensures { result ≡ list_any (λ a. is_at_or_above a.0 (path.now ++ key.now ∷ [])) self.now }
+    {
+        self.items
+            .iter()
+            .any(|entry| is_at_or_above_child(&entry.0, path, key))
+    }
+
+    // The tree at `path` after each entry, in order.
+    pub(crate) fn overlaid(
+        &self,
+        alloc: Global,
+        path: &Path,
+        tree: Tree,
+    ) -> Result<Tree, AllocError>
+        requires tree { IsShallow (path.now, tree) }
+        requires entries { All IsShallow self.now }
+        ensures overlaid { IfOk result (λ after. after ≡ fold (overlaid path.now) tree self.now) }
+        ensures shallow { IfOk result (λ after. IsShallow (path.now, after)) }
+        ensures touched { OnErr result (list_any (λ a. do_overlap a.0 path.now) self.now ≡ true) }
+    {
+        let mut after = tree;
+        for (at, entry) in &self.items {
+            after = overlaid(alloc, path, after, at, entry)?;
+        }
+        Ok(after)
+    }
+}
+
+/// Whether path and tree together have at most 32 levels of keys: what a write asks of each entry.
+pub fn is_shallow(path: &Path, tree: &Tree) -> bool
+    ensures { IsTrue result ↔ IsShallow (path.now, tree.now) }
+{
+    path.keys().len() + tree.levels() <= 33
+}
+
+// Whether one of the two is at or above the other.
+fn do_overlap(left: &Path, right: &Path) -> bool
+    ensures { result ≡ do_overlap left.now right.now }
+{
+    left.is_prefix_of(right) || right.is_prefix_of(left)
+}
+
+// Whether `at` is at or above the child's path.
+fn is_at_or_above_child(at: &Path, path: &Path, key: &Key) -> bool
+    ensures { result ≡ is_at_or_above at.now (path.now ++ key.now ∷ []) }
+{
+    match at.keys().split_last() {
+        Some((last, above)) if last == key && above == path.keys() => true,
+        _ => at.is_prefix_of(path),
+    }
+}
+
+// The tree at `path` after an entry at `at`: one at or above the path gives its part, one below is put. No leaf is too
+// deep, so only memory can refuse.
+fn overlaid(
+    alloc: Global,
+    path: &Path,
+    tree: Tree,
+    at: &Path,
+    entry: &Tree,
+) -> Result<Tree, AllocError>
+    requires tree { IsShallow (path.now, tree) }
+    requires entry { IsShallow (at.now, entry.now) }
+    ensures overlaid { IfOk result (λ after. after ≡ overlaid path.now tree (at.now, entry.now)) }
+    ensures shallow { IfOk result (λ after. IsShallow (path.now, after)) }
+    ensures touched { OnErr result (do_overlap at.now path.now ≡ true) }
+{
+    if let Some(rest) = keys_below(at, path) {
+        return copy_part(alloc, entry, rest);
+    }
+    let Some(rest) = keys_below(path, at) else {
+        return Ok(tree);
+    };
+    let rest = path_of(alloc, rest)?;
+    let entry = entry.copy(alloc)?;
+    let mut after = tree;
+    match after.put(alloc, &rest, entry) {
+        Ok(()) => Ok(after),
+        Err(TreeError::NoMemory) => Err(AllocError),
+        Err(_) => unreachable!(),
+    }
+}

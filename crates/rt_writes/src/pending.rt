@@ -1,0 +1,147 @@
+// The writes that the server has not settled.
+ghost use Rattle.std.specs.Prelude.{◌≡◌, ◌==◌, ◌↔◌, ◌<◌, ◌∷◌, [], ◌++◌, length, true, IfOk, OnOk, OnErr, IsTrue, IsOk, Ok, Err, None};
+ghost use Rattle.std.specs.Option.{option_map};
+ghost use Rattle.std.specs.List.{All, position};
+ghost use Rattle.rt_tree.specs.Assignments.{have_overlap};
+ghost use Rattle.rt_writes.specs.Kept.{IsKept};
+ghost use Rattle.rt_writes.specs.Writes.{IsShallow, overlay, touches, sets_whole, sets_child_whole, entries_of, without};
+
+use crate::entries::Entries;
+use crate::error::WriteError;
+use crate::write::Write;
+use rt_tree::{Key, Path, Tree};
+use std::alloc::{AllocError, Global};
+use std::marker::Model;
+
+/// Pending writes, in order of number. What they set shows over what the server has sent, until each is settled.
+#[derive(Debug, Drop)]
+pub struct Pending {
+    writes: Vec<Write>,
+}
+
+impl Model for Pending {
+    ghost use Rattle.std.specs.Prelude.{List};
+    ghost use Rattle.rt_writes.specs.Writes.{Write};
+    ghost use Rattle.rt_writes.specs.Kept.{IsKept};
+
+    ghost Value = { List Write };
+
+    ghost view = { λ a. a.writes.items };
+
+    ghost invariant = { λ a. IsKept a.writes.items };
+}
+
+impl Pending {
+    /// No pending write.
+    pub fn new(alloc: Global) -> Pending
+        ensures { result ≡ [] }
+    {
+        Pending {
+            writes: Vec::new(alloc),
+        }
+    }
+
+    /// How many writes are pending.
+    pub fn len(&self) -> usize
+        ensures len { result ≡ length self.now }
+        ensures kept { IsKept self.now }
+    {
+        self.writes.len()
+    }
+
+    /// Whether no write is pending.
+    pub fn is_empty(&self) -> bool
+        ensures { IsTrue result ↔ (self.now ≡ []) }
+    {
+        self.writes.is_empty()
+    }
+
+    /// Whether the number is above those of all pending writes, which [`Pending::add`] asks of a new one.
+    pub fn is_above_all(&self, id: u64) -> bool
+        ensures { IsTrue result ↔ All (λ w. w.id < id) self.now }
+    {
+        match self.writes.last() {
+            Some(last) => last.id < id,
+            None => true,
+        }
+    }
+
+    /// Adds a write, which lies over all earlier ones. [`is_shallow`](crate::is_shallow) tests what is asked of each entry.
+    ///
+    /// `Overlap` is looked at before `EmptyUpdate`. Compares the entries each with each.
+    pub fn add(&mut self, id: u64, entries: Vec<(Path, Tree)>) -> Result<(), WriteError>
+        requires above { All (λ w. w.id < id) self.old }
+        requires shallow { All IsShallow entries.items }
+        ensures ok { OnOk result (self.new ≡ self.old ++ record { id = id; entries = entries.items } ∷ []) }
+        ensures unchanged { OnErr result (self.new ≡ self.old) }
+        ensures overlap { (result ≡ Err WriteError.Overlap) ↔ (have_overlap entries.items ≡ true) }
+        ensures empty { (result ≡ Err WriteError.EmptyUpdate) ↔ (entries.items ≡ []) }
+    {
+        let entries = Entries::of(entries);
+        if entries.have_overlap() {
+            return Err(WriteError::Overlap);
+        }
+        if entries.as_slice().is_empty() {
+            return Err(WriteError::EmptyUpdate);
+        }
+        self.writes.push(Write { id, entries })?;
+        Ok(())
+    }
+
+    // Where the write of that number stands.
+    fn place(&self, id: u64) -> Option<usize>
+        ensures { result ≡ position (λ w. w.id == id) self.now }
+    {
+        self.writes.iter().position(|write| write.id == id)
+    }
+
+    /// Takes out the write of that number, accepted or refused, and gives its entries back; none where it is not pending.
+    pub fn take(&mut self, id: u64) -> Result<Option<Vec<(Path, Tree)>>, AllocError>
+        ensures taken { IfOk result (λ taken. option_map (λ v. v.items) taken ≡ entries_of id self.old) }
+        ensures rest { OnOk result (self.new ≡ without id self.old) }
+        ensures unchanged { OnErr result (self.new ≡ self.old) }
+        ensures absent { entries_of id self.old ≡ None → IsOk result }
+    {
+        let Some(place) = self.place(id) else {
+            return Ok(None);
+        };
+        let write = self.writes.remove(place);
+        Ok(Some(write.entries.into_vec()))
+    }
+
+    /// The tree at the path as the pending writes make it: each entry of each write in order, one at or above the path
+    /// gives its part, one below is put, others do nothing.
+    ///
+    /// The tree is changed in place. Where no entry touches the path it comes back as it is, whatever memory is left.
+    pub fn overlay(&self, path: &Path, tree: Tree) -> Result<Tree, AllocError>
+        requires { IsShallow (path.now, tree) }
+        ensures overlay { IfOk result (λ after. after ≡ overlay path.now tree self.now) }
+        ensures shallow { IfOk result (λ after. IsShallow (path.now, after)) }
+        ensures touched { OnErr result (touches self.now path.now ≡ true) }
+    {
+        let alloc = *self.writes.allocator();
+        let mut after = tree;
+        for write in &self.writes {
+            after = write.entries.overlaid(alloc, path, after)?;
+        }
+        Ok(after)
+    }
+
+    /// Whether a pending write sets the whole of what stands at the path: an entry sits at or above it.
+    pub fn sets_whole(&self, path: &Path) -> bool
+        ensures { result ≡ sets_whole self.now path.now }
+    {
+        self.writes
+            .iter()
+            .any(|write| write.entries.set_whole(path))
+    }
+
+    /// The same of the child of that key, also where its path would have more than 32 keys.
+    pub fn sets_child_whole(&self, path: &Path, key: &Key) -> bool
+        ensures { result ≡ sets_child_whole self.now path.now key.now }
+    {
+        self.writes
+            .iter()
+            .any(|write| write.entries.set_child_whole(path, key))
+    }
+}
