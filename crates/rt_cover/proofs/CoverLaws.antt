@@ -176,7 +176,7 @@ suppliers_fewer registered are g r in_g in_r h other =
     back own is false e = e
 
 -- whether another form supplies f
-abbrev is_covered : List Query → Query → Bool
+abbrev pub is_covered : List Query → Query → Bool
 is_covered registered f = list_any (λ g. not (query_eq g f) && does_supply g f) registered
 
 -- each form is supplied by a needed one: go up while it is covered

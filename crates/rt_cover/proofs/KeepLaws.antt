@@ -25,7 +25,7 @@ Contains-map f [] k x lt e = absurd (omega arith)
 Contains-map f (y ∷ xs) zero x lt e = (0, omega arith, ap f e)
 Contains-map f (y ∷ xs) (suc k) x lt e = let m = Contains-map f xs k x (omega arith) e in (suc m.0, omega (arith, m.1), m.2)
 
-length_of_map : {X Y : Type 0} (f : X → Y) (xs : List X) → length (map f xs) ≡ length xs
+pub length_of_map : {X Y : Type 0} (f : X → Y) (xs : List X) → length (map f xs) ≡ length xs
 length_of_map f [] = refl
 length_of_map f (x ∷ xs) = ap suc (length_of_map f xs)
 
@@ -61,7 +61,7 @@ forms_are ls = All-distinct IsForm (map (λ l. form l.1) ls) (All-map IsForm (λ
 forms_of : List Tagged → List Query
 forms_of kept = map (λ k. k.form) kept
 
-forms-started : (n : ℕ) (fs : List Query) → map (λ (k : Tagged). k.form) (map (λ (x : ℕ × Query). record { tag = x.0; form = x.1 }) (enumerate_from n fs)) ≡ fs
+pub forms-started : (n : ℕ) (fs : List Query) → map (λ (k : Tagged). k.form) (map (λ (x : ℕ × Query). record { tag = x.0; form = x.1 }) (enumerate_from n fs)) ≡ fs
 forms-started n [] = refl
 forms-started n (f ∷ fs) = ap (λ z. f ∷ z) (forms-started (n + 1) fs)
 

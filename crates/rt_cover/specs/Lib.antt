@@ -1,2 +1,6 @@
 pub mod Cover
+pub mod Errors
 pub mod Laws
+pub mod Runs
+pub mod Sound
+pub mod State

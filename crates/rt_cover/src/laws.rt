@@ -1,5 +1,6 @@
 // The laws of the cover.
 ghost use Rattle.rt_cover.specs.Laws.{NeededAreFewest, KeptHaveForms, NeededStay, TagsStayApart};
+ghost use Rattle.rt_cover.specs.Runs.{EveryRunIsSound};
 
 /// Of any forms the needed ones are the fewest that supply all.
 pub fn needed_law()
@@ -11,4 +12,10 @@ pub fn kept_law()
     ensures forms { KeptHaveForms }
     ensures stay { NeededStay }
     ensures tags { TagsStayApart }
+{}
+
+/// After any changes of a new cover, of which refused ones change nothing, the listens are the fewest, each certified, and
+/// the tags that were given are 1, 2, 3 and so on.
+pub fn run_law()
+    ensures { EveryRunIsSound }
 {}

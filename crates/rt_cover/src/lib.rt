@@ -1,6 +1,23 @@
-//! The listens kept: the definitions of the fewest listens, and their laws.
+//! The listens kept: the fewest registered queries that together supply every listener, with their tags.
 #![tactic(auto)]
 
+mod cover;
+mod delta;
+mod error;
+mod forms;
+mod kept;
 mod laws;
+mod listen;
+mod listener;
+mod numbers;
+mod plan;
+mod supply;
+#[cfg(test)]
+mod tests;
 
-pub use laws::{kept_law, needed_law};
+pub use cover::Cover;
+pub use delta::{Delta, Revoked};
+pub use error::CoverError;
+pub use kept::{Kept, KeptList};
+pub use laws::{kept_law, needed_law, run_law};
+pub use numbers::Numbers;

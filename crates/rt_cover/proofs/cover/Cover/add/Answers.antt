@@ -1,0 +1,33 @@
+use Rattle.std.proofs.Common.{◌≡◌, ◌<◌, ◌⊎◌, Some, None, sym, subst, ◌∙◌, IfOk, IfErr, OnOk}
+use Rattle.std.specs.List.{AllPairs}
+use Rattle.rt_cover.specs.declared.error.CoverError.TheVariants.{NoMemory}
+use Rattle.rt_cover.specs.Cover.{Registered}
+use Rattle.rt_cover.specs.State.{Cover, with_listener, with_listeners, fault_of, difference}
+use Rattle.rt_cover.specs.Sound.{IsSound}
+use Rattle.rt_cover.proofs.SoundLaws.{with_listener_rises}
+use Rattle.rt_cover.proofs.cover.Cover.add.Goals as goal
+
+pub change-requires : goal.change-requires
+change-requires c =
+    let old : Cover = c.args.self.now in
+    let sound : IsSound old = subst IsSound c.self.view_is c.self.invariant in
+    let e : c.in_ok-listeners.listeners.items ≡ with_listener old.listeners c.args.listener c.args.query = c.in_ok-listeners.ensures ∙ (λ i. with_listener ((c.deref.ensures.value ∙ (λ j. (c.self.view_is j).listeners)) i) c.args.listener c.args.query) in
+    subst (AllPairs (λ (l m : Registered). l.0 < m.0)) (sym e) (with_listener_rises old.listeners c.args.listener c.args.query sound.listeners)
+
+pub returns-clause-delta : goal.returns-clause-delta
+returns-clause-delta c =
+    let old : Cover = c.args.self.now in
+    let e : c.in_ok-listeners.listeners.items ≡ with_listener old.listeners c.args.listener c.args.query = c.in_ok-listeners.ensures ∙ (λ i. with_listener ((c.deref.ensures.value ∙ (λ j. (c.self.view_is j).listeners)) i) c.args.listener c.args.query) in
+    subst (λ ls. IfOk c.change.result (λ d. d ≡ difference old (with_listeners old ls))) e c.change.ensures.delta
+
+pub returns-clause-taken : goal.returns-clause-taken
+returns-clause-taken c =
+    let old : Cover = c.args.self.now in
+    let e : c.in_ok-listeners.listeners.items ≡ with_listener old.listeners c.args.listener c.args.query = c.in_ok-listeners.ensures ∙ (λ i. with_listener ((c.deref.ensures.value ∙ (λ j. (c.self.view_is j).listeners)) i) c.args.listener c.args.query) in
+    subst (λ ls. OnOk c.change.result (fault_of old ls ≡ None)) e c.change.ensures.taken
+
+pub returns-clause-fault : goal.returns-clause-fault
+returns-clause-fault c =
+    let old : Cover = c.args.self.now in
+    let e : c.in_ok-listeners.listeners.items ≡ with_listener old.listeners c.args.listener c.args.query = c.in_ok-listeners.ensures ∙ (λ i. with_listener ((c.deref.ensures.value ∙ (λ j. (c.self.view_is j).listeners)) i) c.args.listener c.args.query) in
+    subst (λ ls. IfErr c.change.result (λ r. (fault_of old ls ≡ Some r) ⊎ (r ≡ NoMemory))) e c.change.ensures.fault

@@ -1,0 +1,32 @@
+use Rattle.std.proofs.Common.{◌≡◌, ◌<◌, ◌==◌, ℕ, not, sym, subst, ap, ◌∙◌}
+use Rattle.std.specs.List.{filter, AllPairs}
+use Rattle.rt_cover.specs.declared.delta.Delta.{Delta}
+use Rattle.rt_cover.specs.Cover.{Registered}
+use Rattle.rt_cover.specs.State.{Cover, with_listeners, fault_of, difference, revoked, without_tag}
+use Rattle.rt_cover.specs.Sound.{IsTold}
+use Rattle.rt_cover.proofs.SoundLaws.{left_after_rise, revoke_known, is_told_without}
+use Rattle.rt_cover.proofs.cover.Cover.revoke.Goals as goal
+
+pub change-requires : goal.change-requires
+change-requires c =
+    subst (AllPairs (λ (l m : Registered). l.0 < m.0)) (sym c.in_ok-ended.ensures.left) (left_after_rise c.args.self.now c.args.tag c.parted.ensures.sound.listeners)
+
+pub returns-clause-delta : goal.returns-clause-delta
+returns-clause-delta c =
+    let old : Cover = c.args.self.now in
+    let whole : c.in_ok-started.field-0 ≡ difference old (revoked old c.args.tag) = c.in_ok-started.ensures.delta ∙ (λ i. difference old (with_listeners old (c.in_ok-ended.ensures.left i))) in
+    let stopped : c.take_out.new.self ≡ filter (λ (t : ℕ). not (t == c.args.tag)) (c.in_ok-started.field-0).stopped = c.take_out.ensures in
+    λ i. record { started = (whole i).started; stopped = (stopped ∙ (λ j. filter (λ (t : ℕ). not (t == c.args.tag)) (whole j).stopped)) i }
+
+pub returns-clause-told : goal.returns-clause-told
+returns-clause-told c =
+    let old : Cover = c.args.self.now in
+    let stopped : c.take_out.new.self ≡ filter (λ (t : ℕ). not (t == c.args.tag)) (c.in_ok-started.field-0).stopped = c.take_out.ensures in
+    let d : Delta = record { started = (c.in_ok-started.field-0).started; stopped = c.take_out.new.self } in
+    let same : d ≡ without_tag c.args.tag c.in_ok-started.field-0 = (λ i. record { started = (c.in_ok-started.field-0).started; stopped = stopped i }) in
+    subst (IsTold old.next_tag) (sym same) (is_told_without old.next_tag c.args.tag c.in_ok-started.field-0 c.in_ok-started.ensures.told)
+
+pub returns-clause-taken : goal.returns-clause-taken
+returns-clause-taken c =
+    let old : Cover = c.args.self.now in
+    revoke_known old c.args.tag c.in_ok-ended.ensures.known ∙ ap (fault_of old) (sym c.in_ok-ended.ensures.left) ∙ c.in_ok-started.ensures.taken

@@ -1,0 +1,62 @@
+// The registered forms, and those that are needed.
+ghost use Rattle.std.specs.Prelude.{◌≡◌, ◌++◌, ◌∷◌, [], ◌&&◌, not, if◌then◌else◌, IfOk, OnOk};
+ghost use Rattle.std.specs.List.{list_any};
+ghost use Rattle.rt_query.specs.QueryEq.{query_eq};
+ghost use Rattle.rt_query.specs.Supply.{form, does_supply};
+ghost use Rattle.rt_cover.specs.Cover.{forms, needed};
+
+use crate::listener::Listener;
+use crate::supply::supplies;
+use rt_query::Query;
+use std::alloc::{AllocError, Global};
+
+// Whether one of these is the listener's form.
+fn has_form_of(forms: &[Query], listener: &Listener) -> bool
+    ensures { result ≡ list_any (query_eq (form listener.now.1)) forms.now }
+{
+    forms.iter().any(|form| listener.has_form(form))
+}
+
+// Adds the listener's form, where it is new.
+fn push_form(forms: &mut Vec<Query>, listener: &Listener) -> Result<(), AllocError>
+    ensures { OnOk result (forms.new.items ≡ (if list_any (query_eq (form listener.now.1)) forms.old.items then forms.old.items else forms.old.items ++ form listener.now.1 ∷ [])) }
+{
+    if has_form_of(forms, listener) {
+        return Ok(());
+    }
+    forms.push(listener.query.listening_form()?)?;
+    Ok(())
+}
+
+// The registered forms, in order of their least-numbered listeners.
+pub(crate) fn forms(alloc: Global, listeners: &[Listener]) -> Result<Vec<Query>, AllocError>
+    ensures { IfOk result (λ v. v.items ≡ forms listeners.now) }
+{
+    let mut forms = Vec::new(alloc);
+    for listener in listeners {
+        push_form(&mut forms, listener)?;
+    }
+    Ok(forms)
+}
+
+// Whether another of these forms supplies this one.
+fn is_covered(forms: &[Query], form: &Query) -> bool
+    ensures { result ≡ list_any (λ g. not (query_eq g form.now) && does_supply g form.now) forms.now }
+{
+    forms
+        .iter()
+        .any(|other| other != form && supplies(other, form))
+}
+
+// Those of these forms that no other supplies.
+pub(crate) fn needed(alloc: Global, forms: &[Query]) -> Result<Vec<Query>, AllocError>
+    ensures { IfOk result (λ v. v.items ≡ needed forms.now) }
+{
+    let mut needed = Vec::new(alloc);
+    for form in forms {
+        if !is_covered(forms, form) {
+            needed.push(form.copy()?)?;
+        }
+    }
+    Ok(needed)
+}

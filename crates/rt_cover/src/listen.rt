@@ -1,0 +1,79 @@
+// Kept listens.
+ghost use Rattle.std.specs.Prelude.{◌≡◌, ◌==◌, IfOk};
+ghost use Rattle.std.specs.List.{find, list_any};
+ghost use Rattle.std.specs.Option.{option_copied, option_map};
+ghost use Rattle.rt_query.specs.QueryEq.{query_eq};
+ghost use Rattle.rt_query.specs.Supply.{does_supply};
+ghost use Rattle.rt_cover.specs.Cover.{is_kept};
+
+use crate::supply::supplies;
+use rt_query::Query;
+use std::alloc::AllocError;
+use std::marker::Model;
+
+// A kept form and its tag.
+#[derive(Drop)]
+pub(crate) struct Listen {
+    pub(crate) tag: u64,
+    pub(crate) form: Query,
+}
+
+impl Model for Listen {
+    ghost use Rattle.rt_cover.specs.Cover.{Tagged};
+
+    ghost Value = { Tagged };
+
+    ghost view = { λ a. record { tag = a.tag; form = a.form } };
+}
+
+impl Listen {
+    // Whether its form is one of these.
+    pub(crate) fn is_among(&self, forms: &[Query]) -> bool
+        ensures { result ≡ list_any (query_eq self.now.form) forms.now }
+    {
+        let own = &self.form;
+        forms.iter().any(|form| own == form)
+    }
+
+    // An equal listen.
+    pub(crate) fn copy(&self) -> Result<Listen, AllocError>
+        ensures { IfOk result (λ listen. listen ≡ self.now) }
+    {
+        let form = self.form.copy()?;
+        Ok(Listen {
+            tag: self.tag,
+            form,
+        })
+    }
+}
+
+// Whether a listen of the form is kept.
+pub(crate) fn is_kept(kept: &[Listen], form: &Query) -> bool
+    ensures { result ≡ is_kept kept.now form.now }
+{
+    kept.iter().any(|listen| listen.form == *form)
+}
+
+// The listen with that tag.
+pub(crate) fn listen_at<'a>(kept: &'a [Listen], tag: u64) -> Option<&'a Listen>
+    ensures { option_copied result ≡ find (λ k. k.tag == tag) kept.now }
+{
+    for listen in kept {
+        if listen.tag == tag {
+            return Some(listen);
+        }
+    }
+    None
+}
+
+// The tag of the first listen that supplies the query.
+pub(crate) fn supplier(kept: &[Listen], query: &Query) -> Option<u64>
+    ensures { result ≡ option_map (λ k. k.tag) (find (λ k. does_supply k.form query.now) kept.now) }
+{
+    for listen in kept {
+        if supplies(&listen.form, query) {
+            return Some(listen.tag);
+        }
+    }
+    None
+}
