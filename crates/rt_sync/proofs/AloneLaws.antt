@@ -1,5 +1,5 @@
 -- A core of one plain listener stays one, and what it brings are the pushes that its steps took in.
-use Rattle.std.proofs.Common.{◌≡◌, ℕ, ◌+◌, Bool, true, false, cond, not, ◌&&◌, ◌||◌, inl, inr, List, [], ◌∷◌, ◌++◌, map, length, refl, sym, ap, subst, ◌∙◌, append-nil, arith, Option, Some, None, Ok, Err}
+use Rattle.std.proofs.Common.{◌≡◌, ℕ, Bool, true, false, cond, not, ◌&&◌, ◌||◌, inl, inr, List, [], ◌∷◌, ◌++◌, map, length, refl, sym, ap, subst, ◌∙◌, arith, Option, Some, None, Ok, Err}
 use mathlib.Core.Bool.{true≢false}
 use Rattle.std.specs.Prelude.{nat_le, nat_lt, ◌==◌}
 use Rattle.std.specs.List.{find, fold, list_any, list_all, All}
@@ -9,24 +9,21 @@ use Rattle.std.proofs.lemmas.List.Sums.{fold-append}
 use Rattle.rt_tree.specs.PathTree.{Path, PathTree}
 use Rattle.rt_tree.specs.Assignments.{Assignment, is_at_or_above}
 use Rattle.rt_query.specs.Queries.{Query, plain, is_filtered}
-use Rattle.rt_query.specs.Supply.{form}
-use Rattle.rt_writes.specs.Writes.{Write}
 use Rattle.rt_cache.specs.Brought.{Brought, push, push_plain, is_without_window}
 use Rattle.rt_cache.specs.Recover.{recover}
 use Rattle.rt_cover.specs.Cover.{Tagged, forms, needed, kept_for}
 use Rattle.rt_sync.specs.declared.error.CoreError.{CoreError}
 use Rattle.rt_sync.specs.declared.step.Step.{Step}
-use Rattle.rt_sync.specs.declared.step.Step.TheVariants as Step
 use Rattle.rt_sync.specs.declared.limits.Limits.{Limits}
 use Rattle.rt_sync.specs.World.{World, Listener, empty_world, limits_from, registered, pending, listen_of}
-use Rattle.rt_sync.specs.Views.{is_known, view_of}
 use Rattle.rt_sync.specs.Steps.{listeners_after, requests_after, forms_after, kept_after, brought_after, pushed, renewed, next}
 use Rattle.rt_sync.specs.Refusals.{conditions, needs_tag, refusal, is_stale, is_bad_push, has_too_many_listeners}
-use Rattle.rt_sync.specs.Answers.{Answer, step, step_by, done_report, stale_report}
+use Rattle.rt_sync.specs.Answers.{Answer, step_by, done_report, stale_report}
 use Rattle.rt_sync.specs.Runs.{Applies, AppliesAll, IsPlainStep}
 use Rattle.rt_sync.specs.Headline.{push_taken, of_each}
 use Rattle.rt_sync.specs.Alone.{IsEmpty, HasOne, IsAlone}
 use Rattle.rt_sync.proofs.HeadlineLaws.{by_step, failed_stays}
+use Rattle.rt_sync.proofs.Listeners.{query-renewed}
 use Rattle.rt_sync.proofs.PlainWorlds.{form-unfiltered, needed-one, kept_for-kept, recover-under, push-no_window, push-under, AreUnder}
 
 -- ---- what is not refused
@@ -57,12 +54,6 @@ listeners_few w s e = (none_holds (conditions w s) e).0
 push_good : (w : World) (s : Step) → refusal w s ≡ None → is_bad_push w s ≡ false
 unfolding NoneHolds
 push_good w s e = ((((none_holds (conditions w s) e).1).1).1).0
-
--- ---- a listener that is renewed keeps its query
-
-query-renewed : (b : Brought) (ws : List Write) (l : Listener) → (renewed b ws l).query ≡ l.query
-query-renewed b ws l =
-    elim (l.is_primed || is_known b ws l.query) as (λ k. (cond k (record l { is_primed = true; view = Some (view_of b ws l.query) }) l).query ≡ l.query) [ true ↦ refl | false ↦ refl ]
 
 -- ---- a step that changes neither the listeners nor what is kept
 

@@ -1,5 +1,5 @@
 -- Answers to steps, one more at a time.
-use Rattle.std.proofs.Common.{◌≡◌, List, [], ◌∷◌, ◌++◌, refl, sym, subst, append_assoc, Option, Some, None}
+use Rattle.std.proofs.Common.{List, [], ◌∷◌, ◌++◌, sym, subst, append_assoc, Option}
 use Rattle.rt_sync.specs.Answers.{Answer}
 use Rattle.rt_sync.specs.declared.step.Step.{Step}
 use Rattle.rt_sync.specs.Runs.{Applies, AppliesAll}

@@ -6,7 +6,7 @@ use Rattle.rt_cover.specs.Cover.{Tagged, forms}
 use Rattle.rt_cover.proofs.KeepLaws.{forms_are, fewest_kept}
 use Rattle.rt_view.specs.Changes.{Turns}
 use Rattle.rt_sync.specs.declared.step.Step.{Step}
-use Rattle.rt_sync.specs.World.{World, Listener, registered}
+use Rattle.rt_sync.specs.World.{World, registered}
 use Rattle.rt_sync.specs.Answers.{Answer, view_before}
 use Rattle.rt_sync.specs.Runs.{AppliesAll, IsPlainStep}
 use Rattle.rt_sync.specs.Headline.{changes_told, Headline}

@@ -1,10 +1,10 @@
 -- A core that makes the world's steps keeps it sound, and the headline holds of each run.
-use Rattle.std.proofs.Common.{◌≡◌, ℕ, Bool, true, false, ◌==◌, inl, inr, List, [], ◌∷◌, map, refl, sym, subst, arith, slice_index_or, Option, Some, None}
+use Rattle.std.proofs.Common.{◌≡◌, ℕ, Bool, true, false, ◌==◌, inl, inr, List, [], ◌∷◌, map, refl, sym, subst, arith, Option, Some, None}
 use Rattle.std.specs.List.{flat_map, All, Contains}
-use Rattle.std.proofs.lemmas.List.Elements.{All-contains, Contains-get_or}
+use Rattle.std.proofs.lemmas.List.Elements.{All-contains}
 use Rattle.std.proofs.lemmas.List.Folds.{Any-from_list_any}
 use Rattle.rt_cover.specs.Cover.{Registered, Tagged, forms, needed}
-use Rattle.rt_cover.proofs.KeepLaws.{forms_are, kept_for_needed, needed_kept_for, fewest_kept}
+use Rattle.rt_cover.proofs.KeepLaws.{kept_for_needed, needed_kept_for}
 use Rattle.rt_view.specs.Changes.{Turns}
 use Rattle.rt_sync.specs.declared.error.CoreError.{CoreError}
 use Rattle.rt_sync.specs.declared.limits.Limits.{Limits}
@@ -14,7 +14,7 @@ use Rattle.rt_sync.specs.Steps.{listeners_after, brought_after, requests_after, 
 use Rattle.rt_sync.specs.Refusals.{refusal, is_stale}
 use Rattle.rt_sync.specs.Answers.{Answer, step, step_by, view_before}
 use Rattle.rt_sync.specs.Runs.{Applies, AppliesAll}
-use Rattle.rt_sync.specs.Headline.{changes_told, IsUpToDate, Headline}
+use Rattle.rt_sync.specs.Headline.{changes_told, IsUpToDate}
 use Rattle.rt_sync.specs.Sound.{IsSound}
 use Rattle.rt_view.proofs.TurnLaws.{turns_not, turns-append}
 use Rattle.rt_sync.proofs.Listeners.{same_number, has_number, view_before-there, view_before-none, below-renewed, registered-renewed}

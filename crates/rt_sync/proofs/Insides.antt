@@ -1,28 +1,25 @@
 -- What a core holds between steps: its listener's view, from scratch and after one more write.
-use Rattle.std.proofs.Common.{◌≡◌, ℕ, ◌+◌, Bool, true, false, cond, ◌||◌, List, [], ◌∷◌, ◌++◌, map, length, refl, sym, ap, ◌∙◌, subst, Option, Some, None, is_some}
-use Rattle.std.specs.Option.{option_map, option_map_or, option_to_list}
+use Rattle.std.proofs.Common.{◌≡◌, ℕ, true, false, cond, ◌||◌, List, [], ◌∷◌, ◌++◌, refl, sym, ap, ◌∙◌, subst, Option, Some, None}
+use Rattle.std.specs.Option.{option_to_list}
 use Rattle.rt_tree.specs.PathTree.{Path, PathTree, null}
-use Rattle.rt_tree.specs.Assignments.{Assignment, is_at_or_above}
-use Rattle.rt_query.specs.Queries.{Query, plain, is_filtered}
-use Rattle.rt_query.specs.Select.{Shown, select}
+use Rattle.rt_tree.specs.Assignments.{is_at_or_above}
+use Rattle.rt_query.specs.Queries.{Query, is_filtered}
+use Rattle.rt_query.specs.Select.{select}
 use Rattle.rt_query.specs.Rows.{HasDistinctKeys}
 use Rattle.rt_query.proofs.SelectLaws.{select-distinct}
-use Rattle.rt_view.specs.Changes.{changes}
 use Rattle.rt_view.proofs.TurnLaws.{changes-same}
-use Rattle.rt_writes.specs.Writes.{overlaid, overlay, sets_whole}
-use Rattle.rt_cache.specs.Brought.{Brought, base, knows}
+use Rattle.rt_writes.specs.Writes.{overlaid, overlay}
+use Rattle.rt_cache.specs.Brought.{base}
 use Rattle.rt_sync.specs.declared.listener.Listener as inside
 use Rattle.rt_sync.specs.declared.listener.View.{View}
 use Rattle.rt_sync.specs.declared.region.Region.{Region}
-use Rattle.rt_sync.specs.declared.report.Note.{Note}
 use Rattle.rt_sync.specs.declared.request.Request.{Request}
-use Rattle.rt_sync.specs.Views.{is_known, base_tree, seen_over, view_of}
+use Rattle.rt_sync.specs.Views.{is_known, base_tree, view_of}
 use Rattle.rt_sync.specs.World.{Listener, pending}
 use Rattle.rt_sync.specs.Steps.{renewed}
 use Rattle.rt_sync.specs.Answers.{batch_note}
-use Rattle.rt_sync.specs.Inside.{brought_of, listener_of, shown_in, view_over, view_renewed, view_written, told, IsView, IsSeen, IsListener}
+use Rattle.rt_sync.specs.Inside.{brought_of, listener_of, view_over, view_renewed, view_written, told, IsView, IsSeen}
 use Rattle.rt_sync.proofs.PlainWorlds.{seen_over-unfiltered, overlay-more, is_known-write, overlaid-above_same, write_request}
-use Rattle.rt_sync.proofs.Listeners.{or_false_left, or_false_right}
 
 -- ---- from scratch
 

@@ -8,7 +8,6 @@ pub mod NextWorlds
 pub mod Places
 pub mod PlainWorlds
 pub mod RefusalLaws
-pub mod Requests
 pub mod ShowLaws
 pub mod Strips
 pub mod WrittenLaws

@@ -1,8 +1,8 @@
 -- What each step makes of what a core holds is the world's step.
-use Rattle.std.proofs.Common.{◌≡◌, ℕ, ◌+◌, ◌≤◌, Bool, true, false, cond, ◌==◌, List, [], ◌∷◌, ◌++◌, map, length, refl, sym, ap, ◌∙◌, subst, arith, Option, Some, None, is_some}
+use Rattle.std.proofs.Common.{◌≡◌, ℕ, ◌+◌, Bool, true, false, cond, List, [], ◌∷◌, ◌++◌, map, length, refl, sym, ap, ◌∙◌, subst, arith, Option, Some, None}
 use Rattle.std.specs.Cmp.{nat_eq_equiv}
 use Rattle.std.specs.List.{All, filter_map, cons_option}
-use Rattle.std.specs.Option.{option_map, option_map_or, option_and_then, option_to_list}
+use Rattle.std.specs.Option.{option_map, option_and_then, option_to_list}
 use Rattle.std.proofs.lemmas.List.{length-append}
 use Rattle.rt_tree.specs.Assignments.{is_at_or_above}
 use Rattle.rt_tree.specs.PathTree.{Path, PathTree}
@@ -21,10 +21,9 @@ use Rattle.rt_sync.specs.declared.report.Report.{Report}
 use Rattle.rt_sync.specs.declared.request.Request.{Request}
 use Rattle.rt_sync.specs.declared.step.Action.TheVariants.{Put}
 use Rattle.rt_sync.specs.declared.step.Step.{Step}
-use Rattle.rt_sync.specs.declared.step.Step.TheVariants as Step
 use Rattle.rt_sync.specs.World.{Listener, World, pending}
-use Rattle.rt_sync.specs.Steps.{next, renewed, renewed_after, brought_after, kept_after, started_by}
-use Rattle.rt_sync.specs.Answers.{batch_note, batch_from, view_before, batch_notes, done_report}
+use Rattle.rt_sync.specs.Steps.{renewed, renewed_after, brought_after}
+use Rattle.rt_sync.specs.Answers.{batch_note, batch_from, view_before}
 use Rattle.rt_sync.specs.Inside.{brought_of, listener_of, listen_kept, shown_in, world_of, view_renewed, view_written, renewed_listener, written_listener, told, all_told, AreUnder, IsView, IsSeen, IsListener, IsListened, IsState, IsNext}
 use Rattle.rt_sync.proofs.PlainWorlds.{form-unfiltered, needed-one, started-new, kept_for-new, started-kept, kept_for-kept, recover-under, push-under, write_request}
 use Rattle.rt_sync.proofs.Insides.{with_view, renewed_by, view-renewed, seen-renewed, view_same, told-same, more, written_is_renewed}
@@ -280,22 +279,6 @@ module _ (limits : Limits) (requests : List Request) (regions : List Region) (c 
 -- ---- what holds after them
 
 module _ (limits : Limits) (requests : List Request) (regions : List Region) where
-  pub state_listened : limits.listeners ≡ 1 → 1 ≤ limits.last_number → (seat : ℕ) (q : Query) (l' : inside.Listener) → regions ≡ [] → is_filtered q ≡ false
-      → l' ≡ renewed_listener regions requests (record { number = 1; seat = seat; query = q; view = None }) → IsState limits (Some l') requests regions
-  state_listened one numbers seat q l' nil plain new_is =
-      let l : inside.Listener = record { number = 1; seat = seat; query = q; view = None } in
-      subst (λ m. IsState limits (Some m) requests regions) (sym new_is) (record {
-        one = one;
-        numbers = numbers;
-        listened = record {
-          first = refl;
-          plain = plain;
-          under = subst (AreUnder q.path) (sym nil) (λ k d lt. absurd (omega arith));
-          view = view-renewed regions requests q None;
-          seen = seen-renewed regions requests q None;
-        };
-      })
-
   pub state_written : (listener : Option inside.Listener) → IsState limits listener requests regions → (id : ℕ) (seat : Option ℕ) (at : Path) (entry : PathTree) (listener' : Option inside.Listener) (requests' : List Request)
       → listener' ≡ option_map (written_listener (at, entry)) listener → requests' ≡ requests ++ write_request id seat at entry ∷ [] → IsState limits listener' requests' regions
   state_written listener h id seat at entry listener' requests' new_is more_is =

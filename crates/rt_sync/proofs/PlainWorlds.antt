@@ -1,24 +1,23 @@
 -- Worlds of one plain listener: its form and its listen, the regions under its path, and the overlay of one more write.
-use Rattle.std.proofs.Common.{◌≡◌, ℕ, Bool, true, false, cond, not, ◌&&◌, ◌||◌, List, [], ◌∷◌, ◌++◌, map, refl, sym, ap, ◌∙◌, append-nil, Option, Some, None, is_some}
+use Rattle.std.proofs.Common.{◌≡◌, ℕ, Bool, true, false, cond, not, ◌&&◌, ◌||◌, List, [], ◌∷◌, ◌++◌, map, refl, sym, ap, ◌∙◌, Option, Some, is_some}
 use Rattle.std.specs.declared.cmp.Ordering.TheVariants.{Less, Equal, Greater}
 use Rattle.std.specs.List.{filter, filter_map, fold, list_any, enumerate_from, All}
-use Rattle.std.specs.Option.{option_map, option_map_or, option_or}
+use Rattle.std.specs.Option.{option_map}
 use Rattle.std.specs.FinMap as map_of
 use Rattle.std.specs.FinMap.Entries.{by_order}
 use Rattle.std.proofs.lemmas.List.Elements.{All-cons, All-head, All-tail, All-map, All-filter, filter_map-append}
 use Rattle.std.proofs.lemmas.List.Folds.{list_any-append}
 use Rattle.std.proofs.lemmas.List.Sums.{fold-append}
 use Rattle.std.proofs.lemmas.Grind.{flat_map-append}
-use Rattle.rt_tree.specs.PathTree.{Path, PathTree, path_cmp, strip, strip-append, sub, put, with_children}
-use Rattle.rt_tree.specs.Parts.{sub_root}
+use Rattle.rt_tree.specs.PathTree.{Path, PathTree, path_cmp, strip, sub, with_children}
 use Rattle.rt_tree.specs.Assignments.{is_at_or_above, Assignment}
 use Rattle.rt_query.specs.Queries.{Query, plain, is_filtered}
 use Rattle.rt_query.specs.QueryEq.{query_eq}
 use Rattle.rt_query.specs.Supply.{form, does_supply}
 use Rattle.rt_writes.specs.Writes.{Write, assignments, overlaid, overlaid_by, overlay, sets_whole}
-use Rattle.rt_cache.specs.Brought.{Window, Brought, nothing_brought, region_part, window_of, Base, base, knows, region_put, push}
+use Rattle.rt_cache.specs.Brought.{Window, Brought, region_part, Base, knows, region_put, push}
 use Rattle.rt_cache.specs.Recover.{regions_kept, windows_kept, recover}
-use Rattle.rt_cover.specs.Cover.{forms, needed, Tagged, started, kept_for}
+use Rattle.rt_cover.specs.Cover.{needed, Tagged, started, kept_for}
 use Rattle.rt_query.proofs.Tests.{query_eq_tells}
 use Rattle.rt_cover.proofs.Paths.{rest_of_above}
 use Rattle.rt_sync.specs.declared.step.Action.TheVariants.{Put}
@@ -36,15 +35,8 @@ form-unfiltered q e = ap (λ b. cond b q (plain q.path)) e
 own : (f : Query) → query_eq f f ≡ true
 own f = (query_eq_tells f f).1 refl
 
--- one listener has one form, and it is needed
-pub forms-one : (n : ℕ) (q : Query) → forms ((n, q) ∷ []) ≡ form q ∷ []
-forms-one n q = refl
-
 pub needed-one : (f : Query) → needed (f ∷ []) ≡ f ∷ []
 needed-one f = ap (λ b. cond (not ((not b && does_supply f f) || false)) (f ∷ []) []) (own f)
-
-pub needed-forms_one : (n : ℕ) (q : Query) → needed (forms ((n, q) ∷ [])) ≡ form q ∷ []
-needed-forms_one n q = needed-one (form q)
 
 -- ---- one listen
 
@@ -69,10 +61,6 @@ kept_for-kept n k = λ i. cond (own k.form i || false) (k ∷ []) [] ++ started-
 abbrev pub AreUnder : Path → List (Path × PathTree) → Type 0
 AreUnder p regions = All (λ (r : Path × PathTree). is_at_or_above p r.0 ≡ true) regions
 
--- and none is at p
-abbrev pub AreBelow : Path → List (Path × PathTree) → Type 0
-AreBelow p regions = All (λ (r : Path × PathTree). is_at_or_above r.0 p ≡ false) regions
-
 pub regions_kept-under : (p : Path) (regions : List (Path × PathTree)) → AreUnder p regions → regions_kept (plain p ∷ []) regions ≡ regions
 regions_kept-under p [] h = refl
 regions_kept-under p (r ∷ rs) h = λ i.
@@ -86,9 +74,6 @@ recover-under p b e h = λ i. record {
   regions = regions_kept-under p b.regions h i;
   windows = (ap (windows_kept (plain p ∷ []) b.regions (regions_kept (plain p ∷ []) b.regions)) e ∙ sym e) i;
 }
-
-pub recover-nothing : recover [] [] nothing_brought ≡ nothing_brought
-recover-nothing = refl
 
 -- ---- pushes under one path
 
@@ -106,9 +91,6 @@ put-under p k v (r ∷ rs) e h =
 
 pub region_put-under : (p : Path) (a : Assignment) (es : List (Path × PathTree)) → AreUnder p es → AreUnder p (map (region_put a) es)
 region_put-under p a es h = All-map (λ (x : Path × PathTree). is_at_or_above p x.0 ≡ true) (region_put a) es h
-
-pub region_put-below : (p : Path) (a : Assignment) (es : List (Path × PathTree)) → AreBelow p es → AreBelow p (map (region_put a) es)
-region_put-below p a es h = All-map (λ (x : Path × PathTree). is_at_or_above x.0 p ≡ false) (region_put a) es h
 
 -- a push at or under the path of a plain listen leaves no window, and regions under the path
 pub push-no_window : (p : Path) (b : Brought) (a : Assignment) → b.windows ≡ [] → (push (plain p) b a).windows ≡ []
@@ -162,18 +144,6 @@ overlaid-above_same p t u a e =
     let x = rest_of_above a.0 p e in
     overlaid-above p t a x.0 x.1 ∙ sym (overlaid-above p u a x.0 x.1)
 
-none_of_not : {X : Type 0} (o : Option X) → is_some o ≡ false → o ≡ None
-none_of_not None e = refl
-none_of_not (Some x) e = cc
-
--- one below p is put
-pub overlaid-below : (p : Path) (t : PathTree) (a : Assignment) (rest : Path) → is_at_or_above a.0 p ≡ false → strip p a.0 ≡ Some rest → overlaid p t a ≡ put t rest a.1
-overlaid-below p t a rest e f = λ i. overlaid_by (none_of_not (strip a.0 p) e i) (f i) t a.1
-
--- and one elsewhere does nothing
-pub overlaid-apart : (p : Path) (t : PathTree) (a : Assignment) → is_at_or_above a.0 p ≡ false → is_at_or_above p a.0 ≡ false → overlaid p t a ≡ t
-overlaid-apart p t a e f = λ i. overlaid_by (none_of_not (strip a.0 p) e i) (none_of_not (strip p a.0) f i) t a.1
-
 pub sets_whole-append : (ws vs : List Write) (p : Path) → sets_whole (ws ++ vs) p ≡ (sets_whole ws p || sets_whole vs p)
 sets_whole-append ws vs p =
     ap (list_any (λ (a : Assignment). is_at_or_above a.0 p)) (assignments-append ws vs) ∙ list_any-append (λ (a : Assignment). is_at_or_above a.0 p) (assignments ws) (assignments vs)
@@ -189,44 +159,12 @@ sets_whole-more rs id seat path tree p =
     ∙ sets_whole-append (pending rs) (pending (write_request id seat path tree ∷ [])) p
     ∙ ap (λ b. sets_whole (pending rs) p || b) (or_false (is_at_or_above path p))
 
-fold-whole : (p : Path) (t u : PathTree) (es : List Assignment) → list_any (λ (a : Assignment). is_at_or_above a.0 p) es ≡ true → fold (overlaid p) t es ≡ fold (overlaid p) u es
-fold-whole p t u [] e = cc
-fold-whole p t u (a ∷ es) e =
-    elim (is_at_or_above a.0 p) as (λ b. is_at_or_above a.0 p ≡ b → (b || list_any (λ (x : Assignment). is_at_or_above x.0 p) es) ≡ true → fold (overlaid p) (overlaid p t a) es ≡ fold (overlaid p) (overlaid p u a) es) [
-      | true ↦ λ above _. ap (λ x. fold (overlaid p) x es) (overlaid-above_same p t u a above)
-      | false ↦ λ _ rest. fold-whole p (overlaid p t a) (overlaid p u a) es rest
-    ] refl e
-
--- where an entry sits at or above p, the overlay is the same over any tree
-pub overlay-whole : (p : Path) (t u : PathTree) (ws : List Write) → sets_whole ws p ≡ true → overlay p t ws ≡ overlay p u ws
-overlay-whole p t u ws e = fold-whole p t u (assignments ws) e
-
 -- ---- what is known and seen
 
 pub seen_over-unfiltered : (b : Option Base) (ws : List Write) (q : Query) → is_filtered q ≡ false → seen_over b ws q ≡ overlay q.path (base_tree b) ws
 seen_over-unfiltered b ws q e =
     let t = overlay q.path (base_tree b) ws in
     ap (λ f. cond (f && not (is_base_whole b)) (with_children (is_child_known (base_tree b) ws q.path) t) t) e
-
-or_none : {X : Type 0} (o : Option X) → option_or o None ≡ o
-or_none None = refl
-or_none (Some x) = refl
-
-abbrev whole_base : PathTree → Base
-whole_base t = record { tree = t; is_whole = true }
-
--- without windows only regions count
-pub base-regions : (b : Brought) (q : Query) → b.windows ≡ [] → base b q ≡ option_map (λ t. record { tree = t; is_whole = true }) (region_part b.regions q.path)
-base-regions b q e =
-    ap (λ ws. option_or (option_map whole_base (region_part b.regions q.path)) (option_map (λ (w : Window). record { tree = w.children; is_whole = w.is_whole }) (window_of ws (form q)))) e
-    ∙ or_none (option_map whole_base (region_part b.regions q.path))
-
-is_some-map : {X Y : Type 0} (f : X → Y) (o : Option X) → is_some (option_map f o) ≡ is_some o
-is_some-map f None = refl
-is_some-map f (Some x) = refl
-
-pub knows-regions : (b : Brought) (q : Query) → b.windows ≡ [] → knows b q ≡ is_some (region_part b.regions q.path)
-knows-regions b q e = ap is_some (base-regions b q e) ∙ is_some-map whole_base (region_part b.regions q.path)
 
 or_assoc : (a b c : Bool) → (a || (b || c)) ≡ ((a || b) || c)
 or_assoc true b c = refl
@@ -237,68 +175,3 @@ pub is_known-write : (b : Brought) (rs : List Request) (id : ℕ) (seat : Option
     → is_known b (pending (rs ++ write_request id seat path tree ∷ [])) q ≡ (is_known b (pending rs) q || is_at_or_above path q.path)
 is_known-write b rs id seat path tree q =
     ap (λ s. knows b q || s) (sets_whole-more rs id seat path tree q.path) ∙ or_assoc (knows b q) (sets_whole (pending rs) q.path) (is_at_or_above path q.path)
-
--- ---- the region of the path itself
-
--- regions below the path have no part at it
-pub region_part-below : (p : Path) (rs : List (Path × PathTree)) → AreBelow p rs → region_part rs p ≡ None
-region_part-below p [] h = refl
-region_part-below p (r ∷ rs) h =
-    let P : Path × PathTree → Type 0 = λ x. is_at_or_above x.0 p ≡ false in
-    (λ i. option_or (option_map (sub r.1) (none_of_not (strip r.0 p) (All-head P r rs h) i)) (region_part rs p)) ∙ region_part-below p rs (All-tail P r rs h)
-
-strip-same : (p : Path) → strip p p ≡ Some []
-strip-same p = ap (strip p) (sym (append-nil p)) ∙ strip-append p []
-
--- the region at p is its part
-pub region_part-at : (p : Path) (t : PathTree) (rs : List (Path × PathTree)) → region_part ((p, t) ∷ rs) p ≡ Some t
-region_part-at p t rs = (λ i. option_or (option_map (sub t) (strip-same p i)) (region_part rs p)) ∙ ap Some (sub_root t)
-
--- a push at or under the path of the one region is put into it
-pub push-whole : (p rest : Path) (t : PathTree) (a : Assignment) → strip p a.0 ≡ Some rest
-    → push (plain p) (record { regions = (p, t) ∷ []; windows = [] }) a ≡ record { regions = (p, put t rest a.1) ∷ []; windows = [] }
-push-whole p rest t a e =
-    let old : Brought = record { regions = (p, t) ∷ []; windows = [] } in
-    let new : Brought = record { regions = map_of.put path_cmp a.0 a.1 (filter (λ (r : Path × PathTree). not (is_at_or_above a.0 r.0)) ((p, t) ∷ [])); windows = [] } in
-    let there : is_some (region_part ((p, t) ∷ []) a.0) ≡ true = ap (λ o. is_some (option_or (option_map (sub t) o) None)) e in
-    ap (λ c. cond c (record { regions = map (region_put a) ((p, t) ∷ []); windows = [] }) new) there
-    ∙ (λ i. record { regions = (p, option_map_or (λ x. put t x a.1) (e i) t) ∷ []; windows = [] })
-
-none_left : (p : Path) (rs : List (Path × PathTree)) → AreUnder p rs → filter (λ (r : Path × PathTree). not (is_at_or_above p r.0)) rs ≡ []
-none_left p [] h = refl
-none_left p (r ∷ rs) h =
-    let P : Path × PathTree → Type 0 = λ x. is_at_or_above p x.0 ≡ true in
-    let rest = filter (λ (x : Path × PathTree). not (is_at_or_above p x.0)) rs in
-    ap (λ b. cond (not b) (r ∷ rest) rest) (All-head P r rs h) ∙ none_left p rs (All-tail P r rs h)
-
--- the first push at the path itself takes in the regions below
-pub push-first : (p : Path) (u : PathTree) (rs : List (Path × PathTree)) → AreUnder p rs → AreBelow p rs
-    → push (plain p) (record { regions = rs; windows = [] }) (p, u) ≡ record { regions = (p, u) ∷ []; windows = [] }
-push-first p u rs h below =
-    let f : Path × PathTree → Bool = λ r. not (is_at_or_above p r.0) in
-    ap (λ o. cond (is_some o) (record { regions = map (region_put (p, u)) rs; windows = [] }) (record { regions = map_of.put path_cmp p u (filter f rs); windows = [] })) (region_part-below p rs below)
-    ∙ (λ i. record { regions = map_of.put path_cmp p u (none_left p rs h i); windows = [] })
-
-put-below : (p k : Path) (v : PathTree) (es : List (Path × PathTree)) → is_at_or_above k p ≡ false → AreBelow p es → AreBelow p (map_of.put path_cmp k v es)
-put-below p k v [] e h = All-cons (λ (x : Path × PathTree). is_at_or_above x.0 p ≡ false) (k, v) [] e h
-put-below p k v (r ∷ rs) e h =
-    let P : Path × PathTree → Type 0 = λ x. is_at_or_above x.0 p ≡ false in
-    let head = All-head P r rs h in
-    let tail = All-tail P r rs h in
-    elim (path_cmp k r.0) as (λ o. AreBelow p (by_order o ((k, v) ∷ r ∷ rs) ((r.0, v) ∷ rs) (r ∷ map_of.put path_cmp k v rs))) [
-      | Less ↦ All-cons P (k, v) (r ∷ rs) e h
-      | Equal ↦ All-cons P (r.0, v) rs head tail
-      | Greater ↦ All-cons P r (map_of.put path_cmp k v rs) head (put-below p k v rs e tail)
-    ]
-
--- a push below the path leaves the regions below it
-pub push-below : (p : Path) (b : Brought) (a : Assignment) → AreBelow p b.regions → is_at_or_above a.0 p ≡ false → AreBelow p (push (plain p) b a).regions
-push-below p b a h e =
-    elim (is_some (region_part b.regions a.0)) as (λ c. AreBelow p (cond c (record b { regions = map (region_put a) b.regions }) (record {
-      regions = map_of.put path_cmp a.0 a.1 (filter (λ (r : Path × PathTree). not (is_at_or_above a.0 r.0)) b.regions);
-      windows = filter (λ (w : Query × Window). not (is_at_or_above a.0 (w.0).path)) b.windows;
-    })).regions) [
-      | true ↦ region_put-below p a b.regions h
-      | false ↦ put-below p a.0 a.1 (filter (λ (r : Path × PathTree). not (is_at_or_above a.0 r.0)) b.regions) e
-          (All-filter (λ (r : Path × PathTree). not (is_at_or_above a.0 r.0)) (λ (r : Path × PathTree). is_at_or_above r.0 p ≡ false) b.regions h)
-    ]

@@ -1,46 +1,21 @@
 -- When a core that holds one listener at most refuses a step, and when a push is stale.
 use Rattle.std.proofs.Common.{◌≡◌, ℕ, Bool, true, false, cond, not, ◌&&◌, ◌||◌, ◌==◌, List, [], ◌∷◌, refl, sym, ap, ◌∙◌, subst, Option, Some, None, nat_lt, nat_le}
-use Rattle.std.specs.List.{find, list_all}
+use Rattle.std.specs.List.{list_all}
 use Rattle.std.specs.Option.{option_map, option_map_or}
 use Rattle.rt_tree.specs.PathTree.{Path, PathTree}
 use Rattle.rt_tree.specs.Assignments.{is_at_or_above}
 use Rattle.rt_query.specs.Queries.{Query}
 use Rattle.rt_cache.specs.Brought.{is_without_window}
 use Rattle.rt_cover.specs.Cover.{Tagged}
-use Rattle.rt_sync.specs.declared.error.CoreError.{CoreError}
-use Rattle.rt_sync.specs.declared.error.CoreError.TheVariants.{TooManyListeners, TooManyRequests, TooDeep, BadPush, AlreadyConnected, NotConnected}
 use Rattle.rt_sync.specs.declared.limits.Limits.{Limits}
 use Rattle.rt_sync.specs.declared.listener.Listener as inside
 use Rattle.rt_sync.specs.declared.region.Region.{Region}
 use Rattle.rt_sync.specs.declared.request.Request.{Request}
 use Rattle.rt_sync.specs.declared.step.Step.{Step}
-use Rattle.rt_sync.specs.declared.step.Step.TheVariants as Step
 use Rattle.rt_sync.specs.World.{World}
-use Rattle.rt_sync.specs.Refusals.{has_too_many_listeners, has_too_many_requests, is_too_deep, is_bad_push, is_already_connected, is_not_connected, refusal, is_stale, needs_tag}
+use Rattle.rt_sync.specs.Refusals.{has_too_many_listeners, is_bad_push, is_stale, needs_tag}
 use Rattle.rt_sync.specs.Inside.{world_of, brought_of, listen_kept, IsListener, IsListened}
 use Rattle.rt_sync.proofs.Listeners.{same_number}
-
--- ---- no refusal
-
--- where no condition holds
-pub room_for_listener : (w : World) (s : Step) → refusal w s ≡ None → has_too_many_listeners w s ≡ false
-room_for_listener w s h =
-    elim (has_too_many_listeners w s) as (λ b. option_map (λ (p : Bool × CoreError). p.1) (cond b (Some (b, TooManyListeners)) (find (λ (p : Bool × CoreError). p.0) ((has_too_many_requests w s, TooManyRequests) ∷ (is_too_deep s, TooDeep) ∷ (is_bad_push w s, BadPush) ∷ (is_already_connected w s, AlreadyConnected) ∷ (is_not_connected w s, NotConnected) ∷ []))) ≡ None → b ≡ false) [
-      | true ↦ λ x. cc
-      | false ↦ λ x. refl
-    ] h
-
-pub no_bad_push : (w : World) (s : Step) → refusal w s ≡ None → is_bad_push w s ≡ false
-no_bad_push w s h = at (has_too_many_listeners w s) (has_too_many_requests w s) (is_too_deep s) (is_bad_push w s) h
-  where
-    at : (a b c d : Bool)
-        → option_map (λ (p : Bool × CoreError). p.1) (find (λ (p : Bool × CoreError). p.0) ((a, TooManyListeners) ∷ (b, TooManyRequests) ∷ (c, TooDeep) ∷ (d, BadPush) ∷ (is_already_connected w s, AlreadyConnected) ∷ (is_not_connected w s, NotConnected) ∷ [])) ≡ None
-        → d ≡ false
-    at true b c d e = cc
-    at false true c d e = cc
-    at false false true d e = cc
-    at false false false true e = cc
-    at false false false false e = refl
 
 -- ---- listeners
 

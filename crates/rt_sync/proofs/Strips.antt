@@ -1,11 +1,6 @@
 -- What follows a path, and parts of trees that are there or not.
-use Rattle.std.proofs.Common.{◌≡◌, ℕ, ◌+◌, ◌≤◌, Bool, true, false, cond, List, [], ◌∷◌, ◌++◌, length, drop, refl, sym, ap, ◌∙◌, subst, arith, Option, Some, None, is_some}
-use Rattle.std.specs.Option.{unwrap_or}
+use Rattle.std.proofs.Common.{◌≡◌, ◌≤◌, true, false, cond, [], ◌∷◌, ◌++◌, length, drop, refl, sym, ap, ◌∙◌, arith, Option, Some, None, is_some}
 use Rattle.rt_tree.specs.PathTree.{Path, PathTree, strip, strip-some, length-strip, null, is_null, null_of_is_null, non_null}
-
-pub none_of_not : {X : Type 0} (o : Option X) → is_some o ≡ false → o ≡ None
-none_of_not None e = refl
-none_of_not (Some x) e = cc
 
 pub some_of : {X : Type 0} (o : Option X) → is_some o ≡ true → (x : X) × (o ≡ Some x)
 some_of None e = cc
@@ -24,14 +19,7 @@ strip_drop p q e =
 pub strip_fits : (p q : Path) → is_some (strip p q) ≡ true → length p ≤ length q
 strip_fits p q e = let r = some_of (strip p q) e in omega (arith, length-strip p q r.0 r.1)
 
--- ---- parts
-pub non_null-some : (t u : PathTree) → non_null t ≡ Some u → u ≡ t
-non_null-some t u e =
-    elim (is_null t) as (λ b. cond b None (Some t) ≡ Some u → u ≡ t) [
-      | true ↦ λ x. cc
-      | false ↦ λ x. ap (λ o. unwrap_or o u) (sym x)
-    ] e
-
+-- no part is null
 pub non_null-none : (t : PathTree) → non_null t ≡ None → null ≡ t
 non_null-none t e =
     elim (is_null t) as (λ b. is_null t ≡ b → cond b None (Some t) ≡ None → null ≡ t) [

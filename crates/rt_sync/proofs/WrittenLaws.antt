@@ -1,28 +1,13 @@
 -- What a run writes and what it brings, for a core of one plain listener.
-use Rattle.std.proofs.Common.{◌≡◌, ℕ, zero, suc, ◌+◌, Bool, true, false, cond, not, ◌&&◌, ◌||◌, inl, inr, List, [], ◌∷◌, ◌++◌, map, length, refl, sym, ap, subst, ◌∙◌, append-nil, append_assoc, arith, Option, Some, None, is_some, Ok, Err}
-use mathlib.Core.Bool.{true≢false}
-use Rattle.std.specs.Prelude.{nat_le, nat_lt, ◌==◌, ◌⊎◌}
-use Rattle.std.specs.List.{find, fold, filter, filter_map, list_any, All}
-use Rattle.std.specs.Option.{option_map, option_map_or}
-use Rattle.std.proofs.lemmas.List.Elements.{filter_map-append}
-use Rattle.std.proofs.lemmas.List.Sums.{fold-append}
-use Rattle.rt_tree.specs.PathTree.{Path, PathTree}
-use Rattle.rt_tree.specs.Assignments.{Assignment, is_at_or_above}
-use Rattle.rt_query.specs.Queries.{Query, plain, is_filtered}
-use Rattle.rt_writes.specs.Writes.{Write}
-use Rattle.rt_cache.specs.Brought.{Brought, push, push_plain}
-use Rattle.rt_cover.specs.Cover.{Tagged}
+use Rattle.std.proofs.Common.{◌≡◌, Bool, true, false, List, [], ◌∷◌, ◌++◌, refl, sym, ap, ◌∙◌, append-nil, append_assoc, Option, Some, None, Ok, Err}
 use Rattle.rt_sync.specs.declared.error.CoreError.{CoreError}
 use Rattle.rt_sync.specs.declared.step.Step.{Step}
-use Rattle.rt_sync.specs.declared.step.Step.TheVariants as Step
-use Rattle.rt_sync.specs.declared.step.Action.TheVariants.{Put}
-use Rattle.rt_sync.specs.World.{World, Listener, pending, entries_of}
-use Rattle.rt_sync.specs.Steps.{requests_after, next}
+use Rattle.rt_sync.specs.World.{World, pending}
+use Rattle.rt_sync.specs.Steps.{requests_after}
 use Rattle.rt_sync.specs.Refusals.{refusal, is_stale}
-use Rattle.rt_sync.specs.Answers.{Answer, step, step_by, done_report}
+use Rattle.rt_sync.specs.Answers.{Answer, step_by, done_report}
 use Rattle.rt_sync.specs.Runs.{Applies, AppliesAll}
-use Rattle.rt_sync.specs.Headline.{write_made, push_taken, of_each}
-use Rattle.rt_sync.specs.Sound.{IsSound}
+use Rattle.rt_sync.specs.Headline.{write_made, of_each}
 use Rattle.rt_sync.proofs.HeadlineLaws.{by_step, failed_stays}
 use Rattle.rt_sync.proofs.PlainWorlds.{pending-append}
 

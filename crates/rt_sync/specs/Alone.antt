@@ -1,5 +1,5 @@
 -- A world of one plain listener at most, which is all that a core takes so far.
-use Rattle.std.specs.Prelude.{◌≡◌, true, false, List, [], ◌∷◌, ◌⊎◌}
+use Rattle.std.specs.Prelude.{◌≡◌, true, false, [], ◌∷◌, ◌⊎◌}
 use Rattle.std.specs.List.{All}
 use Rattle.rt_tree.specs.PathTree.{Path, PathTree}
 use Rattle.rt_tree.specs.Assignments.{is_at_or_above}

@@ -15,7 +15,6 @@ use Rattle.rt_sync.specs.declared.report.Body.TheVariants.{Batch}
 use Rattle.rt_sync.specs.declared.report.Outcome.{Outcome}
 use Rattle.rt_sync.specs.declared.report.Outcome.TheVariants.{Done, Stale}
 use Rattle.rt_sync.specs.declared.step.Step.{Step}
-use Rattle.rt_sync.specs.declared.step.Step.TheVariants as Step
 use Rattle.rt_sync.specs.World.{World, Listener, registered, entries_of, pending}
 use Rattle.rt_sync.specs.Views.{view_of}
 use Rattle.rt_sync.specs.Answers.{Answer, batch_from, view_before}

@@ -1,5 +1,5 @@
 -- When a step is refused, and when it is stale.
-use Rattle.std.specs.Prelude.{ℕ, ◌+◌, Bool, true, false, ◌&&◌, ◌||◌, not, List, [], ◌∷◌, length, nat_lt, nat_le, Option}
+use Rattle.std.specs.Prelude.{◌+◌, Bool, true, false, ◌&&◌, ◌||◌, not, List, [], ◌∷◌, length, nat_lt, nat_le, Option}
 use Rattle.std.specs.List.{find, list_any, list_all}
 use Rattle.std.specs.Option.{option_map, option_map_or}
 use Rattle.rt_tree.specs.PathTree.{levels}
@@ -8,7 +8,6 @@ use Rattle.rt_cache.specs.Brought.{is_without_window}
 use Rattle.rt_sync.specs.declared.error.CoreError.{CoreError}
 use Rattle.rt_sync.specs.declared.error.CoreError.TheVariants.{TooManyListeners, TooManyRequests, TooDeep, BadPush, AlreadyConnected, NotConnected}
 use Rattle.rt_sync.specs.declared.step.Step.{Step}
-use Rattle.rt_sync.specs.declared.step.Step.TheVariants as Step
 use Rattle.rt_sync.specs.World.{World, listen_of, entries_of}
 use Rattle.rt_sync.specs.Steps.{Part, parts_of, started_by}
 

@@ -1,5 +1,5 @@
 -- What a core answers to steps, and what it becomes: a world, or none once it has lacked memory.
-use Rattle.std.specs.Prelude.{◌≡◌, ℕ, false, ◌⊎◌, List, [], ◌∷◌, ◌==◌, Option, Some, None, Err, Ok, Result, IsOk}
+use Rattle.std.specs.Prelude.{◌≡◌, ℕ, false, ◌⊎◌, List, [], ◌∷◌, ◌==◌, Option, Some, None, Err, Ok, Result}
 use Rattle.std.specs.List.{find}
 use Rattle.std.specs.Option.{option_map_or}
 use Rattle.rt_query.specs.Queries.{is_filtered}
@@ -7,7 +7,6 @@ use Rattle.rt_query.specs.Select.{Shown}
 use Rattle.rt_sync.specs.declared.error.CoreError.{CoreError}
 use Rattle.rt_sync.specs.declared.error.CoreError.TheVariants.{Failed, UnknownListener, NoMemory}
 use Rattle.rt_sync.specs.declared.step.Step.{Step}
-use Rattle.rt_sync.specs.declared.step.Step.TheVariants as Step
 use Rattle.rt_sync.specs.World.{World}
 use Rattle.rt_sync.specs.Refusals.{refusal, is_stale}
 use Rattle.rt_sync.specs.Answers.{Answer, step}
@@ -44,7 +43,7 @@ IsPlainStep _ = Unit {0}
 abbrev pub view_in : World → ℕ → Result (Option Shown) CoreError
 view_in w number = option_map_or (λ l. Ok l.view) (find (λ l. l.number == number) w.listeners) (Err UnknownListener)
 
--- a core that has failed says so; else the listener's view is answered, unless it lacks memory, which no refusal does
+-- a core that has failed says so; else the listener's view is answered, unless there is one and memory lacks for a copy of it
 abbrev pub Views : Option World → ℕ → Result (Option Shown) CoreError → Type 0
 Views None number answer = answer ≡ Err Failed
-Views (Some w) number answer = (answer ≡ view_in w number) ⊎ ((answer ≡ Err NoMemory) × IsOk (view_in w number))
+Views (Some w) number answer = (answer ≡ view_in w number) ⊎ ((answer ≡ Err NoMemory) × ((shown : Shown) × (view_in w number ≡ Ok (Some shown))))

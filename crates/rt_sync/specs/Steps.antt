@@ -12,7 +12,6 @@ use Rattle.rt_sync.specs.declared.request.Asked.{Asked}
 use Rattle.rt_sync.specs.declared.request.Asked.TheVariants.{Now}
 use Rattle.rt_sync.specs.declared.request.Request.{Request}
 use Rattle.rt_sync.specs.declared.step.Step.{Step}
-use Rattle.rt_sync.specs.declared.step.Step.TheVariants as Step
 use Rattle.rt_sync.specs.Views.{is_known, view_of}
 use Rattle.rt_sync.specs.World.{Listener, World, registered, pending, listen_of}
 

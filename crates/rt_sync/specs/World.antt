@@ -1,5 +1,5 @@
 -- The core as a world of listeners, requests and what the listens brought.
-use Rattle.std.specs.Prelude.{ℕ, min, max, Bool, false, List, [], ◌∷◌, map, ◌==◌, Option, Some, None}
+use Rattle.std.specs.Prelude.{ℕ, min, max, Bool, false, List, [], ◌∷◌, map, ◌==◌, Option, Some}
 use Rattle.std.specs.List.{filter_map, find}
 use Rattle.std.specs.Option.{option_map}
 use Rattle.rt_tree.specs.Assignments.{Assignment}

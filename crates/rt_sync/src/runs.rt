@@ -1,5 +1,5 @@
 // Many steps, one after another.
-ghost use Rattle.std.specs.Prelude.{◌≡◌, Some, IfOk, OnErr};
+ghost use Rattle.std.specs.Prelude.{◌≡◌, [], Some, IfOk, IsOk, OnErr};
 ghost use Rattle.std.specs.List.{All};
 ghost use Rattle.rt_sync.specs.World.{World};
 ghost use Rattle.rt_sync.specs.Headline.{Headline};
@@ -40,6 +40,7 @@ impl Answers {
 pub fn run(alloc: Global, core: &mut Core, steps: Vec<Step>) -> Result<Answers, AllocError>
     requires { All IsPlainStep steps.items }
     ensures unchanged { OnErr result (core.new ≡ core.old) }
+    ensures nothing { steps.items ≡ [] → IsOk result }
     ensures answered { IfOk result (λ answers. AppliesAll core.old steps.items answers core.new) }
     ensures headline { IfOk result (λ answers. (w v : World) → core.old ≡ Some w → core.new ≡ Some v → Headline w steps.items answers v) }
 {

@@ -11,7 +11,7 @@ use crate::sync::Core;
 use rt_query::{Query, Shown};
 use rt_tree::{Leaf, Path, Tree};
 use rt_view::Change;
-use std::alloc::Global;
+use std::alloc::{AllocError, Global};
 use std::test::Fail;
 
 fn path(alloc: Global, text: &str) -> Result<Path, CoreError> {
@@ -42,12 +42,20 @@ fn with(alloc: Global, tree: Tree, key: &str, child: Tree) -> Result<Tree, CoreE
     Ok(tree)
 }
 
+fn plain_listen(path: Path) -> Step
+    ensures { IsPlainStep result }
+{
+    Step::Listen {
+        seat: 1,
+        query: Query::at(path).done(),
+    }
+}
+
 fn listen(alloc: Global, at: &str) -> Result<Step, CoreError>
     ensures { IfOk result IsPlainStep }
 {
     let path = path(alloc, at)?;
-    let query = Query::at(path).done();
-    Ok(Step::Listen { seat: 1, query })
+    Ok(plain_listen(path))
 }
 
 fn set(alloc: Global, at: &str, tree: Tree) -> Result<Step, CoreError>
@@ -103,31 +111,6 @@ fn is_added_after(change: &Change, name: &str, before: &str) -> bool {
     }
 }
 
-// Whether no row and no leaf is shown.
-fn is_empty(shown: &Option<Shown>) -> bool {
-    match shown {
-        Some(shown) => shown.leaf().is_none() && shown.rows().is_empty(),
-        None => false,
-    }
-}
-
-fn is_leaf(shown: &Option<Shown>, tree: &Tree) -> bool {
-    match shown {
-        Some(shown) => shown.leaf() == tree.as_leaf() && shown.rows().is_empty(),
-        None => false,
-    }
-}
-
-fn is_row(shown: &Option<Shown>, name: &str, tree: &Tree) -> bool {
-    match shown {
-        Some(shown) => match shown.rows() {
-            [row] => shown.leaf().is_none() && row.key.text() == name && row.value == *tree,
-            _ => false,
-        },
-        None => false,
-    }
-}
-
 // Makes a step. A core that lacked memory has to answer Failed from then on: else the answer is one that no test wants.
 fn make(core: &mut Core, step: Step) -> Result<Report, CoreError>
     requires { IsPlainStep step }
@@ -139,6 +122,45 @@ fn make(core: &mut Core, step: Step) -> Result<Report, CoreError>
         return Err(CoreError::UnknownListener);
     }
     answer
+}
+
+// The view of listener 1. A core that lacked memory for it has not failed: else the answer is one that no test wants.
+fn view(core: &Core) -> Result<Option<Shown>, CoreError> {
+    let answer = core.view(1);
+    if matches!(answer, Err(CoreError::NoMemory)) && core.view(1).is_err() {
+        return Err(CoreError::UnknownListener);
+    }
+    answer
+}
+
+fn is_leaf(shown: &Shown, tree: &Tree) -> bool {
+    shown.leaf() == tree.as_leaf() && shown.rows().is_empty()
+}
+
+fn is_row(shown: &Shown, name: &str, tree: &Tree) -> bool {
+    match shown.rows() {
+        [row] => shown.leaf().is_none() && row.key.text() == name && row.value == *tree,
+        _ => false,
+    }
+}
+
+// Whether neither a leaf nor a row is shown.
+fn shows_nothing(core: &Core) -> Result<bool, CoreError> {
+    shows_leaf(core, &Tree::null())
+}
+
+fn shows_leaf(core: &Core, tree: &Tree) -> Result<bool, CoreError> {
+    match view(core)? {
+        Some(shown) => Ok(is_leaf(&shown, tree)),
+        None => Ok(false),
+    }
+}
+
+fn shows_row(core: &Core, name: &str, tree: &Tree) -> Result<bool, CoreError> {
+    match view(core)? {
+        Some(shown) => Ok(is_row(&shown, name, tree)),
+        None => Ok(false),
+    }
 }
 
 fn set_at(core: &mut Core, alloc: Global, at: &str, tree: Tree) -> Result<Report, CoreError> {
@@ -170,15 +192,6 @@ fn listening(alloc: Global, at: &str) -> Result<Core, CoreError> {
     Ok(core)
 }
 
-#[test]
-fn push_of_null(rt: HostRuntime) -> Result<(), Fail> {
-    let alloc = rt.alloc();
-    let mut core = listening(alloc, "/")?;
-    let report = push_at(&mut core, alloc, "/", Tree::null())?;
-    assert!(rt; is_told(&report, None, &[]) && is_empty(&core.view(1)?));
-    Ok(())
-}
-
 // Whether the report tells, under that number, of children that are added, each behind the one before it, and then of the whole view.
 fn is_told(report: &Report, given: Option<u64>, added: &[(&str, &str)]) -> bool {
     let changes = changes_of(report);
@@ -193,26 +206,59 @@ fn is_told(report: &Report, given: Option<u64>, added: &[(&str, &str)]) -> bool 
     matches!(changes.last(), Some(Change::Value { .. }))
 }
 
-fn leaf_core(alloc: Global) -> Result<Core, CoreError> {
+// ---- rows
+
+fn is_push_of_null(alloc: Global) -> Result<bool, CoreError> {
+    let mut core = listening(alloc, "/")?;
+    let report = push_at(&mut core, alloc, "/", Tree::null())?;
+    Ok(is_told(&report, None, &[]) && shows_nothing(&core)?)
+}
+
+#[test]
+fn push_of_null(rt: HostRuntime) -> Result<(), Fail> {
+    assert!(rt; is_push_of_null(rt.alloc())?);
+    Ok(())
+}
+
+fn push_number_at(
+    core: &mut Core,
+    alloc: Global,
+    at: &str,
+    value: i64,
+) -> Result<Report, CoreError> {
+    let tree = number(value)?;
+    push_at(core, alloc, at, tree)
+}
+
+fn pushed_leaf(alloc: Global) -> Result<Core, CoreError> {
     let mut core = listening(alloc, "/a")?;
-    drop(push_at(&mut core, alloc, "/a", number(7)?)?);
+    drop(push_number_at(&mut core, alloc, "/a", 7)?);
+    Ok(core)
+}
+
+// A leaf, and null written under it.
+fn leaf_core(alloc: Global) -> Result<Core, CoreError> {
+    let mut core = pushed_leaf(alloc)?;
     drop(set_at(&mut core, alloc, "/a/b", Tree::null())?);
     Ok(core)
 }
 
-#[test]
-fn null_under_leaf(rt: HostRuntime) -> Result<(), Fail> {
-    let core = leaf_core(rt.alloc())?;
-    assert!(rt; is_leaf(&core.view(1)?, &number(7)?));
-    Ok(())
+fn is_null_under_leaf(alloc: Global) -> Result<bool, CoreError> {
+    let core = leaf_core(alloc)?;
+    let tree = number(7)?;
+    shows_leaf(&core, &tree)
+}
+
+fn is_leaf_and_child(alloc: Global) -> Result<bool, CoreError> {
+    let mut core = leaf_core(alloc)?;
+    let report = set_at(&mut core, alloc, "/a/b", truth())?;
+    Ok(is_told(&report, Some(2), &[("b", "")]) && shows_row(&core, "b", &truth())?)
 }
 
 #[test]
 fn leaf_and_child(rt: HostRuntime) -> Result<(), Fail> {
-    let alloc = rt.alloc();
-    let mut core = leaf_core(alloc)?;
-    let report = set_at(&mut core, alloc, "/a/b", truth())?;
-    assert!(rt; is_told(&report, Some(2), &[("b", "")]) && is_row(&core.view(1)?, "b", &truth()));
+    assert!(rt; is_null_under_leaf(rt.alloc())?);
+    assert!(rt; is_leaf_and_child(rt.alloc())?);
     Ok(())
 }
 
@@ -222,12 +268,24 @@ fn pushed(alloc: Global) -> Result<Tree, CoreError> {
     with(alloc, tree, "a", truth())
 }
 
-// Whether the steps of `root_listen` are answered as they should be.
-fn is_root_listen(alloc: Global) -> Result<bool, CoreError> {
+// A core whose listener at the root was pushed that; whether it was told so.
+fn pushed_core(alloc: Global) -> Result<(Core, bool), CoreError> {
     let mut core = listening(alloc, "/")?;
-    let first = push_at(&mut core, alloc, "/", pushed(alloc)?)?;
-    let second = set_at(&mut core, alloc, "/c", text(alloc, "x")?)?;
-    Ok(is_told(&first, None, &[("a", ""), ("b", "a")]) && is_told(&second, Some(1), &[("c", "b")]))
+    let tree = pushed(alloc)?;
+    let report = push_at(&mut core, alloc, "/", tree)?;
+    Ok((core, is_told(&report, None, &[("a", ""), ("b", "a")])))
+}
+
+// Whether a child that is written next is told of, and the view is there.
+fn is_third_told(core: &mut Core, alloc: Global) -> Result<bool, CoreError> {
+    let tree = text(alloc, "x")?;
+    let report = set_at(core, alloc, "/c", tree)?;
+    Ok(is_told(&report, Some(1), &[("c", "b")]) && view(core)?.is_some())
+}
+
+fn is_root_listen(alloc: Global) -> Result<bool, CoreError> {
+    let (mut core, is_well) = pushed_core(alloc)?;
+    Ok(is_third_told(&mut core, alloc)? && is_well)
 }
 
 #[test]
@@ -236,104 +294,186 @@ fn root_listen(rt: HostRuntime) -> Result<(), Fail> {
     Ok(())
 }
 
-// Whichever allocation is refused: the step lacks memory, and the core has failed from then on.
+fn is_write_primes(alloc: Global) -> Result<bool, CoreError> {
+    let mut core = listening(alloc, "/a")?;
+    let report = set_at(&mut core, alloc, "/a", truth())?;
+    Ok(is_told(&report, Some(1), &[]) && shows_leaf(&core, &truth())?)
+}
+
 #[test]
-fn refused_allocations_root_listen(rt: HostRuntime) -> Result<(), Fail> {
-    match is_root_listen(rt.alloc()) {
-        Ok(all) => {
-            assert!(rt; all);
-            println!(rt; "no allocation was refused")?;
-        }
-        Err(error) => assert_eq!(rt; error, CoreError::NoMemory),
+fn write_primes(rt: HostRuntime) -> Result<(), Fail> {
+    assert!(rt; is_write_primes(rt.alloc())?);
+    Ok(())
+}
+
+// ---- each allocation refused in turn
+
+// Takes so many allocations, so that a later one is refused.
+fn take(alloc: Global, count: usize) -> Result<(), AllocError> {
+    for _ in 0..count {
+        drop(Vec::<u8>::with_capacity(alloc, 1)?);
+    }
+    Ok(())
+}
+
+// The steps of `root_listen` behind so many allocations: whether one was refused, and whether all is as it should be.
+fn root_listen_after(alloc: Global, granted: usize) -> Result<(bool, bool), CoreError> {
+    take(alloc, granted)?;
+    match is_root_listen(alloc) {
+        Ok(all) => Ok((false, all)),
+        Err(error) => Ok((true, error == CoreError::NoMemory)),
+    }
+}
+
+// With the Nth allocation of the run refused, each of these tests refuses another one of the steps: `after_B` their (N - B)th.
+// So sixteen runs, from N = 17 on, refuse the first 32 in turn. A run in which none was refused says so.
+#[test]
+fn refused_allocations_root_listen_after_0(rt: HostRuntime) -> Result<(), Fail> {
+    let (is_refused, all) = root_listen_after(rt.alloc(), 0)?;
+    assert!(rt; all);
+    if !is_refused {
+        println!(rt; "no allocation was refused")?;
     }
     Ok(())
 }
 
 #[test]
-fn write_primes(rt: HostRuntime) -> Result<(), Fail> {
-    let alloc = rt.alloc();
-    let mut core = listening(alloc, "/a")?;
-    let report = set_at(&mut core, alloc, "/a", number(5)?)?;
-    assert!(rt; is_told(&report, Some(1), &[]) && is_leaf(&core.view(1)?, &number(5)?));
+fn refused_allocations_root_listen_after_16(rt: HostRuntime) -> Result<(), Fail> {
+    let (is_refused, all) = root_listen_after(rt.alloc(), 16)?;
+    assert!(rt; all);
+    if !is_refused {
+        println!(rt; "no allocation was refused")?;
+    }
     Ok(())
+}
+
+// ---- each refusal, and a stale step: nothing has changed
+
+fn has_no_view(core: &Core) -> bool {
+    matches!(core.view(1), Ok(None))
+}
+
+fn is_unknown(core: &Core, listener: u64) -> bool {
+    matches!(core.view(listener), Err(CoreError::UnknownListener))
+}
+
+// Whether the step was refused so, and the listener has no view yet.
+fn is_refused(core: &Core, answer: &Result<Report, CoreError>, error: CoreError) -> bool {
+    is_error(answer, error) && has_no_view(core)
+}
+
+// A core with a listener at /a, and no connection.
+fn unconnected(alloc: Global, limits: Limits) -> Result<Core, CoreError> {
+    let mut core = Core::new(alloc, limits);
+    drop(listen_at(&mut core, alloc, "/a")?);
+    Ok(core)
+}
+
+fn is_not_connected(alloc: Global) -> Result<bool, CoreError> {
+    let mut core = unconnected(alloc, Limits::full())?;
+    let answer = push_at(&mut core, alloc, "/a", truth());
+    Ok(is_refused(&core, &answer, CoreError::NotConnected))
 }
 
 #[test]
 fn not_connected(rt: HostRuntime) -> Result<(), Fail> {
-    let alloc = rt.alloc();
-    let mut core = Core::new(alloc, Limits::full());
-    let answer = push_at(&mut core, alloc, "/a", truth());
-    assert!(rt; is_error(&answer, CoreError::NotConnected));
+    assert!(rt; is_not_connected(rt.alloc())?);
     Ok(())
+}
+
+fn is_already_connected(alloc: Global) -> Result<bool, CoreError> {
+    let mut core = listening(alloc, "/a")?;
+    let answer = core.apply(Step::Connected);
+    Ok(is_refused(&core, &answer, CoreError::AlreadyConnected))
 }
 
 #[test]
 fn already_connected(rt: HostRuntime) -> Result<(), Fail> {
-    let mut core = connected(rt.alloc())?;
-    assert!(rt; is_error(&core.apply(Step::Connected), CoreError::AlreadyConnected));
+    assert!(rt; is_already_connected(rt.alloc())?);
     Ok(())
+}
+
+fn is_too_many_listeners(alloc: Global) -> Result<bool, CoreError> {
+    let mut core = listening(alloc, "/a")?;
+    let answer = listen_at(&mut core, alloc, "/x");
+    Ok(is_refused(&core, &answer, CoreError::TooManyListeners) && is_unknown(&core, 2))
 }
 
 #[test]
 fn too_many_listeners(rt: HostRuntime) -> Result<(), Fail> {
-    let alloc = rt.alloc();
-    let mut core = listening(alloc, "/a")?;
-    let answer = listen_at(&mut core, alloc, "/x");
-    assert!(rt; is_error(&answer, CoreError::TooManyListeners) && core.view(1)?.is_none());
+    assert!(rt; is_too_many_listeners(rt.alloc())?);
     Ok(())
 }
 
-#[test]
-fn too_many_requests(rt: HostRuntime) -> Result<(), Fail> {
-    let alloc = rt.alloc();
+// A core that has as many unsettled requests as it takes.
+fn full_core(alloc: Global) -> Result<Core, CoreError> {
     let limits = Limits {
         listeners: 1,
         requests: 1,
         last_number: 9,
     };
-    let mut core = Core::new(alloc, limits);
-    drop(set_at(&mut core, alloc, "/a", truth())?);
+    let mut core = unconnected(alloc, limits)?;
+    drop(set_at(&mut core, alloc, "/b", truth())?);
+    Ok(core)
+}
+
+fn is_too_many_requests(alloc: Global) -> Result<bool, CoreError> {
+    let mut core = full_core(alloc)?;
     let answer = set_at(&mut core, alloc, "/a", truth());
-    assert!(rt; is_error(&answer, CoreError::TooManyRequests));
+    Ok(is_refused(&core, &answer, CoreError::TooManyRequests))
+}
+
+#[test]
+fn too_many_requests(rt: HostRuntime) -> Result<(), Fail> {
+    assert!(rt; is_too_many_requests(rt.alloc())?);
     Ok(())
+}
+
+fn is_too_deep(alloc: Global) -> Result<bool, CoreError> {
+    let mut core = listening(alloc, "/a")?;
+    let deep =
+        "/1/2/3/4/5/6/7/8/9/10/11/12/13/14/15/16/17/18/19/20/21/22/23/24/25/26/27/28/29/30/31/32";
+    let tree = with(alloc, Tree::null(), deep, truth())?;
+    let answer = set_at(&mut core, alloc, "/a", tree);
+    Ok(is_refused(&core, &answer, CoreError::TooDeep))
 }
 
 #[test]
 fn too_deep(rt: HostRuntime) -> Result<(), Fail> {
-    let alloc = rt.alloc();
-    let mut core = listening(alloc, "/a")?;
-    let deep =
-        "/a/1/2/3/4/5/6/7/8/9/10/11/12/13/14/15/16/17/18/19/20/21/22/23/24/25/26/27/28/29/30/31";
-    let child = with(alloc, Tree::null(), "k", truth())?;
-    let answer = set_at(&mut core, alloc, deep, child);
-    assert!(rt; is_error(&answer, CoreError::TooDeep) && core.view(1)?.is_none());
+    assert!(rt; is_too_deep(rt.alloc())?);
     Ok(())
+}
+
+fn is_bad_push(alloc: Global) -> Result<bool, CoreError> {
+    let mut core = listening(alloc, "/a")?;
+    let answer = push_at(&mut core, alloc, "/", truth());
+    Ok(is_refused(&core, &answer, CoreError::BadPush))
 }
 
 #[test]
 fn bad_push(rt: HostRuntime) -> Result<(), Fail> {
-    let alloc = rt.alloc();
-    let mut core = listening(alloc, "/a")?;
-    let answer = push_at(&mut core, alloc, "/b", truth());
-    assert!(rt; is_error(&answer, CoreError::BadPush) && core.view(1)?.is_none());
+    assert!(rt; is_bad_push(rt.alloc())?);
     Ok(())
+}
+
+fn is_stale(report: &Report) -> bool {
+    report.outcome == Outcome::Stale && report.notes.as_slice().is_empty()
+}
+
+fn is_stale_push(alloc: Global) -> Result<bool, CoreError> {
+    let mut core = listening(alloc, "/a")?;
+    let step = data(alloc, 9, "/a", truth())?;
+    let report = make(&mut core, step)?;
+    Ok(is_stale(&report) && has_no_view(&core))
 }
 
 #[test]
 fn stale_push(rt: HostRuntime) -> Result<(), Fail> {
-    let alloc = rt.alloc();
-    let mut core = connected(alloc)?;
-    let report = push_at(&mut core, alloc, "/a", truth())?;
-    assert!(rt; report.outcome == Outcome::Stale && report.notes.as_slice().is_empty());
+    assert!(rt; is_stale_push(rt.alloc())?);
     Ok(())
 }
 
-#[test]
-fn unknown_listener(rt: HostRuntime) -> Result<(), Fail> {
-    let core = listening(rt.alloc(), "/a")?;
-    assert!(rt; matches!(core.view(2), Err(CoreError::UnknownListener)));
-    Ok(())
-}
+// ---- many steps, words
 
 #[test]
 fn answers_in_order(rt: HostRuntime) -> Result<(), Fail> {

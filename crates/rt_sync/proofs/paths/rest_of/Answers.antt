@@ -1,4 +1,4 @@
-use Rattle.std.proofs.Common.{rules, ◌≡◌, ◌≤◌, ◌∙◌, ap, true, length, drop, Some, is_some, arith}
+use Rattle.std.proofs.Common.{rules, ◌≡◌, ◌∙◌, ap, true, length, drop, Some, is_some, arith}
 use Rattle.rt_tree.specs.PathTree.{strip}
 use Rattle.rt_sync.proofs.Strips.{strip_drop, strip_fits}
 use Rattle.rt_sync.proofs.paths.rest_of.Goals as goal

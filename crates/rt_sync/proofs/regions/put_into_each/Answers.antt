@@ -1,4 +1,4 @@
-use Rattle.std.proofs.Common.{◌≡◌, ◌<◌, length, rules, add-one}
+use Rattle.std.proofs.Common.{◌<◌, length, rules, add-one}
 use Rattle.rt_cache.specs.Brought.{region_put}
 use Rattle.rt_sync.specs.Inside.{pairs_of}
 use Rattle.rt_sync.proofs.Places.{put_step}

@@ -1,4 +1,4 @@
-use Rattle.std.proofs.Common.{◌≡◌, ◌∙◌, ap, None, []}
+use Rattle.std.proofs.Common.{◌∙◌, ap, None}
 use Rattle.rt_sync.proofs.NextWorlds.{report_of, connect_made}
 use Rattle.rt_sync.proofs.state.State.connect.Goals as goal
 

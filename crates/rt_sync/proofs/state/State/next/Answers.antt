@@ -1,6 +1,5 @@
 use Rattle.std.proofs.Common.{◌≡◌, subst, sym, false}
 use Rattle.std.proofs.lemmas.Result.{IfOk-weaker}
-use Rattle.rt_sync.specs.declared.step.Step.TheVariants as Step
 use Rattle.rt_sync.specs.Refusals.{is_stale}
 use Rattle.rt_sync.specs.Inside.{IsNext}
 use Rattle.rt_sync.proofs.state.State.next.Goals as goal

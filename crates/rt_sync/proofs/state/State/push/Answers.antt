@@ -1,4 +1,4 @@
-use Rattle.std.proofs.Common.{◌≡◌, ◌∙◌, ap, None}
+use Rattle.std.proofs.Common.{◌∙◌, ap, None}
 use Rattle.std.specs.Option.{option_map}
 use Rattle.rt_sync.specs.Inside.{renewed_listener, AreUnder}
 use Rattle.rt_sync.proofs.RefusalLaws.{push_on, push_within}

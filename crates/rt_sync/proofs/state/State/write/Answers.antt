@@ -1,4 +1,4 @@
-use Rattle.std.proofs.Common.{◌≡◌, ◌∙◌, ◌+◌, ◌++◌, [], ◌∷◌, ap, length, Some, rules}
+use Rattle.std.proofs.Common.{◌≡◌, ◌∙◌, ◌+◌, ◌++◌, [], ◌∷◌, length, Some, rules}
 use Rattle.rt_sync.proofs.PlainWorlds.{write_request}
 use Rattle.rt_sync.proofs.NextWorlds.{report_of, write_made, state_written}
 use Rattle.rt_sync.proofs.state.State.write.Goals as goal
