@@ -82,7 +82,11 @@ fn push_note(out: &mut String, alloc: Global, note: &Note) -> Result<(), AllocEr
 }
 
 /// Prints what a step answered: `done`, `done N` or `stale`, then a line for each note and for each change of a batch.
-pub fn push_report(out: &mut String, alloc: Global, report: &Report) -> Result<(), AllocError> {
+pub(crate) fn push_report(
+    out: &mut String,
+    alloc: Global,
+    report: &Report,
+) -> Result<(), AllocError> {
     match (report.outcome, report.given) {
         (Outcome::Done, Some(number)) => writeln!(out, "done {number}")?,
         (Outcome::Done, None) => out.push_str("done\n")?,
@@ -95,7 +99,11 @@ pub fn push_report(out: &mut String, alloc: Global, report: &Report) -> Result<(
 }
 
 /// Prints the view of a listener: `unknown` where it isn't primed, `leaf VALUE`, a `row KEY VALUE` for each row in order, or `empty`.
-pub fn push_view(out: &mut String, alloc: Global, view: Option<&Shown>) -> Result<(), AllocError> {
+pub(crate) fn push_view(
+    out: &mut String,
+    alloc: Global,
+    view: Option<&Shown>,
+) -> Result<(), AllocError> {
     let Some(shown) = view else {
         return out.push_str("unknown\n");
     };
@@ -114,14 +122,14 @@ pub fn push_view(out: &mut String, alloc: Global, view: Option<&Shown>) -> Resul
 }
 
 /// Prints that a word of a line is refused.
-pub fn push_tree_error(out: &mut String, error: TreeError) -> Result<(), AllocError> {
+pub(crate) fn push_tree_error(out: &mut String, error: TreeError) -> Result<(), AllocError> {
     let code = error.code();
     let name = error.name();
     writeln!(out, "refused tree {code} {name}")
 }
 
 /// Prints that the core refuses.
-pub fn push_core_error(out: &mut String, error: CoreError) -> Result<(), AllocError> {
+pub(crate) fn push_core_error(out: &mut String, error: CoreError) -> Result<(), AllocError> {
     let code = error.code();
     let name = error.name();
     writeln!(out, "refused core {code} {name}")

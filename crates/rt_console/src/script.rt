@@ -1,11 +1,16 @@
 // A run of a script.
-ghost use Rattle.std.specs.Prelude.{◌≡◌, ◌+◌, ◌<◌, ◌≤◌, ◌^◌, ◌⊎◌, ◌++◌, ◌∷◌, length, IfSome, IfOk, IfErr, OnOk, IsErrOf};
+ghost use Rattle.std.specs.Prelude.{◌≡◌, ◌+◌, ◌<◌, ◌≤◌, ◌^◌, ◌⊎◌, ◌++◌, ◌∷◌, length, IfSome, IfOk, IfErr, OnOk, OnErr, IsErrOf, is_some, option_and_then};
 ghost use Rattle.std.specs.Io.KnownBytes.{IsAtEnd};
+ghost use Rattle.serde_json.specs.View.{view as data_of};
 ghost use Rattle.rt_sync.specs.Answers.{Answer};
 ghost use Rattle.rt_sync.specs.Runs.{Applies, IsPlainStep};
+ghost use Rattle.rt_console.specs.Forms.{line_of};
+ghost use Rattle.rt_console.specs.Lines.{line_in};
+ghost use Rattle.rt_console.specs.Run.{After, line_of_bytes, step_of, step_of_bytes};
 ghost use Rattle.rt_console.specs.Faults.{NoneFailed, Tells, WriteTells, most_input};
 
 use crate::error::ConsoleError;
+use crate::form::Form;
 use crate::stream::{Drain, Source};
 use crate::task::Task;
 use crate::{form, print, task};
@@ -61,11 +66,31 @@ fn show_view(
 }
 
 // The value of a line, or none where it is no JSON.
-fn value_of(alloc: Global, line: &[u8]) -> Result<Option<Value>, AllocError> {
+fn value_of(alloc: Global, line: &[u8]) -> Result<Option<Value>, AllocError>
+    ensures { IfOk result (λ value. option_and_then (λ v. line_in (data_of v)) value ≡ line_of_bytes line.now) }
+{
     match Value::from_slice(alloc, line) {
         Ok(value) => Ok(Some(value)),
         Err(error) if error.is_memory() => Err(AllocError),
         Err(_) => Ok(None),
+    }
+}
+
+// Does what a line of a form asks for.
+fn do_form(
+    core: &mut Core,
+    alloc: Global,
+    form: Form<'_>,
+    out: &mut String,
+) -> Result<(), AllocError>
+    ensures ok { OnOk result (After (step_of (line_of form.entry)) core.old core.new) }
+    ensures failed { OnErr result ((core.new ≡ core.old) ⊎ After (step_of (line_of form.entry)) core.old core.new) }
+{
+    match task::task_of(alloc, form) {
+        Ok(Task::Step(step)) => make_step(core, alloc, step, out),
+        Ok(Task::View(listener)) => show_view(core, alloc, listener, out),
+        Err(TreeError::NoMemory) => Err(AllocError),
+        Err(error) => print::push_tree_error(out, error),
     }
 }
 
@@ -75,19 +100,18 @@ fn do_line(
     alloc: Global,
     line: &[u8],
     out: &mut String,
-) -> Result<bool, AllocError> {
+) -> Result<bool, AllocError>
+    ensures form { IfOk result (λ has_form. has_form ≡ is_some (line_of_bytes line.now)) }
+    ensures core { OnOk result (After (step_of_bytes line.now) core.old core.new) }
+    ensures failed { OnErr result ((core.new ≡ core.old) ⊎ After (step_of_bytes line.now) core.old core.new) }
+{
     let Some(value) = value_of(alloc, line)? else {
         return Ok(false);
     };
     let Some(form) = form::form_of(&value) else {
         return Ok(false);
     };
-    match task::task_of(alloc, form) {
-        Ok(Task::Step(step)) => make_step(core, alloc, step, out)?,
-        Ok(Task::View(listener)) => show_view(core, alloc, listener, out)?,
-        Err(TreeError::NoMemory) => return Err(AllocError),
-        Err(error) => print::push_tree_error(out, error)?,
-    }
+    do_form(core, alloc, form, out)?;
     Ok(true)
 }
 
