@@ -1,11 +1,16 @@
 // A run of a script.
-ghost use Rattle.std.specs.Prelude.{◌≡◌, ◌+◌, ◌<◌, ◌≤◌, ◌^◌, ◌⊎◌, ◌++◌, ◌∷◌, length, IfSome, IfOk, IfErr, OnOk, IsErrOf};
+ghost use Rattle.std.specs.Prelude.{◌≡◌, ◌+◌, ◌<◌, ◌≤◌, ◌^◌, ◌⊎◌, [], ◌++◌, ◌∷◌, min, if◌then◌else◌, length, Some, IfSome, IfOk, IfErr, OnOk, OnErr, IsErrOf, is_some, option_and_then};
 ghost use Rattle.std.specs.Io.KnownBytes.{IsAtEnd};
+ghost use Rattle.serde_json.specs.View.{view as data_of};
 ghost use Rattle.rt_sync.specs.Answers.{Answer};
 ghost use Rattle.rt_sync.specs.Runs.{Applies, IsPlainStep};
+ghost use Rattle.rt_console.specs.Forms.{line_of};
+ghost use Rattle.rt_console.specs.Lines.{line_in};
+ghost use Rattle.rt_console.specs.Run.{After, Does, DoesIfLine, DoesLine, EndsLine, at, is_bad, line_of_bytes, step_of, step_of_bytes};
 ghost use Rattle.rt_console.specs.Faults.{NoneFailed, Tells, WriteTells, most_input};
 
 use crate::error::ConsoleError;
+use crate::form::Form;
 use crate::stream::{Drain, Source};
 use crate::task::Task;
 use crate::{form, print, task};
@@ -37,7 +42,8 @@ struct Script {
 // Makes a step, and prints what the core answers.
 fn make_step(core: &mut Core, alloc: Global, step: Step, out: &mut String) -> Result<(), AllocError>
     requires { IsPlainStep step }
-    ensures { (answer : Answer) × Applies core.old step answer core.new }
+    ensures ok { OnOk result (Does (Task.Step step) (at core.old out.old) (at core.new out.new)) }
+    ensures made { After (Some step) core.old core.new }
 {
     match core.apply(step) {
         Ok(report) => print::push_report(out, alloc, &report),
@@ -47,12 +53,9 @@ fn make_step(core: &mut Core, alloc: Global, step: Step, out: &mut String) -> Re
 }
 
 // Prints the view of a listener.
-fn show_view(
-    core: &Core,
-    alloc: Global,
-    listener: u64,
-    out: &mut String,
-) -> Result<(), AllocError> {
+fn show_view(core: &Core, alloc: Global, listener: u64, out: &mut String) -> Result<(), AllocError>
+    ensures { OnOk result (Does (Task.View listener) (at core.now out.old) (at core.now out.new)) }
+{
     match core.view(listener) {
         Ok(view) => print::push_view(out, alloc, view.as_ref()),
         Err(CoreError::NoMemory) => Err(AllocError),
@@ -61,11 +64,31 @@ fn show_view(
 }
 
 // The value of a line, or none where it is no JSON.
-fn value_of(alloc: Global, line: &[u8]) -> Result<Option<Value>, AllocError> {
+fn value_of(alloc: Global, line: &[u8]) -> Result<Option<Value>, AllocError>
+    ensures { IfOk result (λ value. option_and_then (λ v. line_in (data_of v)) value ≡ line_of_bytes line.now) }
+{
     match Value::from_slice(alloc, line) {
         Ok(value) => Ok(Some(value)),
         Err(error) if error.is_memory() => Err(AllocError),
         Err(_) => Ok(None),
+    }
+}
+
+// Does what a line of a form asks for.
+fn do_form(
+    core: &mut Core,
+    alloc: Global,
+    form: Form<'_>,
+    out: &mut String,
+) -> Result<(), AllocError>
+    ensures ok { OnOk result (DoesLine (line_of form.entry) (at core.old out.old) (at core.new out.new)) }
+    ensures failed { OnErr result ((core.new ≡ core.old) ⊎ After (step_of (line_of form.entry)) core.old core.new) }
+{
+    match task::task_of(alloc, form) {
+        Ok(Task::Step(step)) => make_step(core, alloc, step, out),
+        Ok(Task::View(listener)) => show_view(core, alloc, listener, out),
+        Err(TreeError::NoMemory) => Err(AllocError),
+        Err(error) => print::push_tree_error(out, error),
     }
 }
 
@@ -75,19 +98,18 @@ fn do_line(
     alloc: Global,
     line: &[u8],
     out: &mut String,
-) -> Result<bool, AllocError> {
+) -> Result<bool, AllocError>
+    ensures form { IfOk result (λ has_form. has_form ≡ is_some (line_of_bytes line.now)) }
+    ensures ok { OnOk result (DoesIfLine (line_of_bytes line.now) (at core.old out.old) (at core.new out.new)) }
+    ensures failed { OnErr result ((core.new ≡ core.old) ⊎ After (step_of_bytes line.now) core.old core.new) }
+{
     let Some(value) = value_of(alloc, line)? else {
         return Ok(false);
     };
     let Some(form) = form::form_of(&value) else {
         return Ok(false);
     };
-    match task::task_of(alloc, form) {
-        Ok(Task::Step(step)) => make_step(core, alloc, step, out)?,
-        Ok(Task::View(listener)) => show_view(core, alloc, listener, out)?,
-        Err(TreeError::NoMemory) => return Err(AllocError),
-        Err(error) => print::push_tree_error(out, error)?,
-    }
+    do_form(core, alloc, form, out)?;
     Ok(true)
 }
 
@@ -136,18 +158,25 @@ impl Script {
     }
 
     // The line that is being read ends: it is done, or passed over where it is empty.
-    fn end_line(&mut self) -> Result<(), AllocError> {
+    fn end_line(&mut self) -> Result<(), AllocError>
+        ensures ok { OnOk result (EndsLine self.old.line.items self.new.lines (at self.old.core self.old.printed) (at self.new.core self.new.printed)) }
+        ensures number { self.new.lines ≡ min (self.old.lines + 1) u64.MAX }
+        ensures bad { OnOk result (self.new.bad_lines ≡ (if is_bad self.old.line.items then min (self.old.bad_lines + 1) u64.MAX else self.old.bad_lines)) }
+        ensures begins { OnOk result (self.new.line.items ≡ []) }
+    {
         self.lines = self.lines.saturating_add(1);
         if self.line.is_empty() {
             return Ok(());
         }
         let line = self.line.as_slice();
-        if !do_line(&mut self.core, self.alloc, line, &mut self.printed)? {
-            self.bad_lines = self.bad_lines.saturating_add(1);
-            let number = self.lines;
-            writeln!(self.printed, "bad line {number}")?;
-        }
+        let has_form = do_line(&mut self.core, self.alloc, line, &mut self.printed)?;
         self.line.clear();
+        if has_form {
+            return Ok(());
+        }
+        self.bad_lines = self.bad_lines.saturating_add(1);
+        let number = self.lines;
+        writeln!(self.printed, "bad line {number}")?;
         Ok(())
     }
 

@@ -1,24 +1,47 @@
 // What a line of the script asks for.
-ghost use Rattle.std.specs.Prelude.{IfOk};
-ghost use Rattle.rt_console.specs.Tasks.{IsPlainTask};
+ghost use Rattle.std.specs.Prelude.{◌≡◌, ◌⊎◌, IfOk, IfErr, OnOk, None, Some};
+ghost use Rattle.std.specs.Option.{option_or};
+ghost use Rattle.serde_json.specs.View.{view as data_of};
+ghost use Rattle.rt_tree.specs.Path.{path_keys, path_fault};
+ghost use Rattle.rt_tree.specs.Reading.{tree_of_data, data_fault};
+ghost use Rattle.rt_console.specs.Forms.{line_of};
+ghost use Rattle.rt_console.specs.Tasks.{IsPlainTask, task_of, words_fault};
 
 use crate::form::Form;
 use rt_query::Query;
 use rt_sync::{Action, Step};
 use rt_tree::{Path, Tree, TreeError};
+use serde_json::Value;
 use std::alloc::Global;
 
 /// What a line asks for.
 #[derive(Drop)]
-pub enum Task {
+pub(crate) enum Task {
     /// A step of the core.
     Step(Step),
     /// The view of a listener.
     View(u64),
 }
 
+// A path, and the tree that comes there.
+fn place_of(alloc: Global, path: &str, value: &Value) -> Result<(Path, Tree), TreeError>
+    ensures path { IfOk result (λ place. place.0 ≡ path_keys path.now) }
+    ensures tree { IfOk result (λ place. place.1 ≡ tree_of_data (data_of value.now)) }
+    ensures fine { OnOk result (option_or (path_fault path.now) (data_fault (data_of value.now)) ≡ None) }
+    ensures fault { IfErr result (λ e. (option_or (path_fault path.now) (data_fault (data_of value.now)) ≡ Some e) ⊎ (e ≡ TreeError.NoMemory)) }
+{
+    let path = Path::parse(alloc, path)?;
+    match Tree::from_value(alloc, value) {
+        Ok(tree) => Ok((path, tree)),
+        Err(error) => Err(error),
+    }
+}
+
 /// What a line of a form asks for. Its words are looked at in their order, so the answer to a line with several faults is the first.
-pub fn task_of(alloc: Global, form: Form<'_>) -> Result<Task, TreeError>
+pub(crate) fn task_of(alloc: Global, form: Form<'_>) -> Result<Task, TreeError>
+    ensures ok { IfOk result (λ task. task ≡ task_of (line_of form.entry)) }
+    ensures fine { OnOk result (words_fault (line_of form.entry) ≡ None) }
+    ensures fault { IfErr result (λ e. (words_fault (line_of form.entry) ≡ Some e) ⊎ (e ≡ TreeError.NoMemory)) }
     ensures plain { IfOk result IsPlainTask }
 {
     match form {
@@ -29,13 +52,11 @@ pub fn task_of(alloc: Global, form: Form<'_>) -> Result<Task, TreeError>
             Ok(Task::Step(Step::Listen { seat, query }))
         }
         Form::Data { tag, path, value } => {
-            let path = Path::parse(alloc, path)?;
-            let tree = Tree::from_value(alloc, value)?;
+            let (path, tree) = place_of(alloc, path, value)?;
             Ok(Task::Step(Step::Data { tag, path, tree }))
         }
         Form::Set { seat, path, value } => {
-            let path = Path::parse(alloc, path)?;
-            let tree = Tree::from_value(alloc, value)?;
+            let (path, tree) = place_of(alloc, path, value)?;
             let action = Action::Put { path, tree };
             Ok(Task::Step(Step::Write { seat, action }))
         }

@@ -5,7 +5,7 @@ use crate::error::ConsoleError;
 use crate::script::run_script;
 use crate::stream::{Drain, Failed, Reading, Source, Writing};
 use crate::words::{Work, read_words};
-use std::alloc::Global;
+use std::alloc::{AllocError, Global};
 use std::process::Abort;
 use std::test::Fail;
 
@@ -233,23 +233,31 @@ impl Drain for Page {
 
 const NEVER: u64 = u64::MAX;
 
-// Each read of the run fails once: the answer is the fault, and what was written is the beginning of what the whole run writes.
+// Runs the script of the root listen; the read and the write of these numbers fail.
+fn ran(alloc: Global, read: u64, write: u64) -> (Result<u64, ConsoleError>, Page) {
+    let mut reader = Trickle::of(ROOT_LISTEN, read);
+    let mut page = Page::new(write);
+    let outcome = run_script(alloc, &mut reader, &mut page);
+    (outcome, page)
+}
+
+// The run is whole, or ended by that fault after the beginning of what the whole run writes.
+fn is_beginning(outcome: Result<u64, ConsoleError>, page: &Page, fault: ConsoleError) -> bool {
+    match outcome {
+        Ok(bad_lines) => bad_lines == 0 && page.written() == ROOT_LISTEN_PRINTS.as_bytes(),
+        Err(error) => error == fault && ROOT_LISTEN_PRINTS.as_bytes().starts_with(page.written()),
+    }
+}
+
+// Each read of the run fails once.
 #[test]
 fn failing_reads(rt: HostRuntime) -> Result<(), Fail> {
     let mut last_fault = 0;
     for fails_at in 0..40 {
-        let mut reader = Trickle::of(ROOT_LISTEN, fails_at);
-        let mut page = Page::new(NEVER);
-        match run_script(rt.alloc(), &mut reader, &mut page) {
-            Ok(bad_lines) => {
-                assert_eq!(rt; bad_lines, 0);
-                assert_eq!(rt; page.written(), ROOT_LISTEN_PRINTS.as_bytes());
-            }
-            Err(error) => {
-                assert_eq!(rt; error, ConsoleError::ReadFault);
-                assert!(rt; ROOT_LISTEN_PRINTS.as_bytes().starts_with(page.written()));
-                last_fault = fails_at;
-            }
+        let (outcome, page) = ran(rt.alloc(), fails_at, NEVER);
+        assert!(rt; is_beginning(outcome, &page, ConsoleError::ReadFault));
+        if outcome.is_err() {
+            last_fault = fails_at;
         }
     }
     // 85 bytes are 13 reads; one more finds the end.
@@ -262,18 +270,10 @@ fn failing_reads(rt: HostRuntime) -> Result<(), Fail> {
 fn failing_writes(rt: HostRuntime) -> Result<(), Fail> {
     let mut last_fault = 0;
     for fails_at in 0..10 {
-        let mut reader = Trickle::of(ROOT_LISTEN, NEVER);
-        let mut page = Page::new(fails_at);
-        match run_script(rt.alloc(), &mut reader, &mut page) {
-            Ok(bad_lines) => {
-                assert_eq!(rt; bad_lines, 0);
-                assert_eq!(rt; page.written(), ROOT_LISTEN_PRINTS.as_bytes());
-            }
-            Err(error) => {
-                assert_eq!(rt; error, ConsoleError::WriteFault);
-                assert!(rt; ROOT_LISTEN_PRINTS.as_bytes().starts_with(page.written()));
-                last_fault = fails_at;
-            }
+        let (outcome, page) = ran(rt.alloc(), NEVER, fails_at);
+        assert!(rt; is_beginning(outcome, &page, ConsoleError::WriteFault));
+        if outcome.is_err() {
+            last_fault = fails_at;
         }
     }
     // Each line is written by itself.
@@ -281,21 +281,54 @@ fn failing_writes(rt: HostRuntime) -> Result<(), Fail> {
     Ok(())
 }
 
-// Passes whichever allocation is refused: the answer is then that, and what was written the beginning of what the whole run writes.
-#[test]
-fn refused_allocations_root_listen(rt: HostRuntime) -> Result<(), Fail> {
-    let mut reader = Trickle::of(ROOT_LISTEN, NEVER);
-    let mut page = Page::new(NEVER);
-    let outcome = run_script(rt.alloc(), &mut reader, &mut page);
-    assert!(rt; ROOT_LISTEN_PRINTS.as_bytes().starts_with(page.written()));
-    match outcome {
-        Ok(bad_lines) => {
-            assert!(rt; bad_lines == 0 && page.len == ROOT_LISTEN_PRINTS.len());
-            println!(rt; "no allocation was refused")?;
-        }
-        Err(error) => assert_eq!(rt; error, ConsoleError::NoMemory),
+// Takes that many allocations, one after another.
+fn take_allocations(alloc: Global, count: usize) -> Result<(), AllocError> {
+    for _ in 0..count {
+        let _taken: Vec<u8> = Vec::with_capacity(alloc, 1)?;
     }
     Ok(())
+}
+
+// Runs the script of the root listen after that many allocations. Passes whichever allocation of the run is refused.
+fn refused_after<R: Abort + Print>(rt: &R, alloc: Global, granted: usize) -> Result<(), Fail> {
+    take_allocations(alloc, granted)?;
+    let (outcome, page) = ran(alloc, NEVER, NEVER);
+    assert!(rt; is_beginning(outcome, &page, ConsoleError::NoMemory));
+    if outcome.is_ok() {
+        println!(rt; "no allocation was refused")?;
+    }
+    Ok(())
+}
+
+// With the allocation of a number from 81 to 96 refused, these six refuse each of the first 96 allocations of the run once.
+#[test]
+fn refused_allocations_root_listen_after_0(rt: HostRuntime) -> Result<(), Fail> {
+    refused_after(&rt, rt.alloc(), 0)
+}
+
+#[test]
+fn refused_allocations_root_listen_after_16(rt: HostRuntime) -> Result<(), Fail> {
+    refused_after(&rt, rt.alloc(), 16)
+}
+
+#[test]
+fn refused_allocations_root_listen_after_32(rt: HostRuntime) -> Result<(), Fail> {
+    refused_after(&rt, rt.alloc(), 32)
+}
+
+#[test]
+fn refused_allocations_root_listen_after_48(rt: HostRuntime) -> Result<(), Fail> {
+    refused_after(&rt, rt.alloc(), 48)
+}
+
+#[test]
+fn refused_allocations_root_listen_after_64(rt: HostRuntime) -> Result<(), Fail> {
+    refused_after(&rt, rt.alloc(), 64)
+}
+
+#[test]
+fn refused_allocations_root_listen_after_80(rt: HostRuntime) -> Result<(), Fail> {
+    refused_after(&rt, rt.alloc(), 80)
 }
 
 #[test]

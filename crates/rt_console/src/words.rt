@@ -1,8 +1,9 @@
 // The command line.
 ghost use Rattle.std.specs.Prelude.{◌≡◌, ◌≢◌, ◌⊎◌, [], map, codes, false, IfOk, IfErr, OnOk};
 ghost use Rattle.clap.specs.Words.{app_of, fault_of, new_app, FailsBy};
+ghost use Rattle.clap.specs.Values.{kind_of};
 ghost use Rattle.clap.specs.declared.builder.command.Command.TheViews.{out-Command as fields_of};
-ghost use Rattle.rt_console.specs.Words.{base_app, console_app};
+ghost use Rattle.rt_console.specs.Words.{base_app, console_app, status_of};
 
 use crate::error::ConsoleError;
 use clap::error::ErrorKind;
@@ -69,7 +70,7 @@ fn work_of(_matches: &ArgMatches<'_>) -> Work {
 }
 
 /// Reads the words after the program's name, and explains where they make no command.
-pub fn command_line<'a, S: AsStr>(alloc: Global, words: &'a [S]) -> Result<Work, Error>
+pub(crate) fn command_line<'a, S: AsStr>(alloc: Global, words: &'a [S]) -> Result<Work, Error>
     ensures { FailsBy (fault_of console_app (map S.text words.entry.now)) result }
 {
     let command = console_command(alloc)?;
@@ -77,13 +78,25 @@ pub fn command_line<'a, S: AsStr>(alloc: Global, words: &'a [S]) -> Result<Work,
     Ok(work_of(&matches))
 }
 
-/// Prints why the words make no command, or the help that they ask for, and answers the exit status.
-pub fn explain<R: Print + Eprint>(rt: &R, error: &Error) -> u8 {
-    let printed = error.print(rt);
-    if error.kind() == ErrorKind::OutOfMemory || printed.is_err() {
-        return 1;
+// The exit status of words that make no command.
+fn status_of(kind: ErrorKind) -> u8
+    ensures { result ≡ status_of kind }
+{
+    match kind {
+        ErrorKind::DisplayHelp | ErrorKind::DisplayVersion => 0,
+        ErrorKind::OutOfMemory => 1,
+        _ => 2,
     }
-    if error.use_stderr() { 2 } else { 0 }
+}
+
+/// Prints why the words make no command, or the help that they ask for, and answers the exit status: 1 where it can't be printed.
+pub(crate) fn explain<R: Print + Eprint>(rt: &R, error: &Error) -> u8
+    ensures { (result ≡ status_of (kind_of error.now)) ⊎ (result ≡ 1) }
+{
+    match error.print(rt) {
+        Ok(()) => status_of(error.kind()),
+        Err(_) => 1,
+    }
 }
 
 /// Reads the words after the program's name.
