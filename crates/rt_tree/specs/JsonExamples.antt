@@ -6,7 +6,7 @@ use Rattle.serde_json.specs.Read.{read}
 use Rattle.serde_json.specs.Written.{compact_text}
 use Rattle.rt_tree.specs.declared.error.TreeError.TheVariants.{BadKey, KeyTooLong, TooDeep, NotWhole, NotJson}
 use Rattle.rt_tree.specs.Reading.{tree_of_data, data_fault, text_fault}
-use Rattle.rt_tree.specs.Writing.{data_of}
+use Rattle.rt_tree.specs.Writing.{data_of, value_count}
 
 -- the text of what a text is read as
 abbrev pub written : List ℕ → Option (List ℕ)
@@ -17,6 +17,14 @@ abbrev pub TextsAreRead : Type 0
 TextsAreRead =
     (written (codes "[1,null,3]") ≡ Some (codes "{\"0\":1,\"2\":3}")) × (written (codes "{\"a\":{}}") ≡ Some (codes "null"))
     × (written (codes "{\"b\":[],\"a\":true}") ≡ Some (codes "{\"a\":true}"))
+
+-- how many values a text is written as, once it is read
+abbrev pub counted : List ℕ → Option ℕ
+counted s = option_map (λ d. value_count (tree_of_data d)) (read s)
+
+-- an object and each value in it count one
+abbrev pub ValuesAreCounted : Type 0
+ValuesAreCounted = (counted (codes "{\"a\":1,\"b\":{\"c\":[2,null]}}") ≡ Some 5) × (counted (codes "[{}]") ≡ Some 1)
 
 -- a text has one fault
 abbrev pub TextsAreRefused : Type 0

@@ -1,7 +1,7 @@
 //! Examples that the prover computes: trees are opened here, and nowhere else.
 #![tactic(auto, unfolding(crate::specs::PathTree::null, crate::specs::PathTree::of_leaf, crate::specs::PathTree::is_null, crate::specs::PathTree::leaf_at, crate::specs::PathTree::sub, crate::specs::PathTree::put, crate::specs::PathTree::levels, crate::specs::Children::children_of))]
 
-ghost use Rattle.rt_tree.specs.JsonExamples.{TextsAreRead, TextsAreRefused, FaultsComeInOrder};
+ghost use Rattle.rt_tree.specs.JsonExamples.{TextsAreRead, ValuesAreCounted, TextsAreRefused, FaultsComeInOrder};
 ghost use Rattle.rt_tree.specs.Examples.{EmptyPiecesDrop, KeysHaveFaults, FirstFaultCounts, PrefixesAreAtOrAbove, LeafStaysUnderNull, EmptyObjectsGo, PutReplaces, ChildrenInOrder, LevelsCount};
 
 /// Empty pieces of a path's text drop, and a slash stands before each key that is printed.
@@ -52,6 +52,11 @@ pub fn levels_count()
 /// The elements of an array have their places as keys, nulls drop, and an empty object is null.
 pub fn texts_are_read()
     ensures { TextsAreRead }
+{}
+
+/// An object counts as a value, and so does each child.
+pub fn values_are_counted()
+    ensures { ValuesAreCounted }
 {}
 
 /// Fractions, large numbers, bad keys and what is no JSON are refused.
