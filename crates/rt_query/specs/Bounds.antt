@@ -22,6 +22,7 @@ pub record Bound : Type 0 where
   pub lower : Option Side
   pub upper : Option Side
 
+-- the five bounds: from what is named on, above it, up to it, below it, and at it
 abbrev pub start_at : Bound
 start_at = record { lower = Some Below; upper = None }
 

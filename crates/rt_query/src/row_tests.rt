@@ -198,3 +198,44 @@ fn draft_refusals_text_in_key_order(rt: HostRuntime) -> Result<(), Fail> {
 fn refusals_have_names(rt: HostRuntime) {
     assert_eq!(rt; QueryError::NoOrder.name(), "NoOrder");
 }
+
+// A bound, taken again where memory was refused; whether it was refused.
+fn bound_again(draft: &mut Draft) -> Result<bool, Fail> {
+    let five = Mark::Leaf(Leaf::number(5)?);
+    match draft.equal_to(five, Some("k")) {
+        Ok(()) => Ok(false),
+        Err(QueryError::NoMemory) => {
+            let five = Mark::Leaf(Leaf::number(5)?);
+            draft.equal_to(five, Some("k"))?;
+            Ok(true)
+        }
+        Err(error) => Err(error.into()),
+    }
+}
+
+// How many rows are shown, asked again where memory was refused; whether it was refused.
+fn count_again(query: &Query, tree: &Tree) -> Result<(usize, bool), Fail> {
+    match query.select(tree) {
+        Ok(shown) => Ok((shown.rows().len(), false)),
+        Err(_) => Ok((query.select(tree)?.rows().len(), true)),
+    }
+}
+
+// Where one allocation of a bound or of a view is refused, the answer is NoMemory, and the right one at the next call. A run
+// in which none was refused says so.
+#[test]
+fn refused_allocations_value_bounds(rt: HostRuntime) -> Result<(), Fail> {
+    let alloc = rt.alloc();
+    let Ok(tree) = Tree::read(alloc, "{\"j\":5,\"k\":5,\"l\":5,\"m\":5}") else {
+        return Ok(());
+    };
+    let mut draft = Query::at(Path::root(alloc));
+    draft.order_by_value()?;
+    let is_refused = bound_again(&mut draft)?;
+    let (count, is_refused_too) = count_again(&draft.done(), &tree)?;
+    assert_eq!(rt; count, 1);
+    if !is_refused && !is_refused_too {
+        println!(rt; "no allocation was refused")?;
+    }
+    Ok(())
+}
