@@ -3,3 +3,4 @@ pub mod Lists
 pub mod OverlayLaws
 pub mod PartLaws
 pub mod Shallow
+pub mod TouchLaws

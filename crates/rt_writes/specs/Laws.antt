@@ -1,7 +1,7 @@
 -- Laws of the overlay.
-use Rattle.std.specs.Prelude.{◌≡◌, List, [], ◌∷◌, ◌++◌}
+use Rattle.std.specs.Prelude.{◌≡◌, ◌≤◌, true, false, List, [], ◌∷◌, ◌++◌, length}
 use Rattle.rt_tree.specs.PathTree.{Key, Path, PathTree, sub, child}
-use Rattle.rt_writes.specs.Writes.{Write, overlay}
+use Rattle.rt_writes.specs.Writes.{Write, IsShallow, overlay, touches, sets_whole}
 
 -- each part of an overlaid tree is the overlay of the part
 abbrev pub OverlayOfPart : Type 0
@@ -10,3 +10,15 @@ OverlayOfPart = (p q : Path) (t : PathTree) (writes : List Write) → sub (overl
 -- each child of an overlaid tree is the overlay of the child
 abbrev pub OverlayOfChild : Type 0
 OverlayOfChild = (p : Path) (t : PathTree) (writes : List Write) (k : Key) → child (overlay p t writes) k ≡ overlay (p ++ k ∷ []) (child t k) writes
+
+-- where no entry sits at, above or below the path the tree is as it was
+abbrev pub OverlayElsewhere : Type 0
+OverlayElsewhere = (p : Path) (t : PathTree) (writes : List Write) → touches writes p ≡ false → overlay p t writes ≡ t
+
+-- where an entry sits at or above the path nothing of the tree shows
+abbrev pub OverlayOfWhole : Type 0
+OverlayOfWhole = (p : Path) (t u : PathTree) (writes : List Write) → sets_whole writes p ≡ true → overlay p t writes ≡ overlay p u writes
+
+-- a part of a tree at p has no leaf under more than 32 keys where the tree has none
+abbrev pub PartIsShallow : Type 0
+PartIsShallow = (p q : Path) (t : PathTree) → length (p ++ q) ≤ 33 → IsShallow (p, t) → IsShallow (p ++ q, sub t q)

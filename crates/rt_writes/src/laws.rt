@@ -1,8 +1,19 @@
 // The laws of the overlay.
-ghost use Rattle.rt_writes.specs.Laws.{OverlayOfPart, OverlayOfChild};
+ghost use Rattle.rt_writes.specs.Laws.{OverlayOfPart, OverlayOfChild, OverlayElsewhere, OverlayOfWhole, PartIsShallow};
 
 /// Each part of an overlaid tree is the overlay of that part, and so is each child.
 pub fn overlay_law()
     ensures part { OverlayOfPart }
     ensures child { OverlayOfChild }
+{}
+
+/// What an overlay leaves as it was, and what it hides.
+pub fn touch_law()
+    ensures elsewhere { OverlayElsewhere }
+    ensures whole { OverlayOfWhole }
+{}
+
+/// Parts are no deeper than their trees.
+pub fn depth_law()
+    ensures { PartIsShallow }
 {}

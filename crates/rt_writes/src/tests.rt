@@ -3,7 +3,7 @@ ghost use Rattle.std.specs.Prelude.{IfOk};
 ghost use Rattle.std.specs.List.{All};
 ghost use Rattle.rt_writes.specs.Writes.{IsShallow};
 
-use crate::*;
+use crate::{Entries, Pending, WriteError, is_shallow};
 use rt_tree::{Key, Path, Tree};
 use std::alloc::Global;
 use std::test::Fail;
