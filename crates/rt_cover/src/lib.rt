@@ -21,5 +21,5 @@ pub use delta::{Delta, Revoked};
 pub use error::CoverError;
 pub use examples::change_examples;
 pub use kept::{Kept, KeptList};
-pub use laws::{kept_law, needed_law, run_law};
+pub use laws::{kept_law, needed_law, run_law, supply_law};
 pub use numbers::Numbers;
