@@ -1,6 +1,13 @@
 // The laws of the cover.
-ghost use Rattle.rt_cover.specs.Laws.{NeededAreFewest, KeptHaveForms, NeededStay, TagsStayApart};
+ghost use Rattle.rt_cover.specs.Laws.{SuppliesItself, SuppliesOnward, SuppliesOneWay, NeededAreFewest, KeptHaveForms, NeededStay, TagsStayApart};
 ghost use Rattle.rt_cover.specs.Runs.{EveryRunIsSound};
+
+/// The three facts of supply on which the fewest listens stand.
+pub fn supply_law()
+    ensures itself { SuppliesItself }
+    ensures onward { SuppliesOnward }
+    ensures one_way { SuppliesOneWay }
+{}
 
 /// Of any forms the needed ones are the fewest that supply all.
 pub fn needed_law()

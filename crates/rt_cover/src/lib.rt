@@ -4,6 +4,7 @@
 mod cover;
 mod delta;
 mod error;
+mod examples;
 mod forms;
 mod kept;
 mod laws;
@@ -18,6 +19,7 @@ mod tests;
 pub use cover::Cover;
 pub use delta::{Delta, Revoked};
 pub use error::CoverError;
+pub use examples::change_examples;
 pub use kept::{Kept, KeptList};
-pub use laws::{kept_law, needed_law, run_law};
+pub use laws::{kept_law, needed_law, run_law, supply_law};
 pub use numbers::Numbers;
