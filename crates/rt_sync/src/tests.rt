@@ -19,8 +19,10 @@ fn path(alloc: Global, text: &str) -> Result<Path, CoreError> {
 }
 
 fn number(value: i64) -> Result<Tree, CoreError> {
-    let leaf = Leaf::number(value).map_err(|_| CoreError::NoMemory)?;
-    Ok(Tree::leaf(leaf))
+    match Leaf::number(value) {
+        Ok(leaf) => Ok(Tree::leaf(leaf)),
+        Err(_) => Err(CoreError::NoMemory),
+    }
 }
 
 fn truth() -> Tree {
