@@ -43,7 +43,11 @@ IsPlainStep _ = Unit {0}
 abbrev pub view_in : World → ℕ → Result (Option Shown) CoreError
 view_in w number = option_map_or (λ l. Ok l.view) (find (λ l. l.number == number) w.listeners) (Err UnknownListener)
 
+-- the listener of that number is registered, and has a view
+abbrev pub HasView : World → ℕ → Type 0
+HasView w number = (shown : Shown) × (view_in w number ≡ Ok (Some shown))
+
 -- a core that has failed says so; else the listener's view is answered, unless there is one and memory lacks for a copy of it
 abbrev pub Views : Option World → ℕ → Result (Option Shown) CoreError → Type 0
 Views None number answer = answer ≡ Err Failed
-Views (Some w) number answer = (answer ≡ view_in w number) ⊎ ((answer ≡ Err NoMemory) × ((shown : Shown) × (view_in w number ≡ Ok (Some shown))))
+Views (Some w) number answer = (answer ≡ view_in w number) ⊎ ((answer ≡ Err NoMemory) × HasView w number)

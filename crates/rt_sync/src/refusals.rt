@@ -28,8 +28,7 @@ fn is_too_deep(step: &Step) -> bool
             ..
         } => stands_too_deep(path, tree),
         Step::Data { path, tree, .. } => stands_too_deep(path, tree),
-        Step::Listen { .. } => false,
-        Step::Connected => false,
+        _ => false,
     }
 }
 
@@ -49,9 +48,7 @@ impl State {
     {
         match step {
             Step::Listen { .. } => self.listener.is_some(),
-            Step::Write { .. } => false,
-            Step::Data { .. } => false,
-            Step::Connected => false,
+            _ => false,
         }
     }
 
@@ -63,9 +60,7 @@ impl State {
                 let count = self.requests.len() as u64;
                 count >= u64::from(self.limits.requests) || count >= self.limits.last_number
             }
-            Step::Listen { .. } => false,
-            Step::Data { .. } => false,
-            Step::Connected => false,
+            _ => false,
         }
     }
 
@@ -77,9 +72,7 @@ impl State {
                 Some(query) => !query.path().is_prefix_of(path),
                 None => false,
             },
-            Step::Listen { .. } => false,
-            Step::Write { .. } => false,
-            Step::Connected => false,
+            _ => false,
         }
     }
 
@@ -88,9 +81,7 @@ impl State {
     {
         match step {
             Step::Connected => self.is_connected,
-            Step::Listen { .. } => false,
-            Step::Write { .. } => false,
-            Step::Data { .. } => false,
+            _ => false,
         }
     }
 
@@ -99,9 +90,7 @@ impl State {
     {
         match step {
             Step::Data { .. } => !self.is_connected,
-            Step::Listen { .. } => false,
-            Step::Write { .. } => false,
-            Step::Connected => false,
+            _ => false,
         }
     }
 
@@ -136,9 +125,7 @@ impl State {
     {
         match step {
             Step::Data { tag, .. } => self.listen_of(*tag).is_none(),
-            Step::Listen { .. } => false,
-            Step::Write { .. } => false,
-            Step::Connected => false,
+            _ => false,
         }
     }
 }

@@ -85,27 +85,16 @@ impl State {
         requires plain { is_filtered query ≡ false }
         ensures { IfOk result (λ made. IsNext self (Step.Listen seat query) made) }
     {
-        let alloc = self.alloc();
-        let State {
-            limits,
-            requests,
-            regions,
-            is_connected,
-            ..
-        } = self;
         let mut listener = Listener {
             number: 1,
             seat,
             query,
             view: None,
         };
-        let notes = renew(alloc, &mut listener, &regions, &requests)?;
+        let notes = renew(self.alloc(), &mut listener, &self.regions, &self.requests)?;
         let state = State {
-            limits,
             listener: Some(listener),
-            requests,
-            regions,
-            is_connected,
+            ..self
         };
         Ok((state, Report::done(Some(1), notes)))
     }
@@ -115,27 +104,14 @@ impl State {
         ensures { IfOk result (λ made. IsNext self (Step.Write seat (Action.Put path tree)) made) }
     {
         let alloc = self.alloc();
-        let State {
-            limits,
-            mut listener,
-            mut requests,
-            regions,
-            is_connected,
-        } = self;
-        let notes = write_over_any(alloc, &mut listener, &path, &tree)?;
-        let id = requests.len() as u64 + 1;
-        requests.push(Request {
+        let mut state = self;
+        let notes = write_over_any(alloc, &mut state.listener, &path, &tree)?;
+        let id = state.requests.len() as u64 + 1;
+        state.requests.push(Request {
             id,
             seat: Some(seat),
             asked: Asked::Now(Action::Put { path, tree }),
         })?;
-        let state = State {
-            limits,
-            listener,
-            requests,
-            regions,
-            is_connected,
-        };
         Ok((state, Report::done(Some(id), notes)))
     }
 
@@ -145,22 +121,9 @@ impl State {
         ensures { IfOk result (λ made. (tag : ℕ) → is_stale self (Step.Data tag path tree) ≡ false → IsNext self (Step.Data tag path tree) made) }
     {
         let alloc = self.alloc();
-        let State {
-            limits,
-            mut listener,
-            requests,
-            mut regions,
-            is_connected,
-        } = self;
-        regions::push(alloc, &mut regions, path, tree)?;
-        let notes = renew_any(alloc, &mut listener, &regions, &requests)?;
-        let state = State {
-            limits,
-            listener,
-            requests,
-            regions,
-            is_connected,
-        };
+        let mut state = self;
+        regions::push(alloc, &mut state.regions, path, tree)?;
+        let notes = renew_any(alloc, &mut state.listener, &state.regions, &state.requests)?;
         Ok((state, Report::done(None, notes)))
     }
 

@@ -7,21 +7,21 @@ use Rattle.rt_sync.proofs.state.State.push.Goals as goal
 
 pub invariant_of-state : goal.invariant_of-state
 invariant_of-state c =
-    let state = c.self.inside in
-    let on = push_on state.limits state.listener state.requests.items state.regions.items state.is_connected c.args.self c.self.view_is c.self.invariant.listened c.requires.0 c.args.path c.args.tree c.requires.1 in
-    let within = push_within state.limits state.listener state.requests.items state.regions.items state.is_connected c.args.self c.self.view_is c.requires.0 c.args.path c.args.tree c.requires.2 on.0 on.1 on.2 in
+    let state = c.state.inside in
+    let on = push_on state.limits state.listener state.requests.items state.regions.items state.is_connected c.args.self c.state.view_is c.state.invariant.listened c.requires.0 c.args.path c.args.tree c.requires.1 in
+    let within = push_within state.limits state.listener state.requests.items state.regions.items state.is_connected c.args.self c.state.view_is c.requires.0 c.args.path c.args.tree c.requires.2 on.0 on.1 on.2 in
     let under : AreUnder (on.0).query.path c.push.new.regions.items = under_pushed (on.0).query.path state.regions.items c.push.new.regions.items c.args.path c.args.tree (on.3).under within c.in_ok-push.ensures in
-    state_pushed state.limits state.requests.items state.regions.items on.0 state.listener c.self.invariant on.1 c.push.new.regions.items under c.renew_any.new.listener
+    state_pushed state.limits state.requests.items state.regions.items on.0 state.listener c.state.invariant on.1 c.push.new.regions.items under c.renew_any.new.listener
     (c.in_ok-notes.ensures.view ∙ (λ i. option_map (renewed_listener (c.deref.ensures.value i) (c.deref-2.ensures.value i)) state.listener))
 
 pub returns : goal.returns
 returns c tag fresh =
-    let state = c.self.inside in
-    let on = push_on state.limits state.listener state.requests.items state.regions.items state.is_connected c.args.self c.self.view_is c.self.invariant.listened c.requires.0 c.args.path c.args.tree c.requires.1 in
-    let within = push_within state.limits state.listener state.requests.items state.regions.items state.is_connected c.args.self c.self.view_is c.requires.0 c.args.path c.args.tree c.requires.2 on.0 on.1 on.2 in
+    let state = c.state.inside in
+    let on = push_on state.limits state.listener state.requests.items state.regions.items state.is_connected c.args.self c.state.view_is c.state.invariant.listened c.requires.0 c.args.path c.args.tree c.requires.1 in
+    let within = push_within state.limits state.listener state.requests.items state.regions.items state.is_connected c.args.self c.state.view_is c.requires.0 c.args.path c.args.tree c.requires.2 on.0 on.1 on.2 in
     let under : AreUnder (on.0).query.path c.push.new.regions.items = under_pushed (on.0).query.path state.regions.items c.push.new.regions.items c.args.path c.args.tree (on.3).under within c.in_ok-push.ensures in
-    let first = push_on state.limits state.listener state.requests.items state.regions.items state.is_connected c.args.self c.self.view_is c.self.invariant.listened tag c.args.path c.args.tree fresh in
-    push_made state.limits state.requests.items state.regions.items state.is_connected state.listener c.args.self c.self.view_is on.0 on.1 (on.3).plain tag first.2 c.args.path c.args.tree c.push.new.regions.items under
+    let first = push_on state.limits state.listener state.requests.items state.regions.items state.is_connected c.args.self c.state.view_is c.state.invariant.listened tag c.args.path c.args.tree fresh in
+    push_made state.limits state.requests.items state.regions.items state.is_connected state.listener c.args.self c.state.view_is on.0 on.1 (on.3).plain tag first.2 c.args.path c.args.tree c.push.new.regions.items under
     c.in_ok-push.ensures c.renew_any.new.listener c.done.result
     (c.in_ok-notes.ensures.view ∙ (λ i. option_map (renewed_listener (c.deref.ensures.value i) (c.deref-2.ensures.value i)) state.listener))
     (c.done.ensures ∙ ap (report_of None) c.in_ok-notes.ensures.notes)
