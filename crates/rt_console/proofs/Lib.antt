@@ -1,3 +1,4 @@
 mod Forms
 mod Lines
+mod Runs
 mod Tasks

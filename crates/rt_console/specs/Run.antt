@@ -1,6 +1,7 @@
 -- What the lines of a script do to a core.
-use Rattle.std.specs.Prelude.{◌≡◌, ◌≢◌, ℕ, ◌++◌, Bool, false, if◌then◌else◌, List, [], ◌∷◌, Option, Some, None, Result, Ok, Err, String, string_bytes, is_none, option_and_then}
+use Rattle.std.specs.Prelude.{◌≡◌, ◌≢◌, ℕ, ◌+◌, ◌-◌, ◌^◌, ◌==◌, min, Bool, false, if◌then◌else◌, List, [], ◌∷◌, ◌++◌, Option, Some, None, Result, Ok, Err, String, string_bytes, is_none, option_and_then}
 use Rattle.std.specs.declared.alloc.Global.{Global}
+use Rattle.std.specs.List.{slice_split}
 use Rattle.std.specs.Str.{is_utf8}
 use Rattle.serde_json.specs.Read.{read}
 use Rattle.rt_tree.specs.declared.error.TreeError.{TreeError}
@@ -8,7 +9,7 @@ use Rattle.rt_query.specs.Select.{Shown}
 use Rattle.rt_sync.specs.declared.error.CoreError.{CoreError}
 use Rattle.rt_sync.specs.declared.error.CoreError.TheVariants.{NoMemory}
 use Rattle.rt_sync.specs.declared.step.Step.{Step}
-use Rattle.rt_sync.specs.World.{World}
+use Rattle.rt_sync.specs.World.{World, empty_world, limits_from}
 use Rattle.rt_sync.specs.Answers.{Answer}
 use Rattle.rt_sync.specs.Runs.{Applies, Views}
 use Rattle.rt_console.specs.declared.task.Task.{Task}
@@ -92,3 +93,45 @@ DoesOrIsBad (Some line) number old new = DoesLine line old new
 abbrev pub EndsLine : List ℕ → ℕ → State → State → Type 0
 EndsLine [] number old new = new ≡ old
 EndsLine (b ∷ bytes) number old new = DoesOrIsBad (line_of_bytes (b ∷ bytes)) number old new
+
+-- ---- a run
+
+-- the lines of a text: its pieces between line feeds
+abbrev pub lines_of : List ℕ → List (List ℕ)
+lines_of text = slice_split (λ b. b == 10) text
+
+-- the lines of a text that goes on with a line that is being read
+abbrev pub resumed : List ℕ → List (List ℕ) → List (List ℕ)
+resumed line [] = []
+resumed line (piece ∷ pieces) = (line ++ piece) ∷ pieces
+
+-- the step of a line; an empty line makes none
+abbrev pub step_of_line : List ℕ → Option Step
+step_of_line [] = None
+step_of_line (b ∷ bytes) = step_of_bytes (b ∷ bytes)
+
+-- how far a run is: its core, and how many of its lines were bad
+pub record Progress : Type 0 where
+  pub core : Option World
+  pub bad_lines : ℕ
+
+abbrev pub progress : Option World → ℕ → Progress
+progress core bad_lines = record { core = core; bad_lines = bad_lines }
+
+-- one more line: its step is made, and it counts where it is bad
+pub record AfterLine (line : List ℕ) (old new : Progress) : Type 0 where
+  pub core : After (step_of_line line) old.core new.core
+  pub counted : new.bad_lines ≡ (if is_bad line then min (old.bad_lines + 1) (2 ^ 64 - 1) else old.bad_lines)
+
+-- lines, one after another
+abbrev pub AfterLines : List (List ℕ) → Progress → Progress → Type 0
+AfterLines [] old new = new ≡ old
+AfterLines (line ∷ lines) old new = (between : Progress) × AfterLine line old between × AfterLines lines between new
+
+-- more of the input, behind the line that is being read: the lines that end in it are done, and what follows is kept as the line that is being read
+abbrev pub Takes : List ℕ → List ℕ → Progress → List ℕ → Progress → Type 0
+Takes line text old kept new = (done : List (List ℕ)) × (resumed line (lines_of text) ≡ done ++ kept ∷ []) × AfterLines done old new
+
+-- the run over an input, from a new core
+abbrev pub start : Progress
+start = record { core = Some (empty_world (limits_from (record { listeners = 65536; requests = 65536; last_number = 9007199254740991 }))); bad_lines = 0 }

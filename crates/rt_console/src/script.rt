@@ -1,12 +1,12 @@
 // A run of a script.
-ghost use Rattle.std.specs.Prelude.{◌≡◌, ◌+◌, ◌<◌, ◌≤◌, ◌^◌, ◌⊎◌, [], ◌++◌, ◌∷◌, min, if◌then◌else◌, length, Some, IfSome, IfOk, IfErr, OnOk, OnErr, IsErrOf, is_some, option_and_then};
+ghost use Rattle.std.specs.Prelude.{◌≡◌, ◌+◌, ◌<◌, ◌≤◌, ◌^◌, ◌⊎◌, [], ◌++◌, ◌∷◌, min, length, Some, IfSome, IfOk, IfErr, OnOk, OnErr, IsErrOf, MatchOption, is_some, option_and_then, position, ◌==◌};
 ghost use Rattle.std.specs.Io.KnownBytes.{IsAtEnd};
 ghost use Rattle.serde_json.specs.View.{view as data_of};
 ghost use Rattle.rt_sync.specs.Answers.{Answer};
 ghost use Rattle.rt_sync.specs.Runs.{Applies, IsPlainStep};
 ghost use Rattle.rt_console.specs.Forms.{line_of};
 ghost use Rattle.rt_console.specs.Lines.{line_in};
-ghost use Rattle.rt_console.specs.Run.{After, Does, DoesIfLine, DoesLine, EndsLine, at, is_bad, line_of_bytes, step_of, step_of_bytes};
+ghost use Rattle.rt_console.specs.Run.{After, AfterLine, Does, DoesIfLine, DoesLine, EndsLine, Takes, at, line_of_bytes, lines_of, progress, step_of, step_of_bytes};
 ghost use Rattle.rt_console.specs.Faults.{NoneFailed, Tells, WriteTells, most_input};
 
 use crate::error::ConsoleError;
@@ -113,12 +113,22 @@ fn do_line(
     Ok(true)
 }
 
+// The place of the first line feed.
+fn feed_in(bytes: &[u8]) -> Option<usize>
+    ensures { result ≡ position (λ byte. byte == 10) bytes.now }
+{
+    bytes.iter().position(|byte| *byte == b'\n')
+}
+
 // The bytes before the first line feed, and those behind it.
 fn split_line<'a>(bytes: &'a [u8]) -> Option<(&'a [u8], &'a [u8])>
-    ensures { IfSome result (λ pieces. bytes.entry.now ≡ pieces.0.now ++ 10 ∷ pieces.1.now) }
+    ensures shorter { IfSome result (λ pieces. length pieces.1.now < length bytes.entry.now) }
+    ensures lines { MatchOption result (lines_of bytes.entry.now ≡ bytes.entry.now ∷ []) (λ pieces. lines_of bytes.entry.now ≡ pieces.0.now ∷ lines_of pieces.1.now) }
 {
-    let end = bytes.iter().position(|byte| *byte == b'\n')?;
-    Some((&bytes[..end], &bytes[end + 1..]))
+    match feed_in(bytes) {
+        Some(end) => Some((&bytes[..end], &bytes[end + 1..])),
+        None => None,
+    }
 }
 
 // A slice of that length to read into.
@@ -161,7 +171,7 @@ impl Script {
     fn end_line(&mut self) -> Result<(), AllocError>
         ensures ok { OnOk result (EndsLine self.old.line.items self.new.lines (at self.old.core self.old.printed) (at self.new.core self.new.printed)) }
         ensures number { self.new.lines ≡ min (self.old.lines + 1) u64.MAX }
-        ensures bad { OnOk result (self.new.bad_lines ≡ (if is_bad self.old.line.items then min (self.old.bad_lines + 1) u64.MAX else self.old.bad_lines)) }
+        ensures after { OnOk result (AfterLine self.old.line.items (progress self.old.core self.old.bad_lines) (progress self.new.core self.new.bad_lines)) }
         ensures begins { OnOk result (self.new.line.items ≡ []) }
     {
         self.lines = self.lines.saturating_add(1);
@@ -185,6 +195,7 @@ impl Script {
         requires { D.failures writer.old + 1 < 2 ^ 64 }
         ensures ok { OnOk result (D.failures writer.new ≡ D.failures writer.old) }
         ensures fault { IfErr result (λ e. (e ≡ ConsoleError.WriteFault) × (D.failures writer.new ≡ D.failures writer.old + 1)) }
+        ensures kept { (self.new.core ≡ self.old.core) × (self.new.line ≡ self.old.line) × (self.new.bad_lines ≡ self.old.bad_lines) }
     {
         if self.printed.is_empty() {
             return Ok(());
@@ -199,6 +210,8 @@ impl Script {
         requires { D.failures writer.old + 1 < 2 ^ 64 }
         ensures ok { OnOk result (D.failures writer.new ≡ D.failures writer.old) }
         ensures fault { IfErr result (λ e. WriteTells e (D.failures writer.old) (D.failures writer.new)) }
+        ensures after { OnOk result (AfterLine self.old.line.items (progress self.old.core self.old.bad_lines) (progress self.new.core self.new.bad_lines)) }
+        ensures begins { OnOk result (self.new.line.items ≡ []) }
     {
         self.end_line()?;
         if self.printed.len() < CHUNK {
@@ -212,6 +225,7 @@ impl Script {
         requires { D.failures writer.old + 1 < 2 ^ 64 }
         ensures ok { OnOk result (D.failures writer.new ≡ D.failures writer.old) }
         ensures fault { IfErr result (λ e. WriteTells e (D.failures writer.old) (D.failures writer.new)) }
+        ensures takes { OnOk result (Takes self.old.line.items bytes.now (progress self.old.core self.old.bad_lines) self.new.line.items (progress self.new.core self.new.bad_lines)) }
     {
         let mut rest = bytes;
         while let Some((end, behind)) = split_line(rest) {
@@ -228,6 +242,7 @@ impl Script {
         requires { D.failures writer.old + 1 < 2 ^ 64 }
         ensures ok { OnOk result (D.failures writer.new ≡ D.failures writer.old) }
         ensures fault { IfErr result (λ e. WriteTells e (D.failures writer.old) (D.failures writer.new)) }
+        ensures after { OnOk result (AfterLine self.old.line.items (progress self.old.core self.old.bad_lines) (progress self.new.core self.new.bad_lines)) }
     {
         self.end_line()?;
         self.write_out(writer)
