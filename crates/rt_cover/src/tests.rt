@@ -9,9 +9,13 @@ fn plain(alloc: Global, path: &str) -> Result<Query, Fail> {
     Ok(Query::at(Path::parse(alloc, path)?).done())
 }
 
-// Registers a listener of all that is at the path.
-fn add(alloc: Global, cover: &mut Cover, listener: u64, path: &str) -> Result<Delta, Fail> {
-    let query = plain(alloc, path)?;
+fn first_child(alloc: Global, path: &str) -> Result<Query, Fail> {
+    let mut draft = Query::at(Path::parse(alloc, path)?);
+    draft.limit_to_first(1)?;
+    Ok(draft.done())
+}
+
+fn add(cover: &mut Cover, listener: u64, query: Query) -> Result<Delta, Fail> {
     if cover.is_registered(listener) {
         Err("the number is used")?;
     }
@@ -29,16 +33,16 @@ fn tells(delta: &Delta, started: &[(u64, u64)], stopped: &[u64]) -> bool {
     are(delta.started.as_slice(), started) && delta.stopped.as_slice() == stopped
 }
 
-// Listeners at two children, and then one at their parent.
+// A child's listener and one of its parent's first child, and then one of the whole parent.
 fn three(alloc: Global) -> Result<Cover, Fail> {
     let mut cover = Cover::new(alloc, 100);
-    add(alloc, &mut cover, 1, "/a/b")?;
-    add(alloc, &mut cover, 2, "/a/c")?;
-    add(alloc, &mut cover, 3, "/a")?;
+    add(&mut cover, 1, plain(alloc, "/a/b")?)?;
+    add(&mut cover, 2, first_child(alloc, "/a")?)?;
+    add(&mut cover, 3, plain(alloc, "/a")?)?;
     Ok(cover)
 }
 
-// The parent's listener ends.
+// The listener of the whole parent ends.
 fn two(alloc: Global) -> Result<Cover, Fail> {
     let mut cover = three(alloc)?;
     cover.remove(&[3])?;
@@ -46,32 +50,34 @@ fn two(alloc: Global) -> Result<Cover, Fail> {
 }
 
 #[test]
-fn first_listens_start(rt: HostRuntime) -> Result<(), Fail> {
+fn cover_changes_start(rt: HostRuntime) -> Result<(), Fail> {
     let mut cover = Cover::new(rt.alloc(), 100);
-    let first = add(rt.alloc(), &mut cover, 1, "/a/b")?;
+    let first = add(&mut cover, 1, plain(rt.alloc(), "/a/b")?)?;
+    let second = add(&mut cover, 2, first_child(rt.alloc(), "/a")?)?;
     assert!(rt; tells(&first, &[(1, 1)], &[]));
+    assert!(rt; tells(&second, &[(2, 2)], &[]));
     Ok(())
 }
 
 #[test]
-fn parent_takes_over(rt: HostRuntime) -> Result<(), Fail> {
+fn cover_changes_parent(rt: HostRuntime) -> Result<(), Fail> {
     let mut cover = Cover::new(rt.alloc(), 100);
-    add(rt.alloc(), &mut cover, 1, "/a/b")?;
-    add(rt.alloc(), &mut cover, 2, "/a/c")?;
-    let third = add(rt.alloc(), &mut cover, 3, "/a")?;
+    add(&mut cover, 1, plain(rt.alloc(), "/a/b")?)?;
+    add(&mut cover, 2, first_child(rt.alloc(), "/a")?)?;
+    let third = add(&mut cover, 3, plain(rt.alloc(), "/a")?)?;
     assert!(rt; tells(&third, &[(3, 3)], &[1, 2]));
     Ok(())
 }
 
 #[test]
-fn parent_supplies(rt: HostRuntime) -> Result<(), Fail> {
+fn cover_changes_supplier(rt: HostRuntime) -> Result<(), Fail> {
     let cover = three(rt.alloc())?;
     assert!(rt; cover.supplier(&plain(rt.alloc(), "/a/b")?) == Some(3));
     Ok(())
 }
 
 #[test]
-fn children_take_over(rt: HostRuntime) -> Result<(), Fail> {
+fn cover_changes_remove(rt: HostRuntime) -> Result<(), Fail> {
     let mut cover = three(rt.alloc())?;
     let delta = cover.remove(&[3, 3])?;
     assert!(rt; tells(&delta, &[(4, 1), (5, 2)], &[3]));
@@ -79,21 +85,21 @@ fn children_take_over(rt: HostRuntime) -> Result<(), Fail> {
 }
 
 #[test]
-fn open_listens(rt: HostRuntime) -> Result<(), Fail> {
+fn cover_changes_open(rt: HostRuntime) -> Result<(), Fail> {
     let cover = two(rt.alloc())?;
     assert!(rt; are(cover.open()?.as_slice(), &[(4, 1), (5, 2)]));
     Ok(())
 }
 
 #[test]
-fn certificate_names_listeners(rt: HostRuntime) -> Result<(), Fail> {
+fn cover_changes_certificate(rt: HostRuntime) -> Result<(), Fail> {
     let cover = two(rt.alloc())?;
     assert!(rt; are(&cover.certificate()?.into_vec(), &[(4, 1), (5, 2)]));
     Ok(())
 }
 
 #[test]
-fn revoked_listen_ends(rt: HostRuntime) -> Result<(), Fail> {
+fn cover_changes_revoke(rt: HostRuntime) -> Result<(), Fail> {
     let mut cover = two(rt.alloc())?;
     let revoked = cover.revoke(4)?;
     assert!(rt; revoked.ended.as_slice() == [1].as_slice());
@@ -102,7 +108,7 @@ fn revoked_listen_ends(rt: HostRuntime) -> Result<(), Fail> {
 }
 
 #[test]
-fn revoked_once(rt: HostRuntime) -> Result<(), Fail> {
+fn cover_changes_revoked_once(rt: HostRuntime) -> Result<(), Fail> {
     let mut cover = two(rt.alloc())?;
     cover.revoke(4)?;
     let error = cover.revoke(4).err();
