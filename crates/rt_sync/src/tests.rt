@@ -18,30 +18,13 @@ fn path(alloc: Global, text: &str) -> Result<Path, CoreError> {
     Path::parse(alloc, text).map_err(|_| CoreError::NoMemory)
 }
 
-fn number(value: i64) -> Result<Tree, CoreError> {
-    match Leaf::number(value) {
-        Ok(leaf) => Ok(Tree::leaf(leaf)),
-        Err(_) => Err(CoreError::NoMemory),
-    }
+// The tree of JSON data.
+fn json(alloc: Global, text: &str) -> Result<Tree, CoreError> {
+    Tree::read(alloc, text).map_err(|_| CoreError::NoMemory)
 }
 
 fn truth() -> Tree {
     Tree::leaf(Leaf::truth(true))
-}
-
-fn text(alloc: Global, words: &str) -> Result<Tree, CoreError> {
-    let words = String::from_str(alloc, words)?;
-    let leaf = Leaf::text(words).map_err(|_| CoreError::NoMemory)?;
-    Ok(Tree::leaf(leaf))
-}
-
-// The tree with `child` at the key.
-fn with(alloc: Global, tree: Tree, key: &str, child: Tree) -> Result<Tree, CoreError> {
-    let mut tree = tree;
-    let path = path(alloc, key)?;
-    tree.put(alloc, &path, child)
-        .map_err(|_| CoreError::NoMemory)?;
-    Ok(tree)
 }
 
 fn plain_listen(path: Path) -> Step
@@ -148,7 +131,8 @@ fn is_row(shown: &Shown, name: &str, tree: &Tree) -> bool {
 
 // Whether neither a leaf nor a row is shown.
 fn shows_nothing(core: &Core) -> Result<bool, CoreError> {
-    shows_leaf(core, &Tree::null())
+    let nothing = Tree::null();
+    shows_leaf(core, &nothing)
 }
 
 fn shows_leaf(core: &Core, tree: &Tree) -> Result<bool, CoreError> {
@@ -170,9 +154,20 @@ fn set_at(core: &mut Core, alloc: Global, at: &str, tree: Tree) -> Result<Report
     make(core, step)
 }
 
-fn push_at(core: &mut Core, alloc: Global, at: &str, tree: Tree) -> Result<Report, CoreError> {
-    let step = data(alloc, 1, at, tree)?;
+fn push_at(
+    core: &mut Core,
+    alloc: Global,
+    tag: u64,
+    at: &str,
+    tree: Tree,
+) -> Result<Report, CoreError> {
+    let step = data(alloc, tag, at, tree)?;
     make(core, step)
+}
+
+fn push_json_at(core: &mut Core, alloc: Global, at: &str, text: &str) -> Result<Report, CoreError> {
+    let tree = json(alloc, text)?;
+    push_at(core, alloc, 1, at, tree)
 }
 
 fn listen_at(core: &mut Core, alloc: Global, at: &str) -> Result<Report, CoreError> {
@@ -212,7 +207,7 @@ fn is_told(report: &Report, given: Option<u64>, added: &[(&str, &str)]) -> bool 
 
 fn is_push_of_null(alloc: Global) -> Result<bool, CoreError> {
     let mut core = listening(alloc, "/")?;
-    let report = push_at(&mut core, alloc, "/", Tree::null())?;
+    let report = push_at(&mut core, alloc, 1, "/", Tree::null())?;
     Ok(is_told(&report, None, &[]) && shows_nothing(&core)?)
 }
 
@@ -222,19 +217,9 @@ fn push_of_null(rt: HostRuntime) -> Result<(), Fail> {
     Ok(())
 }
 
-fn push_number_at(
-    core: &mut Core,
-    alloc: Global,
-    at: &str,
-    value: i64,
-) -> Result<Report, CoreError> {
-    let tree = number(value)?;
-    push_at(core, alloc, at, tree)
-}
-
 fn pushed_leaf(alloc: Global) -> Result<Core, CoreError> {
     let mut core = listening(alloc, "/a")?;
-    drop(push_number_at(&mut core, alloc, "/a", 7)?);
+    drop(push_json_at(&mut core, alloc, "/a", "7")?);
     Ok(core)
 }
 
@@ -247,7 +232,7 @@ fn leaf_core(alloc: Global) -> Result<Core, CoreError> {
 
 fn is_null_under_leaf(alloc: Global) -> Result<bool, CoreError> {
     let core = leaf_core(alloc)?;
-    let tree = number(7)?;
+    let tree = json(alloc, "7")?;
     shows_leaf(&core, &tree)
 }
 
@@ -264,23 +249,16 @@ fn leaf_and_child(rt: HostRuntime) -> Result<(), Fail> {
     Ok(())
 }
 
-// {"b":1,"a":true}
-fn pushed(alloc: Global) -> Result<Tree, CoreError> {
-    let tree = with(alloc, Tree::null(), "b", number(1)?)?;
-    with(alloc, tree, "a", truth())
-}
-
-// A core whose listener at the root was pushed that; whether it was told so.
+// A core whose listener at the root is pushed two children; whether it was told so.
 fn pushed_core(alloc: Global) -> Result<(Core, bool), CoreError> {
     let mut core = listening(alloc, "/")?;
-    let tree = pushed(alloc)?;
-    let report = push_at(&mut core, alloc, "/", tree)?;
+    let report = push_json_at(&mut core, alloc, "/", r#"{"b":1,"a":true}"#)?;
     Ok((core, is_told(&report, None, &[("a", ""), ("b", "a")])))
 }
 
 // Whether a child that is written next is told of, and the view is there.
 fn is_third_told(core: &mut Core, alloc: Global) -> Result<bool, CoreError> {
-    let tree = text(alloc, "x")?;
+    let tree = json(alloc, r#""x""#)?;
     let report = set_at(core, alloc, "/c", tree)?;
     Ok(is_told(&report, Some(1), &[("c", "b")]) && view(core)?.is_some())
 }
@@ -328,7 +306,7 @@ fn root_listen_after(alloc: Global, granted: usize) -> Result<(bool, bool), Core
 }
 
 // With the Nth allocation of the run refused, each of these tests refuses another one of the steps: `after_B` their (N - B)th.
-// So sixteen runs, from N = 17 on, refuse the first 32 in turn. A run in which none was refused says so.
+// So sixteen runs, from N = 33 on, refuse the first 48 in turn. A run in which none was refused says so.
 #[test]
 fn refused_allocations_root_listen_after_0(rt: HostRuntime) -> Result<(), Fail> {
     let (is_refused, all) = root_listen_after(rt.alloc(), 0)?;
@@ -342,6 +320,16 @@ fn refused_allocations_root_listen_after_0(rt: HostRuntime) -> Result<(), Fail> 
 #[test]
 fn refused_allocations_root_listen_after_16(rt: HostRuntime) -> Result<(), Fail> {
     let (is_refused, all) = root_listen_after(rt.alloc(), 16)?;
+    assert!(rt; all);
+    if !is_refused {
+        println!(rt; "no allocation was refused")?;
+    }
+    Ok(())
+}
+
+#[test]
+fn refused_allocations_root_listen_after_32(rt: HostRuntime) -> Result<(), Fail> {
+    let (is_refused, all) = root_listen_after(rt.alloc(), 32)?;
     assert!(rt; all);
     if !is_refused {
         println!(rt; "no allocation was refused")?;
@@ -373,7 +361,7 @@ fn unconnected(alloc: Global, limits: Limits) -> Result<Core, CoreError> {
 
 fn is_not_connected(alloc: Global) -> Result<bool, CoreError> {
     let mut core = unconnected(alloc, Limits::full())?;
-    let answer = push_at(&mut core, alloc, "/a", truth());
+    let answer = push_at(&mut core, alloc, 1, "/a", truth());
     Ok(is_refused(&core, &answer, CoreError::NotConnected))
 }
 
@@ -431,12 +419,18 @@ fn too_many_requests(rt: HostRuntime) -> Result<(), Fail> {
     Ok(())
 }
 
+// 32 keys, as many as a leaf may stand under.
+const DEEP: &str =
+    "/1/2/3/4/5/6/7/8/9/10/11/12/13/14/15/16/17/18/19/20/21/22/23/24/25/26/27/28/29/30/31/32";
+
+fn set_child_at(core: &mut Core, alloc: Global, at: &str) -> Result<Report, CoreError> {
+    let tree = json(alloc, r#"{"k":true}"#)?;
+    set_at(core, alloc, at, tree)
+}
+
 fn is_too_deep(alloc: Global) -> Result<bool, CoreError> {
-    let mut core = listening(alloc, "/a")?;
-    let deep =
-        "/1/2/3/4/5/6/7/8/9/10/11/12/13/14/15/16/17/18/19/20/21/22/23/24/25/26/27/28/29/30/31/32";
-    let tree = with(alloc, Tree::null(), deep, truth())?;
-    let answer = set_at(&mut core, alloc, "/a", tree);
+    let mut core = listening(alloc, DEEP)?;
+    let answer = set_child_at(&mut core, alloc, DEEP);
     Ok(is_refused(&core, &answer, CoreError::TooDeep))
 }
 
@@ -448,7 +442,7 @@ fn too_deep(rt: HostRuntime) -> Result<(), Fail> {
 
 fn is_bad_push(alloc: Global) -> Result<bool, CoreError> {
     let mut core = listening(alloc, "/a")?;
-    let answer = push_at(&mut core, alloc, "/", truth());
+    let answer = push_at(&mut core, alloc, 1, "/", truth());
     Ok(is_refused(&core, &answer, CoreError::BadPush))
 }
 
@@ -464,8 +458,7 @@ fn is_stale(report: &Report) -> bool {
 
 fn is_stale_push(alloc: Global) -> Result<bool, CoreError> {
     let mut core = listening(alloc, "/a")?;
-    let step = data(alloc, 9, "/a", truth())?;
-    let report = make(&mut core, step)?;
+    let report = push_at(&mut core, alloc, 9, "/a", truth())?;
     Ok(is_stale(&report) && has_no_view(&core))
 }
 
