@@ -1,0 +1,4 @@
+pub mod Linked
+pub mod Orders
+pub mod Paths
+pub mod Places
