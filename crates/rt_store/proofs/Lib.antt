@@ -1,4 +1,9 @@
+pub mod Building
+pub mod Felling
+pub mod Joining
 pub mod Linked
 pub mod Orders
 pub mod Paths
 pub mod Places
+pub mod Replacing
+pub mod Taking

@@ -9,7 +9,7 @@ use Rattle.rt_tree.specs.Leaf.{LeafValue}
 use Rattle.rt_tree.specs.PathTree.{Key}
 use Rattle.rt_store.specs.Rows.{Row}
 use Rattle.rt_store.specs.Stored.{nth}
-use Rattle.rt_store.specs.Forest.{Forest, bare, node, first, size, times, entries, AllAfter, IsFull, Links, reached, row_at, IsRow}
+use Rattle.rt_store.specs.Forest.{Forest, bare, node, one_if, first, size, times, entries, AllAfter, IsFull, Links, reached, row_at, IsRow}
 use Rattle.rt_store.specs.Walks.{IsPlace}
 use Rattle.rt_store.specs.StoreView.{rows_from}
 use Rattle.rt_store.specs.declared.slot.Slot.{Slot}
@@ -21,7 +21,7 @@ reached_is zero s parent previous (node n key leaf below behind) h fits = absurd
 reached_is (suc m) s parent previous bare h fits = refl
 reached_is (suc m) s parent previous (node n key leaf below behind) h fits =
     ap (λ o. option_map_or (λ slot. node n slot.key slot.leaf (reached m s slot.first_child) (reached m s slot.next)) o bare) h.0
-    ∙ (λ i. node n key leaf (reached_is m s (Some n) None below h.3 (omega (arith, fits)) i) (reached_is m s parent (Some n) behind h.4 (omega (arith, fits)) i))
+    ∙ (λ i. node n key leaf (reached_is m s (Some n) None below h.1 (omega (arith, fits)) i) (reached_is m s parent (Some n) behind h.2 (omega (arith, fits)) i))
 
 pub row_at_is : (s : Slab Slot) (o parent previous : Option ℕ) (f : Forest) → IsRow s o parent previous f → row_at s o ≡ f
 row_at_is s o parent previous f h = ap (reached (slab_len s) s) (sym h.starts) ∙ reached_is (slab_len s) s parent previous f h.links h.fits
@@ -32,11 +32,11 @@ place_of s o parent previous f h = (parent, previous, subst (IsRow s o parent pr
 -- the rows below and behind a node
 pub below_row : (s : Slab Slot) (o parent previous : Option ℕ) (n : ℕ) (key : Key) (leaf : Option LeafValue) (below behind : Forest)
     → IsRow s o parent previous (node n key leaf below behind) → IsRow s (first below) (Some n) None below
-below_row s o parent previous n key leaf below behind h = record { links = h.links.3; starts = refl; fits = omega (arith, h.fits) }
+below_row s o parent previous n key leaf below behind h = record { links = h.links.1; sound = h.sound.2; starts = refl; fits = omega (arith, h.fits) }
 
 pub behind_row : (s : Slab Slot) (o parent previous : Option ℕ) (n : ℕ) (key : Key) (leaf : Option LeafValue) (below behind : Forest)
     → IsRow s o parent previous (node n key leaf below behind) → IsRow s (first behind) parent (Some n) behind
-behind_row s o parent previous n key leaf below behind h = record { links = h.links.4; starts = refl; fits = omega (arith, h.fits) }
+behind_row s o parent previous n key leaf below behind h = record { links = h.links.2; sound = h.sound.3; starts = refl; fits = omega (arith, h.fits) }
 
 -- what is known of a node that a place leads to
 pub record IsAt (s : Slab Slot) (n : ℕ) (slot : Slot) : Type 0 where
@@ -63,8 +63,8 @@ is_at s n slot parent previous (node m key leaf below behind) e h there =
       is = e ∙ (λ i. node (same i) key leaf (sym b i) (sym r i));
       below = place_of s (first below) (Some m) None below B;
       behind = place_of s (first behind) parent (Some m) behind S;
-      after = subst (AllAfter key) (sym r) h.links.1;
-      full = subst (IsFull leaf) (sym b) h.links.2;
+      after = subst (AllAfter key) (sym r) h.sound.0;
+      full = subst (IsFull leaf) (sym b) h.sound.1;
     })
 
 pub at_place : (s : Slab Slot) (n : ℕ) (slot : Slot) → IsPlace s (Some n) → get s n ≡ Some slot → IsAt s n slot
@@ -103,7 +103,7 @@ either (suc t) u g f h = f (omega arith)
 pub locate : (s : Slab Slot) (o parent previous : Option ℕ) (f : Forest) → IsRow s o parent previous f → (n : ℕ) → 0 < times n f → IsPlace s (Some n)
 locate s o parent previous bare h n some = absurd (omega (arith, some))
 locate s o parent previous (node m key leaf below behind) h n some =
-    elim (nat_eq n m) as (λ b. nat_eq n m ≡ b → 0 < cond b 1 0 + (times n below + times n behind) → IsPlace s (Some n)) [
+    elim (nat_eq n m) as (λ b. nat_eq n m ≡ b → 0 < one_if b + (times n below + times n behind) → IsPlace s (Some n)) [
       | true ↦ λ e g. subst (λ k. IsPlace s (Some k)) (sym (eqb-true n m e)) (subst (IsPlace s) (sym h.starts) (place_of s o parent previous (node m key leaf below behind) h))
       | false ↦ λ e g. either (times n below) (times n behind) (omega (arith, g))
           (λ d. locate s (first below) (Some m) None below (below_row s o parent previous m key leaf below behind h) n d)
@@ -111,9 +111,9 @@ locate s o parent previous (node m key leaf below behind) h n some =
     ] refl some
 
 -- and each number of the slab does
-pub place_in_store : (s : Slab Slot) (o parent previous : Option ℕ) (f : Forest) → IsRow s o parent previous f → (n : ℕ) → times n f ≡ cond (is_some (get s n)) 1 0 → (slot : Slot) → get s n ≡ Some slot → IsPlace s (Some n)
+pub place_in_store : (s : Slab Slot) (o parent previous : Option ℕ) (f : Forest) → IsRow s o parent previous f → (n : ℕ) → times n f ≡ one_if (is_some (get s n)) → (slot : Slot) → get s n ≡ Some slot → IsPlace s (Some n)
 place_in_store s o parent previous f h n once slot there =
-    locate s o parent previous f h n (let one : times n f ≡ 1 = once ∙ ap (λ g. cond (is_some g) 1 0) there in omega (arith, one))
+    locate s o parent previous f h n (let one : times n f ≡ 1 = once ∙ ap (λ g. one_if (is_some g)) there in omega (arith, one))
 
 -- ---- the rows that a contract sees
 nth_rows : (s : Slab Slot) (k : ℕ) (os : List (Option Slot)) (i : ℕ) → i < length os → nth (rows_from s k os) i ≡ entries (row_at s (Some (k + i)))

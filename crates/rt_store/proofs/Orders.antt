@@ -8,7 +8,6 @@ use Rattle.std.specs.Option.{option_and_then, option_map_or}
 use Rattle.std.specs.Cmp.{tied_itself, Equal-is, both_ways}
 use Rattle.std.specs.FinMap.{find}
 use Rattle.std.specs.FinMap.Entries.{is_sorted, below_all, is_sorted-put, find-put, same_entries, by_order}
-use Rattle.slab.specs.Slab.{Slab, get, slab_len}
 use Rattle.rt_tree.specs.Leaf.{LeafValue}
 use Rattle.rt_tree.specs.PathTree.{Key, Path, PathTree, key_eq, key_eq-is, key_eq-same, null, is_null, is_null-null, not_null_of_leaf, null_of_is_null, sub, of_leaf, leaf_at-of_leaf, object, child_of, AllFull, non_null, leaf_at, both}
 use Rattle.rt_tree.specs.Children.{children_of, child_of-children_of}
@@ -17,8 +16,7 @@ use Rattle.rt_order.specs.KeyOrder.{key_cmp}
 use Rattle.rt_order.proofs.Orders.{key_cmp_total, key_cmp-IsAntisymmetric}
 use Rattle.rt_store.specs.Rows.{Row, in_key_order, row, from_key, root_row, from_path}
 use Rattle.rt_store.specs.Stored.{some_row, first_tree}
-use Rattle.rt_store.specs.Forest.{Forest, bare, node, first, tree_with, entries, AllAfter, IsFull, Links}
-use Rattle.rt_store.specs.declared.slot.Slot.{Slot}
+use Rattle.rt_store.specs.Forest.{Forest, bare, node, first, tree_with, entries, AllAfter, IsFull, Sound}
 
 -- the test of either order tells equal keys
 pub tests_alike : (j k : Key) → eq_by_cmp key_cmp j k ≡ key_eq j k
@@ -60,16 +58,16 @@ below_all_of : (k : Key) (f : Forest) → AllAfter k f → T (below_all key_cmp 
 below_all_of k bare h = tt
 below_all_of k (node n key leaf below behind) h = both _ _ (lt_of (key_cmp k key) h.0) (below_all_of k behind h.1)
 
-pub sorted_of : (s : Slab Slot) (parent previous : Option ℕ) (f : Forest) → Links s parent previous f → T (is_sorted key_cmp (entries f))
-sorted_of s parent previous bare h = tt
-sorted_of s parent previous (node n key leaf below behind) h = both _ _ (below_all_of key behind h.1) (sorted_of s parent (Some n) behind h.4)
+pub sorted_of : (f : Forest) → Sound f → T (is_sorted key_cmp (entries f))
+sorted_of bare h = tt
+sorted_of (node n key leaf below behind) h = both _ _ (below_all_of key behind h.0) (sorted_of behind h.3)
 
 -- a leaf, or children of which the first is not null
-pub full_tree : (s : Slab Slot) (parent previous : Option ℕ) (leaf : Option LeafValue) (f : Forest) → Links s parent previous f → IsFull leaf f → is_null (tree_with leaf (entries f)) ≡ false
-full_tree s parent previous (Some l) f h full = is_null-of_leaf l
-full_tree s parent previous None bare h full = absurd full
-full_tree s parent previous None (node n key leaf below behind) h full =
-    object_full (key) (tree_with leaf (entries below)) (entries behind) (full_tree s (Some n) None leaf below h.3 h.2)
+pub full_tree : (leaf : Option LeafValue) (f : Forest) → Sound f → IsFull leaf f → is_null (tree_with leaf (entries f)) ≡ false
+full_tree (Some l) f h full = is_null-of_leaf l
+full_tree None bare h full = absurd full
+full_tree None (node n key leaf below behind) h full =
+    object_full (key) (tree_with leaf (entries below)) (entries behind) (full_tree leaf below h.2 h.1)
   where
     object_full : (k : Key) (t : PathTree) (es : Row) → is_null t ≡ false → is_null (object ((k, t) ∷ es)) ≡ false
     object_full k t es some =
@@ -81,18 +79,18 @@ full_tree s parent previous None (node n key leaf below behind) h full =
           | false ↦ λ n. refl
         ] refl
 
-pub full_of : (s : Slab Slot) (parent previous : Option ℕ) (f : Forest) → Links s parent previous f → AllFull (entries f)
-full_of s parent previous bare h k t is = cc
-full_of s parent previous (node n key leaf below behind) h k t is =
+pub full_of : (f : Forest) → Sound f → AllFull (entries f)
+full_of bare h k t is = cc
+full_of (node n key leaf below behind) h k t is =
     elim (key_eq k key) as (λ b. cond b (Some (tree_with leaf (entries below))) (child_of (entries behind) k) ≡ Some t → is_null t ≡ false) [
-      | true ↦ λ e. ap is_null (sym (let same : tree_with leaf (entries below) ≡ t = cc in same)) ∙ full_tree s (Some n) None leaf below h.3 h.2
-      | false ↦ λ e. full_of s parent (Some n) behind h.4 k t e
+      | true ↦ λ e. ap is_null (sym (let same : tree_with leaf (entries below) ≡ t = cc in same)) ∙ full_tree leaf below h.2 h.1
+      | false ↦ λ e. full_of behind h.3 k t e
     ] is
 
 -- the row of the tree at linked nodes
-pub row-tree_with : (s : Slab Slot) (parent previous : Option ℕ) (leaf : Option LeafValue) (f : Forest) → Links s parent previous f → (is_some leaf ≡ true → f ≡ bare) → row (tree_with leaf (entries f)) ≡ entries f
-row-tree_with s parent previous None f h top = row-object (entries f) (sorted_of s parent previous f h) (full_of s parent previous f h)
-row-tree_with s parent previous (Some l) f h top = row-of_leaf l ∙ sym (ap entries (top refl))
+pub row-tree_with : (leaf : Option LeafValue) (f : Forest) → Sound f → (is_some leaf ≡ true → f ≡ bare) → row (tree_with leaf (entries f)) ≡ entries f
+row-tree_with None f h top = row-object (entries f) (sorted_of f h) (full_of f h)
+row-tree_with (Some l) f h top = row-of_leaf l ∙ sym (ap entries (top refl))
 
 -- the root's row
 pub root_row-full : (t : PathTree) → is_null t ≡ false → root_row t ≡ ([], t) ∷ []

@@ -7,8 +7,9 @@ use Rattle.std.specs.Option.{option_map, option_map_or}
 use Rattle.std.specs.FinMap.Entries.{by_order}
 use Rattle.slab.specs.Slab.{Slab, get}
 use Rattle.rt_tree.specs.Leaf.{LeafValue}
-use Rattle.rt_tree.specs.PathTree.{Key, Path, PathTree, key_eq, null, is_null, is_null-null, sub, child, child_of, object, of_leaf}
+use Rattle.rt_tree.specs.PathTree.{Key, Path, PathTree, key_eq, null, is_null, is_null-null, null_of_is_null, sub, child, child_of, object, of_leaf}
 use Rattle.rt_tree.specs.Parts.{sub-sub}
+use Rattle.rt_tree.specs.Allowed.{IsAllowed, MayStandAt, may_stand_below, allowed-sub}
 use Rattle.rt_tree.proofs.Trees.{sub-root, sub-object, sub-of_leaf, sub-null}
 use Rattle.rt_order.specs.KeyOrder.{key_cmp}
 use Rattle.rt_order.proofs.Orders.{key_cmp_total, key_cmp-IsAntisymmetric}
@@ -16,7 +17,7 @@ use Rattle.rt_store.specs.Rows.{Row, row, from_key, from_path}
 use Rattle.rt_store.specs.Stored.{Stored, onward, some_row}
 use Rattle.rt_store.specs.StoreView.{stored, IsStore}
 use Rattle.rt_store.specs.declared.store.Store.TheInside.{Inside}
-use Rattle.rt_store.specs.Forest.{Forest, bare, node, first, size, entries, tree_with, AllAfter, IsFull, Links, IsRow, row_at}
+use Rattle.rt_store.specs.Forest.{Forest, bare, node, first, size, entries, tree_with, AllAfter, IsFull, Sound, IsRow, row_at}
 use Rattle.rt_store.specs.Walks.{IsPlace, index_in, place_in}
 use Rattle.rt_store.specs.declared.slot.Slot.{Slot}
 use Rattle.rt_store.proofs.Linked.{IsAt, at_place, not_nowhere, row_at-none, row_at_is, place_of, below_row, behind_row}
@@ -48,7 +49,7 @@ pub missing : (s : Slab Slot) (o : Option ℕ) (k : Key) → o ≡ None → inde
 missing s o k is = ap (λ l. index_in k (row_at s l)) is ∙ ap (index_in k) (row_at-none s)
 
 -- ---- what a key finds in a row
-differs : (j k : Key) (r : Ordering) → key_cmp j k ≡ r → is_eq r ≡ false → key_eq j k ≡ false
+pub differs : (j k : Key) (r : Ordering) → key_cmp j k ≡ r → is_eq r ≡ false → key_eq j k ≡ false
 differs j k r order not_equal = sym (tests_alike j k) ∙ ap is_eq order ∙ not_equal
 
 equals : (j k : Key) → key_cmp j k ≡ Equal → key_eq j k ≡ true
@@ -86,7 +87,7 @@ find_found s o parent previous (node m key leaf below behind) k n h e =
       | Less ↦ λ order g. cc
       | Equal ↦ λ order g.
           let slot : Slot = record { key = key; parent = parent; first_child = first below; previous = previous; next = first behind; leaf = leaf } in
-          let whole : IsRow s (Some m) parent previous (node m key leaf below behind) = record { links = h.links; starts = refl; fits = h.fits } in
+          let whole : IsRow s (Some m) parent previous (node m key leaf below behind) = record { links = h.links; sound = h.sound; starts = refl; fits = h.fits } in
           let b : row_at s (first below) ≡ below = row_at_is s (first below) (Some m) None below (below_row s o parent previous m key leaf below behind h) in
           let here = row_at_is s (Some m) parent previous (node m key leaf below behind) whole in
           let found : Found s k (node m key leaf below behind) m = record {
@@ -128,18 +129,18 @@ place_bare : (k : Key) (p : Path) → place_in k p bare ≡ None
 place_bare k [] = refl
 place_bare k (j ∷ p) = refl
 
-pub find_lacks : (s : Slab Slot) (parent previous : Option ℕ) (f : Forest) (k : Key) → Links s parent previous f → index_in k f ≡ None → Lacks k f
-find_lacks s parent previous bare k h e = record { place = place_bare k; from = refl; child = refl }
-find_lacks s parent previous (node m key leaf below behind) k h e =
+pub find_lacks : (f : Forest) (k : Key) → Sound f → index_in k f ≡ None → Lacks k f
+find_lacks bare k h e = record { place = place_bare k; from = refl; child = refl }
+find_lacks (node m key leaf below behind) k h e =
     elim (key_cmp k key) as (λ r. key_cmp k key ≡ r → by_order r None (Some m) (index_in k behind) ≡ None → Lacks k (node m key leaf below behind)) [
       | Less ↦ λ order g. record {
         place = λ p. place_none k p m key leaf below behind order;
-        from = ap (λ t. cond t ((key, tree_with leaf (entries below)) ∷ entries behind) (from_key k (entries behind))) (differs k key Less order refl) ∙ from_key-after k key behind order h.1;
-        child = ap (λ t. cond t (Some (tree_with leaf (entries below))) (child_of (entries behind) k)) (differs k key Less order refl) ∙ child_of-after k key behind order h.1;
+        from = ap (λ t. cond t ((key, tree_with leaf (entries below)) ∷ entries behind) (from_key k (entries behind))) (differs k key Less order refl) ∙ from_key-after k key behind order h.0;
+        child = ap (λ t. cond t (Some (tree_with leaf (entries below))) (child_of (entries behind) k)) (differs k key Less order refl) ∙ child_of-after k key behind order h.0;
       }
       | Equal ↦ λ order g. cc
       | Greater ↦ λ order g.
-          let rest = find_lacks s parent (Some m) behind k h.4 g in record {
+          let rest = find_lacks behind k h.3 g in record {
             place = λ p. place_later k p m key leaf below behind order ∙ rest.place p;
             from = ap (λ t. cond t ((key, tree_with leaf (entries below)) ∷ entries behind) (from_key k (entries behind))) (differs k key Greater order refl) ∙ rest.from;
             child = ap (λ t. cond t (Some (tree_with leaf (entries below))) (child_of (entries behind) k)) (differs k key Greater order refl) ∙ rest.child;
@@ -178,10 +179,10 @@ pub place_row : (s : Slab Slot) (o parent previous : Option ℕ) (leaf : Option 
     → option_map (row_from s) (place_in k p f) ≡ some_row (from_path (tree_with leaf (entries f)) (k ∷ p))
 unfolding row_from
 place_row s o parent previous leaf f k [] h top =
-    of (index_in k f) refl ∙ sym (ap (λ es. some_row (from_key k es)) (row-tree_with s parent previous leaf f h.links top))
+    of (index_in k f) refl ∙ sym (ap (λ es. some_row (from_key k es)) (row-tree_with leaf f h.sound top))
   where
     of : (i : Option ℕ) → index_in k f ≡ i → option_map (row_from s) (place_in k [] f) ≡ some_row (from_key k (entries f))
-    of None e = let d = find_lacks s parent previous f k h.links e in ap (option_map (row_from s)) (d.place []) ∙ sym (ap some_row d.from)
+    of None e = let d = find_lacks f k h.sound e in ap (option_map (row_from s)) (d.place []) ∙ sym (ap some_row d.from)
     of (Some n) e =
         let d = find_found s o parent previous f k n h e in
         ap (option_map (row_from s)) d.ends ∙ sym (ap some_row d.from ∙ some_row-at s n d.slot d.at)
@@ -192,7 +193,7 @@ place_row s o parent previous leaf f k (j ∷ p) h top =
         → ((n : ℕ) (slot : Slot) (at : IsAt s n slot) → (is_some slot.leaf ≡ true → row_at s slot.first_child ≡ bare) → option_map (row_from s) (place_in j p (row_at s slot.first_child)) ≡ some_row (from_path (tree_with slot.leaf (entries (row_at s slot.first_child))) (j ∷ p)))
         → option_map (row_from s) (place_in k (j ∷ p) f) ≡ some_row (from_path (child (tree_with leaf (entries f)) k) (j ∷ p))
     of None e more =
-        let d = find_lacks s parent previous f k h.links e in
+        let d = find_lacks f k h.sound e in
         ap (option_map (row_from s)) (d.place (j ∷ p)) ∙ sym (ap (λ t. some_row (from_path t (j ∷ p))) (child_lacks leaf f k top d) ∙ ap some_row (from_path-null j p))
     of (Some n) e more =
         let d = find_found s o parent previous f k n h e in
@@ -204,11 +205,11 @@ pub place_there : (s : Slab Slot) (o parent previous : Option ℕ) (leaf : Optio
 place_there s o parent previous leaf f k [] h top = of (index_in k f) refl
   where
     of : (i : Option ℕ) → index_in k f ≡ i → is_some (place_in k [] f) ≡ not (is_null (sub (tree_with leaf (entries f)) (k ∷ [])))
-    of None e = let d = find_lacks s parent previous f k h.links e in ap is_some (d.place []) ∙ sym (ap (λ t. not (is_null t)) (child_lacks leaf f k top d) ∙ ap not is_null-null)
+    of None e = let d = find_lacks f k h.sound e in ap is_some (d.place []) ∙ sym (ap (λ t. not (is_null t)) (child_lacks leaf f k top d) ∙ ap not is_null-null)
     of (Some n) e =
         let d = find_found s o parent previous f k n h e in
         ap is_some d.ends
-        ∙ sym (ap (λ t. not (is_null t)) (child_found s leaf f k n top d) ∙ ap not (full_tree s d.at.below.0 d.at.below.1 d.slot.leaf (row_at s d.slot.first_child) d.at.below.2.links d.at.full))
+        ∙ sym (ap (λ t. not (is_null t)) (child_found s leaf f k n top d) ∙ ap not (full_tree d.slot.leaf (row_at s d.slot.first_child) d.at.below.2.sound d.at.full))
 place_there s o parent previous leaf f k (j ∷ p) h top =
     of (index_in k f) refl (λ n slot at g. place_there s slot.first_child at.below.0 at.below.1 slot.leaf (row_at s slot.first_child) j p at.below.2 g)
     ∙ ap (λ t. not (is_null t)) (sub-sub (tree_with leaf (entries f)) (k ∷ []) (j ∷ p))
@@ -217,7 +218,7 @@ place_there s o parent previous leaf f k (j ∷ p) h top =
         → ((n : ℕ) (slot : Slot) (at : IsAt s n slot) → (is_some slot.leaf ≡ true → row_at s slot.first_child ≡ bare) → is_some (place_in j p (row_at s slot.first_child)) ≡ not (is_null (sub (tree_with slot.leaf (entries (row_at s slot.first_child))) (j ∷ p))))
         → is_some (place_in k (j ∷ p) f) ≡ not (is_null (sub (child (tree_with leaf (entries f)) k) (j ∷ p)))
     of None e more =
-        let d = find_lacks s parent previous f k h.links e in
+        let d = find_lacks f k h.sound e in
         ap is_some (d.place (j ∷ p)) ∙ sym (ap (λ t. not (is_null (sub t (j ∷ p)))) (child_lacks leaf f k top d) ∙ ap (λ t. not (is_null t)) (sub-null (j ∷ p)) ∙ ap not is_null-null)
     of (Some n) e more =
         let d = find_found s o parent previous f k n h e in
@@ -225,7 +226,7 @@ place_there s o parent previous leaf f k (j ∷ p) h top =
 
 -- ---- the steps of `descend`
 pub ends_none : (s : Slab Slot) (o : Option ℕ) (k : Key) (p : Path) → IsPlace s o → index_in k (row_at s o) ≡ None → place_in k p (row_at s o) ≡ None
-ends_none s o k p h e = (find_lacks s h.0 h.1 (row_at s o) k h.2.links e).place p
+ends_none s o k p h e = (find_lacks (row_at s o) k h.2.sound e).place p
 
 pub ends_here : (s : Slab Slot) (o : Option ℕ) (k : Key) (p : Path) (n : ℕ) → IsPlace s o → index_in k (row_at s o) ≡ Some n → length p ≡ 0 → place_in k p (row_at s o) ≡ Some n
 ends_here s o k [] n h e short = (find_found s o h.0 h.1 (row_at s o) k n h.2 e).ends
@@ -290,3 +291,70 @@ pub at_path-there : (a : Inside) (s : Stored) (r : Option (Option ℕ)) (path : 
 at_path-there a s r path k p h view goes is =
     rw (sym view, goes, is)
     (some_mapped (place_in k p (row_at a.nodes a.first)) ∙ place_there a.nodes a.first None None a.leaf (row_at a.nodes a.first) k p h.row (top_bare a h))
+
+-- ---- the part at a path
+-- what is known of the node that a path leads to
+pub record IsPart (s : Slab Slot) (t : PathTree) (n : ℕ) : Type 0 where
+  pub slot : Slot
+  pub there : get s n ≡ Some slot
+  pub below : IsPlace s slot.first_child
+  pub is : t ≡ tree_with slot.leaf (entries (row_at s slot.first_child))
+
+pub place_part : (s : Slab Slot) (o parent previous : Option ℕ) (leaf : Option LeafValue) (f : Forest) (k : Key) (p : Path) (n : ℕ) → IsRow s o parent previous f → (is_some leaf ≡ true → f ≡ bare)
+    → place_in k p f ≡ Some n → IsPart s (sub (tree_with leaf (entries f)) (k ∷ p)) n
+place_part s o parent previous leaf f k [] n h top goes = of (index_in k f) refl
+  where
+    of : (i : Option ℕ) → index_in k f ≡ i → IsPart s (sub (tree_with leaf (entries f)) (k ∷ [])) n
+    of None e = cc ((find_lacks f k h.sound e).place [], goes)
+    of (Some m) e =
+        let d = find_found s o parent previous f k m h e in
+        let same : m ≡ n = same_some m n (sym d.ends ∙ goes) in
+        subst (IsPart s (sub (tree_with leaf (entries f)) (k ∷ []))) same (record { slot = d.slot; there = d.there; below = d.at.below; is = child_found s leaf f k m top d })
+place_part s o parent previous leaf f k (j ∷ p) n h top goes =
+    subst (λ t. IsPart s t n) (sub-sub (tree_with leaf (entries f)) (k ∷ []) (j ∷ p))
+    (of (index_in k f) refl (λ m slot at g e. place_part s slot.first_child at.below.0 at.below.1 slot.leaf (row_at s slot.first_child) j p n at.below.2 g e))
+  where
+    of : (i : Option ℕ) → index_in k f ≡ i
+        → ((m : ℕ) (slot : Slot) (at : IsAt s m slot) → (is_some slot.leaf ≡ true → row_at s slot.first_child ≡ bare) → place_in j p (row_at s slot.first_child) ≡ Some n → IsPart s (sub (tree_with slot.leaf (entries (row_at s slot.first_child))) (j ∷ p)) n)
+        → IsPart s (sub (child (tree_with leaf (entries f)) k) (j ∷ p)) n
+    of None e more = cc ((find_lacks f k h.sound e).place (j ∷ p), goes)
+    of (Some m) e more =
+        let d = find_found s o parent previous f k m h e in
+        subst (λ t. IsPart s (sub t (j ∷ p)) n) (sym (child_found s leaf f k m top d)) (more m d.slot d.at (full_below s m d.slot d.at) (sym (d.goes j p) ∙ goes))
+
+stands_alone : (p : Path) (t : PathTree) → MayStandAt p t → IsAllowed t
+stands_alone [] t h = h
+stands_alone (k ∷ p) t h = stands_alone p t (may_stand_below k p t h)
+
+pub root_part : (s : Stored) (p : Path) → length p ≡ 0 → s.tree ≡ sub s.tree p
+root_part s [] short = sym (sub-root s.tree)
+root_part s (k ∷ p) short = absurd (omega (arith, short))
+
+pub path_part : (a : Inside) (s : Stored) (path : Path) (k : Key) (p : Path) (n : ℕ) → IsStore a → stored a ≡ s → path ≡ k ∷ p → place_in k p (row_at a.nodes a.first) ≡ Some n → IsPart a.nodes (sub s.tree path) n
+path_part a s path k p n h view goes is = rw (sym view, goes) (place_part a.nodes a.first None None a.leaf (row_at a.nodes a.first) k p n h.row (top_bare a h) is)
+
+pub path_allowed : (a : Inside) (s : Stored) (path : Path) → IsStore a → stored a ≡ s → IsAllowed (sub s.tree path)
+path_allowed a s path h view = stands_alone path (sub s.tree path) (allowed-sub s.tree path (subst (λ (x : Stored). IsAllowed x.tree) view h.allowed))
+
+pub path_null : (a : Inside) (s : Stored) (path : Path) (k : Key) (p : Path) → IsStore a → stored a ≡ s → path ≡ k ∷ p → place_in k p (row_at a.nodes a.first) ≡ None → null ≡ sub s.tree path
+path_null a s path k p h view goes none =
+    rw (sym view, goes)
+    (sym (null_of_is_null (sub (tree_with a.leaf (entries (row_at a.nodes a.first))) (k ∷ p))
+    (off (is_null (sub (tree_with a.leaf (entries (row_at a.nodes a.first))) (k ∷ p)))
+    (sym (ap is_some none) ∙ place_there a.nodes a.first None None a.leaf (row_at a.nodes a.first) k p h.row (top_bare a h)))))
+  where
+    off : (b : Bool) → false ≡ not b → b ≡ true
+    off true e = refl
+    off false e = cc
+
+same_at : (s : Slab Slot) (t : PathTree) (n : ℕ) (slot : Slot) → get s n ≡ Some slot → (d : IsPart s t n) → d.slot ≡ slot
+same_at s t n slot there d = same_slot s n d.slot slot d.there there
+
+pub part_place : (s : Slab Slot) (t : PathTree) (n : ℕ) (slot : Slot) → get s n ≡ Some slot → IsPart s t n → IsPlace s slot.first_child
+part_place s t n slot there d = subst (λ (x : Slot). IsPlace s x.first_child) (same_at s t n slot there d) d.below
+
+pub part_is : (s : Slab Slot) (t : PathTree) (n : ℕ) (slot : Slot) → get s n ≡ Some slot → IsPart s t n → t ≡ tree_with slot.leaf (entries (row_at s slot.first_child))
+part_is s t n slot there d = d.is ∙ ap (λ (x : Slot). tree_with x.leaf (entries (row_at s x.first_child))) (same_at s t n slot there d)
+
+pub part_there : (s : Slab Slot) (t : PathTree) (n : ℕ) → IsPart s t n → get s n ≡ None → ⊥
+part_there s t n d none = cc (sym d.there ∙ none)

@@ -7,7 +7,7 @@ use Rattle.rt_tree.specs.Leaf.{LeafValue}
 use Rattle.rt_tree.specs.PathTree.{PathTree, null, is_null, is_null-null, leaf_of, leaf_at-null, leaf_at-of_leaf, leaf_at-object-root, of_leaf, object}
 use Rattle.rt_store.specs.Rows.{Row, row, root_row}
 use Rattle.rt_store.specs.Stored.{Stored, nth, onward, some_row, behind, first_tree, first_key, tree_at, key_at}
-use Rattle.rt_store.specs.Forest.{Forest, bare, node, first, entries, tree_with, Links, IsRow, row_at}
+use Rattle.rt_store.specs.Forest.{Forest, bare, node, first, entries, tree_with, IsRow, row_at}
 use Rattle.rt_store.specs.Walks.{IsPlace}
 use Rattle.rt_store.specs.StoreView.{stored, IsStore}
 use Rattle.rt_store.specs.declared.store.Store.TheInside.{Inside}
@@ -45,12 +45,12 @@ pub row_at_node : (a : Inside) → IsStore a → (n : ℕ) (slot : Slot) → get
 row_at_node a h n slot there =
     let at = at_node a h n slot there in
     ap (λ es. row (first_tree es)) (onward_at a h n slot there)
-    ∙ row-tree_with a.nodes at.below.0 at.below.1 slot.leaf (row_at a.nodes slot.first_child) at.below.2.links (top_of_full slot.leaf (row_at a.nodes slot.first_child) at.full)
+    ∙ row-tree_with slot.leaf (row_at a.nodes slot.first_child) at.below.2.sound (top_of_full slot.leaf (row_at a.nodes slot.first_child) at.full)
 
 pub row_at_root : (a : Inside) → IsStore a → row (tree_at (stored a) None) ≡ entries (row_at a.nodes a.first)
 row_at_root a h =
     ap row (first_of_root (stored a).tree)
-    ∙ row-tree_with a.nodes None None a.leaf (row_at a.nodes a.first) h.row.links (λ e. ap (row_at a.nodes) (h.top e) ∙ row_at-none a.nodes)
+    ∙ row-tree_with a.leaf (row_at a.nodes a.first) h.row.sound (λ e. ap (row_at a.nodes) (h.top e) ∙ row_at-none a.nodes)
 
 pub root_place : (a : Inside) → IsStore a → IsPlace a.nodes a.first
 root_place a h = (None, None, h.row)
@@ -68,7 +68,7 @@ pub first_child-node : (a : Inside) (s : Stored) (n : Option ℕ) (r : Option (O
 first_child-node a s n r m slot h view at there is = rw (sym view, at, is) (link_row a slot.first_child (at_node a h m slot there).below ∙ sym (ap some_row (row_at_node a h m slot there)))
 
 pub row-null : row null ≡ []
-row-null = row-tree_with (record { slots = []; vacant_key = 0; capacity = 0 }) None None None bare tt (λ e. refl)
+row-null = row-tree_with None bare tt (λ e. refl)
 
 pub first_child-nowhere : (a : Inside) (s : Stored) (n : Option ℕ) (m : ℕ) → stored a ≡ s → n ≡ Some m → get a.nodes m ≡ None → None ≡ some_row (row (tree_at s n))
 first_child-nowhere a s n m view at none = rw (sym view, at) (sym (ap some_row (ap (λ es. row (first_tree es)) (onward_nowhere a m none) ∙ row-null)))
@@ -109,4 +109,4 @@ null_is a h = of a.leaf a.first refl (row_at a.nodes a.first) refl h.row
     of (Some l) o e f d g = is_null-of_leaf l
     of None None e f d g = ap (λ x. is_null (object (entries (row_at a.nodes x)))) e ∙ ap (λ x. is_null (object (entries x))) (row_at-none a.nodes) ∙ is_null-null
     of None (Some n) e bare d g = cc (g.starts, e)
-    of None (Some n) e (node m key leaf below behind) d g = ap (λ x. is_null (object (entries x))) d ∙ full_tree a.nodes None None None (node m key leaf below behind) g.links tt
+    of None (Some n) e (node m key leaf below behind) d g = ap (λ x. is_null (object (entries x))) d ∙ full_tree None (node m key leaf below behind) g.sound tt

@@ -1,5 +1,5 @@
 -- The linked nodes of a row and below it, as they stand in a slab.
-use Rattle.std.specs.Prelude.{◌≡◌, ◌≤◌, ℕ, suc, ◌+◌, List, [], ◌∷◌, Option, Some, None, nat_eq, cond, zero}
+use Rattle.std.specs.Prelude.{◌≡◌, ◌≤◌, ℕ, suc, ◌+◌, List, [], ◌∷◌, Option, Some, None, nat_eq, zero, Bool, true, false}
 use Rattle.std.specs.Option.{option_map_or}
 use Rattle.std.specs.declared.cmp.Ordering.TheVariants.{Less}
 use Rattle.slab.specs.Slab.{Slab, get, slab_len}
@@ -24,10 +24,14 @@ abbrev pub size : Forest → ℕ
 size bare = 0
 size (node n key leaf below behind) = suc (size below + size behind)
 
+abbrev pub one_if : Bool → ℕ
+one_if true = 1
+one_if false = 0
+
 -- how often a number stands in it
 abbrev pub times : ℕ → Forest → ℕ
 times k bare = 0
-times k (node n key leaf below behind) = cond (nat_eq k n) 1 0 + (times k below + times k behind)
+times k (node n key leaf below behind) = one_if (nat_eq k n) + (times k below + times k behind)
 
 -- the tree of a leaf, or else of children
 abbrev pub tree_with : Option LeafValue → Row → PathTree
@@ -51,12 +55,17 @@ IsFull (Some l) (node n key leaf below behind) = ⊥
 IsFull None bare = ⊥
 IsFull None (node n key leaf below behind) = Unit {0}
 
--- the slab has these nodes, under this parent and behind this sibling; links agree both ways, keys strictly rise, and none is null
+-- keys strictly rise in each row, and nothing is null
+abbrev pub Sound : Forest → Type 0
+Sound bare = Unit {0}
+Sound (node n key leaf below behind) = AllAfter key behind × IsFull leaf below × Sound below × Sound behind
+
+-- the slab has these nodes, under this parent and behind this sibling, and their links agree both ways
 abbrev pub Links : Slab Slot → Option ℕ → Option ℕ → Forest → Type 0
 Links s parent previous bare = Unit {0}
 Links s parent previous (node n key leaf below behind) =
     (get s n ≡ Some (record { key = key; parent = parent; first_child = first below; previous = previous; next = first behind; leaf = leaf }))
-    × AllAfter key behind × IsFull leaf below × Links s (Some n) None below × Links s parent (Some n) behind
+    × Links s (Some n) None below × Links s parent (Some n) behind
 
 -- what is reached from a node, by a bound on the steps
 abbrev pub reached : ℕ → Slab Slot → Option ℕ → Forest
@@ -71,5 +80,6 @@ row_at s o = reached (slab_len s) s o
 -- the row from a node on, as it is linked
 pub record IsRow (s : Slab Slot) (o parent previous : Option ℕ) (f : Forest) : Type 0 where
   pub links : Links s parent previous f
+  pub sound : Sound f
   pub starts : first f ≡ o
   pub fits : size f ≤ slab_len s

@@ -1,12 +1,12 @@
 -- The tree and the rows that a store is seen as, and what its nodes keep.
-use Rattle.std.specs.Prelude.{◌≡◌, ℕ, ◌+◌, List, [], ◌∷◌, Option, Some, None, is_some, cond, true}
+use Rattle.std.specs.Prelude.{◌≡◌, ℕ, ◌+◌, List, [], ◌∷◌, Option, Some, None, is_some, true}
 use Rattle.slab.specs.Slab.{Slab, get, slab_len}
 use Rattle.rt_tree.specs.Leaf.{LeafValue}
 use Rattle.rt_tree.specs.PathTree.{PathTree}
 use Rattle.rt_tree.specs.Allowed.{IsAllowed}
 use Rattle.rt_store.specs.Rows.{Row}
 use Rattle.rt_store.specs.Stored.{Stored}
-use Rattle.rt_store.specs.Forest.{Forest, Links, IsRow, row_at, entries, tree_with, size, times, first}
+use Rattle.rt_store.specs.Forest.{Forest, Links, IsRow, row_at, one_if, entries, tree_with, size, times, first}
 use Rattle.rt_store.specs.declared.slot.Slot.{Slot}
 use Rattle.rt_store.specs.declared.store.Store.TheInside.{Inside}
 
@@ -26,6 +26,6 @@ IsTop leaf o = is_some leaf ≡ true → o ≡ None
 pub record IsStore (a : Inside) : Type 0 where
   pub row : IsRow a.nodes a.first None None (row_at a.nodes a.first)
   pub count : size (row_at a.nodes a.first) ≡ slab_len a.nodes
-  pub once : (n : ℕ) → times n (row_at a.nodes a.first) ≡ cond (is_some (get a.nodes n)) 1 0
+  pub once : (n : ℕ) → times n (row_at a.nodes a.first) ≡ one_if (is_some (get a.nodes n))
   pub top : IsTop a.leaf a.first
   pub allowed : IsAllowed (stored a).tree

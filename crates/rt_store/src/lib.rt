@@ -5,11 +5,15 @@
 //! (`specs/Stored.antt`).
 #![tactic(auto)]
 
+mod build;
 mod error;
+mod links;
 mod node;
 mod row;
 mod slot;
 mod store;
+#[cfg(test)]
+mod tests;
 
 pub use error::StoreError;
 pub use node::Node;

@@ -1,16 +1,17 @@
 // A tree as linked nodes.
-ghost use Rattle.std.specs.Prelude.{◌≡◌, [], not, is_some};
+ghost use Rattle.std.specs.Prelude.{◌≡◌, [], not, is_some, IfOk};
 ghost use Rattle.std.specs.Option.{option_copied, option_map};
 ghost use Rattle.rt_tree.specs.PathTree.{null, is_null, sub, leaf_of};
 ghost use Rattle.rt_store.specs.Rows.{row, from_path};
 ghost use Rattle.rt_store.specs.Stored.{onward, some_row, behind, tree_at, key_at};
 
+use crate::build::build;
 use crate::node::Node;
 use crate::row::descend;
 use crate::slot::Slot;
-use rt_tree::{Key, Leaf, Path};
+use rt_tree::{Key, Leaf, Path, Tree};
 use slab::Slab;
-use std::alloc::Global;
+use std::alloc::{AllocError, Global};
 use std::marker::Model;
 
 /// A tree kept as linked nodes.
@@ -78,6 +79,20 @@ impl Store {
             };
         };
         Node::linked(descend(&self.nodes, self.first, key, rest))
+    }
+
+    /// The part of the tree at the path; null where nothing stands there. Costs by the path, the siblings in front on it, and the part.
+    pub fn get(&self, alloc: Global, path: &Path) -> Result<Tree, AllocError>
+        ensures { IfOk result (λ tree. tree ≡ sub self.now.tree path.now) }
+    {
+        let Some((key, rest)) = path.keys().split_first() else {
+            return build(alloc, &self.nodes, &self.leaf, self.first);
+        };
+        let Some(index) = descend(&self.nodes, self.first, key, rest) else {
+            return Ok(Tree::null());
+        };
+        let slot = self.nodes.get(index).unwrap();
+        build(alloc, &self.nodes, &slot.leaf, slot.first_child)
     }
 
     /// The first child in the order of keys.
