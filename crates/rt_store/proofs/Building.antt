@@ -41,7 +41,7 @@ building_all s es o place none = record {
 }
 
 -- a key stands once
-child_of-itself : (k : Key) (f : Forest) → AllAfter k f → child_of (entries f) k ≡ None
+pub child_of-itself : (k : Key) (f : Forest) → AllAfter k f → child_of (entries f) k ≡ None
 child_of-itself k bare h = refl
 child_of-itself k (node n j leaf below behind) h =
     ap (λ b. cond b (Some (tree_with leaf (entries below))) (child_of (entries behind) k)) (differs k j Less h.0 refl) ∙ child_of-itself k behind h.1

@@ -1,4 +1,5 @@
 pub mod Building
+pub mod Clearing
 pub mod Felling
 pub mod Joining
 pub mod Linked

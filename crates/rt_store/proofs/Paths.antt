@@ -52,7 +52,7 @@ missing s o k is = ap (λ l. index_in k (row_at s l)) is ∙ ap (index_in k) (ro
 pub differs : (j k : Key) (r : Ordering) → key_cmp j k ≡ r → is_eq r ≡ false → key_eq j k ≡ false
 differs j k r order not_equal = sym (tests_alike j k) ∙ ap is_eq order ∙ not_equal
 
-equals : (j k : Key) → key_cmp j k ≡ Equal → key_eq j k ≡ true
+pub equals : (j k : Key) → key_cmp j k ≡ Equal → key_eq j k ≡ true
 equals j k order = sym (tests_alike j k) ∙ ap is_eq order
 
 -- nothing behind a key stands in front of it
@@ -62,7 +62,7 @@ from_key-after k key (node n j leaf below behind) less h =
     ap (λ b. cond b ((j, tree_with leaf (entries below)) ∷ entries behind) (from_key k (entries behind))) (differs k j Less (key_cmp_total.trans k key j less h.0) refl)
     ∙ from_key-after k key behind less h.1
 
-child_of-after : (k key : Key) (f : Forest) → key_cmp k key ≡ Less → AllAfter key f → child_of (entries f) k ≡ None
+pub child_of-after : (k key : Key) (f : Forest) → key_cmp k key ≡ Less → AllAfter key f → child_of (entries f) k ≡ None
 child_of-after k key bare less h = refl
 child_of-after k key (node n j leaf below behind) less h =
     ap (λ b. cond b (Some (tree_with leaf (entries below))) (child_of (entries behind) k)) (differs k j Less (key_cmp_total.trans k key j less h.0) refl)

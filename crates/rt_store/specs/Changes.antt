@@ -1,5 +1,8 @@
 -- How the nodes change.
-use Rattle.std.specs.Prelude.{◌≡◌, ◌<◌, ◌≤◌, ◌⊎◌, ℕ, ◌+◌, Bool, false, cond, nat_eq, Option, Some, None}
+use Rattle.std.specs.Prelude.{◌≡◌, ◌<◌, ◌≤◌, ◌⊎◌, ℕ, ◌+◌, Bool, false, cond, nat_eq, true, not, ◌&&◌, is_some, [], ◌∷◌, Option, Some, None}
+use Rattle.std.specs.FinMap.Entries.{by_order}
+use Rattle.rt_tree.specs.PathTree.{Key, Path}
+use Rattle.rt_order.specs.KeyOrder.{key_cmp}
 use Rattle.slab.specs.Slab.{Slab, get, slab_len}
 use Rattle.rt_store.specs.Forest.{Forest, bare, node, size, times, IsRow, row_at}
 use Rattle.rt_store.specs.declared.slot.Slot.{Slot}
@@ -47,6 +50,19 @@ below_of k (node n key leaf below behind) = cond (nat_eq k n) below (below_of k 
 abbrev pub with_below : ℕ → Forest → Forest → Forest
 with_below k b bare = bare
 with_below k b (node n key leaf below behind) = cond (nat_eq k n) (node n key None b behind) (node n key leaf below (with_below k b behind))
+
+abbrev pub is_bare : Forest → Bool
+is_bare bare = true
+is_bare (node n key leaf below behind) = false
+
+-- what is left of a row, where what stands at the path was taken out, and each node that was left without children
+abbrev pub cleared : Key → Path → Forest → Forest
+cleared k p bare = bare
+cleared k [] (node n key leaf below behind) = by_order (key_cmp k key) (node n key leaf below behind) behind (node n key leaf below (cleared k [] behind))
+cleared k (j ∷ p) (node n key leaf below behind) =
+    by_order (key_cmp k key) (node n key leaf below behind)
+    (cond (not (is_some leaf) && is_bare (cleared j p below)) behind (node n key leaf (cleared j p below) behind))
+    (node n key leaf below (cleared k (j ∷ p) behind))
 
 -- a whole row starts at the node
 abbrev pub IsHead : Slab Slot → Option ℕ → Type 0
