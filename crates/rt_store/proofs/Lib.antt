@@ -8,3 +8,4 @@ pub mod Paths
 pub mod Places
 pub mod Replacing
 pub mod Taking
+pub mod Vanishing

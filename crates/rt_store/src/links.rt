@@ -4,9 +4,11 @@ ghost use Rattle.std.specs.Option.{option_map};
 ghost use Rattle.slab.specs.Slab.{get, slab_len};
 ghost use Rattle.rt_store.specs.Forest.{IsRow, row_at, times};
 ghost use Rattle.rt_store.specs.Walks.{IsPlace};
-ghost use Rattle.rt_store.specs.Changes.{Felled, Changed, IsHead, InRow, without, joined, with_next, with_previous, with_children};
+ghost use Rattle.rt_store.specs.Changes.{Felled, Changed, is_bare, cleared, IsHead, InRow, without, joined, with_next, with_previous, with_children};
 
 use crate::slot::Slot;
+use rt_order::key_cmp;
+use rt_tree::Key;
 use slab::Slab;
 
 // Sets the sibling behind a node.
@@ -94,5 +96,25 @@ pub fn take_out(nodes: &mut Slab<Slot>, first: Option<usize>, index: usize) -> O
     match previous {
         None => next,
         Some(_) => first,
+    }
+}
+
+// Whether nothing is left of a row, once what stands at the path is taken out.
+pub fn vanishes(nodes: &Slab<Slot>, first: Option<usize>, key: &Key, rest: &[Key]) -> bool
+    requires { IsPlace nodes.now first }
+    ensures { result ≡ is_bare (cleared key.now rest.now (row_at nodes.now first)) }
+{
+    let Some(index) = first else {
+        return true;
+    };
+    let slot = nodes.get(index).unwrap();
+    if slot.next.is_some() || !key_cmp(key, &slot.key).is_eq() {
+        return false;
+    }
+    match rest.split_first() {
+        None => true,
+        Some((child, rest)) => {
+            slot.leaf.is_none() && vanishes(nodes, slot.first_child, child, rest)
+        }
     }
 }
