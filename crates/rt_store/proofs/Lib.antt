@@ -1,0 +1,11 @@
+pub mod Building
+pub mod Clearing
+pub mod Felling
+pub mod Joining
+pub mod Linked
+pub mod Orders
+pub mod Paths
+pub mod Places
+pub mod Replacing
+pub mod Taking
+pub mod Vanishing

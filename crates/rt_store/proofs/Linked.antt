@@ -1,0 +1,138 @@
+-- What is known of the nodes of a row.
+use Rattle.std.proofs.Common.{◌≡◌, ◌≢◌, ◌≤◌, ◌<◌, ◌⊎◌, inl, inr, ℕ, zero, suc, ◌+◌, List, [], ◌∷◌, length, Option, Some, None, Bool, true, false, cond, is_some, refl, sym, ap, subst, ◌∙◌, arith}
+use Rattle.std.specs.Prelude.{nat_eq}
+use Rattle.std.proofs.lemmas.Bool.{eqb-true}
+use Rattle.std.proofs.lemmas.List.{get_or_past}
+use Rattle.std.specs.Option.{option_map_or, unwrap_or}
+use Rattle.slab.specs.Slab.{Slab, get, slab_len}
+use Rattle.rt_tree.specs.Leaf.{LeafValue}
+use Rattle.rt_tree.specs.PathTree.{Key}
+use Rattle.rt_store.specs.Rows.{Row}
+use Rattle.rt_store.specs.Stored.{nth}
+use Rattle.rt_store.specs.Forest.{Forest, bare, node, one_if, first, size, times, entries, AllAfter, IsFull, Links, reached, row_at, IsRow}
+use Rattle.rt_store.specs.Walks.{IsPlace}
+use Rattle.rt_store.specs.StoreView.{rows_from}
+use Rattle.rt_store.specs.declared.slot.Slot.{Slot}
+
+-- enough steps reach the whole row
+pub reached_is : (m : ℕ) (s : Slab Slot) (parent previous : Option ℕ) (f : Forest) → Links s parent previous f → size f ≤ m → reached m s (first f) ≡ f
+reached_is zero s parent previous bare h fits = refl
+reached_is zero s parent previous (node n key leaf below behind) h fits = absurd (omega (arith, fits))
+reached_is (suc m) s parent previous bare h fits = refl
+reached_is (suc m) s parent previous (node n key leaf below behind) h fits =
+    ap (λ o. option_map_or (λ slot. node n slot.key slot.leaf (reached m s slot.first_child) (reached m s slot.next)) o bare) h.0
+    ∙ (λ i. node n key leaf (reached_is m s (Some n) None below h.1 (omega (arith, fits)) i) (reached_is m s parent (Some n) behind h.2 (omega (arith, fits)) i))
+
+pub row_at_is : (s : Slab Slot) (o parent previous : Option ℕ) (f : Forest) → IsRow s o parent previous f → row_at s o ≡ f
+row_at_is s o parent previous f h = ap (reached (slab_len s) s) (sym h.starts) ∙ reached_is (slab_len s) s parent previous f h.links h.fits
+
+pub place_of : (s : Slab Slot) (o parent previous : Option ℕ) (f : Forest) → IsRow s o parent previous f → IsPlace s o
+place_of s o parent previous f h = (parent, previous, subst (IsRow s o parent previous) (sym (row_at_is s o parent previous f h)) h)
+
+-- the rows below and behind a node
+pub below_row : (s : Slab Slot) (o parent previous : Option ℕ) (n : ℕ) (key : Key) (leaf : Option LeafValue) (below behind : Forest)
+    → IsRow s o parent previous (node n key leaf below behind) → IsRow s (first below) (Some n) None below
+below_row s o parent previous n key leaf below behind h = record { links = h.links.1; sound = h.sound.2; starts = refl; fits = omega (arith, h.fits) }
+
+pub behind_row : (s : Slab Slot) (o parent previous : Option ℕ) (n : ℕ) (key : Key) (leaf : Option LeafValue) (below behind : Forest)
+    → IsRow s o parent previous (node n key leaf below behind) → IsRow s (first behind) parent (Some n) behind
+behind_row s o parent previous n key leaf below behind h = record { links = h.links.2; sound = h.sound.3; starts = refl; fits = omega (arith, h.fits) }
+
+-- what is known of a node that a place leads to
+pub record IsAt (s : Slab Slot) (n : ℕ) (slot : Slot) : Type 0 where
+  pub is : row_at s (Some n) ≡ node n slot.key slot.leaf (row_at s slot.first_child) (row_at s slot.next)
+  pub below : IsPlace s slot.first_child
+  pub behind : IsPlace s slot.next
+  pub after : AllAfter slot.key (row_at s slot.next)
+  pub full : IsFull slot.leaf (row_at s slot.first_child)
+
+same_some : {A : Type 0} (x y : A) → Some x ≡ Some y → x ≡ y
+same_some x y e = ap (λ o. unwrap_or o x) e
+
+is_at : (s : Slab Slot) (n : ℕ) (slot : Slot) (parent previous : Option ℕ) (f : Forest) → row_at s (Some n) ≡ f → IsRow s (Some n) parent previous f → get s n ≡ Some slot → IsAt s n slot
+is_at s n slot parent previous bare e h there = cc h.starts
+is_at s n slot parent previous (node m key leaf below behind) e h there =
+    let same : m ≡ n = same_some m n h.starts in
+    let slots : record { key = key; parent = parent; first_child = first below; previous = previous; next = first behind; leaf = leaf } ≡ slot =
+    same_some _ _ (sym h.links.0 ∙ ap (get s) same ∙ there) in
+    let B = below_row s (Some n) parent previous m key leaf below behind h in
+    let S = behind_row s (Some n) parent previous m key leaf below behind h in
+    let b : row_at s (first below) ≡ below = row_at_is s (first below) (Some m) None below B in
+    let r : row_at s (first behind) ≡ behind = row_at_is s (first behind) parent (Some m) behind S in
+    subst (IsAt s n) slots (record {
+      is = e ∙ (λ i. node (same i) key leaf (sym b i) (sym r i));
+      below = place_of s (first below) (Some m) None below B;
+      behind = place_of s (first behind) parent (Some m) behind S;
+      after = subst (AllAfter key) (sym r) h.sound.0;
+      full = subst (IsFull leaf) (sym b) h.sound.1;
+    })
+
+pub at_place : (s : Slab Slot) (n : ℕ) (slot : Slot) → IsPlace s (Some n) → get s n ≡ Some slot → IsAt s n slot
+at_place s n slot h there = is_at s n slot h.0 h.1 (row_at s (Some n)) refl h.2 there
+
+-- a place leads to a node that is there
+there_from : (s : Slab Slot) (n : ℕ) (parent previous : Option ℕ) (f : Forest) → IsRow s (Some n) parent previous f → get s n ≡ None → ⊥
+there_from s n parent previous bare h none = cc h.starts
+there_from s n parent previous (node m key leaf below behind) h none =
+    let same : m ≡ n = same_some m n h.starts in
+    cc (ap is_some (sym h.links.0 ∙ ap (get s) same ∙ none))
+
+pub not_nowhere : (s : Slab Slot) (n : ℕ) → IsPlace s (Some n) → get s n ≡ None → ⊥
+not_nowhere s n h none = there_from s n h.0 h.1 (row_at s (Some n)) h.2 none
+
+-- nothing is reached from a number that is not there
+pub row_at-none : (s : Slab Slot) → row_at s None ≡ bare
+row_at-none s = of (slab_len s)
+  where
+    of : (m : ℕ) → reached m s None ≡ bare
+    of zero = refl
+    of (suc m) = refl
+
+pub row_at-nowhere : (s : Slab Slot) (n : ℕ) → get s n ≡ None → row_at s (Some n) ≡ bare
+row_at-nowhere s n none = of (slab_len s)
+  where
+    of : (m : ℕ) → reached m s (Some n) ≡ bare
+    of zero = refl
+    of (suc m) = ap (λ o. option_map_or (λ slot. node n slot.key slot.leaf (reached m s slot.first_child) (reached m s slot.next)) o bare) none
+
+-- a number that stands in a row leads to a place
+either : {A : Type 0} (t u : ℕ) → 0 < t + u → (0 < t → A) → (0 < u → A) → A
+either zero u g f h = h (omega (arith, g))
+either (suc t) u g f h = f (omega arith)
+
+pub locate : (s : Slab Slot) (o parent previous : Option ℕ) (f : Forest) → IsRow s o parent previous f → (n : ℕ) → 0 < times n f → IsPlace s (Some n)
+locate s o parent previous bare h n some = absurd (omega (arith, some))
+locate s o parent previous (node m key leaf below behind) h n some =
+    elim (nat_eq n m) as (λ b. nat_eq n m ≡ b → 0 < one_if b + (times n below + times n behind) → IsPlace s (Some n)) [
+      | true ↦ λ e g. subst (λ k. IsPlace s (Some k)) (sym (eqb-true n m e)) (subst (IsPlace s) (sym h.starts) (place_of s o parent previous (node m key leaf below behind) h))
+      | false ↦ λ e g. either (times n below) (times n behind) (omega (arith, g))
+          (λ d. locate s (first below) (Some m) None below (below_row s o parent previous m key leaf below behind h) n d)
+          (λ d. locate s (first behind) parent (Some m) behind (behind_row s o parent previous m key leaf below behind h) n d)
+    ] refl some
+
+-- and each number of the slab does
+pub place_in_store : (s : Slab Slot) (o parent previous : Option ℕ) (f : Forest) → IsRow s o parent previous f → (n : ℕ) → times n f ≡ one_if (is_some (get s n)) → (slot : Slot) → get s n ≡ Some slot → IsPlace s (Some n)
+place_in_store s o parent previous f h n once slot there =
+    locate s o parent previous f h n (let one : times n f ≡ 1 = once ∙ ap (λ g. one_if (is_some g)) there in omega (arith, one))
+
+-- ---- the rows that a contract sees
+nth_rows : (s : Slab Slot) (k : ℕ) (os : List (Option Slot)) (i : ℕ) → i < length os → nth (rows_from s k os) i ≡ entries (row_at s (Some (k + i)))
+nth_rows s k [] i h = absurd (omega (arith, h))
+nth_rows s k (o ∷ os) zero h = ap (λ m. entries (row_at s (Some m))) (let e : k ≡ k + 0 = omega arith in e)
+nth_rows s k (o ∷ os) (suc i) h = nth_rows s (k + 1) os i (omega (arith, h)) ∙ ap (λ m. entries (row_at s (Some m))) (let e : (k + 1) + i ≡ k + suc i = omega arith in e)
+
+nth_past : (s : Slab Slot) (k : ℕ) (os : List (Option Slot)) (i : ℕ) → length os ≤ i → nth (rows_from s k os) i ≡ []
+nth_past s k [] i h = refl
+nth_past s k (o ∷ os) zero h = absurd (omega (arith, h))
+nth_past s k (o ∷ os) (suc i) h = nth_past s (k + 1) os i (omega (arith, h))
+
+less_or_not : (i n : ℕ) → (i < n) ⊎ (n ≤ i)
+less_or_not i zero = inr (omega arith)
+less_or_not zero (suc n) = inl (omega arith)
+less_or_not (suc i) (suc n) = elim (less_or_not i n) [ inl h ↦ inl (omega (arith, h)) | inr h ↦ inr (omega (arith, h)) ]
+
+pub nth_is : (s : Slab Slot) (n : ℕ) → nth (rows_from s 0 s.slots) n ≡ entries (row_at s (Some n))
+nth_is s n = elim (less_or_not n (length s.slots)) [
+  | inl h ↦ nth_rows s 0 s.slots n h ∙ ap (λ m. entries (row_at s (Some m))) (let e : 0 + n ≡ n = omega arith in e)
+  | inr h ↦ nth_past s 0 s.slots n h ∙ sym (ap entries (row_at-nowhere s n (get_or_past s.slots n None h)))
+]

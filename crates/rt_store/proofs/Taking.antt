@@ -1,0 +1,199 @@
+-- A node that is taken out of its row with all below it.
+use Rattle.std.proofs.Common.{◌≡◌, ◌≢◌, ◌≤◌, ◌<◌, ◌⊎◌, inl, inr, ℕ, zero, suc, ◌+◌, Option, Some, None, Bool, true, false, cond, is_some, refl, sym, ap, subst, ◌∙◌, arith}
+use Rattle.std.specs.Prelude.{nat_eq}
+use Rattle.std.specs.Option.{option_map}
+use Rattle.std.specs.declared.cmp.Ordering.TheVariants.{Less}
+use Rattle.std.proofs.lemmas.Bool.{eqb-true, eq-eqb}
+use Rattle.slab.specs.Slab.{Slab, get, slab_len, Updates}
+use Rattle.rt_tree.specs.Leaf.{LeafValue}
+use Rattle.rt_tree.specs.PathTree.{Key}
+use Rattle.rt_store.specs.Forest.{Forest, bare, node, one_if, first, size, times, AllAfter, IsFull, Sound, Links, IsRow, row_at}
+use Rattle.rt_store.specs.Walks.{IsPlace}
+use Rattle.rt_store.specs.Changes.{is_link, joined, InRow, without, below_of, Felled, Changed}
+use Rattle.rt_store.specs.declared.slot.Slot.{Slot}
+use Rattle.rt_store.proofs.Linked.{row_at_is, place_of, locate, not_nowhere}
+use Rattle.rt_store.proofs.Felling.{one_of, links_kept, row_kept}
+use Rattle.rt_store.proofs.Joining.{LiesIn, link_out, lies_first, lies_more, slots_same, not_same, in_row_times, untouched, links_without}
+
+pub later_of : (k n : ℕ) (f : Forest) → (k ≡ n) ⊎ InRow k f → nat_eq k n ≡ false → InRow k f
+later_of k n f is e = elim is [ inl same ↦ cc (e, eq-eqb k n same) | inr l ↦ l ]
+
+-- ---- the row without the node, and what stood below it
+pub times_without : (k : ℕ) (f : Forest) → InRow k f → (m : ℕ) → times m f ≡ times m (without k f) + (one_if (nat_eq m k) + times m (below_of k f))
+times_without k bare is m = absurd is
+times_without k (node n key leaf below behind) is m =
+    elim (nat_eq k n) as (λ b. nat_eq k n ≡ b → one_if (nat_eq m n) + (times m below + times m behind) ≡ times m (cond b behind (node n key leaf below (without k behind))) + (one_if (nat_eq m k) + times m (cond b below (below_of k behind)))) [
+      | true ↦ λ e. omega (arith, ap (λ x. one_if (nat_eq m x)) (eqb-true k n e))
+      | false ↦ λ e. omega (arith, times_without k behind (later_of k n behind is e) m)
+    ] refl
+
+pub size_without : (k : ℕ) (f : Forest) → InRow k f → size f ≡ suc (size (without k f) + size (below_of k f))
+size_without k bare is = absurd is
+size_without k (node n key leaf below behind) is =
+    elim (nat_eq k n) as (λ b. nat_eq k n ≡ b → suc (size below + size behind) ≡ suc (size (cond b behind (node n key leaf below (without k behind))) + size (cond b below (below_of k behind)))) [
+      | true ↦ λ e. omega arith
+      | false ↦ λ e. omega (arith, size_without k behind (later_of k n behind is e))
+    ] refl
+
+after_without : (k : ℕ) (j : Key) (f : Forest) → AllAfter j f → AllAfter j (without k f)
+after_without k j bare h = tt
+after_without k j (node n key leaf below behind) h =
+    elim (nat_eq k n) as (λ b. AllAfter j (cond b behind (node n key leaf below (without k behind)))) [
+      | true ↦ h.1
+      | false ↦ (h.0, after_without k j behind h.1)
+    ]
+
+pub sound_without : (k : ℕ) (f : Forest) → Sound f → Sound (without k f)
+sound_without k bare h = tt
+sound_without k (node n key leaf below behind) h =
+    elim (nat_eq k n) as (λ b. Sound (cond b behind (node n key leaf below (without k behind)))) [
+      | true ↦ h.3
+      | false ↦ (after_without k key behind h.0, h.1, h.2, sound_without k behind h.3)
+    ]
+
+pub sound_below : (k : ℕ) (f : Forest) → Sound f → Sound (below_of k f)
+sound_below k bare h = tt
+sound_below k (node n key leaf below behind) h =
+    elim (nat_eq k n) as (λ b. Sound (cond b below (below_of k behind))) [ true ↦ h.2 | false ↦ sound_below k behind h.3 ]
+
+pub links_below : (s : Slab Slot) (parent previous : Option ℕ) (k : ℕ) (slot : Slot) (f : Forest) → Links s parent previous f → InRow k f → get s k ≡ Some slot
+    → Links s (Some k) None (below_of k f) × (first (below_of k f) ≡ slot.first_child)
+links_below s parent previous k slot bare h is there = absurd is
+links_below s parent previous k slot (node n key leaf below behind) h is there =
+    elim (nat_eq k n) as (λ b. nat_eq k n ≡ b → Links s (Some k) None (cond b below (below_of k behind)) × (first (cond b below (below_of k behind)) ≡ slot.first_child)) [
+      | true ↦ λ e.
+          let same : k ≡ n = eqb-true k n e in (
+            subst (λ x. Links s (Some x) None below) (sym same) h.1,
+            ap (λ (x : Slot). x.first_child) (slots_same s n _ slot h.0 (ap (get s) (sym same) ∙ there)),
+          )
+      | false ↦ λ e. links_below s parent (Some n) k slot behind h.2 (later_of k n behind is e) there
+    ] refl
+
+-- the siblings beside the node stand in the row without it
+pub beside : (s : Slab Slot) (parent previous : Option ℕ) (f : Forest) (k : ℕ) (slot : Slot) → Links s parent previous f → InRow k f → get s k ≡ Some slot
+    → ((slot.previous ≡ previous) ⊎ LiesIn slot.previous (without k f)) × LiesIn slot.next (without k f)
+beside s parent previous bare k slot h is there = absurd is
+beside s parent previous (node n key leaf below behind) k slot h is there =
+    elim (nat_eq k n) as (λ b. nat_eq k n ≡ b → ((slot.previous ≡ previous) ⊎ LiesIn slot.previous (cond b behind (node n key leaf below (without k behind)))) × LiesIn slot.next (cond b behind (node n key leaf below (without k behind)))) [
+      | true ↦ λ e.
+          let slots : record { key = key; parent = parent; first_child = first below; previous = previous; next = first behind; leaf = leaf } ≡ slot =
+          slots_same s n _ slot h.0 (ap (get s) (sym (eqb-true k n e)) ∙ there) in
+          (inl (ap (λ (x : Slot). x.previous) (sym slots)), subst (λ o. LiesIn o behind) (ap (λ (x : Slot). x.next) slots) (lies_first behind))
+      | false ↦ λ e.
+          let rest = beside s parent (Some n) behind k slot h.2 (later_of k n behind is e) there in (
+            inr (elim rest.0 [
+              | inl p ↦ inr (n, p, omega (arith, one_of n))
+              | inr p ↦ lies_more slot.previous (without k behind) (node n key leaf below (without k behind)) (λ m. omega arith) p
+            ]),
+            lies_more slot.next (without k behind) (node n key leaf below (without k behind)) (λ m. omega arith) rest.1,
+          )
+    ] refl
+
+some_previous : (s : Slab Slot) (parent : Option ℕ) (x : ℕ) (f : Forest) (k : ℕ) (slot : Slot) → Links s parent (Some x) f → InRow k f → get s k ≡ Some slot → slot.previous ≡ None → ⊥
+some_previous s parent x bare k slot h is there none = absurd is
+some_previous s parent x (node n key leaf below behind) k slot h is there none = elim is [
+  | inl same ↦
+      let slots : record { key = key; parent = parent; first_child = first below; previous = Some x; next = first behind; leaf = leaf } ≡ slot =
+      slots_same s n _ slot h.0 (ap (get s) (sym same) ∙ there) in
+      cc (ap (λ (y : Slot). y.previous) slots, none)
+  | inr later ↦ some_previous s parent n behind k slot h.2 later there none
+]
+
+-- the first that is left
+pub first_without : (s : Slab Slot) (parent : Option ℕ) (f : Forest) (k : ℕ) (slot : Slot) → Links s parent None f → InRow k f → get s k ≡ Some slot
+    → (slot.previous ≡ None → first (without k f) ≡ slot.next) × ((x : ℕ) → slot.previous ≡ Some x → first (without k f) ≡ first f)
+first_without s parent bare k slot h is there = absurd is
+first_without s parent (node n key leaf below behind) k slot h is there =
+    elim (nat_eq k n) as (λ b. nat_eq k n ≡ b → (slot.previous ≡ None → first (cond b behind (node n key leaf below (without k behind))) ≡ slot.next) × ((x : ℕ) → slot.previous ≡ Some x → first (cond b behind (node n key leaf below (without k behind))) ≡ Some n)) [
+      | true ↦ λ e.
+          let slots : record { key = key; parent = parent; first_child = first below; previous = None; next = first behind; leaf = leaf } ≡ slot =
+          slots_same s n _ slot h.0 (ap (get s) (sym (eqb-true k n e)) ∙ there) in
+          (λ none. ap (λ (x : Slot). x.next) slots, λ x some. cc (ap (λ (y : Slot). y.previous) slots, some))
+      | false ↦ λ e. (λ none. absurd (some_previous s parent n behind k slot h.2 (later_of k n behind is e) there none), λ x some. refl)
+    ] refl
+
+pub not_there : (s : Slab Slot) (o parent : Option ℕ) (f : Forest) (k : ℕ) → IsRow s o parent None f → InRow k f → get s k ≡ None → ⊥
+not_there s o parent f k h is none = not_nowhere s k (locate s o parent None f h k (in_row_times k f is)) none
+
+-- ---- the steps
+module _ (s : Slab Slot) (o parent : Option ℕ) (f : Forest) (k : ℕ) (slot : Slot) (u t : Slab Slot)
+    (h : IsRow s o parent None f) (once : (n : ℕ) → times n f ≤ 1) (is : InRow k f) (there : get s k ≡ Some slot)
+    (taken : Updates s u k None) (taken_len : slab_len u + 1 ≡ slab_len s)
+    (each : (n : ℕ) → get t n ≡ option_map (joined slot.previous slot.next n) (get u n)) (len : slab_len t ≡ slab_len u) where
+  others : (n : ℕ) → n ≢ k → get t n ≡ option_map (joined slot.previous slot.next n) (get s n)
+  others n differ = each n ∙ ap (option_map (joined slot.previous slot.next n)) (taken.others n differ)
+
+  the_node : get t k ≡ None
+  the_node = each k ∙ ap (option_map (joined slot.previous slot.next k)) taken.changed
+
+  counts : (n : ℕ) → times n f ≡ times n (without k f) + (one_if (nat_eq n k) + times n (below_of k f))
+  counts n = times_without k f is n
+
+  sizes : size f ≡ suc (size (without k f) + size (below_of k f))
+  sizes = size_without k f is
+
+  not_the_node : (n : ℕ) → one_if (nat_eq n k) ≡ 0 → n ≢ k
+  not_the_node n none same = absurd (omega (arith, none, one_of k, ap (λ x. one_if (nat_eq x k)) same))
+
+  -- what isn't left in the row is as it was, but for the node
+  stays : (n : ℕ) → one_if (nat_eq n k) ≡ 0 → times n (without k f) ≡ 0 → get t n ≡ get s n
+  stays n other none =
+      let sides = beside s parent None f k slot h.links is there in
+      untouched s t k slot there others n (not_the_node n other)
+      (elim sides.0 [ inl p ↦ ap (λ x. is_link x n) p | inr p ↦ link_out slot.previous (without k f) n p none ])
+      (link_out slot.next (without k f) n sides.1 none)
+
+  fit : size f ≤ slab_len s
+  fit = h.fits
+
+  row_below : IsRow t slot.first_child (Some k) None (below_of k f)
+  row_below =
+      let kept : (n : ℕ) → 0 < times n (below_of k f) → get t n ≡ get s n =
+      λ n some. stays n (omega (arith, some, counts n, once n)) (omega (arith, some, counts n, once n)) in
+      let b = links_below s parent None k slot f h.links is there in
+      record { links = links_kept s t (Some k) None (below_of k f) b.0 kept; sound = sound_below k f h.sound; starts = b.1; fits = omega (arith, sizes, fit, len, taken_len) }
+
+  pub below_is : row_at t slot.first_child ≡ below_of k f
+  below_is = row_at_is t slot.first_child (Some k) None (below_of k f) row_below
+
+  pub out_place : IsPlace t slot.first_child
+  out_place = place_of t slot.first_child (Some k) None (below_of k f) row_below
+
+  pub out_once : (n : ℕ) → times n (row_at t slot.first_child) ≤ 1
+  out_once n = omega (arith, ap (times n) below_is, counts n, once n)
+
+  module _ (w : Slab Slot) (felled : Felled t w (row_at t slot.first_child)) where
+    times_below : (n : ℕ) → times n (row_at t slot.first_child) ≡ times n (below_of k f)
+    times_below n = ap (times n) below_is
+
+    links_left : Links t parent None (without k f)
+    links_left = links_without s t k slot there others parent None f h.links is once (λ n some. refl)
+
+    pub out_row : (r : Option ℕ) → first (without k f) ≡ r → IsRow w r parent None (without k f)
+    out_row r starts = record {
+      links = links_kept t w parent None (without k f) links_left (λ n some. felled.kept n (omega (arith, some, times_below n, counts n, once n)));
+      sound = sound_without k f h.sound;
+      starts = starts;
+      fits = omega (arith, sizes, fit, len, taken_len, felled.len, ap size below_is);
+    }
+
+    gone_of : (n : ℕ) → 0 < times n f → times n (without k f) ≡ 0 → get w n ≡ None
+    gone_of n some none = of (times n (below_of k f)) refl
+      where
+        of : (c : ℕ) → times n (below_of k f) ≡ c → get w n ≡ None
+        of zero e =
+            let same : nat_eq n k ≡ true = elim (nat_eq n k) as (λ b. nat_eq n k ≡ b → b ≡ true) [
+              | true ↦ λ d. refl
+              | false ↦ λ d. absurd (omega (arith, some, none, e, counts n, ap one_if d))
+            ] refl in
+            felled.kept n (omega (arith, times_below n, e)) ∙ ap (get t) (eqb-true n k same) ∙ the_node
+        of (suc c) e = felled.gone n (omega (arith, times_below n, e))
+
+    pub out_changed : Changed s w f (without k f)
+    out_changed = record {
+      kept = λ n none left. felled.kept n (omega (arith, times_below n, counts n, none)) ∙ stays n (omega (arith, counts n, none)) left;
+      gone = gone_of;
+      fresh = λ n some none. absurd (omega (arith, some, none, counts n));
+      once = λ n. omega (arith, counts n, once n);
+      len = omega (arith, sizes, len, taken_len, felled.len, ap size below_is);
+    }

@@ -1,0 +1,18 @@
+use Rattle.std.proofs.Common.{◌≡◌, Some, None, sym, ◌∙◌, rules}
+use Rattle.slab.specs.Slab.{get}
+use Rattle.rt_store.proofs.Places.{leaf-root, leaf-node, leaf-nowhere}
+use Rattle.rt_store.proofs.store.Store.leaf.Goals as goal
+
+pub returns-in-None : goal.returns-in-None
+returns-in-None c = c.as_ref.ensures.value ∙ leaf-root c.self.inside c.args.self.now c.args.node c.self.view_is (sym c.index.ensures ∙ c.in-None.is)
+
+pub returns-in-Some-get : goal.returns-in-Some-get
+returns-in-Some-get c =
+    let there : get c.self.inside.nodes c.in-Some.index ≡ Some c.in-Some-get.slot.now = search rules in
+    c.as_ref-in-Some-get.ensures.value
+    ∙ leaf-node c.self.inside c.args.self.now c.args.node c.in-Some.index c.in-Some-get.slot.now c.self.invariant c.self.view_is (sym c.index.ensures ∙ c.in-Some.is) there
+
+pub returns-in-None-get : goal.returns-in-None-get
+returns-in-None-get c =
+    let none : get c.self.inside.nodes c.in-Some.index ≡ None = search rules in
+    leaf-nowhere c.self.inside c.args.self.now c.args.node c.in-Some.index c.self.view_is (sym c.index.ensures ∙ c.in-Some.is) none

@@ -1,0 +1,7 @@
+pub mod Changes
+pub mod Errors
+pub mod Forest
+pub mod Rows
+pub mod Stored
+pub mod StoreView
+pub mod Walks

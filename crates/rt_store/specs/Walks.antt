@@ -1,0 +1,25 @@
+-- Where keys and paths lead from a row.
+use Rattle.std.specs.Prelude.{List, [], ◌∷◌, ℕ, Option, Some, None}
+use Rattle.std.specs.declared.cmp.Ordering.{Ordering}
+use Rattle.std.specs.declared.cmp.Ordering.TheVariants.{Less, Equal, Greater}
+use Rattle.std.specs.FinMap.Entries.{by_order}
+use Rattle.slab.specs.Slab.{Slab}
+use Rattle.rt_tree.specs.PathTree.{Key, Path}
+use Rattle.rt_order.specs.KeyOrder.{key_cmp}
+use Rattle.rt_store.specs.Forest.{Forest, bare, node, IsRow, row_at}
+use Rattle.rt_store.specs.declared.slot.Slot.{Slot}
+
+-- there is a row from this node on
+abbrev pub IsPlace : Slab Slot → Option ℕ → Type 0
+IsPlace s o = (parent : Option ℕ) × (previous : Option ℕ) × IsRow s o parent previous (row_at s o)
+
+-- the node of a key in a row
+abbrev pub index_in : Key → Forest → Option ℕ
+index_in k bare = None
+index_in k (node n key leaf below behind) = by_order (key_cmp k key) None (Some n) (index_in k behind)
+
+-- the node at a path below a row
+abbrev pub place_in : Key → Path → Forest → Option ℕ
+place_in k p bare = None
+place_in k [] (node n key leaf below behind) = by_order (key_cmp k key) None (Some n) (place_in k [] behind)
+place_in k (j ∷ p) (node n key leaf below behind) = by_order (key_cmp k key) None (place_in j p below) (place_in k (j ∷ p) behind)

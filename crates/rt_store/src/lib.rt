@@ -1,0 +1,20 @@
+//! A tree kept as linked nodes: each has its key, its parent, its first child, the siblings beside it, and the leaf that it
+//! is, where it is one.
+//!
+//! A contract sees a store as its tree (`rt_tree`'s) and what can be walked to from each node
+//! (`specs/Stored.antt`).
+#![tactic(auto)]
+
+mod build;
+mod error;
+mod links;
+mod node;
+mod row;
+mod slot;
+mod store;
+#[cfg(test)]
+mod tests;
+
+pub use error::StoreError;
+pub use node::Node;
+pub use store::Store;

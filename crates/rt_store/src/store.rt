@@ -1,0 +1,149 @@
+// A tree as linked nodes.
+ghost use Rattle.std.specs.Prelude.{◌≡◌, [], not, is_some, IfOk};
+ghost use Rattle.std.specs.Option.{option_copied, option_map};
+ghost use Rattle.rt_tree.specs.PathTree.{null, is_null, sub, leaf_of};
+ghost use Rattle.rt_store.specs.Rows.{row, from_path};
+ghost use Rattle.rt_store.specs.Stored.{onward, some_row, behind, tree_at, key_at};
+
+use crate::build::build;
+use crate::node::Node;
+use crate::row::descend;
+use crate::slot::Slot;
+use rt_tree::{Key, Leaf, Path, Tree};
+use slab::Slab;
+use std::alloc::{AllocError, Global};
+use std::marker::Model;
+
+/// A tree kept as linked nodes.
+///
+/// Siblings stand in the order of keys. To find a child is to pass those in front of it.
+#[derive(Debug, Drop)]
+pub struct Store {
+    nodes: Slab<Slot>,
+    // The first child of the root.
+    first: Option<usize>,
+    // The leaf that the whole tree is, where it is one.
+    leaf: Option<Leaf>,
+}
+
+impl Model for Store {
+    ghost use Rattle.rt_store.specs.Stored.{Stored, stored_code};
+
+    ghost Value = { Stored };
+
+    ghost coded = { stored_code };
+
+    ghost use Rattle.rt_store.specs.StoreView.{stored, IsStore};
+
+    ghost view = { stored };
+
+    ghost invariant = { IsStore };
+}
+
+impl Store {
+    /// The store with nothing in it.
+    pub fn new(alloc: Global) -> Store
+        ensures { result.tree ≡ null }
+    {
+        Store {
+            nodes: Slab::new(alloc),
+            first: None,
+            leaf: None,
+        }
+    }
+
+    /// Whether there is nothing in the store.
+    pub fn is_null(&self) -> bool
+        ensures { result ≡ is_null self.now.tree }
+    {
+        self.leaf.is_none() && self.first.is_none()
+    }
+
+    /// Whether something stands at the path.
+    pub fn has(&self, path: &Path) -> bool
+        ensures { result ≡ not (is_null (sub self.now.tree path.now)) }
+    {
+        self.at(path).is_some()
+    }
+
+    /// The node at the path; `None` where nothing stands there.
+    pub fn at(&self, path: &Path) -> Option<Node>
+        ensures row { option_map (onward self.now) result ≡ some_row (from_path self.now.tree path.now) }
+        ensures there { is_some result ≡ not (is_null (sub self.now.tree path.now)) }
+    {
+        let Some((key, rest)) = path.keys().split_first() else {
+            return if self.is_null() {
+                None
+            } else {
+                Some(Node::root())
+            };
+        };
+        Node::linked(descend(&self.nodes, self.first, key, rest))
+    }
+
+    /// The part of the tree at the path; null where nothing stands there. Costs by the path, the siblings in front on it, and the part.
+    pub fn get(&self, alloc: Global, path: &Path) -> Result<Tree, AllocError>
+        ensures { IfOk result (λ tree. tree ≡ sub self.now.tree path.now) }
+    {
+        let Some((key, rest)) = path.keys().split_first() else {
+            return build(alloc, &self.nodes, &self.leaf, self.first);
+        };
+        let Some(index) = descend(&self.nodes, self.first, key, rest) else {
+            return Ok(Tree::null());
+        };
+        let slot = self.nodes.get(index).unwrap();
+        build(alloc, &self.nodes, &slot.leaf, slot.first_child)
+    }
+
+    /// The first child in the order of keys.
+    pub fn first_child(&self, node: Node) -> Option<Node>
+        ensures { option_map (onward self.now) result ≡ some_row (row (tree_at self.now node)) }
+    {
+        match node.index() {
+            None => Node::linked(self.first),
+            Some(index) => match self.nodes.get(index) {
+                Some(slot) => Node::linked(slot.first_child),
+                None => None,
+            },
+        }
+    }
+
+    /// The sibling behind the node in the order of keys.
+    pub fn next_sibling(&self, node: Node) -> Option<Node>
+        ensures { option_map (onward self.now) result ≡ some_row (behind (onward self.now node)) }
+    {
+        match node.index() {
+            None => None,
+            Some(index) => match self.nodes.get(index) {
+                Some(slot) => Node::linked(slot.next),
+                None => None,
+            },
+        }
+    }
+
+    /// The key of the node; the root has none.
+    pub fn key(&self, node: Node) -> Option<&Key>
+        ensures { option_copied result ≡ key_at self.now node }
+    {
+        match node.index() {
+            None => None,
+            Some(index) => match self.nodes.get(index) {
+                Some(slot) => Some(&slot.key),
+                None => None,
+            },
+        }
+    }
+
+    /// The leaf that the node is; `None` where it has children.
+    pub fn leaf(&self, node: Node) -> Option<&Leaf>
+        ensures { option_copied result ≡ leaf_of (tree_at self.now node) }
+    {
+        match node.index() {
+            None => self.leaf.as_ref(),
+            Some(index) => match self.nodes.get(index) {
+                Some(slot) => slot.leaf.as_ref(),
+                None => None,
+            },
+        }
+    }
+}
