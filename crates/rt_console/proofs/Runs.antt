@@ -2,14 +2,11 @@
 use Rattle.std.proofs.Common.{◌≡◌, Result, Ok, Err, IfOk, ℕ, suc, ◌+◌, ◌<◌, ◌≤◌, List, [], ◌∷◌, ◌++◌, length, take, drop, Bool, true, false, cond, not, nat_lt, Option, Some, None, is_some, option_and_then, arith, refl, sym, ap, subst, ◌∙◌, append-nil}
 use Rattle.std.specs.Prelude.{◌==◌, position, is_none}
 use Rattle.std.specs.Io.KnownBytes.{Consumes, IsAtEnd}
-use Rattle.std.specs.List.{slice_split, onto_first, position_or_len, prefix_len}
+use Rattle.std.specs.List.{onto_first, position_or_len, prefix_len}
 use Rattle.std.proofs.lemmas.Bool.Decides.{nat_tests}
 use Rattle.std.proofs.lemmas.List.Quantifiers.{position-Some}
 use Rattle.std.proofs.lemmas.List.Splits.{slice_split_first}
-use Rattle.rt_sync.specs.declared.step.Step.{Step}
-use Rattle.rt_sync.specs.World.{World}
 use Rattle.rt_console.specs.declared.task.Task.{Task}
-use Rattle.rt_console.specs.declared.task.Task.TheVariants as Task
 use Rattle.rt_tree.specs.declared.error.TreeError.{TreeError}
 use Rattle.rt_console.specs.Lines.{Line}
 use Rattle.rt_console.specs.Tasks.{words_fault, task_of}

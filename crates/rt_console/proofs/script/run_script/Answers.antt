@@ -1,7 +1,5 @@
-use Rattle.std.proofs.Common.{◌≡◌, ℕ, List, Some, sym, subst, ◌∙◌, ap}
-use Rattle.rt_sync.specs.World.{World}
-use Rattle.std.specs.Prelude.{Option}
-use Rattle.rt_console.specs.Run.{AfterLines, Progress, lines_of, progress, resumed, start}
+use Rattle.std.proofs.Common.{ℕ, List, subst, ◌∙◌, ap}
+use Rattle.rt_console.specs.Run.{AfterLines, Progress, lines_of, progress, resumed}
 use Rattle.rt_console.proofs.Runs.{if_ok_map, resumed-nil}
 use Rattle.rt_console.proofs.script.run_script.Goals as goal
 
