@@ -4,7 +4,6 @@ use Rattle.serde_json.specs.Data.{Data}
 use Rattle.serde_json.specs.View.{view}
 use Rattle.serde_json.specs.declared.value.Value.{Value}
 use Rattle.rt_console.specs.declared.form.Form.{Form}
-use Rattle.rt_console.specs.declared.form.Form.TheVariants as Form
 use Rattle.rt_console.specs.Lines.{Line}
 use Rattle.rt_console.specs.Lines as line
 

@@ -1,5 +1,5 @@
 -- What the lines of a script do to a core.
-use Rattle.std.specs.Prelude.{◌≡◌, ◌≢◌, ℕ, ◌+◌, ◌-◌, ◌^◌, ◌==◌, min, Bool, false, if◌then◌else◌, List, [], ◌∷◌, ◌++◌, Option, Some, None, Result, Ok, Err, String, string_bytes, is_none, option_and_then}
+use Rattle.std.specs.Prelude.{◌≡◌, ◌≢◌, ℕ, ◌+◌, ◌-◌, ◌^◌, ◌==◌, min, Bool, false, if◌then◌else◌, List, [], ◌∷◌, ◌++◌, Option, Some, None, Result, Err, String, string_bytes, is_none, option_and_then}
 use Rattle.std.specs.declared.alloc.Global.{Global}
 use Rattle.std.specs.List.{slice_split}
 use Rattle.std.specs.Str.{is_utf8}
@@ -13,7 +13,6 @@ use Rattle.rt_sync.specs.World.{World, empty_world, limits_from}
 use Rattle.rt_sync.specs.Answers.{Answer}
 use Rattle.rt_sync.specs.Runs.{Applies, Views}
 use Rattle.rt_console.specs.declared.task.Task.{Task}
-use Rattle.rt_console.specs.declared.task.Task.TheVariants as Task
 use Rattle.rt_console.specs.Lines.{Line, line_in}
 use Rattle.rt_console.specs.Tasks.{words_fault, task_of}
 use Rattle.rt_console.specs.Printing.{answer_text, view_answer_text, tree_refused, bad_line}

@@ -1,5 +1,5 @@
 -- What a line asks for: its words are looked at in their order, then it asks for a step or for a look at a view.
-use Rattle.std.specs.Prelude.{ℕ, List, Option, Some, None}
+use Rattle.std.specs.Prelude.{Option, None}
 use Rattle.std.specs.Option.{option_or}
 use Rattle.rt_tree.specs.declared.error.TreeError.{TreeError}
 use Rattle.rt_tree.specs.Path.{path_keys, path_fault}
@@ -9,7 +9,6 @@ use Rattle.rt_sync.specs.declared.step.Action.TheVariants.{Put}
 use Rattle.rt_sync.specs.declared.step.Step.TheVariants as Step
 use Rattle.rt_sync.specs.Runs.{IsPlainStep}
 use Rattle.rt_console.specs.declared.task.Task.{Task}
-use Rattle.rt_console.specs.declared.task.Task.TheVariants as Task
 use Rattle.rt_console.specs.Lines.{Line, Connected, Listen, Push, Set, View}
 
 -- why a line is refused: the first fault of its words

@@ -1,12 +1,12 @@
 // A run of a script.
-ghost use Rattle.std.specs.Prelude.{◌≡◌, ◌+◌, ◌<◌, ◌≤◌, ◌^◌, ◌⊎◌, [], ◌++◌, ◌∷◌, min, length, Some, IfSome, IfOk, IfErr, OnOk, OnErr, IsErrOf, MatchOption, is_some, option_and_then, position, ◌==◌};
-ghost use Rattle.std.specs.Io.KnownBytes.{IsAtEnd};
+ghost use Rattle.std.specs.Prelude.{◌≡◌, ◌+◌, ◌<◌, ◌≤◌, ◌^◌, ◌⊎◌, ◌++◌, ◌∷◌, min, length, Some, IfSome, IfOk, IfErr, OnOk, OnErr, IsErrOf, MatchOption, is_some, option_and_then, position, take, ◌==◌, ℕ, List, Option, []};
+ghost use Rattle.std.specs.Io.KnownBytes.{Consumes, IsAtEnd};
 ghost use Rattle.serde_json.specs.View.{view as data_of};
-ghost use Rattle.rt_sync.specs.Answers.{Answer};
-ghost use Rattle.rt_sync.specs.Runs.{Applies, IsPlainStep};
+ghost use Rattle.rt_sync.specs.World.{World, empty_world, limits_from};
+ghost use Rattle.rt_sync.specs.Runs.{IsPlainStep};
 ghost use Rattle.rt_console.specs.Forms.{line_of};
 ghost use Rattle.rt_console.specs.Lines.{line_in};
-ghost use Rattle.rt_console.specs.Run.{After, AfterLine, Does, DoesIfLine, DoesLine, EndsLine, Takes, at, line_of_bytes, lines_of, progress, step_of, step_of_bytes};
+ghost use Rattle.rt_console.specs.Run.{After, AfterLine, AfterLines, Does, DoesIfLine, DoesLine, EndsLine, Takes, at, line_of_bytes, lines_of, progress, resumed, start, step_of, step_of_bytes};
 ghost use Rattle.rt_console.specs.Faults.{NoneFailed, Tells, WriteTells, most_input};
 
 use crate::error::ConsoleError;
@@ -147,6 +147,7 @@ fn read_some<S: Source>(reader: &mut S, chunk: &mut [u8]) -> Result<usize, Conso
     ensures given { IfOk result (λ n. S.given reader.new ≡ S.given reader.old + n) }
     ensures none_failed { OnOk result (S.failures reader.new ≡ S.failures reader.old) }
     ensures end { IfOk result (λ n. n ≡ 0 → IsAtEnd (S.remaining reader.new)) }
+    ensures bytes { IfOk result (λ n. Consumes (S.remaining reader.old) (S.remaining reader.new) (take n chunk.new)) }
     ensures fault { IfErr result (λ e. (e ≡ ConsoleError.ReadFault) × (S.failures reader.new ≡ S.failures reader.old + 1)) }
 {
     match reader.read(chunk) {
@@ -156,7 +157,10 @@ fn read_some<S: Source>(reader: &mut S, chunk: &mut [u8]) -> Result<usize, Conso
 }
 
 impl Script {
-    fn new(alloc: Global) -> Script {
+    fn new(alloc: Global) -> Script
+        ensures start { progress result.core result.bad_lines ≡ start }
+        ensures line { result.line.items ≡ [] }
+    {
         Script {
             alloc,
             core: Core::new(alloc, Limits::full()),
@@ -258,23 +262,25 @@ impl Script {
         requires reads { S.failures reader.old + 1 < 2 ^ 64 }
         requires writes { D.failures writer.old + 1 < 2 ^ 64 }
         ensures end { OnOk result (IsAtEnd (S.remaining reader.new)) }
+        ensures ran { OnOk result ((text : List ℕ) → S.remaining reader.old ≡ Some text → AfterLines (resumed self.old.line.items (lines_of text)) (progress self.old.core self.old.bad_lines) (progress self.new.core self.new.bad_lines)) }
         ensures within { OnOk result (S.given reader.new ≤ S.given reader.old + most_input) }
         ensures fault { IfErr result (λ e. Tells e (record { given = S.given reader.old; failed_reads = S.failures reader.old; failed_writes = D.failures writer.old }) (record { given = S.given reader.new; failed_reads = S.failures reader.new; failed_writes = D.failures writer.new })) }
         ensures ok { OnOk result (NoneFailed (record { given = S.given reader.old; failed_reads = S.failures reader.old; failed_writes = D.failures writer.old }) (record { given = S.given reader.new; failed_reads = S.failures reader.new; failed_writes = D.failures writer.new })) }
     {
         let mut chunk = room_for(self.alloc, CHUNK)?;
         let mut taken = 0;
-        while taken <= MOST_INPUT {
+        'input: loop {
             let count = read_some(reader, chunk.as_mut_slice())?;
             if count == 0 {
-                return self.finish(writer);
+                self.finish(writer)?;
+                return Ok(());
             }
             taken += count;
-            if taken <= MOST_INPUT {
-                self.take(&chunk[..count], writer)?;
+            if taken > MOST_INPUT {
+                return Err(ConsoleError::ReadFault);
             }
+            self.take(&chunk[..count], writer)?;
         }
-        Err(ConsoleError::ReadFault)
     }
 
     // Reads to the end of the input, does its lines, and answers how many of them were bad.
@@ -287,6 +293,7 @@ impl Script {
         requires reads { S.failures reader.old + 1 < 2 ^ 64 }
         requires writes { D.failures writer.old + 1 < 2 ^ 64 }
         ensures end { OnOk result (IsAtEnd (S.remaining reader.new)) }
+        ensures ran { IfOk result (λ bad_lines. (text : List ℕ) → S.remaining reader.old ≡ Some text → AfterLines (resumed self.old.line.items (lines_of text)) (progress self.old.core self.old.bad_lines) (progress self.new.core bad_lines)) }
         ensures within { OnOk result (S.given reader.new ≤ S.given reader.old + most_input) }
         ensures none_failed { OnOk result ((S.failures reader.new ≡ S.failures reader.old) × (D.failures writer.new ≡ D.failures writer.old)) }
         ensures read_fault { IsErrOf result ConsoleError.ReadFault
@@ -321,6 +328,8 @@ pub fn run_script<S: Source, D: Drain>(
     requires reads { S.failures reader.old + 1 < 2 ^ 64 }
     requires writes { D.failures writer.old + 1 < 2 ^ 64 }
     ensures end { OnOk result (IsAtEnd (S.remaining reader.new)) }
+    ensures ran { IfOk result (λ bad_lines. (text : List ℕ) → S.remaining reader.old ≡ Some text
+        → (core : Option World) × AfterLines (lines_of text) start (progress core bad_lines)) }
     ensures within { OnOk result (S.given reader.new ≤ S.given reader.old + most_input) }
     ensures none_failed { OnOk result ((S.failures reader.new ≡ S.failures reader.old) × (D.failures writer.new ≡ D.failures writer.old)) }
     ensures read_fault { IsErrOf result ConsoleError.ReadFault

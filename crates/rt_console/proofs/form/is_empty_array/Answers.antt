@@ -1,4 +1,4 @@
-use Rattle.std.proofs.Common.{rules, ◌≡◌, length, vec_len, sym, ◌∙◌}
+use Rattle.std.proofs.Common.{rules, ◌≡◌, length, sym, ◌∙◌}
 use Rattle.std.specs.Prelude.{◌==◌}
 use Rattle.serde_json.specs.View.{view as data_of}
 use Rattle.rt_console.proofs.Forms.{is_plain-array}

@@ -1,4 +1,4 @@
-use Rattle.std.proofs.Common.{rules, ◌≡◌}
+use Rattle.std.proofs.Common.{rules}
 use Rattle.serde_json.specs.View.{view as data_of}
 use Rattle.rt_console.proofs.Lines.{line_of_bytes-read, line_of_bytes-none}
 use Rattle.rt_console.proofs.script.value_of.Goals as goal

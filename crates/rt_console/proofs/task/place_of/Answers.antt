@@ -1,4 +1,3 @@
-use Rattle.std.proofs.Common.{rules, ◌≡◌, None, Some, IfSome, Ok, Err, Result}
 use Rattle.serde_json.specs.View.{view as data_of}
 use Rattle.rt_tree.specs.Path.{path_fault}
 use Rattle.rt_tree.specs.Reading.{data_fault}

@@ -1,4 +1,4 @@
-use Rattle.std.proofs.Common.{rules, ◌≡◌, ℕ, List, ◌++◌, length, true, false, string_bytes, is_some, refl, sym, ap, subst, ◌∙◌}
+use Rattle.std.proofs.Common.{rules, ◌≡◌, ℕ, List, ◌++◌, length, false, string_bytes, is_some, refl, sym, ap, subst, ◌∙◌}
 use Rattle.std.specs.Prelude.{◌==◌}
 use Rattle.rt_console.specs.Printing.{bad_line}
 use Rattle.rt_console.specs.Run.{State, DoesIfLine, EndsLine, at, line_of_bytes}
