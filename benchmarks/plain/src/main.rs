@@ -93,15 +93,15 @@ fn paths(count: u32) -> Vec<Vec<String>> {
     paths
 }
 
-// The JSON of 200 objects of 299 numbers: 60,001 values.
-fn json_text() -> String {
+// The JSON of 200 objects of 299 leaves, numbers between `open` and `close`: 60,001 values.
+fn json_text(open: &str, close: &str) -> String {
     let mut text = String::from("{");
     for room in 0..200 {
         text.push_str(if room == 0 { "" } else { "," });
         text.push_str(&format!("\"room{room}\":{{"));
         for seat in 0..299 {
             text.push_str(if seat == 0 { "" } else { "," });
-            text.push_str(&format!("\"seat{seat}\":{}", room * 299 + seat));
+            text.push_str(&format!("\"seat{seat}\":{open}{}{close}", room * 299 + seat));
         }
         text.push('}');
     }
@@ -142,7 +142,7 @@ fn round() {
     }
     report("put_shared", start);
     println!("found {found} copies {copies} levels {}", tree.levels());
-    let text = json_text();
+    let text = json_text("", "");
     let start = Instant::now();
     let tree = json::read(&text).unwrap();
     report("read", start);
@@ -154,21 +154,9 @@ fn round() {
     println!("written {}", written.len());
 }
 
-// A text of 10 MB: the JSON of 200 objects of 299 texts of some 150 bytes, 60,001 values.
+// A text of 10 MB, whose leaves are texts of some 150 bytes.
 fn large_text() -> String {
-    let fill = "It is a truth universally acknowledged, that a single man in possession of a good fortune, must be in want of a wife. However little known. ";
-    let mut text = String::from("{");
-    for room in 0..200 {
-        text.push_str(if room == 0 { "" } else { "," });
-        text.push_str(&format!("\"room{room}\":{{"));
-        for seat in 0..299 {
-            text.push_str(if seat == 0 { "" } else { "," });
-            text.push_str(&format!("\"seat{seat}\":\"{fill}{}\"", room * 299 + seat));
-        }
-        text.push('}');
-    }
-    text.push('}');
-    text
+    json_text("\"It is a truth universally acknowledged, that a single man in possession of a good fortune, must be in want of a wife. However little known. ", "\"")
 }
 
 fn read_large(text: &str) {
