@@ -4,7 +4,7 @@ use crate::{Key, Leaf, LeafRef, Path, Tree, TreeError};
 use std::alloc::{AllocError, Global};
 use std::test::Fail;
 
-pub fn repeated(alloc: Global, piece: &str, count: usize) -> Result<String, AllocError> {
+pub(crate) fn repeated(alloc: Global, piece: &str, count: usize) -> Result<String, AllocError> {
     let mut text = String::new(alloc);
     for _ in 0..count {
         text.push_str(piece)?;
