@@ -22,7 +22,7 @@ fn add_child(children: &mut BTreeMap<Key, Tree>, key: Key, child: Tree) -> Resul
 }
 
 // The tree of a leaf, or else of the children from `first` on.
-pub fn build(
+pub(crate) fn build(
     alloc: Global,
     nodes: &Slab<Slot>,
     leaf: &Option<Leaf>,

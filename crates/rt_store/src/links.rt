@@ -12,7 +12,7 @@ use rt_tree::Key;
 use slab::Slab;
 
 // Sets the sibling behind a node.
-pub fn set_next(nodes: &mut Slab<Slot>, index: usize, link: Option<usize>)
+pub(crate) fn set_next(nodes: &mut Slab<Slot>, index: usize, link: Option<usize>)
     ensures written { get nodes.new index ≡ option_map (with_next link) (get nodes.old index) }
     ensures others { (n : ℕ) → n ≢ index → get nodes.new n ≡ get nodes.old n }
     ensures len { slab_len nodes.new ≡ slab_len nodes.old }
@@ -23,7 +23,7 @@ pub fn set_next(nodes: &mut Slab<Slot>, index: usize, link: Option<usize>)
 }
 
 // Sets the sibling in front of a node.
-pub fn set_previous(nodes: &mut Slab<Slot>, index: usize, link: Option<usize>)
+pub(crate) fn set_previous(nodes: &mut Slab<Slot>, index: usize, link: Option<usize>)
     ensures written { get nodes.new index ≡ option_map (with_previous link) (get nodes.old index) }
     ensures others { (n : ℕ) → n ≢ index → get nodes.new n ≡ get nodes.old n }
     ensures len { slab_len nodes.new ≡ slab_len nodes.old }
@@ -34,7 +34,7 @@ pub fn set_previous(nodes: &mut Slab<Slot>, index: usize, link: Option<usize>)
 }
 
 // Links two siblings to each other, where they are there.
-pub fn join(nodes: &mut Slab<Slot>, previous: Option<usize>, next: Option<usize>)
+pub(crate) fn join(nodes: &mut Slab<Slot>, previous: Option<usize>, next: Option<usize>)
     ensures each { (n : ℕ) → get nodes.new n ≡ option_map (joined previous next n) (get nodes.old n) }
     ensures len { slab_len nodes.new ≡ slab_len nodes.old }
 {
@@ -47,7 +47,7 @@ pub fn join(nodes: &mut Slab<Slot>, previous: Option<usize>, next: Option<usize>
 }
 
 // Sets the children of a node, which is no leaf then.
-pub fn set_children(nodes: &mut Slab<Slot>, index: usize, link: Option<usize>)
+pub(crate) fn set_children(nodes: &mut Slab<Slot>, index: usize, link: Option<usize>)
     ensures written { get nodes.new index ≡ option_map (with_children link) (get nodes.old index) }
     ensures others { (n : ℕ) → n ≢ index → get nodes.new n ≡ get nodes.old n }
     ensures len { slab_len nodes.new ≡ slab_len nodes.old }
@@ -59,7 +59,7 @@ pub fn set_children(nodes: &mut Slab<Slot>, index: usize, link: Option<usize>)
 }
 
 // Takes the nodes of a row out of the slab, with all below them.
-pub fn fell(nodes: &mut Slab<Slot>, first: Option<usize>)
+pub(crate) fn fell(nodes: &mut Slab<Slot>, first: Option<usize>)
     requires place { IsPlace nodes.old first }
     requires once { (n : ℕ) → times n (row_at nodes.old first) ≤ 1 }
     ensures { Felled nodes.old nodes.new (row_at nodes.old first) }
@@ -77,7 +77,7 @@ pub fn fell(nodes: &mut Slab<Slot>, first: Option<usize>)
 }
 
 // Takes a node out of its row, with all below it. The answer is the first node that is left.
-pub fn take_out(nodes: &mut Slab<Slot>, first: Option<usize>, index: usize) -> Option<usize>
+pub(crate) fn take_out(nodes: &mut Slab<Slot>, first: Option<usize>, index: usize) -> Option<usize>
     requires head { IsHead nodes.old first }
     requires once { (n : ℕ) → times n (row_at nodes.old first) ≤ 1 }
     requires there { InRow index (row_at nodes.old first) }
@@ -100,7 +100,7 @@ pub fn take_out(nodes: &mut Slab<Slot>, first: Option<usize>, index: usize) -> O
 }
 
 // Whether nothing is left of a row, once what stands at the path is taken out.
-pub fn vanishes(nodes: &Slab<Slot>, first: Option<usize>, key: &Key, rest: &[Key]) -> bool
+pub(crate) fn vanishes(nodes: &Slab<Slot>, first: Option<usize>, key: &Key, rest: &[Key]) -> bool
     requires { IsPlace nodes.now first }
     ensures { result ≡ is_bare (cleared key.now rest.now (row_at nodes.now first)) }
 {

@@ -11,7 +11,7 @@ use slab::Slab;
 use std::cmp::Ordering;
 
 // The node of a key in a row.
-pub fn find(nodes: &Slab<Slot>, first: Option<usize>, key: &Key) -> Option<usize>
+pub(crate) fn find(nodes: &Slab<Slot>, first: Option<usize>, key: &Key) -> Option<usize>
     requires { IsPlace nodes.now first }
     ensures { result ≡ index_in key.now (row_at nodes.now first) }
 {
@@ -28,7 +28,12 @@ pub fn find(nodes: &Slab<Slot>, first: Option<usize>, key: &Key) -> Option<usize
 }
 
 // The node at a path below a row.
-pub fn descend(nodes: &Slab<Slot>, first: Option<usize>, key: &Key, rest: &[Key]) -> Option<usize>
+pub(crate) fn descend(
+    nodes: &Slab<Slot>,
+    first: Option<usize>,
+    key: &Key,
+    rest: &[Key],
+) -> Option<usize>
     requires { IsPlace nodes.now first }
     ensures { result ≡ place_in key.now rest.now (row_at nodes.now first) }
 {
