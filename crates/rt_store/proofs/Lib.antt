@@ -6,6 +6,8 @@ pub mod Linked
 pub mod Orders
 pub mod Paths
 pub mod Places
+pub mod Planting
 pub mod Replacing
+pub mod Storing
 pub mod Taking
 pub mod Vanishing

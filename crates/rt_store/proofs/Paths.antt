@@ -18,7 +18,9 @@ use Rattle.rt_store.specs.Stored.{Stored, onward, some_row}
 use Rattle.rt_store.specs.StoreView.{stored, IsStore}
 use Rattle.rt_store.specs.declared.store.Store.TheInside.{Inside}
 use Rattle.rt_store.specs.Forest.{Forest, bare, node, first, size, entries, tree_with, AllAfter, IsFull, Sound, IsRow, row_at}
-use Rattle.rt_store.specs.Walks.{IsPlace, index_in, place_in}
+use Rattle.rt_store.specs.Walks.{IsPlace, spot_in, index_in, place_in}
+use Rattle.rt_store.specs.declared.row.Spot.{Spot}
+use Rattle.rt_store.specs.declared.row.Spot.TheVariants.{Here, Gap}
 use Rattle.rt_store.specs.declared.slot.Slot.{Slot}
 use Rattle.rt_store.proofs.Linked.{IsAt, at_place, not_nowhere, row_at-none, row_at_is, place_of, below_row, behind_row}
 use Rattle.rt_store.proofs.Orders.{tests_alike, row-tree_with, top_of_full, full_tree, row-of_leaf, root_row-full, root_row-null}
@@ -28,10 +30,11 @@ use Rattle.rt_store.proofs.Places.{row-null, onward_is}
 at_link : (s : Slab Slot) (o : Option ℕ) (n : ℕ) (slot : Slot) → o ≡ Some n → IsPlace s o → get s n ≡ Some slot → IsAt s n slot
 at_link s o n slot is h there = at_place s n slot (subst (IsPlace s) is h) there
 
-pub found_by : (s : Slab Slot) (o : Option ℕ) (n : ℕ) (slot : Slot) (k : Key) → o ≡ Some n → IsPlace s o → get s n ≡ Some slot
-    → (r : Ordering) → key_cmp k slot.key ≡ r → index_in k (row_at s o) ≡ by_order r None (Some n) (index_in k (row_at s slot.next))
-found_by s o n slot k is h there r order =
-    ap (λ l. index_in k (row_at s l)) is ∙ ap (index_in k) (at_link s o n slot is h there).is ∙ ap (λ c. by_order c None (Some n) (index_in k (row_at s slot.next))) order
+pub spotted_by : (s : Slab Slot) (o previous : Option ℕ) (n : ℕ) (slot : Slot) (k : Key) → o ≡ Some n → IsPlace s o → get s n ≡ Some slot
+    → (r : Ordering) → key_cmp k slot.key ≡ r → spot_in k previous (row_at s o) ≡ by_order r (Gap previous (Some n)) (Here n) (spot_in k (Some n) (row_at s slot.next))
+spotted_by s o previous n slot k is h there r order =
+    ap (λ l. spot_in k previous (row_at s l)) is ∙ ap (spot_in k previous) (at_link s o n slot is h there).is
+    ∙ ap (λ c. by_order c (Gap previous (Some n)) (Here n) (spot_in k (Some n) (row_at s slot.next))) order
 
 pub is_there : (s : Slab Slot) (o : Option ℕ) (n : ℕ) → o ≡ Some n → IsPlace s o → get s n ≡ None → ⊥
 is_there s o n is h none = not_nowhere s n (subst (IsPlace s) is h) none
@@ -45,8 +48,22 @@ fewer s o n slot is h there =
 pub next_place : (s : Slab Slot) (o : Option ℕ) (n : ℕ) (slot : Slot) → o ≡ Some n → IsPlace s o → get s n ≡ Some slot → IsPlace s slot.next
 next_place s o n slot is h there = (at_link s o n slot is h there).behind
 
-pub missing : (s : Slab Slot) (o : Option ℕ) (k : Key) → o ≡ None → index_in k (row_at s o) ≡ None
-missing s o k is = ap (λ l. index_in k (row_at s l)) is ∙ ap (index_in k) (row_at-none s)
+pub missing : (s : Slab Slot) (o previous : Option ℕ) (k : Key) → o ≡ None → spot_in k previous (row_at s o) ≡ Gap previous None
+missing s o previous k is = ap (λ l. spot_in k previous (row_at s l)) is ∙ ap (spot_in k previous) (row_at-none s)
+
+-- the node of a spot
+abbrev pub here : Spot → Option ℕ
+here (Here n) = Some n
+here (Gap previous next) = None
+
+pub index_spot : (k : Key) (previous : Option ℕ) (f : Forest) → index_in k f ≡ here (spot_in k previous f)
+index_spot k previous bare = refl
+index_spot k previous (node n key leaf below behind) =
+    elim (key_cmp k key) as (λ o. by_order o None (Some n) (index_in k behind) ≡ here (by_order o (Gap previous (Some n)) (Here n) (spot_in k (Some n) behind))) [
+      | Less ↦ refl
+      | Equal ↦ refl
+      | Greater ↦ index_spot k (Some n) behind
+    ]
 
 -- ---- what a key finds in a row
 pub differs : (j k : Key) (r : Ordering) → key_cmp j k ≡ r → is_eq r ≡ false → key_eq j k ≡ false

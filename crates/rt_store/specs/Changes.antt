@@ -1,6 +1,7 @@
 -- How the nodes change.
 use Rattle.std.specs.Prelude.{◌≡◌, ◌<◌, ◌≤◌, ◌⊎◌, ℕ, ◌+◌, Bool, false, cond, nat_eq, true, not, ◌&&◌, is_some, [], ◌∷◌, Option, Some, None}
 use Rattle.std.specs.FinMap.Entries.{by_order}
+use Rattle.rt_tree.specs.Leaf.{LeafValue}
 use Rattle.rt_tree.specs.PathTree.{Key, Path}
 use Rattle.rt_order.specs.KeyOrder.{key_cmp}
 use Rattle.slab.specs.Slab.{Slab, get, slab_len}
@@ -13,8 +14,13 @@ with_next o slot = record slot { next = o }
 abbrev pub with_previous : Option ℕ → Slot → Slot
 with_previous o slot = record slot { previous = o }
 
-abbrev pub with_children : Option ℕ → Slot → Slot
-with_children o slot = record slot { first_child = o; leaf = None }
+abbrev pub with_content : Option LeafValue → Option ℕ → Slot → Slot
+with_content leaf o slot = record slot { first_child = o; leaf = leaf }
+
+-- every node is as it was
+pub record Same (old new : Slab Slot) : Type 0 where
+  pub kept : (n : ℕ) → get new n ≡ get old n
+  pub len : slab_len new ≡ slab_len old
 
 -- these nodes are gone, and the others are as they were
 pub record Felled (old new : Slab Slot) (f : Forest) : Type 0 where
@@ -31,6 +37,10 @@ is_link (Some m) n = nat_eq n m
 abbrev pub joined : Option ℕ → Option ℕ → ℕ → Slot → Slot
 joined p q n slot = record slot { next = cond (is_link p n) q slot.next; previous = cond (is_link q n) p slot.previous }
 
+-- a node that was put between two siblings
+abbrev pub linked_in : Option ℕ → ℕ → Option ℕ → ℕ → Slot → Slot
+linked_in p k q n slot = joined (Some k) q n (joined p (Some k) n slot)
+
 -- one of the siblings of the row
 abbrev pub InRow : ℕ → Forest → Type 0
 InRow k bare = ⊥
@@ -46,10 +56,16 @@ abbrev pub below_of : ℕ → Forest → Forest
 below_of k bare = bare
 below_of k (node n key leaf below behind) = cond (nat_eq k n) below (below_of k behind)
 
--- the row with other children below one of its siblings, which is no leaf then
-abbrev pub with_below : ℕ → Forest → Forest → Forest
-with_below k b bare = bare
-with_below k b (node n key leaf below behind) = cond (nat_eq k n) (node n key None b behind) (node n key leaf below (with_below k b behind))
+-- the row with another leaf, or other children, at one of its siblings
+abbrev pub with_below : ℕ → Option LeafValue → Forest → Forest → Forest
+with_below k l b bare = bare
+with_below k l b (node n key leaf below behind) = cond (nat_eq k n) (node n key l b behind) (node n key leaf below (with_below k l b behind))
+
+-- the row with one node more, at the place of its key, which stands nowhere in the row
+abbrev pub planted : ℕ → Key → Option LeafValue → Forest → Forest → Forest
+planted n k l b bare = node n k l b bare
+planted n k l b (node m key leaf below behind) =
+    by_order (key_cmp k key) (node n k l b (node m key leaf below behind)) (node m key leaf below behind) (node m key leaf below (planted n k l b behind))
 
 abbrev pub is_bare : Forest → Bool
 is_bare bare = true
@@ -75,3 +91,8 @@ pub record Changed (old new : Slab Slot) (f g : Forest) : Type 0 where
   pub fresh : (n : ℕ) → 0 < times n g → times n f ≡ 0 → get old n ≡ None
   pub once : (n : ℕ) → times n g ≤ 1
   pub len : slab_len new + size f ≡ slab_len old + size g
+
+-- nodes that were vacant became a row, which nothing else leads to
+pub record Grown (old new : Slab Slot) (o parent : Option ℕ) : Type 0 where
+  pub row : IsRow new o parent None (row_at new o)
+  pub changed : Changed old new bare (row_at new o)

@@ -51,3 +51,8 @@ tree_at s n = first_tree (onward s n)
 abbrev pub key_at : Stored → Option ℕ → Option Key
 key_at s None = None
 key_at s (Some n) = first_key (nth s.rows n)
+
+-- nothing changed: the tree is the same, and each node stands for what it stood for
+pub record IsAsBefore (old new : Stored) : Type 0 where
+  pub tree : new.tree ≡ old.tree
+  pub nodes : (n : Option ℕ) → onward new n ≡ onward old n

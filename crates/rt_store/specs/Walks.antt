@@ -8,10 +8,17 @@ use Rattle.rt_tree.specs.PathTree.{Key, Path}
 use Rattle.rt_order.specs.KeyOrder.{key_cmp}
 use Rattle.rt_store.specs.Forest.{Forest, bare, node, IsRow, row_at}
 use Rattle.rt_store.specs.declared.slot.Slot.{Slot}
+use Rattle.rt_store.specs.declared.row.Spot.{Spot}
+use Rattle.rt_store.specs.declared.row.Spot.TheVariants.{Here, Gap}
 
 -- there is a row from this node on
 abbrev pub IsPlace : Slab Slot → Option ℕ → Type 0
 IsPlace s o = (parent : Option ℕ) × (previous : Option ℕ) × IsRow s o parent previous (row_at s o)
+
+-- where a key stands in a row, behind this sibling, or between which two it would
+abbrev pub spot_in : Key → Option ℕ → Forest → Spot
+spot_in k previous bare = Gap previous None
+spot_in k previous (node n key leaf below behind) = by_order (key_cmp k key) (Gap previous (Some n)) (Here n) (spot_in k (Some n) behind)
 
 -- the node of a key in a row
 abbrev pub index_in : Key → Forest → Option ℕ

@@ -6,9 +6,12 @@
 #![tactic(auto)]
 
 mod build;
+mod clear;
 mod error;
+mod grow;
 mod links;
 mod node;
+mod put;
 mod row;
 mod slot;
 mod store;

@@ -4,11 +4,10 @@ ghost use Rattle.std.specs.Option.{option_map};
 ghost use Rattle.slab.specs.Slab.{get, slab_len};
 ghost use Rattle.rt_store.specs.Forest.{IsRow, row_at, times};
 ghost use Rattle.rt_store.specs.Walks.{IsPlace};
-ghost use Rattle.rt_store.specs.Changes.{Felled, Changed, is_bare, cleared, IsHead, InRow, without, joined, with_next, with_previous, with_children};
+ghost use Rattle.rt_store.specs.Changes.{Felled, Changed, IsHead, InRow, without, joined, linked_in, with_next, with_previous, with_content};
 
 use crate::slot::Slot;
-use rt_order::key_cmp;
-use rt_tree::Key;
+use rt_tree::Leaf;
 use slab::Slab;
 
 // Sets the sibling behind a node.
@@ -46,15 +45,34 @@ pub(crate) fn join(nodes: &mut Slab<Slot>, previous: Option<usize>, next: Option
     }
 }
 
-// Sets the children of a node, which is no leaf then.
-pub(crate) fn set_children(nodes: &mut Slab<Slot>, index: usize, link: Option<usize>)
-    ensures written { get nodes.new index ≡ option_map (with_children link) (get nodes.old index) }
+// Puts a node between two siblings.
+pub(crate) fn link(
+    nodes: &mut Slab<Slot>,
+    previous: Option<usize>,
+    index: usize,
+    next: Option<usize>,
+)
+    ensures each { (n : ℕ) → get nodes.new n ≡ option_map (linked_in previous index next n) (get nodes.old n) }
+    ensures len { slab_len nodes.new ≡ slab_len nodes.old }
+{
+    join(nodes, previous, Some(index));
+    join(nodes, Some(index), next);
+}
+
+// Sets what a node is: a leaf, or else its children.
+pub(crate) fn set_content(
+    nodes: &mut Slab<Slot>,
+    index: usize,
+    leaf: Option<Leaf>,
+    link: Option<usize>,
+)
+    ensures written { get nodes.new index ≡ option_map (with_content leaf link) (get nodes.old index) }
     ensures others { (n : ℕ) → n ≢ index → get nodes.new n ≡ get nodes.old n }
     ensures len { slab_len nodes.new ≡ slab_len nodes.old }
 {
     if let Some(slot) = nodes.get_mut(index) {
         slot.first_child = link;
-        slot.leaf = None;
+        slot.leaf = leaf;
     }
 }
 
@@ -96,25 +114,5 @@ pub(crate) fn take_out(nodes: &mut Slab<Slot>, first: Option<usize>, index: usiz
     match previous {
         None => next,
         Some(_) => first,
-    }
-}
-
-// Whether nothing is left of a row, once what stands at the path is taken out.
-pub(crate) fn vanishes(nodes: &Slab<Slot>, first: Option<usize>, key: &Key, rest: &[Key]) -> bool
-    requires { IsPlace nodes.now first }
-    ensures { result ≡ is_bare (cleared key.now rest.now (row_at nodes.now first)) }
-{
-    let Some(index) = first else {
-        return true;
-    };
-    let slot = nodes.get(index).unwrap();
-    if slot.next.is_some() || !key_cmp(key, &slot.key).is_eq() {
-        return false;
-    }
-    match rest.split_first() {
-        None => true,
-        Some((child, rest)) => {
-            slot.leaf.is_none() && vanishes(nodes, slot.first_child, child, rest)
-        }
     }
 }

@@ -1,12 +1,18 @@
 // A tree as linked nodes.
-ghost use Rattle.std.specs.Prelude.{◌≡◌, [], not, is_some, IfOk};
+ghost use Rattle.std.specs.Prelude.{◌≡◌, ◌+◌, ◌<◌, ◌↔◌, [], not, is_some, length, IfOk, OnOk, OnErr, Err};
 ghost use Rattle.std.specs.Option.{option_copied, option_map};
-ghost use Rattle.rt_tree.specs.PathTree.{null, is_null, sub, leaf_of};
+ghost use Rattle.rt_tree.specs.PathTree.{null, is_null, sub, put, leaf_of, levels};
 ghost use Rattle.rt_store.specs.Rows.{row, from_path};
-ghost use Rattle.rt_store.specs.Stored.{onward, some_row, behind, tree_at, key_at};
+ghost use Rattle.rt_store.specs.Stored.{IsAsBefore, onward, some_row, behind, tree_at, key_at};
+ghost use Rattle.rt_store.specs.declared.error.StoreError.TheVariants.{TooDeep};
 
 use crate::build::build;
+use crate::clear::clear_row;
+use crate::error::StoreError;
+use crate::grow::content;
+use crate::links::fell;
 use crate::node::Node;
+use crate::put::put_row;
 use crate::row::descend;
 use crate::slot::Slot;
 use rt_tree::{Key, Leaf, Path, Tree};
@@ -49,6 +55,59 @@ impl Store {
             nodes: Slab::new(alloc),
             first: None,
             leaf: None,
+        }
+    }
+
+    /// Puts a copy of a tree in the place of what stands at the path. Null clears the path; any other tree replaces a leaf above the path
+    /// by an object.
+    ///
+    /// `TooDeep` where path and tree together have more than 32 keys. A refusal changes nothing: all nodes are made before the first
+    /// of the store's changes.
+    ///
+    /// Costs by the path, the siblings in front on it, the tree that is put and what it replaces.
+    pub fn set(&mut self, alloc: Global, path: &Path, tree: &Tree) -> Result<(), StoreError>
+        ensures ok { OnOk result (self.new.tree ≡ put self.old.tree path.now tree.now) }
+        ensures err { OnErr result (IsAsBefore self.old self.new) }
+        ensures too_deep { (result ≡ Err TooDeep) ↔ (33 < length path.now + levels tree.now) }
+    {
+        let keys = path.keys();
+        if tree.is_null() {
+            self.clear(path);
+            return Ok(());
+        }
+        if tree.levels() > 33 - keys.len() {
+            return Err(StoreError::TooDeep);
+        }
+        match keys.split_first() {
+            None => {
+                let (leaf, first) = content(&mut self.nodes, alloc, None, keys, tree)?;
+                fell(&mut self.nodes, self.first);
+                self.first = first;
+                self.leaf = leaf;
+            }
+            Some((key, rest)) => {
+                self.first = put_row(&mut self.nodes, alloc, None, self.first, key, rest, tree)?;
+                self.leaf = None;
+            }
+        }
+        Ok(())
+    }
+
+    /// Takes out what stands at the path, and with it each object above that is left without children. Takes no memory.
+    ///
+    /// Costs by the path, the siblings in front on it and what is taken out.
+    pub fn clear(&mut self, path: &Path)
+        ensures { self.new.tree ≡ put self.old.tree path.now null }
+    {
+        match path.keys().split_first() {
+            None => {
+                fell(&mut self.nodes, self.first);
+                self.first = None;
+                self.leaf = None;
+            }
+            Some((key, rest)) => {
+                self.first = clear_row(&mut self.nodes, self.first, key, rest);
+            }
         }
     }
 

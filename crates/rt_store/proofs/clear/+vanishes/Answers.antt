@@ -6,8 +6,8 @@ use Rattle.rt_order.specs.KeyOrder.{key_cmp}
 use Rattle.rt_store.specs.Forest.{row_at}
 use Rattle.rt_store.specs.Changes.{is_bare, cleared}
 use Rattle.rt_store.proofs.Vanishing.{vanish_more, vanish_other, vanish_end, vanish_below, vanish_place}
-use Rattle.rt_store.proofs.links.+vanishes.Goals as goal
-use Rattle.rt_store.proofs.links.+vanishes.Goals.{then-is_some-via-then-is_some, then-is_some-via-else-is_some+then-not-is_eq}
+use Rattle.rt_store.proofs.clear.+vanishes.Goals as goal
+use Rattle.rt_store.proofs.clear.+vanishes.Goals.{then-is_some-via-then-is_some, then-is_some-via-else-is_some+then-not-is_eq}
 
 pub returns-then-is_some : goal.returns-then-is_some
 returns-then-is_some t c =

@@ -1,5 +1,5 @@
 use Rattle.std.proofs.Common.{length}
-use Rattle.rt_store.proofs.links.+vanishes.Given as goal
+use Rattle.rt_store.proofs.clear.+vanishes.Given as goal
 
 abbrev pub decreases-vanishes : goal.decreases-vanishes
 decreases-vanishes l = length l.rest.now

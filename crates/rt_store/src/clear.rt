@@ -1,0 +1,62 @@
+// What stands at a path is taken out, with each node above it that is left without children.
+ghost use Rattle.std.specs.Prelude.{◌≡◌, ◌≤◌, ℕ, Option, None};
+ghost use Rattle.rt_store.specs.Forest.{IsRow, row_at, times};
+ghost use Rattle.rt_store.specs.Walks.{IsPlace};
+ghost use Rattle.rt_store.specs.Changes.{Changed, is_bare, cleared, IsHead};
+
+use crate::links::{set_content, take_out};
+use crate::row::find;
+use crate::slot::Slot;
+use rt_order::key_cmp;
+use rt_tree::Key;
+use slab::Slab;
+
+// Whether nothing is left of a row, once what stands at the path is taken out.
+pub(crate) fn vanishes(nodes: &Slab<Slot>, first: Option<usize>, key: &Key, rest: &[Key]) -> bool
+    requires { IsPlace nodes.now first }
+    ensures { result ≡ is_bare (cleared key.now rest.now (row_at nodes.now first)) }
+{
+    let Some(index) = first else {
+        return true;
+    };
+    let slot = nodes.get(index).unwrap();
+    if slot.next.is_some() || !key_cmp(key, &slot.key).is_eq() {
+        return false;
+    }
+    match rest.split_first() {
+        None => true,
+        Some((child, rest)) => {
+            slot.leaf.is_none() && vanishes(nodes, slot.first_child, child, rest)
+        }
+    }
+}
+
+// Clears a path below a row. The answer is the first node that is left.
+pub(crate) fn clear_row(
+    nodes: &mut Slab<Slot>,
+    first: Option<usize>,
+    key: &Key,
+    rest: &[Key],
+) -> Option<usize>
+    requires head { IsHead nodes.old first }
+    requires once { (n : ℕ) → times n (row_at nodes.old first) ≤ 1 }
+    ensures row { (parent : Option ℕ) → IsRow nodes.old first parent None (row_at nodes.old first) → IsRow nodes.new result parent None (cleared key.now rest.now (row_at nodes.old first)) }
+    ensures changed { Changed nodes.old nodes.new (row_at nodes.old first) (cleared key.now rest.now (row_at nodes.old first)) }
+{
+    let Some(index) = find(nodes, first, key) else {
+        return first;
+    };
+    let slot = nodes.get(index).unwrap();
+    let below = slot.first_child;
+    if let Some((child, rest)) = rest.split_first() {
+        if slot.leaf.is_some() {
+            return first;
+        }
+        if !vanishes(nodes, below, child, rest) {
+            let below = clear_row(nodes, below, child, rest);
+            set_content(nodes, index, None, below);
+            return first;
+        }
+    }
+    take_out(nodes, first, index)
+}

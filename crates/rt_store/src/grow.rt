@@ -1,0 +1,136 @@
+// Nodes are made of trees. Nothing leads to them until all stand.
+ghost use Rattle.std.specs.Prelude.{◌≡◌, ◌∷◌, [], false, IfOk, OnErr, List, map, reverse};
+ghost use Rattle.std.specs.BTreeMap.{IsOrdered};
+ghost use Rattle.rt_tree.specs.PathTree.{key_cmp, null, is_null, put, AllFull};
+ghost use Rattle.rt_tree.specs.Allowed.{IsAllowed};
+ghost use Rattle.rt_store.specs.Rows.{in_key_order};
+ghost use Rattle.rt_store.specs.Forest.{row_at, entries, tree_with, IsFull};
+ghost use Rattle.rt_store.specs.Changes.{Grown, Same};
+ghost use Rattle.rt_store.specs.Growing.{seen};
+
+use crate::links::{fell, link, set_content};
+use crate::slot::Slot;
+use rt_order::key_cmp;
+use rt_tree::{Key, Leaf, Tree};
+use slab::Slab;
+use std::alloc::{AllocError, Global};
+use std::collections::BTreeMap;
+
+// A child where it stands.
+#[derive(Clone, Copy)]
+pub(crate) struct Child<'a> {
+    key: &'a Key,
+    tree: &'a Tree,
+}
+
+// The children, the last in the order of keys first.
+fn falling<'a>(
+    alloc: Global,
+    children: &'a BTreeMap<Key, Tree>,
+) -> Result<Vec<Child<'a>>, AllocError>
+    requires { IsOrdered key_cmp children.now }
+    ensures { IfOk result (λ found. reverse (map seen found.items) ≡ in_key_order children.now.entries) }
+{
+    let mut found = Vec::with_capacity(alloc, children.len())?;
+    for (key, tree) in children {
+        found.push(Child { key, tree })?;
+    }
+    found.sort_unstable_by(|a, b| key_cmp(b.key, a.key));
+    Ok(found)
+}
+
+// Makes a node of what a tree put at `rest` is, with all below it.
+#[cycle(grow)]
+pub(crate) fn grow(
+    nodes: &mut Slab<Slot>,
+    alloc: Global,
+    parent: Option<usize>,
+    key: &Key,
+    rest: &[Key],
+    tree: &Tree,
+) -> Result<usize, AllocError>
+    requires { is_null tree.now ≡ false }
+    ensures grown { IfOk result (λ index. Grown nodes.old nodes.new (Some index) parent) }
+    ensures is { IfOk result (λ index. entries (row_at nodes.new (Some index)) ≡ (key.now, put null rest.now tree.now) ∷ []) }
+    ensures err { OnErr result (Same nodes.old nodes.new) }
+{
+    let key = key.copy()?;
+    let index = nodes.insert(Slot {
+        key,
+        parent,
+        first_child: None,
+        previous: None,
+        next: None,
+        leaf: None,
+    })?;
+    match content(nodes, alloc, Some(index), rest, tree) {
+        Ok((leaf, first)) => {
+            set_content(nodes, index, leaf, first);
+            Ok(index)
+        }
+        Err(error) => {
+            drop(nodes.try_remove(index));
+            Err(error)
+        }
+    }
+}
+
+// Makes the nodes below a node that a tree is put at `rest` under: the leaf that it is, or else its children.
+#[cycle(grow)]
+pub(crate) fn content(
+    nodes: &mut Slab<Slot>,
+    alloc: Global,
+    parent: Option<usize>,
+    rest: &[Key],
+    tree: &Tree,
+) -> Result<(Option<Leaf>, Option<usize>), AllocError>
+    requires { is_null tree.now ≡ false }
+    ensures grown { IfOk result (λ r. Grown nodes.old nodes.new r.1 parent) }
+    ensures full { IfOk result (λ r. IsFull r.0 (row_at nodes.new r.1)) }
+    ensures is { IfOk result (λ r. tree_with r.0 (entries (row_at nodes.new r.1)) ≡ put null rest.now tree.now) }
+    ensures err { OnErr result (Same nodes.old nodes.new) }
+{
+    if let Some((key, rest)) = rest.split_first() {
+        let index = grow(nodes, alloc, parent, key, rest, tree)?;
+        return Ok((None, Some(index)));
+    }
+    if let Some(leaf) = tree.as_leaf() {
+        return Ok((Some(leaf.copy(alloc)?), None));
+    }
+    match tree.children() {
+        Some(children) => Ok((None, grow_row(nodes, alloc, parent, rest, children)?)),
+        None => Ok((None, None)),
+    }
+}
+
+// Makes a row of nodes of some children.
+#[cycle(grow)]
+pub(crate) fn grow_row(
+    nodes: &mut Slab<Slot>,
+    alloc: Global,
+    parent: Option<usize>,
+    rest: &[Key],
+    children: &BTreeMap<Key, Tree>,
+) -> Result<Option<usize>, AllocError>
+    requires end { rest.now ≡ [] }
+    requires ordered { IsOrdered key_cmp children.now }
+    requires full { AllFull children.now.entries }
+    ensures grown { IfOk result (λ first. Grown nodes.old nodes.new first parent) }
+    ensures is { IfOk result (λ first. entries (row_at nodes.new first) ≡ in_key_order children.now.entries) }
+    ensures err { OnErr result (Same nodes.old nodes.new) }
+{
+    let mut first = None;
+    for child in &falling(alloc, children)? {
+        match grow(nodes, alloc, parent, child.key, rest, child.tree) {
+            Ok(index) => {
+                link(nodes, None, index, first);
+                first = Some(index);
+            }
+            Err(error) => {
+                fell(nodes, first);
+                return Err(error);
+            }
+        }
+    }
+    Ok(first)
+}

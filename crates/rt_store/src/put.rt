@@ -1,0 +1,57 @@
+// What stands at a path is replaced by nodes that are made of a tree.
+ghost use Rattle.std.specs.Prelude.{◌≡◌, ◌≤◌, ℕ, false, None, IfOk, OnErr};
+ghost use Rattle.rt_tree.specs.PathTree.{is_null, PutsBelow};
+ghost use Rattle.rt_store.specs.Forest.{IsRow, row_at, entries, times};
+ghost use Rattle.rt_store.specs.Changes.{Changed, Same};
+
+use crate::grow::{content, grow};
+use crate::links::{fell, link, set_content};
+use crate::row::{Spot, seek};
+use crate::slot::Slot;
+use rt_tree::{Key, Tree};
+use slab::Slab;
+use std::alloc::{AllocError, Global};
+
+// Puts a tree at a path below a row. The answer is the first node of the row then. All nodes are made before the first of the row changes.
+pub(crate) fn put_row(
+    nodes: &mut Slab<Slot>,
+    alloc: Global,
+    parent: Option<usize>,
+    first: Option<usize>,
+    key: &Key,
+    rest: &[Key],
+    tree: &Tree,
+) -> Result<Option<usize>, AllocError>
+    requires row { IsRow nodes.old first parent None (row_at nodes.old first) }
+    requires once { (n : ℕ) → times n (row_at nodes.old first) ≤ 1 }
+    requires full { is_null tree.now ≡ false }
+    ensures row { IfOk result (λ o. IsRow nodes.new o parent None (row_at nodes.new o)) }
+    ensures changed { IfOk result (λ o. Changed nodes.old nodes.new (row_at nodes.old first) (row_at nodes.new o)) }
+    ensures puts { IfOk result (λ o. PutsBelow (entries (row_at nodes.old first)) (entries (row_at nodes.new o)) key.now rest.now tree.now) }
+    ensures err { OnErr result (Same nodes.old nodes.new) }
+{
+    let index = match seek(nodes, first, key) {
+        Spot::Here(index) => index,
+        Spot::Gap(previous, next) => {
+            let index = grow(nodes, alloc, parent, key, rest, tree)?;
+            link(nodes, previous, index, next);
+            return match previous {
+                None => Ok(Some(index)),
+                Some(_) => Ok(first),
+            };
+        }
+    };
+    let below = nodes.get(index).unwrap().first_child;
+    match rest.split_first() {
+        None => {
+            let (leaf, grown) = content(nodes, alloc, Some(index), rest, tree)?;
+            fell(nodes, below);
+            set_content(nodes, index, leaf, grown);
+        }
+        Some((key, rest)) => {
+            let below = put_row(nodes, alloc, Some(index), below, key, rest, tree)?;
+            set_content(nodes, index, None, below);
+        }
+    }
+    Ok(first)
+}
