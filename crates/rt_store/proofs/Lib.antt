@@ -7,6 +7,7 @@ pub mod Orders
 pub mod Paths
 pub mod Places
 pub mod Planting
+pub mod Putting
 pub mod Replacing
 pub mod Storing
 pub mod Taking
