@@ -1,18 +1,17 @@
 -- A node that is put into a row at the place of its key.
-use Rattle.std.proofs.Common.{◌≡◌, ◌≢◌, ◌≤◌, ◌<◌, ◌⊎◌, inl, inr, ℕ, zero, suc, ◌+◌, List, [], ◌∷◌, Option, Some, None, Bool, true, false, cond, is_some, refl, sym, ap, subst, ◌∙◌, arith}
+use Rattle.std.proofs.Common.{◌≡◌, ◌≤◌, ◌<◌, ◌⊎◌, inl, inr, ℕ, zero, suc, ◌+◌, [], ◌∷◌, Option, Some, None, Bool, true, false, cond, refl, sym, ap, ◌∙◌, arith}
 use Rattle.std.specs.Prelude.{nat_eq}
-use Rattle.std.specs.declared.cmp.Ordering.{Ordering}
 use Rattle.std.specs.declared.cmp.Ordering.TheVariants.{Less, Equal, Greater}
 use Rattle.std.specs.Ordering.{ordering_reverse}
 use Rattle.std.specs.Option.{option_map}
 use Rattle.std.specs.FinMap.Entries.{by_order}
-use Rattle.std.proofs.lemmas.Bool.{eqb-true, eq-eqb}
+use Rattle.std.proofs.lemmas.Bool.{eq-eqb}
 use Rattle.slab.specs.Slab.{Slab, get, slab_len}
 use Rattle.rt_tree.specs.Leaf.{LeafValue}
 use Rattle.rt_tree.specs.PathTree.{Key, PathTree, key_eq, key_eq-is, key_eq-symm, child_of}
 use Rattle.rt_order.specs.KeyOrder.{key_cmp}
 use Rattle.rt_order.proofs.Orders.{key_cmp_total}
-use Rattle.rt_store.specs.Forest.{Forest, bare, node, one_if, first, size, times, entries, tree_with, AllAfter, IsFull, Sound, Links, IsRow, row_at}
+use Rattle.rt_store.specs.Forest.{Forest, bare, node, one_if, first, size, times, entries, tree_with, AllAfter, IsFull, Sound, Links, IsRow}
 use Rattle.rt_store.specs.Walks.{spot_in}
 use Rattle.rt_store.specs.Changes.{is_link, linked_in, planted, Changed}
 use Rattle.rt_store.specs.declared.row.Spot.TheVariants.{Here, Gap}
@@ -59,14 +58,14 @@ pub child_of-planted : (n : ℕ) (k : Key) (l : Option LeafValue) (b f : Forest)
 child_of-planted n k l b bare o p q sound spot j = ap (λ c. cond c (Some (tree_with l (entries b))) None) (key_eq-symm j k)
 child_of-planted n k l b (node m key leaf below behind) o p q sound spot j =
     elim (key_cmp k key) as (λ r. key_cmp k key ≡ r → by_order r (Gap o (Some m)) (Here m) (spot_in k (Some m) behind) ≡ Gap p q
-        → child_of (entries (by_order r (node n k l b (node m key leaf below behind)) (node m key leaf below behind) (node m key leaf below (planted n k l b behind)))) j
-            ≡ cond (key_eq k j) (Some (tree_with l (entries b))) (cond (key_eq j key) (Some (tree_with leaf (entries below))) (child_of (entries behind) j))) [
+    → child_of (entries (by_order r (node n k l b (node m key leaf below behind)) (node m key leaf below behind) (node m key leaf below (planted n k l b behind)))) j
+    ≡ cond (key_eq k j) (Some (tree_with l (entries b))) (cond (key_eq j key) (Some (tree_with leaf (entries below))) (child_of (entries behind) j))) [
       | Less ↦ λ order e. ap (λ c. cond c (Some (tree_with l (entries b))) (cond (key_eq j key) (Some (tree_with leaf (entries below))) (child_of (entries behind) j))) (key_eq-symm j k)
       | Equal ↦ λ order e. cc
       | Greater ↦ λ order e.
           ap (cond (key_eq j key) (Some (tree_with leaf (entries below)))) (child_of-planted n k l b behind (Some m) p q sound.3 e j)
           ∙ swapped (key_eq j key) (key_eq k j) (Some (tree_with leaf (entries below))) (Some (tree_with l (entries b))) (child_of (entries behind) j)
-              (λ same. ap (λ x. key_eq x key) (sym (key_eq-is k j same)) ∙ differs k key Greater order refl)
+          (λ same. ap (λ x. key_eq x key) (sym (key_eq-is k j same)) ∙ differs k key Greater order refl)
     ] refl spot
 
 -- ---- how many nodes there are then
@@ -74,8 +73,8 @@ pub times_planted : (n : ℕ) (k : Key) (l : Option LeafValue) (b f : Forest) (o
 times_planted n k l b bare o p q spot m = omega arith
 times_planted n k l b (node x key leaf below behind) o p q spot m =
     elim (key_cmp k key) as (λ r. by_order r (Gap o (Some x)) (Here x) (spot_in k (Some x) behind) ≡ Gap p q
-        → times m (by_order r (node n k l b (node x key leaf below behind)) (node x key leaf below behind) (node x key leaf below (planted n k l b behind)))
-            ≡ one_if (nat_eq m x) + (times m below + times m behind) + times m (node n k l b bare)) [
+    → times m (by_order r (node n k l b (node x key leaf below behind)) (node x key leaf below behind) (node x key leaf below (planted n k l b behind)))
+    ≡ one_if (nat_eq m x) + (times m below + times m behind) + times m (node n k l b bare)) [
       | Less ↦ λ e. omega arith
       | Equal ↦ λ e. cc
       | Greater ↦ λ e. omega (arith, times_planted n k l b behind (Some x) p q e m)
@@ -85,8 +84,8 @@ pub size_planted : (n : ℕ) (k : Key) (l : Option LeafValue) (b f : Forest) (o 
 size_planted n k l b bare o p q spot = omega arith
 size_planted n k l b (node x key leaf below behind) o p q spot =
     elim (key_cmp k key) as (λ r. by_order r (Gap o (Some x)) (Here x) (spot_in k (Some x) behind) ≡ Gap p q
-        → size (by_order r (node n k l b (node x key leaf below behind)) (node x key leaf below behind) (node x key leaf below (planted n k l b behind)))
-            ≡ suc (size below + size behind) + suc (size b)) [
+    → size (by_order r (node n k l b (node x key leaf below behind)) (node x key leaf below behind) (node x key leaf below (planted n k l b behind)))
+    ≡ suc (size below + size behind) + suc (size b)) [
       | Less ↦ λ e. omega arith
       | Equal ↦ λ e. cc
       | Greater ↦ λ e. omega (arith, size_planted n k l b behind (Some x) p q e)
@@ -130,7 +129,7 @@ spot_lies : (k : Key) (o : Option ℕ) (f : Forest) (p q : Option ℕ) → spot_
 spot_lies k o bare p q spot = (inl cc, inl cc)
 spot_lies k o (node m key leaf below behind) p q spot =
     elim (key_cmp k key) as (λ r. by_order r (Gap o (Some m)) (Here m) (spot_in k (Some m) behind) ≡ Gap p q
-        → ((p ≡ o) ⊎ StandsIn p (node m key leaf below behind)) × LiesIn q (node m key leaf below behind)) [
+    → ((p ≡ o) ⊎ StandsIn p (node m key leaf below behind)) × LiesIn q (node m key leaf below behind)) [
       | Less ↦ λ e. (inl cc, inr (m, cc, omega (arith, one_of m)))
       | Equal ↦ λ e. cc
       | Greater ↦ λ e.
@@ -213,8 +212,8 @@ module _ (t u : Slab Slot) (parent p q : Option ℕ) (n : ℕ) (k : Key) (l : Op
   next_in m bare spot apart = let is_p : p ≡ Some m = cc in ap (λ o. cond (is_link o m) (Some n) None) is_p ∙ ap (λ c. cond c (Some n) None) (eq-eqb m m refl)
   next_in m (node j key leaf below behind) spot apart =
       elim (key_cmp k key) as (λ r. by_order r (Gap (Some m) (Some j)) (Here j) (spot_in k (Some j) behind) ≡ Gap p q
-          → cond (is_link p m) (Some n) (Some j)
-              ≡ first (by_order r (node n k l b (node j key leaf below behind)) (node j key leaf below behind) (node j key leaf below (planted n k l b behind)))) [
+      → cond (is_link p m) (Some n) (Some j)
+      ≡ first (by_order r (node n k l b (node j key leaf below behind)) (node j key leaf below behind) (node j key leaf below (planted n k l b behind)))) [
         | Less ↦ λ e. let is_p : p ≡ Some m = cc in ap (λ o. cond (is_link o m) (Some n) (Some j)) is_p ∙ ap (λ c. cond c (Some n) (Some j)) (eq-eqb m m refl)
         | Equal ↦ λ e. cc
         | Greater ↦ λ e.
@@ -227,7 +226,7 @@ module _ (t u : Slab Slot) (parent p q : Option ℕ) (n : ℕ) (k : Key) (l : Op
   links_planted previous bare h once spot out = links_front previous previous bare h once (cc) (cc) out
   links_planted previous (node m key leaf below behind) h once spot out =
       elim (key_cmp k key) as (λ r. by_order r (Gap previous (Some m)) (Here m) (spot_in k (Some m) behind) ≡ Gap p q
-          → Links u parent previous (by_order r (node n k l b (node m key leaf below behind)) (node m key leaf below behind) (node m key leaf below (planted n k l b behind)))) [
+      → Links u parent previous (by_order r (node n k l b (node m key leaf below behind)) (node m key leaf below behind) (node m key leaf below (planted n k l b behind)))) [
         | Less ↦ λ e. links_front previous previous (node m key leaf below behind) h once (cc) (cc) out
         | Equal ↦ λ e. cc
         | Greater ↦ λ e.
@@ -294,7 +293,7 @@ module _ (s t u : Slab Slot) (o parent p q : Option ℕ) (f : Forest) (n : ℕ) 
       starts bare e at = sym (front cc)
       starts (node m key leaf below behind) e at =
           elim (key_cmp k key) as (λ c. by_order c (Gap None (Some m)) (Here m) (spot_in k (Some m) behind) ≡ Gap p q
-              → first (by_order c (node n k l b (node m key leaf below behind)) (node m key leaf below behind) (node m key leaf below (planted n k l b behind))) ≡ r) [
+          → first (by_order c (node n k l b (node m key leaf below behind)) (node m key leaf below behind) (node m key leaf below (planted n k l b behind))) ≡ r) [
             | Less ↦ λ at_here. sym (front cc)
             | Equal ↦ λ at_here. cc
             | Greater ↦ λ at_later.
@@ -307,9 +306,9 @@ module _ (s t u : Slab Slot) (o parent p q : Option ℕ) (f : Forest) (n : ℕ) 
     kept = λ m none left.
         let sides = spot_lies k None f p q spot in
         each m ∙ untouched_in p q n m (get t m)
-            (not_same m n (λ same. absurd (omega (arith, counts m, left, one_of n, ap (λ x. one_if (nat_eq x n)) same))))
-            (elim sides.0 [ inl is ↦ ap (λ x. is_link x m) is | inr is ↦ link_out p f m (inr is) none ])
-            (link_out q f m sides.1 none)
+        (not_same m n (λ same. absurd (omega (arith, counts m, left, one_of n, ap (λ x. one_if (nat_eq x n)) same))))
+        (elim sides.0 [ inl is ↦ ap (λ x. is_link x m) is | inr is ↦ link_out p f m (inr is) none ])
+        (link_out q f m sides.1 none)
         ∙ grown.kept m refl (omega (arith, counts m, none, left));
     gone = λ m some none. absurd (omega (arith, counts m, some, none));
     fresh = λ m some none. grown.fresh m (omega (arith, counts m, some, none)) refl;
