@@ -1,5 +1,5 @@
 -- The children of a tree, the last in the order of keys first, and the rows that are made of them from behind.
-use Rattle.std.proofs.Common.{◌≡◌, ◌+◌, ◌<◌, ◌≤◌, ℕ, zero, suc, List, [], ◌∷◌, ◌++◌, map, reverse, length, Option, Some, None, Bool, true, false, cond, not, is_some, refl, sym, ap, subst, ◌∙◌, arith}
+use Rattle.std.proofs.Common.{◌≡◌, zero, suc, List, [], ◌∷◌, map, reverse, Option, Some, None, Bool, true, false, not, is_some, refl, sym, ap, subst, ◌∙◌, arith}
 use Rattle.std.specs.Prelude.{◌&&◌, T}
 use Rattle.std.specs.declared.cmp.Ordering.{Ordering}
 use Rattle.std.specs.declared.cmp.Ordering.TheVariants.{Less, Equal, Greater}
@@ -15,7 +15,7 @@ use Rattle.std.proofs.lemmas.List.Sorted.{ranks_by, IsStrictWeakOrder-flip, sort
 use Rattle.std.proofs.lemmas.Map.Keys.{IsDistinct-from_sorted, IsDistinct-IsPermutation}
 use Rattle.std.proofs.lemmas.Map.Views.{Contains-from_lookup, lookup-from_Contains}
 use Rattle.rt_tree.specs.Leaf.{LeafValue}
-use Rattle.rt_tree.specs.PathTree.{Key, Path, PathTree, key_eq, key_eq-is, key_eq-symm, is_null, same_tree, leaf_at, leaf_at-object, leaf_at-object-root, object, child_of, both, first, second}
+use Rattle.rt_tree.specs.PathTree.{Key, Path, PathTree, key_eq, key_eq-is, key_eq-symm, is_null, same_tree, leaf_at, leaf_at-object, leaf_at-object-root, object, child_of, first, second}
 use Rattle.rt_tree.specs.Children.{is_object, children_of, child_of-children_of}
 use Rattle.rt_tree.proofs.Trees.{leaf_at-found}
 use Rattle.rt_order.specs.KeyOrder.{bytes_cmp, key_cmp}
