@@ -39,7 +39,7 @@ pub sorted_so_far : (c : Key × PathTree) (cs : List (Key × PathTree)) (es : Ro
 sorted_so_far c [] es h = h
 sorted_so_far c (d ∷ cs) es h = second (below_all key_cmp d.0 (c ∷ es)) _ (sorted_so_far d cs (c ∷ es) h)
 
-less : (o : Ordering) → T (is_lt o) → o ≡ Less
+pub less : (o : Ordering) → T (is_lt o) → o ≡ Less
 less Less h = refl
 less Equal h = absurd h
 less Greater h = absurd h
@@ -52,7 +52,7 @@ after_from_below k (node n key leaf below behind) h = (less (key_cmp k key) (fir
 pub after_from_sorted : (k : Key) (t : PathTree) (f : Forest) → T (is_sorted key_cmp ((k, t) ∷ entries f)) → AllAfter k f
 after_from_sorted k t f h = after_from_below k f (first _ _ h)
 
-child_of-in_key_order : (es : Row) (k : Key) → child_of (in_key_order es) k ≡ child_of es k
+pub child_of-in_key_order : (es : Row) (k : Key) → child_of (in_key_order es) k ≡ child_of es k
 child_of-in_key_order es k = sym (find-child_of (in_key_order es) k) ∙ find-in_key_order es k ∙ find-child_of es k
 
 -- an object is that of its children in order

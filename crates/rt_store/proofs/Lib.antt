@@ -12,3 +12,4 @@ pub mod Replacing
 pub mod Storing
 pub mod Taking
 pub mod Vanishing
+pub mod WalkLaws
