@@ -1,5 +1,5 @@
 -- The children of a tree, the last in the order of keys first, and the rows that are made of them from behind.
-use Rattle.std.proofs.Common.{◌≡◌, zero, suc, List, [], ◌∷◌, map, reverse, Option, Some, None, Bool, true, false, not, is_some, refl, sym, ap, subst, ◌∙◌, arith}
+use Rattle.std.proofs.Common.{◌≡◌, zero, suc, List, [], ◌∷◌, ◌++◌, map, reverse, Option, Some, None, Bool, true, false, not, is_some, refl, sym, ap, subst, ◌∙◌, arith, append-nil}
 use Rattle.std.specs.Prelude.{◌&&◌, T}
 use Rattle.std.specs.declared.cmp.Ordering.{Ordering}
 use Rattle.std.specs.declared.cmp.Ordering.TheVariants.{Less, Equal, Greater}
@@ -39,7 +39,7 @@ pub sorted_so_far : (c : Key × PathTree) (cs : List (Key × PathTree)) (es : Ro
 sorted_so_far c [] es h = h
 sorted_so_far c (d ∷ cs) es h = second (below_all key_cmp d.0 (c ∷ es)) _ (sorted_so_far d cs (c ∷ es) h)
 
-less : (o : Ordering) → T (is_lt o) → o ≡ Less
+pub less : (o : Ordering) → T (is_lt o) → o ≡ Less
 less Less h = refl
 less Equal h = absurd h
 less Greater h = absurd h
@@ -52,7 +52,7 @@ after_from_below k (node n key leaf below behind) h = (less (key_cmp k key) (fir
 pub after_from_sorted : (k : Key) (t : PathTree) (f : Forest) → T (is_sorted key_cmp ((k, t) ∷ entries f)) → AllAfter k f
 after_from_sorted k t f h = after_from_below k f (first _ _ h)
 
-child_of-in_key_order : (es : Row) (k : Key) → child_of (in_key_order es) k ≡ child_of es k
+pub child_of-in_key_order : (es : Row) (k : Key) → child_of (in_key_order es) k ≡ child_of es k
 child_of-in_key_order es k = sym (find-child_of (in_key_order es) k) ∙ find-in_key_order es k ∙ find-child_of es k
 
 -- an object is that of its children in order
@@ -122,9 +122,9 @@ child_of-permutation es fs k same apart =
     there xs ys p d t e = lookup-from_Contains (eq_by_cmp_equiv nat_list_cmp_total) k t ys d (Contains-permutation xs ys (k, t) p (Contains-from_lookup key_eq-is k t xs e))
 
 -- children in falling order, reversed, are the children in order
-pub fallen : (es : Row) (xs : List Child) (ys : List Child) → IsStrictlySortedBy bytes_cmp (keys_of es) → map seen xs ≡ es → IsPermutation xs ys → IsSortedBy falls_before ys
+pub fallen : (es : Row) (xs ys : List Child) (left : Row) → IsStrictlySortedBy bytes_cmp (keys_of es) → es ≡ map seen xs ++ left → left ≡ [] → IsPermutation xs ys → IsSortedBy falls_before ys
     → reverse (map seen ys) ≡ in_key_order es
-fallen es xs ys keys is moved sorted =
+fallen es xs ys left keys is end moved sorted =
     same_entries key_cmp key_cmp_total key_cmp-IsAntisymmetric (reverse (map seen ys)) (in_key_order es)
     (rises_back ys (λ i j d below inside. sorted_far falls_before falling_ranks ys sorted i j d (omega arith) inside) still) (sorted-in_key_order es)
     (λ k. find-child_of (reverse (map seen ys)) k ∙ child_of-permutation es (reverse (map seen ys)) k back apart ∙ sym (child_of-in_key_order es k) ∙ sym (find-child_of (in_key_order es) k))
@@ -133,7 +133,7 @@ fallen es xs ys keys is moved sorted =
     apart = IsDistinct-from_sorted bytes_cmp (keys_of es) keys
 
     same : IsPermutation es (map seen ys)
-    same = subst (λ l. IsPermutation l (map seen ys)) is (IsPermutation-map seen xs ys moved)
+    same = subst (λ l. IsPermutation l (map seen ys)) (sym (is ∙ ap (λ l. map seen xs ++ l) end ∙ append-nil (map seen xs))) (IsPermutation-map seen xs ys moved)
 
     back : IsPermutation es (reverse (map seen ys))
     back = IsPermutation-trans _ _ _ same (IsPermutation-reverse (map seen ys))

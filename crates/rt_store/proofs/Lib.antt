@@ -13,3 +13,4 @@ pub mod Replacing
 pub mod Storing
 pub mod Taking
 pub mod Vanishing
+pub mod WalkLaws

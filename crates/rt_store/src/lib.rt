@@ -9,6 +9,7 @@ mod build;
 mod clear;
 mod error;
 mod grow;
+mod laws;
 mod links;
 mod node;
 mod put;
@@ -19,5 +20,6 @@ mod store;
 mod tests;
 
 pub use error::StoreError;
+pub use laws::walk_law;
 pub use node::Node;
 pub use store::Store;
