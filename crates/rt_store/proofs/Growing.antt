@@ -10,7 +10,7 @@ use Rattle.std.proofs.lemmas.Bool.{eqb-true, eq-eqb}
 use Rattle.std.specs.Option.{option_map, option_and_then}
 use Rattle.slab.specs.Slab.{Slab, get, slab_len, Updates}
 use Rattle.rt_tree.specs.Leaf.{LeafValue}
-use Rattle.rt_tree.specs.PathTree.{Key, Path, PathTree, key_eq, key_eq-is, key_eq-same, key_eq-symm, levels, child_levels, null, is_null, is_null-null, null_of_is_null, put, of_leaf, leaf_of_root, leaf_at, leaf_at-sub, leaf_at-object, leaf_at-object-root, same_tree, object, child_of, AllFull, non_null, sub}
+use Rattle.rt_tree.specs.PathTree.{Key, Path, PathTree, first as both_first, key_eq, key_eq-is, key_eq-same, key_eq-symm, levels, child_levels, null, is_null, is_null-null, null_of_is_null, put, of_leaf, leaf_of_root, leaf_at, leaf_at-sub, leaf_at-object, leaf_at-object-root, same_tree, object, child_of, AllFull, non_null, sub}
 use Rattle.rt_tree.specs.Children.{is_object, children_of, child_of-children_of}
 use Rattle.rt_tree.proofs.Trees.{put-root, put-object, is_null-put, some_non_null, full_of_non_null, leaf_at-non_null}
 use Rattle.rt_order.specs.KeyOrder.{key_cmp}
@@ -46,31 +46,9 @@ no_path (k ∷ p) e = absurd (omega (arith, e))
 pub put_leaf : (p : Path) (t : PathTree) (l : LeafValue) → length p ≡ 0 → leaf_at t [] ≡ Some l → of_leaf l ≡ put null p t
 put_leaf p t l e is = sym (put_here p t e ∙ leaf_of_root t l is)
 
--- ---- objects
-leafless : (n m : Bool) → (not n && not m) ≡ true → m ≡ false
-leafless n false e = refl
-leafless false true e = cc
-leafless true true e = cc
-
-no_leaf : (o : Option LeafValue) → is_some o ≡ false → o ≡ None
-no_leaf None e = refl
-no_leaf (Some l) e = cc
-
-pub object-children_of : (t : PathTree) → is_object t ≡ true → object (children_of t) ≡ t
-object-children_of t is = same_tree _ _ at
-  where
-    at : (q : Path) → leaf_at (object (children_of t)) q ≡ leaf_at t q
-    at [] = leaf_at-object-root (children_of t) ∙ sym (no_leaf (leaf_at t []) (leafless (is_null t) (is_some (leaf_at t [])) is))
-    at (k ∷ q) =
-        leaf_at-object (children_of t) k q ∙ ap (option_and_then (λ u. leaf_at u q)) (child_of-children_of t k)
-        ∙ leaf_at-non_null (sub t (k ∷ [])) q ∙ leaf_at-sub t (k ∷ []) q
-
+-- ---- children
 pub full-children_of : (t : PathTree) → AllFull (children_of t)
 full-children_of t k u is = full_of_non_null (sub t (k ∷ [])) u (sym (child_of-children_of t k) ∙ is)
-
--- what isn't null is a leaf or an object
-pub not_nothing : (t : PathTree) → is_null t ≡ false → leaf_at t [] ≡ None → is_object t ≡ true
-not_nothing t full none = ap (λ b. not b && not (is_some (leaf_at t []))) full ∙ ap (λ o. not (is_some o)) none
 
 -- a row of something that isn't null
 pub full_row : (f : Forest) → is_null (object (entries f)) ≡ false → IsFull None f
@@ -139,77 +117,64 @@ module _ (s t u : Slab Slot) (o parent : Option ℕ) (h : Grown s t o parent) (s
 
 -- ---- one node: s before, u with the node, t with what stands below it, v with both linked
 module _ (s u : Slab Slot) (n : ℕ) (key : Key) (parent : Option ℕ) (vacant : get s n ≡ None)
-    (put_in : Updates s u n (Some (record { key = key; parent = parent; first_child = None; previous = None; next = None; leaf = None }))) (more : slab_len u ≡ slab_len s + 1) where
-  module _ (t v : Slab Slot) (leaf : Option LeafValue) (o : Option ℕ) (B : Forest) (is_row : IsRow t o (Some n) None B) (below : Changed u t bare B) (full : IsFull leaf B)
-      (written : get v n ≡ option_map (with_content leaf o) (get t n)) (others : (m : ℕ) → m ≢ n → get v m ≡ get t m) (len : slab_len v ≡ slab_len t) where
-    apart : (m : ℕ) → 0 < times m B → m ≢ n
-    apart m some same = cc (ap is_some (sym (below.fresh m some refl) ∙ ap (get u) same ∙ put_in.changed))
+    (put_in : Updates s u n (Some (record { key = key; parent = parent; first_child = None; previous = None; next = None; leaf = None }))) (more : slab_len u ≡ slab_len s + 1)
+    (t v : Slab Slot) (leaf : Option LeafValue) (o : Option ℕ) (B : Forest) (is_row : IsRow t o (Some n) None B) (below : Changed u t bare B) (full : IsFull leaf B)
+    (written : get v n ≡ option_map (with_content leaf o) (get t n)) (others : (m : ℕ) → m ≢ n → get v m ≡ get t m) (len : slab_len v ≡ slab_len t) where
+  apart : (m : ℕ) → 0 < times m B → m ≢ n
+  apart m some same = cc (ap is_some (sym (below.fresh m some refl) ∙ ap (get u) same ∙ put_in.changed))
 
-    lens : slab_len v ≡ slab_len s + suc (size B)
-    lens = omega (arith, below.len, len, more)
+  lens : slab_len v ≡ slab_len s + suc (size B)
+  lens = omega (arith, below.len, len, more)
 
-    none_below : times n B ≡ 0
-    none_below = of (times n B) refl
-      where
-        of : (c : ℕ) → times n B ≡ c → c ≡ 0
-        of zero e = refl
-        of (suc c) e = absurd (apart n (omega (arith, e)) refl)
-
-    there : get v n ≡ Some (record { key = key; parent = parent; first_child = first B; previous = None; next = None; leaf = leaf })
-    there =
-        written ∙ ap (option_map (with_content leaf o)) (below.kept n refl none_below ∙ put_in.changed)
-        ∙ ap (λ x. Some (record { key = key; parent = parent; first_child = x; previous = None; next = None; leaf = leaf })) (sym is_row.starts)
-
-    row : IsRow v (Some n) parent None (node n key leaf B bare)
-    row = record {
-      links = (there, links_kept t v (Some n) None B is_row.links (λ m some. others m (apart m some)), tt);
-      sound = (tt, full, is_row.sound, tt);
-      starts = refl;
-      fits = omega (arith, lens);
-    }
-
-    beside : (m : ℕ) → one_if (nat_eq m n) ≡ 0 → m ≢ n
-    beside m none same = absurd (omega (arith, none, one_of n, ap (λ x. one_if (nat_eq x n)) same))
-
-    either : (A : Type 0) (m : ℕ) → (m ≡ n → A) → (one_if (nat_eq m n) ≡ 0 → A) → A
-    either A m f g = elim (nat_eq m n) as (λ b. nat_eq m n ≡ b → A) [ true ↦ λ e. f (eqb-true m n e) | false ↦ λ e. g (ap one_if e) ] refl
-
-    changed : Changed s v bare (node n key leaf B bare)
-    changed = record {
-      kept = λ m none left.
-          let other : m ≢ n = beside m (omega (arith, left)) in
-          others m other ∙ below.kept m refl (omega (arith, left)) ∙ put_in.others m other;
-      gone = λ m some left. absurd (omega (arith, some));
-      fresh = λ m some none. either (get s m ≡ None) m (λ same. ap (get s) same ∙ vacant) (λ other.
-          let inside : 0 < times m B = omega (arith, some, other) in
-          sym (put_in.others m (apart m inside)) ∙ below.fresh m inside refl);
-      once = λ m. either (times m (node n key leaf B bare) ≤ 1) m
-          (λ same. omega (arith, ap (λ x. times x B) same, none_below, ap (λ x. one_if (nat_eq x n)) same, one_of n))
-          (λ other. omega (arith, other, below.once m));
-      len = omega (arith, lens);
-    }
-
-    is : row_at v (Some n) ≡ node n key leaf B bare
-    is = row_at_is v (Some n) parent None (node n key leaf B bare) row
-
-    pub one_grown : Grown s v (Some n) parent
-    one_grown = record { row = subst (IsRow v (Some n) parent None) (sym is) row; changed = subst (Changed s v bare) (sym is) changed }
-
-    pub one_entry : (tree : PathTree) → tree_with leaf (entries B) ≡ tree → entries (row_at v (Some n)) ≡ (key, tree) ∷ []
-    one_entry tree same = ap entries is ∙ ap (λ x. (key, x) ∷ []) same
-
-  -- the node is taken out again
-  pub one_undone : (t w : Slab Slot) → Same u t → Updates t w n None → slab_len w + 1 ≡ slab_len t → Same s w
-  one_undone t w same taken len = record {
-    kept = λ m. of m (nat_eq m n) refl;
-    len = omega (arith, len, same.len, more);
-  }
+  none_below : times n B ≡ 0
+  none_below = of (times n B) refl
     where
-      of : (m : ℕ) (b : Bool) → nat_eq m n ≡ b → get w m ≡ get s m
-      of m true e = ap (get w) (eqb-true m n e) ∙ taken.changed ∙ sym (ap (get s) (eqb-true m n e) ∙ vacant)
-      of m false e =
-          let other : m ≢ n = λ same. cc (e, eq-eqb m n same) in
-          taken.others m other ∙ same.kept m ∙ put_in.others m other
+      of : (c : ℕ) → times n B ≡ c → c ≡ 0
+      of zero e = refl
+      of (suc c) e = absurd (apart n (omega (arith, e)) refl)
+
+  there : get v n ≡ Some (record { key = key; parent = parent; first_child = first B; previous = None; next = None; leaf = leaf })
+  there =
+      written ∙ ap (option_map (with_content leaf o)) (below.kept n refl none_below ∙ put_in.changed)
+      ∙ ap (λ x. Some (record { key = key; parent = parent; first_child = x; previous = None; next = None; leaf = leaf })) (sym is_row.starts)
+
+  row : IsRow v (Some n) parent None (node n key leaf B bare)
+  row = record {
+    links = (there, links_kept t v (Some n) None B is_row.links (λ m some. others m (apart m some)), tt);
+    sound = (tt, full, is_row.sound, tt);
+    starts = refl;
+    fits = omega (arith, lens);
+  }
+
+  beside : (m : ℕ) → one_if (nat_eq m n) ≡ 0 → m ≢ n
+  beside m none same = absurd (omega (arith, none, one_of n, ap (λ x. one_if (nat_eq x n)) same))
+
+  either : (A : Type 0) (m : ℕ) → (m ≡ n → A) → (one_if (nat_eq m n) ≡ 0 → A) → A
+  either A m f g = elim (nat_eq m n) as (λ b. nat_eq m n ≡ b → A) [ true ↦ λ e. f (eqb-true m n e) | false ↦ λ e. g (ap one_if e) ] refl
+
+  changed : Changed s v bare (node n key leaf B bare)
+  changed = record {
+    kept = λ m none left.
+        let other : m ≢ n = beside m (omega (arith, left)) in
+        others m other ∙ below.kept m refl (omega (arith, left)) ∙ put_in.others m other;
+    gone = λ m some left. absurd (omega (arith, some));
+    fresh = λ m some none. either (get s m ≡ None) m (λ same. ap (get s) same ∙ vacant) (λ other.
+        let inside : 0 < times m B = omega (arith, some, other) in
+        sym (put_in.others m (apart m inside)) ∙ below.fresh m inside refl);
+    once = λ m. either (times m (node n key leaf B bare) ≤ 1) m
+        (λ same. omega (arith, ap (λ x. times x B) same, none_below, ap (λ x. one_if (nat_eq x n)) same, one_of n))
+        (λ other. omega (arith, other, below.once m));
+    len = omega (arith, lens);
+  }
+
+  is : row_at v (Some n) ≡ node n key leaf B bare
+  is = row_at_is v (Some n) parent None (node n key leaf B bare) row
+
+  pub one_grown : Grown s v (Some n) parent
+  one_grown = record { row = subst (IsRow v (Some n) parent None) (sym is) row; changed = subst (Changed s v bare) (sym is) changed }
+
+  pub one_entry : (tree : PathTree) → tree_with leaf (entries B) ≡ tree → entries (row_at v (Some n)) ≡ (key, tree) ∷ []
+  one_entry tree same = ap entries is ∙ ap (λ x. (key, x) ∷ []) same
 
 -- ---- a row that is made from behind
 -- what stands in front of each is not among them
@@ -222,10 +187,6 @@ not_behind k (e ∷ es) h =
       | Greater ↦ λ order g. absurd g
     ] refl h
 
-below_of_sorted : (b c : Bool) → T (b && c) → T b
-below_of_sorted true c h = tt
-below_of_sorted false c h = h
-
 -- what was found is found further on, where keys rise
 found_onto : (cs es : Row) (k : Key) (t : PathTree) → T (is_sorted key_cmp (onto cs es)) → child_of es k ≡ Some t → child_of (onto cs es) k ≡ Some t
 found_onto [] es k t h is = is
@@ -233,7 +194,7 @@ found_onto (c ∷ cs) es k t h is =
     found_onto cs (c ∷ es) k t h
     (elim (key_eq k c.0) as (λ b. key_eq k c.0 ≡ b → cond b (Some c.1) (child_of es k) ≡ Some t) [
       | true ↦ λ same.
-          let none : child_of es c.0 ≡ None = not_behind c.0 es (below_of_sorted _ _ (sorted_so_far c cs es h)) in
+          let none : child_of es c.0 ≡ None = not_behind c.0 es (both_first _ _ (sorted_so_far c cs es h)) in
           cc (is, ap (child_of es) (key_eq-is k c.0 same), none)
       | false ↦ λ other. is
     ] refl)
@@ -252,18 +213,17 @@ module _ (s0 s : Slab Slot) (o parent : Option ℕ) (es : Row) (xs : List Child)
   next_after : AllAfter x.key.now (row_at s o)
   next_after = after_from_sorted x.key.now x.tree.now (row_at s o) (sorted_so_far (seen x) (map seen (drop (i + 1) xs)) (entries (row_at s o)) rises)
 
-  next_is : child_of es x.key.now ≡ Some x.tree.now
+  next_is : child_of (in_key_order es) x.key.now ≡ Some x.tree.now
   next_is =
-      sym (sym (find-child_of (in_key_order es) x.key.now) ∙ find-in_key_order es x.key.now ∙ find-child_of es x.key.now)
-      ∙ ap (λ fs. child_of fs x.key.now) (sym next_left)
+      ap (λ fs. child_of fs x.key.now) (sym next_left)
       ∙ found_onto (map seen (drop (i + 1) xs)) (seen x ∷ entries (row_at s o)) x.key.now x.tree.now rises
       (ap (λ b. cond b (Some x.tree.now) (child_of (entries (row_at s o)) x.key.now)) (key_eq-same x.key.now))
 
-  pub next_full : AllFull es → is_null x.tree.now ≡ false
-  next_full full = full x.key.now x.tree.now next_is
-
-  pub next_smaller : AllFull es → levels x.tree.now + 1 ≤ levels (object es)
-  next_smaller full = child_levels es x.key.now x.tree.now next_is (next_full full)
+  pub next_child : AllFull es → (levels x.tree.now + 1 ≤ levels (object (in_key_order es))) × (is_null x.tree.now ≡ false)
+  next_child full =
+      let some : is_null x.tree.now ≡ false =
+      full x.key.now x.tree.now (sym (find-child_of es x.key.now) ∙ sym (find-in_key_order es x.key.now) ∙ find-child_of (in_key_order es) x.key.now ∙ next_is) in
+      (child_levels (in_key_order es) x.key.now x.tree.now next_is some, some)
 
   -- its node was made, and put in front
   module _ (t u : Slab Slot) (n : ℕ) (p : Path) (end : p ≡ []) (one : Grown s t (Some n) parent)
@@ -288,13 +248,12 @@ module _ (s0 s : Slab Slot) (o parent : Option ℕ) (es : Row) (xs : List Child)
     planted_is : row_at u (Some n) ≡ planted n x.key.now its.leaf its.below (row_at s o)
     planted_is = row_at_is u (Some n) parent None (planted n x.key.now its.leaf its.below (row_at s o)) row_then
 
-    pub next_grown : Grown s0 u (Some n) parent
-    next_grown = record {
-      row = subst (IsRow u (Some n) parent None) (sym planted_is) row_then;
-      changed = subst (Changed s0 u bare) (sym planted_is) (changed_then s0 s u (row_at s o) (planted n x.key.now its.leaf its.below (row_at s o)) h.changed changed_so);
-    }
-
-    pub next_entries : onto (map seen (drop (i + 1) xs)) (entries (row_at u (Some n))) ≡ in_key_order es
-    next_entries =
-        ap (λ f. onto (map seen (drop (i + 1) xs)) (entries f)) (planted_is ∙ planted-front n x.key.now its.leaf its.below (row_at s o) next_after)
-        ∙ ap (λ y. onto (map seen (drop (i + 1) xs)) ((x.key.now, y) ∷ entries (row_at s o))) its.tree ∙ next_left
+    pub next_made : Grown s0 u (Some n) parent × onto (map seen (drop (i + 1) xs)) (entries (row_at u (Some n))) ≡ in_key_order es
+    next_made = (
+      record {
+        row = subst (IsRow u (Some n) parent None) (sym planted_is) row_then;
+        changed = subst (Changed s0 u bare) (sym planted_is) (changed_then s0 s u (row_at s o) (planted n x.key.now its.leaf its.below (row_at s o)) h.changed changed_so);
+      },
+      ap (λ f. onto (map seen (drop (i + 1) xs)) (entries f)) (planted_is ∙ planted-front n x.key.now its.leaf its.below (row_at s o) next_after)
+          ∙ ap (λ y. onto (map seen (drop (i + 1) xs)) ((x.key.now, y) ∷ entries (row_at s o))) its.tree ∙ next_left,
+    )

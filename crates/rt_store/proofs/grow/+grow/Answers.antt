@@ -11,7 +11,7 @@ use Rattle.rt_store.specs.Forest.{row_at, entries}
 use Rattle.rt_store.specs.Growing.{seen}
 use Rattle.rt_store.proofs.Linked.{row_at-none}
 use Rattle.rt_store.proofs.Falling.{onto, object-in_key_order}
-use Rattle.rt_store.proofs.Growing.{put_key, put_here, put_leaf, no_path, object-children_of, full-children_of, full_row, grown_none, still_place, still_once, undone, one_grown, one_entry, one_undone, next_full, next_smaller, next_grown, next_entries}
+use Rattle.rt_store.proofs.Growing.{put_key, put_here, put_leaf, no_path, full-children_of, full_row, grown_none, still_place, still_once, undone, one_grown, one_entry, next_child, next_made}
 use Rattle.rt_store.proofs.grow.+grow.Goals as goal
 
 pub content-grow-requires : goal.content-grow-requires
@@ -31,7 +31,7 @@ content-grow_row-requires t c =
     let T = c.args.tree.now in
     let is : c.in-Some-children.children.now.entries ≡ children_of T = search rules in
     let object_is : is_object T ≡ true = search rules in (
-      omega (arith, c.decreases, ap (λ es. levels (object es)) is, ap levels (object-children_of T object_is)),
+      omega (arith, c.decreases, ap (λ es. levels (object (in_key_order es))) is, ap levels (object-in_key_order T object_is)),
       (
         no_path c.args.rest.now c.in_default.ensures.cases,
         (subst (λ es. IsStrictlySortedBy key_cmp (keys_of es)) (sym is) (children_sorted T), subst AllFull (sym is) (full-children_of T)),
@@ -59,18 +59,17 @@ grow-content-requires t c = (omega (arith, c.decreases), c.requires)
 
 pub grow-returns-in-Ok-clause-grown : goal.grow-returns-in-Ok-clause-grown
 grow-returns-in-Ok-clause-grown t c =
-    one_grown c.args.nodes.now c.insert.new.self c.in_ok-index.index c.args.key.now c.args.parent c.in_ok-index.ensures.was_vacant
-    (subst (λ k. Updates c.args.nodes.now c.insert.new.self c.in_ok-index.index (Some (record { key = k; parent = c.args.parent; first_child = None; previous = None; next = None; leaf = None }))) c.in_ok-key.ensures c.in_ok-index.ensures.updates)
-    (let len : slab_len c.insert.new.self ≡ slab_len c.args.nodes.now + 1 = search rules in len)
+    one_grown c.args.nodes.now c.insert.new.self c.in_ok-index.index c.in_ok-key.key c.args.parent c.in_ok-index.ensures.was_vacant
+    c.in_ok-index.ensures.updates c.in_ok-index.ensures.len
     c.content.new.nodes c.set_content.new.nodes c.in-Ok.leaf c.in-Ok.first (row_at c.content.new.nodes c.in-Ok.first) c.in-Ok.ensures.grown.row c.in-Ok.ensures.grown.changed c.in-Ok.ensures.full c.set_content.ensures.written c.set_content.ensures.others c.set_content.ensures.len
 
 pub grow-returns-in-Ok-clause-is : goal.grow-returns-in-Ok-clause-is
 grow-returns-in-Ok-clause-is t c = 
-    one_entry c.args.nodes.now c.insert.new.self c.in_ok-index.index c.args.key.now c.args.parent c.in_ok-index.ensures.was_vacant
-    (subst (λ k. Updates c.args.nodes.now c.insert.new.self c.in_ok-index.index (Some (record { key = k; parent = c.args.parent; first_child = None; previous = None; next = None; leaf = None }))) c.in_ok-key.ensures c.in_ok-index.ensures.updates)
-    (let len : slab_len c.insert.new.self ≡ slab_len c.args.nodes.now + 1 = search rules in len)
+    one_entry c.args.nodes.now c.insert.new.self c.in_ok-index.index c.in_ok-key.key c.args.parent c.in_ok-index.ensures.was_vacant
+    c.in_ok-index.ensures.updates c.in_ok-index.ensures.len
     c.content.new.nodes c.set_content.new.nodes c.in-Ok.leaf c.in-Ok.first (row_at c.content.new.nodes c.in-Ok.first) c.in-Ok.ensures.grown.row c.in-Ok.ensures.grown.changed c.in-Ok.ensures.full c.set_content.ensures.written c.set_content.ensures.others c.set_content.ensures.len
     (put null c.args.rest.now c.args.tree.now) c.in-Ok.ensures.is
+    ∙ ap (λ k. (k, put null c.args.rest.now c.args.tree.now) ∷ []) c.in_ok-key.ensures
 
 pub grow_row-loop-child-init : goal.grow_row-loop-child-init
 grow_row-loop-child-init t c = (
@@ -80,14 +79,10 @@ grow_row-loop-child-init t c = (
 
 pub grow_row-grow-requires : goal.grow_row-grow-requires
 grow_row-grow-requires t c =
-    let xs = c.deref-child-items.result.now in
-    let x = c.child-item.result in
-    let smaller : levels x.tree.now + 1 ≤ levels (object c.args.children.now.entries) = next_smaller c.args.nodes.now c.loop-child.nodes c.loop-child.first c.args.parent c.args.children.now.entries xs c.loop-child.child-index x
-        c.loop-child.invariant.0 c.loop-child.invariant.1 c.loop-child-test.true c.child-item.is c.requires.full in (
-      omega (arith, c.decreases, smaller, ap length c.requires.end),
-      next_full c.args.nodes.now c.loop-child.nodes c.loop-child.first c.args.parent c.args.children.now.entries xs c.loop-child.child-index x
-          c.loop-child.invariant.0 c.loop-child.invariant.1 c.loop-child-test.true c.child-item.is c.requires.full,
-    )
+    let next : (levels c.child-item.result.tree.now + 1 ≤ levels (object (in_key_order c.args.children.now.entries))) × (is_null c.child-item.result.tree.now ≡ false) =
+    next_child c.args.nodes.now c.loop-child.nodes c.loop-child.first c.args.parent c.args.children.now.entries c.deref-child-items.result.now c.loop-child.child-index c.child-item.result
+    c.loop-child.invariant.0 c.loop-child.invariant.1 c.loop-child-test.true c.child-item.is c.requires.full in
+    (omega (arith, c.decreases, next.0, ap length c.requires.end), next.1)
 
 pub grow_row-fell-requires-clause-place : goal.grow_row-fell-requires-clause-place
 grow_row-fell-requires-clause-place t c = still_place c.args.nodes.now c.loop-child.nodes c.grow.new.nodes c.loop-child.first c.args.parent c.loop-child.invariant.0 c.in-Err.ensures.err
@@ -100,15 +95,9 @@ grow_row-returns-in-Err-clause-err t c = undone c.args.nodes.now c.loop-child.no
 
 pub grow_row-loop-child-preserved : goal.grow_row-loop-child-preserved
 grow_row-loop-child-preserved t c =
-    let xs = c.deref-child-items.result.now in
-    let x = c.child-item.result in (
-      next_grown c.args.nodes.now c.loop-child.nodes c.loop-child.first c.args.parent c.args.children.now.entries xs c.loop-child.child-index x
-          c.loop-child.invariant.0 c.loop-child.invariant.1 c.loop-child-test.true c.child-item.is c.grow.new.nodes c.link.new.nodes c.in-Ok.index c.args.rest.now c.requires.end
-          c.in-Ok.ensures.grown c.in-Ok.ensures.is c.link.ensures.each c.link.ensures.len,
-      next_entries c.args.nodes.now c.loop-child.nodes c.loop-child.first c.args.parent c.args.children.now.entries xs c.loop-child.child-index x
-          c.loop-child.invariant.0 c.loop-child.invariant.1 c.loop-child-test.true c.child-item.is c.grow.new.nodes c.link.new.nodes c.in-Ok.index c.args.rest.now c.requires.end
-          c.in-Ok.ensures.grown c.in-Ok.ensures.is c.link.ensures.each c.link.ensures.len,
-    )
+    next_made c.args.nodes.now c.loop-child.nodes c.loop-child.first c.args.parent c.args.children.now.entries c.deref-child-items.result.now c.loop-child.child-index c.child-item.result
+    c.loop-child.invariant.0 c.loop-child.invariant.1 c.loop-child-test.true c.child-item.is c.grow.new.nodes c.link.new.nodes c.in-Ok.index c.args.rest.now c.requires.end
+    c.in-Ok.ensures.grown c.in-Ok.ensures.is c.link.ensures.each c.link.ensures.len
 
 pub grow_row-returns-clause-grown : goal.grow_row-returns-clause-grown
 grow_row-returns-clause-grown t c = c.loop-child.invariant.0

@@ -14,7 +14,7 @@ abbrev pub decreases-grow : goal.decreases-grow
 decreases-grow l = 3 * (length l.rest.now + levels l.tree.now) + 2
 
 abbrev pub decreases-grow_row : goal.decreases-grow_row
-decreases-grow_row l = 3 * levels (object l.children.now.entries)
+decreases-grow_row l = 3 * levels (object (in_key_order l.children.now.entries))
 
 abbrev pub invariant-grow_row-loop-child : goal.invariant-grow_row-loop-child
 invariant-grow_row-loop-child l =
