@@ -1,22 +1,21 @@
 -- Nodes that are made of trees.
-use Rattle.std.proofs.Common.{◌≡◌, ◌≢◌, ◌≤◌, ◌<◌, ℕ, zero, suc, ◌+◌, List, [], ◌∷◌, length, Option, Some, None, Bool, true, false, cond, not, is_some, refl, sym, ap, subst, ◌∙◌, arith, drop, map, get_or}
+use Rattle.std.proofs.Common.{◌≡◌, ◌≢◌, ◌≤◌, ◌<◌, ℕ, zero, suc, ◌+◌, List, [], ◌∷◌, length, Option, Some, None, true, false, cond, is_some, refl, sym, ap, subst, ◌∙◌, arith, drop, map, get_or}
 use Rattle.std.specs.Prelude.{nat_eq, ◌&&◌, T}
-use Rattle.std.specs.declared.cmp.Ordering.{Ordering}
 use Rattle.std.specs.declared.cmp.Ordering.TheVariants.{Less, Equal, Greater}
 use Rattle.std.specs.Ordering.{is_lt}
 use Rattle.std.specs.FinMap.Entries.{is_sorted, below_all}
 use Rattle.std.proofs.lemmas.List.{at_drop_more}
-use Rattle.std.proofs.lemmas.Bool.{eqb-true, eq-eqb}
-use Rattle.std.specs.Option.{option_map, option_and_then}
+use Rattle.std.proofs.lemmas.Bool.{eqb-true}
+use Rattle.std.specs.Option.{option_map}
 use Rattle.slab.specs.Slab.{Slab, get, slab_len, Updates}
 use Rattle.rt_tree.specs.Leaf.{LeafValue}
-use Rattle.rt_tree.specs.PathTree.{Key, Path, PathTree, first as both_first, key_eq, key_eq-is, key_eq-same, key_eq-symm, levels, child_levels, null, is_null, is_null-null, null_of_is_null, put, of_leaf, leaf_of_root, leaf_at, leaf_at-sub, leaf_at-object, leaf_at-object-root, same_tree, object, child_of, AllFull, non_null, sub}
-use Rattle.rt_tree.specs.Children.{is_object, children_of, child_of-children_of}
-use Rattle.rt_tree.proofs.Trees.{put-root, put-object, is_null-put, some_non_null, full_of_non_null, leaf_at-non_null}
+use Rattle.rt_tree.specs.PathTree.{Key, Path, PathTree, first as both_first, key_eq, key_eq-is, key_eq-same, key_eq-symm, levels, child_levels, null, is_null, is_null-null, put, of_leaf, leaf_of_root, leaf_at, object, child_of, AllFull, sub}
+use Rattle.rt_tree.specs.Children.{children_of, child_of-children_of}
+use Rattle.rt_tree.proofs.Trees.{put-root, put-object, is_null-put, some_non_null, full_of_non_null}
 use Rattle.rt_order.specs.KeyOrder.{key_cmp}
 use Rattle.rt_store.specs.Rows.{Row, in_key_order}
 use Rattle.rt_store.specs.Growing.{seen}
-use Rattle.rt_store.specs.Forest.{Forest, bare, node, one_if, first, size, times, entries, tree_with, AllAfter, IsFull, Links, IsRow, row_at}
+use Rattle.rt_store.specs.Forest.{Forest, bare, node, one_if, first, size, times, entries, tree_with, AllAfter, IsFull, IsRow, row_at}
 use Rattle.rt_store.specs.Walks.{IsPlace, spot_in}
 use Rattle.rt_store.specs.Changes.{Same, Felled, Changed, Grown, with_content, linked_in, planted}
 use Rattle.rt_store.specs.declared.row.Spot.TheVariants.{Gap}
@@ -35,13 +34,12 @@ put_key k p u full = sym (put-object [] ((k, put null p u) ∷ []) k p u (λ j.
     ap (λ b. cond b (Some (put null p u)) None) (key_eq-symm j k)
     ∙ ap (λ o. cond (key_eq k j) o None) (sym (some_non_null (put null p u) (is_null-put null p u full)))))
 
-pub put_here : (p : Path) (t : PathTree) → length p ≡ 0 → put null p t ≡ t
-put_here [] t e = put-root null t
-put_here (k ∷ p) t e = absurd (omega (arith, e))
-
 pub no_path : (p : Path) → length p ≡ 0 → p ≡ []
 no_path [] e = refl
 no_path (k ∷ p) e = absurd (omega (arith, e))
+
+pub put_here : (p : Path) (t : PathTree) → length p ≡ 0 → put null p t ≡ t
+put_here p t e = ap (λ q. put null q t) (no_path p e) ∙ put-root null t
 
 pub put_leaf : (p : Path) (t : PathTree) (l : LeafValue) → length p ≡ 0 → leaf_at t [] ≡ Some l → of_leaf l ≡ put null p t
 put_leaf p t l e is = sym (put_here p t e ∙ leaf_of_root t l is)

@@ -1,9 +1,7 @@
-use Rattle.std.proofs.Common.{rules, ◌≡◌, ◌+◌, ◌≤◌, [], ◌∷◌, true, false, Some, None, length, drop, map, reverse, sym, ap, subst, ◌∙◌, arith}
-use Rattle.std.specs.BTreeMap.{IsOrdered}
+use Rattle.std.proofs.Common.{rules, ◌≡◌, ◌+◌, ◌≤◌, [], ◌∷◌, true, false, Some, length, map, reverse, sym, ap, subst, ◌∙◌, arith}
 use Rattle.std.specs.Map.{keys_of}
 use Rattle.std.specs.List.Sorted.{IsStrictlySortedBy}
 use Rattle.std.proofs.lemmas.List.{drop_all}
-use Rattle.slab.specs.Slab.{slab_len, Updates}
 use Rattle.rt_tree.specs.PathTree.{key_cmp, null, is_null, put, of_leaf, leaf_at, object, levels, AllFull}
 use Rattle.rt_tree.specs.Children.{is_object, children_of, children_sorted}
 use Rattle.rt_store.specs.Rows.{in_key_order}
@@ -64,7 +62,7 @@ grow-returns-in-Ok-clause-grown t c =
     c.content.new.nodes c.set_content.new.nodes c.in-Ok.leaf c.in-Ok.first (row_at c.content.new.nodes c.in-Ok.first) c.in-Ok.ensures.grown.row c.in-Ok.ensures.grown.changed c.in-Ok.ensures.full c.set_content.ensures.written c.set_content.ensures.others c.set_content.ensures.len
 
 pub grow-returns-in-Ok-clause-is : goal.grow-returns-in-Ok-clause-is
-grow-returns-in-Ok-clause-is t c = 
+grow-returns-in-Ok-clause-is t c =
     one_entry c.args.nodes.now c.insert.new.self c.in_ok-index.index c.in_ok-key.key c.args.parent c.in_ok-index.ensures.was_vacant
     c.in_ok-index.ensures.updates c.in_ok-index.ensures.len
     c.content.new.nodes c.set_content.new.nodes c.in-Ok.leaf c.in-Ok.first (row_at c.content.new.nodes c.in-Ok.first) c.in-Ok.ensures.grown.row c.in-Ok.ensures.grown.changed c.in-Ok.ensures.full c.set_content.ensures.written c.set_content.ensures.others c.set_content.ensures.len
@@ -98,9 +96,6 @@ grow_row-loop-child-preserved t c =
     next_made c.args.nodes.now c.loop-child.nodes c.loop-child.first c.args.parent c.args.children.now.entries c.deref-child-items.result.now c.loop-child.child-index c.child-item.result
     c.loop-child.invariant.0 c.loop-child.invariant.1 c.loop-child-test.true c.child-item.is c.grow.new.nodes c.link.new.nodes c.in-Ok.index c.args.rest.now c.requires.end
     c.in-Ok.ensures.grown c.in-Ok.ensures.is c.link.ensures.each c.link.ensures.len
-
-pub grow_row-returns-clause-grown : goal.grow_row-returns-clause-grown
-grow_row-returns-clause-grown t c = c.loop-child.invariant.0
 
 pub grow_row-returns-clause-is : goal.grow_row-returns-clause-is
 grow_row-returns-clause-is t c =
