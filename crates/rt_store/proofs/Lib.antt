@@ -2,6 +2,7 @@ pub mod Building
 pub mod Clearing
 pub mod Falling
 pub mod Felling
+pub mod Growing
 pub mod Joining
 pub mod Linked
 pub mod Orders
