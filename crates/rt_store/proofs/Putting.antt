@@ -115,12 +115,59 @@ full_row j p v f bare some puts =
     cc (puts j, ap (λ b. cond b (non_null (put (child_or_null (entries f) j) p v)) (child_of (entries f) j)) (key_eq-same j), some_non_null (put (child_or_null (entries f) j) p v) (is_null-put (child_or_null (entries f) j) p v some))
 full_row j p v f (node n key leaf below behind) some puts = tt
 
--- the tree of a node where something was put below it
-put_tree : (leaf : Option LeafValue) (f g : Forest) (j : Key) (p : Path) (v : PathTree) → IsFull leaf f → is_null v ≡ false → PutsBelow (entries f) (entries g) j p v
+-- the tree of a leaf, or of some children, where something was put below it
+pub put_tree : (leaf : Option LeafValue) (f g : Forest) (j : Key) (p : Path) (v : PathTree) → (is_some leaf ≡ true → f ≡ bare) → is_null v ≡ false → PutsBelow (entries f) (entries g) j p v
     → put (tree_with leaf (entries f)) (j ∷ p) v ≡ object (entries g)
-put_tree None f g j p v full some puts = put-object (entries f) (entries g) j p v puts
-put_tree (Some l) bare g j p v full some puts = put-of_leaf l j p v some ∙ put-object [] (entries g) j p v puts
-put_tree (Some l) (node n key leaf below behind) g j p v full some puts = absurd full
+put_tree None f g j p v top some puts = put-object (entries f) (entries g) j p v puts
+put_tree (Some l) f g j p v top some puts =
+    put-of_leaf l j p v some ∙ put-object [] (entries g) j p v (subst (λ x. PutsBelow (entries x) (entries g) j p v) (top refl) puts)
+
+-- ---- a row that gives way to one that was grown
+module _ (s t : Slab Slot) (o r parent : Option ℕ) (row : IsRow s o parent None (row_at s o)) (once : (m : ℕ) → times m (row_at s o) ≤ 1) (grown : Grown s t r parent) where
+  fresh : (m : ℕ) → 0 < times m (row_at s o) → times m (row_at t r) ≡ 0
+  fresh m some = of (times m (row_at t r)) refl
+    where
+      of : (c : ℕ) → times m (row_at t r) ≡ c → c ≡ 0
+      of zero e = refl
+      of (suc c) e = absurd (not_nowhere s m (locate s o parent None (row_at s o) row m some) (grown.changed.fresh m (omega (arith, e)) refl))
+
+  old_row : IsRow t o parent None (row_at s o)
+  old_row = row_kept s t o parent None (row_at s o) row (λ m some. grown.changed.kept m refl (fresh m some)) (omega (arith, row.fits, grown.changed.len))
+
+  old_is : row_at t o ≡ row_at s o
+  old_is = row_at_is t o parent None (row_at s o) old_row
+
+  pub old_place : IsPlace t o
+  old_place = place_of t o parent None (row_at s o) old_row
+
+  pub old_once : (m : ℕ) → times m (row_at t o) ≤ 1
+  old_once m = omega (arith, ap (times m) old_is, once m)
+
+  module _ (u : Slab Slot) (felled : Felled t u (row_at t o)) where
+    gone : Felled t u (row_at s o)
+    gone = subst (Felled t u) old_is felled
+
+    sizes : slab_len u + size (row_at s o) ≡ slab_len s + size (row_at t r)
+    sizes = omega (arith, gone.len, grown.changed.len)
+
+    apart : (m : ℕ) → 0 < times m (row_at t r) → times m (row_at s o) ≡ 0
+    apart m there = none_of (times m (row_at s o)) (times m (row_at t r)) there (fresh m)
+      where
+        none_of : (c d : ℕ) → 0 < d → (0 < c → d ≡ 0) → c ≡ 0
+        none_of zero d there h = refl
+        none_of (suc c) d there h = absurd (omega (arith, there, h (omega arith)))
+
+    pub swapped_row : IsRow u r parent None (row_at t r)
+    swapped_row = row_kept t u r parent None (row_at t r) grown.row (λ m there. gone.kept m (apart m there)) (omega (arith, sizes, row.fits))
+
+    pub swapped : Changed s u (row_at s o) (row_at t r)
+    swapped = record {
+      kept = λ m none left. gone.kept m none ∙ grown.changed.kept m refl left;
+      gone = λ m there left. gone.gone m there;
+      fresh = λ m there none. grown.changed.fresh m there refl;
+      once = grown.changed.once;
+      len = sizes;
+    }
 
 -- what is known of the node of k
 module _ (s : Slab Slot) (o parent : Option ℕ) (k : Key) (n : ℕ) (slot : Slot)
@@ -181,52 +228,14 @@ module _ (s : Slab Slot) (o parent : Option ℕ) (k : Key) (n : ℕ) (slot : Slo
       → get u n ≡ option_map (with_content None link) (get t n) → ((m : ℕ) → m ≢ n → get u m ≡ get t m) → slab_len u ≡ slab_len t → IsPut s u o o parent k (j ∷ p) v
   put_below t u link j p v some put written others len =
       replaced t u link None (row_at t link) (j ∷ p) v (full_row j p v (row_at s slot.first_child) (row_at t link) some put.puts) some put.row put.changed
-      (sym (put_tree slot.leaf (row_at s slot.first_child) (row_at t link) j p v full_leaf some put.puts)) written others len
+      (sym (put_tree slot.leaf (row_at s slot.first_child) (row_at t link) j p v (top_of_full slot.leaf (row_at s slot.first_child) full_leaf) some put.puts)) written others len
 
   -- by a tree
-  module _ (t : Slab Slot) (link : Option ℕ) (grown : Grown s t link (Some n)) where
-    fresh : (m : ℕ) → 0 < times m (row_at s slot.first_child) → times m (row_at t link) ≡ 0
-    fresh m some = of (times m (row_at t link)) refl
-      where
-        of : (c : ℕ) → times m (row_at t link) ≡ c → c ≡ 0
-        of zero e = refl
-        of (suc c) e = absurd (not_nowhere s m (locate s slot.first_child (Some n) None (row_at s slot.first_child) put_place m some) (grown.changed.fresh m (omega (arith, e)) refl))
-
-    old_row : IsRow t slot.first_child (Some n) None (row_at s slot.first_child)
-    old_row =
-        row_kept s t slot.first_child (Some n) None (row_at s slot.first_child) put_place (λ m some. grown.changed.kept m refl (fresh m some))
-        (omega (arith, put_place.fits, grown.changed.len))
-
-    old_is : row_at t slot.first_child ≡ row_at s slot.first_child
-    old_is = row_at_is t slot.first_child (Some n) None (row_at s slot.first_child) old_row
-
-    pub old_place : IsPlace t slot.first_child
-    old_place = place_of t slot.first_child (Some n) None (row_at s slot.first_child) old_row
-
-    pub old_once : (m : ℕ) → times m (row_at t slot.first_child) ≤ 1
-    old_once m = omega (arith, ap (times m) old_is, put_once m)
-
-    pub put_here : (u w : Slab Slot) (l : Option LeafValue) (p : Path) (v : PathTree) → is_null v ≡ false → length p ≡ 0 → Felled t u (row_at t slot.first_child)
-        → IsFull l (row_at t link) → tree_with l (entries (row_at t link)) ≡ put null p v
-        → get w n ≡ option_map (with_content l link) (get u n) → ((m : ℕ) → m ≢ n → get w m ≡ get u m) → slab_len w ≡ slab_len u → IsPut s w o o parent k p v
-    put_here u w l (j ∷ p) v some short felled full tree written others len = absurd (omega (arith, short))
-    put_here u w l [] v some short felled full tree written others len =
-        let B = row_at s slot.first_child in
-        let g = row_at t link in
-        let gone = subst (Felled t u) old_is felled in
-        let apart : (m : ℕ) → 0 < times m g → times m B ≡ 0 = λ m there. none_of (times m B) (times m g) there (fresh m) in
-        let sizes : slab_len u + size B ≡ slab_len s + size g = omega (arith, gone.len, grown.changed.len) in
-        replaced u w link l g [] v full some
-        (row_kept t u link (Some n) None g grown.row (λ m there. gone.kept m (apart m there)) (omega (arith, sizes, put_place.fits)))
-        (record {
-          kept = λ m none left. gone.kept m none ∙ grown.changed.kept m refl left;
-          gone = λ m there left. gone.gone m there;
-          fresh = λ m there none. grown.changed.fresh m there refl;
-          once = grown.changed.once;
-          len = sizes;
-        })
-        (tree ∙ put-root null v ∙ sym (put-root (tree_with slot.leaf (entries B)) v)) written others len
-      where
-        none_of : (c d : ℕ) → 0 < d → (0 < c → d ≡ 0) → c ≡ 0
-        none_of zero d there h = refl
-        none_of (suc c) d there h = absurd (omega (arith, there, h (omega arith)))
+  pub put_here : (t u w : Slab Slot) (link : Option ℕ) (l : Option LeafValue) (p : Path) (v : PathTree) → is_null v ≡ false → length p ≡ 0
+      → Grown s t link (Some n) → Felled t u (row_at t slot.first_child) → IsFull l (row_at t link) → tree_with l (entries (row_at t link)) ≡ put null p v
+      → get w n ≡ option_map (with_content l link) (get u n) → ((m : ℕ) → m ≢ n → get w m ≡ get u m) → slab_len w ≡ slab_len u → IsPut s w o o parent k p v
+  put_here t u w link l (j ∷ p) v some short grown felled full tree written others len = absurd (omega (arith, short))
+  put_here t u w link l [] v some short grown felled full tree written others len =
+      replaced u w link l (row_at t link) [] v full some
+      (swapped_row s t slot.first_child link (Some n) put_place put_once grown u felled) (swapped s t slot.first_child link (Some n) put_place put_once grown u felled)
+      (tree ∙ put-root null v ∙ sym (put-root (tree_with slot.leaf (entries (row_at s slot.first_child))) v)) written others len

@@ -27,15 +27,19 @@ pub fell-requires-clause-place : goal.fell-requires-clause-place
 fell-requires-clause-place t c =
     let slot = c.unwrap.result.now in
     let there : get c.args.nodes.now c.in-Here.index ≡ Some slot = search rules in
-    old_place c.args.nodes.now c.args.first c.args.parent c.args.key.now c.in-Here.index slot c.requires.row c.requires.once (sym c.seek.ensures ∙ c.in-Here.is) there
-    c.content.new.nodes c.in_ok-leaf-in-None-split_first.grown c.in_ok-leaf-in-None-split_first.ensures.grown
+    old_place c.args.nodes.now c.content.new.nodes slot.first_child c.in_ok-leaf-in-None-split_first.grown (Some c.in-Here.index)
+    (put_place c.args.nodes.now c.args.first c.args.parent c.args.key.now c.in-Here.index slot c.requires.row c.requires.once (sym c.seek.ensures ∙ c.in-Here.is) there)
+    (put_once c.args.nodes.now c.args.first c.args.parent c.args.key.now c.in-Here.index slot c.requires.row c.requires.once (sym c.seek.ensures ∙ c.in-Here.is) there)
+    c.in_ok-leaf-in-None-split_first.ensures.grown
 
 pub fell-requires-clause-once : goal.fell-requires-clause-once
 fell-requires-clause-once t c =
     let slot = c.unwrap.result.now in
     let there : get c.args.nodes.now c.in-Here.index ≡ Some slot = search rules in
-    old_once c.args.nodes.now c.args.first c.args.parent c.args.key.now c.in-Here.index slot c.requires.row c.requires.once (sym c.seek.ensures ∙ c.in-Here.is) there
-    c.content.new.nodes c.in_ok-leaf-in-None-split_first.grown c.in_ok-leaf-in-None-split_first.ensures.grown
+    old_once c.args.nodes.now c.content.new.nodes slot.first_child c.in_ok-leaf-in-None-split_first.grown (Some c.in-Here.index)
+    (put_place c.args.nodes.now c.args.first c.args.parent c.args.key.now c.in-Here.index slot c.requires.row c.requires.once (sym c.seek.ensures ∙ c.in-Here.is) there)
+    (put_once c.args.nodes.now c.args.first c.args.parent c.args.key.now c.in-Here.index slot c.requires.row c.requires.once (sym c.seek.ensures ∙ c.in-Here.is) there)
+    c.in_ok-leaf-in-None-split_first.ensures.grown
 
 pub put_row-requires : goal.put_row-requires
 put_row-requires t c =
@@ -53,8 +57,8 @@ returns-in_ok-leaf-in-None-split_first-clause-ok t c =
     let slot = c.unwrap.result.now in
     let there : get c.args.nodes.now c.in-Here.index ≡ Some slot = search rules in
     put_here c.args.nodes.now c.args.first c.args.parent c.args.key.now c.in-Here.index slot c.requires.row c.requires.once (sym c.seek.ensures ∙ c.in-Here.is) there
-    c.content.new.nodes c.in_ok-leaf-in-None-split_first.grown c.in_ok-leaf-in-None-split_first.ensures.grown
-    c.fell.new.nodes c.set_content.new.nodes c.in_ok-leaf-in-None-split_first.leaf c.args.rest.now c.args.tree.now c.requires.full c.in-None-split_first.ensures.cases c.fell.ensures
+    c.content.new.nodes c.fell.new.nodes c.set_content.new.nodes c.in_ok-leaf-in-None-split_first.grown c.in_ok-leaf-in-None-split_first.leaf c.args.rest.now c.args.tree.now
+    c.requires.full c.in-None-split_first.ensures.cases c.in_ok-leaf-in-None-split_first.ensures.grown c.fell.ensures
     c.in_ok-leaf-in-None-split_first.ensures.full c.in_ok-leaf-in-None-split_first.ensures.is
     c.set_content.ensures.written c.set_content.ensures.others c.set_content.ensures.len
 
