@@ -1,5 +1,6 @@
 pub mod Building
 pub mod Clearing
+pub mod ClearRow
 pub mod Felling
 pub mod Joining
 pub mod Linked
