@@ -1,4 +1,4 @@
--- A row below which a path is cleared, in the steps of `clear_row`.
+-- A row below which a path is cleared, and a store.
 use Rattle.std.proofs.Common.{◌≡◌, ◌≢◌, ◌≤◌, ◌<◌, ◌⊎◌, inl, inr, ℕ, ◌+◌, [], ◌∷◌, length, Option, Some, None, Bool, true, false, cond, not, is_some, refl, sym, ap, subst, ◌∙◌, arith}
 use Rattle.std.specs.Prelude.{◌&&◌, nat_eq}
 use Rattle.std.specs.declared.cmp.Ordering.{Ordering}
@@ -8,17 +8,24 @@ use Rattle.std.specs.FinMap.Entries.{by_order}
 use Rattle.std.proofs.lemmas.Bool.{eq-eqb}
 use Rattle.slab.specs.Slab.{Slab, get, slab_len}
 use Rattle.rt_tree.specs.Leaf.{LeafValue}
-use Rattle.rt_tree.specs.PathTree.{Key, Path}
+use Rattle.rt_tree.specs.PathTree.{Key, Path, PathTree, null, leaf_at-null, put, object}
+use Rattle.rt_tree.specs.Allowed.{IsAllowed, allowed-null, allowed-put}
+use Rattle.rt_tree.proofs.Trees.{put-root}
 use Rattle.rt_order.specs.KeyOrder.{key_cmp}
-use Rattle.rt_store.specs.Forest.{Forest, bare, node, one_if, first, size, times, IsFull, Sound, Links, IsRow, row_at}
+use Rattle.rt_store.specs.Forest.{Forest, bare, node, one_if, first, size, times, entries, tree_with, IsFull, Sound, Links, IsRow, row_at}
 use Rattle.rt_store.specs.Walks.{IsPlace, index_in}
-use Rattle.rt_store.specs.Changes.{InRow, IsHead, Changed, is_bare, cleared, without, below_of, with_below, with_content}
+use Rattle.rt_store.specs.Changes.{InRow, IsHead, Felled, Changed, is_bare, cleared, without, below_of, with_below, with_content}
+use Rattle.rt_store.specs.Stored.{Stored}
+use Rattle.rt_store.specs.StoreView.{stored, IsStore}
 use Rattle.rt_store.specs.declared.slot.Slot.{Slot}
-use Rattle.rt_store.proofs.Linked.{row_at_is, place_of, not_nowhere}
+use Rattle.rt_store.specs.declared.store.Store.TheInside.{Inside}
+use Rattle.rt_store.proofs.Linked.{row_at_is, row_at-none}
 use Rattle.rt_store.proofs.Felling.{one_of}
 use Rattle.rt_store.proofs.Joining.{slots_same, in_row_times}
 use Rattle.rt_store.proofs.Taking.{size_without, sound_below, links_below, not_there}
 use Rattle.rt_store.proofs.Replacing.{times_below_of, with_row, with_changed}
+use Rattle.rt_store.proofs.Clearing.{tree_cleared}
+use Rattle.rt_store.proofs.Storing.{store_after, tree_after}
 
 -- nothing is cleared where the key isn't there
 pub cleared_lacks : (k : Key) (p : Path) (f : Forest) → index_in k f ≡ None → cleared k p f ≡ f
@@ -113,7 +120,7 @@ cleared_leaf s parent previous k n slot j p (node m key leaf below behind) h sou
       | Greater ↦ λ g. ap (node m key leaf below) (cleared_leaf s parent (Some m) k n slot j p behind h.2 sound.3 there g leaf_there)
     ] e
 
--- ---- the steps
+-- ---- the steps of `clear_row`
 same_changed : (s : Slab Slot) (f : Forest) → ((n : ℕ) → times n f ≤ 1) → Changed s s f f
 same_changed s f once = record { kept = λ n none none2. refl; gone = λ n some none. absurd (omega (arith, some, none)); fresh = λ n some none. absurd (omega (arith, some, none)); once = once; len = refl }
 
@@ -201,3 +208,42 @@ module _ (s : Slab Slot) (o : Option ℕ) (k : Key) (n : ℕ) (h : IsHead s o) (
         clear_below-changed =
             subst (Changed s u (row_at s o)) (sym becomes)
             (with_changed s t u o h.0 link None (row_at s o) (cleared j p (row_at s slot.first_child)) n h.1 once clear_there (full_none (cleared j p (row_at s slot.first_child)) left) (row (Some n) below_row) change written others len)
+
+-- ---- the steps of `clear`
+-- all nodes are taken out
+felled_changed : (s t : Slab Slot) (f : Forest) → Felled s t f → Changed s t f bare
+felled_changed s t f h = record {
+  kept = λ n none _. h.kept n none;
+  gone = λ n some _. h.gone n some;
+  fresh = λ n some none. absurd (omega (arith, some));
+  once = λ n. omega arith;
+  len = omega (arith, h.len);
+}
+
+pub emptied : (a : Inside) (t : Slab Slot) → IsStore a → Felled a.nodes t (row_at a.nodes a.first) → IsStore (record { nodes = t; first = None; leaf = None })
+emptied a t h felled =
+    store_after a (record { nodes = t; first = None; leaf = None }) h bare (record { links = tt; sound = tt; starts = refl; fits = omega arith })
+    (felled_changed a.nodes t (row_at a.nodes a.first) felled) (λ e. refl) allowed-null
+
+pub emptied_tree : (t : Slab Slot) (u : PathTree) (path : Path) → length path ≡ 0 → (stored (record { nodes = t; first = None; leaf = None })).tree ≡ put u path null
+emptied_tree t u [] short = ap (λ f. object (entries f)) (row_at-none t) ∙ sym (put-root u null)
+emptied_tree t u (k ∷ p) short = absurd (omega (arith, short))
+
+module _ (a : Inside) (h : IsStore a) (k : Key) (p : Path) (t : Slab Slot) (o : Option ℕ)
+    (row : (parent : Option ℕ) → IsRow a.nodes a.first parent None (row_at a.nodes a.first) → IsRow t o parent None (cleared k p (row_at a.nodes a.first)))
+    (changed : Changed a.nodes t (row_at a.nodes a.first) (cleared k p (row_at a.nodes a.first))) where
+  is_row : IsRow t o None None (cleared k p (row_at a.nodes a.first))
+  is_row = row None h.row
+
+  top : is_some a.leaf ≡ true → o ≡ None
+  top e = sym is_row.starts ∙ ap (λ f. first (cleared k p f)) (ap (row_at a.nodes) (h.top e) ∙ row_at-none a.nodes)
+
+  pub cleared_store : IsStore (record { nodes = t; first = o; leaf = a.leaf })
+  cleared_store =
+      store_after a (record { nodes = t; first = o; leaf = a.leaf }) h (cleared k p (row_at a.nodes a.first)) is_row changed top
+      (subst IsAllowed (tree_cleared a.leaf k p (row_at a.nodes a.first) h.row.sound) (allowed-put (stored a).tree (k ∷ p) null h.allowed (λ q l e. cc (leaf_at-null q))))
+
+  pub cleared_tree : (s : Stored) (path : Path) → stored a ≡ s → path ≡ k ∷ p → (stored (record { nodes = t; first = o; leaf = a.leaf })).tree ≡ put s.tree path null
+  cleared_tree s path view goes =
+      tree_after (record { nodes = t; first = o; leaf = a.leaf }) (cleared k p (row_at a.nodes a.first)) is_row
+      ∙ sym (tree_cleared a.leaf k p (row_at a.nodes a.first) h.row.sound) ∙ (λ i. put (view i).tree (sym goes i) null)

@@ -158,3 +158,9 @@ cleared_puts (j ∷ p) k (node n key leaf below behind) h =
       ] refl
       | Greater ↦ λ order. later k (j ∷ p) n key leaf below behind (cleared k (j ∷ p) behind) order (cleared_puts (j ∷ p) k behind h.3)
     ] refl
+
+-- the tree of what is left
+pub tree_cleared : (leaf : Option LeafValue) (k : Key) (p : Path) (f : Forest) → Sound f → put (tree_with leaf (entries f)) (k ∷ p) null ≡ tree_with leaf (entries (cleared k p f))
+unfolding Becomes
+tree_cleared (Some l) k p f sound = put-of_leaf-null l k p
+tree_cleared None k p f sound = put-object (entries f) (entries (cleared k p f)) k p null (cleared_puts p k f sound)
