@@ -1,17 +1,9 @@
-use Rattle.std.proofs.Common.{◌≡◌, ◌∷◌, length, sym, ap, ◌∙◌, rules}
-use Rattle.rt_store.specs.Stored.{Stored}
+use Rattle.std.proofs.Common.{◌≡◌, ◌∷◌, length, rules}
 use Rattle.rt_store.proofs.ClearRow.{emptied, emptied_tree, cleared_store, cleared_tree}
 use Rattle.rt_store.proofs.store.Store.clear.Goals as goal
-use Rattle.rt_store.proofs.store.Store.clear.Goals.{in-Some+in-Text-1, in-Some+in-Truth-1, in-None-1}
 
 pub invariant_of-self : goal.invariant_of-self
 invariant_of-self c = emptied c.self.inside c.fell.new.nodes c.self.invariant c.fell.ensures
-
-pub invariant_of-self-in-None-2 : goal.invariant_of-self-in-None-2
-invariant_of-self-in-None-2 c = emptied c.self.inside c.fell.new.nodes c.self.invariant c.fell.ensures
-
-pub invariant_of-self-in-None-3 : goal.invariant_of-self-in-None-3
-invariant_of-self-in-None-3 c = emptied c.self.inside c.fell.new.nodes c.self.invariant c.fell.ensures
 
 pub invariant_of-self-in-Some : goal.invariant_of-self-in-Some
 invariant_of-self-in-Some c =
@@ -20,12 +12,7 @@ invariant_of-self-in-Some c =
 pub returns-in-None : goal.returns-in-None
 returns-in-None c =
     let short : length c.args.path.now ≡ 0 = search rules in
-    let tree = emptied_tree c.fell.new.nodes c.args.self.now.tree c.args.path.now short in
-    elim c.match-self.branch [
-      | in-Some+in-Text-1 w ↦ ap (λ (s : Stored). s.tree) w.self-is ∙ tree
-      | in-Some+in-Truth-1 w ↦ ap (λ (s : Stored). s.tree) w.self-is ∙ tree
-      | in-None-1 w ↦ ap (λ (s : Stored). s.tree) w.self-is ∙ tree
-    ]
+    emptied_tree c.fell.new.nodes c.args.self.now.tree c.args.path.now short
 
 pub returns-in-Some : goal.returns-in-Some
 returns-in-Some c =
