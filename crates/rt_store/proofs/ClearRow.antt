@@ -1,7 +1,6 @@
 -- A row below which a path is cleared, and a store.
-use Rattle.std.proofs.Common.{◌≡◌, ◌≢◌, ◌≤◌, ◌<◌, ◌⊎◌, inl, inr, ℕ, ◌+◌, [], ◌∷◌, length, Option, Some, None, Bool, true, false, cond, not, is_some, refl, sym, ap, subst, ◌∙◌, arith}
+use Rattle.std.proofs.Common.{◌≡◌, ◌≢◌, ◌≤◌, ◌⊎◌, inl, inr, ℕ, ◌+◌, [], ◌∷◌, length, Option, Some, None, Bool, true, false, cond, not, is_some, refl, sym, ap, subst, ◌∙◌, arith}
 use Rattle.std.specs.Prelude.{◌&&◌, nat_eq}
-use Rattle.std.specs.declared.cmp.Ordering.{Ordering}
 use Rattle.std.specs.declared.cmp.Ordering.TheVariants.{Less, Equal, Greater}
 use Rattle.std.specs.Option.{option_map, option_map_or}
 use Rattle.std.specs.FinMap.Entries.{by_order}
@@ -12,7 +11,7 @@ use Rattle.rt_tree.specs.PathTree.{Key, Path, PathTree, null, leaf_at-null, put,
 use Rattle.rt_tree.specs.Allowed.{IsAllowed, allowed-null, allowed-put}
 use Rattle.rt_tree.proofs.Trees.{put-root}
 use Rattle.rt_order.specs.KeyOrder.{key_cmp}
-use Rattle.rt_store.specs.Forest.{Forest, bare, node, one_if, first, size, times, entries, tree_with, IsFull, Sound, Links, IsRow, row_at}
+use Rattle.rt_store.specs.Forest.{Forest, bare, node, one_if, first, times, entries, IsFull, Sound, Links, IsRow, row_at}
 use Rattle.rt_store.specs.Walks.{IsPlace, index_in}
 use Rattle.rt_store.specs.Changes.{InRow, IsHead, Felled, Changed, is_bare, cleared, without, below_of, with_below, with_content}
 use Rattle.rt_store.specs.Stored.{Stored}
@@ -20,7 +19,6 @@ use Rattle.rt_store.specs.StoreView.{stored, IsStore}
 use Rattle.rt_store.specs.declared.slot.Slot.{Slot}
 use Rattle.rt_store.specs.declared.store.Store.TheInside.{Inside}
 use Rattle.rt_store.proofs.Linked.{row_at_is, row_at-none}
-use Rattle.rt_store.proofs.Felling.{one_of}
 use Rattle.rt_store.proofs.Joining.{slots_same, in_row_times}
 use Rattle.rt_store.proofs.Taking.{size_without, sound_below, links_below, not_there}
 use Rattle.rt_store.proofs.Replacing.{times_below_of, with_row, with_changed}
@@ -38,7 +36,7 @@ cleared_lacks k [] (node n key leaf below behind) none =
     ] none
 cleared_lacks k (j ∷ p) (node n key leaf below behind) none =
     elim (key_cmp k key) as (λ o. by_order o None (Some n) (index_in k behind) ≡ None
-        → by_order o (node n key leaf below behind) (cond (not (is_some leaf) && is_bare (cleared j p below)) behind (node n key leaf (cleared j p below) behind)) (node n key leaf below (cleared k (j ∷ p) behind)) ≡ node n key leaf below behind) [
+    → by_order o (node n key leaf below behind) (cond (not (is_some leaf) && is_bare (cleared j p below)) behind (node n key leaf (cleared j p below) behind)) (node n key leaf below (cleared k (j ∷ p) behind)) ≡ node n key leaf below behind) [
       | Less ↦ λ e. refl
       | Equal ↦ λ e. cc
       | Greater ↦ λ e. ap (node n key leaf below) (cleared_lacks k (j ∷ p) behind e)
@@ -87,10 +85,10 @@ cleared_through : (s : Slab Slot) (parent previous : Option ℕ) (k : Key) (n : 
 cleared_through s parent previous k n slot j p bare h once there e = cc
 cleared_through s parent previous k n slot j p (node m key leaf below behind) h once there e =
     let becomes : Bool → Option LeafValue → Forest = λ b l.
-        cond (not (is_some l) && is_bare (cleared j p (cond b below (below_of n behind)))) (cond b behind (node m key leaf below (without n behind)))
-        (cond b (node m key l (cleared j p (cond b below (below_of n behind))) behind) (node m key leaf below (with_below n l (cleared j p (cond b below (below_of n behind))) behind))) in
+    cond (not (is_some l) && is_bare (cleared j p (cond b below (below_of n behind)))) (cond b behind (node m key leaf below (without n behind)))
+    (cond b (node m key l (cleared j p (cond b below (below_of n behind))) behind) (node m key leaf below (with_below n l (cleared j p (cond b below (below_of n behind))) behind))) in
     elim (key_cmp k key) as (λ o. by_order o None (Some m) (index_in k behind) ≡ Some n
-        → by_order o (node m key leaf below behind) (cond (not (is_some leaf) && is_bare (cleared j p below)) behind (node m key leaf (cleared j p below) behind)) (node m key leaf below (cleared k (j ∷ p) behind)) ≡ becomes (nat_eq n m) slot.leaf) [
+    → by_order o (node m key leaf below behind) (cond (not (is_some leaf) && is_bare (cleared j p below)) behind (node m key leaf (cleared j p below) behind)) (node m key leaf below (cleared k (j ∷ p) behind)) ≡ becomes (nat_eq n m) slot.leaf) [
       | Less ↦ λ g. cc
       | Equal ↦ λ g.
           let same : n ≡ m = sym (same_some m n g) in
@@ -114,7 +112,7 @@ cleared_leaf : (s : Slab Slot) (parent previous : Option ℕ) (k : Key) (n : ℕ
 cleared_leaf s parent previous k n slot j p bare h sound there e leaf_there = refl
 cleared_leaf s parent previous k n slot j p (node m key leaf below behind) h sound there e leaf_there =
     elim (key_cmp k key) as (λ o. by_order o None (Some m) (index_in k behind) ≡ Some n
-        → by_order o (node m key leaf below behind) (cond (not (is_some leaf) && is_bare (cleared j p below)) behind (node m key leaf (cleared j p below) behind)) (node m key leaf below (cleared k (j ∷ p) behind)) ≡ node m key leaf below behind) [
+    → by_order o (node m key leaf below behind) (cond (not (is_some leaf) && is_bare (cleared j p below)) behind (node m key leaf (cleared j p below) behind)) (node m key leaf below (cleared k (j ∷ p) behind)) ≡ node m key leaf below behind) [
       | Less ↦ λ g. refl
       | Equal ↦ λ g. kept_leaf j p m key leaf below behind sound.1 (ap (λ (x : Slot). is_some x.leaf) (slots_same s m _ slot h.0 (ap (get s) (same_some m n g) ∙ there)) ∙ leaf_there)
       | Greater ↦ λ g. ap (node m key leaf below) (cleared_leaf s parent (Some m) k n slot j p behind h.2 sound.3 there g leaf_there)
