@@ -1,4 +1,5 @@
 pub mod Building
+pub mod ClearRow
 pub mod Clearing
 pub mod Falling
 pub mod Felling

@@ -103,9 +103,9 @@ impl Store {
     {
         match path.keys().split_first() {
             None => {
+                self.leaf = None;
                 fell(&mut self.nodes, self.first);
                 self.first = None;
-                self.leaf = None;
             }
             Some((key, rest)) => {
                 self.first = clear_row(&mut self.nodes, self.first, key, rest);
