@@ -1,17 +1,13 @@
 -- Trees made of rows.
-use Rattle.std.proofs.Common.{◌≡◌, ◌≢◌, ◌≤◌, ◌<◌, ℕ, suc, ◌+◌, List, [], ◌∷◌, length, Option, Some, None, Bool, true, false, cond, is_some, refl, sym, ap, subst, ◌∙◌, arith}
+use Rattle.std.proofs.Common.{◌≡◌, ◌≤◌, ◌<◌, ℕ, [], ◌∷◌, Option, Some, None, true, false, cond, refl, sym, ap, subst, ◌∙◌, arith}
 use Rattle.std.specs.declared.cmp.Ordering.TheVariants.{Less}
 use Rattle.std.specs.Option.{option_and_then, option_map_or}
-use Rattle.std.specs.Cmp.{tied_itself}
 use Rattle.slab.specs.Slab.{Slab, get}
-use Rattle.rt_tree.specs.Leaf.{LeafValue}
-use Rattle.rt_tree.specs.PathTree.{Key, Path, PathTree, key_eq, key_eq-is, key_eq-same, key_eq-symm, null, is_null, sub, same_tree, leaf_at, leaf_at-object, leaf_at-object-root, object, child_of, AllFull}
-use Rattle.rt_tree.specs.Allowed.{IsAllowed, MayStandAt, may_stand_below, allowed-sub}
+use Rattle.rt_tree.specs.PathTree.{Key, Path, PathTree, key_eq, key_eq-is, key_eq-same, key_eq-symm, null, sub, same_tree, leaf_at, leaf_at-object, leaf_at-object-root, object, child_of, AllFull}
+use Rattle.rt_tree.specs.Allowed.{IsAllowed, may_stand_below, allowed-sub}
 use Rattle.rt_tree.proofs.Trees.{sub-root, sub-object}
-use Rattle.rt_order.specs.KeyOrder.{key_cmp}
-use Rattle.rt_order.proofs.Orders.{key_cmp_total}
 use Rattle.rt_store.specs.Rows.{Row}
-use Rattle.rt_store.specs.Forest.{Forest, bare, node, first, size, entries, tree_with, AllAfter, Sound, row_at}
+use Rattle.rt_store.specs.Forest.{Forest, bare, node, size, entries, tree_with, AllAfter, Sound, row_at}
 use Rattle.rt_store.specs.Walks.{IsPlace}
 use Rattle.rt_store.specs.declared.slot.Slot.{Slot}
 use Rattle.rt_store.proofs.Linked.{IsAt, at_place, row_at-none, not_nowhere}

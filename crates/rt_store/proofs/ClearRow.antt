@@ -2,7 +2,7 @@
 use Rattle.std.proofs.Common.{◌≡◌, ◌≢◌, ◌≤◌, ◌⊎◌, inl, inr, ℕ, ◌+◌, [], ◌∷◌, length, Option, Some, None, Bool, true, false, cond, not, is_some, refl, sym, ap, subst, ◌∙◌, arith}
 use Rattle.std.specs.Prelude.{◌&&◌, nat_eq}
 use Rattle.std.specs.declared.cmp.Ordering.TheVariants.{Less, Equal, Greater}
-use Rattle.std.specs.Option.{option_map, option_map_or}
+use Rattle.std.specs.Option.{option_map}
 use Rattle.std.specs.FinMap.Entries.{by_order}
 use Rattle.std.proofs.lemmas.Bool.{eq-eqb}
 use Rattle.slab.specs.Slab.{Slab, get, slab_len}
@@ -18,10 +18,10 @@ use Rattle.rt_store.specs.Stored.{Stored}
 use Rattle.rt_store.specs.StoreView.{stored, IsStore}
 use Rattle.rt_store.specs.declared.slot.Slot.{Slot}
 use Rattle.rt_store.specs.declared.store.Store.TheInside.{Inside}
-use Rattle.rt_store.proofs.Linked.{row_at_is, row_at-none}
+use Rattle.rt_store.proofs.Linked.{same_some, row_at-none}
 use Rattle.rt_store.proofs.Joining.{slots_same, in_row_times}
-use Rattle.rt_store.proofs.Taking.{size_without, sound_below, links_below, not_there}
-use Rattle.rt_store.proofs.Replacing.{times_below_of, with_row, with_changed}
+use Rattle.rt_store.proofs.Taking.{below_is, below_row, below_once, not_there}
+use Rattle.rt_store.proofs.Replacing.{with_row, with_changed}
 use Rattle.rt_store.proofs.Clearing.{tree_cleared}
 use Rattle.rt_store.proofs.Storing.{store_after, tree_after}
 
@@ -42,9 +42,6 @@ cleared_lacks k (j ∷ p) (node n key leaf below behind) none =
       | Greater ↦ λ e. ap (node n key leaf below) (cleared_lacks k (j ∷ p) behind e)
     ] none
 
-same_some : {A : Type 0} (x y : A) → Some x ≡ Some y → x ≡ y
-same_some x y e = ap (λ o. option_map_or (λ z. z) o x) e
-
 -- a key is found at a sibling
 pub found_in_row : (k : Key) (n : ℕ) (f : Forest) → index_in k f ≡ Some n → InRow n f
 found_in_row k n bare e = cc
@@ -56,7 +53,7 @@ found_in_row k n (node m key leaf below behind) e =
     ] e
 
 -- the node in front of it has another number
-other_number : (n m : ℕ) (key : Key) (leaf : Option LeafValue) (below behind : Forest) → InRow n behind → times n (node m key leaf below behind) ≤ 1 → nat_eq n m ≡ false
+pub other_number : (n m : ℕ) (key : Key) (leaf : Option LeafValue) (below behind : Forest) → InRow n behind → times n (node m key leaf below behind) ≤ 1 → nat_eq n m ≡ false
 other_number n m key leaf below behind is once =
     elim (nat_eq n m) as (λ b. one_if b + (times n below + times n behind) ≤ 1 → b ≡ false) [
       | true ↦ λ h. absurd (omega (arith, h, in_row_times n behind is))
@@ -158,31 +155,23 @@ module _ (s : Slab Slot) (o : Option ℕ) (k : Key) (n : ℕ) (h : IsHead s o) (
       pub clear_leaf-changed : (j : Key) (p : Path) → is_some slot.leaf ≡ true → Changed s s (row_at s o) (cleared k (j ∷ p) (row_at s o))
       clear_leaf-changed j p e = subst (Changed s s (row_at s o)) (sym (clear_leaf j p e)) (same_changed s (row_at s o) once)
 
-      in_below : IsRow s slot.first_child (Some n) None (below_of n (row_at s o))
-      in_below =
-          let b = links_below s h.0 None n slot (row_at s o) h.1.links clear_there there in
-          record { links = b.0; sound = sound_below n (row_at s o) h.1.sound; starts = b.1; fits = omega (arith, size_without n (row_at s o) clear_there, h.1.fits) }
-
-      below_is : row_at s slot.first_child ≡ below_of n (row_at s o)
-      below_is = row_at_is s slot.first_child (Some n) None (below_of n (row_at s o)) in_below
-
-      below_row : IsRow s slot.first_child (Some n) None (row_at s slot.first_child)
-      below_row = subst (IsRow s slot.first_child (Some n) None) (sym below_is) in_below
-
       pub clear_head : IsHead s slot.first_child
-      clear_head = (Some n, below_row)
+      clear_head = (Some n, below_row s o h.0 n slot h.1 clear_there there)
 
       pub clear_place : IsPlace s slot.first_child
-      clear_place = (Some n, None, below_row)
+      clear_place = (Some n, None, below_row s o h.0 n slot h.1 clear_there there)
 
       pub clear_once : (m : ℕ) → times m (row_at s slot.first_child) ≤ 1
-      clear_once m = omega (arith, ap (times m) below_is, times_below_of n (row_at s o) m, once m)
+      clear_once = below_once s o h.0 n slot h.1 clear_there there once
+
+      is_below : row_at s slot.first_child ≡ below_of n (row_at s o)
+      is_below = below_is s o h.0 n slot h.1 clear_there there
 
       through : (j : Key) (p : Path) → is_some slot.leaf ≡ false
           → cleared k (j ∷ p) (row_at s o) ≡ cond (is_bare (cleared j p (row_at s slot.first_child))) (without n (row_at s o)) (with_below n None (cleared j p (row_at s slot.first_child)) (row_at s o))
       through j p e =
           cleared_through s h.0 None k n slot j p (row_at s o) h.1.links once there found
-          ∙ (λ i. cond (not (is_some (none_of slot.leaf e i)) && is_bare (cleared j p (sym below_is i))) (without n (row_at s o)) (with_below n (none_of slot.leaf e i) (cleared j p (sym below_is i)) (row_at s o)))
+          ∙ (λ i. cond (not (is_some (none_of slot.leaf e i)) && is_bare (cleared j p (sym is_below i))) (without n (row_at s o)) (with_below n (none_of slot.leaf e i) (cleared j p (sym is_below i)) (row_at s o)))
 
       pub clear_out : (j : Key) (p : Path) → is_some slot.leaf ≡ false → is_bare (cleared j p (row_at s slot.first_child)) ≡ true → cleared k (j ∷ p) (row_at s o) ≡ without n (row_at s o)
       clear_out j p e gone = through j p e ∙ ap (λ b. cond b (without n (row_at s o)) (with_below n None (cleared j p (row_at s slot.first_child)) (row_at s o))) gone
@@ -195,17 +184,17 @@ module _ (s : Slab Slot) (o : Option ℕ) (k : Key) (n : ℕ) (h : IsHead s o) (
         becomes = through j p e ∙ ap (λ b. cond b (without n (row_at s o)) (with_below n None (cleared j p (row_at s slot.first_child)) (row_at s o))) left
 
         change : Changed s t (below_of n (row_at s o)) (cleared j p (row_at s slot.first_child))
-        change = subst (λ f. Changed s t f (cleared j p (row_at s slot.first_child))) below_is changed
+        change = subst (λ f. Changed s t f (cleared j p (row_at s slot.first_child))) is_below changed
 
         pub clear_below-row : (parent : Option ℕ) → IsRow s o parent None (row_at s o) → IsRow u o parent None (cleared k (j ∷ p) (row_at s o))
         clear_below-row parent g =
             subst (IsRow u o parent None) (sym becomes)
-            (with_row s t u o parent link None (row_at s o) (cleared j p (row_at s slot.first_child)) n g once clear_there (full_none (cleared j p (row_at s slot.first_child)) left) (row (Some n) below_row) change written others len)
+            (with_row s t u o parent link None (row_at s o) (cleared j p (row_at s slot.first_child)) n g once clear_there (full_none (cleared j p (row_at s slot.first_child)) left) (row (Some n) (below_row s o h.0 n slot h.1 clear_there there)) change written others len)
 
         pub clear_below-changed : Changed s u (row_at s o) (cleared k (j ∷ p) (row_at s o))
         clear_below-changed =
             subst (Changed s u (row_at s o)) (sym becomes)
-            (with_changed s t u o h.0 link None (row_at s o) (cleared j p (row_at s slot.first_child)) n h.1 once clear_there (full_none (cleared j p (row_at s slot.first_child)) left) (row (Some n) below_row) change written others len)
+            (with_changed s t u o h.0 link None (row_at s o) (cleared j p (row_at s slot.first_child)) n h.1 once clear_there (full_none (cleared j p (row_at s slot.first_child)) left) (row (Some n) (below_row s o h.0 n slot h.1 clear_there there)) change written others len)
 
 -- ---- the steps of `clear`
 -- all nodes are taken out

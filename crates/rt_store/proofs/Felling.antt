@@ -1,11 +1,9 @@
 -- Nodes that are taken out, and rows that stay as they were.
-use Rattle.std.proofs.Common.{◌≡◌, ◌≢◌, ◌≤◌, ◌<◌, ℕ, zero, suc, ◌+◌, Option, Some, None, Bool, true, false, cond, is_some, refl, sym, ap, subst, ◌∙◌, arith}
+use Rattle.std.proofs.Common.{◌≡◌, ◌≢◌, ◌≤◌, ◌<◌, ℕ, zero, suc, ◌+◌, Option, Some, None, Bool, true, false, refl, sym, ap, subst, ◌∙◌, arith}
 use Rattle.std.specs.Prelude.{nat_eq}
 use Rattle.std.proofs.lemmas.Bool.{eqb-true, eq-eqb}
 use Rattle.slab.specs.Slab.{Slab, get, slab_len, Updates}
-use Rattle.rt_tree.specs.Leaf.{LeafValue}
-use Rattle.rt_tree.specs.PathTree.{Key}
-use Rattle.rt_store.specs.Forest.{Forest, bare, node, one_if, first, size, times, Links, IsRow, row_at}
+use Rattle.rt_store.specs.Forest.{Forest, bare, node, one_if, size, times, Links, IsRow, row_at}
 use Rattle.rt_store.specs.Walks.{IsPlace}
 use Rattle.rt_store.specs.Changes.{Felled}
 use Rattle.rt_store.specs.declared.slot.Slot.{Slot}

@@ -38,11 +38,11 @@ pub no_path : (p : Path) → length p ≡ 0 → p ≡ []
 no_path [] e = refl
 no_path (k ∷ p) e = absurd (omega (arith, e))
 
-pub put_here : (p : Path) (t : PathTree) → length p ≡ 0 → put null p t ≡ t
-put_here p t e = ap (λ q. put null q t) (no_path p e) ∙ put-root null t
+pub put_whole : (t : PathTree) (p : Path) (u : PathTree) → length p ≡ 0 → put t p u ≡ u
+put_whole t p u e = ap (λ q. put t q u) (no_path p e) ∙ put-root t u
 
 pub put_leaf : (p : Path) (t : PathTree) (l : LeafValue) → length p ≡ 0 → leaf_at t [] ≡ Some l → of_leaf l ≡ put null p t
-put_leaf p t l e is = sym (put_here p t e ∙ leaf_of_root t l is)
+put_leaf p t l e is = sym (put_whole null p t e ∙ leaf_of_root t l is)
 
 -- ---- children
 pub full-children_of : (t : PathTree) → AllFull (children_of t)

@@ -1,12 +1,10 @@
 -- A node that is taken out of its row, and the siblings beside it linked to each other.
-use Rattle.std.proofs.Common.{◌≡◌, ◌≢◌, ◌≤◌, ◌<◌, ◌⊎◌, inl, inr, ℕ, zero, suc, ◌+◌, Option, Some, None, Bool, true, false, cond, is_some, refl, sym, ap, subst, ◌∙◌, arith}
+use Rattle.std.proofs.Common.{◌≡◌, ◌≢◌, ◌≤◌, ◌<◌, ◌⊎◌, inl, inr, ℕ, Option, Some, None, true, false, cond, refl, sym, ap, subst, ◌∙◌, arith}
 use Rattle.std.specs.Prelude.{nat_eq}
 use Rattle.std.specs.Option.{option_map}
 use Rattle.std.proofs.lemmas.Bool.{eqb-true, eq-eqb}
-use Rattle.slab.specs.Slab.{Slab, get, slab_len}
-use Rattle.rt_tree.specs.Leaf.{LeafValue}
-use Rattle.rt_tree.specs.PathTree.{Key}
-use Rattle.rt_store.specs.Forest.{Forest, bare, node, one_if, first, size, times, Links}
+use Rattle.slab.specs.Slab.{Slab, get}
+use Rattle.rt_store.specs.Forest.{Forest, bare, node, one_if, first, times, Links}
 use Rattle.rt_store.specs.Changes.{is_link, joined, InRow, without}
 use Rattle.rt_store.specs.declared.slot.Slot.{Slot}
 use Rattle.rt_store.proofs.Felling.{one_of, links_kept}

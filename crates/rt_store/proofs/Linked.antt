@@ -1,5 +1,5 @@
 -- What is known of the nodes of a row.
-use Rattle.std.proofs.Common.{◌≡◌, ◌≢◌, ◌≤◌, ◌<◌, ◌⊎◌, inl, inr, ℕ, zero, suc, ◌+◌, List, [], ◌∷◌, length, Option, Some, None, Bool, true, false, cond, is_some, refl, sym, ap, subst, ◌∙◌, arith}
+use Rattle.std.proofs.Common.{◌≡◌, ◌≤◌, ◌<◌, ◌⊎◌, inl, inr, ℕ, zero, suc, ◌+◌, List, [], ◌∷◌, length, Option, Some, None, true, false, is_some, refl, sym, ap, subst, ◌∙◌, arith}
 use Rattle.std.specs.Prelude.{nat_eq}
 use Rattle.std.proofs.lemmas.Bool.{eqb-true}
 use Rattle.std.proofs.lemmas.List.{get_or_past}
@@ -7,7 +7,6 @@ use Rattle.std.specs.Option.{option_map_or, unwrap_or}
 use Rattle.slab.specs.Slab.{Slab, get, slab_len}
 use Rattle.rt_tree.specs.Leaf.{LeafValue}
 use Rattle.rt_tree.specs.PathTree.{Key}
-use Rattle.rt_store.specs.Rows.{Row}
 use Rattle.rt_store.specs.Stored.{nth}
 use Rattle.rt_store.specs.Forest.{Forest, bare, node, one_if, first, size, times, entries, AllAfter, IsFull, Links, reached, row_at, IsRow}
 use Rattle.rt_store.specs.Walks.{IsPlace}
@@ -46,7 +45,7 @@ pub record IsAt (s : Slab Slot) (n : ℕ) (slot : Slot) : Type 0 where
   pub after : AllAfter slot.key (row_at s slot.next)
   pub full : IsFull slot.leaf (row_at s slot.first_child)
 
-same_some : {A : Type 0} (x y : A) → Some x ≡ Some y → x ≡ y
+pub same_some : {A : Type 0} (x y : A) → Some x ≡ Some y → x ≡ y
 same_some x y e = ap (λ o. unwrap_or o x) e
 
 is_at : (s : Slab Slot) (n : ℕ) (slot : Slot) (parent previous : Option ℕ) (f : Forest) → row_at s (Some n) ≡ f → IsRow s (Some n) parent previous f → get s n ≡ Some slot → IsAt s n slot

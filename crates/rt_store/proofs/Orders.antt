@@ -1,21 +1,21 @@
 -- The rows of trees, and how they stand to the trees of linked nodes.
-use Rattle.std.proofs.Common.{◌≡◌, ◌≢◌, ℕ, List, [], ◌∷◌, Option, Some, None, Bool, true, false, cond, not, is_some, refl, sym, ap, subst, ◌∙◌, arith}
-use Rattle.std.specs.Prelude.{◌&&◌, T}
+use Rattle.std.proofs.Common.{◌≡◌, [], ◌∷◌, Option, Some, None, true, false, cond, is_some, refl, sym, ap, subst, ◌∙◌}
+use Rattle.std.specs.Prelude.{T}
 use Rattle.std.specs.declared.cmp.Ordering.{Ordering}
-use Rattle.std.specs.declared.cmp.Ordering.TheVariants.{Less, Equal, Greater}
+use Rattle.std.specs.declared.cmp.Ordering.TheVariants.{Less}
 use Rattle.std.specs.Ordering.{is_eq, is_lt, eq_by_cmp}
-use Rattle.std.specs.Option.{option_and_then, option_map_or}
+use Rattle.std.specs.Option.{option_and_then}
 use Rattle.std.specs.Cmp.{tied_itself, Equal-is, both_ways}
 use Rattle.std.specs.FinMap.{find}
-use Rattle.std.specs.FinMap.Entries.{is_sorted, below_all, is_sorted-put, find-put, same_entries, by_order}
+use Rattle.std.specs.FinMap.Entries.{is_sorted, below_all, is_sorted-put, find-put, same_entries}
 use Rattle.rt_tree.specs.Leaf.{LeafValue}
-use Rattle.rt_tree.specs.PathTree.{Key, Path, PathTree, key_eq, key_eq-is, key_eq-same, null, is_null, is_null-null, not_null_of_leaf, null_of_is_null, sub, of_leaf, leaf_at-of_leaf, object, child_of, AllFull, non_null, leaf_at, both}
+use Rattle.rt_tree.specs.PathTree.{Key, PathTree, key_eq, key_eq-is, key_eq-same, is_null, null_of_is_null, sub, of_leaf, object, child_of, AllFull, non_null, both}
 use Rattle.rt_tree.specs.Children.{children_of, child_of-children_of}
-use Rattle.rt_tree.proofs.Trees.{found-object, sub-root, some_non_null, children_of-none, is_object-of_leaf, is_null-of_leaf, non_null-null, sub-object}
+use Rattle.rt_tree.proofs.Trees.{found-object, sub-root, some_non_null, children_of-none, is_object-of_leaf, is_null-of_leaf}
 use Rattle.rt_order.specs.KeyOrder.{key_cmp}
 use Rattle.rt_order.proofs.Orders.{key_cmp_total, key_cmp-IsAntisymmetric}
-use Rattle.rt_store.specs.Rows.{Row, in_key_order, row, from_key, root_row, from_path}
-use Rattle.rt_store.specs.Stored.{some_row, first_tree}
+use Rattle.rt_store.specs.Rows.{Row, in_key_order, row, root_row}
+use Rattle.rt_store.specs.Stored.{first_tree}
 use Rattle.rt_store.specs.Forest.{Forest, bare, node, first, tree_with, entries, AllAfter, IsFull, Sound}
 
 -- the test of either order tells equal keys

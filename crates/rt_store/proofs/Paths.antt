@@ -1,5 +1,5 @@
 -- Where keys and paths lead.
-use Rattle.std.proofs.Common.{◌≡◌, ◌<◌, ℕ, List, [], ◌∷◌, Option, Some, None, Bool, true, false, cond, not, is_some, length, refl, sym, ap, subst, ◌∙◌, arith}
+use Rattle.std.proofs.Common.{◌≡◌, ◌<◌, ℕ, [], ◌∷◌, Option, Some, None, Bool, true, false, cond, not, is_some, length, refl, sym, ap, subst, ◌∙◌, arith}
 use Rattle.std.specs.declared.cmp.Ordering.{Ordering}
 use Rattle.std.specs.declared.cmp.Ordering.TheVariants.{Less, Equal, Greater}
 use Rattle.std.specs.Ordering.{is_eq}
@@ -7,23 +7,23 @@ use Rattle.std.specs.Option.{option_map, option_map_or}
 use Rattle.std.specs.FinMap.Entries.{by_order}
 use Rattle.slab.specs.Slab.{Slab, get}
 use Rattle.rt_tree.specs.Leaf.{LeafValue}
-use Rattle.rt_tree.specs.PathTree.{Key, Path, PathTree, key_eq, null, is_null, is_null-null, null_of_is_null, sub, child, child_of, object, of_leaf}
+use Rattle.rt_tree.specs.PathTree.{Key, Path, PathTree, key_eq, null, is_null, is_null-null, null_of_is_null, sub, child, child_of}
 use Rattle.rt_tree.specs.Parts.{sub-sub}
 use Rattle.rt_tree.specs.Allowed.{IsAllowed, MayStandAt, may_stand_below, allowed-sub}
 use Rattle.rt_tree.proofs.Trees.{sub-root, sub-object, sub-of_leaf, sub-null}
 use Rattle.rt_order.specs.KeyOrder.{key_cmp}
-use Rattle.rt_order.proofs.Orders.{key_cmp_total, key_cmp-IsAntisymmetric}
-use Rattle.rt_store.specs.Rows.{Row, row, from_key, from_path}
+use Rattle.rt_order.proofs.Orders.{key_cmp_total}
+use Rattle.rt_store.specs.Rows.{Row, from_key, from_path}
 use Rattle.rt_store.specs.Stored.{Stored, onward, some_row}
 use Rattle.rt_store.specs.StoreView.{stored, IsStore}
 use Rattle.rt_store.specs.declared.store.Store.TheInside.{Inside}
-use Rattle.rt_store.specs.Forest.{Forest, bare, node, first, size, entries, tree_with, AllAfter, IsFull, Sound, IsRow, row_at}
+use Rattle.rt_store.specs.Forest.{Forest, bare, node, first, size, entries, tree_with, AllAfter, Sound, IsRow, row_at}
 use Rattle.rt_store.specs.Walks.{IsPlace, spot_in, index_in, place_in}
 use Rattle.rt_store.specs.declared.row.Spot.{Spot}
 use Rattle.rt_store.specs.declared.row.Spot.TheVariants.{Here, Gap}
 use Rattle.rt_store.specs.declared.slot.Slot.{Slot}
-use Rattle.rt_store.proofs.Linked.{IsAt, at_place, not_nowhere, row_at-none, row_at_is, place_of, below_row, behind_row}
-use Rattle.rt_store.proofs.Orders.{tests_alike, row-tree_with, top_of_full, full_tree, row-of_leaf, root_row-full, root_row-null}
+use Rattle.rt_store.proofs.Linked.{same_some, IsAt, at_place, not_nowhere, row_at-none, row_at_is, place_of, below_row, behind_row}
+use Rattle.rt_store.proofs.Orders.{tests_alike, row-tree_with, top_of_full, full_tree, root_row-full, root_row-null}
 use Rattle.rt_store.proofs.Places.{row-null, onward_is}
 
 -- ---- one step along a row
@@ -93,9 +93,6 @@ pub record Found (s : Slab Slot) (k : Key) (f : Forest) (n : ℕ) : Type 0 where
   pub goes : (j : Key) (p : Path) → place_in k (j ∷ p) f ≡ place_in j p (row_at s slot.first_child)
   pub from : from_key k (entries f) ≡ entries (row_at s (Some n))
   pub child : child_of (entries f) k ≡ Some (tree_with slot.leaf (entries (row_at s slot.first_child)))
-
-same_some : {A : Type 0} (x y : A) → Some x ≡ Some y → x ≡ y
-same_some x y e = ap (λ o. option_map_or (λ z. z) o x) e
 
 pub find_found : (s : Slab Slot) (o parent previous : Option ℕ) (f : Forest) (k : Key) (n : ℕ) → IsRow s o parent previous f → index_in k f ≡ Some n → Found s k f n
 find_found s o parent previous bare k n h e = cc

@@ -1,19 +1,19 @@
 -- What a contract sees of the rows that a walk meets.
-use Rattle.std.proofs.Common.{◌≡◌, ℕ, List, [], ◌∷◌, Option, Some, None, Bool, not, true, false, cond, is_some, refl, sym, ap, subst, ◌∙◌}
+use Rattle.std.proofs.Common.{◌≡◌, ℕ, [], ◌∷◌, Option, Some, None, Bool, not, true, false, cond, is_some, refl, sym, ap, ◌∙◌}
 use Rattle.std.specs.Prelude.{◌&&◌}
 use Rattle.std.specs.Option.{option_map}
-use Rattle.slab.specs.Slab.{Slab, get}
+use Rattle.slab.specs.Slab.{get}
 use Rattle.rt_tree.specs.Leaf.{LeafValue}
-use Rattle.rt_tree.specs.PathTree.{PathTree, null, is_null, is_null-null, leaf_of, leaf_at-null, leaf_at-of_leaf, leaf_at-object-root, of_leaf, object}
-use Rattle.rt_store.specs.Rows.{Row, row, root_row}
-use Rattle.rt_store.specs.Stored.{Stored, nth, onward, some_row, behind, first_tree, first_key, tree_at, key_at}
+use Rattle.rt_tree.specs.PathTree.{null, is_null, is_null-null, leaf_of, leaf_at-null, leaf_at-of_leaf, leaf_at-object-root, object}
+use Rattle.rt_store.specs.Rows.{Row, row}
+use Rattle.rt_store.specs.Stored.{Stored, onward, some_row, behind, first_tree, first_key, tree_at, key_at}
 use Rattle.rt_store.specs.Forest.{Forest, bare, node, first, entries, tree_with, IsRow, row_at}
 use Rattle.rt_store.specs.Walks.{IsPlace}
 use Rattle.rt_store.specs.StoreView.{stored, IsStore}
 use Rattle.rt_store.specs.declared.store.Store.TheInside.{Inside}
 use Rattle.rt_store.specs.declared.slot.Slot.{Slot}
-use Rattle.rt_store.proofs.Linked.{nth_is, IsAt, at_place, place_in_store, not_nowhere, row_at-none, row_at-nowhere}
-use Rattle.rt_store.proofs.Orders.{row-tree_with, top_of_full, first_of_root, bare_of_first, full_tree}
+use Rattle.rt_store.proofs.Linked.{nth_is, IsAt, at_place, place_in_store, row_at-none, row_at-nowhere}
+use Rattle.rt_store.proofs.Orders.{row-tree_with, top_of_full, first_of_root, full_tree}
 use Rattle.rt_tree.proofs.Trees.{is_null-of_leaf}
 
 pub onward_is : (a : Inside) (n : ℕ) → onward (stored a) (Some n) ≡ entries (row_at a.nodes (Some n))

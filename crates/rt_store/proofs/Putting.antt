@@ -1,7 +1,6 @@
 -- A row with a tree put at a path below it.
-use Rattle.std.proofs.Common.{◌≡◌, ◌≢◌, ◌≤◌, ◌<◌, ◌⊎◌, inl, inr, ℕ, zero, suc, ◌+◌, List, [], ◌∷◌, length, Option, Some, None, Bool, true, false, cond, is_some, refl, sym, ap, subst, ◌∙◌, arith}
+use Rattle.std.proofs.Common.{◌≡◌, ◌≢◌, ◌≤◌, ◌<◌, ℕ, zero, suc, ◌+◌, [], ◌∷◌, length, Option, Some, None, Bool, true, false, cond, is_some, refl, sym, ap, subst, ◌∙◌, arith}
 use Rattle.std.specs.Prelude.{nat_eq}
-use Rattle.std.specs.declared.cmp.Ordering.{Ordering}
 use Rattle.std.specs.declared.cmp.Ordering.TheVariants.{Less, Equal, Greater}
 use Rattle.std.specs.Option.{option_map, option_map_or}
 use Rattle.std.specs.FinMap.Entries.{by_order}
@@ -10,13 +9,13 @@ use Rattle.slab.specs.Slab.{Slab, get, slab_len}
 use Rattle.rt_tree.specs.Leaf.{LeafValue}
 use Rattle.rt_tree.specs.Path.{IsPath}
 use Rattle.rt_tree.specs.Allowed.{IsAllowed, allowed-put, may_stand}
-use Rattle.rt_tree.specs.PathTree.{levels, Key, Path, PathTree, key_eq, key_eq-is, key_eq-same, key_eq-symm, null, is_null, put, object, of_leaf, child_of, child_or_null, non_null, PutsBelow}
-use Rattle.rt_tree.proofs.Trees.{put-root, put-object, put-of_leaf, is_null-put, some_non_null}
+use Rattle.rt_tree.specs.PathTree.{levels, Key, Path, PathTree, key_eq, key_eq-is, key_eq-symm, null, is_null, put, object, child_of, child_or_null, non_null, PutsBelow}
+use Rattle.rt_tree.proofs.Trees.{put-object, put-of_leaf, is_null-put, some_non_null}
 use Rattle.rt_order.specs.KeyOrder.{key_cmp}
 use Rattle.rt_order.proofs.Orders.{key_cmp-IsAntisymmetric}
-use Rattle.rt_store.specs.Forest.{Forest, bare, node, one_if, first, size, times, entries, tree_with, IsFull, Sound, Links, IsRow, row_at}
+use Rattle.rt_store.specs.Forest.{Forest, bare, node, first, size, times, entries, tree_with, IsFull, IsRow, row_at}
 use Rattle.rt_store.specs.Walks.{IsPlace, spot_in, index_in}
-use Rattle.rt_store.specs.Changes.{InRow, below_of, with_below, with_content, linked_in, Felled, Changed, Same, Grown, IsPut}
+use Rattle.rt_store.specs.Changes.{InRow, with_below, with_content, linked_in, Felled, Changed, Same, Grown, IsPut}
 use Rattle.rt_store.specs.Stored.{Stored, IsAsBefore}
 use Rattle.rt_store.specs.StoreView.{stored, IsStore}
 use Rattle.rt_store.specs.declared.store.Store.TheInside.{Inside}
@@ -24,14 +23,15 @@ use Rattle.rt_store.specs.declared.row.Spot.TheVariants.{Here, Gap}
 use Rattle.rt_store.specs.declared.slot.Slot.{Slot}
 use Rattle.rt_store.proofs.Linked.{row_at_is, row_at-none, place_of, locate, not_nowhere}
 use Rattle.rt_store.proofs.Orders.{top_of_full}
-use Rattle.rt_store.proofs.Paths.{here, index_spot, differs, equals, Found, find_found, find_lacks}
-use Rattle.rt_store.proofs.Felling.{one_of, links_kept, row_kept}
-use Rattle.rt_store.proofs.Joining.{in_row_times, slots_same}
-use Rattle.rt_store.proofs.Taking.{links_below, sound_below, size_without, times_without}
-use Rattle.rt_store.proofs.Replacing.{times_below_of, with_row, with_changed}
+use Rattle.rt_store.proofs.Paths.{here, index_spot, differs, Found, find_found, find_lacks}
+use Rattle.rt_store.proofs.Felling.{row_kept}
+use Rattle.rt_store.proofs.Joining.{slots_same}
+use Rattle.rt_store.proofs.Taking.{below_is, below_row, below_once}
+use Rattle.rt_store.proofs.Replacing.{with_row, with_changed}
 use Rattle.rt_store.proofs.Storing.{once_in, store_after, tree_after, store_same, as_before}
-use Rattle.rt_store.proofs.ClearRow.{found_in_row}
-use Rattle.rt_store.proofs.Planting.{IsOne, one_node, child_of-planted, planted_row, planted_changed}
+use Rattle.rt_store.proofs.ClearRow.{found_in_row, other_number}
+use Rattle.rt_store.proofs.Growing.{full_row, put_whole}
+use Rattle.rt_store.proofs.Planting.{one_node, child_of-planted, planted_row, planted_changed}
 
 pub is_put : (s u : Slab Slot) (o r parent : Option ℕ) (g : Forest) (k : Key) (p : Path) (t : PathTree) → IsRow u r parent None g → Changed s u (row_at s o) g
     → PutsBelow (entries (row_at s o)) (entries g) k p t → IsPut s u o r parent k p t
@@ -66,12 +66,6 @@ put_new s t u o r parent previous next n k p v row once full spot grown is each 
 pub put_there : (s : Slab Slot) (o parent : Option ℕ) (k : Key) (n : ℕ) → IsRow s o parent None (row_at s o) → spot_in k None (row_at s o) ≡ Here n → Found s k (row_at s o) n
 put_there s o parent k n row spot = find_found s o parent None (row_at s o) k n row (index_spot k None (row_at s o) ∙ ap here spot)
 
-not_number : (n m : ℕ) (f : Forest) → one_if (nat_eq n m) + times n f ≤ 1 → 0 < times n f → nat_eq n m ≡ false
-not_number n m f once there = elim (nat_eq n m) as (λ b. one_if b + times n f ≤ 1 → b ≡ false) [
-  | true ↦ λ g. absurd (omega (arith, g, there))
-  | false ↦ λ g. refl
-] once
-
 -- what stands at each key where the node of k became another
 child_of-with_below : (k : Key) (n : ℕ) (l : Option LeafValue) (b f : Forest) → index_in k f ≡ Some n → ((m : ℕ) → times m f ≤ 1)
     → (j : Key) → child_of (entries (with_below n l b f)) j ≡ cond (key_eq k j) (Some (tree_with l (entries b))) (child_of (entries f) j)
@@ -90,8 +84,7 @@ child_of-with_below k n l b (node m key leaf below behind) e once j =
           ∙ twice (key_eq k j) (Some (tree_with l (entries b))) (Some (tree_with leaf (entries below))) (child_of (entries behind) j)
           ∙ ap (λ c. cond (key_eq k j) (Some (tree_with l (entries b))) (cond c (Some (tree_with leaf (entries below))) (child_of (entries behind) j))) (sym flip)
       | Greater ↦ λ order g.
-          let there : 0 < times n behind = in_row_times n behind (found_in_row k n behind g) in
-          let number : nat_eq n m ≡ false = not_number n m behind (omega (arith, once n)) there in
+          let number : nat_eq n m ≡ false = other_number n m key leaf below behind (found_in_row k n behind g) (once n) in
           let off : key_eq k key ≡ false = differs k key Greater order refl in
           ap (λ c. child_of (entries (cond c (node m key l b behind) (node m key leaf below (with_below n l b behind)))) j) number
           ∙ ap (cond (key_eq j key) (Some (tree_with leaf (entries below)))) (child_of-with_below k n l b behind g (λ x. omega (arith, once x)) j)
@@ -106,12 +99,6 @@ child_of-with_below k n l b (node m key leaf below behind) e once j =
     past : (c d : Bool) (x y z : Option PathTree) → (c ≡ true → d ≡ false) → cond d x (cond c y z) ≡ cond c y (cond d x z)
     past true d x y z apart = ap (λ e. cond e x y) (apart refl)
     past false d x y z apart = refl
-
--- a row with something at a key is not bare
-full_row : (j : Key) (p : Path) (v : PathTree) (f g : Forest) → is_null v ≡ false → PutsBelow (entries f) (entries g) j p v → IsFull None g
-full_row j p v f bare some puts =
-    cc (puts j, ap (λ b. cond b (non_null (put (child_or_null (entries f) j) p v)) (child_of (entries f) j)) (key_eq-same j), some_non_null (put (child_or_null (entries f) j) p v) (is_null-put (child_or_null (entries f) j) p v some))
-full_row j p v f (node n key leaf below behind) some puts = tt
 
 -- the tree of a leaf, or of some children, where something was put below it
 pub put_tree : (leaf : Option LeafValue) (f g : Forest) (j : Key) (p : Path) (v : PathTree) → (is_some leaf ≡ true → f ≡ bare) → is_null v ≡ false → PutsBelow (entries f) (entries g) j p v
@@ -179,23 +166,11 @@ module _ (s : Slab Slot) (o parent : Option ℕ) (k : Key) (n : ℕ) (slot : Slo
   is : InRow n (row_at s o)
   is = found_in_row k n (row_at s o) at
 
-  row_below : IsRow s slot.first_child (Some n) None (below_of n (row_at s o))
-  row_below =
-      let links = links_below s parent None n slot (row_at s o) row.links is there in record {
-        links = links.0;
-        sound = sound_below n (row_at s o) row.sound;
-        starts = links.1;
-        fits = omega (arith, size_without n (row_at s o) is, row.fits);
-      }
-
-  pub below_is : row_at s slot.first_child ≡ below_of n (row_at s o)
-  below_is = row_at_is s slot.first_child (Some n) None (below_of n (row_at s o)) row_below
-
   pub put_place : IsRow s slot.first_child (Some n) None (row_at s slot.first_child)
-  put_place = subst (IsRow s slot.first_child (Some n) None) (sym below_is) row_below
+  put_place = below_row s o parent n slot row is there
 
   pub put_once : (m : ℕ) → times m (row_at s slot.first_child) ≤ 1
-  put_once m = omega (arith, ap (times m) below_is, times_below_of n (row_at s o) m, once m)
+  put_once = below_once s o parent n slot row is there once
 
   full_leaf : IsFull slot.leaf (row_at s slot.first_child)
   full_leaf = subst (λ (x : Slot). IsFull x.leaf (row_at s x.first_child)) (slots_same s n found.slot slot found.there there) found.at.full
@@ -212,7 +187,7 @@ module _ (s : Slab Slot) (o parent : Option ℕ) (k : Key) (n : ℕ) (slot : Slo
       → tree_with l (entries b) ≡ put (tree_with slot.leaf (entries (row_at s slot.first_child))) p v
       → get u n ≡ option_map (with_content l link) (get t n) → ((m : ℕ) → m ≢ n → get u m ≡ get t m) → slab_len u ≡ slab_len t → IsPut s u o o parent k p v
   replaced t u link l b p v full some below changed tree written others len =
-      let more = subst (λ d. Changed s t d b) below_is changed in
+      let more = subst (λ d. Changed s t d b) (below_is s o parent n slot row is there) changed in
       is_put s u o o parent (with_below n l b (row_at s o)) k p v
       (with_row s t u o parent link l (row_at s o) b n row once is full below more written others len)
       (with_changed s t u o parent link l (row_at s o) b n row once is full below more written others len)
@@ -224,19 +199,21 @@ module _ (s : Slab Slot) (o parent : Option ℕ) (k : Key) (n : ℕ) (slot : Slo
   -- by what stood below a path
   pub put_below : (t u : Slab Slot) (link : Option ℕ) (j : Key) (p : Path) (v : PathTree) → is_null v ≡ false → IsPut s t slot.first_child link (Some n) j p v
       → get u n ≡ option_map (with_content None link) (get t n) → ((m : ℕ) → m ≢ n → get u m ≡ get t m) → slab_len u ≡ slab_len t → IsPut s u o o parent k (j ∷ p) v
-  put_below t u link j p v some put written others len =
-      replaced t u link None (row_at t link) (j ∷ p) v (full_row j p v (row_at s slot.first_child) (row_at t link) some put.puts) some put.row put.changed
-      (sym (put_tree slot.leaf (row_at s slot.first_child) (row_at t link) j p v (top_of_full slot.leaf (row_at s slot.first_child) full_leaf) some put.puts)) written others len
+  put_below t u link j p v some is_in written others len =
+      let B = row_at s slot.first_child in
+      let tree : put (tree_with slot.leaf (entries B)) (j ∷ p) v ≡ object (entries (row_at t link)) =
+      put_tree slot.leaf B (row_at t link) j p v (top_of_full slot.leaf B full_leaf) some is_in.puts in
+      replaced t u link None (row_at t link) (j ∷ p) v (full_row (row_at t link) (ap is_null (sym tree) ∙ is_null-put (tree_with slot.leaf (entries B)) (j ∷ p) v some)) some is_in.row is_in.changed
+      (sym tree) written others len
 
   -- by a tree
   pub put_here : (t u w : Slab Slot) (link : Option ℕ) (l : Option LeafValue) (p : Path) (v : PathTree) → is_null v ≡ false → length p ≡ 0
       → Grown s t link (Some n) → Felled t u (row_at t slot.first_child) → IsFull l (row_at t link) → tree_with l (entries (row_at t link)) ≡ put null p v
       → get w n ≡ option_map (with_content l link) (get u n) → ((m : ℕ) → m ≢ n → get w m ≡ get u m) → slab_len w ≡ slab_len u → IsPut s w o o parent k p v
-  put_here t u w link l (j ∷ p) v some short grown felled full tree written others len = absurd (omega (arith, short))
-  put_here t u w link l [] v some short grown felled full tree written others len =
-      replaced u w link l (row_at t link) [] v full some
+  put_here t u w link l p v some short grown felled full tree written others len =
+      replaced u w link l (row_at t link) p v full some
       (swapped_row s t slot.first_child link (Some n) put_place put_once grown u felled) (swapped s t slot.first_child link (Some n) put_place put_once grown u felled)
-      (tree ∙ put-root null v ∙ sym (put-root (tree_with slot.leaf (entries (row_at s slot.first_child))) v)) written others len
+      (tree ∙ put_whole null p v short ∙ sym (put_whole (tree_with slot.leaf (entries (row_at s slot.first_child))) p v short)) written others len
 
 -- ---- the steps of `set`
 module _ (a : Inside) (s : Stored) (h : IsStore a) (view : stored a ≡ s) where
@@ -252,8 +229,7 @@ module _ (a : Inside) (s : Stored) (h : IsStore a) (view : stored a ≡ s) where
 
 module _ (a : Inside) (s : Stored) (h : IsStore a) (view : stored a ≡ s) (path : Path) (v : PathTree) (valid : IsPath path) (allowed : IsAllowed v) where
   at_root : (x : PathTree) (q : Path) → q ≡ path → length q ≡ 0 → put x path v ≡ v
-  at_root x [] keys short = ap (λ p. put x p v) (sym keys) ∙ put-root x v
-  at_root x (k ∷ q) keys short = absurd (omega (arith, short))
+  at_root x q keys short = ap (λ p. put x p v) (sym keys) ∙ put_whole x q v short
 
   -- the whole tree
   module _ (t u : Slab Slot) (r : Option ℕ) (l : Option LeafValue) (q : Path) (keys : q ≡ path) (short : length q ≡ 0)

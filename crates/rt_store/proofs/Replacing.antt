@@ -1,19 +1,18 @@
 -- A row in which the leaf of one of its siblings, or what stands below it, was replaced.
-use Rattle.std.proofs.Common.{◌≡◌, ◌≢◌, ◌≤◌, ◌<◌, ◌⊎◌, inl, inr, ℕ, zero, suc, ◌+◌, Option, Some, None, Bool, true, false, cond, is_some, refl, sym, ap, subst, ◌∙◌, arith}
+use Rattle.std.proofs.Common.{◌≡◌, ◌≢◌, ◌≤◌, ◌<◌, ℕ, zero, suc, ◌+◌, Option, Some, None, true, false, cond, refl, sym, ap, subst, ◌∙◌, arith}
 use Rattle.std.specs.Prelude.{nat_eq}
 use Rattle.std.specs.Option.{option_map}
 use Rattle.std.proofs.lemmas.Bool.{eqb-true, eq-eqb}
 use Rattle.slab.specs.Slab.{Slab, get, slab_len}
 use Rattle.rt_tree.specs.Leaf.{LeafValue}
 use Rattle.rt_tree.specs.PathTree.{Key}
-use Rattle.rt_store.specs.Forest.{Forest, bare, node, one_if, first, size, times, AllAfter, IsFull, Sound, Links, IsRow, row_at}
-use Rattle.rt_store.specs.Walks.{IsPlace}
+use Rattle.rt_store.specs.Forest.{Forest, bare, node, one_if, first, size, times, AllAfter, IsFull, Sound, Links, IsRow}
 use Rattle.rt_store.specs.Changes.{InRow, below_of, with_below, with_content, Changed}
 use Rattle.rt_store.specs.declared.slot.Slot.{Slot}
 use Rattle.rt_store.proofs.Linked.{locate, not_nowhere}
 use Rattle.rt_store.proofs.Felling.{one_of, links_kept}
-use Rattle.rt_store.proofs.Joining.{not_same, in_row_times}
-use Rattle.rt_store.proofs.Taking.{later_of, times_without}
+use Rattle.rt_store.proofs.Joining.{in_row_times}
+use Rattle.rt_store.proofs.Taking.{later_of, times_without, times_below_of}
 
 pub times_with_below : (k : ℕ) (l : Option LeafValue) (b f : Forest) → InRow k f → (m : ℕ) → times m (with_below k l b f) + times m (below_of k f) ≡ times m f + times m b
 times_with_below k l b bare is m = absurd is
@@ -49,14 +48,6 @@ sound_with_below k l b (node n key leaf below behind) h g full =
     elim (nat_eq k n) as (λ t. Sound (cond t (node n key l b behind) (node n key leaf below (with_below k l b behind)))) [
       | true ↦ (h.0, full, g, h.3)
       | false ↦ (after_with_below k l b key behind h.0, h.1, h.2, sound_with_below k l b behind h.3 g full)
-    ]
-
-pub times_below_of : (j : ℕ) (f : Forest) (m : ℕ) → times m (below_of j f) ≤ times m f
-times_below_of j bare m = omega arith
-times_below_of j (node x y l below behind) m =
-    elim (nat_eq j x) as (λ c. times m (cond c below (below_of j behind)) ≤ one_if (nat_eq m x) + (times m below + times m behind)) [
-      | true ↦ omega arith
-      | false ↦ omega (arith, times_below_of j behind m)
     ]
 
 -- s before, t after the call on the row below, u after the children were set

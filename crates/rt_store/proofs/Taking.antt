@@ -1,19 +1,17 @@
 -- A node that is taken out of its row with all below it.
-use Rattle.std.proofs.Common.{◌≡◌, ◌≢◌, ◌≤◌, ◌<◌, ◌⊎◌, inl, inr, ℕ, zero, suc, ◌+◌, Option, Some, None, Bool, true, false, cond, is_some, refl, sym, ap, subst, ◌∙◌, arith}
+use Rattle.std.proofs.Common.{◌≡◌, ◌≢◌, ◌≤◌, ◌<◌, ◌⊎◌, inl, inr, ℕ, zero, suc, ◌+◌, Option, Some, None, true, false, cond, refl, sym, ap, subst, ◌∙◌, arith}
 use Rattle.std.specs.Prelude.{nat_eq}
 use Rattle.std.specs.Option.{option_map}
-use Rattle.std.specs.declared.cmp.Ordering.TheVariants.{Less}
 use Rattle.std.proofs.lemmas.Bool.{eqb-true, eq-eqb}
 use Rattle.slab.specs.Slab.{Slab, get, slab_len, Updates}
-use Rattle.rt_tree.specs.Leaf.{LeafValue}
 use Rattle.rt_tree.specs.PathTree.{Key}
-use Rattle.rt_store.specs.Forest.{Forest, bare, node, one_if, first, size, times, AllAfter, IsFull, Sound, Links, IsRow, row_at}
+use Rattle.rt_store.specs.Forest.{Forest, bare, node, one_if, first, size, times, AllAfter, Sound, Links, IsRow, row_at}
 use Rattle.rt_store.specs.Walks.{IsPlace}
 use Rattle.rt_store.specs.Changes.{is_link, joined, InRow, without, below_of, Felled, Changed}
 use Rattle.rt_store.specs.declared.slot.Slot.{Slot}
 use Rattle.rt_store.proofs.Linked.{row_at_is, place_of, locate, not_nowhere}
-use Rattle.rt_store.proofs.Felling.{one_of, links_kept, row_kept}
-use Rattle.rt_store.proofs.Joining.{LiesIn, link_out, lies_first, lies_more, slots_same, not_same, in_row_times, untouched, links_without}
+use Rattle.rt_store.proofs.Felling.{one_of, links_kept}
+use Rattle.rt_store.proofs.Joining.{LiesIn, link_out, lies_first, lies_more, slots_same, in_row_times, untouched, links_without}
 
 pub later_of : (k n : ℕ) (f : Forest) → (k ≡ n) ⊎ InRow k f → nat_eq k n ≡ false → InRow k f
 later_of k n f is e = elim is [ inl same ↦ cc (e, eq-eqb k n same) | inr l ↦ l ]
@@ -68,6 +66,30 @@ links_below s parent previous k slot (node n key leaf below behind) h is there =
           )
       | false ↦ λ e. links_below s parent (Some n) k slot behind h.2 (later_of k n behind is e) there
     ] refl
+
+pub times_below_of : (j : ℕ) (f : Forest) (m : ℕ) → times m (below_of j f) ≤ times m f
+times_below_of j bare m = omega arith
+times_below_of j (node x y l below behind) m =
+    elim (nat_eq j x) as (λ c. times m (cond c below (below_of j behind)) ≤ one_if (nat_eq m x) + (times m below + times m behind)) [
+      | true ↦ omega arith
+      | false ↦ omega (arith, times_below_of j behind m)
+    ]
+
+-- the row below a sibling
+module _ (s : Slab Slot) (o parent : Option ℕ) (n : ℕ) (slot : Slot) (row : IsRow s o parent None (row_at s o)) (is : InRow n (row_at s o)) (there : get s n ≡ Some slot) where
+  in_below : IsRow s slot.first_child (Some n) None (below_of n (row_at s o))
+  in_below =
+      let links = links_below s parent None n slot (row_at s o) row.links is there in
+      record { links = links.0; sound = sound_below n (row_at s o) row.sound; starts = links.1; fits = omega (arith, size_without n (row_at s o) is, row.fits) }
+
+  pub below_is : row_at s slot.first_child ≡ below_of n (row_at s o)
+  below_is = row_at_is s slot.first_child (Some n) None (below_of n (row_at s o)) in_below
+
+  pub below_row : IsRow s slot.first_child (Some n) None (row_at s slot.first_child)
+  below_row = subst (IsRow s slot.first_child (Some n) None) (sym below_is) in_below
+
+  pub below_once : ((m : ℕ) → times m (row_at s o) ≤ 1) → (m : ℕ) → times m (row_at s slot.first_child) ≤ 1
+  below_once once m = omega (arith, ap (times m) below_is, times_below_of n (row_at s o) m, once m)
 
 -- the siblings beside the node stand in the row without it
 pub beside : (s : Slab Slot) (parent previous : Option ℕ) (f : Forest) (k : ℕ) (slot : Slot) → Links s parent previous f → InRow k f → get s k ≡ Some slot
@@ -153,18 +175,18 @@ module _ (s : Slab Slot) (o parent : Option ℕ) (f : Forest) (k : ℕ) (slot : 
       let b = links_below s parent None k slot f h.links is there in
       record { links = links_kept s t (Some k) None (below_of k f) b.0 kept; sound = sound_below k f h.sound; starts = b.1; fits = omega (arith, sizes, fit, len, taken_len) }
 
-  pub below_is : row_at t slot.first_child ≡ below_of k f
-  below_is = row_at_is t slot.first_child (Some k) None (below_of k f) row_below
+  pub out_below : row_at t slot.first_child ≡ below_of k f
+  out_below = row_at_is t slot.first_child (Some k) None (below_of k f) row_below
 
   pub out_place : IsPlace t slot.first_child
   out_place = place_of t slot.first_child (Some k) None (below_of k f) row_below
 
   pub out_once : (n : ℕ) → times n (row_at t slot.first_child) ≤ 1
-  out_once n = omega (arith, ap (times n) below_is, counts n, once n)
+  out_once n = omega (arith, ap (times n) out_below, counts n, once n)
 
   module _ (w : Slab Slot) (felled : Felled t w (row_at t slot.first_child)) where
     times_below : (n : ℕ) → times n (row_at t slot.first_child) ≡ times n (below_of k f)
-    times_below n = ap (times n) below_is
+    times_below n = ap (times n) out_below
 
     links_left : Links t parent None (without k f)
     links_left = links_without s t k slot there others parent None f h.links is once (λ n some. refl)
@@ -174,7 +196,7 @@ module _ (s : Slab Slot) (o parent : Option ℕ) (f : Forest) (k : ℕ) (slot : 
       links = links_kept t w parent None (without k f) links_left (λ n some. felled.kept n (omega (arith, some, times_below n, counts n, once n)));
       sound = sound_without k f h.sound;
       starts = starts;
-      fits = omega (arith, sizes, fit, len, taken_len, felled.len, ap size below_is);
+      fits = omega (arith, sizes, fit, len, taken_len, felled.len, ap size out_below);
     }
 
     gone_of : (n : ℕ) → 0 < times n f → times n (without k f) ≡ 0 → get w n ≡ None
@@ -195,5 +217,5 @@ module _ (s : Slab Slot) (o parent : Option ℕ) (f : Forest) (k : ℕ) (slot : 
       gone = gone_of;
       fresh = λ n some none. absurd (omega (arith, some, none, counts n));
       once = λ n. omega (arith, counts n, once n);
-      len = omega (arith, sizes, len, taken_len, felled.len, ap size below_is);
+      len = omega (arith, sizes, len, taken_len, felled.len, ap size out_below);
     }

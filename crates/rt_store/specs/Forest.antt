@@ -1,5 +1,5 @@
 -- The linked nodes of a row and below it, as they stand in a slab.
-use Rattle.std.specs.Prelude.{◌≡◌, ◌≤◌, ℕ, suc, ◌+◌, List, [], ◌∷◌, Option, Some, None, nat_eq, zero, Bool, true, false}
+use Rattle.std.specs.Prelude.{◌≡◌, ◌≤◌, ℕ, suc, ◌+◌, [], ◌∷◌, Option, Some, None, nat_eq, zero, Bool, true, false}
 use Rattle.std.specs.Option.{option_map_or}
 use Rattle.std.specs.declared.cmp.Ordering.TheVariants.{Less}
 use Rattle.slab.specs.Slab.{Slab, get, slab_len}

@@ -1,5 +1,5 @@
 -- Runs of changes: the tree after any list of them.
-use Rattle.std.specs.Prelude.{◌+◌, ◌<◌, nat_lt, if◌then◌else◌, List, length}
+use Rattle.std.specs.Prelude.{◌+◌, nat_lt, if◌then◌else◌, List, length}
 use Rattle.std.specs.List.{fold}
 use Rattle.rt_tree.specs.PathTree.{PathTree, null, put, levels}
 use Rattle.rt_store.specs.declared.run.Change.{Change}

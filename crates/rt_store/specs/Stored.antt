@@ -1,8 +1,7 @@
 -- What a contract sees of a store.
 use Rattle.std.specs.Prelude.{◌≡◌, ℕ, zero, suc, List, [], ◌∷◌, Option, Some, None, refl}
 use Rattle.std.specs.Coded.{Coded, code_by, coded×, coded_ℕ, coded_list}
-use Rattle.rt_tree.specs.Leaf.{LeafValue}
-use Rattle.rt_tree.specs.PathTree.{Key, PathTree, null, leaf_of, tree_code}
+use Rattle.rt_tree.specs.PathTree.{Key, PathTree, null, tree_code}
 use Rattle.rt_store.specs.Rows.{Row, root_row}
 
 -- the tree, and for each node below the root, by its number, what stands at it and its siblings behind it

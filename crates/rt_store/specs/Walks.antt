@@ -1,7 +1,5 @@
 -- Where keys and paths lead from a row.
-use Rattle.std.specs.Prelude.{List, [], ◌∷◌, ℕ, Option, Some, None}
-use Rattle.std.specs.declared.cmp.Ordering.{Ordering}
-use Rattle.std.specs.declared.cmp.Ordering.TheVariants.{Less, Equal, Greater}
+use Rattle.std.specs.Prelude.{[], ◌∷◌, ℕ, Option, Some, None}
 use Rattle.std.specs.FinMap.Entries.{by_order}
 use Rattle.slab.specs.Slab.{Slab}
 use Rattle.rt_tree.specs.PathTree.{Key, Path}

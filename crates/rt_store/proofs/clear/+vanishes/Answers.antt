@@ -1,4 +1,4 @@
-use Rattle.std.proofs.Common.{◌≡◌, ◌∷◌, Some, None, Bool, true, false, not, is_some, sym, ap, ◌∙◌, arith, length, rules}
+use Rattle.std.proofs.Common.{◌≡◌, Some, true, false, not, is_some, sym, ap, ◌∙◌, arith, length, rules}
 use Rattle.std.specs.Prelude.{◌&&◌}
 use Rattle.std.specs.Ordering.{is_eq}
 use Rattle.slab.specs.Slab.{get}

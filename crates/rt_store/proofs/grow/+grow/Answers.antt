@@ -9,7 +9,7 @@ use Rattle.rt_store.specs.Forest.{row_at, entries}
 use Rattle.rt_store.specs.Growing.{seen}
 use Rattle.rt_store.proofs.Linked.{row_at-none}
 use Rattle.rt_store.proofs.Falling.{onto, object-in_key_order}
-use Rattle.rt_store.proofs.Growing.{put_key, put_here, put_leaf, no_path, full-children_of, full_row, grown_none, still_place, still_once, undone, one_grown, one_entry, next_child, next_made}
+use Rattle.rt_store.proofs.Growing.{put_key, put_whole, put_leaf, no_path, full-children_of, full_row, grown_none, still_place, still_once, undone, one_grown, one_entry, next_child, next_made}
 use Rattle.rt_store.proofs.grow.+grow.Goals as goal
 
 pub content-grow-requires : goal.content-grow-requires
@@ -50,7 +50,7 @@ content-returns-in_ok-grow_row-in-Some-children-clause-is t c =
     let is : c.in-Some-children.children.now.entries ≡ children_of T = search rules in
     let object_is : is_object T ≡ true = search rules in
     ap object (c.in_ok-grow_row-in-Some-children.ensures.is ∙ ap in_key_order is) ∙ object-in_key_order T object_is
-    ∙ sym (put_here c.args.rest.now T c.in_default.ensures.cases)
+    ∙ sym (put_whole null c.args.rest.now T c.in_default.ensures.cases)
 
 pub grow-content-requires : goal.grow-content-requires
 grow-content-requires t c = (omega (arith, c.decreases), c.requires)

@@ -1,7 +1,6 @@
-use Rattle.std.proofs.Common.{◌≡◌, ◌+◌, Some, None, sym, ap, ◌∙◌, rules}
+use Rattle.std.proofs.Common.{◌≡◌, ◌+◌, Some, sym, ◌∙◌, rules}
 use Rattle.slab.specs.Slab.{get, slab_len}
-use Rattle.rt_store.specs.Forest.{row_at, first}
-use Rattle.rt_store.specs.Changes.{without}
+use Rattle.rt_store.specs.Forest.{row_at}
 use Rattle.rt_store.proofs.Taking.{not_there, out_place, out_once, out_row, out_changed, first_without}
 use Rattle.rt_store.proofs.links.take_out.Goals as goal
 

@@ -1,7 +1,5 @@
-use Rattle.std.proofs.Common.{◌≡◌, ◌∷◌, Some, None, length, sym, ap, refl, ◌∙◌, arith, rules}
+use Rattle.std.proofs.Common.{◌≡◌, Some, length, sym, ap, refl, ◌∙◌, arith, rules}
 use Rattle.slab.specs.Slab.{get}
-use Rattle.rt_store.specs.Forest.{row_at}
-use Rattle.rt_store.specs.Changes.{IsPut}
 use Rattle.rt_store.proofs.Putting.{put_new, put_there, put_place, put_once, old_place, old_once, put_here, put_below}
 use Rattle.rt_store.proofs.put.+put_row.Goals as goal
 

@@ -1,8 +1,5 @@
-use Rattle.std.proofs.Common.{◌≡◌, Some, None, true, false, sym, ap, ◌∙◌, length, ◌∷◌, rules}
+use Rattle.std.proofs.Common.{◌≡◌, Some, sym, ap, ◌∙◌, length, ◌∷◌, rules}
 use Rattle.std.specs.Option.{option_map}
-use Rattle.rt_tree.specs.PathTree.{is_null}
-use Rattle.rt_store.specs.Forest.{row_at}
-use Rattle.rt_store.specs.Walks.{place_in}
 use Rattle.rt_store.proofs.Paths.{at_null-row, at_null-there, at_root-row, at_root-there, at_path-row, at_path-there}
 use Rattle.rt_store.proofs.store.Store.at.Goals as goal
 

@@ -1,4 +1,4 @@
-use Rattle.std.proofs.Common.{ap, sym, subst, ◌∙◌, refl, arith, None, cond, is_some, count_by, slice_index_or}
+use Rattle.std.proofs.Common.{ap, sym, subst, ◌∙◌, refl, arith, None, is_some, count_by, slice_index_or}
 use Rattle.rt_tree.specs.PathTree.{object}
 use Rattle.rt_tree.specs.Allowed.{IsAllowed, allowed-null}
 use Rattle.rt_store.specs.Forest.{Links, Sound, one_if, first, size, times, entries}
