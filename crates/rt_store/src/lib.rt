@@ -17,6 +17,8 @@ mod slot;
 mod store;
 #[cfg(test)]
 mod tests;
+#[cfg(test)]
+mod walk_tests;
 
 pub use error::StoreError;
 pub use node::Node;
