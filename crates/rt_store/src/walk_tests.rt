@@ -133,10 +133,13 @@ fn scattered(state: &mut u32) -> u32 {
     *state / 65536
 }
 
-// A path of up to four keys.
+// A path of one to four keys; once in fifty times the root.
 fn some_path(alloc: Global, state: &mut u32) -> Result<String, AllocError> {
     let mut text = String::new(alloc);
-    for _ in 0..scattered(state) % 5 {
+    if scattered(state) % 50 == 0 {
+        return Ok(text);
+    }
+    for _ in 0..scattered(state) % 4 + 1 {
         text.push('/')?;
         text.push_str(KEYS[(scattered(state) % 6) as usize])?;
     }
@@ -228,5 +231,142 @@ fn first_difference(alloc: Global, tens: u32) -> Result<Option<u32>, Fail> {
 #[test]
 fn store_walk_beside_a_tree(rt: HostRuntime) -> Result<(), Fail> {
     assert_eq!(rt; first_difference(rt.alloc(), 60)?, None);
+    Ok(())
+}
+
+// ---- each allocation refused in turn
+
+// Takes so many allocations, so that a later one is refused.
+fn take(alloc: Global, count: usize) -> Result<(), AllocError> {
+    for _ in 0..count {
+        drop(Vec::<u8>::with_capacity(alloc, 1)?);
+    }
+    Ok(())
+}
+
+// Whether the store holds the tree, and a node is still the first of two siblings.
+fn is_as_before(
+    alloc: Global,
+    store: &Store,
+    tree: &Tree,
+    node: Option<Node>,
+) -> Result<bool, StoreError> {
+    let next = node.and_then(|node| store.next_sibling(node));
+    let keys = (key_text(store, node), key_text(store, next));
+    Ok(keys == (Some("9"), Some("10")) && store.get(alloc, &Path::root(alloc))? == *tree)
+}
+
+fn key_text(store: &Store, node: Option<Node>) -> Option<&str> {
+    let key = node.and_then(|node| store.key(node));
+    key.map(|key| key.text())
+}
+
+// Sets, and once more where memory was refused; whether it was. A refusal has to leave all as it was: else the answer is one that
+// no test wants.
+fn set_twice(
+    alloc: Global,
+    store: &mut Store,
+    before: &Tree,
+    at: &Path,
+    part: &Tree,
+) -> Result<bool, StoreError> {
+    let node = node_at(store, alloc, "/a/9")?;
+    if store.set(alloc, at, part) != Err(StoreError::NoMemory) {
+        return Ok(false);
+    }
+    if !is_as_before(alloc, store, before, node)? {
+        return Err(StoreError::TooDeep);
+    }
+    store.set(alloc, at, part)?;
+    Ok(true)
+}
+
+const HELD: &str = r#"{"a":{"10":true,"9":1},"b":2}"#;
+
+const PART: &str = r#"{"u":"two","y":{"z":"one"}}"#;
+
+// The part put below the leaf at /b and then over that at /a/10: whether memory was refused in a set, and whether all is there.
+fn put_twice(alloc: Global) -> Result<(bool, bool), StoreError> {
+    let mut store = Store::new(alloc);
+    let mut held = json(alloc, HELD)?;
+    store.set(alloc, &Path::root(alloc), &held)?;
+    let part = json(alloc, PART)?;
+    let mut is_refused = false;
+    for text in ["/b/c", "/a/10"] {
+        let at = path(alloc, text)?;
+        is_refused |= set_twice(alloc, &mut store, &held, &at, &part)?;
+        put(alloc, &mut held, &at, part.copy(alloc)?)?;
+    }
+    Ok((is_refused, store.get(alloc, &Path::root(alloc))? == held))
+}
+
+// The run behind so many allocations: whether one was refused, and whether all is as it should be.
+fn put_twice_after(alloc: Global, granted: usize) -> Result<(bool, bool), StoreError> {
+    take(alloc, granted)?;
+    match put_twice(alloc) {
+        Err(StoreError::NoMemory) => Ok((true, put_twice(alloc)?.1)),
+        answer => answer,
+    }
+}
+
+// With the Nth allocation of the run refused, each of these tests refuses another one of the sets: `after_B` their (N - B)th.
+// A run in which none was refused says so.
+#[test]
+fn refused_allocations_store_walk_after_0(rt: HostRuntime) -> Result<(), Fail> {
+    let (is_refused, all) = put_twice_after(rt.alloc(), 0)?;
+    assert!(rt; all);
+    if !is_refused {
+        println!(rt; "no allocation was refused")?;
+    }
+    Ok(())
+}
+
+#[test]
+fn refused_allocations_store_walk_after_16(rt: HostRuntime) -> Result<(), Fail> {
+    let (is_refused, all) = put_twice_after(rt.alloc(), 16)?;
+    assert!(rt; all);
+    if !is_refused {
+        println!(rt; "no allocation was refused")?;
+    }
+    Ok(())
+}
+
+#[test]
+fn refused_allocations_store_walk_after_32(rt: HostRuntime) -> Result<(), Fail> {
+    let (is_refused, all) = put_twice_after(rt.alloc(), 32)?;
+    assert!(rt; all);
+    if !is_refused {
+        println!(rt; "no allocation was refused")?;
+    }
+    Ok(())
+}
+
+#[test]
+fn refused_allocations_store_walk_after_48(rt: HostRuntime) -> Result<(), Fail> {
+    let (is_refused, all) = put_twice_after(rt.alloc(), 48)?;
+    assert!(rt; all);
+    if !is_refused {
+        println!(rt; "no allocation was refused")?;
+    }
+    Ok(())
+}
+
+#[test]
+fn refused_allocations_store_walk_after_64(rt: HostRuntime) -> Result<(), Fail> {
+    let (is_refused, all) = put_twice_after(rt.alloc(), 64)?;
+    assert!(rt; all);
+    if !is_refused {
+        println!(rt; "no allocation was refused")?;
+    }
+    Ok(())
+}
+
+#[test]
+fn refused_allocations_store_walk_after_80(rt: HostRuntime) -> Result<(), Fail> {
+    let (is_refused, all) = put_twice_after(rt.alloc(), 80)?;
+    assert!(rt; all);
+    if !is_refused {
+        println!(rt; "no allocation was refused")?;
+    }
     Ok(())
 }
