@@ -1,16 +1,14 @@
 -- What is left of a row where a path below it is cleared.
-use Rattle.std.proofs.Common.{◌≡◌, ◌≢◌, ℕ, List, [], ◌∷◌, Option, Some, None, Bool, true, false, cond, not, is_some, refl, sym, ap, subst, ◌∙◌, arith}
+use Rattle.std.proofs.Common.{◌≡◌, ℕ, [], ◌∷◌, Option, Some, None, true, false, cond, not, is_some, refl, sym, ap, subst, ◌∙◌}
 use Rattle.std.specs.Prelude.{◌&&◌}
-use Rattle.std.specs.declared.cmp.Ordering.{Ordering}
 use Rattle.std.specs.declared.cmp.Ordering.TheVariants.{Less, Equal, Greater}
-use Rattle.std.specs.Ordering.{is_eq}
 use Rattle.std.specs.Option.{option_map_or}
 use Rattle.std.specs.FinMap.Entries.{by_order}
 use Rattle.rt_tree.specs.Leaf.{LeafValue}
-use Rattle.rt_tree.specs.PathTree.{Key, Path, PathTree, key_eq, key_eq-is, key_eq-same, key_eq-symm, null, is_null, is_null-null, put, object, of_leaf, child_of, child_or_null, non_null, PutsBelow}
+use Rattle.rt_tree.specs.PathTree.{Key, Path, key_eq, key_eq-is, key_eq-symm, null, put, object, of_leaf, child_of, child_or_null, non_null}
 use Rattle.rt_tree.proofs.Trees.{put-root, put-object, put-null-null, put-of_leaf-null, non_null-null, some_non_null}
 use Rattle.rt_order.specs.KeyOrder.{key_cmp}
-use Rattle.rt_order.proofs.Orders.{key_cmp_total, key_cmp-IsAntisymmetric}
+use Rattle.rt_order.proofs.Orders.{key_cmp-IsAntisymmetric}
 use Rattle.rt_store.specs.Forest.{Forest, bare, node, entries, tree_with, AllAfter, IsFull, Sound}
 use Rattle.rt_store.specs.Changes.{is_bare, cleared}
 use Rattle.rt_store.proofs.Orders.{full_tree}
@@ -158,3 +156,9 @@ cleared_puts (j ∷ p) k (node n key leaf below behind) h =
       ] refl
       | Greater ↦ λ order. later k (j ∷ p) n key leaf below behind (cleared k (j ∷ p) behind) order (cleared_puts (j ∷ p) k behind h.3)
     ] refl
+
+-- the tree of what is left
+pub tree_cleared : (leaf : Option LeafValue) (k : Key) (p : Path) (f : Forest) → Sound f → put (tree_with leaf (entries f)) (k ∷ p) null ≡ tree_with leaf (entries (cleared k p f))
+unfolding Becomes
+tree_cleared (Some l) k p f sound = put-of_leaf-null l k p
+tree_cleared None k p f sound = put-object (entries f) (entries (cleared k p f)) k p null (cleared_puts p k f sound)

@@ -28,11 +28,11 @@ pub find-child_of : (es : Row) (k : Key) → find key_cmp k es ≡ child_of es k
 find-child_of [] k = refl
 find-child_of (e ∷ es) k = (λ i. cond (tests_alike k e.0 i) (Some e.1) (find-child_of es k i))
 
-sorted-in_key_order : (es : Row) → T (is_sorted key_cmp (in_key_order es))
+pub sorted-in_key_order : (es : Row) → T (is_sorted key_cmp (in_key_order es))
 sorted-in_key_order [] = tt
 sorted-in_key_order (e ∷ es) = is_sorted-put key_cmp key_cmp_total e.0 e.1 (in_key_order es) (sorted-in_key_order es)
 
-find-in_key_order : (es : Row) (k : Key) → find key_cmp k (in_key_order es) ≡ find key_cmp k es
+pub find-in_key_order : (es : Row) (k : Key) → find key_cmp k (in_key_order es) ≡ find key_cmp k es
 find-in_key_order [] k = refl
 find-in_key_order (e ∷ es) k = find-put key_cmp key_cmp_total k e.0 e.1 (in_key_order es) ∙ ap (cond (eq_by_cmp key_cmp k e.0) (Some e.1)) (find-in_key_order es k)
 

@@ -2,10 +2,10 @@
 use Rattle.std.specs.Prelude.{◌≡◌, ◌<◌, ◌≤◌, ◌⊎◌, ℕ, ◌+◌, Bool, false, cond, nat_eq, true, not, ◌&&◌, is_some, [], ◌∷◌, Option, Some, None}
 use Rattle.std.specs.FinMap.Entries.{by_order}
 use Rattle.rt_tree.specs.Leaf.{LeafValue}
-use Rattle.rt_tree.specs.PathTree.{Key, Path}
+use Rattle.rt_tree.specs.PathTree.{Key, Path, PathTree, PutsBelow}
 use Rattle.rt_order.specs.KeyOrder.{key_cmp}
 use Rattle.slab.specs.Slab.{Slab, get, slab_len}
-use Rattle.rt_store.specs.Forest.{Forest, bare, node, size, times, IsRow, row_at}
+use Rattle.rt_store.specs.Forest.{Forest, bare, node, size, times, entries, IsRow, row_at}
 use Rattle.rt_store.specs.declared.slot.Slot.{Slot}
 
 abbrev pub with_next : Option ℕ → Slot → Slot
@@ -96,3 +96,9 @@ pub record Changed (old new : Slab Slot) (f g : Forest) : Type 0 where
 pub record Grown (old new : Slab Slot) (o parent : Option ℕ) : Type 0 where
   pub row : IsRow new o parent None (row_at new o)
   pub changed : Changed old new bare (row_at new o)
+
+-- a row became one with a tree put at the path
+pub record IsPut (old new : Slab Slot) (o r parent : Option ℕ) (k : Key) (p : Path) (t : PathTree) : Type 0 where
+  pub row : IsRow new r parent None (row_at new r)
+  pub changed : Changed old new (row_at old o) (row_at new r)
+  pub puts : PutsBelow (entries (row_at old o)) (entries (row_at new r)) k p t

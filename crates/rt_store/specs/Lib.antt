@@ -2,6 +2,7 @@ pub mod Changes
 pub mod Errors
 pub mod Forest
 pub mod Growing
+pub mod Laws
 pub mod Rows
 pub mod Stored
 pub mod StoreView

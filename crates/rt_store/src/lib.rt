@@ -9,6 +9,7 @@ mod build;
 mod clear;
 mod error;
 mod grow;
+mod laws;
 mod links;
 mod node;
 mod put;
@@ -21,5 +22,6 @@ mod tests;
 mod walk_tests;
 
 pub use error::StoreError;
+pub use laws::walk_law;
 pub use node::Node;
 pub use store::Store;

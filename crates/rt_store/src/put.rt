@@ -1,8 +1,8 @@
 // What stands at a path is replaced by nodes that are made of a tree.
 ghost use Rattle.std.specs.Prelude.{◌≡◌, ◌≤◌, ℕ, false, None, IfOk, OnErr};
-ghost use Rattle.rt_tree.specs.PathTree.{is_null, PutsBelow};
-ghost use Rattle.rt_store.specs.Forest.{IsRow, row_at, entries, times};
-ghost use Rattle.rt_store.specs.Changes.{Changed, Same};
+ghost use Rattle.rt_tree.specs.PathTree.{is_null};
+ghost use Rattle.rt_store.specs.Forest.{IsRow, row_at, times};
+ghost use Rattle.rt_store.specs.Changes.{IsPut, Same};
 
 use crate::grow::{content, grow};
 use crate::links::{fell, link, set_content};
@@ -25,9 +25,7 @@ pub(crate) fn put_row(
     requires row { IsRow nodes.old first parent None (row_at nodes.old first) }
     requires once { (n : ℕ) → times n (row_at nodes.old first) ≤ 1 }
     requires full { is_null tree.now ≡ false }
-    ensures row { IfOk result (λ o. IsRow nodes.new o parent None (row_at nodes.new o)) }
-    ensures changed { IfOk result (λ o. Changed nodes.old nodes.new (row_at nodes.old first) (row_at nodes.new o)) }
-    ensures puts { IfOk result (λ o. PutsBelow (entries (row_at nodes.old first)) (entries (row_at nodes.new o)) key.now rest.now tree.now) }
+    ensures ok { IfOk result (λ r. IsPut nodes.old nodes.new first r parent key.now rest.now tree.now) }
     ensures err { OnErr result (Same nodes.old nodes.new) }
 {
     let index = match seek(nodes, first, key) {

@@ -19,6 +19,7 @@ use rt_tree::{Key, Leaf, Path, Tree};
 use slab::Slab;
 use std::alloc::{AllocError, Global};
 use std::marker::Model;
+use std::mem;
 
 /// A tree kept as linked nodes.
 ///
@@ -82,12 +83,13 @@ impl Store {
             None => {
                 let (leaf, first) = content(&mut self.nodes, alloc, None, keys, tree)?;
                 fell(&mut self.nodes, self.first);
+                drop(mem::replace(&mut self.leaf, leaf));
                 self.first = first;
-                self.leaf = leaf;
             }
             Some((key, rest)) => {
-                self.first = put_row(&mut self.nodes, alloc, None, self.first, key, rest, tree)?;
-                self.leaf = None;
+                let first = put_row(&mut self.nodes, alloc, None, self.first, key, rest, tree)?;
+                drop(self.leaf.take());
+                self.first = first;
             }
         }
         Ok(())
@@ -101,9 +103,9 @@ impl Store {
     {
         match path.keys().split_first() {
             None => {
+                self.leaf = None;
                 fell(&mut self.nodes, self.first);
                 self.first = None;
-                self.leaf = None;
             }
             Some((key, rest)) => {
                 self.first = clear_row(&mut self.nodes, self.first, key, rest);

@@ -1,0 +1,241 @@
+-- A row with a tree put at a path below it.
+use Rattle.std.proofs.Common.{◌≡◌, ◌≢◌, ◌≤◌, ◌<◌, ◌⊎◌, inl, inr, ℕ, zero, suc, ◌+◌, List, [], ◌∷◌, length, Option, Some, None, Bool, true, false, cond, is_some, refl, sym, ap, subst, ◌∙◌, arith}
+use Rattle.std.specs.Prelude.{nat_eq}
+use Rattle.std.specs.declared.cmp.Ordering.{Ordering}
+use Rattle.std.specs.declared.cmp.Ordering.TheVariants.{Less, Equal, Greater}
+use Rattle.std.specs.Option.{option_map, option_map_or}
+use Rattle.std.specs.FinMap.Entries.{by_order}
+use Rattle.std.proofs.lemmas.Bool.{eq-eqb}
+use Rattle.slab.specs.Slab.{Slab, get, slab_len}
+use Rattle.rt_tree.specs.Leaf.{LeafValue}
+use Rattle.rt_tree.specs.PathTree.{Key, Path, PathTree, key_eq, key_eq-is, key_eq-same, key_eq-symm, null, is_null, put, object, of_leaf, child_of, child_or_null, non_null, PutsBelow}
+use Rattle.rt_tree.proofs.Trees.{put-root, put-object, put-of_leaf, is_null-put, some_non_null}
+use Rattle.rt_order.specs.KeyOrder.{key_cmp}
+use Rattle.rt_order.proofs.Orders.{key_cmp-IsAntisymmetric}
+use Rattle.rt_store.specs.Forest.{Forest, bare, node, one_if, first, size, times, entries, tree_with, IsFull, Sound, Links, IsRow, row_at}
+use Rattle.rt_store.specs.Walks.{IsPlace, spot_in, index_in}
+use Rattle.rt_store.specs.Changes.{InRow, below_of, with_below, with_content, linked_in, Felled, Changed, Grown, IsPut}
+use Rattle.rt_store.specs.declared.row.Spot.TheVariants.{Here, Gap}
+use Rattle.rt_store.specs.declared.slot.Slot.{Slot}
+use Rattle.rt_store.proofs.Linked.{row_at_is, place_of, locate, not_nowhere}
+use Rattle.rt_store.proofs.Orders.{top_of_full}
+use Rattle.rt_store.proofs.Paths.{here, index_spot, differs, equals, Found, find_found, find_lacks}
+use Rattle.rt_store.proofs.Felling.{one_of, links_kept, row_kept}
+use Rattle.rt_store.proofs.Joining.{in_row_times, slots_same}
+use Rattle.rt_store.proofs.Taking.{links_below, sound_below, size_without, times_without}
+use Rattle.rt_store.proofs.Replacing.{times_below_of, with_row, with_changed}
+use Rattle.rt_store.proofs.Planting.{IsOne, one_node, child_of-planted, planted_row, planted_changed}
+
+pub is_put : (s u : Slab Slot) (o r parent : Option ℕ) (g : Forest) (k : Key) (p : Path) (t : PathTree) → IsRow u r parent None g → Changed s u (row_at s o) g
+    → PutsBelow (entries (row_at s o)) (entries g) k p t → IsPut s u o r parent k p t
+is_put s u o r parent g k p t row changed puts =
+    let same : g ≡ row_at u r = sym (row_at_is u r parent None g row) in record {
+      row = subst (IsRow u r parent None) same row;
+      changed = subst (Changed s u (row_at s o)) same changed;
+      puts = subst (λ x. PutsBelow (entries (row_at s o)) (entries x) k p t) same puts;
+    }
+
+-- ---- a node that is new
+pub put_new : (s t u : Slab Slot) (o r parent previous next : Option ℕ) (n : ℕ) (k : Key) (p : Path) (v : PathTree)
+    → IsRow s o parent None (row_at s o) → ((m : ℕ) → times m (row_at s o) ≤ 1) → is_null v ≡ false → spot_in k None (row_at s o) ≡ Gap previous next
+    → Grown s t (Some n) parent → entries (row_at t (Some n)) ≡ (k, put null p v) ∷ []
+    → ((m : ℕ) → get u m ≡ option_map (linked_in previous n next m) (get t m)) → slab_len u ≡ slab_len t
+    → (previous ≡ None → r ≡ Some n) → ((x : ℕ) → previous ≡ Some x → r ≡ o) → IsPut s u o r parent k p v
+put_new s t u o r parent previous next n k p v row once full spot grown is each len front later =
+    let f = row_at s o in
+    let one = one_node (row_at t (Some n)) n k (put null p v) grown.row.starts is in
+    let new = subst (IsRow t (Some n) parent None) one.is grown.row in
+    let more = subst (Changed s t bare) one.is grown.changed in
+    is_put s u o r parent _ k p v
+    (planted_row s t u o parent previous next f n k one.leaf one.below row once spot new more each len r front later)
+    (planted_changed s t u o parent previous next f n k one.leaf one.below row once spot new more each len)
+    (λ j. child_of-planted n k one.leaf one.below f None previous next row.sound spot j
+    ∙ ap (λ x. cond (key_eq k j) x (child_of (entries f) j))
+    (ap Some one.tree ∙ sym (some_non_null (put null p v) (is_null-put null p v full))
+    ∙ ap (λ x. non_null (put (option_map_or (λ y. y) x null) p v)) (sym (find_lacks f k row.sound (index_spot k None f ∙ ap here spot)).child)))
+
+-- ---- a node that is there
+pub found_in : (k : Key) (n : ℕ) (f : Forest) → index_in k f ≡ Some n → InRow n f
+found_in k n bare e = cc
+found_in k n (node m key leaf below behind) e =
+    elim (key_cmp k key) as (λ r. by_order r None (Some m) (index_in k behind) ≡ Some n → (n ≡ m) ⊎ InRow n behind) [
+      | Less ↦ λ g. cc
+      | Equal ↦ λ g. inl (sym (ap (λ x. option_map_or (λ y. y) x m) g))
+      | Greater ↦ λ g. inr (found_in k n behind g)
+    ] e
+
+-- which is there
+pub put_there : (s : Slab Slot) (o parent : Option ℕ) (k : Key) (n : ℕ) → IsRow s o parent None (row_at s o) → spot_in k None (row_at s o) ≡ Here n → Found s k (row_at s o) n
+put_there s o parent k n row spot = find_found s o parent None (row_at s o) k n row (index_spot k None (row_at s o) ∙ ap here spot)
+
+not_number : (n m : ℕ) (f : Forest) → one_if (nat_eq n m) + times n f ≤ 1 → 0 < times n f → nat_eq n m ≡ false
+not_number n m f once there = elim (nat_eq n m) as (λ b. one_if b + times n f ≤ 1 → b ≡ false) [
+  | true ↦ λ g. absurd (omega (arith, g, there))
+  | false ↦ λ g. refl
+] once
+
+-- what stands at each key where the node of k became another
+child_of-with_below : (k : Key) (n : ℕ) (l : Option LeafValue) (b f : Forest) → index_in k f ≡ Some n → ((m : ℕ) → times m f ≤ 1)
+    → (j : Key) → child_of (entries (with_below n l b f)) j ≡ cond (key_eq k j) (Some (tree_with l (entries b))) (child_of (entries f) j)
+child_of-with_below k n l b bare e once j = cc
+child_of-with_below k n l b (node m key leaf below behind) e once j =
+    elim (key_cmp k key) as (λ r. key_cmp k key ≡ r → by_order r None (Some m) (index_in k behind) ≡ Some n
+    → child_of (entries (cond (nat_eq n m) (node m key l b behind) (node m key leaf below (with_below n l b behind)))) j
+    ≡ cond (key_eq k j) (Some (tree_with l (entries b))) (cond (key_eq j key) (Some (tree_with leaf (entries below))) (child_of (entries behind) j))) [
+      | Less ↦ λ order g. cc
+      | Equal ↦ λ order g.
+          let same : k ≡ key = key_cmp-IsAntisymmetric k key order in
+          let number : nat_eq n m ≡ true = eq-eqb n m (sym (ap (λ x. option_map_or (λ y. y) x m) g)) in
+          let flip : key_eq j key ≡ key_eq k j = ap (key_eq j) (sym same) ∙ key_eq-symm j k in
+          ap (λ c. child_of (entries (cond c (node m key l b behind) (node m key leaf below (with_below n l b behind)))) j) number
+          ∙ ap (λ c. cond c (Some (tree_with l (entries b))) (child_of (entries behind) j)) flip
+          ∙ twice (key_eq k j) (Some (tree_with l (entries b))) (Some (tree_with leaf (entries below))) (child_of (entries behind) j)
+          ∙ ap (λ c. cond (key_eq k j) (Some (tree_with l (entries b))) (cond c (Some (tree_with leaf (entries below))) (child_of (entries behind) j))) (sym flip)
+      | Greater ↦ λ order g.
+          let there : 0 < times n behind = in_row_times n behind (found_in k n behind g) in
+          let number : nat_eq n m ≡ false = not_number n m behind (omega (arith, once n)) there in
+          let off : key_eq k key ≡ false = differs k key Greater order refl in
+          ap (λ c. child_of (entries (cond c (node m key l b behind) (node m key leaf below (with_below n l b behind)))) j) number
+          ∙ ap (cond (key_eq j key) (Some (tree_with leaf (entries below)))) (child_of-with_below k n l b behind g (λ x. omega (arith, once x)) j)
+          ∙ past (key_eq k j) (key_eq j key) (Some (tree_with leaf (entries below))) (Some (tree_with l (entries b))) (child_of (entries behind) j)
+          (λ e. ap (λ x. key_eq x key) (sym (key_eq-is k j e)) ∙ off)
+    ] refl e
+  where
+    twice : (c : Bool) (x y z : Option PathTree) → cond c x z ≡ cond c x (cond c y z)
+    twice true x y z = refl
+    twice false x y z = refl
+
+    past : (c d : Bool) (x y z : Option PathTree) → (c ≡ true → d ≡ false) → cond d x (cond c y z) ≡ cond c y (cond d x z)
+    past true d x y z apart = ap (λ e. cond e x y) (apart refl)
+    past false d x y z apart = refl
+
+-- a row with something at a key is not bare
+full_row : (j : Key) (p : Path) (v : PathTree) (f g : Forest) → is_null v ≡ false → PutsBelow (entries f) (entries g) j p v → IsFull None g
+full_row j p v f bare some puts =
+    cc (puts j, ap (λ b. cond b (non_null (put (child_or_null (entries f) j) p v)) (child_of (entries f) j)) (key_eq-same j), some_non_null (put (child_or_null (entries f) j) p v) (is_null-put (child_or_null (entries f) j) p v some))
+full_row j p v f (node n key leaf below behind) some puts = tt
+
+-- the tree of a leaf, or of some children, where something was put below it
+pub put_tree : (leaf : Option LeafValue) (f g : Forest) (j : Key) (p : Path) (v : PathTree) → (is_some leaf ≡ true → f ≡ bare) → is_null v ≡ false → PutsBelow (entries f) (entries g) j p v
+    → put (tree_with leaf (entries f)) (j ∷ p) v ≡ object (entries g)
+put_tree None f g j p v top some puts = put-object (entries f) (entries g) j p v puts
+put_tree (Some l) f g j p v top some puts =
+    put-of_leaf l j p v some ∙ put-object [] (entries g) j p v (subst (λ x. PutsBelow (entries x) (entries g) j p v) (top refl) puts)
+
+-- ---- a row that gives way to one that was grown
+module _ (s t : Slab Slot) (o r parent : Option ℕ) (row : IsRow s o parent None (row_at s o)) (once : (m : ℕ) → times m (row_at s o) ≤ 1) (grown : Grown s t r parent) where
+  fresh : (m : ℕ) → 0 < times m (row_at s o) → times m (row_at t r) ≡ 0
+  fresh m some = of (times m (row_at t r)) refl
+    where
+      of : (c : ℕ) → times m (row_at t r) ≡ c → c ≡ 0
+      of zero e = refl
+      of (suc c) e = absurd (not_nowhere s m (locate s o parent None (row_at s o) row m some) (grown.changed.fresh m (omega (arith, e)) refl))
+
+  old_row : IsRow t o parent None (row_at s o)
+  old_row = row_kept s t o parent None (row_at s o) row (λ m some. grown.changed.kept m refl (fresh m some)) (omega (arith, row.fits, grown.changed.len))
+
+  old_is : row_at t o ≡ row_at s o
+  old_is = row_at_is t o parent None (row_at s o) old_row
+
+  pub old_place : IsPlace t o
+  old_place = place_of t o parent None (row_at s o) old_row
+
+  pub old_once : (m : ℕ) → times m (row_at t o) ≤ 1
+  old_once m = omega (arith, ap (times m) old_is, once m)
+
+  module _ (u : Slab Slot) (felled : Felled t u (row_at t o)) where
+    gone : Felled t u (row_at s o)
+    gone = subst (Felled t u) old_is felled
+
+    sizes : slab_len u + size (row_at s o) ≡ slab_len s + size (row_at t r)
+    sizes = omega (arith, gone.len, grown.changed.len)
+
+    apart : (m : ℕ) → 0 < times m (row_at t r) → times m (row_at s o) ≡ 0
+    apart m there = none_of (times m (row_at s o)) (times m (row_at t r)) there (fresh m)
+      where
+        none_of : (c d : ℕ) → 0 < d → (0 < c → d ≡ 0) → c ≡ 0
+        none_of zero d there h = refl
+        none_of (suc c) d there h = absurd (omega (arith, there, h (omega arith)))
+
+    pub swapped_row : IsRow u r parent None (row_at t r)
+    swapped_row = row_kept t u r parent None (row_at t r) grown.row (λ m there. gone.kept m (apart m there)) (omega (arith, sizes, row.fits))
+
+    pub swapped : Changed s u (row_at s o) (row_at t r)
+    swapped = record {
+      kept = λ m none left. gone.kept m none ∙ grown.changed.kept m refl left;
+      gone = λ m there left. gone.gone m there;
+      fresh = λ m there none. grown.changed.fresh m there refl;
+      once = grown.changed.once;
+      len = sizes;
+    }
+
+-- what is known of the node of k
+module _ (s : Slab Slot) (o parent : Option ℕ) (k : Key) (n : ℕ) (slot : Slot)
+    (row : IsRow s o parent None (row_at s o)) (once : (m : ℕ) → times m (row_at s o) ≤ 1) (spot : spot_in k None (row_at s o) ≡ Here n) (there : get s n ≡ Some slot) where
+  at : index_in k (row_at s o) ≡ Some n
+  at = index_spot k None (row_at s o) ∙ ap here spot
+
+  found : Found s k (row_at s o) n
+  found = put_there s o parent k n row spot
+
+  is : InRow n (row_at s o)
+  is = found_in k n (row_at s o) at
+
+  row_below : IsRow s slot.first_child (Some n) None (below_of n (row_at s o))
+  row_below =
+      let links = links_below s parent None n slot (row_at s o) row.links is there in record {
+        links = links.0;
+        sound = sound_below n (row_at s o) row.sound;
+        starts = links.1;
+        fits = omega (arith, size_without n (row_at s o) is, row.fits);
+      }
+
+  pub below_is : row_at s slot.first_child ≡ below_of n (row_at s o)
+  below_is = row_at_is s slot.first_child (Some n) None (below_of n (row_at s o)) row_below
+
+  pub put_place : IsRow s slot.first_child (Some n) None (row_at s slot.first_child)
+  put_place = subst (IsRow s slot.first_child (Some n) None) (sym below_is) row_below
+
+  pub put_once : (m : ℕ) → times m (row_at s slot.first_child) ≤ 1
+  put_once m = omega (arith, ap (times m) below_is, times_below_of n (row_at s o) m, once m)
+
+  full_leaf : IsFull slot.leaf (row_at s slot.first_child)
+  full_leaf = subst (λ (x : Slot). IsFull x.leaf (row_at s x.first_child)) (slots_same s n found.slot slot found.there there) found.at.full
+
+  -- the tree at k
+  child_is : child_or_null (entries (row_at s o)) k ≡ tree_with slot.leaf (entries (row_at s slot.first_child))
+  child_is =
+      ap (λ x. option_map_or (λ y. y) x null) found.child
+      ∙ ap (λ (x : Slot). tree_with x.leaf (entries (row_at s x.first_child))) (slots_same s n found.slot slot found.there there)
+
+  -- the node's leaf and children were replaced by those of u, in the end as link leads
+  replaced : (t u : Slab Slot) (link : Option ℕ) (l : Option LeafValue) (b : Forest) (p : Path) (v : PathTree) → IsFull l b → is_null v ≡ false
+      → IsRow t link (Some n) None b → Changed s t (row_at s slot.first_child) b
+      → tree_with l (entries b) ≡ put (tree_with slot.leaf (entries (row_at s slot.first_child))) p v
+      → get u n ≡ option_map (with_content l link) (get t n) → ((m : ℕ) → m ≢ n → get u m ≡ get t m) → slab_len u ≡ slab_len t → IsPut s u o o parent k p v
+  replaced t u link l b p v full some below changed tree written others len =
+      let more = subst (λ d. Changed s t d b) below_is changed in
+      is_put s u o o parent (with_below n l b (row_at s o)) k p v
+      (with_row s t u o parent link l (row_at s o) b n row once is full below more written others len)
+      (with_changed s t u o parent link l (row_at s o) b n row once is full below more written others len)
+      (λ j. child_of-with_below k n l b (row_at s o) at once j
+      ∙ ap (λ x. cond (key_eq k j) x (child_of (entries (row_at s o)) j))
+      (ap Some (tree ∙ ap (λ x. put x p v) (sym child_is))
+      ∙ sym (some_non_null (put (child_or_null (entries (row_at s o)) k) p v) (is_null-put (child_or_null (entries (row_at s o)) k) p v some))))
+
+  -- by what stood below a path
+  pub put_below : (t u : Slab Slot) (link : Option ℕ) (j : Key) (p : Path) (v : PathTree) → is_null v ≡ false → IsPut s t slot.first_child link (Some n) j p v
+      → get u n ≡ option_map (with_content None link) (get t n) → ((m : ℕ) → m ≢ n → get u m ≡ get t m) → slab_len u ≡ slab_len t → IsPut s u o o parent k (j ∷ p) v
+  put_below t u link j p v some put written others len =
+      replaced t u link None (row_at t link) (j ∷ p) v (full_row j p v (row_at s slot.first_child) (row_at t link) some put.puts) some put.row put.changed
+      (sym (put_tree slot.leaf (row_at s slot.first_child) (row_at t link) j p v (top_of_full slot.leaf (row_at s slot.first_child) full_leaf) some put.puts)) written others len
+
+  -- by a tree
+  pub put_here : (t u w : Slab Slot) (link : Option ℕ) (l : Option LeafValue) (p : Path) (v : PathTree) → is_null v ≡ false → length p ≡ 0
+      → Grown s t link (Some n) → Felled t u (row_at t slot.first_child) → IsFull l (row_at t link) → tree_with l (entries (row_at t link)) ≡ put null p v
+      → get w n ≡ option_map (with_content l link) (get u n) → ((m : ℕ) → m ≢ n → get w m ≡ get u m) → slab_len w ≡ slab_len u → IsPut s w o o parent k p v
+  put_here t u w link l (j ∷ p) v some short grown felled full tree written others len = absurd (omega (arith, short))
+  put_here t u w link l [] v some short grown felled full tree written others len =
+      replaced u w link l (row_at t link) [] v full some
+      (swapped_row s t slot.first_child link (Some n) put_place put_once grown u felled) (swapped s t slot.first_child link (Some n) put_place put_once grown u felled)
+      (tree ∙ put-root null v ∙ sym (put-root (tree_with slot.leaf (entries (row_at s slot.first_child))) v)) written others len
