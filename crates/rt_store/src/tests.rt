@@ -257,9 +257,18 @@ fn next_of(store: &Store, node: Option<Node>) -> Option<Node> {
     node.and_then(|node| store.next_sibling(node))
 }
 
-fn is_number(store: &Store, node: Option<Node>, wanted: i64) -> bool {
+// The number that a node is.
+fn number_of(store: &Store, node: Option<Node>) -> Option<i64> {
     let leaf = node.and_then(|node| store.leaf(node));
-    matches!(leaf.map(|leaf| leaf.value()), Some(LeafRef::Number(number)) if number == wanted)
+    match leaf.map(|leaf| leaf.value()) {
+        Some(LeafRef::Number(number)) => Some(number),
+        _ => None,
+    }
+}
+
+fn number_at(store: &Store, alloc: Global, at: &str) -> Result<Option<i64>, StoreError> {
+    let node = node_at(store, alloc, at)?;
+    Ok(number_of(store, node))
 }
 
 #[test]
@@ -285,9 +294,9 @@ fn small_calls_keys(rt: HostRuntime) -> Result<(), Fail> {
 #[test]
 fn small_calls_leaves(rt: HostRuntime) -> Result<(), Fail> {
     let store = small_store(rt.alloc())?;
-    let object = node_at(&store, rt.alloc(), "/a")?;
-    assert!(rt; is_number(&store, first_below(&store, object), 1));
-    assert!(rt; object.and_then(|node| store.leaf(node)).is_none());
+    for (at, want) in [("/a/b", Some(1)), ("/a/c", None), ("/a", None)] {
+        assert_eq!(rt; number_at(&store, rt.alloc(), at), Ok(want));
+    }
     Ok(())
 }
 
@@ -308,8 +317,8 @@ fn small_calls_ends(rt: HostRuntime) -> Result<(), Fail> {
 fn small_calls_leaf_at_root(rt: HostRuntime) -> Result<(), Fail> {
     let store = store_of(rt.alloc(), "7")?;
     let root = node_at(&store, rt.alloc(), "/")?;
-    assert!(rt; is_number(&store, root, 7));
     assert!(rt; first_below(&store, root).is_none());
+    assert_eq!(rt; number_at(&store, rt.alloc(), "/"), Ok(Some(7)));
     Ok(())
 }
 
@@ -326,8 +335,8 @@ fn small_calls_gone(rt: HostRuntime) -> Result<(), Fail> {
     let (store, node) = gone(rt.alloc())?;
     assert!(rt; node.is_some() && store.is_null());
     assert_eq!(rt; key_of(&store, node), "no key");
-    assert!(rt; node.and_then(|node| store.leaf(node)).is_none());
     assert!(rt; first_below(&store, node).is_none() && next_of(&store, node).is_none());
+    assert!(rt; number_of(&store, node).is_none());
     Ok(())
 }
 
@@ -342,9 +351,9 @@ fn kept(alloc: Global) -> Result<(Store, Option<Node>, bool), StoreError> {
 #[test]
 fn small_calls_kept(rt: HostRuntime) -> Result<(), Fail> {
     let (store, node, is_refused) = kept(rt.alloc())?;
-    assert!(rt; is_refused && is_number(&store, node, 1));
     assert_eq!(rt; key_of(&store, node), "b");
     assert_eq!(rt; key_of(&store, next_of(&store, node)), "c");
+    assert!(rt; is_refused && number_of(&store, node) == Some(1));
     Ok(())
 }
 
