@@ -8,22 +8,29 @@ use Rattle.std.specs.FinMap.Entries.{by_order}
 use Rattle.std.proofs.lemmas.Bool.{eq-eqb}
 use Rattle.slab.specs.Slab.{Slab, get, slab_len}
 use Rattle.rt_tree.specs.Leaf.{LeafValue}
-use Rattle.rt_tree.specs.PathTree.{Key, Path, PathTree, key_eq, key_eq-is, key_eq-same, key_eq-symm, null, is_null, put, object, of_leaf, child_of, child_or_null, non_null, PutsBelow}
+use Rattle.rt_tree.specs.Path.{IsPath}
+use Rattle.rt_tree.specs.Allowed.{IsAllowed, allowed-put, may_stand}
+use Rattle.rt_tree.specs.PathTree.{levels, Key, Path, PathTree, key_eq, key_eq-is, key_eq-same, key_eq-symm, null, is_null, put, object, of_leaf, child_of, child_or_null, non_null, PutsBelow}
 use Rattle.rt_tree.proofs.Trees.{put-root, put-object, put-of_leaf, is_null-put, some_non_null}
 use Rattle.rt_order.specs.KeyOrder.{key_cmp}
 use Rattle.rt_order.proofs.Orders.{key_cmp-IsAntisymmetric}
 use Rattle.rt_store.specs.Forest.{Forest, bare, node, one_if, first, size, times, entries, tree_with, IsFull, Sound, Links, IsRow, row_at}
 use Rattle.rt_store.specs.Walks.{IsPlace, spot_in, index_in}
-use Rattle.rt_store.specs.Changes.{InRow, below_of, with_below, with_content, linked_in, Felled, Changed, Grown, IsPut}
+use Rattle.rt_store.specs.Changes.{InRow, below_of, with_below, with_content, linked_in, Felled, Changed, Same, Grown, IsPut}
+use Rattle.rt_store.specs.Stored.{Stored, IsAsBefore}
+use Rattle.rt_store.specs.StoreView.{stored, IsStore}
+use Rattle.rt_store.specs.declared.store.Store.TheInside.{Inside}
 use Rattle.rt_store.specs.declared.row.Spot.TheVariants.{Here, Gap}
 use Rattle.rt_store.specs.declared.slot.Slot.{Slot}
-use Rattle.rt_store.proofs.Linked.{row_at_is, place_of, locate, not_nowhere}
+use Rattle.rt_store.proofs.Linked.{row_at_is, row_at-none, place_of, locate, not_nowhere}
 use Rattle.rt_store.proofs.Orders.{top_of_full}
 use Rattle.rt_store.proofs.Paths.{here, index_spot, differs, equals, Found, find_found, find_lacks}
 use Rattle.rt_store.proofs.Felling.{one_of, links_kept, row_kept}
 use Rattle.rt_store.proofs.Joining.{in_row_times, slots_same}
 use Rattle.rt_store.proofs.Taking.{links_below, sound_below, size_without, times_without}
 use Rattle.rt_store.proofs.Replacing.{times_below_of, with_row, with_changed}
+use Rattle.rt_store.proofs.Storing.{once_in, store_after, tree_after, store_same, as_before}
+use Rattle.rt_store.proofs.ClearRow.{found_in_row}
 use Rattle.rt_store.proofs.Planting.{IsOne, one_node, child_of-planted, planted_row, planted_changed}
 
 pub is_put : (s u : Slab Slot) (o r parent : Option ℕ) (g : Forest) (k : Key) (p : Path) (t : PathTree) → IsRow u r parent None g → Changed s u (row_at s o) g
@@ -55,15 +62,6 @@ put_new s t u o r parent previous next n k p v row once full spot grown is each 
     ∙ ap (λ x. non_null (put (option_map_or (λ y. y) x null) p v)) (sym (find_lacks f k row.sound (index_spot k None f ∙ ap here spot)).child)))
 
 -- ---- a node that is there
-pub found_in : (k : Key) (n : ℕ) (f : Forest) → index_in k f ≡ Some n → InRow n f
-found_in k n bare e = cc
-found_in k n (node m key leaf below behind) e =
-    elim (key_cmp k key) as (λ r. by_order r None (Some m) (index_in k behind) ≡ Some n → (n ≡ m) ⊎ InRow n behind) [
-      | Less ↦ λ g. cc
-      | Equal ↦ λ g. inl (sym (ap (λ x. option_map_or (λ y. y) x m) g))
-      | Greater ↦ λ g. inr (found_in k n behind g)
-    ] e
-
 -- which is there
 pub put_there : (s : Slab Slot) (o parent : Option ℕ) (k : Key) (n : ℕ) → IsRow s o parent None (row_at s o) → spot_in k None (row_at s o) ≡ Here n → Found s k (row_at s o) n
 put_there s o parent k n row spot = find_found s o parent None (row_at s o) k n row (index_spot k None (row_at s o) ∙ ap here spot)
@@ -92,7 +90,7 @@ child_of-with_below k n l b (node m key leaf below behind) e once j =
           ∙ twice (key_eq k j) (Some (tree_with l (entries b))) (Some (tree_with leaf (entries below))) (child_of (entries behind) j)
           ∙ ap (λ c. cond (key_eq k j) (Some (tree_with l (entries b))) (cond c (Some (tree_with leaf (entries below))) (child_of (entries behind) j))) (sym flip)
       | Greater ↦ λ order g.
-          let there : 0 < times n behind = in_row_times n behind (found_in k n behind g) in
+          let there : 0 < times n behind = in_row_times n behind (found_in_row k n behind g) in
           let number : nat_eq n m ≡ false = not_number n m behind (omega (arith, once n)) there in
           let off : key_eq k key ≡ false = differs k key Greater order refl in
           ap (λ c. child_of (entries (cond c (node m key l b behind) (node m key leaf below (with_below n l b behind)))) j) number
@@ -179,7 +177,7 @@ module _ (s : Slab Slot) (o parent : Option ℕ) (k : Key) (n : ℕ) (slot : Slo
   found = put_there s o parent k n row spot
 
   is : InRow n (row_at s o)
-  is = found_in k n (row_at s o) at
+  is = found_in_row k n (row_at s o) at
 
   row_below : IsRow s slot.first_child (Some n) None (below_of n (row_at s o))
   row_below =
@@ -239,3 +237,52 @@ module _ (s : Slab Slot) (o parent : Option ℕ) (k : Key) (n : ℕ) (slot : Slo
       replaced u w link l (row_at t link) [] v full some
       (swapped_row s t slot.first_child link (Some n) put_place put_once grown u felled) (swapped s t slot.first_child link (Some n) put_place put_once grown u felled)
       (tree ∙ put-root null v ∙ sym (put-root (tree_with slot.leaf (entries (row_at s slot.first_child))) v)) written others len
+
+-- ---- the steps of `set`
+module _ (a : Inside) (s : Stored) (h : IsStore a) (view : stored a ≡ s) where
+  -- a refusal
+  module _ (u : Slab Slot) (same : Same a.nodes u) where
+    pub set_nothing : IsStore (record { nodes = u; first = a.first; leaf = a.leaf })
+    set_nothing = store_same a (record { nodes = u; first = a.first; leaf = a.leaf }) h same refl refl
+
+    pub set_as_before : IsAsBefore s (stored (record { nodes = u; first = a.first; leaf = a.leaf }))
+    set_as_before =
+        subst (λ x. IsAsBefore x (stored (record { nodes = u; first = a.first; leaf = a.leaf }))) view
+        (as_before a (record { nodes = u; first = a.first; leaf = a.leaf }) same refl refl)
+
+module _ (a : Inside) (s : Stored) (h : IsStore a) (view : stored a ≡ s) (path : Path) (v : PathTree) (valid : IsPath path) (allowed : IsAllowed v) where
+  at_root : (x : PathTree) (q : Path) → q ≡ path → length q ≡ 0 → put x path v ≡ v
+  at_root x [] keys short = ap (λ p. put x p v) (sym keys) ∙ put-root x v
+  at_root x (k ∷ q) keys short = absurd (omega (arith, short))
+
+  -- the whole tree
+  module _ (t u : Slab Slot) (r : Option ℕ) (l : Option LeafValue) (q : Path) (keys : q ≡ path) (short : length q ≡ 0)
+      (grown : Grown a.nodes t r None) (full : IsFull l (row_at t r)) (is : tree_with l (entries (row_at t r)) ≡ put null q v) (felled : Felled t u (row_at t a.first)) where
+    becomes : tree_with l (entries (row_at t r)) ≡ v
+    becomes = is ∙ ap (λ p. put null p v) keys ∙ at_root null q keys short
+
+    row_now : IsRow u r None None (row_at t r)
+    row_now = swapped_row a.nodes t a.first r None h.row (once_in a h) grown u felled
+
+    pub set_root : IsStore (record { nodes = u; first = r; leaf = l })
+    set_root =
+        store_after a (record { nodes = u; first = r; leaf = l }) h (row_at t r) row_now (swapped a.nodes t a.first r None h.row (once_in a h) grown u felled)
+        (λ e. sym grown.row.starts ∙ ap first (top_of_full l (row_at t r) full e)) (subst IsAllowed (sym becomes) allowed)
+
+    pub set_root_tree : (stored (record { nodes = u; first = r; leaf = l })).tree ≡ put s.tree path v
+    set_root_tree = tree_after (record { nodes = u; first = r; leaf = l }) (row_at t r) row_now ∙ becomes ∙ sym (at_root s.tree q keys short)
+
+  -- a part of it
+  module _ (u : Slab Slot) (r : Option ℕ) (k : Key) (p : Path) (goes : path ≡ k ∷ p) (some : is_null v ≡ false) (put_in : IsPut a.nodes u a.first r None k p v) where
+    tree_now : (stored (record { nodes = u; first = r; leaf = None })).tree ≡ put (stored a).tree path v
+    tree_now =
+        sym (put_tree a.leaf (row_at a.nodes a.first) (row_at u r) k p v (λ e. ap (row_at a.nodes) (h.top e) ∙ row_at-none a.nodes) some put_in.puts)
+        ∙ ap (λ q. put (stored a).tree q v) (sym goes)
+
+    pub set_part : length path + levels v ≤ 33 → IsStore (record { nodes = u; first = r; leaf = None })
+    set_part fits =
+        store_after a (record { nodes = u; first = r; leaf = None }) h (row_at u r) put_in.row put_in.changed (λ e. cc)
+        (subst IsAllowed (sym tree_now) (allowed-put (stored a).tree path v h.allowed (may_stand path v valid allowed fits)))
+
+    pub set_part_tree : (stored (record { nodes = u; first = r; leaf = None })).tree ≡ put s.tree path v
+    set_part_tree = tree_now ∙ ap (λ (x : Stored). put x.tree path v) view

@@ -4,6 +4,7 @@ pub mod Forest
 pub mod Growing
 pub mod Laws
 pub mod Rows
+pub mod Runs
 pub mod Stored
 pub mod StoreView
 pub mod Walks

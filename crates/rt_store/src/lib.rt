@@ -14,6 +14,7 @@ mod links;
 mod node;
 mod put;
 mod row;
+mod run;
 mod slot;
 mod store;
 #[cfg(test)]
@@ -24,4 +25,5 @@ mod walk_tests;
 pub use error::StoreError;
 pub use laws::walk_law;
 pub use node::Node;
+pub use run::Change;
 pub use store::Store;

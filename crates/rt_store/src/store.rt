@@ -19,7 +19,6 @@ use rt_tree::{Key, Leaf, Path, Tree};
 use slab::Slab;
 use std::alloc::{AllocError, Global};
 use std::marker::Model;
-use std::mem;
 
 /// A tree kept as linked nodes.
 ///
@@ -82,13 +81,13 @@ impl Store {
         match keys.split_first() {
             None => {
                 let (leaf, first) = content(&mut self.nodes, alloc, None, keys, tree)?;
+                self.leaf = leaf;
                 fell(&mut self.nodes, self.first);
-                drop(mem::replace(&mut self.leaf, leaf));
                 self.first = first;
             }
             Some((key, rest)) => {
                 let first = put_row(&mut self.nodes, alloc, None, self.first, key, rest, tree)?;
-                drop(self.leaf.take());
+                self.leaf = None;
                 self.first = first;
             }
         }
