@@ -357,6 +357,28 @@ fn small_calls_kept(rt: HostRuntime) -> Result<(), Fail> {
     Ok(())
 }
 
+fn set_change(alloc: Global, at: &str, text: &str) -> Result<Change, StoreError> {
+    Ok(Change::Set(path(alloc, at)?, json(alloc, text)?))
+}
+
+// A set that is too deep changes nothing, and what follows is done.
+fn after_run(alloc: Global) -> Result<String, Fail> {
+    let mut changes = Vec::new(alloc);
+    changes.push(set_change(alloc, "/a", "1")?)?;
+    changes.push(set_change(alloc, "/a", DEEPEST)?)?;
+    changes.push(Change::Clear(path(alloc, "/b")?))?;
+    changes.push(set_change(alloc, "/c/d", "2")?)?;
+    let mut store = store_of(alloc, r#"{"b":true}"#)?;
+    store.run(alloc, changes.as_slice())?;
+    shown(&store, alloc, "/")
+}
+
+#[test]
+fn small_calls_run(rt: HostRuntime) -> Result<(), Fail> {
+    assert_eq!(rt; after_run(rt.alloc())?.as_str(), r#"{"a":1,"c":{"d":2}}"#);
+    Ok(())
+}
+
 #[test]
 fn nothing_stands_in_a_new_store(rt: HostRuntime) -> Result<(), Fail> {
     let store = Store::new(rt.alloc());

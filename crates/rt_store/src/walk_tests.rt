@@ -147,7 +147,7 @@ fn some_path(alloc: Global, state: &mut u32) -> Result<String, AllocError> {
 }
 
 // Makes one change of both.
-fn change(
+fn change_both(
     alloc: Global,
     store: &mut Store,
     tree: &mut Tree,
@@ -219,7 +219,7 @@ fn first_difference(alloc: Global, tens: u32) -> Result<Option<u32>, Fail> {
     let mut state = 1;
     for ten in 0..tens {
         for _ in 0..10 {
-            change(alloc, &mut store, &mut tree, &mut state)?;
+            change_both(alloc, &mut store, &mut tree, &mut state)?;
         }
         if !is_same(alloc, &store, &tree)? {
             return Ok(Some(ten));
