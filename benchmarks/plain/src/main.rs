@@ -1,5 +1,6 @@
 //! The work of `rt_bench` in plain Rust: nested maps whose nodes are shared.
 mod json;
+mod linked;
 mod select;
 
 use std::collections::BTreeMap;
@@ -174,6 +175,12 @@ fn main() {
     let objects = select::children(true);
     for _ in 0..ROUNDS {
         select::queries(&numbers, &objects);
+    }
+    let paths = paths(PUTS);
+    for _ in 0..ROUNDS {
+        linked::stores(&paths);
+        linked::wide("wide_1000", 1000);
+        linked::wide("wide_10000", 10000);
     }
     let text = large_text();
     println!("bytes {}", text.len());

@@ -59,7 +59,7 @@ fn integer_of(key: &str) -> Option<i32> {
     if key.starts_with('+') { None } else { key.parse().ok() }
 }
 
-fn key_cmp(a: &str, b: &str) -> Ordering {
+pub fn key_cmp(a: &str, b: &str) -> Ordering {
     match (integer_of(a), integer_of(b)) {
         (Some(m), Some(n)) => m.cmp(&n).then_with(|| a.len().cmp(&b.len())).then_with(|| a.cmp(b)),
         (Some(_), None) => Ordering::Less,

@@ -19,6 +19,8 @@ mod slot;
 mod store;
 #[cfg(test)]
 mod tests;
+#[cfg(test)]
+mod walk_tests;
 
 pub use error::StoreError;
 pub use laws::walk_law;
