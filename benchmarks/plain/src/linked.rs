@@ -6,7 +6,7 @@ use std::collections::BTreeMap;
 use std::time::Instant;
 
 #[derive(Clone, PartialEq, Eq)]
-struct Key(String);
+pub struct Key(String);
 
 impl Ord for Key {
     fn cmp(&self, other: &Key) -> Ordering {
@@ -89,7 +89,7 @@ impl Node {
     }
 }
 
-type Paths = Vec<Vec<Key>>;
+pub type Paths = Vec<Vec<Key>>;
 
 fn set_all(tree: &mut Node, paths: &Paths) {
     for (value, path) in paths.iter().enumerate() {
@@ -121,16 +121,30 @@ pub fn stores(texts: &[Vec<String>]) {
     println!("store found {found} standing {standing} null {}", tree.is_null());
 }
 
-/// So many siblings, set one by one.
-pub fn wide(name: &str, count: u32) {
+fn below_row(key: String) -> Vec<Key> {
+    vec![Key("row".to_string()), Key(key)]
+}
+
+/// Children of one object in scattered order: of every other one the key is a whole number.
+pub fn wide_paths(count: u32) -> Paths {
     let mut paths = Paths::new();
     let mut state: u32 = 7;
     for _ in 0..count {
         state = state.wrapping_mul(1664525).wrapping_add(1013904223);
         let place = state / 256;
         let kind = if place % 2 == 0 { "" } else { "item" };
-        paths.push(vec![Key("row".to_string()), Key(format!("{kind}{place}"))]);
+        paths.push(below_row(format!("{kind}{place}")));
     }
+    paths
+}
+
+/// Children of one object in the order of keys, as push ids come.
+pub fn rising_paths(count: u32) -> Paths {
+    (0..count).map(|place| below_row(format!("item{}", place + 100_000))).collect()
+}
+
+/// Siblings that are set one by one.
+pub fn wide(name: &str, paths: Paths) {
     let mut tree = Node::Null;
     let start = Instant::now();
     set_all(&mut tree, &paths);

@@ -179,8 +179,9 @@ fn main() {
     let paths = paths(PUTS);
     for _ in 0..ROUNDS {
         linked::stores(&paths);
-        linked::wide("wide_1000", 1000);
-        linked::wide("wide_10000", 10000);
+        linked::wide("wide_1000", linked::wide_paths(1000));
+        linked::wide("wide_10000", linked::wide_paths(10000));
+        linked::wide("rising_10000", linked::rising_paths(10000));
     }
     let text = large_text();
     println!("bytes {}", text.len());
