@@ -155,11 +155,11 @@ module _ (s : Slab Slot) (o : Option ℕ) (k : Key) (n : ℕ) (h : IsHead s o) (
       pub clear_leaf-changed : (j : Key) (p : Path) → is_some slot.leaf ≡ true → Changed s s (row_at s o) (cleared k (j ∷ p) (row_at s o))
       clear_leaf-changed j p e = subst (Changed s s (row_at s o)) (sym (clear_leaf j p e)) (same_changed s (row_at s o) once)
 
-      pub clear_head : IsHead s slot.first_child
-      clear_head = (Some n, below_row s o h.0 n slot h.1 clear_there there)
+      pub clear_below : IsRow s slot.first_child (Some n) None (row_at s slot.first_child)
+      clear_below = below_row s o h.0 n slot h.1 clear_there there
 
       pub clear_place : IsPlace s slot.first_child
-      clear_place = (Some n, None, below_row s o h.0 n slot h.1 clear_there there)
+      clear_place = (Some n, None, clear_below)
 
       pub clear_once : (m : ℕ) → times m (row_at s slot.first_child) ≤ 1
       clear_once = below_once s o h.0 n slot h.1 clear_there there once
@@ -207,14 +207,14 @@ felled_changed s t f h = record {
   len = omega (arith, h.len);
 }
 
-pub emptied : (a : Inside) (t : Slab Slot) → IsStore a → Felled a.nodes t (row_at a.nodes a.first) → IsStore (record { nodes = t; first = None; leaf = None })
+pub emptied : (a : Inside) (t : Slab Slot) → IsStore a → Felled a.nodes t (row_at a.nodes a.first) → IsStore (record a { nodes = t; first = None; leaf = None })
 emptied a t h felled =
-    store_after a (record { nodes = t; first = None; leaf = None }) h bare (record { links = tt; sound = tt; starts = refl; fits = omega arith })
+    store_after a (record a { nodes = t; first = None; leaf = None }) h bare (record { links = tt; sound = tt; starts = refl; fits = omega arith })
     (felled_changed a.nodes t (row_at a.nodes a.first) felled) (λ e. refl) allowed-null
 
-pub emptied_tree : (t : Slab Slot) (u : PathTree) (path : Path) → length path ≡ 0 → (stored (record { nodes = t; first = None; leaf = None })).tree ≡ put u path null
-emptied_tree t u [] short = ap (λ f. object (entries f)) (row_at-none t) ∙ sym (put-root u null)
-emptied_tree t u (k ∷ p) short = absurd (omega (arith, short))
+pub emptied_tree : (a : Inside) (t : Slab Slot) (u : PathTree) (path : Path) → length path ≡ 0 → (stored (record a { nodes = t; first = None; leaf = None })).tree ≡ put u path null
+emptied_tree a t u [] short = ap (λ f. object (entries f)) (row_at-none t) ∙ sym (put-root u null)
+emptied_tree a t u (k ∷ p) short = absurd (omega (arith, short))
 
 module _ (a : Inside) (h : IsStore a) (k : Key) (p : Path) (t : Slab Slot) (o : Option ℕ)
     (row : (parent : Option ℕ) → IsRow a.nodes a.first parent None (row_at a.nodes a.first) → IsRow t o parent None (cleared k p (row_at a.nodes a.first)))
@@ -225,12 +225,12 @@ module _ (a : Inside) (h : IsStore a) (k : Key) (p : Path) (t : Slab Slot) (o : 
   top : is_some a.leaf ≡ true → o ≡ None
   top e = sym is_row.starts ∙ ap (λ f. first (cleared k p f)) (ap (row_at a.nodes) (h.top e) ∙ row_at-none a.nodes)
 
-  pub cleared_store : IsStore (record { nodes = t; first = o; leaf = a.leaf })
+  pub cleared_store : IsStore (record a { nodes = t; first = o })
   cleared_store =
-      store_after a (record { nodes = t; first = o; leaf = a.leaf }) h (cleared k p (row_at a.nodes a.first)) is_row changed top
+      store_after a (record a { nodes = t; first = o }) h (cleared k p (row_at a.nodes a.first)) is_row changed top
       (subst IsAllowed (tree_cleared a.leaf k p (row_at a.nodes a.first) h.row.sound) (allowed-put (stored a).tree (k ∷ p) null h.allowed (λ q l e. cc (leaf_at-null q))))
 
-  pub cleared_tree : (s : Stored) (path : Path) → stored a ≡ s → path ≡ k ∷ p → (stored (record { nodes = t; first = o; leaf = a.leaf })).tree ≡ put s.tree path null
+  pub cleared_tree : (s : Stored) (path : Path) → stored a ≡ s → path ≡ k ∷ p → (stored (record a { nodes = t; first = o })).tree ≡ put s.tree path null
   cleared_tree s path view goes =
-      tree_after (record { nodes = t; first = o; leaf = a.leaf }) (cleared k p (row_at a.nodes a.first)) is_row
+      tree_after (record a { nodes = t; first = o }) (cleared k p (row_at a.nodes a.first)) is_row
       ∙ sym (tree_cleared a.leaf k p (row_at a.nodes a.first) h.row.sound) ∙ (λ i. put (view i).tree (sym goes i) null)

@@ -6,6 +6,7 @@ pub mod Felling
 pub mod Growing
 pub mod Joining
 pub mod Linked
+pub mod Near
 pub mod Orders
 pub mod Paths
 pub mod Places

@@ -95,7 +95,7 @@ row_at-nowhere s n none = of (slab_len s)
     of (suc m) = ap (λ o. option_map_or (λ slot. node n slot.key slot.leaf (reached m s slot.first_child) (reached m s slot.next)) o bare) none
 
 -- a number that stands in a row leads to a place
-either : {A : Type 0} (t u : ℕ) → 0 < t + u → (0 < t → A) → (0 < u → A) → A
+pub either : {A : Type 0} (t u : ℕ) → 0 < t + u → (0 < t → A) → (0 < u → A) → A
 either zero u g f h = h (omega (arith, g))
 either (suc t) u g f h = f (omega arith)
 

@@ -255,11 +255,6 @@ goes_below s o k j p n slot h e there =
     let d = find_found s o h.0 h.1 (row_at s o) k n h.2 e in
     d.goes j p ∙ ap (λ (x : Slot). place_in j p (row_at s x.first_child)) (same_slot s n d.slot slot d.there there)
 
-pub place_below : (s : Slab Slot) (o : Option ℕ) (k : Key) (n : ℕ) (slot : Slot) → IsPlace s o → index_in k (row_at s o) ≡ Some n → get s n ≡ Some slot → IsPlace s slot.first_child
-place_below s o k n slot h e there =
-    let d = find_found s o h.0 h.1 (row_at s o) k n h.2 e in
-    subst (λ (x : Slot). IsPlace s x.first_child) (same_slot s n d.slot slot d.there there) d.at.below
-
 pub lost : (s : Slab Slot) (o : Option ℕ) (k : Key) (n : ℕ) → IsPlace s o → index_in k (row_at s o) ≡ Some n → get s n ≡ None → ⊥
 lost s o k n h e none =
     let d = find_found s o h.0 h.1 (row_at s o) k n h.2 e in

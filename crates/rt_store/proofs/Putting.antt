@@ -219,13 +219,11 @@ module _ (s : Slab Slot) (o parent : Option ℕ) (k : Key) (n : ℕ) (slot : Slo
 module _ (a : Inside) (s : Stored) (h : IsStore a) (view : stored a ≡ s) where
   -- a refusal
   module _ (u : Slab Slot) (same : Same a.nodes u) where
-    pub set_nothing : IsStore (record { nodes = u; first = a.first; leaf = a.leaf })
-    set_nothing = store_same a (record { nodes = u; first = a.first; leaf = a.leaf }) h same refl refl
+    pub set_nothing : IsStore (record a { nodes = u })
+    set_nothing = store_same a (record a { nodes = u }) h same refl refl
 
-    pub set_as_before : IsAsBefore s (stored (record { nodes = u; first = a.first; leaf = a.leaf }))
-    set_as_before =
-        subst (λ x. IsAsBefore x (stored (record { nodes = u; first = a.first; leaf = a.leaf }))) view
-        (as_before a (record { nodes = u; first = a.first; leaf = a.leaf }) same refl refl)
+    pub set_as_before : IsAsBefore s (stored (record a { nodes = u }))
+    set_as_before = subst (λ x. IsAsBefore x (stored (record a { nodes = u }))) view (as_before a (record a { nodes = u }) same refl refl)
 
 module _ (a : Inside) (s : Stored) (h : IsStore a) (view : stored a ≡ s) (path : Path) (v : PathTree) (valid : IsPath path) (allowed : IsAllowed v) where
   at_root : (x : PathTree) (q : Path) → q ≡ path → length q ≡ 0 → put x path v ≡ v
@@ -240,25 +238,25 @@ module _ (a : Inside) (s : Stored) (h : IsStore a) (view : stored a ≡ s) (path
     row_now : IsRow u r None None (row_at t r)
     row_now = swapped_row a.nodes t a.first r None h.row (once_in a h) grown u felled
 
-    pub set_root : IsStore (record { nodes = u; first = r; leaf = l })
+    pub set_root : IsStore (record a { nodes = u; first = r; leaf = l })
     set_root =
-        store_after a (record { nodes = u; first = r; leaf = l }) h (row_at t r) row_now (swapped a.nodes t a.first r None h.row (once_in a h) grown u felled)
+        store_after a (record a { nodes = u; first = r; leaf = l }) h (row_at t r) row_now (swapped a.nodes t a.first r None h.row (once_in a h) grown u felled)
         (λ e. sym grown.row.starts ∙ ap first (top_of_full l (row_at t r) full e)) (subst IsAllowed (sym becomes) allowed)
 
-    pub set_root_tree : (stored (record { nodes = u; first = r; leaf = l })).tree ≡ put s.tree path v
-    set_root_tree = tree_after (record { nodes = u; first = r; leaf = l }) (row_at t r) row_now ∙ becomes ∙ sym (at_root s.tree q keys short)
+    pub set_root_tree : (stored (record a { nodes = u; first = r; leaf = l })).tree ≡ put s.tree path v
+    set_root_tree = tree_after (record a { nodes = u; first = r; leaf = l }) (row_at t r) row_now ∙ becomes ∙ sym (at_root s.tree q keys short)
 
   -- a part of it
-  module _ (u : Slab Slot) (r : Option ℕ) (k : Key) (p : Path) (goes : path ≡ k ∷ p) (some : is_null v ≡ false) (put_in : IsPut a.nodes u a.first r None k p v) where
-    tree_now : (stored (record { nodes = u; first = r; leaf = None })).tree ≡ put (stored a).tree path v
+  module _ (u : Slab Slot) (r near : Option ℕ) (k : Key) (p : Path) (goes : path ≡ k ∷ p) (some : is_null v ≡ false) (put_in : IsPut a.nodes u a.first r None k p v) where
+    tree_now : (stored (record { nodes = u; first = r; leaf = None; near = near })).tree ≡ put (stored a).tree path v
     tree_now =
         sym (put_tree a.leaf (row_at a.nodes a.first) (row_at u r) k p v (λ e. ap (row_at a.nodes) (h.top e) ∙ row_at-none a.nodes) some put_in.puts)
         ∙ ap (λ q. put (stored a).tree q v) (sym goes)
 
-    pub set_part : length path + levels v ≤ 33 → IsStore (record { nodes = u; first = r; leaf = None })
+    pub set_part : length path + levels v ≤ 33 → IsStore (record { nodes = u; first = r; leaf = None; near = near })
     set_part fits =
-        store_after a (record { nodes = u; first = r; leaf = None }) h (row_at u r) put_in.row put_in.changed (λ e. cc)
+        store_after a (record { nodes = u; first = r; leaf = None; near = near }) h (row_at u r) put_in.row put_in.changed (λ e. cc)
         (subst IsAllowed (sym tree_now) (allowed-put (stored a).tree path v h.allowed (may_stand path v valid allowed fits)))
 
-    pub set_part_tree : (stored (record { nodes = u; first = r; leaf = None })).tree ≡ put s.tree path v
+    pub set_part_tree : (stored (record { nodes = u; first = r; leaf = None; near = near })).tree ≡ put s.tree path v
     set_part_tree = tree_now ∙ ap (λ (x : Stored). put x.tree path v) view

@@ -84,6 +84,11 @@ cleared k (j ∷ p) (node n key leaf below behind) =
 abbrev pub IsHead : Slab Slot → Option ℕ → Type 0
 IsHead s o = (parent : Option ℕ) × IsRow s o parent None (row_at s o)
 
+-- each node of the slab under this parent stands in this row, and each under a node of the slab in the row of its children
+pub record Told (s : Slab Slot) (o parent : Option ℕ) : Type 0 where
+  pub here : (n : ℕ) (slot : Slot) → get s n ≡ Some slot → slot.parent ≡ parent → InRow n (row_at s o)
+  pub below : (m n : ℕ) (above slot : Slot) → get s m ≡ Some above → get s n ≡ Some slot → slot.parent ≡ Some m → InRow n (row_at s above.first_child)
+
 -- where the nodes of f became those of g: all others are as they were, and what is new was vacant
 pub record Changed (old new : Slab Slot) (f g : Forest) : Type 0 where
   pub kept : (n : ℕ) → times n f ≡ 0 → times n g ≡ 0 → get new n ≡ get old n

@@ -2,7 +2,7 @@
 ghost use Rattle.std.specs.Prelude.{◌≡◌, ◌≤◌, ℕ, Option, None};
 ghost use Rattle.rt_store.specs.Forest.{IsRow, row_at, times};
 ghost use Rattle.rt_store.specs.Walks.{IsPlace};
-ghost use Rattle.rt_store.specs.Changes.{Changed, is_bare, cleared, IsHead};
+ghost use Rattle.rt_store.specs.Changes.{Changed, is_bare, cleared, Told};
 
 use crate::links::{set_content, take_out};
 use crate::row::find;
@@ -34,16 +34,19 @@ pub(crate) fn vanishes(nodes: &Slab<Slot>, first: Option<usize>, key: &Key, rest
 // Clears a path below a row. The answer is the first node that is left.
 pub(crate) fn clear_row(
     nodes: &mut Slab<Slot>,
+    parent: Option<usize>,
     first: Option<usize>,
+    near: Option<usize>,
     key: &Key,
     rest: &[Key],
 ) -> Option<usize>
-    requires head { IsHead nodes.old first }
+    requires row { IsRow nodes.old first parent None (row_at nodes.old first) }
+    requires told { Told nodes.old first parent }
     requires once { (n : ℕ) → times n (row_at nodes.old first) ≤ 1 }
     ensures row { (parent : Option ℕ) → IsRow nodes.old first parent None (row_at nodes.old first) → IsRow nodes.new result parent None (cleared key.now rest.now (row_at nodes.old first)) }
     ensures changed { Changed nodes.old nodes.new (row_at nodes.old first) (cleared key.now rest.now (row_at nodes.old first)) }
 {
-    let Some(index) = find(nodes, first, key) else {
+    let Some(index) = find(nodes, parent, first, near, key) else {
         return first;
     };
     let slot = nodes.get(index).unwrap();
@@ -53,7 +56,7 @@ pub(crate) fn clear_row(
             return first;
         }
         if !vanishes(nodes, below, child, rest) {
-            let below = clear_row(nodes, below, child, rest);
+            let below = clear_row(nodes, Some(index), below, near, child, rest);
             set_content(nodes, index, None, below);
             return first;
         }

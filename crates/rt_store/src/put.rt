@@ -2,7 +2,7 @@
 ghost use Rattle.std.specs.Prelude.{◌≡◌, ◌≤◌, ℕ, false, None, IfOk, OnErr};
 ghost use Rattle.rt_tree.specs.PathTree.{is_null};
 ghost use Rattle.rt_store.specs.Forest.{IsRow, row_at, times};
-ghost use Rattle.rt_store.specs.Changes.{IsPut, Same};
+ghost use Rattle.rt_store.specs.Changes.{IsPut, Same, Told};
 
 use crate::grow::{content, grow};
 use crate::links::{fell, link, set_content};
@@ -12,30 +12,33 @@ use rt_tree::{Key, Tree};
 use slab::Slab;
 use std::alloc::{AllocError, Global};
 
-// Puts a tree at a path below a row. The answer is the first node of the row then. All nodes are made before the first of the row changes.
+// Puts a tree at a path below a row. The answer is the first node of the row then, and the last node on the path that was found or
+// put into its row. All nodes are made before the first of the row changes.
 pub(crate) fn put_row(
     nodes: &mut Slab<Slot>,
     alloc: Global,
     parent: Option<usize>,
     first: Option<usize>,
+    near: Option<usize>,
     key: &Key,
     rest: &[Key],
     tree: &Tree,
-) -> Result<Option<usize>, AllocError>
+) -> Result<(Option<usize>, usize), AllocError>
     requires row { IsRow nodes.old first parent None (row_at nodes.old first) }
+    requires told { Told nodes.old first parent }
     requires once { (n : ℕ) → times n (row_at nodes.old first) ≤ 1 }
     requires full { is_null tree.now ≡ false }
-    ensures ok { IfOk result (λ r. IsPut nodes.old nodes.new first r parent key.now rest.now tree.now) }
+    ensures ok { IfOk result (λ r. IsPut nodes.old nodes.new first r.0 parent key.now rest.now tree.now) }
     ensures err { OnErr result (Same nodes.old nodes.new) }
 {
-    let index = match seek(nodes, first, key) {
+    let index = match seek(nodes, parent, first, near, key) {
         Spot::Here(index) => index,
         Spot::Gap(previous, next) => {
             let index = grow(nodes, alloc, parent, key, rest, tree)?;
             link(nodes, previous, index, next);
             return match previous {
-                None => Ok(Some(index)),
-                Some(_) => Ok(first),
+                None => Ok((Some(index), index)),
+                Some(_) => Ok((first, index)),
             };
         }
     };
@@ -45,11 +48,12 @@ pub(crate) fn put_row(
             let (leaf, grown) = content(nodes, alloc, Some(index), rest, tree)?;
             fell(nodes, below);
             set_content(nodes, index, leaf, grown);
+            Ok((first, index))
         }
         Some((key, rest)) => {
-            let below = put_row(nodes, alloc, Some(index), below, key, rest, tree)?;
+            let (below, near) = put_row(nodes, alloc, Some(index), below, near, key, rest, tree)?;
             set_content(nodes, index, None, below);
+            Ok((first, near))
         }
     }
-    Ok(first)
 }

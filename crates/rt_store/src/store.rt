@@ -22,7 +22,8 @@ use std::marker::Model;
 
 /// A tree kept as linked nodes.
 ///
-/// Siblings stand in the order of keys. To find a child is to pass those in front of it.
+/// Siblings stand in the order of keys. To find a child is to pass those in front of it; from where the last `set` ended on, where that
+/// is one of them.
 #[derive(Debug, Drop)]
 pub struct Store {
     nodes: Slab<Slot>,
@@ -30,6 +31,8 @@ pub struct Store {
     first: Option<usize>,
     // The leaf that the whole tree is, where it is one.
     leaf: Option<Leaf>,
+    // Where the last `set` ended: searches may begin there. Any number will do.
+    near: Option<usize>,
 }
 
 impl Model for Store {
@@ -55,6 +58,7 @@ impl Store {
             nodes: Slab::new(alloc),
             first: None,
             leaf: None,
+            near: None,
         }
     }
 
@@ -86,9 +90,19 @@ impl Store {
                 self.first = first;
             }
             Some((key, rest)) => {
-                let first = put_row(&mut self.nodes, alloc, None, self.first, key, rest, tree)?;
+                let (first, near) = put_row(
+                    &mut self.nodes,
+                    alloc,
+                    None,
+                    self.first,
+                    self.near,
+                    key,
+                    rest,
+                    tree,
+                )?;
                 self.leaf = None;
                 self.first = first;
+                self.near = Some(near);
             }
         }
         Ok(())
@@ -107,7 +121,7 @@ impl Store {
                 self.first = None;
             }
             Some((key, rest)) => {
-                self.first = clear_row(&mut self.nodes, self.first, key, rest);
+                self.first = clear_row(&mut self.nodes, None, self.first, self.near, key, rest);
             }
         }
     }
@@ -138,7 +152,7 @@ impl Store {
                 Some(Node::root())
             };
         };
-        Node::linked(descend(&self.nodes, self.first, key, rest))
+        Node::linked(descend(&self.nodes, None, self.first, self.near, key, rest))
     }
 
     /// The part of the tree at the path; null where nothing stands there. Costs by the path, the siblings in front on it, and the part.
@@ -148,7 +162,7 @@ impl Store {
         let Some((key, rest)) = path.keys().split_first() else {
             return build(alloc, &self.nodes, &self.leaf, self.first);
         };
-        let Some(index) = descend(&self.nodes, self.first, key, rest) else {
+        let Some(index) = descend(&self.nodes, None, self.first, self.near, key, rest) else {
             return Ok(Tree::null());
         };
         let slot = self.nodes.get(index).unwrap();

@@ -1,6 +1,7 @@
 use Rattle.std.proofs.Common.{◌≡◌, Some, length, sym, ap, refl, ◌∙◌, arith, rules}
 use Rattle.slab.specs.Slab.{get}
 use Rattle.rt_store.proofs.Putting.{put_new, put_there, put_place, put_once, old_place, old_once, put_here, put_below}
+use Rattle.rt_store.proofs.Near.{told_below}
 use Rattle.rt_store.proofs.put.+put_row.Goals as goal
 
 pub returns-in-None-clause-ok : goal.returns-in-None-clause-ok
@@ -46,7 +47,10 @@ put_row-requires t c =
       omega (arith, c.decreases, ap length c.in-Some-split_first.ensures.cases.0),
       (
         put_place c.args.nodes.now c.args.first c.args.parent c.args.key.now c.in-Here.index slot c.requires.row c.requires.once (sym c.seek.ensures ∙ c.in-Here.is) there,
-        (put_once c.args.nodes.now c.args.first c.args.parent c.args.key.now c.in-Here.index slot c.requires.row c.requires.once (sym c.seek.ensures ∙ c.in-Here.is) there, c.requires.full),
+        (
+          told_below c.args.nodes.now c.args.first c.args.parent c.in-Here.index slot c.requires.told there,
+          (put_once c.args.nodes.now c.args.first c.args.parent c.args.key.now c.in-Here.index slot c.requires.row c.requires.once (sym c.seek.ensures ∙ c.in-Here.is) there, c.requires.full),
+        ),
       ),
     )
 

@@ -1,6 +1,6 @@
 use Rattle.std.proofs.Common.{◌≡◌, Some, None, sym, ◌∙◌, rules}
 use Rattle.slab.specs.Slab.{get}
-use Rattle.rt_store.proofs.Paths.{spotted_by, fewer, next_place, missing}
+use Rattle.rt_store.proofs.Paths.{spotted_by, is_there, fewer, next_place, missing}
 use Rattle.rt_store.proofs.row.seek.Goals as goal
 
 pub returns-in-Less : goal.returns-in-Less
@@ -32,3 +32,8 @@ pub returns : goal.returns
 returns c =
     let none : c.loop-next.next ≡ None = search rules in
     sym (c.loop-next.invariant.1 ∙ missing c.args.nodes.now c.loop-next.next c.loop-next.previous c.args.key.now none)
+
+pub unwrap-slot-requires : goal.unwrap-slot-requires
+unwrap-slot-requires c =
+    let lost : get c.args.nodes.now c.in-Some.index ≡ None → ⊥ = is_there c.args.nodes.now c.loop-next.next c.in-Some.index c.in-Some.is c.loop-next.invariant.0 in
+    search (rules, lost)

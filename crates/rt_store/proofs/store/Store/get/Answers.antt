@@ -6,6 +6,7 @@ use Rattle.rt_tree.specs.Allowed.{IsAllowed}
 use Rattle.rt_store.specs.Stored.{Stored}
 use Rattle.rt_store.specs.Forest.{row_at, entries, tree_with}
 use Rattle.rt_store.proofs.Paths.{root_part, path_part, path_allowed, path_null, part_place, part_is}
+use Rattle.rt_store.proofs.Near.{told}
 use Rattle.rt_store.proofs.store.Store.get.Goals as goal
 
 pub returns-in_default : goal.returns-in_default
@@ -51,3 +52,6 @@ returns c =
     (λ _ p. p ∙ sym (part_is c.self.inside.nodes (sub c.args.self.now.tree c.args.path.now) c.in-Some-descend.index c.unwrap-slot.result.now there
     (path_part c.self.inside c.args.self.now c.args.path.now c.in-Some.key.now c.in-Some.rest.now c.in-Some-descend.index c.self.invariant c.self.view_is goes (sym c.descend.ensures ∙ c.in-Some-descend.is))))
     c.build-2.ensures
+
+pub descend-requires-clause-told : goal.descend-requires-clause-told
+descend-requires-clause-told c = told c.self.inside c.self.invariant

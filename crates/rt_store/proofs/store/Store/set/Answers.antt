@@ -1,7 +1,8 @@
-use Rattle.std.proofs.Common.{◌≡◌, ◌∷◌, ◌≤◌, ◌+◌, false, None, length, sym, ap, ◌∙◌, arith, rules}
+use Rattle.std.proofs.Common.{◌≡◌, ◌∷◌, ◌≤◌, ◌+◌, false, Some, None, length, sym, ap, ◌∙◌, arith, rules}
 use Rattle.rt_tree.specs.PathTree.{is_null, null_of_is_null, put, levels, levels-null}
 use Rattle.rt_store.proofs.Storing.{once_in}
 use Rattle.rt_store.proofs.Putting.{old_place, old_once, set_nothing, set_as_before, set_root, set_root_tree, set_part, set_part_tree}
+use Rattle.rt_store.proofs.Near.{told}
 use Rattle.rt_store.proofs.store.Store.set.Goals as goal
 
 pub returns-then-is_null-clause-ok : goal.returns-then-is_null-clause-ok
@@ -49,7 +50,7 @@ invariant_of-self-in-Some c =
     let fits : length c.args.path.now + levels c.args.tree.now ≤ 33 =
     omega (arith, c.keys-keys.ensures.valid.short, ap length c.keys-keys.ensures.keys, c.levels.ensures.levels, c.if-levels-keys.false) in
     set_part c.self.inside c.args.self.now c.self.invariant c.self.view_is c.args.path.now c.args.tree.now c.keys-keys.ensures.valid c.levels.ensures.allowed
-    c.put_row.new.nodes c.in_ok-first-in-Some.first c.in-Some.key.now c.in-Some.rest.now goes some c.in_ok-first-in-Some.ensures.ok fits
+    c.put_row.new.nodes c.in_ok-first-in-Some.first (Some c.in_ok-first-in-Some.near) c.in-Some.key.now c.in-Some.rest.now goes some c.in_ok-first-in-Some.ensures.ok fits
 
 pub returns-in_ok-leaf-in-None-clause-ok : goal.returns-in_ok-leaf-in-None-clause-ok
 returns-in_ok-leaf-in-None-clause-ok c =
@@ -62,4 +63,7 @@ returns-in_ok-first-in-Some-clause-ok c =
     let goes : c.args.path.now ≡ c.in-Some.key.now ∷ c.in-Some.rest.now = search rules in
     let some : is_null c.args.tree.now ≡ false = search rules in
     set_part_tree c.self.inside c.args.self.now c.self.invariant c.self.view_is c.args.path.now c.args.tree.now c.keys-keys.ensures.valid c.levels.ensures.allowed
-    c.put_row.new.nodes c.in_ok-first-in-Some.first c.in-Some.key.now c.in-Some.rest.now goes some c.in_ok-first-in-Some.ensures.ok
+    c.put_row.new.nodes c.in_ok-first-in-Some.first (Some c.in_ok-first-in-Some.near) c.in-Some.key.now c.in-Some.rest.now goes some c.in_ok-first-in-Some.ensures.ok
+
+pub put_row-requires-clause-told : goal.put_row-requires-clause-told
+put_row-requires-clause-told c = told c.self.inside c.self.invariant
