@@ -5,7 +5,7 @@ ghost use Rattle.rt_store.specs.Walks.{IsPlace};
 ghost use Rattle.rt_store.specs.Changes.{Changed, is_bare, cleared, Told};
 
 use crate::links::{set_content, take_out};
-use crate::row::find;
+use crate::row::{Siblings, find};
 use crate::slot::Slot;
 use rt_order::key_cmp;
 use rt_tree::Key;
@@ -34,32 +34,35 @@ pub(crate) fn vanishes(nodes: &Slab<Slot>, first: Option<usize>, key: &Key, rest
 // Clears a path below a row. The answer is the first node that is left.
 pub(crate) fn clear_row(
     nodes: &mut Slab<Slot>,
-    parent: Option<usize>,
-    first: Option<usize>,
-    near: Option<usize>,
+    row: Siblings,
     key: &Key,
     rest: &[Key],
 ) -> Option<usize>
-    requires row { IsRow nodes.old first parent None (row_at nodes.old first) }
-    requires told { Told nodes.old first parent }
-    requires once { (n : ℕ) → times n (row_at nodes.old first) ≤ 1 }
-    ensures row { (parent : Option ℕ) → IsRow nodes.old first parent None (row_at nodes.old first) → IsRow nodes.new result parent None (cleared key.now rest.now (row_at nodes.old first)) }
-    ensures changed { Changed nodes.old nodes.new (row_at nodes.old first) (cleared key.now rest.now (row_at nodes.old first)) }
+    requires row { IsRow nodes.old row.first row.parent None (row_at nodes.old row.first) }
+    requires told { Told nodes.old row.first row.parent }
+    requires once { (n : ℕ) → times n (row_at nodes.old row.first) ≤ 1 }
+    ensures row { (parent : Option ℕ) → IsRow nodes.old row.first parent None (row_at nodes.old row.first) → IsRow nodes.new result parent None (cleared key.now rest.now (row_at nodes.old row.first)) }
+    ensures changed { Changed nodes.old nodes.new (row_at nodes.old row.first) (cleared key.now rest.now (row_at nodes.old row.first)) }
 {
-    let Some(index) = find(nodes, parent, first, near, key) else {
-        return first;
+    let Some(index) = find(nodes, row, key) else {
+        return row.first;
     };
     let slot = nodes.get(index).unwrap();
     let below = slot.first_child;
     if let Some((child, rest)) = rest.split_first() {
         if slot.leaf.is_some() {
-            return first;
+            return row.first;
         }
         if !vanishes(nodes, below, child, rest) {
-            let below = clear_row(nodes, Some(index), below, near, child, rest);
+            let below = Siblings {
+                parent: Some(index),
+                first: below,
+                ..row
+            };
+            let below = clear_row(nodes, below, child, rest);
             set_content(nodes, index, None, below);
-            return first;
+            return row.first;
         }
     }
-    take_out(nodes, first, index)
+    take_out(nodes, row.first, index)
 }

@@ -6,7 +6,7 @@ ghost use Rattle.rt_store.specs.Changes.{IsPut, Same, Told};
 
 use crate::grow::{content, grow};
 use crate::links::{fell, link, set_content};
-use crate::row::{Spot, seek};
+use crate::row::{Siblings, Spot, seek};
 use crate::slot::Slot;
 use rt_tree::{Key, Tree};
 use slab::Slab;
@@ -17,28 +17,26 @@ use std::alloc::{AllocError, Global};
 pub(crate) fn put_row(
     nodes: &mut Slab<Slot>,
     alloc: Global,
-    parent: Option<usize>,
-    first: Option<usize>,
-    near: Option<usize>,
+    row: Siblings,
     key: &Key,
     rest: &[Key],
     tree: &Tree,
 ) -> Result<(Option<usize>, usize), AllocError>
-    requires row { IsRow nodes.old first parent None (row_at nodes.old first) }
-    requires told { Told nodes.old first parent }
-    requires once { (n : ℕ) → times n (row_at nodes.old first) ≤ 1 }
+    requires row { IsRow nodes.old row.first row.parent None (row_at nodes.old row.first) }
+    requires told { Told nodes.old row.first row.parent }
+    requires once { (n : ℕ) → times n (row_at nodes.old row.first) ≤ 1 }
     requires full { is_null tree.now ≡ false }
-    ensures ok { IfOk result (λ r. IsPut nodes.old nodes.new first r.0 parent key.now rest.now tree.now) }
+    ensures ok { IfOk result (λ r. IsPut nodes.old nodes.new row.first r.0 row.parent key.now rest.now tree.now) }
     ensures err { OnErr result (Same nodes.old nodes.new) }
 {
-    let index = match seek(nodes, parent, first, near, key) {
+    let index = match seek(nodes, row, key) {
         Spot::Here(index) => index,
         Spot::Gap(previous, next) => {
-            let index = grow(nodes, alloc, parent, key, rest, tree)?;
+            let index = grow(nodes, alloc, row.parent, key, rest, tree)?;
             link(nodes, previous, index, next);
             return match previous {
                 None => Ok((Some(index), index)),
-                Some(_) => Ok((first, index)),
+                Some(_) => Ok((row.first, index)),
             };
         }
     };
@@ -48,12 +46,17 @@ pub(crate) fn put_row(
             let (leaf, grown) = content(nodes, alloc, Some(index), rest, tree)?;
             fell(nodes, below);
             set_content(nodes, index, leaf, grown);
-            Ok((first, index))
+            Ok((row.first, index))
         }
         Some((key, rest)) => {
-            let (below, near) = put_row(nodes, alloc, Some(index), below, near, key, rest, tree)?;
+            let below = Siblings {
+                parent: Some(index),
+                first: below,
+                ..row
+            };
+            let (below, near) = put_row(nodes, alloc, below, key, rest, tree)?;
             set_content(nodes, index, None, below);
-            Ok((first, near))
+            Ok((row.first, near))
         }
     }
 }

@@ -11,6 +11,14 @@ use rt_tree::Key;
 use slab::Slab;
 use std::cmp::Ordering;
 
+// The children of a node, or of the root: the first of them, and where a search may begin, for which any number will do.
+#[derive(Clone, Copy)]
+pub(crate) struct Siblings {
+    pub(crate) parent: Option<usize>,
+    pub(crate) first: Option<usize>,
+    pub(crate) near: Option<usize>,
+}
+
 // Where a key stands in a row: at a node, or else between two siblings, of which either may be missing.
 #[derive(Clone, Copy)]
 pub(crate) enum Spot {
@@ -34,42 +42,30 @@ fn hint(nodes: &Slab<Slot>, parent: Option<usize>, near: Option<usize>) -> Optio
     None
 }
 
-// Where a search may begin: behind which sibling, and at which. Any number will do for `near`.
-fn start(
-    nodes: &Slab<Slot>,
-    parent: Option<usize>,
-    first: Option<usize>,
-    near: Option<usize>,
-    key: &Key,
-) -> (Option<usize>, Option<usize>)
-    requires row { IsRow nodes.now first parent None (row_at nodes.now first) }
-    requires told { Told nodes.now first parent }
+// Where a search begins: behind which sibling, and at which.
+fn start(nodes: &Slab<Slot>, row: Siblings, key: &Key) -> (Option<usize>, Option<usize>)
+    requires row { IsRow nodes.now row.first row.parent None (row_at nodes.now row.first) }
+    requires told { Told nodes.now row.first row.parent }
     ensures place { IsPlace nodes.now result.1 }
-    ensures spot { spot_in key.now None (row_at nodes.now first) ≡ spot_in key.now result.0 (row_at nodes.now result.1) }
+    ensures spot { spot_in key.now None (row_at nodes.now row.first) ≡ spot_in key.now result.0 (row_at nodes.now result.1) }
 {
-    let Some(index) = hint(nodes, parent, near) else {
-        return (None, first);
+    let Some(index) = hint(nodes, row.parent, row.near) else {
+        return (None, row.first);
     };
     let slot = nodes.get(index).unwrap();
     match key_cmp(key, &slot.key) {
-        Ordering::Less => (None, first),
+        Ordering::Less => (None, row.first),
         _ => (slot.previous, Some(index)),
     }
 }
 
 // The spot of a key in a row. Passes the siblings in front of it, or those from `near` on.
-pub(crate) fn seek(
-    nodes: &Slab<Slot>,
-    parent: Option<usize>,
-    first: Option<usize>,
-    near: Option<usize>,
-    key: &Key,
-) -> Spot
-    requires row { IsRow nodes.now first parent None (row_at nodes.now first) }
-    requires told { Told nodes.now first parent }
-    ensures { result ≡ spot_in key.now None (row_at nodes.now first) }
+pub(crate) fn seek(nodes: &Slab<Slot>, row: Siblings, key: &Key) -> Spot
+    requires row { IsRow nodes.now row.first row.parent None (row_at nodes.now row.first) }
+    requires told { Told nodes.now row.first row.parent }
+    ensures { result ≡ spot_in key.now None (row_at nodes.now row.first) }
 {
-    let (mut previous, mut next) = start(nodes, parent, first, near, key);
+    let (mut previous, mut next) = start(nodes, row, key);
     while let Some(index) = next {
         let slot = nodes.get(index).unwrap();
         match key_cmp(key, &slot.key) {
@@ -85,41 +81,35 @@ pub(crate) fn seek(
 }
 
 // The node of a key in a row.
-pub(crate) fn find(
-    nodes: &Slab<Slot>,
-    parent: Option<usize>,
-    first: Option<usize>,
-    near: Option<usize>,
-    key: &Key,
-) -> Option<usize>
-    requires row { IsRow nodes.now first parent None (row_at nodes.now first) }
-    requires told { Told nodes.now first parent }
-    ensures { result ≡ index_in key.now (row_at nodes.now first) }
+pub(crate) fn find(nodes: &Slab<Slot>, row: Siblings, key: &Key) -> Option<usize>
+    requires row { IsRow nodes.now row.first row.parent None (row_at nodes.now row.first) }
+    requires told { Told nodes.now row.first row.parent }
+    ensures { result ≡ index_in key.now (row_at nodes.now row.first) }
 {
-    match seek(nodes, parent, first, near, key) {
+    match seek(nodes, row, key) {
         Spot::Here(index) => Some(index),
         Spot::Gap(_, _) => None,
     }
 }
 
 // The node at a path below a row.
-pub(crate) fn descend(
-    nodes: &Slab<Slot>,
-    parent: Option<usize>,
-    first: Option<usize>,
-    near: Option<usize>,
-    key: &Key,
-    rest: &[Key],
-) -> Option<usize>
-    requires row { IsRow nodes.now first parent None (row_at nodes.now first) }
-    requires told { Told nodes.now first parent }
-    ensures { result ≡ place_in key.now rest.now (row_at nodes.now first) }
+pub(crate) fn descend(nodes: &Slab<Slot>, row: Siblings, key: &Key, rest: &[Key]) -> Option<usize>
+    requires row { IsRow nodes.now row.first row.parent None (row_at nodes.now row.first) }
+    requires told { Told nodes.now row.first row.parent }
+    ensures { result ≡ place_in key.now rest.now (row_at nodes.now row.first) }
 {
-    let index = find(nodes, parent, first, near, key)?;
+    let index = find(nodes, row, key)?;
     match rest.split_first() {
         None => Some(index),
         Some((key, rest)) => match nodes.get(index) {
-            Some(slot) => descend(nodes, Some(index), slot.first_child, near, key, rest),
+            Some(slot) => {
+                let below = Siblings {
+                    parent: Some(index),
+                    first: slot.first_child,
+                    ..row
+                };
+                descend(nodes, below, key, rest)
+            }
             None => None,
         },
     }

@@ -13,7 +13,7 @@ use crate::grow::content;
 use crate::links::fell;
 use crate::node::Node;
 use crate::put::put_row;
-use crate::row::descend;
+use crate::row::{Siblings, descend};
 use crate::slot::Slot;
 use rt_tree::{Key, Leaf, Path, Tree};
 use slab::Slab;
@@ -90,16 +90,12 @@ impl Store {
                 self.first = first;
             }
             Some((key, rest)) => {
-                let (first, near) = put_row(
-                    &mut self.nodes,
-                    alloc,
-                    None,
-                    self.first,
-                    self.near,
-                    key,
-                    rest,
-                    tree,
-                )?;
+                let row = Siblings {
+                    parent: None,
+                    first: self.first,
+                    near: self.near,
+                };
+                let (first, near) = put_row(&mut self.nodes, alloc, row, key, rest, tree)?;
                 self.leaf = None;
                 self.first = first;
                 self.near = Some(near);
@@ -121,7 +117,12 @@ impl Store {
                 self.first = None;
             }
             Some((key, rest)) => {
-                self.first = clear_row(&mut self.nodes, None, self.first, self.near, key, rest);
+                let row = Siblings {
+                    parent: None,
+                    first: self.first,
+                    near: self.near,
+                };
+                self.first = clear_row(&mut self.nodes, row, key, rest);
             }
         }
     }
@@ -152,7 +153,12 @@ impl Store {
                 Some(Node::root())
             };
         };
-        Node::linked(descend(&self.nodes, None, self.first, self.near, key, rest))
+        let row = Siblings {
+            parent: None,
+            first: self.first,
+            near: self.near,
+        };
+        Node::linked(descend(&self.nodes, row, key, rest))
     }
 
     /// The part of the tree at the path; null where nothing stands there. Costs by the path, the siblings in front on it, and the part.
@@ -162,7 +168,12 @@ impl Store {
         let Some((key, rest)) = path.keys().split_first() else {
             return build(alloc, &self.nodes, &self.leaf, self.first);
         };
-        let Some(index) = descend(&self.nodes, None, self.first, self.near, key, rest) else {
+        let row = Siblings {
+            parent: None,
+            first: self.first,
+            near: self.near,
+        };
+        let Some(index) = descend(&self.nodes, row, key, rest) else {
             return Ok(Tree::null());
         };
         let slot = self.nodes.get(index).unwrap();

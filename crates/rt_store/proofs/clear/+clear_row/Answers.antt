@@ -9,14 +9,14 @@ use Rattle.rt_store.proofs.clear.+clear_row.Goals as goal
 use Rattle.rt_store.proofs.clear.+clear_row.Goals.{in-Some-split_first+else-is_some+else-not-vanishes, in_default-split_first}
 
 pub returns-in_default-clause-row : goal.returns-in_default-clause-row
-returns-in_default-clause-row t c = clear_none c.args.nodes.now c.args.first c.args.key.now c.args.rest.now (sym c.find.ensures ∙ c.in_default.is)
+returns-in_default-clause-row t c = clear_none c.args.nodes.now c.args.row.first c.args.key.now c.args.rest.now (sym c.find.ensures ∙ c.in_default.is)
 
 pub returns-in_default-clause-changed : goal.returns-in_default-clause-changed
-returns-in_default-clause-changed t c = clear_none-changed c.args.nodes.now c.args.first c.args.key.now c.args.rest.now (sym c.find.ensures ∙ c.in_default.is) c.requires.once
+returns-in_default-clause-changed t c = clear_none-changed c.args.nodes.now c.args.row.first c.args.key.now c.args.rest.now (sym c.find.ensures ∙ c.in_default.is) c.requires.once
 
 pub unwrap-slot-requires : goal.unwrap-slot-requires
 unwrap-slot-requires t c =
-    let found = find_found c.args.nodes.now c.args.first c.args.parent None (row_at c.args.nodes.now c.args.first) c.args.key.now c.in-Some.index c.requires.row (sym c.find.ensures ∙ c.in-Some.is) in
+    let found = find_found c.args.nodes.now c.args.row.first c.args.row.parent None (row_at c.args.nodes.now c.args.row.first) c.args.key.now c.in-Some.index c.requires.row (sym c.find.ensures ∙ c.in-Some.is) in
     let there : get c.args.nodes.now c.in-Some.index ≡ Some found.slot = found.there in
     search (rules, there)
 
@@ -25,21 +25,21 @@ returns-then-is_some-clause-row t c parent h =
     let slot = c.unwrap-slot.result.now in
     let there : get c.args.nodes.now c.in-Some.index ≡ Some slot = search rules in
     let leaf : is_some slot.leaf ≡ true = search rules in
-    subst (λ p. IsRow c.args.nodes.now c.args.first parent None (cleared c.args.key.now p (row_at c.args.nodes.now c.args.first))) (sym c.in-Some-split_first.ensures.cases.0)
-    (clear_leaf-row c.args.nodes.now c.args.first c.args.key.now c.in-Some.index (c.args.parent, c.requires.row) (sym c.find.ensures ∙ c.in-Some.is) c.requires.once slot there c.in-Some-split_first.child.now c.in-Some-split_first.rest.now leaf parent h)
+    subst (λ p. IsRow c.args.nodes.now c.args.row.first parent None (cleared c.args.key.now p (row_at c.args.nodes.now c.args.row.first))) (sym c.in-Some-split_first.ensures.cases.0)
+    (clear_leaf-row c.args.nodes.now c.args.row.first c.args.key.now c.in-Some.index (c.args.row.parent, c.requires.row) (sym c.find.ensures ∙ c.in-Some.is) c.requires.once slot there c.in-Some-split_first.child.now c.in-Some-split_first.rest.now leaf parent h)
 
 pub returns-then-is_some-clause-changed : goal.returns-then-is_some-clause-changed
 returns-then-is_some-clause-changed t c =
     let slot = c.unwrap-slot.result.now in
     let there : get c.args.nodes.now c.in-Some.index ≡ Some slot = search rules in
     let leaf : is_some slot.leaf ≡ true = search rules in
-    subst (λ p. Changed c.args.nodes.now c.args.nodes.now (row_at c.args.nodes.now c.args.first) (cleared c.args.key.now p (row_at c.args.nodes.now c.args.first))) (sym c.in-Some-split_first.ensures.cases.0)
-    (clear_leaf-changed c.args.nodes.now c.args.first c.args.key.now c.in-Some.index (c.args.parent, c.requires.row) (sym c.find.ensures ∙ c.in-Some.is) c.requires.once slot there c.in-Some-split_first.child.now c.in-Some-split_first.rest.now leaf)
+    subst (λ p. Changed c.args.nodes.now c.args.nodes.now (row_at c.args.nodes.now c.args.row.first) (cleared c.args.key.now p (row_at c.args.nodes.now c.args.row.first))) (sym c.in-Some-split_first.ensures.cases.0)
+    (clear_leaf-changed c.args.nodes.now c.args.row.first c.args.key.now c.in-Some.index (c.args.row.parent, c.requires.row) (sym c.find.ensures ∙ c.in-Some.is) c.requires.once slot there c.in-Some-split_first.child.now c.in-Some-split_first.rest.now leaf)
 
 pub vanishes-requires : goal.vanishes-requires
 vanishes-requires t c =
     let there : get c.args.nodes.now c.in-Some.index ≡ Some c.unwrap-slot.result.now = search rules in
-    clear_place c.args.nodes.now c.args.first c.args.key.now c.in-Some.index (c.args.parent, c.requires.row) (sym c.find.ensures ∙ c.in-Some.is) c.requires.once c.unwrap-slot.result.now there
+    clear_place c.args.nodes.now c.args.row.first c.args.key.now c.in-Some.index (c.args.row.parent, c.requires.row) (sym c.find.ensures ∙ c.in-Some.is) c.requires.once c.unwrap-slot.result.now there
 
 pub clear_row-below-requires : goal.clear_row-below-requires
 clear_row-below-requires t c =
@@ -47,10 +47,10 @@ clear_row-below-requires t c =
     let there : get c.args.nodes.now c.in-Some.index ≡ Some slot = search rules in (
       omega (arith, c.decreases, ap length c.in-Some-split_first.ensures.cases.0),
       (
-        clear_below c.args.nodes.now c.args.first c.args.key.now c.in-Some.index (c.args.parent, c.requires.row) (sym c.find.ensures ∙ c.in-Some.is) c.requires.once slot there,
+        clear_below c.args.nodes.now c.args.row.first c.args.key.now c.in-Some.index (c.args.row.parent, c.requires.row) (sym c.find.ensures ∙ c.in-Some.is) c.requires.once slot there,
         (
-          told_below c.args.nodes.now c.args.first c.args.parent c.in-Some.index slot c.requires.told there,
-          clear_once c.args.nodes.now c.args.first c.args.key.now c.in-Some.index (c.args.parent, c.requires.row) (sym c.find.ensures ∙ c.in-Some.is) c.requires.once slot there,
+          told_below c.args.nodes.now c.args.row.first c.args.row.parent c.in-Some.index slot c.requires.told there,
+          clear_once c.args.nodes.now c.args.row.first c.args.key.now c.in-Some.index (c.args.row.parent, c.requires.row) (sym c.find.ensures ∙ c.in-Some.is) c.requires.once slot there,
         ),
       ),
     )
@@ -61,8 +61,8 @@ returns-then-not-vanishes-clause-row t c parent h =
     let there : get c.args.nodes.now c.in-Some.index ≡ Some slot = search rules in
     let leaf : is_some slot.leaf ≡ false = search rules in
     let left : is_bare (cleared c.in-Some-split_first.child.now c.in-Some-split_first.rest.now (row_at c.args.nodes.now slot.first_child)) ≡ false = search rules in
-    subst (λ p. IsRow c.set_content.new.nodes c.args.first parent None (cleared c.args.key.now p (row_at c.args.nodes.now c.args.first))) (sym c.in-Some-split_first.ensures.cases.0)
-    (clear_below-row c.args.nodes.now c.args.first c.args.key.now c.in-Some.index (c.args.parent, c.requires.row) (sym c.find.ensures ∙ c.in-Some.is) c.requires.once slot there c.in-Some-split_first.child.now c.in-Some-split_first.rest.now leaf left
+    subst (λ p. IsRow c.set_content.new.nodes c.args.row.first parent None (cleared c.args.key.now p (row_at c.args.nodes.now c.args.row.first))) (sym c.in-Some-split_first.ensures.cases.0)
+    (clear_below-row c.args.nodes.now c.args.row.first c.args.key.now c.in-Some.index (c.args.row.parent, c.requires.row) (sym c.find.ensures ∙ c.in-Some.is) c.requires.once slot there c.in-Some-split_first.child.now c.in-Some-split_first.rest.now leaf left
     c.clear_row-below.new.nodes c.set_content.new.nodes c.clear_row-below.result c.clear_row-below.ensures.row c.clear_row-below.ensures.changed c.set_content.ensures.written c.set_content.ensures.others c.set_content.ensures.len parent h)
 
 pub returns-then-not-vanishes-clause-changed : goal.returns-then-not-vanishes-clause-changed
@@ -71,29 +71,29 @@ returns-then-not-vanishes-clause-changed t c =
     let there : get c.args.nodes.now c.in-Some.index ≡ Some slot = search rules in
     let leaf : is_some slot.leaf ≡ false = search rules in
     let left : is_bare (cleared c.in-Some-split_first.child.now c.in-Some-split_first.rest.now (row_at c.args.nodes.now slot.first_child)) ≡ false = search rules in
-    subst (λ p. Changed c.args.nodes.now c.set_content.new.nodes (row_at c.args.nodes.now c.args.first) (cleared c.args.key.now p (row_at c.args.nodes.now c.args.first))) (sym c.in-Some-split_first.ensures.cases.0)
-    (clear_below-changed c.args.nodes.now c.args.first c.args.key.now c.in-Some.index (c.args.parent, c.requires.row) (sym c.find.ensures ∙ c.in-Some.is) c.requires.once slot there c.in-Some-split_first.child.now c.in-Some-split_first.rest.now leaf left
+    subst (λ p. Changed c.args.nodes.now c.set_content.new.nodes (row_at c.args.nodes.now c.args.row.first) (cleared c.args.key.now p (row_at c.args.nodes.now c.args.row.first))) (sym c.in-Some-split_first.ensures.cases.0)
+    (clear_below-changed c.args.nodes.now c.args.row.first c.args.key.now c.in-Some.index (c.args.row.parent, c.requires.row) (sym c.find.ensures ∙ c.in-Some.is) c.requires.once slot there c.in-Some-split_first.child.now c.in-Some-split_first.rest.now leaf left
     c.clear_row-below.new.nodes c.set_content.new.nodes c.clear_row-below.result c.clear_row-below.ensures.row c.clear_row-below.ensures.changed c.set_content.ensures.written c.set_content.ensures.others c.set_content.ensures.len)
 
 pub take_out-requires-clause-there : goal.take_out-requires-clause-there
-take_out-requires-clause-there t c = clear_there c.args.nodes.now c.args.first c.args.key.now c.in-Some.index (c.args.parent, c.requires.row) (sym c.find.ensures ∙ c.in-Some.is)
+take_out-requires-clause-there t c = clear_there c.args.nodes.now c.args.row.first c.args.key.now c.in-Some.index (c.args.row.parent, c.requires.row) (sym c.find.ensures ∙ c.in-Some.is)
 
 -- where a node is taken out, its row without it is what is left
-left : (t : ℕ) (c : goal.After-take_out t) → cleared c.args.key.now c.args.rest.now (row_at c.args.nodes.now c.args.first) ≡ without c.in-Some.index (row_at c.args.nodes.now c.args.first)
+left : (t : ℕ) (c : goal.After-take_out t) → cleared c.args.key.now c.args.rest.now (row_at c.args.nodes.now c.args.row.first) ≡ without c.in-Some.index (row_at c.args.nodes.now c.args.row.first)
 left t c = elim c.match-split_first.branch [
   | in-Some-split_first+else-is_some+else-not-vanishes w ↦
       let slot = c.unwrap-slot.result.now in
       let there : get c.args.nodes.now c.in-Some.index ≡ Some slot = search rules in
       let leaf : is_some slot.leaf ≡ false = search rules in
       let gone : is_bare (cleared w.in-Some-split_first.child.now w.in-Some-split_first.rest.now (row_at c.args.nodes.now slot.first_child)) ≡ true = search rules in
-      ap (λ p. cleared c.args.key.now p (row_at c.args.nodes.now c.args.first)) w.in-Some-split_first.ensures.cases.0
-      ∙ clear_out c.args.nodes.now c.args.first c.args.key.now c.in-Some.index (c.args.parent, c.requires.row) (sym c.find.ensures ∙ c.in-Some.is) c.requires.once slot there w.in-Some-split_first.child.now w.in-Some-split_first.rest.now leaf gone
+      ap (λ p. cleared c.args.key.now p (row_at c.args.nodes.now c.args.row.first)) w.in-Some-split_first.ensures.cases.0
+      ∙ clear_out c.args.nodes.now c.args.row.first c.args.key.now c.in-Some.index (c.args.row.parent, c.requires.row) (sym c.find.ensures ∙ c.in-Some.is) c.requires.once slot there w.in-Some-split_first.child.now w.in-Some-split_first.rest.now leaf gone
   | in_default-split_first w ↦
-      clear_end c.args.nodes.now c.args.first c.args.key.now c.in-Some.index (c.args.parent, c.requires.row) (sym c.find.ensures ∙ c.in-Some.is) c.requires.once c.args.rest.now w.in_default-split_first.ensures.cases
+      clear_end c.args.nodes.now c.args.row.first c.args.key.now c.in-Some.index (c.args.row.parent, c.requires.row) (sym c.find.ensures ∙ c.in-Some.is) c.requires.once c.args.rest.now w.in_default-split_first.ensures.cases
 ]
 
 pub returns-clause-row : goal.returns-clause-row
 returns-clause-row t c parent h = subst (IsRow c.take_out.new.nodes c.take_out.result parent None) (sym (left t c)) (c.take_out.ensures.row parent h)
 
 pub returns-clause-changed : goal.returns-clause-changed
-returns-clause-changed t c = subst (Changed c.args.nodes.now c.take_out.new.nodes (row_at c.args.nodes.now c.args.first)) (sym (left t c)) c.take_out.ensures.changed
+returns-clause-changed t c = subst (Changed c.args.nodes.now c.take_out.new.nodes (row_at c.args.nodes.now c.args.row.first)) (sym (left t c)) c.take_out.ensures.changed

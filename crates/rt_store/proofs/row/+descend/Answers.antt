@@ -10,35 +10,35 @@ use Rattle.rt_store.proofs.row.+descend.Goals as goal
 
 pub returns-in_err-index : goal.returns-in_err-index
 returns-in_err-index t c =
-    let none : index_in c.args.key.now (row_at c.args.nodes.now c.args.first) ≡ None = search rules in
-    c.from_residual.ensures ∙ sym (ends_none c.args.nodes.now c.args.first c.args.key.now c.args.rest.now (c.args.parent, None, c.requires.row) none)
+    let none : index_in c.args.key.now (row_at c.args.nodes.now c.args.row.first) ≡ None = search rules in
+    c.from_residual.ensures ∙ sym (ends_none c.args.nodes.now c.args.row.first c.args.key.now c.args.rest.now (c.args.row.parent, None, c.requires.row) none)
 
 pub descend-requires : goal.descend-requires
 descend-requires t c =
-    let found : index_in c.args.key.now (row_at c.args.nodes.now c.args.first) ≡ Some c.in_ok-index.index = search rules in
+    let found : index_in c.args.key.now (row_at c.args.nodes.now c.args.row.first) ≡ Some c.in_ok-index.index = search rules in
     let there : get c.args.nodes.now c.in_ok-index.index ≡ Some c.in-Some-get.slot.now = search rules in (
       omega (arith, c.decreases, ap length c.in-Some.ensures.cases.0),
       (
-        below_row c.args.nodes.now c.args.first c.args.parent c.in_ok-index.index c.in-Some-get.slot.now c.requires.row (found_in_row c.args.key.now c.in_ok-index.index (row_at c.args.nodes.now c.args.first) found) there,
-        told_below c.args.nodes.now c.args.first c.args.parent c.in_ok-index.index c.in-Some-get.slot.now c.requires.told there,
+        below_row c.args.nodes.now c.args.row.first c.args.row.parent c.in_ok-index.index c.in-Some-get.slot.now c.requires.row (found_in_row c.args.key.now c.in_ok-index.index (row_at c.args.nodes.now c.args.row.first) found) there,
+        told_below c.args.nodes.now c.args.row.first c.args.row.parent c.in_ok-index.index c.in-Some-get.slot.now c.requires.told there,
       ),
     )
 
 pub returns-in-None : goal.returns-in-None
 returns-in-None t c =
-    let found : index_in c.args.key.now (row_at c.args.nodes.now c.args.first) ≡ Some c.in_ok-index.index = search rules in
-    sym (ends_here c.args.nodes.now c.args.first c.args.key.now c.args.rest.now c.in_ok-index.index (c.args.parent, None, c.requires.row) found c.in-None.ensures.cases)
+    let found : index_in c.args.key.now (row_at c.args.nodes.now c.args.row.first) ≡ Some c.in_ok-index.index = search rules in
+    sym (ends_here c.args.nodes.now c.args.row.first c.args.key.now c.args.rest.now c.in_ok-index.index (c.args.row.parent, None, c.requires.row) found c.in-None.ensures.cases)
 
 pub returns-in-Some-get : goal.returns-in-Some-get
 returns-in-Some-get t c =
-    let found : index_in c.args.key.now (row_at c.args.nodes.now c.args.first) ≡ Some c.in_ok-index.index = search rules in
+    let found : index_in c.args.key.now (row_at c.args.nodes.now c.args.row.first) ≡ Some c.in_ok-index.index = search rules in
     let there : get c.args.nodes.now c.in_ok-index.index ≡ Some c.in-Some-get.slot.now = search rules in
     rw (c.in-Some.ensures.cases.0)
     (c.descend.ensures
-    ∙ sym (goes_below c.args.nodes.now c.args.first c.args.key.now c.in-Some.key.now c.in-Some.rest.now c.in_ok-index.index c.in-Some-get.slot.now (c.args.parent, None, c.requires.row) found there))
+    ∙ sym (goes_below c.args.nodes.now c.args.row.first c.args.key.now c.in-Some.key.now c.in-Some.rest.now c.in_ok-index.index c.in-Some-get.slot.now (c.args.row.parent, None, c.requires.row) found there))
 
 pub returns-in-None-get : goal.returns-in-None-get
 returns-in-None-get t c =
-    let found : index_in c.args.key.now (row_at c.args.nodes.now c.args.first) ≡ Some c.in_ok-index.index = search rules in
+    let found : index_in c.args.key.now (row_at c.args.nodes.now c.args.row.first) ≡ Some c.in_ok-index.index = search rules in
     let none : get c.args.nodes.now c.in_ok-index.index ≡ None = search rules in
-    absurd (lost c.args.nodes.now c.args.first c.args.key.now c.in_ok-index.index (c.args.parent, None, c.requires.row) found none)
+    absurd (lost c.args.nodes.now c.args.row.first c.args.key.now c.in_ok-index.index (c.args.row.parent, None, c.requires.row) found none)

@@ -4,7 +4,7 @@ use Rattle.rt_store.proofs.Paths.{here, index_spot}
 use Rattle.rt_store.proofs.row.find.Goals as goal
 
 pub returns-in-Here : goal.returns-in-Here
-returns-in-Here c = sym (index_spot c.args.key.now None (row_at c.args.nodes.now c.args.first) ∙ ap here (sym c.seek.ensures ∙ c.in-Here.is))
+returns-in-Here c = sym (index_spot c.args.key.now None (row_at c.args.nodes.now c.args.row.first) ∙ ap here (sym c.seek.ensures ∙ c.in-Here.is))
 
 pub returns-in-Gap : goal.returns-in-Gap
-returns-in-Gap c = sym (index_spot c.args.key.now None (row_at c.args.nodes.now c.args.first) ∙ ap here (sym c.seek.ensures ∙ c.in-Gap.is))
+returns-in-Gap c = sym (index_spot c.args.key.now None (row_at c.args.nodes.now c.args.row.first) ∙ ap here (sym c.seek.ensures ∙ c.in-Gap.is))

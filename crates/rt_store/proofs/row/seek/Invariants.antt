@@ -4,7 +4,7 @@ use Rattle.rt_store.specs.Walks.{spot_in, IsPlace}
 use Rattle.rt_store.proofs.row.seek.Given as goal
 
 abbrev pub invariant-loop-next : goal.invariant-loop-next
-invariant-loop-next l = IsPlace l.nodes l.next × (spot_in l.key None (row_at l.nodes l.fn.first) ≡ spot_in l.key l.previous (row_at l.nodes l.next))
+invariant-loop-next l = IsPlace l.nodes l.next × (spot_in l.key None (row_at l.nodes l.fn.row.first) ≡ spot_in l.key l.previous (row_at l.nodes l.next))
 
 abbrev pub decreases-loop-next : goal.decreases-loop-next
 decreases-loop-next l = size (row_at l.nodes l.next)

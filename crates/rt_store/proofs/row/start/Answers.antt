@@ -9,8 +9,8 @@ pub returns-in_default-key_cmp : goal.returns-in_default-key_cmp
 returns-in_default-key_cmp c =
     let slot = c.unwrap-slot.result.now in
     let there : get c.args.nodes.now c.in-Some.index ≡ Some slot = search rules in
-    let is : InRow c.in-Some.index (row_at c.args.nodes.now c.args.first) = c.requires.told.here c.in-Some.index c.in-Some.ensures.0 c.in-Some.ensures.1 c.in-Some.ensures.2 in
+    let is : InRow c.in-Some.index (row_at c.args.nodes.now c.args.row.first) = c.requires.told.here c.in-Some.index c.in-Some.ensures.0 c.in-Some.ensures.1 c.in-Some.ensures.2 in
     record {
-      place = near_place c.args.nodes.now c.args.first c.args.parent c.in-Some.index c.requires.row is;
-      spot = spot_near c.args.nodes.now c.args.first c.args.parent None (row_at c.args.nodes.now c.args.first) c.requires.row c.args.key.now c.in-Some.index slot there is (λ less. c.in_default-key_cmp.not-Less (c.key_cmp.ensures ∙ less));
+      place = near_place c.args.nodes.now c.args.row.first c.args.row.parent c.in-Some.index c.requires.row is;
+      spot = spot_near c.args.nodes.now c.args.row.first c.args.row.parent None (row_at c.args.nodes.now c.args.row.first) c.requires.row c.args.key.now c.in-Some.index slot there is (λ less. c.in_default-key_cmp.not-Less (c.key_cmp.ensures ∙ less));
     }
