@@ -1,8 +1,7 @@
 // Nodes are made of trees. Nothing leads to them until all stand.
-ghost use Rattle.std.specs.Prelude.{◌≡◌, ◌∷◌, [], false, IfOk, OnErr, List, map, reverse};
+ghost use Rattle.std.specs.Prelude.{◌≡◌, ◌∷◌, [], false, IfOk, OnErr, map, reverse};
 ghost use Rattle.std.specs.BTreeMap.{IsOrdered};
 ghost use Rattle.rt_tree.specs.PathTree.{key_cmp, null, is_null, put, AllFull};
-ghost use Rattle.rt_tree.specs.Allowed.{IsAllowed};
 ghost use Rattle.rt_store.specs.Rows.{in_key_order};
 ghost use Rattle.rt_store.specs.Forest.{row_at, entries, tree_with, IsFull};
 ghost use Rattle.rt_store.specs.Changes.{Grown, Same};

@@ -1,4 +1,4 @@
-// Rows of siblings in the slab: how a key is found, and how nodes are linked and taken out.
+// How keys and paths are found in rows of siblings.
 ghost use Rattle.std.specs.Prelude.{◌≡◌, IfSome, None, Some};
 ghost use Rattle.slab.specs.Slab.{get};
 ghost use Rattle.rt_store.specs.Forest.{IsRow, row_at};
