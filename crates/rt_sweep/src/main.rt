@@ -7,8 +7,10 @@
 //! refused.
 #![tactic(auto)]
 
+mod cover;
 mod outcome;
 mod sync;
+mod writes;
 
 use outcome::Outcome;
 use std::alloc::{AllocError, Global};
@@ -19,6 +21,8 @@ use std::process::ExitCode;
 fn run(alloc: Global, name: &str) -> Option<Outcome> {
     match name {
         "core" => Some(sync::run(alloc)),
+        "cover" => Some(cover::run(alloc)),
+        "writes" => Some(writes::run(alloc)),
         _ => None,
     }
 }

@@ -2,27 +2,11 @@
 ghost use Rattle.std.specs.Prelude.{IfOk};
 ghost use Rattle.rt_sync.specs.Runs.{IsPlainStep};
 
-use crate::outcome::Outcome;
+use crate::outcome::{self, Outcome};
 use rt_query::Query;
 use rt_sync::{Action, Body, Core, CoreError, Limits, Report, Step};
-use rt_tree::{Path, Tree, TreeError};
+use rt_tree::{Path, Tree};
 use std::alloc::Global;
-
-// Why a run ends before its last step.
-#[derive(Clone, Copy, Debug, PartialEq, Eq)]
-enum End {
-    NoMemory,
-    Wrong,
-}
-
-impl From<TreeError> for End {
-    fn from(error: TreeError) -> End {
-        match error {
-            TreeError::NoMemory => End::NoMemory,
-            _ => End::Wrong,
-        }
-    }
-}
 
 // A step as it is written here.
 #[derive(Clone, Copy)]
@@ -42,14 +26,14 @@ fn plain_listen(path: Path) -> Step
     }
 }
 
-fn listen(alloc: Global, at: &str) -> Result<Step, End>
+fn listen(alloc: Global, at: &str) -> Result<Step, Outcome>
     ensures { IfOk result IsPlainStep }
 {
     let path = Path::parse(alloc, at)?;
     Ok(plain_listen(path))
 }
 
-fn set(alloc: Global, at: &str, text: &str) -> Result<Step, End>
+fn set(alloc: Global, at: &str, text: &str) -> Result<Step, Outcome>
     ensures { IfOk result IsPlainStep }
 {
     let path = Path::parse(alloc, at)?;
@@ -58,7 +42,7 @@ fn set(alloc: Global, at: &str, text: &str) -> Result<Step, End>
     Ok(Step::Write { seat: 1, action })
 }
 
-fn data(alloc: Global, at: &str, text: &str) -> Result<Step, End>
+fn data(alloc: Global, at: &str, text: &str) -> Result<Step, Outcome>
     ensures { IfOk result IsPlainStep }
 {
     let path = Path::parse(alloc, at)?;
@@ -66,7 +50,7 @@ fn data(alloc: Global, at: &str, text: &str) -> Result<Step, End>
     Ok(Step::Data { tag: 1, path, tree })
 }
 
-fn step(alloc: Global, line: Line) -> Result<Step, End>
+fn step(alloc: Global, line: Line) -> Result<Step, Outcome>
     ensures { IfOk result IsPlainStep }
 {
     match line {
@@ -96,30 +80,34 @@ fn has_failed(core: &mut Core) -> bool {
 }
 
 // How a step ends that has to tell of so many changes. A core that lacked memory makes no step any more.
-fn end_of(core: &mut Core, answer: Result<Report, CoreError>, changes: usize) -> Result<(), End> {
+fn end_of(
+    core: &mut Core,
+    answer: Result<Report, CoreError>,
+    changes: usize,
+) -> Result<(), Outcome> {
     match answer {
         Ok(report) if told(&report) == changes => Ok(()),
-        Err(CoreError::NoMemory) if has_failed(core) => Err(End::NoMemory),
-        _ => Err(End::Wrong),
+        Err(CoreError::NoMemory) if has_failed(core) => Err(Outcome::Refused),
+        _ => Err(Outcome::Wrong),
     }
 }
 
-fn make(core: &mut Core, alloc: Global, line: Line, changes: usize) -> Result<(), End> {
+fn make(core: &mut Core, alloc: Global, line: Line, changes: usize) -> Result<(), Outcome> {
     let step = step(alloc, line)?;
     let answer = core.apply(step);
     end_of(core, answer, changes)
 }
 
 // The view has so many rows. A core that lacked memory for it answers as before.
-fn look(core: &mut Core, rows: usize) -> Result<(), End> {
+fn look(core: &mut Core, rows: usize) -> Result<(), Outcome> {
     match core.view(1) {
         Ok(Some(shown)) if shown.rows().len() == rows => Ok(()),
-        Err(CoreError::NoMemory) if !has_failed(core) => Err(End::NoMemory),
-        _ => Err(End::Wrong),
+        Err(CoreError::NoMemory) if !has_failed(core) => Err(Outcome::Refused),
+        _ => Err(Outcome::Wrong),
     }
 }
 
-fn steps(core: &mut Core, alloc: Global) -> Result<(), End> {
+fn steps(core: &mut Core, alloc: Global) -> Result<(), Outcome> {
     let lines = [
         (Line::Connected, 0),
         (Line::Listen("/"), 0),
@@ -135,9 +123,5 @@ fn steps(core: &mut Core, alloc: Global) -> Result<(), End> {
 
 pub(crate) fn run(alloc: Global) -> Outcome {
     let mut core = Core::new(alloc, Limits::full());
-    match steps(&mut core, alloc) {
-        Ok(()) => Outcome::Right,
-        Err(End::NoMemory) => Outcome::Refused,
-        Err(End::Wrong) => Outcome::Wrong,
-    }
+    outcome::of(steps(&mut core, alloc))
 }
