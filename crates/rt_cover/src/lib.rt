@@ -13,8 +13,6 @@ mod listener;
 mod numbers;
 mod plan;
 mod supply;
-#[cfg(test)]
-mod tests;
 
 pub use cover::Cover;
 pub use delta::{Delta, Revoked};

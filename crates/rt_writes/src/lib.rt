@@ -9,8 +9,6 @@ pub mod examples;
 mod laws;
 mod parts;
 mod pending;
-#[cfg(test)]
-mod tests;
 mod write;
 
 pub use entries::{Entries, is_shallow};

@@ -1,6 +1,6 @@
 use Rattle.std.specs.List.{All}
 use Rattle.rt_writes.specs.Writes.{IsShallow}
-use Rattle.rt_writes.proofs.tests.entries.Given as goal
+use Rattle.rt_tests.proofs.writes.entries.Given as goal
 
 abbrev pub invariant-loop-path : goal.invariant-loop-path
 invariant-loop-path l = All IsShallow l.entries.items
