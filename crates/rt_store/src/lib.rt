@@ -17,10 +17,6 @@ mod row;
 mod run;
 mod slot;
 mod store;
-#[cfg(test)]
-mod tests;
-#[cfg(test)]
-mod walk_tests;
 
 pub use error::StoreError;
 pub use laws::walk_law;

@@ -9,6 +9,7 @@
 
 mod cover;
 mod outcome;
+mod store;
 mod sync;
 mod writes;
 
@@ -22,6 +23,7 @@ fn run(alloc: Global, name: &str) -> Option<Outcome> {
     match name {
         "core" => Some(sync::run(alloc)),
         "cover" => Some(cover::run(alloc)),
+        "store" => Some(store::run(alloc)),
         "writes" => Some(writes::run(alloc)),
         _ => None,
     }

@@ -5,4 +5,6 @@
 #[cfg(test)]
 mod cover;
 #[cfg(test)]
+mod store;
+#[cfg(test)]
 mod writes;
