@@ -5,8 +5,6 @@ mod digits;
 mod error;
 mod laws;
 mod push_ids;
-#[cfg(test)]
-mod tests;
 
 pub use error::PushError;
 pub use laws::{digits_stand, examples, ids_rise};

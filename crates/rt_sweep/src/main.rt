@@ -11,6 +11,7 @@ mod cover;
 mod outcome;
 mod store;
 mod sync;
+mod tree;
 mod writes;
 
 use outcome::Outcome;
@@ -24,6 +25,7 @@ fn run(alloc: Global, name: &str) -> Option<Outcome> {
         "core" => Some(sync::run(alloc)),
         "cover" => Some(cover::run(alloc)),
         "store" => Some(store::run(alloc)),
+        "tree" => Some(tree::run(alloc)),
         "writes" => Some(writes::run(alloc)),
         _ => None,
     }

@@ -5,6 +5,12 @@
 #[cfg(test)]
 mod cover;
 #[cfg(test)]
+mod push;
+#[cfg(test)]
+mod readme;
+#[cfg(test)]
 mod store;
+#[cfg(test)]
+mod tree;
 #[cfg(test)]
 mod writes;

@@ -8,8 +8,6 @@ ghost use Rattle.rt_tree.specs.Allowed.{IsAllowed, MayStandAt};
 ghost use Rattle.rt_tree.specs.Children.{is_object, children_of};
 
 mod reading;
-#[cfg(test)]
-mod tests;
 mod writing;
 
 use crate::error::TreeError;
