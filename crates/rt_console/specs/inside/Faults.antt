@@ -2,6 +2,7 @@
 use Rattle.std.specs.Prelude.{◌≡◌, ℕ, ◌+◌, ◌<◌, ◌⊎◌}
 use Rattle.rt_console.specs.declared.error.ConsoleError.{ConsoleError}
 use Rattle.rt_console.specs.declared.error.ConsoleError.TheVariants.{ReadFault, WriteFault, BadWords, NoMemory}
+use Rattle.rt_console.specs.Run.{most_input}
 
 -- what a reader and a writer count: the bytes that were given, and the failures of each
 pub record Counts : Type 0 where
@@ -9,19 +10,22 @@ pub record Counts : Type 0 where
   pub failed_reads : ℕ
   pub failed_writes : ℕ
 
--- the most bytes of input that a run takes
-abbrev pub most_input : ℕ
-most_input = 67108864
+abbrev pub counts : ℕ → ℕ → ℕ → Counts
+counts given failed_reads failed_writes =
+    record { given = given; failed_reads = failed_reads; failed_writes = failed_writes }
 
 -- no read and no write failed
 abbrev pub NoneFailed : Counts → Counts → Type 0
-NoneFailed old new = (new.failed_reads ≡ old.failed_reads) × (new.failed_writes ≡ old.failed_writes)
+NoneFailed old new =
+    (new.failed_reads ≡ old.failed_reads) × (new.failed_writes ≡ old.failed_writes)
 
--- an error tells what failed: a read fault a read, or that more bytes were given than a run takes; a write fault a write
+-- an error tells what failed: a read fault a read, or that more bytes were given than a run takes;
+-- a write fault a write
 abbrev pub Tells : ConsoleError → Counts → Counts → Type 0
 Tells ReadFault old new = (new.failed_writes ≡ old.failed_writes)
     × ((new.failed_reads ≡ old.failed_reads + 1) ⊎ (old.given + most_input < new.given))
-Tells WriteFault old new = (new.failed_reads ≡ old.failed_reads) × (new.failed_writes ≡ old.failed_writes + 1)
+Tells WriteFault old new =
+    (new.failed_reads ≡ old.failed_reads) × (new.failed_writes ≡ old.failed_writes + 1)
 Tells BadWords old new = ⊥
 Tells NoMemory old new = NoneFailed old new
 

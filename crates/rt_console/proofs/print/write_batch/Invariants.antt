@@ -1,7 +1,7 @@
 use Rattle.std.proofs.Common.{◌≡◌, ◌++◌, drop, string_bytes}
 use Rattle.std.specs.Prelude.{flat_map}
 use Rattle.rt_console.specs.Printing.{change_line}
-use Rattle.rt_console.proofs.print.push_batch.Given as goal
+use Rattle.rt_console.proofs.print.write_batch.Given as goal
 
 abbrev pub invariant-loop-change : goal.invariant-loop-change
 invariant-loop-change l =

@@ -1,8 +1,8 @@
 use Rattle.std.proofs.Common.{rules, ◌≡◌, length, sym, ◌∙◌}
 use Rattle.std.specs.Prelude.{◌==◌}
 use Rattle.serde_json.specs.View.{view as data_of}
-use Rattle.rt_console.proofs.Forms.{is_plain-array}
-use Rattle.rt_console.proofs.form.is_empty_array.Goals as goal
+use Rattle.rt_console.proofs.LineParts.{is_plain-array}
+use Rattle.rt_console.proofs.line.is_empty_array.Goals as goal
 
 pub returns-in-Some : goal.returns-in-Some
 returns-in-Some c =

@@ -7,7 +7,8 @@ use Rattle.serde_json.specs.Data.{Data}
 use Rattle.serde_json.specs.Read.{read}
 use Rattle.rt_console.specs.Lines.{Line, line_in}
 use Rattle.rt_console.specs.Printing.{bad_line}
-use Rattle.rt_console.specs.Run.{State, DoesIfLine, DoesOrIsBad, EndsLine, line_of_bytes}
+use Rattle.rt_console.specs.Prints.{State, DoesIfLine, DoesOrIsBad, EndsLine}
+use Rattle.rt_console.specs.Run.{line_of_bytes}
 
 pub line_of_bytes-read : (bytes : List ℕ) (d : Data) → IsUtf8 bytes → read bytes ≡ Some d → line_in d ≡ line_of_bytes bytes
 line_of_bytes-read bytes d u r = sym (rw (is_utf8-from_IsUtf8 bytes u) (ap (option_and_then line_in) r))
