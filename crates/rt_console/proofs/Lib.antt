@@ -1,4 +1,4 @@
-mod Forms
-mod Lines
+mod FirstFaults
+mod LineBytes
+mod LineParts
 mod Runs
-mod Tasks

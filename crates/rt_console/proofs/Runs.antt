@@ -10,7 +10,9 @@ use Rattle.rt_console.specs.declared.task.Task.{Task}
 use Rattle.rt_tree.specs.declared.error.TreeError.{TreeError}
 use Rattle.rt_console.specs.Lines.{Line}
 use Rattle.rt_console.specs.Tasks.{words_fault, task_of}
-use Rattle.rt_console.specs.Run.{State, Does, DoesUnless, DoesOrIsBad, EndsLine, After, AfterLine, AfterLines, Progress, Takes, is_bad, line_of_bytes, lines_of, resumed, step_of, step_of_line, step_unless, task_step}
+use Rattle.rt_console.specs.Prints.{State, Does, DoesUnless, DoesOrIsBad, EndsLine}
+use Rattle.rt_console.specs.Run.{After, AfterLine, AfterLines, Progress, is_bad, line_of_bytes, lines_of, step_of, step_of_line, step_unless, task_step}
+use Rattle.rt_console.specs.inside.Pieces.{Takes, resumed}
 
 -- ---- pieces
 

@@ -1,5 +1,7 @@
--- The number and the name of each error.
+-- The number and the name of each error, and the exit status of a word that can't be had.
 use Rattle.std.specs.Prelude.{ℕ, List, codes}
+use Rattle.rt_console.specs.declared.arguments.ArgumentError.{ArgumentError}
+use Rattle.rt_console.specs.declared.arguments.ArgumentError.TheVariants as argument
 use Rattle.rt_console.specs.declared.error.ConsoleError.{ConsoleError}
 use Rattle.rt_console.specs.declared.error.ConsoleError.TheVariants.{ReadFault, WriteFault, BadWords, NoMemory}
 
@@ -16,3 +18,9 @@ name_of ReadFault = codes "ReadFault"
 name_of WriteFault = codes "WriteFault"
 name_of BadWords = codes "BadWords"
 name_of NoMemory = codes "NoMemory"
+
+-- the exit status
+abbrev pub argument_status : ArgumentError → ℕ
+argument_status (argument.NotUtf8 number) = 2
+argument_status (argument.TooLong number) = 2
+argument_status argument.NoMemory = 1

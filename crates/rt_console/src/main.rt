@@ -1,28 +1,20 @@
 //! The console: runs a script of lines over one core, and prints what each line answers.
 #![tactic(auto)]
 
+mod arguments;
 mod error;
-mod form;
+mod line;
 mod print;
 mod script;
 mod stream;
 mod task;
-#[cfg(test)]
-mod tests;
 mod words;
 
 use error::ConsoleError;
 use std::alloc::Global;
 use std::process::ExitCode;
-use std::{env, io};
 use stream::{Reading, Writing};
-use words::Work;
-
-// The words after the program's name.
-fn words_of(rt: &HostRuntime) -> io::Result<Vec<String>> {
-    let words: Vec<String> = env::args(rt)?.skip(1).collect(rt.alloc())?;
-    Ok(words)
-}
+use words::{PROGRAM, Work};
 
 // Runs the script of the standard input.
 fn run(rt: &HostRuntime, alloc: Global) -> Result<u64, ConsoleError> {
@@ -31,32 +23,40 @@ fn run(rt: &HostRuntime, alloc: Global) -> Result<u64, ConsoleError> {
     script::run_script(alloc, &mut reader, &mut writer)
 }
 
+// Says why the program ends, and answers the exit status of a fault.
+fn say_fault(rt: &HostRuntime, error: ConsoleError) -> u8 {
+    let _ = eprintln!(rt; "{PROGRAM}: {error}");
+    1
+}
+
 // Does the work, and answers the exit status: 1 where a fault or a bad line was printed.
-fn status_of(rt: &HostRuntime, work: Work) -> u8 {
+fn status_of_work(rt: &HostRuntime, work: Work) -> u8 {
     let outcome = match work {
         Work::Script => run(rt, rt.alloc()),
     };
     match outcome {
         Ok(0) => 0,
         Ok(_) => 1,
-        Err(error) => {
-            let _ = eprintln!(rt; "rt_console: {error}");
-            1
-        }
+        Err(error) => say_fault(rt, error),
+    }
+}
+
+// Does what the words ask for, and answers the exit status.
+fn status_of_words(rt: &HostRuntime, words: &[String]) -> u8 {
+    match words::read_words(rt.alloc(), words) {
+        Ok(work) => status_of_work(rt, work),
+        Err(ConsoleError::BadWords) => words::explain(rt, rt.alloc(), words),
+        Err(error) => say_fault(rt, error),
     }
 }
 
 fn main(rt: HostRuntime) -> ExitCode {
-    let words = match words_of(&rt) {
-        Ok(words) => words,
+    let status = match arguments::words_of(&rt, rt.alloc()) {
+        Ok(words) => status_of_words(&rt, words.as_slice()),
         Err(error) => {
-            let _ = eprintln!(&rt; "rt_console: the command line can't be read: {error}");
-            return ExitCode::from(1);
+            let _ = eprintln!(&rt; "{PROGRAM}: {error}");
+            error.status()
         }
-    };
-    let status = match words::command_line(rt.alloc(), words.as_slice()) {
-        Ok(work) => status_of(&rt, work),
-        Err(error) => words::explain(&rt, &error),
     };
     ExitCode::from(status)
 }

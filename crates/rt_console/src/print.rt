@@ -1,7 +1,11 @@
 // What the script prints, line by line.
 ghost use Rattle.std.specs.Prelude.{◌≡◌, ◌++◌, codes, string_bytes, IfOk, OnOk};
 ghost use Rattle.std.specs.Option.{option_copied};
-ghost use Rattle.rt_console.specs.Printing.{key_text, row_text, after_text, change_text, change_line, batch_text, note_text, outcome_text, line, report_text, row_line, rows_text, view_text, tree_refused, core_refused};
+ghost use Rattle.rt_console.specs.Printing.{after_text, batch_text, change_line, change_text};
+ghost use Rattle.rt_console.specs.Printing.{core_refused, key_text, line, note_text, outcome_text};
+ghost use Rattle.rt_console.specs.Printing.{report_text, row_line, row_text, rows_text};
+ghost use Rattle.rt_console.specs.Printing.{tree_refused, view_text};
+ghost use Rattle.rt_console.specs.inside.Appending.{Appends};
 
 use rt_query::{Row, Shown};
 use rt_sync::{Body, CoreError, Note, Outcome, Report};
@@ -19,14 +23,14 @@ fn json_text(alloc: Global, text: &str) -> Result<String, AllocError>
 }
 
 // `NAME KEY TREE`
-fn push_row(
+fn write_row(
     out: &mut String,
     alloc: Global,
     name: &str,
     key: &Key,
     tree: &Tree,
 ) -> Result<(), AllocError>
-    ensures { OnOk result (string_bytes out.new ≡ string_bytes out.old ++ row_text name.now key.now tree.now) }
+    ensures { OnOk result (Appends out.old out.new (row_text name.now key.now tree.now)) }
 {
     let key = json_text(alloc, key.text())?;
     let tree = tree.text(alloc)?;
@@ -34,8 +38,8 @@ fn push_row(
 }
 
 // ` after KEY`, where the row before it has a key.
-fn push_after(out: &mut String, alloc: Global, after: Option<&Key>) -> Result<(), AllocError>
-    ensures { OnOk result (string_bytes out.new ≡ string_bytes out.old ++ after_text (option_copied after.entry)) }
+fn write_after(out: &mut String, alloc: Global, after: Option<&Key>) -> Result<(), AllocError>
+    ensures { OnOk result (Appends out.old out.new (after_text (option_copied after.entry))) }
 {
     match after {
         Some(key) => {
@@ -47,7 +51,7 @@ fn push_after(out: &mut String, alloc: Global, after: Option<&Key>) -> Result<()
 }
 
 // `NAME KEY TREE after KEY`
-fn push_placed(
+fn write_placed(
     out: &mut String,
     alloc: Global,
     name: &str,
@@ -55,26 +59,27 @@ fn push_placed(
     tree: &Tree,
     after: Option<&Key>,
 ) -> Result<(), AllocError>
-    ensures { OnOk result (string_bytes out.new ≡ string_bytes out.old ++ (row_text name.now key.now tree.now ++ after_text (option_copied after.entry))) }
+    ensures { OnOk result (Appends out.old out.new
+        (row_text name.now key.now tree.now ++ after_text (option_copied after.entry))) }
 {
-    push_row(out, alloc, name, key, tree)?;
-    push_after(out, alloc, after)
+    write_row(out, alloc, name, key, tree)?;
+    write_after(out, alloc, after)
 }
 
 // A change of a view.
-fn push_change(out: &mut String, alloc: Global, change: &Change) -> Result<(), AllocError>
-    ensures { OnOk result (string_bytes out.new ≡ string_bytes out.old ++ change_text change.now) }
+fn write_change(out: &mut String, alloc: Global, change: &Change) -> Result<(), AllocError>
+    ensures { OnOk result (Appends out.old out.new (change_text change.now)) }
 {
     match change {
-        Change::Removed { key, old } => push_row(out, alloc, "removed", key, old),
+        Change::Removed { key, old } => write_row(out, alloc, "removed", key, old),
         Change::Added { key, value, after } => {
-            push_placed(out, alloc, "added", key, value, after.as_ref())
+            write_placed(out, alloc, "added", key, value, after.as_ref())
         }
         Change::Moved { key, value, after } => {
-            push_placed(out, alloc, "moved", key, value, after.as_ref())
+            write_placed(out, alloc, "moved", key, value, after.as_ref())
         }
         Change::Changed { key, value, after } => {
-            push_placed(out, alloc, "changed", key, value, after.as_ref())
+            write_placed(out, alloc, "changed", key, value, after.as_ref())
         }
         Change::Value { value } => {
             let value = value.text(alloc)?;
@@ -84,41 +89,41 @@ fn push_change(out: &mut String, alloc: Global, change: &Change) -> Result<(), A
 }
 
 // The line of a change of a listener's view.
-fn push_change_line(
+fn write_change_line(
     out: &mut String,
     alloc: Global,
     listener: u64,
     change: &Change,
 ) -> Result<(), AllocError>
-    ensures { OnOk result (string_bytes out.new ≡ string_bytes out.old ++ change_line listener change.now) }
+    ensures { OnOk result (Appends out.old out.new (change_line listener change.now)) }
 {
     write!(out, "L{listener} ")?;
-    push_change(out, alloc, change)?;
+    write_change(out, alloc, change)?;
     out.push('\n')
 }
 
 // The changes of a listener's view, a line each.
-fn push_batch(out: &mut String, alloc: Global, batch: &Batch) -> Result<(), AllocError>
-    ensures { OnOk result (string_bytes out.new ≡ string_bytes out.old ++ batch_text batch.now) }
+fn write_batch(out: &mut String, alloc: Global, batch: &Batch) -> Result<(), AllocError>
+    ensures { OnOk result (Appends out.old out.new (batch_text batch.now)) }
 {
     let listener = batch.listener;
     for change in batch.changes.as_slice() {
-        push_change_line(out, alloc, listener, change)?;
+        write_change_line(out, alloc, listener, change)?;
     }
     Ok(())
 }
 
-fn push_note(out: &mut String, alloc: Global, note: &Note) -> Result<(), AllocError>
-    ensures { OnOk result (string_bytes out.new ≡ string_bytes out.old ++ note_text note.now) }
+fn write_note(out: &mut String, alloc: Global, note: &Note) -> Result<(), AllocError>
+    ensures { OnOk result (Appends out.old out.new (note_text note.now)) }
 {
     match &note.body {
-        Body::Batch(batch) => push_batch(out, alloc, batch),
+        Body::Batch(batch) => write_batch(out, alloc, batch),
     }
 }
 
 // `done`, `done N` or `stale`
-fn push_outcome(out: &mut String, outcome: Outcome, given: Option<u64>) -> Result<(), AllocError>
-    ensures { OnOk result (string_bytes out.new ≡ string_bytes out.old ++ line (outcome_text outcome given)) }
+fn write_outcome(out: &mut String, outcome: Outcome, given: Option<u64>) -> Result<(), AllocError>
+    ensures { OnOk result (Appends out.old out.new (line (outcome_text outcome given))) }
 {
     match (outcome, given) {
         (Outcome::Done, Some(number)) => writeln!(out, "done {number}"),
@@ -127,49 +132,51 @@ fn push_outcome(out: &mut String, outcome: Outcome, given: Option<u64>) -> Resul
     }
 }
 
-/// Prints what a step answered: `done`, `done N` or `stale`, then a line for each note and for each change of a batch.
-pub(crate) fn push_report(
+/// Prints what a step answered: `done`, `done N` or `stale`, then a line for each note and for each
+/// change of a batch.
+pub(crate) fn write_report(
     out: &mut String,
     alloc: Global,
     report: &Report,
 ) -> Result<(), AllocError>
-    ensures { OnOk result (string_bytes out.new ≡ string_bytes out.old ++ report_text report.now) }
+    ensures { OnOk result (Appends out.old out.new (report_text report.now)) }
 {
-    push_outcome(out, report.outcome, report.given)?;
+    write_outcome(out, report.outcome, report.given)?;
     for note in report.notes.as_slice() {
-        push_note(out, alloc, note)?;
+        write_note(out, alloc, note)?;
     }
     Ok(())
 }
 
 // `row KEY VALUE`
-fn push_row_line(out: &mut String, alloc: Global, row: &Row) -> Result<(), AllocError>
-    ensures { OnOk result (string_bytes out.new ≡ string_bytes out.old ++ row_line row.now) }
+fn write_row_line(out: &mut String, alloc: Global, row: &Row) -> Result<(), AllocError>
+    ensures { OnOk result (Appends out.old out.new (row_line row.now)) }
 {
-    push_row(out, alloc, "row", &row.key, &row.value)?;
+    write_row(out, alloc, "row", &row.key, &row.value)?;
     out.push('\n')
 }
 
 // A line for each row, or `empty`.
-fn push_rows(out: &mut String, alloc: Global, rows: &[Row]) -> Result<(), AllocError>
-    ensures { OnOk result (string_bytes out.new ≡ string_bytes out.old ++ rows_text rows.now) }
+fn write_rows(out: &mut String, alloc: Global, rows: &[Row]) -> Result<(), AllocError>
+    ensures { OnOk result (Appends out.old out.new (rows_text rows.now)) }
 {
     if rows.is_empty() {
         return out.push_str("empty\n");
     }
     for row in rows {
-        push_row_line(out, alloc, row)?;
+        write_row_line(out, alloc, row)?;
     }
     Ok(())
 }
 
-/// Prints the view of a listener: `unknown` where it isn't primed, `leaf VALUE`, a `row KEY VALUE` for each row in order, or `empty`.
-pub(crate) fn push_view(
+/// Prints the view of a listener: `unknown` where it isn't primed, `leaf VALUE`, a `row KEY VALUE` for
+/// each row in order, or `empty`.
+pub(crate) fn write_view(
     out: &mut String,
     alloc: Global,
     view: Option<&Shown>,
 ) -> Result<(), AllocError>
-    ensures { OnOk result (string_bytes out.new ≡ string_bytes out.old ++ view_text (option_copied view.entry)) }
+    ensures { OnOk result (Appends out.old out.new (view_text (option_copied view.entry))) }
 {
     let Some(shown) = view else {
         return out.push_str("unknown\n");
@@ -179,13 +186,13 @@ pub(crate) fn push_view(
             let text = Tree::leaf(leaf.copy(alloc)?).text(alloc)?;
             writeln!(out, "leaf {text}")
         }
-        None => push_rows(out, alloc, shown.rows()),
+        None => write_rows(out, alloc, shown.rows()),
     }
 }
 
 /// Prints that a word of a line is refused.
-pub(crate) fn push_tree_error(out: &mut String, error: TreeError) -> Result<(), AllocError>
-    ensures { OnOk result (string_bytes out.new ≡ string_bytes out.old ++ tree_refused error) }
+pub(crate) fn write_tree_error(out: &mut String, error: TreeError) -> Result<(), AllocError>
+    ensures { OnOk result (Appends out.old out.new (tree_refused error)) }
 {
     let code = error.code();
     let name = error.name();
@@ -193,8 +200,8 @@ pub(crate) fn push_tree_error(out: &mut String, error: TreeError) -> Result<(), 
 }
 
 /// Prints that the core refuses.
-pub(crate) fn push_core_error(out: &mut String, error: CoreError) -> Result<(), AllocError>
-    ensures { OnOk result (string_bytes out.new ≡ string_bytes out.old ++ core_refused error) }
+pub(crate) fn write_core_error(out: &mut String, error: CoreError) -> Result<(), AllocError>
+    ensures { OnOk result (Appends out.old out.new (core_refused error)) }
 {
     let code = error.code();
     let name = error.name();

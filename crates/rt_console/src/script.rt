@@ -1,19 +1,24 @@
 // A run of a script.
-ghost use Rattle.std.specs.Prelude.{◌≡◌, ◌+◌, ◌<◌, ◌≤◌, ◌^◌, ◌⊎◌, ◌++◌, ◌∷◌, min, length, Some, IfSome, IfOk, IfErr, OnOk, OnErr, IsErrOf, MatchOption, is_some, option_and_then, position, take, ◌==◌, ℕ, List, Option, []};
+ghost use Rattle.std.specs.Prelude.{◌≡◌, ◌+◌, ◌<◌, ◌≤◌, ◌^◌, ◌⊎◌, ◌++◌, ◌∷◌, [], ◌==◌, ℕ, List, Option, Some};
+ghost use Rattle.std.specs.Prelude.{IfSome, IfOk, IfErr, OnOk, OnErr, IsErrOf, MatchOption};
+ghost use Rattle.std.specs.Prelude.{min, length, is_some, option_and_then, position, take};
 ghost use Rattle.std.specs.Io.KnownBytes.{Consumes, IsAtEnd};
 ghost use Rattle.serde_json.specs.View.{view as data_of};
 ghost use Rattle.rt_sync.specs.World.{World, empty_world, limits_from};
 ghost use Rattle.rt_sync.specs.Runs.{IsPlainStep};
-ghost use Rattle.rt_console.specs.Forms.{line_of};
 ghost use Rattle.rt_console.specs.Lines.{line_in};
-ghost use Rattle.rt_console.specs.Run.{After, AfterLine, AfterLines, Does, DoesIfLine, DoesLine, EndsLine, Takes, at, line_of_bytes, lines_of, progress, resumed, start, step_of, step_of_bytes};
-ghost use Rattle.rt_console.specs.Faults.{NoneFailed, Tells, WriteTells, most_input};
+ghost use Rattle.rt_console.specs.Run.{After, AfterLine, AfterLines, most_input, progress, start};
+ghost use Rattle.rt_console.specs.Run.{line_of_bytes, lines_of, step_of, step_of_bytes};
+ghost use Rattle.rt_console.specs.Prints.{at, DoesIfLine, DoesLine, DoesStep, DoesView, EndsLine};
+ghost use Rattle.rt_console.specs.inside.Faults.{counts, NoneFailed, Tells, WriteTells};
+ghost use Rattle.rt_console.specs.inside.LineView.{as_line};
+ghost use Rattle.rt_console.specs.inside.Pieces.{AfterOrNot, resumed, so_far, Takes};
 
 use crate::error::ConsoleError;
-use crate::form::Form;
+use crate::line::Line;
 use crate::stream::{Drain, Source};
 use crate::task::Task;
-use crate::{form, print, task};
+use crate::{line, print, task};
 use rt_sync::{Core, CoreError, Limits, Step};
 use rt_tree::TreeError;
 use serde_json::Value;
@@ -42,74 +47,76 @@ struct Script {
 // Makes a step, and prints what the core answers.
 fn make_step(core: &mut Core, alloc: Global, step: Step, out: &mut String) -> Result<(), AllocError>
     requires { IsPlainStep step }
-    ensures ok { OnOk result (Does (Task.Step step) (at core.old out.old) (at core.new out.new)) }
+    ensures ok { OnOk result (DoesStep step (at core.old out.old) (at core.new out.new)) }
     ensures made { After (Some step) core.old core.new }
 {
     match core.apply(step) {
-        Ok(report) => print::push_report(out, alloc, &report),
+        Ok(report) => print::write_report(out, alloc, &report),
         Err(CoreError::NoMemory) => Err(AllocError),
-        Err(error) => print::push_core_error(out, error),
+        Err(error) => print::write_core_error(out, error),
     }
 }
 
 // Prints the view of a listener.
 fn show_view(core: &Core, alloc: Global, listener: u64, out: &mut String) -> Result<(), AllocError>
-    ensures { OnOk result (Does (Task.View listener) (at core.now out.old) (at core.now out.new)) }
+    ensures { OnOk result (DoesView listener (at core.now out.old) (at core.now out.new)) }
 {
     match core.view(listener) {
-        Ok(view) => print::push_view(out, alloc, view.as_ref()),
+        Ok(view) => print::write_view(out, alloc, view.as_ref()),
         Err(CoreError::NoMemory) => Err(AllocError),
-        Err(error) => print::push_core_error(out, error),
+        Err(error) => print::write_core_error(out, error),
     }
 }
 
-// The value of a line, or none where it is no JSON.
-fn value_of(alloc: Global, line: &[u8]) -> Result<Option<Value>, AllocError>
-    ensures { IfOk result (λ value. option_and_then (λ v. line_in (data_of v)) value ≡ line_of_bytes line.now) }
+// The value that bytes are, or none where they are no JSON.
+fn value_of(alloc: Global, bytes: &[u8]) -> Result<Option<Value>, AllocError>
+    ensures { IfOk result (λ value.
+        option_and_then (λ v. line_in (data_of v)) value ≡ line_of_bytes bytes.now) }
 {
-    match Value::from_slice(alloc, line) {
+    match Value::from_slice(alloc, bytes) {
         Ok(value) => Ok(Some(value)),
         Err(error) if error.is_memory() => Err(AllocError),
         Err(_) => Ok(None),
     }
 }
 
-// Does what a line of a form asks for.
-fn do_form(
-    core: &mut Core,
-    alloc: Global,
-    form: Form<'_>,
-    out: &mut String,
-) -> Result<(), AllocError>
-    ensures ok { OnOk result (DoesLine (line_of form.entry) (at core.old out.old) (at core.new out.new)) }
-    ensures failed { OnErr result ((core.new ≡ core.old) ⊎ After (step_of (line_of form.entry)) core.old core.new) }
-{
-    match task::task_of(alloc, form) {
-        Ok(Task::Step(step)) => make_step(core, alloc, step, out),
-        Ok(Task::View(listener)) => show_view(core, alloc, listener, out),
-        Err(TreeError::NoMemory) => Err(AllocError),
-        Err(error) => print::push_tree_error(out, error),
-    }
-}
-
-// Does what a line asks for, and answers whether it has a form.
+// Does what a line asks for.
 fn do_line(
     core: &mut Core,
     alloc: Global,
-    line: &[u8],
+    line: Line<'_>,
+    out: &mut String,
+) -> Result<(), AllocError>
+    ensures ok { OnOk result (DoesLine (as_line line.entry) (at core.old out.old) (at core.new out.new)) }
+    ensures failed { OnErr result (AfterOrNot (step_of (as_line line.entry)) core.old core.new) }
+{
+    match task::task_of(alloc, line) {
+        Ok(Task::Step(step)) => make_step(core, alloc, step, out),
+        Ok(Task::View(listener)) => show_view(core, alloc, listener, out),
+        Err(TreeError::NoMemory) => Err(AllocError),
+        Err(error) => print::write_tree_error(out, error),
+    }
+}
+
+// Does what bytes ask for, and answers whether they are a line.
+fn do_bytes(
+    core: &mut Core,
+    alloc: Global,
+    bytes: &[u8],
     out: &mut String,
 ) -> Result<bool, AllocError>
-    ensures form { IfOk result (λ has_form. has_form ≡ is_some (line_of_bytes line.now)) }
-    ensures ok { OnOk result (DoesIfLine (line_of_bytes line.now) (at core.old out.old) (at core.new out.new)) }
-    ensures failed { OnErr result ((core.new ≡ core.old) ⊎ After (step_of_bytes line.now) core.old core.new) }
+    ensures line { IfOk result (λ is_line. is_line ≡ is_some (line_of_bytes bytes.now)) }
+    ensures ok { OnOk result
+        (DoesIfLine (line_of_bytes bytes.now) (at core.old out.old) (at core.new out.new)) }
+    ensures failed { OnErr result (AfterOrNot (step_of_bytes bytes.now) core.old core.new) }
 {
-    let Some(value) = value_of(alloc, line)? else {
+    let Some(value) = value_of(alloc, bytes)? else {
         return Ok(false);
     };
-    let Some(form) = form::form_of(&value) else {
+    let Some(line) = line::line_of(&value) else {
         return Ok(false);
     };
-    do_form(core, alloc, form, out)?;
+    do_line(core, alloc, line, out)?;
     Ok(true)
 }
 
@@ -123,7 +130,9 @@ fn feed_in(bytes: &[u8]) -> Option<usize>
 // The bytes before the first line feed, and those behind it.
 fn split_line<'a>(bytes: &'a [u8]) -> Option<(&'a [u8], &'a [u8])>
     ensures shorter { IfSome result (λ pieces. length pieces.1.now < length bytes.entry.now) }
-    ensures lines { MatchOption result (lines_of bytes.entry.now ≡ bytes.entry.now ∷ []) (λ pieces. lines_of bytes.entry.now ≡ pieces.0.now ∷ lines_of pieces.1.now) }
+    ensures lines { MatchOption result
+        (lines_of bytes.entry.now ≡ bytes.entry.now ∷ [])
+        (λ pieces. lines_of bytes.entry.now ≡ pieces.0.now ∷ lines_of pieces.1.now) }
 {
     match feed_in(bytes) {
         Some(end) => Some((&bytes[..end], &bytes[end + 1..])),
@@ -147,8 +156,10 @@ fn read_some<S: Source>(reader: &mut S, chunk: &mut [u8]) -> Result<usize, Conso
     ensures given { IfOk result (λ n. S.given reader.new ≡ S.given reader.old + n) }
     ensures none_failed { OnOk result (S.failures reader.new ≡ S.failures reader.old) }
     ensures end { IfOk result (λ n. n ≡ 0 → IsAtEnd (S.remaining reader.new)) }
-    ensures bytes { IfOk result (λ n. Consumes (S.remaining reader.old) (S.remaining reader.new) (take n chunk.new)) }
-    ensures fault { IfErr result (λ e. (e ≡ ConsoleError.ReadFault) × (S.failures reader.new ≡ S.failures reader.old + 1)) }
+    ensures bytes { IfOk result (λ n.
+        Consumes (S.remaining reader.old) (S.remaining reader.new) (take n chunk.new)) }
+    ensures error { IfErr result (λ e. e ≡ ConsoleError.ReadFault) }
+    ensures fault { OnErr result (S.failures reader.new ≡ S.failures reader.old + 1) }
 {
     match reader.read(chunk) {
         Ok(count) => Ok(count),
@@ -158,7 +169,7 @@ fn read_some<S: Source>(reader: &mut S, chunk: &mut [u8]) -> Result<usize, Conso
 
 impl Script {
     fn new(alloc: Global) -> Script
-        ensures start { progress result.core result.bad_lines ≡ start }
+        ensures start { so_far result ≡ start }
         ensures line { result.line.items ≡ [] }
     {
         Script {
@@ -173,19 +184,20 @@ impl Script {
 
     // The line that is being read ends: it is done, or passed over where it is empty.
     fn end_line(&mut self) -> Result<(), AllocError>
-        ensures ok { OnOk result (EndsLine self.old.line.items self.new.lines (at self.old.core self.old.printed) (at self.new.core self.new.printed)) }
+        ensures ok { OnOk result (EndsLine self.old.line.items self.new.lines
+            (at self.old.core self.old.printed) (at self.new.core self.new.printed)) }
         ensures number { self.new.lines ≡ min (self.old.lines + 1) u64.MAX }
-        ensures after { OnOk result (AfterLine self.old.line.items (progress self.old.core self.old.bad_lines) (progress self.new.core self.new.bad_lines)) }
+        ensures after { OnOk result (AfterLine self.old.line.items (so_far self.old) (so_far self.new)) }
         ensures begins { OnOk result (self.new.line.items ≡ []) }
     {
         self.lines = self.lines.saturating_add(1);
         if self.line.is_empty() {
             return Ok(());
         }
-        let line = self.line.as_slice();
-        let has_form = do_line(&mut self.core, self.alloc, line, &mut self.printed)?;
+        let bytes = self.line.as_slice();
+        let is_line = do_bytes(&mut self.core, self.alloc, bytes, &mut self.printed)?;
         self.line.clear();
-        if has_form {
+        if is_line {
             return Ok(());
         }
         self.bad_lines = self.bad_lines.saturating_add(1);
@@ -198,8 +210,11 @@ impl Script {
     fn write_out<D: Drain>(&mut self, writer: &mut D) -> Result<(), ConsoleError>
         requires { D.failures writer.old + 1 < 2 ^ 64 }
         ensures ok { OnOk result (D.failures writer.new ≡ D.failures writer.old) }
-        ensures fault { IfErr result (λ e. (e ≡ ConsoleError.WriteFault) × (D.failures writer.new ≡ D.failures writer.old + 1)) }
-        ensures kept { (self.new.core ≡ self.old.core) × (self.new.line ≡ self.old.line) × (self.new.bad_lines ≡ self.old.bad_lines) }
+        ensures error { IfErr result (λ e. e ≡ ConsoleError.WriteFault) }
+        ensures fault { OnErr result (D.failures writer.new ≡ D.failures writer.old + 1) }
+        ensures core { self.new.core ≡ self.old.core }
+        ensures line { self.new.line ≡ self.old.line }
+        ensures bad_lines { self.new.bad_lines ≡ self.old.bad_lines }
     {
         if self.printed.is_empty() {
             return Ok(());
@@ -214,7 +229,7 @@ impl Script {
         requires { D.failures writer.old + 1 < 2 ^ 64 }
         ensures ok { OnOk result (D.failures writer.new ≡ D.failures writer.old) }
         ensures fault { IfErr result (λ e. WriteTells e (D.failures writer.old) (D.failures writer.new)) }
-        ensures after { OnOk result (AfterLine self.old.line.items (progress self.old.core self.old.bad_lines) (progress self.new.core self.new.bad_lines)) }
+        ensures after { OnOk result (AfterLine self.old.line.items (so_far self.old) (so_far self.new)) }
         ensures begins { OnOk result (self.new.line.items ≡ []) }
     {
         self.end_line()?;
@@ -229,7 +244,8 @@ impl Script {
         requires { D.failures writer.old + 1 < 2 ^ 64 }
         ensures ok { OnOk result (D.failures writer.new ≡ D.failures writer.old) }
         ensures fault { IfErr result (λ e. WriteTells e (D.failures writer.old) (D.failures writer.new)) }
-        ensures takes { OnOk result (Takes self.old.line.items bytes.now (progress self.old.core self.old.bad_lines) self.new.line.items (progress self.new.core self.new.bad_lines)) }
+        ensures takes { OnOk result (Takes self.old.line.items bytes.now (so_far self.old)
+            self.new.line.items (so_far self.new)) }
     {
         let mut rest = bytes;
         while let Some((end, behind)) = split_line(rest) {
@@ -246,7 +262,7 @@ impl Script {
         requires { D.failures writer.old + 1 < 2 ^ 64 }
         ensures ok { OnOk result (D.failures writer.new ≡ D.failures writer.old) }
         ensures fault { IfErr result (λ e. WriteTells e (D.failures writer.old) (D.failures writer.new)) }
-        ensures after { OnOk result (AfterLine self.old.line.items (progress self.old.core self.old.bad_lines) (progress self.new.core self.new.bad_lines)) }
+        ensures after { OnOk result (AfterLine self.old.line.items (so_far self.old) (so_far self.new)) }
     {
         self.end_line()?;
         self.write_out(writer)
@@ -262,10 +278,16 @@ impl Script {
         requires reads { S.failures reader.old + 1 < 2 ^ 64 }
         requires writes { D.failures writer.old + 1 < 2 ^ 64 }
         ensures end { OnOk result (IsAtEnd (S.remaining reader.new)) }
-        ensures ran { OnOk result ((text : List ℕ) → S.remaining reader.old ≡ Some text → AfterLines (resumed self.old.line.items (lines_of text)) (progress self.old.core self.old.bad_lines) (progress self.new.core self.new.bad_lines)) }
+        ensures ran { OnOk result ((text : List ℕ) → S.remaining reader.old ≡ Some text
+            → AfterLines (resumed self.old.line.items (lines_of text))
+            (so_far self.old) (so_far self.new)) }
         ensures within { OnOk result (S.given reader.new ≤ S.given reader.old + most_input) }
-        ensures fault { IfErr result (λ e. Tells e (record { given = S.given reader.old; failed_reads = S.failures reader.old; failed_writes = D.failures writer.old }) (record { given = S.given reader.new; failed_reads = S.failures reader.new; failed_writes = D.failures writer.new })) }
-        ensures ok { OnOk result (NoneFailed (record { given = S.given reader.old; failed_reads = S.failures reader.old; failed_writes = D.failures writer.old }) (record { given = S.given reader.new; failed_reads = S.failures reader.new; failed_writes = D.failures writer.new })) }
+        ensures fault { IfErr result (λ e. Tells e
+            (counts (S.given reader.old) (S.failures reader.old) (D.failures writer.old))
+            (counts (S.given reader.new) (S.failures reader.new) (D.failures writer.new))) }
+        ensures ok { OnOk result (NoneFailed
+            (counts (S.given reader.old) (S.failures reader.old) (D.failures writer.old))
+            (counts (S.given reader.new) (S.failures reader.new) (D.failures writer.new))) }
     {
         let mut chunk = room_for(self.alloc, CHUNK)?;
         let mut taken = 0;
@@ -293,11 +315,15 @@ impl Script {
         requires reads { S.failures reader.old + 1 < 2 ^ 64 }
         requires writes { D.failures writer.old + 1 < 2 ^ 64 }
         ensures end { OnOk result (IsAtEnd (S.remaining reader.new)) }
-        ensures ran { IfOk result (λ bad_lines. (text : List ℕ) → S.remaining reader.old ≡ Some text → AfterLines (resumed self.old.line.items (lines_of text)) (progress self.old.core self.old.bad_lines) (progress self.new.core bad_lines)) }
+        ensures ran { IfOk result (λ bad_lines. (text : List ℕ) → S.remaining reader.old ≡ Some text
+            → AfterLines (resumed self.old.line.items (lines_of text))
+            (so_far self.old) (progress self.new.core bad_lines)) }
         ensures within { OnOk result (S.given reader.new ≤ S.given reader.old + most_input) }
-        ensures none_failed { OnOk result ((S.failures reader.new ≡ S.failures reader.old) × (D.failures writer.new ≡ D.failures writer.old)) }
+        ensures no_failed_read { OnOk result (S.failures reader.new ≡ S.failures reader.old) }
+        ensures no_failed_write { OnOk result (D.failures writer.new ≡ D.failures writer.old) }
         ensures read_fault { IsErrOf result ConsoleError.ReadFault
-            → (S.failures reader.old < S.failures reader.new) ⊎ (S.given reader.old + most_input < S.given reader.new) }
+            → (S.failures reader.old < S.failures reader.new)
+            ⊎ (S.given reader.old + most_input < S.given reader.new) }
         ensures write_fault { IsErrOf result ConsoleError.WriteFault → D.failures writer.old < D.failures writer.new }
         ensures failed_read { S.failures reader.old < S.failures reader.new → IsErrOf result ConsoleError.ReadFault }
         ensures never { IsErrOf result ConsoleError.BadWords → ⊥ }
@@ -315,9 +341,11 @@ impl Script {
     }
 }
 
-/// Runs the script that a reader gives over one new core, and writes what its lines print. Answers the number of bad lines.
+/// Runs the script that a reader gives over one new core, and writes what its lines print. Answers
+/// the number of bad lines.
 ///
-/// A `ReadFault` is a failure of the reader, or more than 67,108,864 bytes of input, and a `WriteFault` a failure of the writer.
+/// A `ReadFault` is a failure of the reader, or more than 67,108,864 bytes of input, and a
+/// `WriteFault` a failure of the writer.
 /// What is written before a fault is what the whole run would have written first.
 pub fn run_script<S: Source, D: Drain>(
     alloc: Global,
@@ -331,9 +359,11 @@ pub fn run_script<S: Source, D: Drain>(
     ensures ran { IfOk result (λ bad_lines. (text : List ℕ) → S.remaining reader.old ≡ Some text
         → (core : Option World) × AfterLines (lines_of text) start (progress core bad_lines)) }
     ensures within { OnOk result (S.given reader.new ≤ S.given reader.old + most_input) }
-    ensures none_failed { OnOk result ((S.failures reader.new ≡ S.failures reader.old) × (D.failures writer.new ≡ D.failures writer.old)) }
+    ensures no_failed_read { OnOk result (S.failures reader.new ≡ S.failures reader.old) }
+    ensures no_failed_write { OnOk result (D.failures writer.new ≡ D.failures writer.old) }
     ensures read_fault { IsErrOf result ConsoleError.ReadFault
-        → (S.failures reader.old < S.failures reader.new) ⊎ (S.given reader.old + most_input < S.given reader.new) }
+        → (S.failures reader.old < S.failures reader.new)
+        ⊎ (S.given reader.old + most_input < S.given reader.new) }
     ensures write_fault { IsErrOf result ConsoleError.WriteFault → D.failures writer.old < D.failures writer.new }
     ensures failed_read { S.failures reader.old < S.failures reader.new → IsErrOf result ConsoleError.ReadFault }
     ensures never { IsErrOf result ConsoleError.BadWords → ⊥ }

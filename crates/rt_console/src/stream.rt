@@ -1,6 +1,7 @@
 // Readers and writers that count.
-ghost use Rattle.std.specs.Prelude.{◌≡◌, ◌+◌, ◌<◌, ◌≤◌, ◌^◌, ℕ, List, Option, length, MatchResult, IfOk};
+ghost use Rattle.std.specs.Prelude.{◌≡◌, ◌+◌, ◌<◌, ◌≤◌, ◌^◌, ℕ, List, Option, length, IfOk};
 ghost use Rattle.std.specs.Io.KnownBytes.{ReadConsumes};
+ghost use Rattle.rt_console.specs.Streams.{CountsBytes, CountsFailure};
 
 use std::io::{Read, Write};
 
@@ -19,14 +20,14 @@ pub trait Source {
     // The bytes that are left, where they are known.
     ghost remaining: { Self → Option (List ℕ) };
 
-    /// Reads into the front of the slice, and answers how many bytes it gave: none only at the end of the input,
-    /// or where the slice is empty.
+    /// Reads into the front of the slice, and answers how many bytes it gave: none only at the end of
+    /// the input, or where the slice is empty.
     fn read(&mut self, into: &mut [u8]) -> Result<usize, Failed>
         requires can_count_bytes { given self.old + length into.old < 2 ^ 64 }
         requires can_count_failures { failures self.old + 1 < 2 ^ 64 }
         ensures fits { IfOk result (λ n. n ≤ length into.old) }
-        ensures given { MatchResult result (λ n. given self.new ≡ given self.old + n) (λ _. given self.new ≡ given self.old) }
-        ensures failures { MatchResult result (λ _. failures self.new ≡ failures self.old) (λ _. failures self.new ≡ failures self.old + 1) }
+        ensures given { CountsBytes result (given self.old) (given self.new) }
+        ensures failures { CountsFailure result (failures self.old) (failures self.new) }
         ensures bytes { ReadConsumes (remaining self.old) (remaining self.new) result into.new };
 }
 
@@ -38,7 +39,7 @@ pub trait Drain {
     /// Writes all of the slice, so that nothing of it waits in a buffer.
     fn write(&mut self, bytes: &[u8]) -> Result<(), Failed>
         requires { failures self.old + 1 < 2 ^ 64 }
-        ensures { MatchResult result (λ _. failures self.new ≡ failures self.old) (λ _. failures self.new ≡ failures self.old + 1) };
+        ensures { CountsFailure result (failures self.old) (failures self.new) };
 }
 
 /// A [`Source`] of a reader of std.

@@ -1,13 +1,12 @@
 // What a line of the script asks for.
-ghost use Rattle.std.specs.Prelude.{◌≡◌, ◌⊎◌, IfOk, IfErr, OnOk, None, Some};
-ghost use Rattle.std.specs.Option.{option_or};
+ghost use Rattle.std.specs.Prelude.{◌≡◌, IfOk, IfErr, OnOk, None};
 ghost use Rattle.serde_json.specs.View.{view as data_of};
-ghost use Rattle.rt_tree.specs.Path.{path_keys, path_fault};
-ghost use Rattle.rt_tree.specs.Reading.{tree_of_data, data_fault};
-ghost use Rattle.rt_console.specs.Forms.{line_of};
-ghost use Rattle.rt_console.specs.Tasks.{IsPlainTask, task_of, words_fault};
+ghost use Rattle.rt_tree.specs.Path.{path_keys};
+ghost use Rattle.rt_tree.specs.Reading.{tree_of_data};
+ghost use Rattle.rt_console.specs.inside.LineView.{as_line};
+ghost use Rattle.rt_console.specs.Tasks.{IsFaultOr, IsPlainTask, place_fault, task_of, words_fault};
 
-use crate::form::Form;
+use crate::line::Line;
 use rt_query::Query;
 use rt_sync::{Action, Step};
 use rt_tree::{Path, Tree, TreeError};
@@ -27,8 +26,8 @@ pub(crate) enum Task {
 fn place_of(alloc: Global, path: &str, value: &Value) -> Result<(Path, Tree), TreeError>
     ensures path { IfOk result (λ place. place.0 ≡ path_keys path.now) }
     ensures tree { IfOk result (λ place. place.1 ≡ tree_of_data (data_of value.now)) }
-    ensures fine { OnOk result (option_or (path_fault path.now) (data_fault (data_of value.now)) ≡ None) }
-    ensures fault { IfErr result (λ e. (option_or (path_fault path.now) (data_fault (data_of value.now)) ≡ Some e) ⊎ (e ≡ TreeError.NoMemory)) }
+    ensures fine { OnOk result (place_fault path.now (data_of value.now) ≡ None) }
+    ensures fault { IfErr result (λ e. IsFaultOr (place_fault path.now (data_of value.now)) e) }
 {
     let path = Path::parse(alloc, path)?;
     match Tree::from_value(alloc, value) {
@@ -37,29 +36,30 @@ fn place_of(alloc: Global, path: &str, value: &Value) -> Result<(Path, Tree), Tr
     }
 }
 
-/// What a line of a form asks for. Its words are looked at in their order, so the answer to a line with several faults is the first.
-pub(crate) fn task_of(alloc: Global, form: Form<'_>) -> Result<Task, TreeError>
-    ensures ok { IfOk result (λ task. task ≡ task_of (line_of form.entry)) }
-    ensures fine { OnOk result (words_fault (line_of form.entry) ≡ None) }
-    ensures fault { IfErr result (λ e. (words_fault (line_of form.entry) ≡ Some e) ⊎ (e ≡ TreeError.NoMemory)) }
+/// What a line asks for. Its words are looked at in their order, so the answer to a line with
+/// several faults is the first.
+pub(crate) fn task_of(alloc: Global, line: Line<'_>) -> Result<Task, TreeError>
+    ensures ok { IfOk result (λ task. task ≡ task_of (as_line line.entry)) }
+    ensures fine { OnOk result (words_fault (as_line line.entry) ≡ None) }
+    ensures fault { IfErr result (λ e. IsFaultOr (words_fault (as_line line.entry)) e) }
     ensures plain { IfOk result IsPlainTask }
 {
-    match form {
-        Form::Connected => Ok(Task::Step(Step::Connected)),
-        Form::Listen { seat, path } => {
+    match line {
+        Line::Connected => Ok(Task::Step(Step::Connected)),
+        Line::Listen { seat, path } => {
             let path = Path::parse(alloc, path)?;
             let query = Query::at(path).done();
             Ok(Task::Step(Step::Listen { seat, query }))
         }
-        Form::Data { tag, path, value } => {
+        Line::Data { tag, path, value } => {
             let (path, tree) = place_of(alloc, path, value)?;
             Ok(Task::Step(Step::Data { tag, path, tree }))
         }
-        Form::Set { seat, path, value } => {
+        Line::Set { seat, path, value } => {
             let (path, tree) = place_of(alloc, path, value)?;
             let action = Action::Put { path, tree };
             Ok(Task::Step(Step::Write { seat, action }))
         }
-        Form::View { listener } => Ok(Task::View(listener)),
+        Line::View { listener } => Ok(Task::View(listener)),
     }
 }

@@ -1,9 +1,9 @@
 // The command line.
 ghost use Rattle.std.specs.Prelude.{◌≡◌, ◌≢◌, ◌⊎◌, [], map, codes, false, IfOk, IfErr, OnOk};
-ghost use Rattle.clap.specs.Words.{app_of, fault_of, new_app, FailsBy};
+ghost use Rattle.clap.specs.Words.{app_of, new_app, FailsBy};
 ghost use Rattle.clap.specs.Values.{kind_of};
 ghost use Rattle.clap.specs.declared.builder.command.Command.TheViews.{out-Command as fields_of};
-ghost use Rattle.rt_console.specs.Words.{base_app, console_app, status_of};
+ghost use Rattle.rt_console.specs.Words.{base_app, console_app, faults_of, IsExplained, status_of};
 
 use crate::error::ConsoleError;
 use clap::error::ErrorKind;
@@ -11,16 +11,19 @@ use clap::{ArgMatches, Command, Error};
 use std::alloc::{AllocError, Global};
 use std::convert::AsStr;
 
+/// The program's name, as its users type it.
+pub(crate) const PROGRAM: &str = "kaltewi";
+
 const ABOUT: &str = "Runs a Firebase Realtime Database sync client from the command line";
 
-const SCRIPT: &str =
-    "Reads lines from standard input, does what they ask of one client, and prints what each answers";
+const SCRIPT: &str = "\
+Reads lines from standard input, does what they ask of one client, and prints what each answers";
 
 const LINES: &str = "\
 Each line is a JSON array:
   [\"connected\"]                    the connection to the server is open
   [\"listen\",SEAT,PATH,[]]          a listener of a path; prints its number
-  [\"data\",TAG,PATH,VALUE]          the server pushes a value on the listen with that tag
+  [\"data\",TAG,PATH,VALUE]          the server sends a value, on the listen with that tag
   [\"set\",SEAT,PATH,VALUE]          a write; prints its number
   [\"view\",LISTENER]                prints what a listener shows
 A step prints 'done', 'done N' or 'stale', and then each listener's changes.
@@ -46,21 +49,24 @@ fn script_command<'a>(alloc: Global) -> Command<'a>
 }
 
 // The program, with no subcommand yet.
-fn base_command<'a>(alloc: Global) -> Command<'a>
-    ensures app { app_of result ≡ base_app }
-    ensures local { (fields_of result).has_globals ≡ false }
+fn base_command<'a>(alloc: Global) -> Result<Command<'a>, AllocError>
+    ensures app { IfOk result (λ command. app_of command ≡ base_app) }
+    ensures local { IfOk result (λ command. (fields_of command).has_globals ≡ false) }
 {
-    Command::new(alloc, "rt_console")
+    let command = Command::new(alloc, PROGRAM)
         .about(ABOUT)
         .no_binary_name(true)
         .subcommand_required(true)
+        .bin_name(PROGRAM)?;
+    Ok(command)
 }
 
 // The program's command line.
 fn console_command<'a>(alloc: Global) -> Result<Command<'a>, AllocError>
     ensures { IfOk result (λ command. app_of command ≡ console_app) }
 {
-    let command = base_command(alloc).subcommand(script_command(alloc))?;
+    let base = base_command(alloc)?;
+    let command = base.subcommand(script_command(alloc))?;
     Ok(command)
 }
 
@@ -69,13 +75,27 @@ fn work_of(_matches: &ArgMatches<'_>) -> Work {
     Work::Script
 }
 
-/// Reads the words after the program's name, and explains where they make no command.
-pub(crate) fn command_line<'a, S: AsStr>(alloc: Global, words: &'a [S]) -> Result<Work, Error>
-    ensures { FailsBy (fault_of console_app (map S.text words.entry.now)) result }
+// Reads the words behind the program's name, with clap's own error.
+fn command_line<'a, S: AsStr>(alloc: Global, words: &'a [S]) -> Result<Work, Error>
+    ensures { FailsBy (faults_of (map S.text words.entry.now)) result }
 {
     let command = console_command(alloc)?;
     let matches = command.try_get_matches_from(words)?;
     Ok(work_of(&matches))
+}
+
+/// Reads the words behind the program's name.
+pub fn read_words<'a, S: AsStr>(alloc: Global, words: &'a [S]) -> Result<Work, ConsoleError>
+    ensures ok { OnOk result (faults_of (map S.text words.entry.now) ≡ []) }
+    ensures fault { IfErr result (λ e.
+        (e ≡ ConsoleError.NoMemory)
+        ⊎ ((e ≡ ConsoleError.BadWords) × (faults_of (map S.text words.entry.now) ≢ []))) }
+{
+    match command_line(alloc, words) {
+        Ok(work) => Ok(work),
+        Err(error) if error.kind() == ErrorKind::OutOfMemory => Err(ConsoleError::NoMemory),
+        Err(_) => Err(ConsoleError::BadWords),
+    }
 }
 
 // The exit status of words that make no command.
@@ -89,25 +109,27 @@ fn status_of(kind: ErrorKind) -> u8
     }
 }
 
-/// Prints why the words make no command, or the help that they ask for, and answers the exit status: 1 where it can't be printed.
-pub(crate) fn explain<R: Print + Eprint>(rt: &R, error: &Error) -> u8
+// Prints an error of clap's, or the help that was asked for, and answers the exit status.
+fn print_error<R: Print + Eprint>(rt: &R, error: &Error) -> u8
     ensures { (result ≡ status_of (kind_of error.now)) ⊎ (result ≡ 1) }
 {
     match error.print(rt) {
         Ok(()) => status_of(error.kind()),
-        Err(_) => 1,
+        Err(_) => {
+            let fault = ConsoleError::WriteFault;
+            let _ = eprintln!(rt; "{PROGRAM}: {fault}");
+            1
+        }
     }
 }
 
-/// Reads the words after the program's name.
-pub fn read_words<'a>(alloc: Global, words: &'a [&'a str]) -> Result<Work, ConsoleError>
-    ensures ok { OnOk result (fault_of console_app (map (λ word. word.now) words.entry.now) ≡ []) }
-    ensures fault { IfErr result (λ e. (e ≡ ConsoleError.NoMemory)
-        ⊎ ((e ≡ ConsoleError.BadWords) × (fault_of console_app (map (λ word. word.now) words.entry.now) ≢ []))) }
+/// Prints why words make no command, or the help that they ask for, and answers the exit status: 0 for
+/// help, 2 for bad words, 1 where nothing can be printed or memory is lacking.
+pub(crate) fn explain<'a, R: Print + Eprint, S: AsStr>(rt: &R, alloc: Global, words: &'a [S]) -> u8
+    ensures { IsExplained (faults_of (map S.text words.entry.now)) result }
 {
     match command_line(alloc, words) {
-        Ok(work) => Ok(work),
-        Err(error) if error.kind() == ErrorKind::OutOfMemory => Err(ConsoleError::NoMemory),
-        Err(_) => Err(ConsoleError::BadWords),
+        Ok(Work::Script) => 0,
+        Err(error) => print_error(rt, &error),
     }
 }

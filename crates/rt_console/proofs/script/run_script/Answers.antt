@@ -1,5 +1,6 @@
 use Rattle.std.proofs.Common.{ℕ, List, subst, ◌∙◌, ap}
-use Rattle.rt_console.specs.Run.{AfterLines, Progress, lines_of, progress, resumed}
+use Rattle.rt_console.specs.Run.{AfterLines, Progress, lines_of, progress}
+use Rattle.rt_console.specs.inside.Pieces.{resumed}
 use Rattle.rt_console.proofs.Runs.{if_ok_map, resumed-nil}
 use Rattle.rt_console.proofs.script.run_script.Goals as goal
 

@@ -2,7 +2,7 @@ use Rattle.serde_json.specs.View.{view as data_of}
 use Rattle.rt_tree.specs.Path.{path_fault}
 use Rattle.rt_tree.specs.Reading.{data_fault}
 use Rattle.rt_tree.specs.declared.error.TreeError.TheVariants.{NoMemory}
-use Rattle.rt_console.proofs.Tasks.{none-if_ok, option_or-none, fault_or}
+use Rattle.rt_console.proofs.FirstFaults.{none-if_ok, option_or-none, fault_or}
 use Rattle.rt_console.proofs.task.place_of.Goals as goal
 
 pub returns-in-Ok-clause-fine : goal.returns-in-Ok-clause-fine

@@ -4,4 +4,4 @@ use Rattle.rt_console.proofs.words.console_command.Goals as goal
 
 pub returns : goal.returns
 returns c = c.in_ok-command.ensures.shape (search rules)
-    ∙ ap₂ with_subcommand c.base_command.ensures.app (ap (λ (a : App). a.top) c.script_command.ensures.app)
+    ∙ ap₂ with_subcommand c.in_ok-base.ensures.app (ap (λ (a : App). a.top) c.script_command.ensures.app)

@@ -1,6 +1,7 @@
 use Rattle.std.proofs.Common.{rules, ◌≡◌, ℕ, List, [], ◌++◌, take, arith, ap, subst, ◌∙◌}
 use Rattle.std.proofs.lemmas.Grind.{common_steps}
-use Rattle.rt_console.specs.Run.{Takes, lines_of, progress, resumed}
+use Rattle.rt_console.specs.inside.Pieces.{Takes, resumed}
+use Rattle.rt_console.specs.Run.{lines_of, progress}
 use Rattle.rt_console.proofs.Runs.{Took, Took-text, Took-end, consumed, at_end}
 use Rattle.rt_console.proofs.script.Script.read_all.Goals as goal
 

@@ -1,5 +1,6 @@
 use Rattle.std.proofs.Common.{ℕ, ◌+◌, ◌-◌, ◌≡◌, ◌≤◌, List, length, Some}
-use Rattle.rt_console.specs.Run.{lines_of, progress, resumed}
+use Rattle.rt_console.specs.Run.{lines_of, progress}
+use Rattle.rt_console.specs.inside.Pieces.{resumed}
 use Rattle.rt_console.proofs.Runs.{Took}
 use Rattle.rt_console.proofs.script.Script.read_all.Given as goal
 

@@ -1,5 +1,6 @@
 use Rattle.std.proofs.Common.{rules, ◌≡◌, List, ℕ, ◌++◌, sym, subst, ◌∙◌}
-use Rattle.rt_console.specs.Run.{AfterLine, lines_of, progress, resumed}
+use Rattle.rt_console.specs.Run.{AfterLine, lines_of, progress}
+use Rattle.rt_console.specs.inside.Pieces.{resumed}
 use Rattle.rt_console.proofs.Runs.{Took, Took-line}
 use Rattle.rt_console.proofs.script.Script.take.Goals as goal
 

@@ -1,0 +1,4 @@
+pub mod Appending
+pub mod Faults
+pub mod LineView
+pub mod Pieces
