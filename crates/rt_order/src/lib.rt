@@ -8,8 +8,6 @@ mod key;
 mod laws;
 mod placed;
 mod placed_ref;
-#[cfg(test)]
-mod tests;
 mod value;
 
 pub use cut::{Cut, Mark, Place, Range};

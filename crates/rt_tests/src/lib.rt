@@ -1,0 +1,7 @@
+//! Tests of the libraries: outside values, printed texts, and each public call once on each of its ways out.
+#![tactic(auto)]
+
+#[cfg(test)]
+mod order;
+#[cfg(test)]
+mod query;
