@@ -5,7 +5,7 @@ ghost use Rattle.rt_order.specs.Entries.{entry};
 ghost use Rattle.rt_order.specs.SortRef.{value_of};
 
 use crate::index::{Index, sort_value};
-use crate::key::key_cmp;
+use crate::placed_ref::PlacedRef;
 use crate::value::{SortRef, value_cmp};
 use rt_tree::{Key, Leaf, Tree};
 use std::alloc::{AllocError, Global};
@@ -77,13 +77,13 @@ impl Place {
     }
 
     // Whether a key lies after the place.
-    fn is_before(&self, key: &Key) -> bool
+    fn is_before(&self, key: &PlacedRef<'_>) -> bool
         ensures { result ≡ is_past self.now key.now }
     {
         match self {
             Place::Min => true,
-            Place::Before(bound) => key_cmp(bound, key).is_le(),
-            Place::After(bound) => key_cmp(bound, key).is_lt(),
+            Place::Before(bound) => PlacedRef::of(bound).cmp(key).is_le(),
+            Place::After(bound) => PlacedRef::of(bound).cmp(key).is_lt(),
             Place::Max => false,
         }
     }
@@ -100,7 +100,7 @@ impl Cut {
     }
 
     // Whether an entry lies after the cut.
-    fn is_before(&self, value: &SortRef<'_>, key: &Key) -> bool
+    fn is_before(&self, value: &SortRef<'_>, key: &PlacedRef<'_>) -> bool
         ensures { result ≡ is_after self.now (value_of value.now, key.now) }
     {
         match value_cmp(&self.value.sort_value(), value) {
@@ -135,13 +135,19 @@ impl Range {
     pub fn has(&self, index: &Index, key: &Key, tree: &Tree) -> bool
         ensures { result ≡ has self.now (entry index.now (key.now, tree.now)) }
     {
-        let value = sort_value(index, tree);
+        self.has_entry(&sort_value(index, tree), &PlacedRef::of(key))
+    }
+
+    /// Whether an entry lies in the range: what a child is sorted by, and its key.
+    pub fn has_entry(&self, value: &SortRef<'_>, key: &PlacedRef<'_>) -> bool
+        ensures { result ≡ has self.now (value_of value.now, key.now) }
+    {
         let is_above = match &self.lower {
-            Some(cut) => cut.is_before(&value, key),
+            Some(cut) => cut.is_before(value, key),
             None => true,
         };
         let is_below = match &self.upper {
-            Some(cut) => !cut.is_before(&value, key),
+            Some(cut) => !cut.is_before(value, key),
             None => true,
         };
         is_above && is_below

@@ -5,7 +5,7 @@ use Rattle.rt_tree.specs.PathTree.{Path}
 use Rattle.rt_order.specs.declared.index.Index.{Index}
 use Rattle.rt_order.specs.declared.cut.Range.{Range}
 use Rattle.rt_query.specs.declared.limit.Limit.{Limit}
-use Rattle.rt_query.specs.Queries.{Query}
+use Rattle.rt_query.specs.Queries.{Query, IsQuery}
 
 -- a path; an order, if one is named; a range and a limit
 pub record Draft : Type 0 where
@@ -21,3 +21,7 @@ new_draft p = record { path = p; index = None; range = record { lower = None; up
 -- the query; in key order, where no order is named
 abbrev pub finished : Draft → Query
 finished d = record { path = d.path; index = unwrap_or d.index Index.Key; range = d.range; limit = d.limit }
+
+-- what holds of each draft: what holds of its query
+abbrev pub IsDraft : Draft → Type 0
+IsDraft d = IsQuery (finished d)

@@ -3,7 +3,6 @@ pub mod Calls
 pub mod Drafts
 pub mod Errors
 pub mod Examples
-pub mod Laws
 pub mod Queries
 pub mod QueryEq
 pub mod QueryEqLaws
@@ -12,3 +11,4 @@ pub mod Select
 pub mod ShownView
 pub mod Sorting
 pub mod Supply
+pub mod laws

@@ -25,7 +25,7 @@ in_range q cs = map (by_entry q.index) (filter (λ c. has q.range (entry q.index
 
 -- a borrowed child by its entry
 abbrev pub seen : Child → Entry × PathTree
-seen c = ((value_of c.rank, c.key.now), c.tree.now)
+seen c = ((value_of c.rank, c.key), c.tree.now)
 
 -- by their entries
 unfoldable pub child_cmp : Child → Child → Ordering

@@ -1,5 +1,5 @@
 // What a bound of a query names.
-ghost use Rattle.std.specs.Prelude.{◌≡◌, ◌⊎◌, IfOk, IfErr, IfSome, IsSome, Some, option_copied};
+ghost use Rattle.std.specs.Prelude.{◌≡◌, ◌⊎◌, IfOk, IfErr, IfSome, IsSome, OnErr, Some, option_copied};
 ghost use Rattle.rt_tree.specs.Key.{key_fault};
 ghost use Rattle.rt_order.specs.declared.index.Index.TheVariants as index;
 ghost use Rattle.rt_query.specs.Bounds.{Below, Above, named, text_of, cut_of};
@@ -7,7 +7,7 @@ ghost use Rattle.rt_query.specs.Calls.{first_refusal, naming_conditions};
 
 use crate::error::QueryError;
 use rt_order::{Cut, Index, Mark, Place};
-use rt_tree::{Key, LeafRef, TreeError};
+use rt_tree::{Key, Leaf, LeafRef, TreeError};
 use std::alloc::{AllocError, Global};
 
 // A value, and perhaps a key.
@@ -69,11 +69,12 @@ impl Named {
         Ok(Named { value, key })
     }
 
-    // An equal name.
+    // An equal name. Takes memory for a key and for a text.
     pub(crate) fn copy(&self, alloc: Global) -> Result<Named, AllocError>
-        ensures { IfOk result (λ n. n ≡ self.now) }
+        ensures same { IfOk result (λ n. n ≡ self.now) }
+        ensures memory { OnErr result (IsSome self.now.key ⊎ IsSome (text_of self.now.value)) }
     {
-        let value = self.value.copy(alloc)?;
+        let value = copy_value(alloc, &self.value)?;
         let key = match &self.key {
             Some(key) => Some(key.copy()?),
             None => None,
@@ -116,6 +117,25 @@ fn text_of(value: &Mark) -> Option<&str>
             LeafRef::Text(text) => Some(text),
             LeafRef::Truth(_) | LeafRef::Number(_) => None,
         },
+    }
+}
+
+// An equal value. Takes memory for a text alone.
+fn copy_value(alloc: Global, value: &Mark) -> Result<Mark, AllocError>
+    ensures same { IfOk result (λ copy. copy ≡ value.now) }
+    ensures memory { OnErr result (IsSome (text_of value.now)) }
+{
+    let Mark::Leaf(leaf) = value else {
+        return Ok(Mark::Null);
+    };
+    match leaf.value() {
+        LeafRef::Truth(truth) => Ok(Mark::Leaf(Leaf::truth(truth))),
+        LeafRef::Number(number) => match Leaf::number(number) {
+            Ok(leaf) => Ok(Mark::Leaf(leaf)),
+            // What a leaf holds is in range.
+            Err(_) => Err(AllocError),
+        },
+        LeafRef::Text(_) => Ok(Mark::Leaf(leaf.copy(alloc)?)),
     }
 }
 

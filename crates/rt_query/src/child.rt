@@ -1,21 +1,22 @@
 // The children that a query looks at.
 ghost use Rattle.std.specs.Prelude.{◌≡◌, IfOk, map};
 ghost use Rattle.std.specs.List.Sorted.{IsPermutation, IsSorted};
+ghost use Rattle.rt_order.specs.Cuts.{has};
 ghost use Rattle.rt_order.specs.Entries.{entry};
 ghost use Rattle.rt_query.specs.Select.{row_of};
 ghost use Rattle.rt_query.specs.Sorting.{seen, child_cmp};
 
 use crate::row::Row;
-use rt_order::{Index, SortRef, key_cmp, sort_value, value_cmp};
+use rt_order::{Index, PlacedRef, Range, SortRef, sort_value, value_cmp};
 use rt_tree::{Key, Tree};
 use std::alloc::{AllocError, Global};
 use std::cmp::Ordering;
 
-// A child where it stands: what it is sorted by, its key and its tree.
-#[derive(Clone, Copy)]
+// A child where it stands: what it is sorted by, its key, whose number is read once, and its tree.
+#[derive(Drop)]
 pub(crate) struct Child<'a> {
     rank: SortRef<'a>,
-    key: &'a Key,
+    key: PlacedRef<'a>,
     tree: &'a Tree,
 }
 
@@ -25,9 +26,15 @@ impl<'a> Child<'a> {
     {
         Child {
             rank: sort_value(index, tree),
-            key,
+            key: PlacedRef::of(key),
             tree,
         }
+    }
+
+    pub(crate) fn is_in(&self, range: &Range) -> bool
+        ensures { result ≡ has range.now ((seen self.now).0) }
+    {
+        range.has_entry(&self.rank, &self.key)
     }
 }
 
@@ -36,7 +43,10 @@ impl<'a> Child<'a> {
 fn child_cmp(a: &Child<'_>, b: &Child<'_>) -> Ordering
     ensures { result ≡ child_cmp a.now b.now }
 {
-    value_cmp(&a.rank, &b.rank).then_with(|| key_cmp(a.key, b.key))
+    match value_cmp(&a.rank, &b.rank) {
+        Ordering::Equal => a.key.cmp(&b.key),
+        by_value => by_value,
+    }
 }
 
 // Puts children in order.
@@ -53,7 +63,7 @@ pub(crate) fn rows(alloc: Global, children: &[Child<'_>]) -> Result<Vec<Row>, Al
 {
     let mut rows = Vec::with_capacity(alloc, children.len())?;
     for child in children {
-        let key = child.key.copy()?;
+        let key = child.key.key().copy()?;
         let value = child.tree.copy(alloc)?;
         rows.push(Row { key, value })?;
     }

@@ -2,7 +2,7 @@
 ghost use Rattle.std.specs.Prelude.{◌≡◌, ◌⊎◌, IfOk, IfErr, IfSome, OnOk, OnErr, IsSome, Some, None, is_some, option_copied};
 ghost use Rattle.std.specs.Result.{result_err};
 ghost use Rattle.rt_order.specs.declared.index.Index.TheVariants as index;
-ghost use Rattle.rt_query.specs.Bounds.{start_at, start_after, end_at, end_before, equal_to, named};
+ghost use Rattle.rt_query.specs.Bounds.{start_at, start_after, end_at, end_before, equal_to, named, text_of};
 ghost use Rattle.rt_query.specs.Calls.{ordered_by, order_refusal, limited_to, limit_refusal, order_of, bounded_by, bound_refusal};
 ghost use Rattle.rt_query.specs.Drafts.{new_draft, finished};
 ghost use Rattle.rt_query.specs.declared.limit.Limit.TheVariants.{First, Last};
@@ -22,7 +22,7 @@ use std::marker::Model;
 ///
 /// A bound names a value, and perhaps a key among the children of that value. In key order it is given a text and no key,
 /// and names the child of that key.
-#[derive(Drop)]
+#[derive(Debug, Drop)]
 pub struct Draft {
     path: Path,
     index: Option<Index>,
@@ -31,11 +31,13 @@ pub struct Draft {
 }
 
 impl Model for Draft {
-    ghost use Rattle.rt_query.specs.Drafts.{Draft};
+    ghost use Rattle.rt_query.specs.Drafts.{Draft, IsDraft};
 
     ghost Value = { Draft };
 
     ghost view = { λ a. record { path = a.path; index = a.index; range = a.range; limit = a.limit } };
+
+    ghost invariant = { λ a. IsDraft (record { path = a.path; index = a.index; range = a.range; limit = a.limit }) };
 }
 
 impl Draft {
@@ -157,7 +159,8 @@ impl Draft {
     pub fn equal_to(&mut self, value: Mark, key: Option<&str>) -> Result<(), QueryError>
         ensures made { OnOk result (self.new ≡ bounded_by equal_to value (option_copied key.entry) self.old) }
         ensures refused { IfSome (bound_refusal equal_to value (option_copied key.entry) self.old) (λ e. result ≡ Err e) }
-        ensures errors { IfErr result (λ e. (bound_refusal equal_to value (option_copied key.entry) self.old ≡ Some e) ⊎ (e ≡ QueryError.NoMemory)) }
+        ensures errors { IfErr result (λ e. (bound_refusal equal_to value (option_copied key.entry) self.old ≡ Some e)
+            ⊎ (e ≡ QueryError.NoMemory) × (IsSome (named (order_of self.old) value (option_copied key.entry)).key ⊎ IsSome (text_of value))) }
         ensures unchanged { OnErr result (self.new ≡ self.old) }
     {
         let alloc = self.path.allocator();

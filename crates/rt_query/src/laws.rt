@@ -1,10 +1,26 @@
 // The laws of what queries show.
-ghost use Rattle.rt_query.specs.Laws.{SelectHasKeysOnce, UnfilteredShowsAll, EqualityTells, StartsAt, StartsAfter, EndsAt, EndsBefore, Equals, ComparesKeys};
+ghost use Rattle.rt_query.specs.laws.Rows.{RowsRise, RowsLieInRange, RowsAreWithinLimit};
+ghost use Rattle.rt_query.specs.laws.Bounding.{
+  StartsAt,
+  StartsAfter,
+  EndsAt,
+  EndsBefore,
+  Equals,
+  ComparesKeys,
+};
+ghost use Rattle.rt_query.specs.laws.Views.{SelectHasKeysOnce, UnfilteredShowsAll, EqualityTells};
 
 /// What a query shows: each key once, and where the query is not filtered the whole tree.
 pub fn select_laws()
     ensures once { SelectHasKeysOnce }
     ensures whole { UnfilteredShowsAll }
+{}
+
+/// The rows that a query shows: they rise in its order, lie in its range, and are no more than its limit.
+pub fn row_laws()
+    ensures rise { RowsRise }
+    ensures in_range { RowsLieInRange }
+    ensures within_limit { RowsAreWithinLimit }
 {}
 
 /// The tests of equality tell exactly the equal queries, and the equal views.

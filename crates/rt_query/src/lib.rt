@@ -2,8 +2,6 @@
 #![tactic(auto)]
 
 mod bound;
-#[cfg(test)]
-mod call_tests;
 mod child;
 mod draft;
 mod error;
@@ -12,14 +10,12 @@ mod laws;
 mod limit;
 mod query;
 mod row;
-#[cfg(test)]
-mod row_tests;
 mod shown;
 
 pub use draft::Draft;
 pub use error::QueryError;
 pub use examples::{bound_examples, order_examples, refusal_examples};
-pub use laws::{bound_laws, equality_laws, select_laws};
+pub use laws::{bound_laws, equality_laws, row_laws, select_laws};
 pub use limit::Limit;
 pub use query::Query;
 pub use row::Row;

@@ -3,7 +3,7 @@ ghost use Rattle.std.specs.Prelude.{◌≡◌, IfOk, map};
 ghost use Rattle.rt_tree.specs.Allowed.{IsAllowed};
 ghost use Rattle.rt_tree.specs.PathTree.{leaf_of};
 ghost use Rattle.rt_tree.specs.Children.{children_of};
-ghost use Rattle.rt_query.specs.Queries.{is_filtered};
+ghost use Rattle.rt_query.specs.Queries.{IsQuery, is_filtered};
 ghost use Rattle.rt_query.specs.Drafts.{new_draft};
 ghost use Rattle.rt_query.specs.Select.{select, rows_of};
 ghost use Rattle.rt_query.specs.Sorting.{in_range, seen};
@@ -21,7 +21,7 @@ use std::collections::BTreeMap;
 use std::marker::Model;
 
 /// What a listener asks for: the children of a path in an order, of these a range, and of that a limited number.
-#[derive(Drop)]
+#[derive(Debug, Drop)]
 pub struct Query {
     pub(crate) path: Path,
     pub(crate) index: Index,
@@ -30,11 +30,13 @@ pub struct Query {
 }
 
 impl Model for Query {
-    ghost use Rattle.rt_query.specs.Queries.{Query};
+    ghost use Rattle.rt_query.specs.Queries.{Query, IsQuery};
 
     ghost Value = { Query };
 
     ghost view = { λ a. record { path = a.path; index = a.index; range = a.range; limit = a.limit } };
+
+    ghost invariant = { λ a. IsQuery (record { path = a.path; index = a.index; range = a.range; limit = a.limit }) };
 }
 
 impl Query {
@@ -59,16 +61,18 @@ impl Query {
         &self.index
     }
 
-    /// The range of the children that are shown.
+    /// The range of the children that are shown. In key order its cuts have the value null.
     pub fn range(&self) -> &Range
-        ensures { result.now ≡ self.now.range }
+        ensures range { result.now ≡ self.now.range }
+        ensures valid { IsQuery self.now }
     {
         &self.range
     }
 
-    /// How many are shown at most, if the query says so.
+    /// How many are shown at most, if the query says so. It is at least 1.
     pub fn limit(&self) -> Option<Limit>
-        ensures { result ≡ self.now.limit }
+        ensures limit { result ≡ self.now.limit }
+        ensures valid { IsQuery self.now }
     {
         self.limit
     }
@@ -149,8 +153,9 @@ impl Query {
     {
         let mut found = Vec::with_capacity(self.path.allocator(), children.len())?;
         for (key, tree) in children {
-            if self.range.has(&self.index, key, tree) {
-                found.push(Child::of(&self.index, key, tree))?;
+            let child = Child::of(&self.index, key, tree);
+            if child.is_in(&self.range) {
+                found.push(child)?;
             }
         }
         Ok(found)

@@ -11,7 +11,7 @@ use std::alloc::{AllocError, Global};
 use std::collections::BTreeMap;
 
 /// A child and its key, as a query shows them.
-#[derive(Drop)]
+#[derive(Debug, Drop)]
 pub struct Row {
     pub key: Key,
     pub value: Tree,

@@ -11,7 +11,7 @@ use std::alloc::AllocError;
 use std::marker::Model;
 
 /// What a query shows of a tree: a leaf, or rows in the query's order; neither, where there is nothing to show.
-#[derive(Drop)]
+#[derive(Debug, Drop)]
 pub struct Shown {
     leaf: Option<Leaf>,
     rows: Vec<Row>,

@@ -5,7 +5,11 @@
 #[cfg(test)]
 mod cover;
 #[cfg(test)]
+mod order;
+#[cfg(test)]
 mod push;
+#[cfg(test)]
+mod query;
 #[cfg(test)]
 mod readme;
 #[cfg(test)]

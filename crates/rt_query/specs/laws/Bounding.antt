@@ -1,5 +1,5 @@
--- Laws of what queries show.
-use Rattle.std.specs.Prelude.{◌≡◌, ℕ, false, ◌&&◌, List, Option, None}
+-- What a bound keeps of a range.
+use Rattle.std.specs.Prelude.{◌≡◌, ℕ, ◌&&◌, List, Option, None}
 use Rattle.std.specs.declared.cmp.Ordering.{Ordering}
 use Rattle.std.specs.Option.{option_map_or}
 use Rattle.std.specs.Ordering.{is_lt, is_le, is_eq, is_ge, is_gt}
@@ -15,25 +15,6 @@ use Rattle.rt_order.specs.Values.{value_cmp}
 use Rattle.rt_query.specs.declared.bound.Named.{Named}
 use Rattle.rt_query.specs.Bounds.{named, bounded, start_at, start_after, end_at, end_before, equal_to}
 use Rattle.rt_tree.specs.PathTree.{PathTree}
-use Rattle.rt_query.specs.Queries.{Query, is_filtered}
-use Rattle.rt_query.specs.QueryEq.{query_eq, shown_eq}
-use Rattle.rt_query.specs.Rows.{HasDistinctKeys}
-use Rattle.rt_query.specs.Select.{select, tree_of}
-use Rattle.rt_tree.specs.TreeEq.{Tells}
-
--- what a query shows has each key once
-abbrev pub SelectHasKeysOnce : Type 0
-SelectHasKeysOnce = (q : Query) (t : PathTree) → HasDistinctKeys ((select q t).rows)
-
--- an unfiltered query shows the whole tree
-abbrev pub UnfilteredShowsAll : Type 0
-UnfilteredShowsAll = (q : Query) (t : PathTree) → is_filtered q ≡ false → tree_of (select q t) ≡ t
-
--- the tests of equality tell exactly the equal ones
-abbrev pub EqualityTells : Type 0
-EqualityTells = Tells query_eq × Tells shown_eq
-
--- ---- bounds
 
 -- what a bound names, compared to an entry: by value, and by key where one is named
 abbrev pub compared : Named → Entry → Ordering

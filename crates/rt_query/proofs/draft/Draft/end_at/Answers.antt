@@ -1,0 +1,5 @@
+use Rattle.rt_query.proofs.Refusals.{none_refused}
+use Rattle.rt_query.proofs.draft.Draft.end_at.Goals as goal
+
+pub returns-clause-refused : goal.returns-clause-refused
+returns-clause-refused c = none_refused _ _ _ c.in_ok-named.ensures.refused
