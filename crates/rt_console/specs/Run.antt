@@ -5,7 +5,7 @@ use Rattle.std.specs.Str.{is_utf8}
 use Rattle.serde_json.specs.Read.{read}
 use Rattle.rt_tree.specs.declared.error.TreeError.{TreeError}
 use Rattle.rt_sync.specs.declared.step.Step.{Step}
-use Rattle.rt_sync.specs.World.{World, empty_world, limits_from}
+use Rattle.rt_sync.specs.World.{World, empty_world, limits_from, full_limits}
 use Rattle.rt_sync.specs.Answers.{Answer}
 use Rattle.rt_sync.specs.Runs.{Applies}
 use Rattle.rt_console.specs.declared.task.Task.{Task}
@@ -86,4 +86,4 @@ AfterLines (line ∷ lines) old new =
 
 -- the run over an input, from a new core
 abbrev pub start : Progress
-start = record { core = Some (empty_world (limits_from (record { listeners = 65536; requests = 65536; last_number = 9007199254740991 }))); bad_lines = 0 }
+start = record { core = Some (empty_world (limits_from full_limits)); bad_lines = 0 }

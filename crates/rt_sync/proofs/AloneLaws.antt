@@ -16,12 +16,12 @@ use Rattle.rt_sync.specs.declared.error.CoreError.{CoreError}
 use Rattle.rt_sync.specs.declared.step.Step.{Step}
 use Rattle.rt_sync.specs.declared.limits.Limits.{Limits}
 use Rattle.rt_sync.specs.World.{World, Listener, empty_world, limits_from, registered, pending, listen_of}
-use Rattle.rt_sync.specs.Steps.{listeners_after, requests_after, forms_after, kept_after, brought_after, pushed, renewed, next}
-use Rattle.rt_sync.specs.Refusals.{conditions, needs_tag, refusal, is_stale, is_bad_push, has_too_many_listeners}
+use Rattle.rt_sync.specs.Steps.{listeners_after, requests_after, forms_after, kept_after, brought_after, data_taken, renewed, next}
+use Rattle.rt_sync.specs.Refusals.{conditions, needs_tag, refusal, is_stale, is_bad_data, has_too_many_listeners}
 use Rattle.rt_sync.specs.Answers.{Answer, step_by, done_report, stale_report}
 use Rattle.rt_sync.specs.Runs.{Applies, AppliesAll, IsPlainStep}
-use Rattle.rt_sync.specs.Headline.{push_taken, of_each}
-use Rattle.rt_sync.specs.Alone.{IsEmpty, HasOne, IsAlone}
+use Rattle.rt_sync.specs.Headline.{entry_taken, of_each}
+use Rattle.rt_sync.specs.inside.Alone.{IsEmpty, HasOne, IsAlone}
 use Rattle.rt_sync.proofs.HeadlineLaws.{by_step, failed_stays}
 use Rattle.rt_sync.proofs.Listeners.{query-renewed}
 use Rattle.rt_sync.proofs.PlainWorlds.{form-unfiltered, needed-one, kept_for-kept, recover-under, push-no_window, push-under, AreUnder}
@@ -51,9 +51,9 @@ listeners_few : (w : World) (s : Step) → refusal w s ≡ None → has_too_many
 unfolding NoneHolds
 listeners_few w s e = (none_holds (conditions w s) e).0
 
-push_good : (w : World) (s : Step) → refusal w s ≡ None → is_bad_push w s ≡ false
+data_good : (w : World) (s : Step) → refusal w s ≡ None → is_bad_data w s ≡ false
 unfolding NoneHolds
-push_good w s e = ((((none_holds (conditions w s) e).1).1).1).0
+data_good w s e = ((((none_holds (conditions w s) e).1).1).1).0
 
 -- ---- a step that changes neither the listeners nor what is kept
 
@@ -195,30 +195,30 @@ kept_tag w one tag path tree fresh =
     ] found
 
 -- a push that is no bad one is at or under the listen's path
-within_listen : (w : World) (p : Path) (tag : ℕ) (path : Path) (tree : PathTree) → listen_of w tag ≡ Some (plain p) → is_bad_push w (Step.Data tag path tree) ≡ false → is_at_or_above p path ≡ true
+within_listen : (w : World) (p : Path) (tag : ℕ) (path : Path) (tree : PathTree) → listen_of w tag ≡ Some (plain p) → is_bad_data w (Step.Data tag path tree) ≡ false → is_at_or_above p path ≡ true
 within_listen w p tag path tree e good =
-    let at : is_bad_push w (Step.Data tag path tree) ≡ ((not (is_at_or_above p path && true) || false) || false) =
+    let at : is_bad_data w (Step.Data tag path tree) ≡ ((not (is_at_or_above p path && true) || false) || false) =
     ap (λ o. list_any (λ (x : Option Query). not (option_map_or (λ q. list_all (λ (a : Assignment). is_at_or_above q.path a.0) ((path, tree) ∷ [])) x true) || false) (o ∷ [])) e in
     elim (is_at_or_above p path) as (λ b. ((not (b && true) || false) || false) ≡ false → b ≡ true) [
       | true ↦ λ _. refl
       | false ↦ λ f. absurd (true≢false f)
     ] (sym at ∙ good)
 
-push_pushes : (w : World) (p : Path) (tag : ℕ) (path : Path) (tree : PathTree) → listen_of w tag ≡ Some (plain p) → pushed w (Step.Data tag path tree) ≡ push_plain w.brought (path, tree)
-push_pushes w p tag path tree e = ap (λ o. option_map_or (λ q. fold (push q) w.brought ((path, tree) ∷ [])) o w.brought) e
+data_is_taken : (w : World) (p : Path) (tag : ℕ) (path : Path) (tree : PathTree) → listen_of w tag ≡ Some (plain p) → data_taken w (Step.Data tag path tree) ≡ push_plain w.brought (path, tree)
+data_is_taken w p tag path tree e = ap (λ o. option_map_or (λ q. fold (push q) w.brought ((path, tree) ∷ [])) o w.brought) e
 
 data_brings : (w : World) (one : HasOne w) (tag : ℕ) (path : Path) (tree : PathTree) → IsAlone w → listen_of w tag ≡ Some (plain ((one.listener).query).path)
     → is_at_or_above ((one.listener).query).path path ≡ true → brought_after w (Step.Data tag path tree) ≡ push_plain w.brought (path, tree)
 data_brings w one tag path tree h e within =
     let p = ((one.listener).query).path in
-    ap (λ b. recover (forms (registered w.listeners)) (map (λ (k : Tagged). k.form) (kept_for w.next_tag w.kept (needed (forms (registered w.listeners))))) b) (push_pushes w p tag path tree e)
+    ap (λ b. recover (forms (registered w.listeners)) (map (λ (k : Tagged). k.form) (kept_for w.next_tag w.kept (needed (forms (registered w.listeners))))) b) (data_is_taken w p tag path tree e)
     ∙ stays_one w one (push_plain w.brought (path, tree)) (push-no_window p w.brought (path, tree) h.windows) (push-under p w.brought (path, tree) one.under within)
 
 -- ---- one step
 
 -- what is brought after a step is what was, with the push that its answer says it took in
 record Brings (w : World) (s : Step) (a : Answer) (v : World) : Type 0 where
-  brought : v.brought ≡ fold push_plain w.brought (push_taken s a)
+  brought : v.brought ≡ fold push_plain w.brought (entry_taken s a)
   alone : IsAlone v
 
 done_brings : (w : World) (s : Step) → IsAlone w → IsPlainStep s → refusal w s ≡ None → is_stale w s ≡ false → Brings w s (Ok (done_report w s)) (next w s)
@@ -237,7 +237,7 @@ done_brings w (Step.Data tag path tree) h u free fresh = elim h.state [
       let s = Step.Data tag path tree in
       let p = ((one.listener).query).path in
       let kept = kept_tag w one tag path tree fresh in
-      let within = within_listen w p tag path tree kept (push_good w s free) in
+      let within = within_listen w p tag path tree kept (data_good w s free) in
       let brings = data_brings w one tag path tree h kept within in
       record {
         brought = brings;
@@ -264,13 +264,13 @@ done_brings w (Step.Data tag path tree) h u free fresh = elim h.state [
           under = subst (λ (q : Query). AreUnder q.path (brought_after w s).regions) (sym query) under;
         }
 
-refused_takes : (s : Step) (e : CoreError) → push_taken s (Err e) ≡ []
+refused_takes : (s : Step) (e : CoreError) → entry_taken s (Err e) ≡ []
 refused_takes (Step.Listen seat query) e = refl
 refused_takes (Step.Write seat action) e = refl
 refused_takes (Step.Data tag path tree) e = refl
 refused_takes Step.Connected e = refl
 
-stale_takes : (s : Step) → push_taken s (Ok stale_report) ≡ []
+stale_takes : (s : Step) → entry_taken s (Ok stale_report) ≡ []
 stale_takes (Step.Listen seat query) = refl
 stale_takes (Step.Write seat action) = refl
 stale_takes (Step.Data tag path tree) = refl
@@ -292,7 +292,7 @@ alone_of_applies w v s a m h u = (brings_of_applies w v s a m h u).alone
 
 -- what is brought after a run is what was, with the pushes that its steps took in
 pub brought_of_applies_all : (steps : List Step) (answers : List Answer) (w v : World) → AppliesAll (Some w) steps answers (Some v) → IsAlone w → All IsPlainStep steps
-    → v.brought ≡ fold push_plain w.brought (of_each push_taken steps answers)
+    → v.brought ≡ fold push_plain w.brought (of_each entry_taken steps answers)
 brought_of_applies_all [] [] w v e h u = let same : v ≡ w = cc in ap (λ (x : World). x.brought) same
 brought_of_applies_all [] (a ∷ answers) w v e h u = absurd e
 brought_of_applies_all (s ∷ steps) [] w v e h u = absurd e
@@ -300,11 +300,11 @@ brought_of_applies_all (s ∷ steps) (a ∷ answers) w v e h u =
     through e.0 e.1 e.2 (λ x m k. brought_of_applies_all steps answers x v m k (All-tail IsPlainStep s steps u))
   where
     through : (between : Option World) → Applies (Some w) s a between → AppliesAll between steps answers (Some v)
-        → ((x : World) → AppliesAll (Some x) steps answers (Some v) → IsAlone x → v.brought ≡ fold push_plain x.brought (of_each push_taken steps answers))
-        → v.brought ≡ fold push_plain w.brought (push_taken s a ++ of_each push_taken steps answers)
+        → ((x : World) → AppliesAll (Some x) steps answers (Some v) → IsAlone x → v.brought ≡ fold push_plain x.brought (of_each entry_taken steps answers))
+        → v.brought ≡ fold push_plain w.brought (entry_taken s a ++ of_each entry_taken steps answers)
     through (Some x) one rest go =
         let b = brings_of_applies w x s a one h (All-head IsPlainStep s steps u) in
-        go x rest b.alone ∙ ap (λ y. fold push_plain y (of_each push_taken steps answers)) b.brought ∙ sym (fold-append push_plain w.brought (push_taken s a) (of_each push_taken steps answers))
+        go x rest b.alone ∙ ap (λ y. fold push_plain y (of_each entry_taken steps answers)) b.brought ∙ sym (fold-append push_plain w.brought (entry_taken s a) (of_each entry_taken steps answers))
     through None one rest go = absurd (failed_stays steps answers v rest)
 
 -- a new core's world

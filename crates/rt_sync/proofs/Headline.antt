@@ -10,8 +10,8 @@ use Rattle.rt_sync.specs.World.{World, registered}
 use Rattle.rt_sync.specs.Answers.{Answer, view_before}
 use Rattle.rt_sync.specs.Runs.{AppliesAll, IsPlainStep}
 use Rattle.rt_sync.specs.Headline.{changes_told, Headline}
-use Rattle.rt_sync.specs.Sound.{IsSound}
-use Rattle.rt_sync.specs.Alone.{IsAlone}
+use Rattle.rt_sync.specs.inside.Sound.{IsSound}
+use Rattle.rt_sync.specs.inside.Alone.{IsAlone}
 use Rattle.rt_sync.proofs.Listeners.{view_before-there}
 use Rattle.rt_sync.proofs.HeadlineLaws.{sound_of_applies_all, turned_of_applies_all}
 use Rattle.rt_sync.proofs.WrittenLaws.{written_of_applies_all}

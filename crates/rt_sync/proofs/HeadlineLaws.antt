@@ -15,7 +15,7 @@ use Rattle.rt_sync.specs.Refusals.{refusal, is_stale}
 use Rattle.rt_sync.specs.Answers.{Answer, step, step_by, view_before}
 use Rattle.rt_sync.specs.Runs.{Applies, AppliesAll}
 use Rattle.rt_sync.specs.Headline.{changes_told, IsUpToDate}
-use Rattle.rt_sync.specs.Sound.{IsSound}
+use Rattle.rt_sync.specs.inside.Sound.{IsSound}
 use Rattle.rt_view.proofs.TurnLaws.{turns_not, turns-append}
 use Rattle.rt_sync.proofs.Listeners.{same_number, has_number, view_before-there, view_before-none, below-renewed, registered-renewed}
 use Rattle.rt_sync.proofs.ShowLaws.{after_below, renewed_rises, done_up_to_date, done_primed, step_up_to_date, told-absent, step_absent}

@@ -18,7 +18,7 @@ use Rattle.rt_sync.specs.Views.{is_known, base_tree, view_of}
 use Rattle.rt_sync.specs.World.{Listener, pending}
 use Rattle.rt_sync.specs.Steps.{renewed}
 use Rattle.rt_sync.specs.Answers.{batch_note}
-use Rattle.rt_sync.specs.Inside.{brought_of, listener_of, view_over, view_renewed, view_written, told, IsView, IsSeen}
+use Rattle.rt_sync.specs.inside.StateView.{brought_of, listener_of, view_over, view_renewed, view_written, told, IsView, IsSeen}
 use Rattle.rt_sync.proofs.PlainWorlds.{seen_over-unfiltered, overlay-more, is_known-write, overlaid-above_same, write_request}
 
 -- ---- from scratch

@@ -24,7 +24,7 @@ use Rattle.rt_sync.specs.declared.step.Step.{Step}
 use Rattle.rt_sync.specs.World.{Listener, World, pending}
 use Rattle.rt_sync.specs.Steps.{renewed, renewed_after, brought_after}
 use Rattle.rt_sync.specs.Answers.{batch_note, batch_from, view_before}
-use Rattle.rt_sync.specs.Inside.{brought_of, listener_of, listen_kept, shown_in, world_of, view_renewed, view_written, renewed_listener, written_listener, told, all_told, AreUnder, IsView, IsSeen, IsListener, IsListened, IsState, IsNext}
+use Rattle.rt_sync.specs.inside.StateView.{brought_of, listener_of, listen_kept, shown_in, world_of, view_renewed, view_written, renewed_listener, written_listener, told, all_told, AreUnder, IsView, IsSeen, IsListener, IsListened, IsState, IsNext}
 use Rattle.rt_sync.proofs.PlainWorlds.{form-unfiltered, needed-one, started-new, kept_for-new, started-kept, kept_for-kept, recover-under, push-under, write_request}
 use Rattle.rt_sync.proofs.Insides.{with_view, renewed_by, view-renewed, seen-renewed, view_same, told-same, more, written_is_renewed}
 
@@ -264,12 +264,12 @@ module _ (limits : Limits) (requests : List Request) (regions : List Region) (c 
         any None nil = subst (λ rs. IsNext (world_of limits None requests rs c) Step.Connected (world_of limits None requests rs true, report_of None [])) (sym nil) next_connected_unheard
         any (Some l) h = next_connected l h
 
-    pub push_made : (l : inside.Listener) → listener ≡ Some l → is_filtered l.query ≡ false → (tag : ℕ) → tag ≡ 1 → (path : Path) (tree : PathTree) (after : List Region) → AreUnder l.query.path after
+    pub data_made : (l : inside.Listener) → listener ≡ Some l → is_filtered l.query ≡ false → (tag : ℕ) → tag ≡ 1 → (path : Path) (tree : PathTree) (after : List Region) → AreUnder l.query.path after
         → brought_of after ≡ push_plain (brought_of regions) (path, tree)
         → (listener' : Option inside.Listener) (report : Report)
         → listener' ≡ option_map (renewed_listener after requests) listener → report ≡ report_of None (all_told listener listener')
         → IsNext self (Step.Data tag path tree) (world_of limits listener' requests after c, report)
-    push_made l one plain tag first path tree after under pushes listener' report new_is report_is =
+    data_made l one plain tag first path tree after under pushes listener' report new_is report_is =
         let news : Some (renewed_listener after requests l) ≡ listener' = ap (option_map (renewed_listener after requests)) (sym one) ∙ sym new_is in
         let reports : report_of None (told l (renewed_listener after requests l)) ≡ report = (λ i. report_of None (all_told (sym one i) (news i))) ∙ sym report_is in
         let before : world_of limits (Some l) requests regions c ≡ self = (λ i. world_of limits (sym one i) requests regions c) ∙ is in
@@ -298,9 +298,9 @@ module _ (limits : Limits) (requests : List Request) (regions : List Region) whe
             seen = subst (IsSeen l.query requests' regions) is (seen-renewed regions requests' l.query l.view);
           }
 
-  pub state_pushed : (l : inside.Listener) (listener : Option inside.Listener) → IsState limits listener requests regions → listener ≡ Some l
+  pub state_brought : (l : inside.Listener) (listener : Option inside.Listener) → IsState limits listener requests regions → listener ≡ Some l
       → (after : List Region) → AreUnder l.query.path after → (listener' : Option inside.Listener) → listener' ≡ option_map (renewed_listener after requests) listener → IsState limits listener' requests after
-  state_pushed l listener h one after under listener' new_is =
+  state_brought l listener h one after under listener' new_is =
       let held : IsListener requests regions l = subst (IsListened requests regions) one h.listened in
       let news : Some (renewed_listener after requests l) ≡ listener' = ap (option_map (renewed_listener after requests)) (sym one) ∙ sym new_is in
       subst (λ o. IsState limits o requests after) news (record {
@@ -316,7 +316,7 @@ module _ (limits : Limits) (requests : List Request) (regions : List Region) whe
       })
 
 -- the regions after a push at or under the listener's path are at or under it
-pub under_pushed : (p : Path) (regions after : List Region) (path : Path) (tree : PathTree) → AreUnder p regions → is_at_or_above p path ≡ true
+pub under_brought : (p : Path) (regions after : List Region) (path : Path) (tree : PathTree) → AreUnder p regions → is_at_or_above p path ≡ true
     → brought_of after ≡ push_plain (brought_of regions) (path, tree) → AreUnder p after
-under_pushed p regions after path tree under at_or_under pushes =
+under_brought p regions after path tree under at_or_under pushes =
     subst (λ (b : Brought). All (λ (r : Path × PathTree). is_at_or_above p r.0 ≡ true) b.regions) (sym pushes) (push-under p (brought_of regions) (path, tree) under at_or_under)

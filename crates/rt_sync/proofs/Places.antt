@@ -10,7 +10,7 @@ use Rattle.rt_tree.specs.PathTree.{Path, PathTree, path_cmp, exact_paths, strip,
 use Rattle.rt_tree.specs.Assignments.{is_at_or_above}
 use Rattle.rt_sync.specs.declared.region.Region.{Region}
 use Rattle.rt_cache.specs.Brought.{region_part, region_put, push_plain}
-use Rattle.rt_sync.specs.Inside.{pair_of, pairs_of, brought_of}
+use Rattle.rt_sync.specs.inside.StateView.{pair_of, pairs_of, brought_of}
 use Rattle.rt_sync.proofs.Listeners.{or_false_left, or_false_right}
 
 above_itself : (p q : Path) → p ≡ q → is_at_or_above p q ≡ true
@@ -69,10 +69,10 @@ put_in_place r (x ∷ rs) h =
     ] refl
 
 -- a push that no region holds makes one, and takes in those under it
-pub push_new : (regions after : List Region) (p : Path) (t : PathTree) → is_some (region_part (pairs_of regions) p) ≡ false
+pub bring_new : (regions after : List Region) (p : Path) (t : PathTree) → is_some (region_part (pairs_of regions) p) ≡ false
     → pairs_of after ≡ map_of.put path_cmp p t (pairs_of (filter (λ r. not (is_at_or_above p r.path)) regions))
     → brought_of after ≡ push_plain (brought_of regions) (p, t)
-push_new regions after p t none placed =
+bring_new regions after p t none placed =
     (λ i. record { regions = (placed ∙ ap (map_of.put path_cmp p t) (pairs_of-filter p regions)) i; windows = [] })
     ∙ ap (λ b. cond b (record { regions = map (region_put (p, t)) (pairs_of regions); windows = [] }) (record { regions = map_of.put path_cmp p t (filter (λ r. not (is_at_or_above p r.0)) (pairs_of regions)); windows = [] })) (sym none)
 

@@ -13,8 +13,8 @@ use Rattle.rt_sync.specs.declared.region.Region.{Region}
 use Rattle.rt_sync.specs.declared.request.Request.{Request}
 use Rattle.rt_sync.specs.declared.step.Step.{Step}
 use Rattle.rt_sync.specs.World.{World}
-use Rattle.rt_sync.specs.Refusals.{has_too_many_listeners, is_bad_push, is_stale, needs_tag}
-use Rattle.rt_sync.specs.Inside.{world_of, brought_of, listen_kept, IsListener, IsListened}
+use Rattle.rt_sync.specs.Refusals.{has_too_many_listeners, is_bad_data, is_stale, needs_tag}
+use Rattle.rt_sync.specs.inside.StateView.{world_of, brought_of, listen_kept, IsListener, IsListened}
 use Rattle.rt_sync.proofs.Listeners.{same_number}
 
 -- ---- listeners
@@ -30,11 +30,11 @@ no_listener limits (Some l) requests regions c seat q one h =
 -- ---- pushes
 
 -- a push that is not stale is one on the listener's listen
-pub push_listened : (limits : Limits) (listener : Option inside.Listener) (requests : List Request) (regions : List Region) (c : Bool) (tag : ℕ) (path : Path) (tree : PathTree)
+pub data_listened : (limits : Limits) (listener : Option inside.Listener) (requests : List Request) (regions : List Region) (c : Bool) (tag : ℕ) (path : Path) (tree : PathTree)
     → is_stale (world_of limits listener requests regions c) (Step.Data tag path tree) ≡ false
     → (l : inside.Listener) × (listener ≡ Some l) × (tag ≡ 1)
-push_listened limits None requests regions c tag path tree h = cc
-push_listened limits (Some l) requests regions c tag path tree h =
+data_listened limits None requests regions c tag path tree h = cc
+data_listened limits (Some l) requests regions c tag path tree h =
     let kept : (1 == tag) ≡ true =
     elim (1 == tag) as (λ b. (1 == tag) ≡ b → (option_map_or (λ q. list_all (is_without_window (brought_of regions) q) ((path, tree) ∷ [])) (option_map (λ (k : Tagged). k.form) (cond b (Some (listen_kept l)) None)) true && true) ≡ false → (1 == tag) ≡ true) [
       | true ↦ λ e x. e
@@ -43,9 +43,9 @@ push_listened limits (Some l) requests regions c tag path tree h =
     (l, refl, sym (same_number 1 tag kept))
 
 -- and if it is not bad, one at or under its path
-pub push_under : (limits : Limits) (l : inside.Listener) (requests : List Request) (regions : List Region) (c : Bool) (path : Path) (tree : PathTree)
-    → is_bad_push (world_of limits (Some l) requests regions c) (Step.Data 1 path tree) ≡ false → is_at_or_above l.query.path path ≡ true
-push_under limits l requests regions c path tree h =
+pub data_under : (limits : Limits) (l : inside.Listener) (requests : List Request) (regions : List Region) (c : Bool) (path : Path) (tree : PathTree)
+    → is_bad_data (world_of limits (Some l) requests regions c) (Step.Data 1 path tree) ≡ false → is_at_or_above l.query.path path ≡ true
+data_under limits l requests regions c path tree h =
     elim (is_at_or_above l.query.path path) as (λ b. ((not (b && true) || false) || false) ≡ false → b ≡ true) [
       | true ↦ λ x. refl
       | false ↦ λ x. cc
@@ -53,14 +53,14 @@ push_under limits l requests regions c path tree h =
 
 -- the same of a world that is such a core's
 module _ (limits : Limits) (listener : Option inside.Listener) (requests : List Request) (regions : List Region) (c : Bool) (self : World) (is : world_of limits listener requests regions c ≡ self) where
-  pub push_on : IsListened requests regions listener → (tag : ℕ) (path : Path) (tree : PathTree) → is_stale self (Step.Data tag path tree) ≡ false
+  pub data_on : IsListened requests regions listener → (tag : ℕ) (path : Path) (tree : PathTree) → is_stale self (Step.Data tag path tree) ≡ false
       → (l : inside.Listener) × (listener ≡ Some l) × (tag ≡ 1) × IsListener requests regions l
-  push_on h tag path tree fresh =
-      let on = push_listened limits listener requests regions c tag path tree (subst (λ w. is_stale w (Step.Data tag path tree) ≡ false) (sym is) fresh) in
+  data_on h tag path tree fresh =
+      let on = data_listened limits listener requests regions c tag path tree (subst (λ w. is_stale w (Step.Data tag path tree) ≡ false) (sym is) fresh) in
       (on.0, on.1, on.2, subst (IsListened requests regions) on.1 h)
 
-  pub push_within : (tag : ℕ) (path : Path) (tree : PathTree) → is_bad_push self (Step.Data tag path tree) ≡ false
+  pub data_within : (tag : ℕ) (path : Path) (tree : PathTree) → is_bad_data self (Step.Data tag path tree) ≡ false
       → (l : inside.Listener) → listener ≡ Some l → tag ≡ 1 → is_at_or_above l.query.path path ≡ true
-  push_within tag path tree good l one first =
-      push_under limits l requests regions c path tree
-      (subst (λ (x : World × ℕ). is_bad_push x.0 (Step.Data x.1 path tree) ≡ false) (λ i. ((sym is ∙ ap (λ o. world_of limits o requests regions c) one) i, first i)) good)
+  data_within tag path tree good l one first =
+      data_under limits l requests regions c path tree
+      (subst (λ (x : World × ℕ). is_bad_data x.0 (Step.Data x.1 path tree) ≡ false) (λ i. ((sym is ∙ ap (λ o. world_of limits o requests regions c) one) i, first i)) good)

@@ -22,15 +22,20 @@ batch_from old l = option_map_or (λ new. changes l.query.index old new) l.view 
 -- the note of a batch, where it is not empty
 abbrev pub batch_note : Listener → List Change → Option Note
 batch_note l [] = None
-batch_note l (c ∷ cs) = Some (record { seat = l.seat; body = Batch (record { listener = l.number; changes = c ∷ cs }) })
+batch_note l (c ∷ cs) =
+    Some (record { seat = l.seat; body = Batch (record { listener = l.number; changes = c ∷ cs }) })
 
 -- the view that a listener of that number had
 abbrev pub view_before : List Listener → ℕ → Option Shown
-view_before listeners number = option_and_then (λ l. l.view) (find (λ l. l.number == number) listeners)
+view_before listeners number =
+    option_and_then (λ l. l.view) (find (λ l. l.number == number) listeners)
 
 -- each listener's batch, by number
 abbrev pub batch_notes : World → Step → List Note
-batch_notes w s = filter_map (λ l. batch_note l (batch_from (view_before w.listeners l.number) l)) (renewed_after w s)
+batch_notes w s =
+    filter_map
+    (λ l. batch_note l (batch_from (view_before w.listeners l.number) l))
+    (renewed_after w s)
 
 -- ---- answers
 

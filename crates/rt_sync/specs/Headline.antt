@@ -1,4 +1,5 @@
--- The fewest listens, and the views over what they brought: what a run leaves, said of the worlds before and after, the steps and the answers.
+-- The fewest listens, and the views over what they brought: what a run leaves, said of the worlds
+-- before and after, the steps and the answers.
 use Rattle.std.specs.Prelude.{◌≡◌, ℕ, Bool, true, false, List, [], ◌∷◌, ◌++◌, map, ◌==◌, Option, Some, None, Ok, Err}
 use Rattle.std.specs.List.{filter, flat_map, fold, All}
 use Rattle.std.specs.Option.{option_map_or}
@@ -19,7 +20,8 @@ use Rattle.rt_sync.specs.World.{World, Listener, registered, entries_of, pending
 use Rattle.rt_sync.specs.Views.{view_of}
 use Rattle.rt_sync.specs.Answers.{Answer, batch_from, view_before}
 
--- a primed listener's view is its query over what is brought, overlaid by the pending writes; another has none
+-- a primed listener's view is its query over what is brought, overlaid by the pending writes;
+-- another has none
 abbrev pub view_by : Bool → World → Query → Option Shown
 view_by true w q = Some (view_of w.brought (pending w.requests) q)
 view_by false w q = None
@@ -38,7 +40,8 @@ abbrev pub changes_told : ℕ → Answer → List Change
 changes_told number (Ok report) = flat_map (λ note. changes_in number note.body) report.notes
 changes_told number (Err e) = []
 
--- after a step a listener's view is that of the brought data; what it was told is the list of changes from its view before, and turns that into this one
+-- after a step a listener's view is that of the brought data; what it was told is the list of
+-- changes from its view before, and turns that into this one
 pub record IsUpToDate (old : World) (answer : Answer) (new : World) (l : Listener) : Type 0 where
   pub view : l.view ≡ view_by l.is_primed new l.query
   pub batch : changes_told l.number answer ≡ batch_from (view_before old.listeners l.number) l
@@ -46,28 +49,34 @@ pub record IsUpToDate (old : World) (answer : Answer) (new : World) (l : Listene
 
 -- the write that a step makes, by its answer: under the number given
 abbrev pub write_made : Step → Answer → List Write
-write_made (Step.Write seat action) (Ok report) = option_map_or (λ id. record { id = id; entries = entries_of action } ∷ []) report.given []
+write_made (Step.Write seat action) (Ok report) =
+    option_map_or (λ id. record { id = id; entries = entries_of action } ∷ []) report.given []
 write_made _ _ = []
 
--- the entry of a push that a step takes in, by its answer
-abbrev pub push_taken : Step → Answer → List Assignment
-push_taken (Step.Data tag path tree) (Ok report) = if_done report.outcome ((path, tree) ∷ [])
-push_taken _ _ = []
+-- the entry of a Data that a step takes in, by its answer
+abbrev pub entry_taken : Step → Answer → List Assignment
+entry_taken (Step.Data tag path tree) (Ok report) = if_done report.outcome ((path, tree) ∷ [])
+entry_taken _ _ = []
 
 -- what each step makes or takes in, one after another
 abbrev pub of_each : {X : Type 0} → (Step → Answer → List X) → List Step → List Answer → List X
 of_each f (s ∷ steps) (a ∷ answers) = f s a ++ of_each f steps answers
 of_each f _ _ = []
 
--- after a run a listener's view is that of the brought data; all that it was told, played one after another, turns its view before the run into this one
+-- after a run a listener's view is that of the brought data; all that it was told, played one after
+-- another, turns its view before the run into this one
 pub record IsShown (old : World) (answers : List Answer) (new : World) (l : Listener) : Type 0 where
   pub view : l.view ≡ view_by l.is_primed new l.query
-  pub turned : Turns (view_before old.listeners l.number) (flat_map (changes_told l.number) answers) l.view
+  pub turned :
+      Turns (view_before old.listeners l.number) (flat_map (changes_told l.number) answers) l.view
 
--- after any steps the listens kept are the fewest registered forms that supply every listener; the pending writes are those of before and those that the steps made;
--- what the listens brought is that of before with the pushes that the steps took in; and each listener's view is its query over that, overlaid by those writes
-pub record Headline (old : World) (steps : List Step) (answers : List Answer) (new : World) : Type 0 where
+-- after any steps the listens kept are the fewest registered forms that supply every listener; the
+-- pending writes are those of before and those that the steps made; what the listens brought is
+-- that of before with the Data that the steps took in; and each listener's view is its query over
+-- that, overlaid by those writes
+pub record Headline (old : World) (steps : List Step) (answers : List Answer) (new : World)
+    : Type 0 where
   pub fewest : IsFewest (map (λ k. k.form) new.kept) (forms (registered new.listeners))
   pub written : pending new.requests ≡ pending old.requests ++ of_each write_made steps answers
-  pub brought : new.brought ≡ fold push_plain old.brought (of_each push_taken steps answers)
+  pub brought : new.brought ≡ fold push_plain old.brought (of_each entry_taken steps answers)
   pub shown : All (IsShown old answers new) new.listeners

@@ -1,5 +1,5 @@
 -- When a step is refused, and when it is stale.
-use Rattle.std.specs.Prelude.{◌+◌, Bool, true, false, ◌&&◌, ◌||◌, not, List, [], ◌∷◌, length, nat_lt, nat_le, Option}
+use Rattle.std.specs.Prelude.{ℕ, ◌+◌, Bool, true, false, ◌&&◌, ◌||◌, not, List, [], ◌∷◌, length, nat_lt, nat_le, Option}
 use Rattle.std.specs.List.{find, list_any, list_all}
 use Rattle.std.specs.Option.{option_map, option_map_or}
 use Rattle.rt_tree.specs.PathTree.{levels}
@@ -15,15 +15,20 @@ use Rattle.rt_sync.specs.Steps.{Part, parts_of, started_by}
 abbrev pub needs_tag : World → Step → Bool
 needs_tag w s = nat_lt (w.limits.last_number + 1) (w.next_tag + length (started_by w s))
 
--- the limit of listeners is reached, or the step, which adds listeners, needs a number or a tag above the last one
+-- the limit of listeners is reached, or the step, which adds listeners, needs a number or a tag
+-- above the last one
 abbrev pub has_too_many_listeners : World → Step → Bool
 has_too_many_listeners w (Step.Listen seat query) =
-    nat_le w.limits.listeners (length w.listeners) || nat_lt w.limits.last_number w.next_listener || needs_tag w (Step.Listen seat query)
+    nat_le w.limits.listeners (length w.listeners)
+    || nat_lt w.limits.last_number w.next_listener
+    || needs_tag w (Step.Listen seat query)
 has_too_many_listeners w _ = false
 
 -- the limit of unsettled requests is reached, or the last number
 abbrev pub has_too_many_requests : World → Step → Bool
-has_too_many_requests w (Step.Write seat action) = nat_le w.limits.requests (length w.requests) || nat_lt w.limits.last_number w.next_request
+has_too_many_requests w (Step.Write seat action) =
+    nat_le w.limits.requests (length w.requests)
+    || nat_lt w.limits.last_number w.next_request
 has_too_many_requests w _ = false
 
 -- the paths and trees that a write sets
@@ -31,17 +36,24 @@ abbrev pub entries_set : Step → List Assignment
 entries_set (Step.Write seat action) = entries_of action
 entries_set _ = []
 
--- whether a leaf would stand under more than 32 keys: levels counts one more
+-- the most keys that a leaf stands under
+abbrev pub max_keys : ℕ
+max_keys = 32
+
+-- whether a leaf would stand under more: levels counts one more
 abbrev pub stands_too_deep : Assignment → Bool
-stands_too_deep a = nat_lt 33 (length a.0 + levels a.1)
+stands_too_deep a = nat_lt (max_keys + 1) (length a.0 + levels a.1)
 
--- whether an entry of the step, a write's or a push's, would
+-- whether an entry of the step, a write's or a Data's, would
 abbrev pub is_too_deep : Step → Bool
-is_too_deep s = list_any stands_too_deep (entries_set s) || list_any (λ p. list_any stands_too_deep p.1) (parts_of s)
+is_too_deep s =
+    list_any stands_too_deep (entries_set s)
+    || list_any (λ p. list_any stands_too_deep p.1) (parts_of s)
 
--- the paths of a push on a kept tag are at or under its path
+-- the paths of a part on a kept tag are at or under its path
 abbrev pub is_within_listen : World → Part → Bool
-is_within_listen w p = option_map_or (λ q. list_all (λ a. is_at_or_above q.path a.0) p.1) (listen_of w p.0) true
+is_within_listen w p =
+    option_map_or (λ q. list_all (λ a. is_at_or_above q.path a.0) p.1) (listen_of w p.0) true
 
 -- no entries, or two of which one is at or above the other
 abbrev pub is_no_merge : List Assignment → Bool
@@ -49,8 +61,8 @@ is_no_merge [] = true
 is_no_merge (a ∷ rest) = have_overlap (a ∷ rest)
 
 -- a path outside the kept tag's, or entries that are none or overlap
-abbrev pub is_bad_push : World → Step → Bool
-is_bad_push w s = list_any (λ p. not (is_within_listen w p) || is_no_merge p.1) (parts_of s)
+abbrev pub is_bad_data : World → Step → Bool
+is_bad_data w s = list_any (λ p. not (is_within_listen w p) || is_no_merge p.1) (parts_of s)
 
 -- whether the step opens a connection where there is one
 abbrev pub is_already_connected : World → Step → Bool
@@ -72,7 +84,7 @@ conditions w s =
     (has_too_many_listeners w s, TooManyListeners)
     ∷ (has_too_many_requests w s, TooManyRequests)
     ∷ (is_too_deep s, TooDeep)
-    ∷ (is_bad_push w s, BadPush)
+    ∷ (is_bad_data w s, BadPush)
     ∷ (is_already_connected w s, AlreadyConnected)
     ∷ (is_not_connected w s, NotConnected)
     ∷ []
@@ -83,15 +95,16 @@ refusal w s = option_map (λ c. c.1) (find (λ c. c.0) (conditions w s))
 
 -- ---- stale steps
 
--- a part of a push whose tag is not kept, or that changes nothing for want of a window
+-- a part whose tag is not kept, or that changes nothing for want of a window
 abbrev pub is_stale_part : World → Part → Bool
-is_stale_part w p = option_map_or (λ q. list_all (is_without_window w.brought q) p.1) (listen_of w p.0) true
+is_stale_part w p =
+    option_map_or (λ q. list_all (is_without_window w.brought q) p.1) (listen_of w p.0) true
 
--- a push of which all parts are stale
-abbrev pub is_stale_push : World → List Part → Bool
-is_stale_push w [] = false
-is_stale_push w (p ∷ rest) = list_all (is_stale_part w) (p ∷ rest)
+-- there are parts, and all are stale
+abbrev pub are_stale : World → List Part → Bool
+are_stale w [] = false
+are_stale w (p ∷ rest) = list_all (is_stale_part w) (p ∷ rest)
 
--- a stale push
+-- a Data that came too late
 abbrev pub is_stale : World → Step → Bool
-is_stale w s = is_stale_push w (parts_of s)
+is_stale w s = are_stale w (parts_of s)

@@ -23,7 +23,8 @@ pub record MakesStep (w : World) (s : Step) (answer : Answer) (new : Option Worl
   pub told : answer ≡ (step w s).1
   pub world : new ≡ Some (step w s).0
 
--- a core makes the world's step, or lacks memory and has failed; one that has failed answers so for good
+-- a core makes the world's step, or lacks memory and has failed; one that has failed answers so for
+-- good
 abbrev pub Applies : Option World → Step → Answer → Option World → Type 0
 Applies None s answer new = (answer ≡ Err Failed) × (new ≡ None)
 Applies (Some w) s answer new = MakesStep w s answer new ⊎ LacksMemory w s answer new
@@ -31,7 +32,8 @@ Applies (Some w) s answer new = MakesStep w s answer new ⊎ LacksMemory w s ans
 -- each step is answered in order
 abbrev pub AppliesAll : Option World → List Step → List Answer → Option World → Type 0
 AppliesAll old [] [] new = new ≡ old
-AppliesAll old (s ∷ steps) (a ∷ answers) new = (between : Option World) × Applies old s a between × AppliesAll between steps answers new
+AppliesAll old (s ∷ steps) (a ∷ answers) new =
+    (between : Option World) × Applies old s a between × AppliesAll between steps answers new
 AppliesAll old _ _ new = ⊥
 
 -- a listener is registered with a query that is not filtered; other steps are free
@@ -41,13 +43,17 @@ IsPlainStep _ = Unit {0}
 
 -- the view of the listener of that number, if it is registered; none where it is not primed
 abbrev pub view_in : World → ℕ → Result (Option Shown) CoreError
-view_in w number = option_map_or (λ l. Ok l.view) (find (λ l. l.number == number) w.listeners) (Err UnknownListener)
+view_in w number =
+    option_map_or
+    (λ l. Ok l.view) (find (λ l. l.number == number) w.listeners) (Err UnknownListener)
 
 -- the listener of that number is registered, and has a view
 abbrev pub HasView : World → ℕ → Type 0
 HasView w number = (shown : Shown) × (view_in w number ≡ Ok (Some shown))
 
--- a core that has failed says so; else the listener's view is answered, unless there is one and memory lacks for a copy of it
+-- a core that has failed says so; else the listener's view is answered, unless there is one and
+-- memory lacks for a copy of it
 abbrev pub Views : Option World → ℕ → Result (Option Shown) CoreError → Type 0
 Views None number answer = answer ≡ Err Failed
-Views (Some w) number answer = (answer ≡ view_in w number) ⊎ ((answer ≡ Err NoMemory) × HasView w number)
+Views (Some w) number answer =
+    (answer ≡ view_in w number) ⊎ ((answer ≡ Err NoMemory) × HasView w number)

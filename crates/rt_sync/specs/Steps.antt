@@ -15,11 +15,11 @@ use Rattle.rt_sync.specs.declared.step.Step.{Step}
 use Rattle.rt_sync.specs.Views.{is_known, view_of}
 use Rattle.rt_sync.specs.World.{Listener, World, registered, pending, listen_of}
 
--- a part of a push: entries for one tag
+-- a part of what the server sends: entries for one tag
 abbrev pub Part : Type 0
 Part = ℕ × List Assignment
 
--- the parts of a push, if the step is one
+-- the parts of a Data, if the step is one
 abbrev pub parts_of : Step → List Part
 parts_of (Step.Data tag path tree) = (tag, (path, tree) ∷ []) ∷ []
 parts_of _ = []
@@ -31,16 +31,26 @@ asked_by _ = None
 
 -- ---- what a step leaves
 
+-- a new listener is not primed
+abbrev pub new_listener : World → ℕ → Query → Listener
+new_listener w seat query = record {
+  number = w.next_listener;
+  seat = seat;
+  query = query;
+  is_primed = false;
+  view = None;
+}
+
 -- the listeners that are registered after the step, as they were; a new one is not primed
 abbrev pub listeners_after : World → Step → List Listener
-listeners_after w (Step.Listen seat query) =
-    w.listeners ++ record { number = w.next_listener; seat = seat; query = query; is_primed = false; view = None } ∷ []
+listeners_after w (Step.Listen seat query) = w.listeners ++ new_listener w seat query ∷ []
 listeners_after w _ = w.listeners
 
 -- the requests with a new one
 abbrev pub requests_with : World → Option (ℕ × Asked) → List Request
 requests_with w None = w.requests
-requests_with w (Some asked) = w.requests ++ record { id = w.next_request; seat = Some asked.0; asked = asked.1 } ∷ []
+requests_with w (Some asked) =
+    w.requests ++ record { id = w.next_request; seat = Some asked.0; asked = asked.1 } ∷ []
 
 -- the requests that are unsettled after the step
 abbrev pub requests_after : World → Step → List Request
@@ -58,17 +68,17 @@ kept_after w s = kept_for w.next_tag w.kept (needed (forms_after w s))
 abbrev pub started_by : World → Step → List Tagged
 started_by w s = started w.next_tag w.kept (needed (forms_after w s))
 
--- what is brought after a part of a push: one of a tag that is not kept changes nothing
-abbrev pub part_pushed : World → Brought → Part → Brought
-part_pushed w b p = option_map_or (λ q. fold (push q) b p.1) (listen_of w p.0) b
+-- what is brought after a part: one of a tag that is not kept changes nothing
+abbrev pub part_taken : World → Brought → Part → Brought
+part_taken w b p = option_map_or (λ q. fold (push q) b p.1) (listen_of w p.0) b
 
--- what is brought once the step's push is taken
-abbrev pub pushed : World → Step → Brought
-pushed w s = fold (part_pushed w) w.brought (parts_of s)
+-- what is brought once the step's Data is taken in
+abbrev pub data_taken : World → Step → Brought
+data_taken w s = fold (part_taken w) w.brought (parts_of s)
 
--- what is brought after the step: its push, then its change of cover
+-- what is brought after the step: its Data, then its change of cover
 abbrev pub brought_after : World → Step → Brought
-brought_after w s = recover (forms_after w s) (map (λ k. k.form) (kept_after w s)) (pushed w s)
+brought_after w s = recover (forms_after w s) (map (λ k. k.form) (kept_after w s)) (data_taken w s)
 
 -- a listener with its primed mark and its view taken from scratch
 abbrev pub renewed : Brought → List Write → Listener → Listener
@@ -79,7 +89,8 @@ renewed brought writes l =
 
 -- the listeners after the step, with their views
 abbrev pub renewed_after : World → Step → List Listener
-renewed_after w s = map (renewed (brought_after w s) (pending (requests_after w s))) (listeners_after w s)
+renewed_after w s =
+    map (renewed (brought_after w s) (pending (requests_after w s))) (listeners_after w s)
 
 -- whether there is a connection after the step
 abbrev pub is_connected_after : World → Step → Bool

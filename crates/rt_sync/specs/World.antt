@@ -23,15 +23,38 @@ pub record Listener : Type 0 where
   pub is_primed : Bool
   pub view : Option Shown
 
--- a 0 counts as 1, and more than the largest number as that; one listener, until the listens of several are kept apart
-abbrev pub limits_from : Limits → Limits
-limits_from limits = record {
-  listeners = min (max 1 limits.listeners) 1;
-  requests = min (max 1 limits.requests) 65536;
-  last_number = min (max 1 limits.last_number) 9007199254740991;
+-- the most listeners, the most unsettled requests, and the largest number of either and of a tag
+abbrev pub max_listeners : ℕ
+max_listeners = 65536
+
+abbrev pub max_requests : ℕ
+max_requests = 65536
+
+abbrev pub max_number : ℕ
+max_number = 9007199254740991
+
+-- one listener, until the listens of several are kept apart
+abbrev pub listeners_so_far : ℕ
+listeners_so_far = 1
+
+-- the most that a core takes
+abbrev pub full_limits : Limits
+full_limits = record {
+  listeners = max_listeners;
+  requests = max_requests;
+  last_number = max_number;
 }
 
--- the listeners and the unsettled requests by number, what the listens brought, the kept listens by tag, and the next numbers
+-- a 0 counts as 1, and more than the most as the most
+abbrev pub limits_from : Limits → Limits
+limits_from limits = record {
+  listeners = min (max 1 limits.listeners) listeners_so_far;
+  requests = min (max 1 limits.requests) max_requests;
+  last_number = min (max 1 limits.last_number) max_number;
+}
+
+-- the listeners and the unsettled requests by number, what the listens brought, the kept listens by
+-- tag, and the next numbers
 pub record World : Type 0 where
   pub limits : Limits
   pub listeners : List Listener

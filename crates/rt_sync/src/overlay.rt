@@ -9,7 +9,8 @@ use crate::step::Action;
 use rt_tree::{Path, Tree};
 use std::alloc::{AllocError, Global};
 
-// The tree at `path` after a write of `entry` at `at`: one at or above the path gives its part, one below is put.
+// The tree at `path` after a write of `entry` at `at`: one at or above the path gives its part, one
+// below is put.
 pub(crate) fn overlaid(
     alloc: Global,
     path: &Path,

@@ -3,7 +3,9 @@ ghost use Rattle.std.specs.Prelude.{◌≡◌};
 ghost use Rattle.std.specs.Option.{option_map};
 ghost use Rattle.rt_query.specs.Queries.{plain};
 ghost use Rattle.rt_sync.specs.World.{listen_of};
-ghost use Rattle.rt_sync.specs.Refusals.{has_too_many_listeners, has_too_many_requests, stands_too_deep, is_too_deep, is_bad_push, is_already_connected, is_not_connected, refusal, is_stale};
+ghost use Rattle.rt_sync.specs.Refusals.{has_too_many_listeners, has_too_many_requests};
+ghost use Rattle.rt_sync.specs.Refusals.{is_already_connected, is_bad_data, is_not_connected};
+ghost use Rattle.rt_sync.specs.Refusals.{is_stale, is_too_deep, refusal, stands_too_deep};
 
 use crate::error::CoreError;
 use crate::state::State;
@@ -11,11 +13,14 @@ use crate::step::{Action, Step};
 use rt_query::Query;
 use rt_tree::{Path, Tree};
 
-// Whether a leaf would stand under more than 32 keys.
+// The most keys that a leaf stands under.
+const MAX_KEYS: usize = 32;
+
+// Whether a leaf would stand under more keys; the levels of a tree count one more.
 fn stands_too_deep(path: &Path, tree: &Tree) -> bool
     ensures { result ≡ stands_too_deep (path.now, tree.now) }
 {
-    path.keys().len() + tree.levels() > 33
+    path.keys().len() + tree.levels() > MAX_KEYS + 1
 }
 
 // Whether a leaf of the step would.
@@ -64,8 +69,8 @@ impl State {
         }
     }
 
-    fn is_bad_push(&self, step: &Step) -> bool
-        ensures { result ≡ is_bad_push self.now step.now }
+    fn is_bad_data(&self, step: &Step) -> bool
+        ensures { result ≡ is_bad_data self.now step.now }
     {
         match step {
             Step::Data { tag, path, .. } => match self.listen_of(*tag) {
@@ -107,7 +112,7 @@ impl State {
         if is_too_deep(step) {
             return Some(CoreError::TooDeep);
         }
-        if self.is_bad_push(step) {
+        if self.is_bad_data(step) {
             return Some(CoreError::BadPush);
         }
         if self.is_already_connected(step) {
@@ -119,7 +124,7 @@ impl State {
         None
     }
 
-    // Whether the step is a push on a tag that is not kept.
+    // Whether the step is a Data on a tag that is not kept.
     pub(crate) fn is_stale(&self, step: &Step) -> bool
         ensures { result ≡ is_stale self.now step.now }
     {

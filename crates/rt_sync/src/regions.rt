@@ -6,7 +6,7 @@ ghost use Rattle.std.specs.FinMap as map_of;
 ghost use Rattle.rt_tree.specs.PathTree.{path_cmp};
 ghost use Rattle.rt_tree.specs.Assignments.{is_at_or_above};
 ghost use Rattle.rt_cache.specs.Brought.{region_part, region_put, push_plain};
-ghost use Rattle.rt_sync.specs.Inside.{pair_of, pairs_of, brought_of};
+ghost use Rattle.rt_sync.specs.inside.StateView.{pair_of, pairs_of, brought_of};
 
 use crate::paths::{part_of, rest_of, with_part};
 use crate::region::Region;
@@ -61,7 +61,8 @@ fn put_into_each(
     path: &Path,
     tree: &Tree,
 ) -> Result<(), AllocError>
-    ensures { OnOk result (pairs_of regions.new ≡ map (region_put (path.now, tree.now)) (pairs_of regions.old)) }
+    ensures { OnOk result
+        (pairs_of regions.new ≡ map (region_put (path.now, tree.now)) (pairs_of regions.old)) }
 {
     for region in regions.iter_mut() {
         put_into(alloc, region, path, tree)?;
@@ -85,7 +86,8 @@ fn place_of(regions: &[Region], path: &Path) -> usize
 // The region in its place.
 fn insert(regions: &mut Vec<Region>, region: Region) -> Result<(), AllocError>
     requires { list_any (λ r. is_at_or_above region.path r.path) regions.old.items ≡ false }
-    ensures { OnOk result (pairs_of regions.new.items ≡ map_of.put path_cmp region.path region.tree (pairs_of regions.old.items)) }
+    ensures { OnOk result (pairs_of regions.new.items
+        ≡ map_of.put path_cmp region.path region.tree (pairs_of regions.old.items)) }
 {
     let place = place_of(regions, &region.path);
     regions.insert(place, region)?;
@@ -99,14 +101,16 @@ fn remove_under(regions: &mut Vec<Region>, path: &Path)
     regions.retain(|region| !path.is_prefix_of(&region.path));
 }
 
-// A push changes the region at or above its path, or makes one that takes in all regions below.
-pub(crate) fn push(
+// Data of a plain listen change the region at or above their path, or make one that takes in all
+// regions below.
+pub(crate) fn bring(
     alloc: Global,
     regions: &mut Vec<Region>,
     path: Path,
     tree: Tree,
 ) -> Result<(), AllocError>
-    ensures { OnOk result (brought_of regions.new.items ≡ push_plain (brought_of regions.old.items) (path, tree)) }
+    ensures { OnOk result
+        (brought_of regions.new.items ≡ push_plain (brought_of regions.old.items) (path, tree)) }
 {
     if is_in_region(regions, &path) {
         return put_into_each(alloc, regions, &path, &tree);

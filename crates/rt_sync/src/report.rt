@@ -69,7 +69,8 @@ impl Notes {
     }
 }
 
-/// What a step answers: its outcome, the number of the new listener or request, and what the seats are told.
+/// What a step answers: its outcome, the number of the new listener or request, and what the seats
+/// are told.
 #[derive(Drop)]
 pub struct Report {
     pub outcome: Outcome,

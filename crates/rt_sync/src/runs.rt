@@ -5,10 +5,10 @@ ghost use Rattle.rt_sync.specs.World.{World};
 ghost use Rattle.rt_sync.specs.Headline.{Headline};
 ghost use Rattle.rt_sync.specs.Runs.{AppliesAll, IsPlainStep};
 
+use crate::Core;
 use crate::error::CoreError;
 use crate::report::Report;
 use crate::step::Step;
-use crate::sync::Core;
 use std::alloc::{AllocError, Global};
 use std::marker::Model;
 
@@ -36,14 +36,20 @@ impl Answers {
     }
 }
 
-/// Makes the steps, one after another, and answers each in order. Only the list of answers can be refused, and then no step is made.
+/// Makes the steps, one after another, and answers each in order.
+///
+/// # Errors
+///
+/// Only the list of answers can be refused, and then no step is made.
 pub fn run(alloc: Global, core: &mut Core, steps: Vec<Step>) -> Result<Answers, AllocError>
     requires { All IsPlainStep steps.items }
     ensures unchanged { OnErr result (core.new ≡ core.old) }
     ensures nothing { steps.items ≡ [] → IsOk result }
     ensures answered { IfOk result (λ answers. AppliesAll core.old steps.items answers core.new) }
-    ensures headline { IfOk result (λ answers. (w v : World) → core.old ≡ Some w → core.new ≡ Some v → Headline w steps.items answers v) }
+    ensures headline { IfOk result (λ answers. (w v : World) → core.old ≡ Some w → core.new ≡ Some v
+        → Headline w steps.items answers v) }
 {
+    // For the prover: what always holds of a core holds of this one.
     let _sound = &core.state;
     let mut items = Vec::with_capacity(alloc, steps.len())?;
     for step in steps {

@@ -15,7 +15,8 @@ use rt_tree::{Path, Tree};
 use std::alloc::{AllocError, Global};
 use std::marker::Model;
 
-// One listener at most, whose listen has tag 1; the unsettled requests in order of number, from 1 without a gap; what the listen brought, in the order of paths.
+// One listener at most, whose listen has tag 1; the unsettled requests in order of number, from 1
+// without a gap; what the listen brought, in the order of paths.
 #[derive(Drop)]
 pub(crate) struct State {
     pub(crate) limits: Limits,
@@ -27,7 +28,7 @@ pub(crate) struct State {
 
 impl Model for State {
     ghost use Rattle.rt_sync.specs.World.{World};
-    ghost use Rattle.rt_sync.specs.Inside.{world_of, IsState};
+    ghost use Rattle.rt_sync.specs.inside.StateView.{world_of, IsState};
 
     ghost Value = { World };
 
@@ -42,10 +43,10 @@ impl State {
     ghost use Rattle.rt_sync.specs.declared.step.Step.TheVariants as Step;
     ghost use Rattle.rt_sync.specs.declared.step.Action.TheVariants as Action;
     ghost use Rattle.rt_sync.specs.World.{empty_world};
-    ghost use Rattle.rt_sync.specs.Refusals.{has_too_many_listeners, is_bad_push, refusal, is_stale};
+    ghost use Rattle.rt_sync.specs.Refusals.{has_too_many_listeners, is_bad_data, refusal, is_stale};
     ghost use Rattle.rt_sync.specs.Answers.{step as the_step};
     ghost use Rattle.rt_sync.specs.Runs.{IsPlainStep, view_in};
-    ghost use Rattle.rt_sync.specs.Inside.{IsNext};
+    ghost use Rattle.rt_sync.specs.inside.StateView.{IsNext};
 
     // No listener, no request, no connection.
     pub(crate) fn new(alloc: Global, limits: Limits) -> State
@@ -69,7 +70,9 @@ impl State {
 
     // The view of the listener of that number, none where it is not primed.
     pub(crate) fn view(&self, number: u64) -> Result<Option<&Shown>, CoreError>
-        ensures { MatchResult result (λ shown. view_in self.now number ≡ Ok (option_copied shown)) (λ e. view_in self.now number ≡ Err e) }
+        ensures { MatchResult result
+            (λ shown. view_in self.now number ≡ Ok (option_copied shown))
+            (λ e. view_in self.now number ≡ Err e) }
     {
         match &self.listener {
             Some(listener) if listener.number == number => {
@@ -116,13 +119,16 @@ impl State {
     }
 
     // Takes in what the listen brings.
-    fn push(self, path: Path, tree: Tree) -> Result<(State, Report), AllocError>
-        requires { (tag : ℕ) × (is_stale self (Step.Data tag path tree) ≡ false) × (is_bad_push self (Step.Data tag path tree) ≡ false) }
-        ensures { IfOk result (λ made. (tag : ℕ) → is_stale self (Step.Data tag path tree) ≡ false → IsNext self (Step.Data tag path tree) made) }
+    fn take_data(self, path: Path, tree: Tree) -> Result<(State, Report), AllocError>
+        requires { (tag : ℕ)
+            × (is_stale self (Step.Data tag path tree) ≡ false)
+            × (is_bad_data self (Step.Data tag path tree) ≡ false) }
+        ensures { IfOk result (λ made. (tag : ℕ) → is_stale self (Step.Data tag path tree) ≡ false
+            → IsNext self (Step.Data tag path tree) made) }
     {
         let alloc = self.alloc();
         let mut state = self;
-        regions::push(alloc, &mut state.regions, path, tree)?;
+        regions::bring(alloc, &mut state.regions, path, tree)?;
         let notes = renew_any(alloc, &mut state.listener, &state.regions, &state.requests)?;
         Ok((state, Report::done(None, notes)))
     }
@@ -150,7 +156,7 @@ impl State {
                 seat,
                 action: Action::Put { path, tree },
             } => self.write(seat, path, tree),
-            Step::Data { path, tree, .. } => self.push(path, tree),
+            Step::Data { path, tree, .. } => self.take_data(path, tree),
             Step::Connected => Ok(self.connect()),
         }
     }

@@ -16,7 +16,7 @@ pub enum Step {
     Listen { seat: u64, query: Query },
     /// A seat writes: the write shows at once, and is pending until the server settles it.
     Write { seat: u64, action: Action },
-    /// The server pushes a tree at a path, on the listen with that tag.
+    /// The server sends a tree at a path, on the listen with that tag.
     Data { tag: u64, path: Path, tree: Tree },
     /// A connection is opened.
     Connected,

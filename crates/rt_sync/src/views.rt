@@ -3,7 +3,7 @@ ghost use Rattle.std.specs.Prelude.{◌≡◌, IfOk, IfSome, OnOk, Some, false};
 ghost use Rattle.std.specs.Option.{option_map, option_to_list};
 ghost use Rattle.rt_query.specs.Queries.{is_filtered};
 ghost use Rattle.rt_sync.specs.Answers.{batch_note};
-ghost use Rattle.rt_sync.specs.Inside.{listener_of, told, all_told, view_over, renewed_listener, written_listener};
+ghost use Rattle.rt_sync.specs.inside.StateView.{listener_of, told, all_told, view_over, renewed_listener, written_listener};
 
 use crate::listener::{Listener, View};
 use crate::overlay::{overlaid, overlay, sets_whole};
@@ -17,7 +17,8 @@ use std::alloc::{AllocError, Global};
 
 // The note of these changes to the listener's seat, if there are any.
 fn notes_of(alloc: Global, listener: &Listener, changes: ChangeList) -> Result<Notes, AllocError>
-    ensures { IfOk result (λ notes. notes ≡ option_to_list (batch_note (listener_of listener.now) changes)) }
+    ensures { IfOk result (λ notes.
+        notes ≡ option_to_list (batch_note (listener_of listener.now) changes)) }
 {
     if changes.as_slice().is_empty() {
         return Ok(Notes::new(alloc));
@@ -36,7 +37,8 @@ fn notes_of(alloc: Global, listener: &Listener, changes: ChangeList) -> Result<N
 
 // The listener shows its query over `seen` from now on; what its seat is told of that.
 fn show(alloc: Global, listener: &mut Listener, seen: Tree) -> Result<Notes, AllocError>
-    ensures view { OnOk result (listener.new ≡ record listener.old { view = Some (view_over listener.old.query seen) }) }
+    ensures view { OnOk result
+        (listener.new ≡ record listener.old { view = Some (view_over listener.old.query seen) }) }
     ensures notes { IfOk result (λ notes. notes ≡ told listener.old listener.new) }
 {
     let shown = listener.query.select(&seen)?;
@@ -47,7 +49,8 @@ fn show(alloc: Global, listener: &mut Listener, seen: Tree) -> Result<Notes, All
     Ok(notes)
 }
 
-// The view from scratch, where the listener has one or something of its path is known; what its seat is told of it.
+// The view from scratch, where the listener has one or something of its path is known; what its
+// seat is told of it.
 pub(crate) fn renew(
     alloc: Global,
     listener: &mut Listener,
@@ -75,7 +78,8 @@ pub(crate) fn renew_any(
     requests: &[Request],
 ) -> Result<Notes, AllocError>
     requires { IfSome listener.old (λ l. is_filtered l.query ≡ false) }
-    ensures view { OnOk result (listener.new ≡ option_map (renewed_listener regions.now requests.now) listener.old) }
+    ensures view { OnOk result
+        (listener.new ≡ option_map (renewed_listener regions.now requests.now) listener.old) }
     ensures notes { IfOk result (λ notes. notes ≡ all_told listener.old listener.new) }
 {
     match listener {
@@ -84,7 +88,8 @@ pub(crate) fn renew_any(
     }
 }
 
-// The view after one more write, the last of all; what the seat is told of it. A listener without a view gets its first where the write sits at or above its path.
+// The view after one more write, the last of all; what the seat is told of it. A listener without a
+// view gets its first where the write sits at or above its path.
 fn write_over(
     alloc: Global,
     listener: &mut Listener,
@@ -110,7 +115,8 @@ pub(crate) fn write_over_any(
     at: &Path,
     entry: &Tree,
 ) -> Result<Notes, AllocError>
-    ensures view { OnOk result (listener.new ≡ option_map (written_listener (at.now, entry.now)) listener.old) }
+    ensures view { OnOk result
+        (listener.new ≡ option_map (written_listener (at.now, entry.now)) listener.old) }
     ensures notes { IfOk result (λ notes. notes ≡ all_told listener.old listener.new) }
 {
     match listener {

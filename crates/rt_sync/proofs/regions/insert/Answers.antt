@@ -2,7 +2,7 @@ use Rattle.std.proofs.Common.{◌≡◌, ◌∙◌, ap, rules}
 use Rattle.std.specs.List.{insert, position_or_len}
 use Rattle.std.specs.Ordering.{is_lt}
 use Rattle.rt_tree.specs.PathTree.{path_cmp}
-use Rattle.rt_sync.specs.Inside.{pairs_of}
+use Rattle.rt_sync.specs.inside.StateView.{pairs_of}
 use Rattle.rt_sync.proofs.Places.{put_in_place}
 use Rattle.rt_sync.proofs.regions.insert.Goals as goal
 

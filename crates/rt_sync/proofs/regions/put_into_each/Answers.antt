@@ -1,6 +1,6 @@
 use Rattle.std.proofs.Common.{◌<◌, length, rules, add-one}
 use Rattle.rt_cache.specs.Brought.{region_put}
-use Rattle.rt_sync.specs.Inside.{pairs_of}
+use Rattle.rt_sync.specs.inside.StateView.{pairs_of}
 use Rattle.rt_sync.proofs.Places.{put_step}
 use Rattle.rt_sync.proofs.regions.put_into_each.Goals as goal
 

@@ -1,6 +1,6 @@
 use Rattle.std.proofs.Common.{◌≡◌, ◌++◌, map, take, drop}
 use Rattle.rt_cache.specs.Brought.{region_put}
-use Rattle.rt_sync.specs.Inside.{pairs_of}
+use Rattle.rt_sync.specs.inside.StateView.{pairs_of}
 use Rattle.rt_sync.proofs.regions.put_into_each.Given as goal
 
 -- the tree is put into those so far

@@ -1,6 +1,6 @@
 use Rattle.std.proofs.Common.{◌≡◌, drop}
 use Rattle.rt_cache.specs.Brought.{region_part}
-use Rattle.rt_sync.specs.Inside.{pairs_of}
+use Rattle.rt_sync.specs.inside.StateView.{pairs_of}
 use Rattle.rt_sync.proofs.regions.region_part.Given as goal
 
 -- none so far

@@ -4,10 +4,10 @@ use Rattle.std.specs.Vec.{vec_capacity, vec_len}
 use Rattle.std.specs.Vec.Iter.{into_iter_items}
 use Rattle.std.proofs.lemmas.List.Elements.{All-rest}
 use Rattle.rt_sync.specs.declared.step.Step.{Step}
-use Rattle.rt_sync.specs.Alone.{IsAlone}
+use Rattle.rt_sync.specs.inside.Alone.{IsAlone}
 use Rattle.rt_sync.specs.Answers.{Answer}
 use Rattle.rt_sync.specs.Runs.{AppliesAll, IsPlainStep}
-use Rattle.rt_sync.specs.Sound.{IsSound}
+use Rattle.rt_sync.specs.inside.Sound.{IsSound}
 use Rattle.rt_sync.specs.World.{World}
 use Rattle.rt_sync.proofs.AppliedAll.{Continues, continues_more}
 use Rattle.rt_sync.proofs.Headline.{headline_of_applies_all}

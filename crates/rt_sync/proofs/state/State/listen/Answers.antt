@@ -2,7 +2,7 @@ use Rattle.std.proofs.Common.{◌≡◌, ◌∙◌, ap, sym, subst, false, None,
 use Rattle.rt_sync.specs.declared.listener.Listener as inside
 use Rattle.rt_sync.specs.declared.step.Step.TheVariants as Step
 use Rattle.rt_sync.specs.Refusals.{has_too_many_listeners}
-use Rattle.rt_sync.specs.Inside.{renewed_listener, IsListened}
+use Rattle.rt_sync.specs.inside.StateView.{renewed_listener, IsListened}
 use Rattle.rt_sync.proofs.RefusalLaws.{no_listener}
 use Rattle.rt_sync.proofs.NextWorlds.{report_of, listen_made}
 use Rattle.rt_sync.proofs.state.State.listen.Goals as goal

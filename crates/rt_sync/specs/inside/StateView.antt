@@ -42,7 +42,13 @@ shown_in view = option_map (λ v. v.shown) view
 
 -- the listener; primed where it has a view
 abbrev pub listener_of : inside.Listener → Listener
-listener_of l = record { number = l.number; seat = l.seat; query = l.query; is_primed = is_some l.view; view = shown_in l.view }
+listener_of l = record {
+  number = l.number;
+  seat = l.seat;
+  query = l.query;
+  is_primed = is_some l.view;
+  view = shown_in l.view;
+}
 
 -- its listen, which has tag 1
 abbrev pub listen_kept : inside.Listener → Tagged
@@ -68,21 +74,30 @@ world_of limits listener requests regions is_connected = record {
 abbrev pub view_over : Query → PathTree → View
 view_over q t = record { seen = t; shown = select q t }
 
--- the view from scratch, of what is brought and the pending writes; none where nothing is known, unless there was one before
+-- what a query sees: what is brought, overlaid by the pending writes
+abbrev pub seen_from : List Region → List Request → Query → PathTree
+seen_from regions requests q =
+    overlay q.path (base_tree (base (brought_of regions) q)) (pending requests)
+
+-- the view from scratch, of what is brought and the pending writes; none where nothing is known,
+-- unless there was one before
 abbrev pub view_renewed : List Region → List Request → Query → Option View → Option View
 view_renewed regions requests q old =
     if is_some old || is_known (brought_of regions) (pending requests) q
-    then Some (view_over q (overlay q.path (base_tree (base (brought_of regions) q)) (pending requests)))
+    then Some (view_over q (seen_from regions requests q))
     else None
 
--- the view after one more write; without one before, its first where the write sits at or above the path
+-- the view after one more write; without one before, its first where the write sits at or above the
+-- path
 abbrev pub view_written : Assignment → Query → Option View → Option View
 view_written a q (Some v) = Some (view_over q (overlaid q.path v.seen a))
-view_written a q None = if is_at_or_above a.0 q.path then Some (view_over q (overlaid q.path null a)) else None
+view_written a q None =
+    if is_at_or_above a.0 q.path then Some (view_over q (overlaid q.path null a)) else None
 
 -- the listener with its view from scratch
 abbrev pub renewed_listener : List Region → List Request → inside.Listener → inside.Listener
-renewed_listener regions requests l = record l { view = view_renewed regions requests l.query l.view }
+renewed_listener regions requests l =
+    record l { view = view_renewed regions requests l.query l.view }
 
 -- the listener with its view after one more write
 abbrev pub written_listener : Assignment → inside.Listener → inside.Listener
@@ -90,7 +105,8 @@ written_listener a l = record l { view = view_written a l.query l.view }
 
 -- what the listener's seat is told of its new view
 abbrev pub told : inside.Listener → inside.Listener → List Note
-told old new = option_to_list (batch_note (listener_of new) (batch_from (shown_in old.view) (listener_of new)))
+told old new =
+    option_to_list (batch_note (listener_of new) (batch_from (shown_in old.view) (listener_of new)))
 
 -- what the seats are told, where there is a listener
 abbrev pub all_told : Option inside.Listener → Option inside.Listener → List Note
@@ -107,14 +123,15 @@ IsView q (Some v) = v.shown ≡ select q v.seen
 -- what is seen is what is brought, overlaid by the pending writes; without a view nothing is known
 abbrev pub IsSeen : Query → List Request → List Region → Option View → Type 0
 IsSeen q requests regions None = is_known (brought_of regions) (pending requests) q ≡ false
-IsSeen q requests regions (Some v) = v.seen ≡ overlay q.path (base_tree (base (brought_of regions) q)) (pending requests)
+IsSeen q requests regions (Some v) = v.seen ≡ seen_from regions requests q
 
 -- the regions sit at or under the path
 abbrev pub AreUnder : Path → List Region → Type 0
 AreUnder p regions = All (λ (r : Path × PathTree). is_at_or_above p r.0 ≡ true) (pairs_of regions)
 
 -- the listener is the first, its query is not filtered, and its view is up to date
-pub record IsListener (requests : List Request) (regions : List Region) (l : inside.Listener) : Type 0 where
+pub record IsListener (requests : List Request) (regions : List Region) (l : inside.Listener)
+    : Type 0 where
   pub first : l.number ≡ 1
   pub plain : is_filtered l.query ≡ false
   pub under : AreUnder l.query.path regions
@@ -127,7 +144,8 @@ IsListened requests regions None = regions ≡ []
 IsListened requests regions (Some l) = IsListener requests regions l
 
 -- one listener at most
-pub record IsState (limits : Limits) (listener : Option inside.Listener) (requests : List Request) (regions : List Region) : Type 0 where
+pub record IsState (limits : Limits) (listener : Option inside.Listener)
+    (requests : List Request) (regions : List Region) : Type 0 where
   pub one : limits.listeners ≡ 1
   pub numbers : 1 ≤ limits.last_number
   pub listened : IsListened requests regions listener

@@ -1,15 +1,15 @@
 use Rattle.std.proofs.Common.{◌≡◌, ◌∙◌, ap, sym, subst, inl, Some, rules}
 use Rattle.std.specs.List.{All}
 use Rattle.std.specs.Option.{unwrap_or, IfSome}
-use Rattle.rt_sync.specs.Alone.{IsAlone}
+use Rattle.rt_sync.specs.inside.Alone.{IsAlone}
 use Rattle.rt_sync.specs.Answers.{Answer, step}
 use Rattle.rt_sync.specs.Headline.{IsUpToDate}
 use Rattle.rt_sync.specs.Runs.{Applies}
-use Rattle.rt_sync.specs.Sound.{IsSound}
+use Rattle.rt_sync.specs.inside.Sound.{IsSound}
 use Rattle.rt_sync.specs.World.{World}
 use Rattle.rt_sync.proofs.AloneLaws.{alone_of_applies}
 use Rattle.rt_sync.proofs.HeadlineLaws.{sound_of_applies, up_to_date_of_applies}
-use Rattle.rt_sync.proofs.sync.Core.apply.Goals as goal
+use Rattle.rt_sync.proofs.Core.apply.Goals as goal
 
 pub invariant_of-self-2 : goal.invariant_of-self-2
 invariant_of-self-2 c =

@@ -1,10 +1,10 @@
 use Rattle.std.proofs.Common.{◌≡◌, ◌∙◌, ap, sym, subst}
-use Rattle.rt_sync.specs.Alone.{IsAlone}
-use Rattle.rt_sync.specs.Sound.{IsSound}
+use Rattle.rt_sync.specs.inside.Alone.{IsAlone}
+use Rattle.rt_sync.specs.inside.Sound.{IsSound}
 use Rattle.rt_sync.specs.World.{World, empty_world, limits_from}
 use Rattle.rt_sync.proofs.AloneLaws.{alone_empty}
 use Rattle.rt_sync.proofs.HeadlineLaws.{sound_empty}
-use Rattle.rt_sync.proofs.sync.Core.new.Goals as goal
+use Rattle.rt_sync.proofs.Core.new.Goals as goal
 
 pub invariant_of-result : goal.invariant_of-result
 invariant_of-result c =

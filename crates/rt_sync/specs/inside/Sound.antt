@@ -20,11 +20,13 @@ kept_forms w = map (λ k. k.form) w.kept
 abbrev pub needed_forms : World → List Query
 needed_forms w = needed (forms (registered w.listeners))
 
--- the listeners rise below the next number; each view is that of what is brought, and is there where something is known; just the needed forms are kept
+-- the listeners rise below the next number; each view is that of what is brought, and is there
+-- where something is known; just the needed forms are kept
 pub record IsSound (w : World) : Type 0 where
   pub rises : Rises w.listeners
   pub below : All (λ l. l.number < w.next_listener) w.listeners
   pub views : All (λ l. l.view ≡ view_by l.is_primed w l.query) w.listeners
-  pub primed : All (λ l. is_known w.brought (pending w.requests) l.query ≡ true → l.is_primed ≡ true) w.listeners
+  pub primed :
+      All (λ l. is_known w.brought (pending w.requests) l.query ≡ true → l.is_primed ≡ true) w.listeners
   pub only : All (Contains (needed_forms w)) (kept_forms w)
   pub all : All (Contains (kept_forms w)) (needed_forms w)

@@ -21,7 +21,8 @@ pub record HasOne (w : World) : Type 0 where
   pub kept : w.kept ≡ listen ∷ []
   pub unfiltered : is_filtered listener.query ≡ false
   pub form : listen.form ≡ plain (listener.query).path
-  pub under : All (λ (r : Path × PathTree). is_at_or_above (listener.query).path r.0 ≡ true) (w.brought).regions
+  pub under :
+      All (λ (r : Path × PathTree). is_at_or_above (listener.query).path r.0 ≡ true) (w.brought).regions
 
 -- one listener is the limit, and there is none or one; no window is brought
 pub record IsAlone (w : World) : Type 0 where
