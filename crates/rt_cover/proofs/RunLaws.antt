@@ -8,8 +8,10 @@ use Rattle.rt_cover.specs.declared.error.CoverError.TheVariants.{UnknownListener
 use Rattle.rt_cover.specs.declared.kept.Kept.{Kept}
 use Rattle.rt_cover.specs.Cover.{Registered, Tagged}
 use Rattle.rt_cover.specs.State.{Cover, empty_cover, with_listener, without_listeners, left_after, with_listeners, started_for, shown_with, difference, listen_at, lacks_tag, fault_of, has_unknown}
-use Rattle.rt_cover.specs.Sound.{IsSound, IsTold, counted}
-use Rattle.rt_cover.specs.Runs.{Change, Add, Remove, Revoke, fault, changed, told, after, after_all, tags_of, tags_given, EveryRunIsSound}
+use Rattle.rt_cover.specs.inside.Sound.{IsSound}
+use Rattle.rt_cover.specs.Shown.{IsTold, counted}
+use Rattle.rt_cover.specs.Runs.{Change, Add, Remove, Revoke, fault, changed, told, after, after_all, tags_of, tags_given}
+use Rattle.rt_cover.specs.laws.Runs.{EveryRunIsSound}
 use Rattle.rt_cover.proofs.ShownLaws.{shown_are_fewest, shown_are_certified}
 use Rattle.rt_cover.proofs.SoundLaws.{sound_after, sound_empty, with_listener_rises, without_listeners_rise, left_after_rise, told_exactly, is_told, is_told_without}
 

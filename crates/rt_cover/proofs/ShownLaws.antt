@@ -15,7 +15,8 @@ use Rattle.rt_query.proofs.Tests.{query_eq_tells}
 use Rattle.rt_cover.specs.declared.kept.Kept.{Kept}
 use Rattle.rt_cover.specs.Cover.{Registered, Supplies, IsFewest, forms, first_listener, needed, Tagged}
 use Rattle.rt_cover.specs.State.{Cover, needed_forms, shown_with, shown}
-use Rattle.rt_cover.specs.Sound.{AreFewest, IsCertified, IsSound}
+use Rattle.rt_cover.specs.Shown.{AreFewest, IsCertified}
+use Rattle.rt_cover.specs.inside.Sound.{IsSound}
 use Rattle.rt_cover.proofs.CoverLaws.{Contains-filter, Contains-from_filter, passes-from_filter, is_covered}
 use Rattle.rt_cover.proofs.KeepLaws.{form_is_form, forms_are, fewest_kept}
 use Rattle.rt_cover.proofs.Pairs.{Contains-head, Contains-later, Contains-cases, Any-from_map, All-from_contained, AllPairs-first, AllPairs-rest, AllPairs-map, AllPairs-nil, AllPairs-weaker}

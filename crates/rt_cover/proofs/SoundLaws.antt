@@ -15,7 +15,8 @@ use Rattle.rt_cover.specs.declared.error.CoverError.TheVariants.{UnknownTag}
 use Rattle.rt_cover.specs.declared.kept.Kept.{Kept}
 use Rattle.rt_cover.specs.Cover.{Registered, distinct, forms, first_listener, Tagged, is_kept, started, kept_for}
 use Rattle.rt_cover.specs.State.{Cover, empty_cover, needed_forms, shown_with, with_listener, without_listeners, started_for, with_listeners, lacks_tag, beyond, difference, without_tag, without_form, left_after, listen_at, fault_of, revoke_fault}
-use Rattle.rt_cover.specs.Sound.{counted, IsTold, IsSound}
+use Rattle.rt_cover.specs.Shown.{counted, IsTold}
+use Rattle.rt_cover.specs.inside.Sound.{IsSound}
 use Rattle.rt_cover.proofs.CoverLaws.{Contains-filter, Contains-from_filter, passes-from_filter, is_covered}
 use Rattle.rt_cover.proofs.FormLaws.{same_tests}
 use Rattle.rt_cover.proofs.KeepLaws.{Contains-map, forms-started, kept_for_needed, needed_kept_for}

@@ -7,7 +7,7 @@ use Rattle.std.proofs.lemmas.List.Elements.{All-cons}
 use Rattle.rt_query.specs.Queries.{Query}
 use Rattle.rt_query.specs.Supply.{does_supply}
 use Rattle.rt_cover.specs.Cover.{Tagged, Supplies}
-use Rattle.rt_cover.specs.Sound.{IsLeastSupplier}
+use Rattle.rt_cover.specs.Shown.{IsLeastSupplier}
 use Rattle.rt_cover.proofs.Pairs.{Contains-head, Contains-later, AllPairs-first, AllPairs-rest}
 
 -- the tag of the first that supplies the query

@@ -6,7 +6,7 @@ use Rattle.std.proofs.lemmas.List.Elements.{All-contains, Contains-get_or, Conta
 use Rattle.rt_query.specs.Queries.{Query}
 use Rattle.rt_query.specs.QueryEq.{query_eq}
 use Rattle.rt_cover.specs.Cover.{Tagged, is_kept, started, kept_for}
-use Rattle.rt_cover.specs.Laws.{AreTagged}
+use Rattle.rt_cover.specs.laws.KeptListens.{AreTagged}
 use Rattle.rt_cover.proofs.CoverLaws.{Contains-from_filter}
 
 tag_at : (n : ℕ) (fs : List Query) (i : ℕ) (d : Tagged) → i < length fs → (slice_index_or (map (λ (x : ℕ × Query). record { tag = x.0; form = x.1 }) (enumerate_from n fs)) i d).tag ≡ n + i

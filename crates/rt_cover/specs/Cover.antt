@@ -24,7 +24,8 @@ pub record IsFewest (listens registered : List Query) : Type 0 where
 
 -- the forms that no other form supplies
 abbrev pub needed : List Query → List Query
-needed registered = filter (λ f. not (list_any (λ g. not (query_eq g f) && does_supply g f) registered)) registered
+needed registered =
+    filter (λ f. not (list_any (λ g. not (query_eq g f) && does_supply g f) registered)) registered
 
 -- ---- registered listeners
 
@@ -43,7 +44,8 @@ forms listeners = distinct query_eq (map (λ l. form l.1) listeners)
 
 -- the least number of a listener of that form; the numbers rise
 abbrev pub first_listener : List Registered → Query → ℕ
-first_listener listeners f = option_map_or (λ l. l.0) (find (λ l. query_eq (form l.1) f) listeners) 0
+first_listener listeners f =
+    option_map_or (λ l. l.0) (find (λ l. query_eq (form l.1) f) listeners) 0
 
 -- ---- listens with tags
 
@@ -59,7 +61,8 @@ is_kept kept f = list_any (λ k. query_eq k.form f) kept
 -- the needed forms that are new get the next tags, in order
 abbrev pub started : ℕ → List Tagged → List Query → List Tagged
 started next_tag kept forms' =
-    map (λ n. record { tag = n.0; form = n.1 }) (enumerate_from next_tag (filter (λ f. not (is_kept kept f)) forms'))
+    map (λ n. record { tag = n.0; form = n.1 })
+    (enumerate_from next_tag (filter (λ f. not (is_kept kept f)) forms'))
 
 -- the listens kept when these forms are needed: a form that stays keeps its tag
 abbrev pub kept_for : ℕ → List Tagged → List Query → List Tagged

@@ -1,7 +1,8 @@
 -- The number and the name of each refusal.
 use Rattle.std.specs.Prelude.{ℕ, List, codes}
 use Rattle.rt_cover.specs.declared.error.CoverError.{CoverError}
-use Rattle.rt_cover.specs.declared.error.CoverError.TheVariants.{UnknownListener, UnknownTag, NoTag, NoMemory}
+use Rattle.rt_cover.specs.declared.error.CoverError.TheVariants.{UnknownListener, UnknownTag}
+use Rattle.rt_cover.specs.declared.error.CoverError.TheVariants.{NoTag, NoMemory}
 
 -- the number of a refusal
 abbrev pub code_of : CoverError → ℕ

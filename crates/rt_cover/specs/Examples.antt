@@ -19,17 +19,29 @@ lines c (change ∷ rest) = line c change ∷ lines (after c change) rest
 
 -- the first child of /a
 abbrev pub first_child : Query
-first_child = record { path = path_keys (codes "/a"); index = Index.Key; range = record { lower = None; upper = None }; limit = Some (First 1) }
+first_child = record {
+  path = path_keys (codes "/a");
+  index = Index.Key;
+  range = record { lower = None; upper = None };
+  limit = Some (First 1);
+}
 
--- a child, the parent's first child, and the parent; the parent's listener ends, and the child's listen is revoked
+-- all of a path
+abbrev pub whole : List ℕ → Query
+whole p = plain (path_keys p)
+
+-- a child, the parent's first child, and the parent; the parent's listener ends, and the child's
+-- listen is revoked
 abbrev pub changes : List Change
 changes =
-    Add 1 (plain (path_keys (codes "/a/b"))) ∷ Add 2 first_child ∷ Add 3 (plain (path_keys (codes "/a"))) ∷ Remove (3 ∷ []) ∷ Revoke 4 ∷ []
+    Add 1 (whole (codes "/a/b")) ∷ Add 2 first_child ∷ Add 3 (whole (codes "/a"))
+    ∷ Remove (3 ∷ []) ∷ Revoke 4 ∷ []
 
 -- the parent takes over from both, and they from the parent
 abbrev pub CoverChanges : Type 0
 CoverChanges = lines (empty_cover 100) changes
-    ≡ ((1, 1) ∷ [], []) ∷ ((2, 2) ∷ [], []) ∷ ((3, 3) ∷ [], 1 ∷ 2 ∷ []) ∷ ((4, 1) ∷ (5, 2) ∷ [], 3 ∷ []) ∷ ([], []) ∷ []
+    ≡ ((1, 1) ∷ [], []) ∷ ((2, 2) ∷ [], []) ∷ ((3, 3) ∷ [], 1 ∷ 2 ∷ [])
+    ∷ ((4, 1) ∷ (5, 2) ∷ [], 3 ∷ []) ∷ ([], []) ∷ []
 
 -- a tag is revoked once
 abbrev pub RevokedOnce : Type 0
@@ -37,4 +49,6 @@ RevokedOnce = fault (after_all (empty_cover 100) changes) (Revoke 4) ≡ Some Un
 
 -- two tags do not do for three listens
 abbrev pub NoTagLeft : Type 0
-NoTagLeft = fault (after_all (empty_cover 2) (Add 1 (plain (path_keys (codes "/a"))) ∷ Add 2 (plain (path_keys (codes "/b"))) ∷ [])) (Add 3 (plain (path_keys (codes "/c")))) ≡ Some NoTag
+NoTagLeft =
+    let adds = Add 1 (whole (codes "/a")) ∷ Add 2 (whole (codes "/b")) ∷ [] in
+    fault (after_all (empty_cover 2) adds) (Add 3 (whole (codes "/c"))) ≡ Some NoTag

@@ -1,11 +1,11 @@
 -- Runs of changes: what a cover is after any list of them, and what was told on the way.
-use Rattle.std.specs.Prelude.{◌≡◌, ℕ, ◌≤◌, if◌then◌else◌, List, [], ◌∷◌, ◌++◌, map, length, Option, is_some}
-use Rattle.std.specs.List.{fold, All}
+use Rattle.std.specs.Prelude.{ℕ, if◌then◌else◌, List, [], ◌∷◌, ◌++◌, map, Option, is_some}
+use Rattle.std.specs.List.{fold}
 use Rattle.rt_query.specs.Queries.{Query}
 use Rattle.rt_cover.specs.declared.delta.Delta.{Delta}
 use Rattle.rt_cover.specs.declared.error.CoverError.{CoverError}
-use Rattle.rt_cover.specs.State.{Cover, empty_cover, shown, added, removed, revoked, difference, without_tag, add_fault, remove_fault, revoke_fault}
-use Rattle.rt_cover.specs.Sound.{AreFewest, IsCertified, counted}
+use Rattle.rt_cover.specs.State.{Cover, added, removed, revoked, difference, without_tag}
+use Rattle.rt_cover.specs.State.{add_fault, remove_fault, revoke_fault}
 
 -- a new listener with its number, the end of some listeners, or the revocation of a tag
 pub data Change : Type 0 where
@@ -47,13 +47,3 @@ tags_of c change = if is_some (fault c change) then [] else map (λ k. k.tag) (t
 abbrev pub tags_given : Cover → List Change → List ℕ
 tags_given c [] = []
 tags_given c (change ∷ rest) = tags_of c change ++ tags_given (after c change) rest
-
--- after any changes of a new cover the listens are the fewest, and certified; the tags that were given are 1, 2, 3 and so on, none above the last
-pub record RunsSoundly (last_tag : ℕ) (changes : List Change) : Type 0 where
-  pub fewest : AreFewest (after_all (empty_cover last_tag) changes).listeners (shown (after_all (empty_cover last_tag) changes))
-  pub certified : All (IsCertified (after_all (empty_cover last_tag) changes).listeners) (shown (after_all (empty_cover last_tag) changes))
-  pub tags : tags_given (empty_cover last_tag) changes ≡ counted 1 (length (tags_given (empty_cover last_tag) changes))
-  pub last : length (tags_given (empty_cover last_tag) changes) ≤ last_tag
-
-abbrev pub EveryRunIsSound : Type 0
-EveryRunIsSound = (last_tag : ℕ) (changes : List Change) → RunsSoundly last_tag changes

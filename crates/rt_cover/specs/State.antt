@@ -1,5 +1,7 @@
--- The cover: the registered listeners, the listens kept for them, and what a change of the listeners leaves and tells.
-use Rattle.std.specs.Prelude.{ℕ, ◌+◌, Bool, not, ◌==◌, nat_lt, if◌then◌else◌, List, [], ◌∷◌, ◌++◌, map, length, Option, Some, None}
+-- The cover: the registered listeners, the listens kept for them, and what a change of the
+-- listeners leaves and tells.
+use Rattle.std.specs.Prelude.{◌≡◌, ◌⊎◌, ℕ, ◌+◌, Bool, not, ◌==◌, nat_lt, if◌then◌else◌}
+use Rattle.std.specs.Prelude.{List, [], ◌∷◌, ◌++◌, map, length, Option, Some, None}
 use Rattle.std.specs.List.{filter, find, list_any}
 use Rattle.std.specs.Option.{option_map, option_map_or}
 use Rattle.rt_query.specs.Queries.{Query}
@@ -7,11 +9,14 @@ use Rattle.rt_query.specs.QueryEq.{query_eq}
 use Rattle.rt_query.specs.Supply.{form, does_supply}
 use Rattle.rt_cover.specs.declared.delta.Delta.{Delta}
 use Rattle.rt_cover.specs.declared.error.CoverError.{CoverError}
-use Rattle.rt_cover.specs.declared.error.CoverError.TheVariants.{UnknownListener, UnknownTag, NoTag}
+use Rattle.rt_cover.specs.declared.error.CoverError.TheVariants.{UnknownListener, UnknownTag}
+use Rattle.rt_cover.specs.declared.error.CoverError.TheVariants.{NoTag, NoMemory}
 use Rattle.rt_cover.specs.declared.kept.Kept.{Kept}
-use Rattle.rt_cover.specs.Cover.{Registered, forms, first_listener, needed, Tagged, started, kept_for}
+use Rattle.rt_cover.specs.Cover.{Registered, forms, first_listener, needed, Tagged, started}
+use Rattle.rt_cover.specs.Cover.{kept_for}
 
--- the registered listeners by number, the kept listens by tag, the next tag, and the last one that may be given
+-- the registered listeners by number, the kept listens by tag, the next tag, and the last one that
+-- may be given
 pub record Cover : Type 0 where
   pub listeners : List Registered
   pub kept : List Tagged
@@ -31,7 +36,8 @@ is_registered listeners number = list_any (λ l. l.0 == number) listeners
 -- the listeners with a new one, by number
 abbrev pub with_listener : List Registered → ℕ → Query → List Registered
 with_listener listeners number query =
-    filter (λ l. nat_lt l.0 number) listeners ++ (number, query) ∷ filter (λ l. nat_lt number l.0) listeners
+    filter (λ l. nat_lt l.0 number) listeners
+    ++ (number, query) ∷ filter (λ l. nat_lt number l.0) listeners
 
 -- the listeners without those of these numbers
 abbrev pub without_listeners : List Registered → List ℕ → List Registered
@@ -53,7 +59,8 @@ needed_forms listeners = needed (forms listeners)
 
 -- a kept listen, shown with the least-numbered listener of its form
 abbrev pub shown_with : List Registered → Tagged → Kept
-shown_with listeners k = record { tag = k.tag; query = k.form; listener = first_listener listeners k.form }
+shown_with listeners k =
+    record { tag = k.tag; query = k.form; listener = first_listener listeners k.form }
 
 -- the kept listens as they are shown
 abbrev pub shown : Cover → List Kept
@@ -109,7 +116,8 @@ removed c numbers = with_listeners c (without_listeners c.listeners numbers)
 
 -- the listeners that are left when the listen with that tag is revoked: those of its form end
 abbrev pub left_after : Cover → ℕ → List Registered
-left_after c tag = option_map_or (λ k. without_form c.listeners k.form) (listen_at c tag) c.listeners
+left_after c tag =
+    option_map_or (λ k. without_form c.listeners k.form) (listen_at c tag) c.listeners
 
 -- the listeners that end when it is
 abbrev pub ended_by : Cover → ℕ → List ℕ
@@ -140,8 +148,14 @@ has_unknown c numbers = list_any (λ n. not (is_registered c.listeners n)) numbe
 -- the refusal of a removal
 abbrev pub remove_fault : Cover → List ℕ → Option CoverError
 remove_fault c numbers =
-    if has_unknown c numbers then Some UnknownListener else fault_of c (without_listeners c.listeners numbers)
+    if has_unknown c numbers then Some UnknownListener
+    else fault_of c (without_listeners c.listeners numbers)
 
 -- the refusal of a revocation
 abbrev pub revoke_fault : Cover → ℕ → Option CoverError
-revoke_fault c tag = option_map_or (λ k. fault_of c (left_after c tag)) (listen_at c tag) (Some UnknownTag)
+revoke_fault c tag =
+    option_map_or (λ k. fault_of c (left_after c tag)) (listen_at c tag) (Some UnknownTag)
+
+-- a call fails by its refusal, or for want of memory
+abbrev pub FailsBy : Option CoverError → CoverError → Type 0
+FailsBy fault e = (fault ≡ Some e) ⊎ (e ≡ NoMemory)

@@ -1,5 +1,6 @@
 // The cover.
-ghost use Rattle.std.specs.Prelude.{◌≡◌, ◌<◌, ◌+◌, ◌⊎◌, false, true, not, map, length, IfOk, IfErr, OnOk, OnErr, IfSome, IfNone, is_some};
+ghost use Rattle.std.specs.Prelude.{◌≡◌, ◌<◌, ◌+◌, ◌⊎◌, false, true, not, map, length, IfOk, IfErr};
+ghost use Rattle.std.specs.Prelude.{OnOk, OnErr, IfSome, IfNone, is_some};
 ghost use Rattle.std.specs.List.{filter, list_any, All, AllPairs};
 
 use crate::delta::{Delta, Revoked};
@@ -16,8 +17,8 @@ use rt_query::Query;
 use std::alloc::{AllocError, Global};
 use std::marker::Model;
 
-/// The registered listeners, and the listens kept for them: the fewest registered queries that together supply every
-/// listener. Each kept listen has a tag, which no other listen ever gets.
+/// The registered listeners, and the listens kept for them: the fewest registered queries that
+/// together supply every listener. Each kept listen has a tag, which no other listen ever gets.
 #[derive(Drop)]
 pub struct Cover {
     listeners: Vec<Listener>,
@@ -29,21 +30,38 @@ pub struct Cover {
 impl Model for Cover {
     ghost use Rattle.std.specs.Prelude.{◌+◌};
     ghost use Rattle.rt_cover.specs.State.{Cover};
-    ghost use Rattle.rt_cover.specs.Sound.{IsSound};
+    ghost use Rattle.rt_cover.specs.inside.Sound.{IsSound};
 
     ghost Value = { Cover };
 
-    ghost view = { λ a. record { listeners = a.listeners.items; kept = a.kept.items; next_tag = a.given + 1; last_tag = a.last_tag } };
+    ghost view = { λ a. record {
+      listeners = a.listeners.items;
+      kept = a.kept.items;
+      next_tag = a.given + 1;
+      last_tag = a.last_tag;
+    } };
 
-    ghost invariant = { λ a. IsSound (record { listeners = a.listeners.items; kept = a.kept.items; next_tag = a.given + 1; last_tag = a.last_tag }) };
+    ghost invariant = { λ a. IsSound (record {
+      listeners = a.listeners.items;
+      kept = a.kept.items;
+      next_tag = a.given + 1;
+      last_tag = a.last_tag;
+    }) };
 }
 
 impl Cover {
     ghost use Rattle.rt_query.specs.Supply.{does_supply};
     ghost use Rattle.rt_query.specs.QueryEq.{query_eq};
     ghost use Rattle.rt_cover.specs.Cover.{kept_for};
-    ghost use Rattle.rt_cover.specs.State.{needed_forms, shown_with, started_for, empty_cover, is_registered, shown, supplier, with_listeners, lacks_tag, fault_of, difference, added, removed, revoked, ended_by, without_tag, has_unknown, add_fault, remove_fault, revoke_fault, listen_at, left_after};
-    ghost use Rattle.rt_cover.specs.Sound.{AreFewest, IsCertified, IsLeastSupplier, IsTold, IsSound};
+    ghost use Rattle.rt_cover.specs.State.{empty_cover, is_registered, needed_forms, started_for};
+    ghost use Rattle.rt_cover.specs.State.{shown_with, shown, listen_at, supplier};
+    ghost use Rattle.rt_cover.specs.State.{with_listeners, lacks_tag, difference};
+    ghost use Rattle.rt_cover.specs.State.{added, removed, revoked};
+    ghost use Rattle.rt_cover.specs.State.{left_after, ended_by, without_tag};
+    ghost use Rattle.rt_cover.specs.State.{fault_of, add_fault, remove_fault, revoke_fault};
+    ghost use Rattle.rt_cover.specs.State.{has_unknown, FailsBy};
+    ghost use Rattle.rt_cover.specs.Shown.{AreFewest, IsCertified, IsLeastSupplier, IsTold};
+    ghost use Rattle.rt_cover.specs.inside.Sound.{IsSound};
 
     /// The cover of no listener. Tags count from 1, and none is above the last one.
     pub fn new(alloc: Global, last_tag: u64) -> Cover
@@ -89,8 +107,12 @@ impl Cover {
         Ok(KeptList::of(items))
     }
 
-    /// The kept listens by tag. They supply every listener, and each of them is in every list of registered forms that
-    /// does. Fails for want of memory alone.
+    /// The kept listens by tag. They supply every listener, and each of them is in every list of
+    /// registered forms that does.
+    ///
+    /// # Errors
+    ///
+    /// `NoMemory` alone.
     pub fn open(&self) -> Result<KeptList, CoverError>
         ensures listens { IfOk result (λ list. list ≡ shown self.now) }
         ensures fewest { IfOk result (λ list. AreFewest self.now.listeners list) }
@@ -99,8 +121,12 @@ impl Cover {
         Ok(self.shown()?)
     }
 
-    /// The kept listens by tag, each with the least-numbered listener of its form, whom no other registered query supplies.
-    /// Fails for want of memory alone.
+    /// The kept listens by tag, each with the least-numbered listener of its form, whom no other
+    /// registered query supplies.
+    ///
+    /// # Errors
+    ///
+    /// `NoMemory` alone.
     pub fn certificate(&self) -> Result<KeptList, CoverError>
         ensures listens { IfOk result (λ list. list ≡ shown self.now) }
         ensures certified { IfOk result (λ list. All (IsCertified self.now.listeners) list) }
@@ -113,19 +139,27 @@ impl Cover {
     pub fn supplier(&self, query: &Query) -> Option<u64>
         ensures exact { result ≡ supplier self.now query.now }
         ensures least { IfSome result (λ tag. IsLeastSupplier self.now.kept query.now tag) }
-        ensures none { IfNone result (All (λ k. does_supply k.form query.now ≡ false) self.now.kept) }
+        ensures none { IfNone result
+            (All (λ k. does_supply k.form query.now ≡ false) self.now.kept) }
     {
         listen::supplier(&self.kept, query)
     }
 
     // What a change to these listeners makes of the listens kept.
     fn plan(&self, listeners: &[Listener]) -> Result<Plan, CoverError>
-        ensures kept { IfOk result (λ plan. plan.kept.items ≡ kept_for self.now.next_tag self.now.kept (needed_forms listeners.now)) }
-        ensures given { IfOk result (λ plan. plan.given + 1 ≡ self.now.next_tag + length (started_for self.now listeners.now)) }
-        ensures started { IfOk result (λ plan. plan.started.items ≡ map (shown_with listeners.now) (started_for self.now listeners.now)) }
-        ensures stopped { IfOk result (λ plan. plan.stopped.items ≡ map (λ k. k.tag) (filter (λ k. not (list_any (query_eq k.form) (needed_forms listeners.now))) self.now.kept)) }
+        ensures kept { IfOk result (λ plan. plan.kept.items
+            ≡ kept_for self.now.next_tag self.now.kept (needed_forms listeners.now)) }
+        ensures given { IfOk result (λ plan. plan.given + 1
+            ≡ self.now.next_tag + length (started_for self.now listeners.now)) }
+        ensures started { IfOk result (λ plan. plan.started.items
+            ≡ map (shown_with listeners.now) (started_for self.now listeners.now)) }
+        ensures stopped { IfOk result (λ plan.
+            let needed = needed_forms listeners.now in
+            plan.stopped.items
+            ≡ map (λ k. k.tag)
+            (filter (λ k. not (list_any (query_eq k.form) needed)) self.now.kept)) }
         ensures taken { OnOk result (lacks_tag self.now listeners.now ≡ false) }
-        ensures fault { IfErr result (λ e. (fault_of self.now listeners.now ≡ Some e) ⊎ (e ≡ CoverError.NoMemory)) }
+        ensures fault { IfErr result (FailsBy (fault_of self.now listeners.now)) }
     {
         let alloc = self.alloc();
         let forms = forms(alloc, listeners)?;
@@ -139,10 +173,11 @@ impl Cover {
     fn change(&mut self, listeners: Vec<Listener>) -> Result<Delta, CoverError>
         requires { AllPairs (λ l m. l.0 < m.0) listeners.items }
         ensures cover { OnOk result (self.new ≡ with_listeners self.old listeners.items) }
-        ensures delta { IfOk result (λ delta. delta ≡ difference self.old (with_listeners self.old listeners.items)) }
+        ensures delta { IfOk result (λ delta. delta
+            ≡ difference self.old (with_listeners self.old listeners.items)) }
         ensures told { IfOk result (λ delta. IsTold self.old.next_tag delta) }
         ensures taken { OnOk result (fault_of self.old listeners.items ≡ None) }
-        ensures fault { IfErr result (λ e. (fault_of self.old listeners.items ≡ Some e) ⊎ (e ≡ CoverError.NoMemory)) }
+        ensures fault { IfErr result (FailsBy (fault_of self.old listeners.items)) }
         ensures unchanged { OnErr result (self.new ≡ self.old) }
     {
         let plan = self.plan(&listeners)?;
@@ -155,15 +190,20 @@ impl Cover {
         })
     }
 
-    /// Registers a listener, under a number that no registered one has. Refused where a new listen would need a tag above
-    /// the last one.
+    /// Registers a listener, under a number that no registered one has.
+    ///
+    /// # Errors
+    ///
+    /// `NoTag` where a new listen would need a tag above the last one, or `NoMemory`. The cover
+    /// stays as it was.
     pub fn add(&mut self, listener: u64, query: Query) -> Result<Delta, CoverError>
         requires { is_registered self.old.listeners listener ≡ false }
         ensures cover { OnOk result (self.new ≡ added self.old listener query) }
-        ensures delta { IfOk result (λ delta. delta ≡ difference self.old (added self.old listener query)) }
+        ensures delta { IfOk result (λ delta. delta
+            ≡ difference self.old (added self.old listener query)) }
         ensures told { IfOk result (λ delta. IsTold self.old.next_tag delta) }
         ensures taken { OnOk result (add_fault self.old listener query ≡ None) }
-        ensures fault { IfErr result (λ e. (add_fault self.old listener query ≡ Some e) ⊎ (e ≡ CoverError.NoMemory)) }
+        ensures fault { IfErr result (FailsBy (add_fault self.old listener query)) }
         ensures unchanged { OnErr result (self.new ≡ self.old) }
     {
         let listeners = with_listener(self.alloc(), &self.listeners, listener, query)?;
@@ -177,15 +217,21 @@ impl Cover {
         numbers.iter().any(|number| !self.is_registered(*number))
     }
 
-    /// Ends all these listeners, in one change; a repeated number counts once. Refused where one of them is not registered,
-    /// and where a new listen would need a tag above the last one.
+    /// Ends all these listeners, in one change; a repeated number counts once.
+    ///
+    /// # Errors
+    ///
+    /// `UnknownListener` where one of them is not registered; then `NoTag` where a new listen would
+    /// need a tag above the last one, or `NoMemory`. The cover stays as it was.
     pub fn remove(&mut self, listeners: &[u64]) -> Result<Delta, CoverError>
         ensures cover { OnOk result (self.new ≡ removed self.old listeners.now) }
-        ensures delta { IfOk result (λ delta. delta ≡ difference self.old (removed self.old listeners.now)) }
+        ensures delta { IfOk result (λ delta. delta
+            ≡ difference self.old (removed self.old listeners.now)) }
         ensures told { IfOk result (λ delta. IsTold self.old.next_tag delta) }
         ensures taken { OnOk result (remove_fault self.old listeners.now ≡ None) }
-        ensures fault { IfErr result (λ e. (remove_fault self.old listeners.now ≡ Some e) ⊎ (e ≡ CoverError.NoMemory)) }
-        ensures unknown { has_unknown self.old listeners.now ≡ true → result ≡ Err CoverError.UnknownListener }
+        ensures fault { IfErr result (FailsBy (remove_fault self.old listeners.now)) }
+        ensures unknown { has_unknown self.old listeners.now ≡ true
+            → result ≡ Err CoverError.UnknownListener }
         ensures unchanged { OnErr result (self.new ≡ self.old) }
     {
         if self.has_unknown(listeners) {
@@ -202,7 +248,9 @@ impl Cover {
         ensures known { OnOk result (is_some (listen_at self.now tag) ≡ true) }
         ensures sound { IsSound self.now }
         ensures unknown { listen_at self.now tag ≡ None → result ≡ Err CoverError.UnknownTag }
-        ensures fault { IfErr result (λ e. ((e ≡ CoverError.UnknownTag) × (listen_at self.now tag ≡ None)) ⊎ (e ≡ CoverError.NoMemory)) }
+        ensures fault { IfErr result (λ e.
+            ((e ≡ CoverError.UnknownTag) × (listen_at self.now tag ≡ None))
+            ⊎ (e ≡ CoverError.NoMemory)) }
     {
         let Some(listen) = listen::listen_at(&self.kept, tag) else {
             return Err(CoverError::UnknownTag);
@@ -213,15 +261,21 @@ impl Cover {
         Ok((ended, left))
     }
 
-    /// Ends the listeners whose listening form the listen with this tag is; the others are covered anew. Refused where no
-    /// listen with the tag is kept, and where a new listen would need a tag above the last one.
+    /// Ends the listeners whose listening form the listen with this tag is; the others are covered
+    /// anew.
+    ///
+    /// # Errors
+    ///
+    /// `UnknownTag` where no listen with the tag is kept; then `NoTag` where a new listen would
+    /// need a tag above the last one, or `NoMemory`. The cover stays as it was.
     pub fn revoke(&mut self, tag: u64) -> Result<Revoked, CoverError>
         ensures cover { OnOk result (self.new ≡ revoked self.old tag) }
         ensures ended { IfOk result (λ revoked. revoked.ended ≡ ended_by self.old tag) }
-        ensures delta { IfOk result (λ done. done.delta ≡ without_tag tag (difference self.old (revoked self.old tag))) }
+        ensures delta { IfOk result (λ done. done.delta
+            ≡ without_tag tag (difference self.old (revoked self.old tag))) }
         ensures told { IfOk result (λ done. IsTold self.old.next_tag done.delta) }
         ensures taken { OnOk result (revoke_fault self.old tag ≡ None) }
-        ensures fault { IfErr result (λ e. (revoke_fault self.old tag ≡ Some e) ⊎ (e ≡ CoverError.NoMemory)) }
+        ensures fault { IfErr result (FailsBy (revoke_fault self.old tag)) }
         ensures unknown { listen_at self.old tag ≡ None → result ≡ Err CoverError.UnknownTag }
         ensures unchanged { OnErr result (self.new ≡ self.old) }
     {

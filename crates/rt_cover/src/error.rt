@@ -18,6 +18,7 @@ pub enum CoverError {
     /// A new listen would need a tag above the last one.
     #[error("no tag is left")]
     NoTag,
+    /// A growth was refused.
     #[error("out of memory")]
     NoMemory,
 }

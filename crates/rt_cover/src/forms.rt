@@ -19,7 +19,9 @@ fn has_form_of(forms: &[Query], listener: &Listener) -> bool
 
 // Adds the listener's form, where it is new.
 fn push_form(forms: &mut Vec<Query>, listener: &Listener) -> Result<(), AllocError>
-    ensures { OnOk result (forms.new.items ≡ (if list_any (query_eq (form listener.now.1)) forms.old.items then forms.old.items else forms.old.items ++ form listener.now.1 ∷ [])) }
+    ensures { OnOk result (forms.new.items ≡ (
+        if list_any (query_eq (form listener.now.1)) forms.old.items then forms.old.items
+        else forms.old.items ++ form listener.now.1 ∷ [])) }
 {
     if has_form_of(forms, listener) {
         return Ok(());
@@ -41,7 +43,8 @@ pub(crate) fn forms(alloc: Global, listeners: &[Listener]) -> Result<Vec<Query>,
 
 // Whether another of these forms supplies this one.
 fn is_covered(forms: &[Query], form: &Query) -> bool
-    ensures { result ≡ list_any (λ g. not (query_eq g form.now) && does_supply g form.now) forms.now }
+    ensures { result
+        ≡ list_any (λ g. not (query_eq g form.now) && does_supply g form.now) forms.now }
 {
     forms
         .iter()

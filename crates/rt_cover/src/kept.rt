@@ -4,7 +4,8 @@ ghost use Rattle.std.specs.Prelude.{◌≡◌};
 use rt_query::Query;
 use std::marker::Model;
 
-/// A kept listen: its tag, the query that is listened to, and the number of a listener that needs it.
+/// A kept listen: its tag, the query that is listened to, and the number of a listener that needs
+/// it.
 #[derive(Drop)]
 pub struct Kept {
     pub tag: u64,

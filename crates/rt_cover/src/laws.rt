@@ -1,6 +1,8 @@
 // The laws of the cover.
-ghost use Rattle.rt_cover.specs.Laws.{SuppliesItself, SuppliesOnward, SuppliesOneWay, NeededAreFewest, KeptHaveForms, NeededStay, TagsStayApart};
-ghost use Rattle.rt_cover.specs.Runs.{EveryRunIsSound};
+ghost use Rattle.rt_cover.specs.laws.KeptListens.{KeptHaveForms, NeededStay, TagsStayApart};
+ghost use Rattle.rt_cover.specs.laws.Needed.{SuppliesItself, SuppliesOnward, SuppliesOneWay};
+ghost use Rattle.rt_cover.specs.laws.Needed.{NeededAreFewest};
+ghost use Rattle.rt_cover.specs.laws.Runs.{EveryRunIsSound};
 
 /// The three facts of supply on which the fewest listens stand.
 pub fn supply_law()
@@ -14,15 +16,16 @@ pub fn needed_law()
     ensures { NeededAreFewest }
 {}
 
-/// The listens kept for some forms have just these forms; one whose form was kept stays as it is, and no tag is given twice.
+/// The listens kept for some forms have just these forms; one whose form was kept stays as it is,
+/// and no tag is given twice.
 pub fn kept_law()
     ensures forms { KeptHaveForms }
     ensures stay { NeededStay }
     ensures tags { TagsStayApart }
 {}
 
-/// After any changes of a new cover, of which refused ones change nothing, the listens are the fewest, each certified, and
-/// the tags that were given are 1, 2, 3 and so on.
+/// After any changes of a new cover, of which refused ones change nothing, the listens are the
+/// fewest, each certified, and the tags that were given are 1, 2, 3 and so on.
 pub fn run_law()
     ensures { EveryRunIsSound }
 {}

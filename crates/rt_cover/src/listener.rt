@@ -86,7 +86,8 @@ fn push_below(
     listeners: &[Listener],
     number: u64,
 ) -> Result<(), AllocError>
-    ensures { OnOk result (into.new.items ≡ into.old.items ++ filter (λ l. nat_lt l.0 number) listeners.now) }
+    ensures { OnOk result (into.new.items
+        ≡ into.old.items ++ filter (λ l. nat_lt l.0 number) listeners.now) }
 {
     for listener in listeners {
         if listener.number < number {
@@ -102,7 +103,8 @@ fn push_above(
     listeners: &[Listener],
     number: u64,
 ) -> Result<(), AllocError>
-    ensures { OnOk result (into.new.items ≡ into.old.items ++ filter (λ l. nat_lt number l.0) listeners.now) }
+    ensures { OnOk result (into.new.items
+        ≡ into.old.items ++ filter (λ l. nat_lt number l.0) listeners.now) }
 {
     for listener in listeners {
         if number < listener.number {

@@ -1,5 +1,6 @@
 // What a change makes of the listens kept.
-ghost use Rattle.std.specs.Prelude.{◌≡◌, ◌+◌, ◌<◌, ◌≤◌, ◌⊎◌, ◌++◌, ◌∷◌, [], not, map, length, IfOk, IfErr, OnOk};
+ghost use Rattle.std.specs.Prelude.{◌≡◌, ◌+◌, ◌<◌, ◌≤◌, ◌⊎◌, ◌++◌, ◌∷◌, [], not, map, length, IfOk};
+ghost use Rattle.std.specs.Prelude.{IfErr, OnOk};
 ghost use Rattle.std.specs.List.{filter, list_any};
 ghost use Rattle.rt_query.specs.QueryEq.{query_eq};
 ghost use Rattle.rt_cover.specs.Cover.{started};
@@ -13,7 +14,8 @@ use crate::listener::{Listener, first_listener};
 use rt_query::Query;
 use std::alloc::{AllocError, Global};
 
-// The listens that are kept after the change and how many tags are given then, what starts and what stops.
+// The listens that are kept after the change and how many tags are given then, what starts and what
+// stops.
 #[derive(Drop)]
 pub(crate) struct Plan {
     pub(crate) kept: Vec<Listen>,
@@ -30,8 +32,11 @@ impl Plan {
         given: u64,
         needed: &[Query],
     ) -> Result<Plan, AllocError>
-        ensures kept { IfOk result (λ plan. plan.kept.items ≡ filter (λ k. list_any (query_eq k.form) needed.now) old.now) }
-        ensures stopped { IfOk result (λ plan. plan.stopped.items ≡ map (λ k. k.tag) (filter (λ k. not (list_any (query_eq k.form) needed.now)) old.now)) }
+        ensures kept { IfOk result (λ plan. plan.kept.items
+            ≡ filter (λ k. list_any (query_eq k.form) needed.now) old.now) }
+        ensures stopped { IfOk result (λ plan. plan.stopped.items
+            ≡ map (λ k. k.tag)
+            (filter (λ k. not (list_any (query_eq k.form) needed.now)) old.now)) }
         ensures given { IfOk result (λ plan. plan.given ≡ given) }
         ensures started { IfOk result (λ plan. plan.started.items ≡ []) }
     {
@@ -55,12 +60,15 @@ impl Plan {
     // Starts a listen of the form, under the next tag.
     fn start(&mut self, last_tag: u64, form: &Query, listener: u64) -> Result<(), CoverError>
         requires { self.old.given ≤ last_tag }
-        ensures kept { OnOk result (self.new.kept.items ≡ self.old.kept.items ++ record { tag = self.old.given + 1; form = form.now } ∷ []) }
-        ensures started { OnOk result (self.new.started.items ≡ self.old.started.items ++ record { tag = self.old.given + 1; query = form.now; listener = listener } ∷ []) }
+        ensures kept { OnOk result (self.new.kept.items ≡ self.old.kept.items
+            ++ record { tag = self.old.given + 1; form = form.now } ∷ []) }
+        ensures started { OnOk result (self.new.started.items ≡ self.old.started.items
+            ++ record { tag = self.old.given + 1; query = form.now; listener = listener } ∷ []) }
         ensures given { OnOk result (self.new.given ≡ self.old.given + 1) }
         ensures stopped { OnOk result (self.new.stopped.items ≡ self.old.stopped.items) }
         ensures room { OnOk result (self.old.given < last_tag) }
-        ensures fault { IfErr result (λ e. ((e ≡ NoTag) × (self.old.given ≡ last_tag)) ⊎ (e ≡ NoMemory)) }
+        ensures fault { IfErr result (λ e.
+            ((e ≡ NoTag) × (self.old.given ≡ last_tag)) ⊎ (e ≡ NoMemory)) }
     {
         if self.given == last_tag {
             return Err(CoverError::NoTag);
@@ -87,12 +95,19 @@ impl Plan {
         listeners: &[Listener],
     ) -> Result<(), CoverError>
         requires { self.old.given ≤ last_tag }
-        ensures kept { OnOk result (self.new.kept.items ≡ self.old.kept.items ++ started (self.old.given + 1) old.now needed.now) }
-        ensures started { OnOk result (self.new.started.items ≡ self.old.started.items ++ map (shown_with listeners.now) (started (self.old.given + 1) old.now needed.now)) }
-        ensures given { OnOk result (self.new.given ≡ self.old.given + length (started (self.old.given + 1) old.now needed.now)) }
+        ensures kept { OnOk result (self.new.kept.items
+            ≡ self.old.kept.items ++ started (self.old.given + 1) old.now needed.now) }
+        ensures started { OnOk result (self.new.started.items ≡ self.old.started.items
+            ++ map (shown_with listeners.now) (started (self.old.given + 1) old.now needed.now)) }
+        ensures given { OnOk result (self.new.given
+            ≡ self.old.given + length (started (self.old.given + 1) old.now needed.now)) }
         ensures stopped { OnOk result (self.new.stopped.items ≡ self.old.stopped.items) }
         ensures room { OnOk result (self.new.given ≤ last_tag) }
-        ensures fault { IfErr result (λ e. ((e ≡ NoTag) × (last_tag < self.old.given + length (started (self.old.given + 1) old.now needed.now))) ⊎ (e ≡ NoMemory)) }
+        ensures fault { IfErr result (λ e.
+            ((e ≡ NoTag)
+            × (last_tag
+            < self.old.given + length (started (self.old.given + 1) old.now needed.now)))
+            ⊎ (e ≡ NoMemory)) }
     {
         for form in needed {
             if !is_kept(old, form) {

@@ -1,5 +1,5 @@
-// The cover: listeners of whole and of filtered queries, more than a few, are added, removed and revoked. A change that lacks
-// memory changes nothing, so that it can be made again.
+// The cover: listeners of whole and of filtered queries, more than a few, are added, removed and
+// revoked. A change that lacks memory changes nothing, so that it can be made again.
 use crate::outcome::{self, Outcome, refused_before, right_if};
 use rt_cover::{Cover, CoverError, Delta, Kept, KeptList};
 use rt_order::Mark;
@@ -111,7 +111,8 @@ fn certifies(cover: &Cover, wanted: &[(u64, u64)]) -> Result<(), Outcome> {
     }
 }
 
-// The listen with tag 9 is revoked: both listeners of its form end, and nothing else starts or stops.
+// The listen with tag 9 is revoked: both listeners of its form end, and nothing else starts or
+// stops.
 fn try_revoke(cover: &mut Cover) -> Result<(), Outcome> {
     let revoked = cover.revoke(9)?;
     right_if(revoked.ended.as_slice() == [3, 6].as_slice() && is_told(&revoked.delta, &[], &[]))

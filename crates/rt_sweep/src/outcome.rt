@@ -42,8 +42,8 @@ pub(crate) fn right_if(is_right: bool) -> Result<(), Outcome> {
     }
 }
 
-// The end of a call that lacked memory, and was then made a second time with this end: only one allocation is refused, so the
-// second has to be right.
+// The end of a call that lacked memory, and was then made a second time with this end: only one
+// allocation is refused, so the second has to be right.
 pub(crate) fn refused_before(again: Result<(), Outcome>) -> Result<(), Outcome> {
     match again {
         Ok(()) => Err(Outcome::Refused),

@@ -79,7 +79,8 @@ fn has_failed(core: &mut Core) -> bool {
     matches!(core.apply(Step::Connected), Err(CoreError::Failed))
 }
 
-// How a step ends that has to tell of so many changes. A core that lacked memory makes no step any more.
+// How a step ends that has to tell of so many changes. A core that lacked memory makes no step any
+// more.
 fn end_of(
     core: &mut Core,
     answer: Result<Report, CoreError>,

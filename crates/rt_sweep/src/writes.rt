@@ -1,5 +1,5 @@
-// Pending writes: added, shown at several places, copied and taken out. What lacks memory changes nothing, so that it can be done
-// again.
+// Pending writes: added, shown at several places, copied and taken out. What lacks memory changes
+// nothing, so that it can be done again.
 ghost use Rattle.std.specs.Prelude.{IfOk};
 ghost use Rattle.std.specs.List.{All};
 ghost use Rattle.rt_writes.specs.Writes.{IsShallow};

@@ -134,8 +134,8 @@ fn cover_after(alloc: Global, changes: &[Change]) -> Result<Cover, Fail> {
     Ok(cover)
 }
 
-// A child's listener and one of its parent's first child, then one of the whole parent, which ends; and the child's listen
-// is revoked.
+// A child's listener and one of its parent's first child, then one of the whole parent, which ends;
+// and the child's listen is revoked.
 const CHANGES: [Change; 5] = [
     Change::Plain(1, "/a/b"),
     Change::FirstChild(2, "/a"),
@@ -199,18 +199,31 @@ fn listens(alloc: Global, list: Result<KeptList, CoverError>) -> Result<String, 
     Ok(texts)
 }
 
-// The forms of the kept listens, by whether they are filtered, and their paths.
-fn forms(alloc: Global, list: Vec<Kept>) -> Result<String, Fail> {
+// A kept listen: its tag and listener, whether its form is filtered, and its path.
+fn push_form(texts: &mut String, kept: &Kept) -> Result<(), AllocError> {
+    let path = kept.query.path().text()?;
+    let kind = if kept.query.is_filtered() {
+        "filtered"
+    } else {
+        "plain"
+    };
+    let alloc = *texts.allocator();
+    let text = format!(in alloc; " +{}@{} {kind} {path}", kept.tag, kept.listener)?;
+    texts.push_str(text.as_str())
+}
+
+fn forms(alloc: Global, listens: &[Kept]) -> Result<String, AllocError> {
     let mut texts = String::new(alloc);
-    for kept in &list {
-        texts.push_str(if kept.query.is_filtered() {
-            " filtered "
-        } else {
-            " plain "
-        })?;
-        texts.push_str(kept.query.path().text()?.as_str())?;
+    for kept in listens {
+        push_form(&mut texts, kept)?;
     }
     Ok(texts)
+}
+
+fn certificate(alloc: Global, changes: &[Change]) -> Result<String, Fail> {
+    let cover = cover_after(alloc, changes)?;
+    let listens = cover.certificate()?.into_vec();
+    Ok(forms(alloc, listens.as_slice())?)
 }
 
 #[test]
@@ -222,9 +235,8 @@ fn cover_changes_open(rt: HostRuntime) -> Result<(), Fail> {
 
 #[test]
 fn cover_changes_certificate(rt: HostRuntime) -> Result<(), Fail> {
-    let cover = cover_after(rt.alloc(), CHANGES.split_at(4).0)?;
-    let texts = forms(rt.alloc(), cover.certificate()?.into_vec())?;
-    assert_eq!(rt; texts.as_str(), " plain /a/b filtered /a");
+    let texts = certificate(rt.alloc(), CHANGES.split_at(4).0)?;
+    assert_eq!(rt; texts.as_str(), " +4@1 plain /a/b +5@2 filtered /a");
     Ok(())
 }
 

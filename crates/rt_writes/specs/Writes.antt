@@ -1,5 +1,6 @@
 -- Pending writes and what they lay over a tree.
-use Rattle.std.specs.Prelude.{ℕ, ◌+◌, ◌≤◌, Bool, not, List, [], ◌∷◌, ◌++◌, length, ◌==◌, Option, Some, None}
+use Rattle.std.specs.Prelude.{ℕ, ◌+◌, ◌≤◌, ◌==◌, Bool, not, List, [], ◌∷◌, ◌++◌, length}
+use Rattle.std.specs.Prelude.{Option, Some, None}
 use Rattle.std.specs.List.{fold, filter, find, flat_map, list_any}
 use Rattle.std.specs.Option.{option_map}
 use Rattle.rt_writes.specs.declared.write.Write as declared
@@ -20,13 +21,15 @@ IsShallow a = length a.0 + levels a.1 ≤ 33
 
 -- ---- the overlay
 
--- t under an entry u, given what follows the entry's path in the tree's, or the tree's in the entry's
+-- t under an entry u, given what follows the entry's path in the tree's, or the tree's in the
+-- entry's
 abbrev pub overlaid_by : Option Path → Option Path → PathTree → PathTree → PathTree
 overlaid_by (Some rest) _ t u = sub u rest
 overlaid_by None (Some rest) t u = put t rest u
 overlaid_by None None t u = t
 
--- the tree at p after one entry: at or above p it gives its part, below p it is put, elsewhere it does nothing
+-- the tree at p after one entry: at or above p it gives its part, below p it is put, elsewhere it
+-- does nothing
 abbrev pub overlaid : Path → PathTree → Assignment → PathTree
 overlaid p t a = overlaid_by (strip a.0 p) (strip p a.0) t a.1
 

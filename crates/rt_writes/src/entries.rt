@@ -1,5 +1,6 @@
 // The entries of a write.
-ghost use Rattle.std.specs.Prelude.{◌≡◌, ◌↔◌, ◌+◌, ◌≤◌, ◌∷◌, [], ◌++◌, ◌||◌, length, IfOk, OnErr, IsTrue, true};
+ghost use Rattle.std.specs.Prelude.{◌≡◌, ◌↔◌, ◌+◌, ◌≤◌, ◌∷◌, [], ◌++◌, ◌||◌, length, IfOk, OnErr};
+ghost use Rattle.std.specs.Prelude.{IsTrue, true};
 ghost use Rattle.std.specs.List.{All, fold, list_any};
 ghost use Rattle.rt_tree.specs.PathTree.{levels};
 ghost use Rattle.rt_tree.specs.Assignments.{is_at_or_above, do_overlap, have_overlap};
@@ -48,6 +49,10 @@ impl Entries {
     }
 
     /// Equal entries. Their keys and trees are shared.
+    ///
+    /// # Errors
+    ///
+    /// Want of memory.
     pub fn copy(&self) -> Result<Entries, AllocError>
         ensures { IfOk result (λ entries. entries ≡ self.now) }
     {
@@ -134,8 +139,8 @@ fn is_at_or_above_child(at: &Path, path: &Path, key: &Key) -> bool
     }
 }
 
-// The tree at `path` after an entry at `at`: one at or above the path gives its part, one below is put. No leaf is too
-// deep, so only memory can refuse.
+// The tree at `path` after an entry at `at`: one at or above the path gives its part, one below is
+// put. No leaf is too deep, so only memory can refuse.
 fn overlaid(
     alloc: Global,
     path: &Path,

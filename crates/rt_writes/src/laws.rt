@@ -1,5 +1,6 @@
 // The laws of the overlay.
-ghost use Rattle.rt_writes.specs.Laws.{OverlayOfPart, OverlayOfChild, OverlayElsewhere, OverlayOfWhole, PartIsShallow};
+ghost use Rattle.rt_writes.specs.laws.Overlay.{OverlayOfPart, OverlayOfChild};
+ghost use Rattle.rt_writes.specs.laws.Overlay.{OverlayElsewhere, OverlayOfWhole, PartIsShallow};
 
 /// Each part of an overlaid tree is the overlay of that part, and so is each child.
 pub fn overlay_law()

@@ -1,6 +1,14 @@
 //! Pending writes: sets, updates and removals that show before the server has settled them.
 //!
-//! A contract sees [`Pending`] as the list of its writes, each a number and its entries in order (`specs/Writes.antt`).
+//! A contract sees [`Pending`] as the list of its writes, each a number and its entries in order
+//! (`specs/Writes.antt`).
+//!
+//! ```
+//! let mut pending = Pending::new(alloc);
+//! pending.add(1, entries)?;                     // trees, each at a path
+//! let after = pending.overlay(&path, before)?;  // what the writes make of the server's tree
+//! let settled = pending.take(1)?;               // the server has accepted or refused it
+//! ```
 #![tactic(auto)]
 
 mod entries;

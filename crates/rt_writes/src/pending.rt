@@ -1,10 +1,12 @@
 // The writes that the server has not settled.
-ghost use Rattle.std.specs.Prelude.{◌≡◌, ◌==◌, ◌↔◌, ◌<◌, ◌∷◌, [], ◌++◌, length, true, IfOk, OnOk, OnErr, IsTrue, IsOk, Ok, Err, None};
+ghost use Rattle.std.specs.Prelude.{◌≡◌, ◌==◌, ◌↔◌, ◌<◌, ◌∷◌, [], ◌++◌, length, true, IfOk, OnOk};
+ghost use Rattle.std.specs.Prelude.{OnErr, IsTrue, IsOk, Ok, Err, None};
 ghost use Rattle.std.specs.Option.{option_map};
 ghost use Rattle.std.specs.List.{All, position};
 ghost use Rattle.rt_tree.specs.Assignments.{have_overlap};
 ghost use Rattle.rt_writes.specs.Kept.{IsKept};
-ghost use Rattle.rt_writes.specs.Writes.{IsShallow, overlay, touches, sets_whole, sets_child_whole, entries_of, without};
+ghost use Rattle.rt_writes.specs.Writes.{IsShallow, overlay, touches, sets_whole, sets_child_whole};
+ghost use Rattle.rt_writes.specs.Writes.{entries_of, without};
 
 use crate::entries::Entries;
 use crate::error::WriteError;
@@ -13,7 +15,8 @@ use rt_tree::{Key, Path, Tree};
 use std::alloc::{AllocError, Global};
 use std::marker::Model;
 
-/// Pending writes, in order of number. What they set shows over what the server has sent, until each is settled.
+/// Pending writes, in order of number. What they set shows over what the server has sent, until
+/// each is settled.
 #[derive(Debug, Drop)]
 pub struct Pending {
     writes: Vec<Write>,
@@ -56,7 +59,8 @@ impl Pending {
         self.writes.is_empty()
     }
 
-    /// Whether the number is above those of all pending writes, which [`Pending::add`] asks of a new one.
+    /// Whether the number is above those of all pending writes, which [`Pending::add`] asks of a
+    /// new one.
     pub fn is_above_all(&self, id: u64) -> bool
         ensures { IsTrue result ↔ All (λ w. w.id < id) self.now }
     {
@@ -66,13 +70,18 @@ impl Pending {
         }
     }
 
-    /// Adds a write, which lies over all earlier ones. [`is_shallow`](crate::is_shallow) tests what is asked of each entry.
+    /// Adds a write, which lies over all earlier ones. [`is_shallow`](crate::is_shallow) tests what
+    /// is asked of each entry. Compares the entries each with each.
     ///
-    /// `Overlap` is looked at before `EmptyUpdate`. Compares the entries each with each.
+    /// # Errors
+    ///
+    /// `Overlap` where the path of one entry is at or above another's; then `EmptyUpdate` where
+    /// there is none; then `NoMemory`. What is pending stays as it was.
     pub fn add(&mut self, id: u64, entries: Vec<(Path, Tree)>) -> Result<(), WriteError>
         requires above { All (λ w. w.id < id) self.old }
         requires shallow { All IsShallow entries.items }
-        ensures ok { OnOk result (self.new ≡ self.old ++ record { id = id; entries = entries.items } ∷ []) }
+        ensures ok { OnOk result
+            (self.new ≡ self.old ++ record { id = id; entries = entries.items } ∷ []) }
         ensures unchanged { OnErr result (self.new ≡ self.old) }
         ensures overlap { (result ≡ Err WriteError.Overlap) ↔ (have_overlap entries.items ≡ true) }
         ensures empty { (result ≡ Err WriteError.EmptyUpdate) ↔ (entries.items ≡ []) }
@@ -95,9 +104,15 @@ impl Pending {
         self.writes.iter().position(|write| write.id == id)
     }
 
-    /// Takes out the write of that number, accepted or refused, and gives its entries back; none where it is not pending.
+    /// Takes out the write of that number, accepted or refused, and gives its entries back; none
+    /// where it is not pending.
+    ///
+    /// # Errors
+    ///
+    /// Want of memory, where the write is pending. It stays pending then.
     pub fn take(&mut self, id: u64) -> Result<Option<Vec<(Path, Tree)>>, AllocError>
-        ensures taken { IfOk result (λ taken. option_map (λ v. v.items) taken ≡ entries_of id self.old) }
+        ensures taken { IfOk result (λ taken.
+            option_map (λ v. v.items) taken ≡ entries_of id self.old) }
         ensures rest { OnOk result (self.new ≡ without id self.old) }
         ensures unchanged { OnErr result (self.new ≡ self.old) }
         ensures absent { entries_of id self.old ≡ None → IsOk result }
@@ -109,10 +124,13 @@ impl Pending {
         Ok(Some(write.entries.into_vec()))
     }
 
-    /// The tree at the path as the pending writes make it: each entry of each write in order, one at or above the path
-    /// gives its part, one below is put, others do nothing.
+    /// The tree at the path as the pending writes make it: each entry of each write in order, one
+    /// at or above the path gives its part, one below is put, others do nothing. The tree is
+    /// changed in place.
     ///
-    /// The tree is changed in place. Where no entry touches the path it comes back as it is, whatever memory is left.
+    /// # Errors
+    ///
+    /// Want of memory, where an entry touches the path. The tree is gone then.
     pub fn overlay(&self, path: &Path, tree: Tree) -> Result<Tree, AllocError>
         requires { IsShallow (path.now, tree) }
         ensures overlay { IfOk result (λ after. after ≡ overlay path.now tree self.now) }
@@ -127,7 +145,8 @@ impl Pending {
         Ok(after)
     }
 
-    /// Whether a pending write sets the whole of what stands at the path: an entry sits at or above it.
+    /// Whether a pending write sets the whole of what stands at the path: an entry sits at or above
+    /// it.
     pub fn sets_whole(&self, path: &Path) -> bool
         ensures { result ≡ sets_whole self.now path.now }
     {

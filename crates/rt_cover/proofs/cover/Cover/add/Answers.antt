@@ -3,7 +3,7 @@ use Rattle.std.specs.List.{AllPairs}
 use Rattle.rt_cover.specs.declared.error.CoverError.TheVariants.{NoMemory}
 use Rattle.rt_cover.specs.Cover.{Registered}
 use Rattle.rt_cover.specs.State.{Cover, with_listener, with_listeners, fault_of, difference}
-use Rattle.rt_cover.specs.Sound.{IsSound}
+use Rattle.rt_cover.specs.inside.Sound.{IsSound}
 use Rattle.rt_cover.proofs.SoundLaws.{with_listener_rises}
 use Rattle.rt_cover.proofs.cover.Cover.add.Goals as goal
 

@@ -1,7 +1,8 @@
 use Rattle.std.proofs.Common.{◌≡◌, ◌+◌, sym, subst, ◌∙◌}
 use Rattle.rt_cover.specs.declared.delta.Delta.{Delta}
 use Rattle.rt_cover.specs.State.{Cover, with_listeners, difference}
-use Rattle.rt_cover.specs.Sound.{IsSound, IsTold}
+use Rattle.rt_cover.specs.inside.Sound.{IsSound}
+use Rattle.rt_cover.specs.Shown.{IsTold}
 use Rattle.rt_cover.proofs.SoundLaws.{sound_after, told_exactly, is_told}
 use Rattle.rt_cover.proofs.cover.Cover.change.Goals as goal
 

@@ -1,5 +1,5 @@
 use Rattle.std.proofs.Common.{sym, subst}
-use Rattle.rt_cover.specs.Sound.{AreFewest}
+use Rattle.rt_cover.specs.Shown.{AreFewest}
 use Rattle.rt_cover.proofs.ShownLaws.{shown_are_fewest}
 use Rattle.rt_cover.proofs.cover.Cover.open.Goals as goal
 

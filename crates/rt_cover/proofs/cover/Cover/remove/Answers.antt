@@ -3,7 +3,7 @@ use Rattle.std.specs.List.{AllPairs}
 use Rattle.rt_cover.specs.declared.error.CoverError.TheVariants.{UnknownListener, NoMemory}
 use Rattle.rt_cover.specs.Cover.{Registered}
 use Rattle.rt_cover.specs.State.{Cover, without_listeners, with_listeners, fault_of, remove_fault, has_unknown, difference}
-use Rattle.rt_cover.specs.Sound.{IsSound}
+use Rattle.rt_cover.specs.inside.Sound.{IsSound}
 use Rattle.rt_cover.proofs.SoundLaws.{without_listeners_rise}
 use Rattle.rt_cover.proofs.cover.Cover.remove.Goals as goal
 

@@ -3,7 +3,7 @@ use Rattle.std.specs.List.{filter, AllPairs}
 use Rattle.rt_cover.specs.declared.delta.Delta.{Delta}
 use Rattle.rt_cover.specs.Cover.{Registered}
 use Rattle.rt_cover.specs.State.{Cover, with_listeners, fault_of, difference, revoked, without_tag}
-use Rattle.rt_cover.specs.Sound.{IsTold}
+use Rattle.rt_cover.specs.Shown.{IsTold}
 use Rattle.rt_cover.proofs.SoundLaws.{left_after_rise, revoke_known, is_told_without}
 use Rattle.rt_cover.proofs.cover.Cover.revoke.Goals as goal
 

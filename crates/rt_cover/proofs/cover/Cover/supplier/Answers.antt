@@ -3,7 +3,8 @@ use Rattle.std.specs.List.{All}
 use Rattle.rt_query.specs.Supply.{does_supply}
 use Rattle.rt_cover.specs.Cover.{Tagged}
 use Rattle.rt_cover.specs.State.{supplier}
-use Rattle.rt_cover.specs.Sound.{IsSound, IsLeastSupplier}
+use Rattle.rt_cover.specs.inside.Sound.{IsSound}
+use Rattle.rt_cover.specs.Shown.{IsLeastSupplier}
 use Rattle.rt_cover.proofs.SupplierLaws.{first_is_least, none_supplies}
 use Rattle.rt_cover.proofs.cover.Cover.supplier.Goals as goal
 

@@ -1,4 +1,4 @@
--- What holds of a cover between changes, and of what it shows and tells.
+-- What is promised of what a cover shows, and of what its changes tell.
 use Rattle.std.specs.Prelude.{◌≡◌, ◌≢◌, ℕ, zero, suc, ◌+◌, ◌<◌, ◌≤◌, List, [], ◌∷◌, map, length}
 use Rattle.std.specs.List.{All, AllPairs, Any, Contains}
 use Rattle.rt_query.specs.Queries.{Query}
@@ -6,18 +6,19 @@ use Rattle.rt_query.specs.Supply.{form}
 use Rattle.rt_cover.specs.declared.delta.Delta.{Delta}
 use Rattle.rt_cover.specs.declared.kept.Kept.{Kept}
 use Rattle.rt_cover.specs.Cover.{Registered, Supplies, IsFewest, forms, Tagged}
-use Rattle.rt_cover.specs.State.{Cover, needed_forms}
 
 -- ---- what is shown
 
--- these listens are the fewest registered forms that supply all of them, by tag, and each form is listened to once
+-- these listens are the fewest registered forms that supply all of them, by tag, and each form is
+-- listened to once
 pub record AreFewest (listeners : List Registered) (shown : List Kept) : Type 0 where
   pub fewest : IsFewest (map (λ k. k.query) shown) (forms listeners)
   pub once : AllPairs (λ j k. j.query ≢ k.query) shown
   pub by_tag : AllPairs (λ j k. j.tag < k.tag) shown
   pub supplied : All (λ (l : Registered). Any (λ k. Supplies k.query l.1) shown) listeners
 
--- the listen is shown with the least-numbered listener of its form, and no other registered form supplies that listener
+-- the listen is shown with the least-numbered listener of its form, and no other registered form
+-- supplies that listener
 pub record IsCertified (listeners : List Registered) (k : Kept) : Type 0 where
   pub query : Query
   pub registered : Contains listeners (k.listener, query)
@@ -45,15 +46,3 @@ pub record IsTold (next_tag : ℕ) (d : Delta) : Type 0 where
   pub by_listener : AllPairs (λ j k. j.listener < k.listener) d.started
   pub next_tags : map (λ k. k.tag) d.started ≡ counted next_tag (length d.started)
   pub by_tag : AllPairs (λ s t. s < t) d.stopped
-
--- ---- what always holds
-
--- the listeners are by number and the listens by tag, below the next one, which is at most one above the last; just the needed forms are kept, each once
-pub record IsSound (c : Cover) : Type 0 where
-  pub listeners : AllPairs (λ (l m : Registered). l.0 < m.0) c.listeners
-  pub tags : AllPairs (λ (j k : Tagged). j.tag < k.tag) c.kept
-  pub below : All (λ (k : Tagged). k.tag < c.next_tag) c.kept
-  pub next : c.next_tag ≤ c.last_tag + 1
-  pub only : All (Contains (needed_forms c.listeners)) (map (λ (k : Tagged). k.form) c.kept)
-  pub all : All (Contains (map (λ (k : Tagged). k.form) c.kept)) (needed_forms c.listeners)
-  pub once : AllPairs (λ (j k : Tagged). j.form ≢ k.form) c.kept
