@@ -1,14 +1,10 @@
-//! Sweeps of refused allocations. Each run makes a fixed list of calls of one library and looks at
-//! every answer. A line of standard input names the run and how many allocations are taken before
-//! it, as `core 12`.
+//! Sweeps of refused allocations. Each run makes a fixed list of calls of one library and looks at every answer. Standard input names
+//! the run and how many allocations are taken before it: `core 12`. `rt try --fail-alloc N` refuses the Nth allocation of the
+//! process, so that this number, from N - 1 down, refuses one allocation of the run after another, in one build.
 //!
-//! `rt try --fail-alloc N` refuses the Nth allocation of the process, so that this number, from
-//! N - 1 down, refuses one allocation of the run after another, in one build. The file `sweeps`
-//! has a line for each run: its name, and how many allocations it takes.
-//!
-//! The exit status is 0 where every answer is right and nothing was refused; 7 where an allocation
-//! was refused, and the call said so and left what it has to; 3 where an answer is wrong; and 2
-//! where no such run is known, or one of the allocations before it was refused.
+//! The exit status is 0 where every answer is right and nothing was refused, 7 where an allocation was refused and the call said so
+//! and left what it has to, 3 where an answer is wrong, and 2 where no such run is known or one of the allocations before it was
+//! refused.
 #![tactic(auto)]
 
 mod cover;

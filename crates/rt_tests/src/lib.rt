@@ -1,5 +1,5 @@
-//! The tests of the libraries: outside vectors, printed text, and each public call once with ample
-//! memory on each of its ways out. One module a library.
+//! The tests of the libraries: outside vectors, printed text, and each public call once with ample memory on each of its
+//! ways out. One module a library.
 #![tactic(auto)]
 
 #[cfg(test)]
