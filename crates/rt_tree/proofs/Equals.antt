@@ -6,15 +6,16 @@ use Rattle.std.specs.Cmp.Lexicographic.{pointwise, bytes_decides}
 use Rattle.std.specs.Map.{values_of}
 use denote.Param.Weighed.{most}
 use Rattle.rt_tree.specs.Leaf.{LeafValue}
-use Rattle.rt_tree.specs.PathTree.{Key, PathTree, null, is_null, is_null-null, of_leaf, leaf_at, leaf_at-of_leaf, object, child_levels, levels}
-use Rattle.rt_tree.specs.Children.{children_of, is_object}
-use Rattle.rt_tree.specs.TreeEq.{Tells, leaf_eq, leaf_eq_tells, tree_eq, tree_eq_tells, both_first, both_second, both}
+use Rattle.rt_tree.specs.Leaves.{Key}
+use Rattle.rt_tree.specs.Trees.{PathTree, null, is_null, of_leaf, leaf_at, object, levels, children_of, is_object, Tells, leaf_eq, tree_eq}
+use Rattle.rt_tree.specs.laws.PathTree.{is_null-null, leaf_at-of_leaf, child_levels}
+use Rattle.rt_tree.specs.laws.TreeEq.{leaf_eq_tells, tree_eq_tells, both_first, both_second, both}
 use Rattle.rt_tree.specs.declared.tree.Node.{Node}
 use Rattle.rt_tree.specs.declared.tree.Node.TheVariants.{Null, Leaf, Object}
 use Rattle.rt_tree.specs.declared.tree.Tree.TheDeep.{size-Tree}
-use Rattle.rt_tree.specs.TreeView.{tree_of, IsNode, IsObject}
+use Rattle.rt_tree.specs.inside.TreeView.{tree_of, IsNode, IsObject}
 use Rattle.rt_tree.proofs.Nodes.{Children}
-use Rattle.rt_tree.specs.TreeFalls.{most_le}
+use Rattle.rt_tree.specs.inside.TreeFalls.{most_le}
 use Rattle.rt_tree.proofs.Trees.{is_null-of_leaf, is_object-null, is_object-of_leaf, is_object-object, children_of-object}
 
 -- one key with its child

@@ -19,9 +19,13 @@ use Rattle.serde_json.specs.declared.value.Value.{Value}
 use Rattle.rt_tree.specs.declared.error.TreeError.TheVariants.{TooDeep, TooManyNodes}
 use Rattle.rt_tree.specs.Key.{IsKey, key_fault}
 use Rattle.rt_tree.specs.Path.{IsPath}
-use Rattle.rt_tree.specs.Allowed.{MayStandAt, IsAllowed, may_stand, allowed-object}
+use Rattle.rt_tree.specs.Trees.{MayStandAt, IsAllowed, PathTree, leaf_at, is_null, object, child_of, non_null, AllFull, levels}
+use Rattle.rt_tree.specs.laws.Allowed.{may_stand, allowed-object}
 use Rattle.rt_tree.specs.Leaf.{LeafValue, truth, number, text}
-use Rattle.rt_tree.specs.PathTree.{Key, Path, PathTree, key_cmp, key_eq, key_eq-is, key_eq-symm, leaf_at, same_tree, is_null, levels-null, object, child_of, leaf_at-object-root, leaf_at-object, non_null, AllFull, AddsChild, levels, levels_le, length_lt_levels}
+use Rattle.rt_tree.specs.Leaves.{Key, Path, key_cmp, key_eq}
+use Rattle.rt_tree.specs.laws.Prefixes.{key_eq-is, key_eq-symm}
+use Rattle.rt_tree.specs.laws.PathTree.{same_tree, levels-null, leaf_at-object-root, leaf_at-object, levels_le, length_lt_levels}
+use Rattle.rt_tree.specs.inside.Puts.{AddsChild}
 use Rattle.rt_tree.specs.Reading.{tree_of_data, number_tree, item_trees, member_trees, Visit, visit, visits, item_visits, member_visits, place_fault, name_fault, value_fault, HasPlace, IsTreeData, AreTreeItems, AreTreeMembers, walked}
 use Rattle.rt_tree.proofs.Depths.{levels-of_leaf}
 use Rattle.rt_tree.proofs.Walks.{item_next, member_next}

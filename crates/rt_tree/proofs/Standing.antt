@@ -1,5 +1,5 @@
 -- Of the data that a tree is written as, each value has its place: only that there are too many can refuse it.
-use Rattle.std.proofs.Common.{◌≡◌, ℕ, ℤ, zero, suc, pos, negsuc, ◌+◌, ◌≤◌, true, false, cond, nat_le, nat_lt, nat_eq, List, [], ◌∷◌, ◌++◌, length, Option, Some, None, Err, refl, sym, ap, ◌∙◌, arith, subst, append_assoc, length-append}
+use Rattle.std.proofs.Common.{◌≡◌, ℕ, ℤ, zero, suc, pos, negsuc, ◌+◌, ◌≤◌, true, false, cond, nat_le, nat_lt, List, [], ◌∷◌, ◌++◌, length, Option, Some, None, Err, refl, sym, ap, ◌∙◌, arith, subst, append_assoc, length-append}
 use Rattle.std.specs.Cmp.{eq_by_cmp_equiv}
 use Rattle.std.specs.Cmp.Lexicographic.{nat_list_cmp_total}
 use Rattle.std.specs.BTreeMap.{is_at}
@@ -20,9 +20,11 @@ use Rattle.rt_tree.specs.declared.error.TreeError.TheVariants.{TooDeep, TextTooL
 use Rattle.rt_tree.specs.Key.{IsKey}
 use Rattle.rt_tree.specs.Path.{IsPath}
 use Rattle.rt_tree.specs.Leaf.{LeafValue, truth, number, text, IsWhole, IsInRange}
-use Rattle.rt_tree.specs.PathTree.{Key, Path, PathTree, Leaves, get, key_cmp, key_eq, key_eq-same, path_eq-same, leaf_at, leaf_at-sub, is_null, sub, child_of, non_null, levels}
-use Rattle.rt_tree.specs.Allowed.{MayStandAt, IsAllowed}
-use Rattle.rt_tree.specs.Children.{children_of, children_sorted, child_of-children_of}
+use Rattle.rt_tree.specs.Leaves.{Key, Path, Leaves, is_empty, get, key_cmp, key_eq}
+use Rattle.rt_tree.specs.Trees.{PathTree, leaf_at, is_null, sub, child_of, non_null, levels, MayStandAt, IsAllowed, children_of}
+use Rattle.rt_tree.specs.laws.Prefixes.{key_eq-same, path_eq-same}
+use Rattle.rt_tree.specs.laws.PathTree.{leaf_at-sub}
+use Rattle.rt_tree.specs.laws.Children.{children_sorted, child_of-children_of}
 use Rattle.rt_tree.specs.Reading.{Visit, visit, visits, member_visits, name_fault, number_fault, value_fault, place_fault, HasPlace, walked, data_fault}
 use Rattle.rt_tree.specs.Writing.{leaf_data, members_with, object_data, leaf_or, data_at, data_of, value_count, back_fault}
 use Rattle.rt_tree.proofs.Trees.{full_of_non_null}
@@ -71,7 +73,7 @@ all_children P (e ∷ es) sorted h = (
 )
 
 -- ---- a child in its place
-a_leaf_of : (m : Leaves) → nat_eq (length m) 0 ≡ false → (q : Path) × (l : LeafValue) × (get m q ≡ Some l)
+a_leaf_of : (m : Leaves) → is_empty m ≡ false → (q : Path) × (l : LeafValue) × (get m q ≡ Some l)
 a_leaf_of [] e = cc
 a_leaf_of (x ∷ m) e = (x.0, x.1, ap (λ b. cond b (Some x.1) (get m x.0)) (path_eq-same x.0))
 

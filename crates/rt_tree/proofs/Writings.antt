@@ -16,12 +16,14 @@ use Rattle.serde_json.specs.View.{view}
 use Rattle.serde_json.specs.declared.value.Value.{Null, the_lemmas}
 use denote.Param.Weighed.{most}
 use Rattle.rt_tree.specs.Leaf.{LeafValue, truth, number, text, IsInRange}
-use Rattle.rt_tree.specs.PathTree.{Key, Path, PathTree, key_cmp, leaf_at, leaf_at-null, leaf_at-sub, same_tree, null, of_leaf, leaf_at-of_leaf, object, leaf_at-object-root, leaf_at-object, levels, null_of_levels, child_levels, sub}
-use Rattle.rt_tree.specs.Children.{children_of, children_sorted, child_of-children_of}
+use Rattle.rt_tree.specs.Leaves.{Key, Path, key_cmp}
+use Rattle.rt_tree.specs.Trees.{PathTree, leaf_at, null, of_leaf, object, levels, sub, children_of}
+use Rattle.rt_tree.specs.laws.PathTree.{leaf_at-null, leaf_at-sub, same_tree, leaf_at-of_leaf, leaf_at-object-root, leaf_at-object, null_of_levels, child_levels}
+use Rattle.rt_tree.specs.laws.Children.{children_sorted, child_of-children_of}
 use Rattle.rt_tree.specs.Reading.{tree_of_data, number_tree, member_trees}
 use Rattle.rt_tree.specs.Writing.{leaf_data, members_with, object_data, leaf_or, data_at, data_of}
-use Rattle.rt_tree.specs.TreeView.{IsObject}
-use Rattle.rt_tree.specs.TreeFalls.{most_le}
+use Rattle.rt_tree.specs.inside.TreeView.{IsObject}
+use Rattle.rt_tree.specs.inside.TreeFalls.{most_le}
 use Rattle.rt_tree.proofs.Depths.{levels-of_leaf, levels-object, most_levels}
 use Rattle.rt_tree.proofs.Trees.{leaf_at-non_null, full_of_non_null, children_of-none, children_of-object, is_object-null}
 

@@ -1,7 +1,8 @@
 -- Paths at, above and below one another, and trees that are set at paths.
 use Rattle.std.specs.Prelude.{Bool, false, ◌||◌, List, [], ◌∷◌, is_some}
 use Rattle.std.specs.List.{list_any}
-use Rattle.rt_tree.specs.PathTree.{Path, PathTree, strip}
+use Rattle.rt_tree.specs.Leaves.{Path, strip}
+use Rattle.rt_tree.specs.Trees.{PathTree}
 
 -- whether p is a prefix of q, equal paths included
 abbrev pub is_at_or_above : Path → Path → Bool

@@ -4,8 +4,8 @@ use Rattle.rt_tree.specs.declared.error.TreeError.TheVariants.{BadKey, KeyTooLon
 use Rattle.rt_tree.specs.Key.{key_fault}
 use Rattle.rt_tree.specs.Path.{path_keys, path_text, path_fault}
 use Rattle.rt_tree.specs.Leaf.{truth, number, text}
-use Rattle.rt_tree.specs.PathTree.{PathTree, strip, null, of_leaf, sub, put, object, levels}
-use Rattle.rt_tree.specs.Children.{children_of}
+use Rattle.rt_tree.specs.Trees.{PathTree, null, of_leaf, sub, put, object, levels, children_of}
+use Rattle.rt_tree.specs.Leaves.{strip}
 
 -- a number and a text
 abbrev pub num : ℕ → PathTree

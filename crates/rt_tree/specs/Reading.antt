@@ -9,7 +9,8 @@ use Rattle.serde_json.specs.Find.{as_i64}
 use Rattle.serde_json.specs.Read.{read}
 use Rattle.rt_tree.specs.Leaf.{truth, number, text}
 use Rattle.rt_tree.specs.Key.{key_fault}
-use Rattle.rt_tree.specs.PathTree.{Key, PathTree, null, of_leaf, object}
+use Rattle.rt_tree.specs.Leaves.{Key}
+use Rattle.rt_tree.specs.Trees.{PathTree, null, of_leaf, object}
 use Rattle.rt_tree.specs.declared.error.TreeError.{TreeError}
 use Rattle.rt_tree.specs.declared.error.TreeError.TheVariants.{TooDeep, NotWhole, TextTooLong, TooManyNodes, NotJson}
 

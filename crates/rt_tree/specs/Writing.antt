@@ -4,8 +4,8 @@ use Rattle.serde_json.specs.Data.{Data, Members, no_members, member}
 use Rattle.serde_json.specs.Data as json
 use Rattle.serde_json.specs.Find.{of_integer}
 use Rattle.rt_tree.specs.Leaf.{LeafValue, truth, number, text}
-use Rattle.rt_tree.specs.PathTree.{Key, PathTree, leaf_of, levels}
-use Rattle.rt_tree.specs.Children.{children_of}
+use Rattle.rt_tree.specs.Leaves.{Key}
+use Rattle.rt_tree.specs.Trees.{PathTree, leaf_of, levels, children_of}
 use Rattle.rt_tree.specs.Reading.{visits}
 use Rattle.rt_tree.specs.declared.error.TreeError.{TreeError}
 use Rattle.rt_tree.specs.declared.error.TreeError.TheVariants.{TooManyNodes}

@@ -1,5 +1,5 @@
 //! Examples that the prover computes: trees are opened here, and nowhere else.
-#![tactic(auto, unfolding(crate::specs::PathTree::null, crate::specs::PathTree::of_leaf, crate::specs::PathTree::is_null, crate::specs::PathTree::leaf_at, crate::specs::PathTree::sub, crate::specs::PathTree::put, crate::specs::PathTree::levels, crate::specs::Children::children_of))]
+#![tactic(auto, unfolding(crate::specs::Trees::null, crate::specs::Trees::of_leaf, crate::specs::Trees::is_null, crate::specs::Trees::leaf_at, crate::specs::Trees::sub, crate::specs::Trees::put, crate::specs::Trees::levels, crate::specs::Trees::children_of))]
 
 ghost use Rattle.rt_tree.specs.JsonExamples.{TextsAreRead, ValuesAreCounted, TextsAreRefused, FaultsComeInOrder};
 ghost use Rattle.rt_tree.specs.Examples.{EmptyPiecesDrop, KeysHaveFaults, FirstFaultCounts, PrefixesAreAtOrAbove, LeafStaysUnderNull, EmptyObjectsGo, PutReplaces, ChildrenInOrder, LevelsCount};

@@ -2,7 +2,7 @@
 ghost use Rattle.std.specs.Prelude.{◌≡◌, ◌↔◌, ◌++◌, ◌∷◌, [], length, IfOk, IfErr, IfSome, OnOk, Some, ◌⊎◌, is_some, string_bytes};
 ghost use Rattle.std.specs.Result.{result_err};
 ghost use Rattle.rt_tree.specs.Path.{IsPath, path_keys, path_text, path_fault};
-ghost use Rattle.rt_tree.specs.PathTree.{strip};
+ghost use Rattle.rt_tree.specs.Leaves.{strip};
 
 use crate::error::TreeError;
 use crate::key::{Key, check_key, valid_key};
@@ -156,7 +156,8 @@ impl Path {
 
 impl PartialEq for Path {
     ghost use Rattle.std.specs.Cmp as Cmp;
-    ghost use Rattle.rt_tree.specs.PathTree.{path_eq, paths_total};
+    ghost use Rattle.rt_tree.specs.Leaves.{path_eq};
+    ghost use Rattle.rt_tree.specs.laws.Prefixes.{paths_total};
 
     ghost eq = { path_eq };
 
@@ -169,7 +170,7 @@ impl PartialEq for Path {
 
 impl Eq for Path {
     ghost use Rattle.std.specs.Cmp.{eq_by_cmp_equiv};
-    ghost use Rattle.rt_tree.specs.PathTree.{paths_total};
+    ghost use Rattle.rt_tree.specs.laws.Prefixes.{paths_total};
 
     ghost laws = { eq_by_cmp_equiv paths_total };
 }
@@ -177,7 +178,8 @@ impl Eq for Path {
 impl PartialOrd for Path {
     ghost use Rattle.std.specs.Ordering.{as_partial_cmp};
     ghost use Rattle.std.specs.Cmp.{partial_order_from_total};
-    ghost use Rattle.rt_tree.specs.PathTree.{path_cmp, paths_total};
+    ghost use Rattle.rt_tree.specs.Leaves.{path_cmp};
+    ghost use Rattle.rt_tree.specs.laws.Prefixes.{paths_total};
 
     ghost partial_cmp = { as_partial_cmp path_cmp };
 
@@ -189,7 +191,8 @@ impl PartialOrd for Path {
 }
 
 impl Ord for Path {
-    ghost use Rattle.rt_tree.specs.PathTree.{path_cmp, paths_total};
+    ghost use Rattle.rt_tree.specs.Leaves.{path_cmp};
+    ghost use Rattle.rt_tree.specs.laws.Prefixes.{paths_total};
     ghost use Rattle.std.proofs.Common.{rules};
 
     ghost cmp = { path_cmp };

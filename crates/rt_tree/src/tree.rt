@@ -3,9 +3,9 @@ ghost use Rattle.std.specs.Prelude.{[], ◌∷◌, ◌≡◌, ◌<◌, ◌≤◌
 ghost use Rattle.std.specs.Option.{option_copied};
 ghost use Rattle.std.specs.Arc.{arc_value};
 ghost use Rattle.std.specs.BTreeMap.{IsOrdered, insert_entry};
-ghost use Rattle.rt_tree.specs.PathTree.{leaf_at, null, of_leaf, is_null, sub, put, non_null, object, levels, key_cmp, key_eq, child_of, PutsBelow, AllFull};
-ghost use Rattle.rt_tree.specs.Allowed.{IsAllowed, MayStandAt};
-ghost use Rattle.rt_tree.specs.Children.{is_object, children_of};
+ghost use Rattle.rt_tree.specs.Trees.{leaf_at, null, of_leaf, is_null, sub, put, non_null, object, levels, child_of, AllFull, IsAllowed, MayStandAt, is_object, children_of};
+ghost use Rattle.rt_tree.specs.Leaves.{key_cmp, key_eq};
+ghost use Rattle.rt_tree.specs.inside.Puts.{PutsBelow};
 
 mod reading;
 mod writing;
@@ -39,13 +39,14 @@ enum Node {
 }
 
 impl Model for Tree {
-    ghost use Rattle.rt_tree.specs.PathTree.{PathTree, tree_code, levels};
+    ghost use Rattle.rt_tree.specs.Trees.{PathTree, levels};
+    ghost use Rattle.rt_tree.specs.inside.TreeCode.{tree_code};
 
     ghost Value = { PathTree };
 
     ghost coded = { tree_code };
 
-    ghost use Rattle.rt_tree.specs.TreeView.{tree_of, IsNode};
+    ghost use Rattle.rt_tree.specs.inside.TreeView.{tree_of, IsNode};
 
     ghost view = { λ a. tree_of a.node };
 
@@ -53,7 +54,7 @@ impl Model for Tree {
 
     ghost size = { levels };
 
-    ghost use Rattle.rt_tree.specs.TreeFalls.{deep_le_levels};
+    ghost use Rattle.rt_tree.specs.inside.TreeFalls.{deep_le_levels};
 
     ghost size_decreases = { λ a h. deep_le_levels a.node h };
 }
@@ -254,7 +255,8 @@ impl Tree {
 /// Trees are equal where they have the same leaves.
 impl PartialEq for Tree {
     ghost use Rattle.std.specs.Cmp as Cmp;
-    ghost use Rattle.rt_tree.specs.TreeEq.{tree_eq, tree_eq_tells, equivalence};
+    ghost use Rattle.rt_tree.specs.Trees.{tree_eq};
+    ghost use Rattle.rt_tree.specs.laws.TreeEq.{tree_eq_tells, equivalence};
 
     ghost eq = { tree_eq };
 
@@ -271,7 +273,7 @@ impl PartialEq for Tree {
 }
 
 impl Eq for Tree {
-    ghost use Rattle.rt_tree.specs.TreeEq.{tree_eq_tells, equivalence};
+    ghost use Rattle.rt_tree.specs.laws.TreeEq.{tree_eq_tells, equivalence};
 
     ghost laws = { equivalence tree_eq_tells };
 }

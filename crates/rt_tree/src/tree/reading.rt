@@ -4,7 +4,9 @@ ghost use Rattle.std.specs.Option.{option_map};
 ghost use Rattle.std.specs.BTreeMap.{IsOrdered};
 ghost use Rattle.serde_json.specs.Read.{read};
 ghost use Rattle.serde_json.specs.View.{view, items_view, members_view};
-ghost use Rattle.rt_tree.specs.PathTree.{key_cmp, object, AddsChild};
+ghost use Rattle.rt_tree.specs.Leaves.{key_cmp};
+ghost use Rattle.rt_tree.specs.Trees.{object};
+ghost use Rattle.rt_tree.specs.inside.Puts.{AddsChild};
 ghost use Rattle.rt_tree.specs.Reading.{tree_of_data, item_trees, member_trees, visits, item_visits, member_visits, walked, data_fault, text_fault, IsTreeData, AreTreeItems, AreTreeMembers};
 
 use super::{Tree, set_child};

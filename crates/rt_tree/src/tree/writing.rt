@@ -5,8 +5,8 @@ ghost use Rattle.serde_json.specs.Data.{put};
 ghost use Rattle.serde_json.specs.Read.{read};
 ghost use Rattle.serde_json.specs.View.{view, members_view};
 ghost use Rattle.serde_json.specs.Written.{compact_text};
-ghost use Rattle.rt_tree.specs.Allowed.{IsAllowed};
-ghost use Rattle.rt_tree.specs.PathTree.{key_cmp, of_leaf};
+ghost use Rattle.rt_tree.specs.Trees.{IsAllowed, of_leaf};
+ghost use Rattle.rt_tree.specs.Leaves.{key_cmp};
 ghost use Rattle.rt_tree.specs.Reading.{tree_of_data, member_trees, text_fault};
 ghost use Rattle.rt_tree.specs.Writing.{leaf_data, members_with, data_of, back_fault};
 

@@ -1,8 +1,7 @@
 use Rattle.std.proofs.Common.{refl}
 use Rattle.serde_json.proofs.OnLiterals.{serde_json_on_literals}
 use Rattle.std.specs.Fmt.{digits}
-use Rattle.rt_tree.specs.PathTree.{null, of_leaf, is_null, leaf_at, sub, put, levels}
-use Rattle.rt_tree.specs.Children.{children_of}
+use Rattle.rt_tree.specs.Trees.{null, of_leaf, is_null, leaf_at, sub, put, levels, children_of}
 use Rattle.rt_tree.specs.Writing.{data_of}
 use Rattle.rt_tree.proofs.examples.texts_are_read.Goals as goal
 

@@ -1,4 +1,4 @@
-use Rattle.rt_tree.specs.Allowed.{shallow_of, may_stand, allowed-sub, allowed-put}
+use Rattle.rt_tree.specs.laws.Allowed.{shallow_of, may_stand, allowed-sub, allowed-put}
 use Rattle.rt_tree.proofs.laws.allowed_laws.Goals as goal
 
 pub returns : goal.returns

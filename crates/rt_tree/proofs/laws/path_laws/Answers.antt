@@ -1,5 +1,7 @@
 use Rattle.std.proofs.Common.{ap, ◌∙◌}
-use Rattle.rt_tree.specs.PathTree.{strip, strip-append, strip-some, length_lt_levels, levels_le}
+use Rattle.rt_tree.specs.Leaves.{strip}
+use Rattle.rt_tree.specs.laws.Prefixes.{strip-append, strip-some}
+use Rattle.rt_tree.specs.laws.PathTree.{length_lt_levels, levels_le}
 use Rattle.rt_tree.proofs.laws.path_laws.Goals as goal
 
 pub returns : goal.returns

@@ -8,8 +8,8 @@ use Rattle.serde_json.specs.Data.{put}
 use Rattle.serde_json.specs.View.{view, members_view}
 use Rattle.serde_json.proofs.Views.{view-Object}
 use denote.Param.Weighed.{most}
-use Rattle.rt_tree.specs.PathTree.{key_cmp, levels}
-use Rattle.rt_tree.specs.Allowed.{IsAllowed}
+use Rattle.rt_tree.specs.Leaves.{key_cmp}
+use Rattle.rt_tree.specs.Trees.{levels, IsAllowed}
 use Rattle.rt_tree.specs.Reading.{tree_of_data}
 use Rattle.rt_tree.specs.Writing.{leaf_data, members_with, data_of}
 use Rattle.rt_tree.specs.declared.tree.Tree.TheDeep.{size-Tree}

@@ -2,7 +2,7 @@ use Rattle.std.proofs.Common.{◌∙◌}
 use Rattle.std.specs.Cmp.{unsigned_ties}
 use Rattle.std.specs.Cmp.Lexicographic.{lists_ties}
 use Rattle.std.specs.Ordering.{nat_cmp}
-use Rattle.rt_tree.specs.TreeEq.{leaf_eq}
+use Rattle.rt_tree.specs.Trees.{leaf_eq}
 use Rattle.rt_tree.proofs.leaf.LeafPartialEq.eq.Goals as goal
 
 pub returns-in-Text-Text : goal.returns-in-Text-Text

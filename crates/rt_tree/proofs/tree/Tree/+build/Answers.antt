@@ -1,8 +1,7 @@
 use Rattle.std.proofs.Common.{◌≡◌, ◌∙◌, ap, sym, subst, decimal, refl, arith}
 use Rattle.serde_json.specs.View.{members_view}
 use Rattle.rt_tree.specs.Key.{IsKey}
-use Rattle.rt_tree.specs.Allowed.{IsAllowed}
-use Rattle.rt_tree.specs.PathTree.{object}
+use Rattle.rt_tree.specs.Trees.{IsAllowed, object}
 use Rattle.rt_tree.proofs.Nodes.{allowed-node}
 use Rattle.rt_tree.specs.Reading.{member_trees, AreTreeItems, AreTreeMembers}
 use Rattle.rt_tree.proofs.Walks.{item_next, member_next}

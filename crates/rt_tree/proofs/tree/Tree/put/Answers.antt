@@ -1,7 +1,6 @@
 use Rattle.std.proofs.Common.{◌≤◌, ◌+◌, length, subst, sym, ap, arith}
-use Rattle.rt_tree.specs.PathTree.{levels}
-use Rattle.rt_tree.specs.Allowed.{MayStandAt}
-use Rattle.rt_tree.specs.Allowed.{may_stand}
+use Rattle.rt_tree.specs.Trees.{levels, MayStandAt}
+use Rattle.rt_tree.specs.laws.Allowed.{may_stand}
 use Rattle.rt_tree.proofs.tree.Tree.put.Goals as goal
 
 pub put_at-requires : goal.put_at-requires

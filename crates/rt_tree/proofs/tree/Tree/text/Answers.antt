@@ -5,7 +5,7 @@ use Rattle.serde_json.specs.Data.{depth}
 use Rattle.serde_json.specs.Read.{read, max_depth}
 use Rattle.serde_json.specs.View.{view}
 use Rattle.serde_json.specs.Written.{compact_text, has_float}
-use Rattle.rt_tree.specs.Allowed.{shallow_of}
+use Rattle.rt_tree.specs.laws.Allowed.{shallow_of}
 use Rattle.rt_tree.specs.declared.error.TreeError.TheVariants.{NotJson}
 use Rattle.rt_tree.specs.Reading.{data_fault, text_fault}
 use Rattle.rt_tree.specs.Writing.{data_of, back_fault}

@@ -3,9 +3,8 @@ use Rattle.std.specs.BTreeMap.{values}
 use Rattle.std.specs.Cmp.Lexicographic.{pointwise}
 use denote.Param.Weighed.{most}
 use mathlib.Core.List.{not-mem-nil}
-use Rattle.rt_tree.specs.PathTree.{levels}
+use Rattle.rt_tree.specs.Trees.{levels, tree_eq}
 use Rattle.rt_tree.specs.declared.tree.Tree.TheDeep.{size-Tree}
-use Rattle.rt_tree.specs.TreeEq.{tree_eq}
 use Rattle.rt_tree.proofs.Nodes.{at-Null, at-Leaf, at-Object, kept-Object}
 use Rattle.rt_tree.proofs.Equals.{tree_eq-same, tree_eq-leaves, tree_eq-objects, not_same, apart_from_null, apart_from_leaf, apart_from_object, child_eq, below}
 use Rattle.rt_tree.proofs.tree.TreePartialEq.+eq.Goals as goal

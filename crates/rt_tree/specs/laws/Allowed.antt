@@ -1,21 +1,13 @@
--- What a tree of the database may hold, and where it may stand.
+-- What may stand where. The definitions stand in `Trees`, and are passed on here.
 use Rattle.std.proofs.Common.{◌≡◌, ◌+◌, ◌≤◌, cond, not, ◌&&◌, [], ◌∷◌, ◌++◌, length, Some, None, Option, is_some, List, refl, sym, subst, ◌∙◌, arith, length-append}
 use Rattle.std.specs.List.{AllByRecursion}
 use Rattle.std.specs.Option.{option_and_then}
 use Rattle.rt_tree.specs.Leaf.{LeafValue, IsInRange}
 use Rattle.rt_tree.specs.Key.{IsKey}
 use Rattle.rt_tree.specs.Path.{IsPath}
-use Rattle.rt_tree.specs.PathTree.{Key, Path, PathTree, path_eq, strip, strip-some, shown, leaf_at, null, leaf_at-null, is_null, of_leaf, leaf_at-of_leaf, sub, leaf_at-sub, put, leaf_at-put, after_put, object, child_of, leaf_at-object-root, leaf_at-object, levels, levels_le, length_lt_levels}
+use Rattle.rt_tree.specs.laws.PathTree.{Key, Path, PathTree, path_eq, strip, strip-some, shown, leaf_at, null, leaf_at-null, is_null, of_leaf, leaf_at-of_leaf, sub, leaf_at-sub, put, leaf_at-put, after_put, object, child_of, leaf_at-object-root, leaf_at-object, levels, levels_le, length_lt_levels}
+pub use Rattle.rt_tree.specs.Trees.{MayStandAt, IsAllowed}
 
--- the tree may stand at p: each of its leaves is then at a path, of at most 32 keys, and is in range
-abbrev pub MayStandAt : Path → PathTree → Type 0
-MayStandAt p t = (q : Path) (l : LeafValue) → leaf_at t q ≡ Some l → IsPath (p ++ q) × IsInRange l
-
--- the tree may stand at the root
-abbrev pub IsAllowed : PathTree → Type 0
-IsAllowed t = MayStandAt [] t
-
--- ---- laws
 all_keys : (p q : Path) → AllByRecursion IsKey p → AllByRecursion IsKey q → AllByRecursion IsKey (p ++ q)
 all_keys [] q h g = g
 all_keys (k ∷ p) q h g = (h.0, all_keys p q h.1 g)

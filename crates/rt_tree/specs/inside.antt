@@ -1,0 +1,8 @@
+-- What only the representation needs.
+pub mod Fine
+pub mod LeafCode
+pub mod LeafView
+pub mod Puts
+pub mod TreeCode
+pub mod TreeFalls
+pub mod TreeView
