@@ -1,0 +1,3 @@
+-- Laws for callers, and outside examples.
+pub mod Changes
+pub mod Examples
