@@ -2,6 +2,7 @@ pub mod Children
 pub mod Listed
 pub mod Placed
 pub mod ReplayLaws
+pub mod RunLaws
 pub mod TellLaws
 pub mod TouchLaws
 pub mod TreeLaws

@@ -1,6 +1,6 @@
 // A view, changed child by child.
 ghost use Rattle.std.specs.Prelude.{◌≡◌, ◌≤◌, ◌↔◌, true, All, IfOk, OnOk, OnErr, IsTrue, None, Err};
-ghost use Rattle.rt_tree.specs.PathTree.{levels};
+ghost use Rattle.rt_tree.specs.PathTree.{leaf_of, levels};
 ghost use Rattle.rt_query.specs.Select.{select};
 ghost use Rattle.rt_view.specs.Changes.{changes};
 ghost use Rattle.rt_view.specs.Views.{first_view, renewed, shown_of, told, touched};
@@ -13,7 +13,7 @@ use crate::tell::tell;
 use crate::touch::touch_all;
 use crate::window::Window;
 use rt_query::{Query, Shown};
-use rt_tree::{Key, Tree};
+use rt_tree::{Key, Leaf, Tree};
 use std::alloc::{AllocError, Global};
 use std::marker::Model;
 use std::mem::replace;
@@ -60,6 +60,16 @@ impl Model for View {
     ghost view = { λ a. record { query = a.query; tree = a.known; reads = a.reads; turns = a.turns; failed = a.failed } };
 
     ghost invariant = { λ a. a.failed ≡ false → IsKept a.query a.known a.window a.tree };
+}
+
+// The leaf that a tree is, if it is one.
+fn copy_leaf(alloc: Global, tree: &Tree) -> Result<Option<Leaf>, AllocError>
+    ensures { IfOk result (λ leaf. leaf ≡ leaf_of tree.now) }
+{
+    match tree.as_leaf() {
+        Some(leaf) => Ok(Some(leaf.copy(alloc)?)),
+        None => Ok(None),
+    }
 }
 
 impl View {
@@ -160,7 +170,7 @@ impl View {
         Ok(changes)
     }
 
-    /// What is shown. Nothing changes.
+    /// What is shown; its trees are shared, and it costs by its rows. Nothing changes.
     pub fn shown(&self) -> Result<Shown, ViewError>
         ensures shown { IfOk result (λ shown. shown ≡ shown_of self.now) }
         ensures failed { IsTrue self.now.failed ↔ (result ≡ Err ViewError.Failed) }
@@ -168,7 +178,11 @@ impl View {
         if self.failed {
             return Err(ViewError::Failed);
         }
-        Ok(self.query.select(&self.known)?)
+        let alloc = self.query.path().allocator();
+        let leaf = copy_leaf(alloc, &self.tree)?;
+        let rows = self.window.rows(alloc)?;
+        let tree = self.tree.copy(alloc)?;
+        Ok(Shown::of(leaf, rows, tree))
     }
 
     /// How many children the last of [`View::first`], [`View::renew`] and [`View::touch`] took anew.

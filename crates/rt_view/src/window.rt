@@ -1,16 +1,17 @@
 // The children in a range, in order, and how far a limit shows them.
-ghost use Rattle.std.specs.Prelude.{◌≡◌, ◌++◌, ◌∷◌, [], IfOk, IfSome, IfNone, OnOk, Some, None, T, is_some};
+ghost use Rattle.std.specs.Prelude.{◌≡◌, ◌++◌, ◌∷◌, [], map, IfOk, IfSome, IfNone, OnOk, Some, None, T, is_some};
 ghost use Rattle.std.specs.Option.{option_copied};
 ghost use Rattle.std.specs.FinMap as map_of;
 ghost use Rattle.std.specs.FinMap.Entries.{find, is_sorted};
 ghost use Rattle.std.specs.Map.{lookup};
 ghost use Rattle.std.specs.BTreeMap.{is_at};
 ghost use Rattle.rt_order.specs.Entries.{entry_cmp};
+ghost use Rattle.rt_query.specs.Select.{row_of};
 ghost use Rattle.rt_query.specs.declared.limit.Limit.TheVariants.{First, Last};
 ghost use Rattle.rt_view.specs.inside.Windows.{IsWindow, joined, without, Crosses, before, is_from_first, is_to_last};
 
 use crate::position::Position;
-use rt_query::Limit;
+use rt_query::{Limit, Row};
 use rt_tree::{Key, Tree};
 use std::alloc::{AllocError, Global};
 use std::collections::BTreeMap;
@@ -155,6 +156,19 @@ impl Window {
                 Ok(Some(key))
             }
         }
+    }
+
+    // The children that are shown, as rows. Their trees are shared.
+    pub fn rows(&self, alloc: Global) -> Result<Vec<Row>, AllocError>
+        ensures { IfOk result (λ rows. rows.items ≡ map row_of self.now.shown.entries) }
+    {
+        let mut rows = Vec::with_capacity(alloc, self.shown.len())?;
+        for (position, child) in &self.shown {
+            let key = position.key().copy()?;
+            let value = child.copy(alloc)?;
+            rows.push(Row { key, value })?;
+        }
+        Ok(rows)
     }
 
     // The child that is shown at an entry.
