@@ -30,8 +30,8 @@ impl Model for Shown {
 }
 
 impl Shown {
-    // A leaf, or rows, and the tree that they are.
-    pub(crate) fn of(leaf: Option<Leaf>, rows: Vec<Row>, tree: Tree) -> Shown
+    /// A leaf, or rows, with the tree that they are. Takes no memory.
+    pub fn of(leaf: Option<Leaf>, rows: Vec<Row>, tree: Tree) -> Shown
         requires { IsShown leaf rows.items tree }
         ensures { result ≡ record { leaf = leaf; rows = rows.items } }
     {

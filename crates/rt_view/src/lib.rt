@@ -1,4 +1,4 @@
-//! The changes from one view to the next, and their replay.
+//! The changes from one view to the next, their replay, and views that are changed child by child.
 #![tactic(auto)]
 
 mod apply;
@@ -10,14 +10,21 @@ mod examples;
 mod kind;
 mod kinds;
 mod laws;
-#[cfg(test)]
-mod tests;
+mod place;
+mod position;
+mod tell;
+mod touch;
+mod view;
+mod window;
 
 pub use apply::apply_changes;
 pub use batch::Batch;
 pub use change::Change;
 pub use change_list::ChangeList;
 pub use compare::changes;
-pub use examples::{kind_examples, order_examples, plain_examples, window_examples};
+pub use examples::{
+    kind_examples, order_examples, plain_examples, view_examples, window_examples,
+};
 pub use kinds::{Kinds, of_kinds};
-pub use laws::{replay_laws, turn_laws};
+pub use laws::{replay_laws, run_laws, turn_laws};
+pub use view::{View, ViewError};

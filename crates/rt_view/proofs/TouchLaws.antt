@@ -1,0 +1,208 @@
+-- A child that is put into a tree, in the order of the tree's children.
+use Rattle.std.specs.Prelude.{T}
+use Rattle.std.proofs.Common.{◌≡◌, Bool, true, false, cond, not, ◌||◌, List, [], ◌∷◌, ◌++◌, refl, sym, ap, subst, ◌∙◌, arith, ◌≤◌, Option, Some, None}
+use Rattle.std.specs.Ordering.{is_eq, eq_by_cmp}
+use Rattle.std.specs.Option.{option_map_or}
+use Rattle.std.specs.Cmp.{tied_itself}
+use Rattle.std.specs.List.{list_any}
+use Rattle.std.proofs.lemmas.List.Folds.{list_any-append}
+use Rattle.std.specs.FinMap as map_of
+use Rattle.std.specs.FinMap.Entries.{find}
+use Rattle.rt_tree.specs.Allowed.{IsAllowed}
+use Rattle.rt_tree.specs.PathTree.{Key, PathTree, leaf_at-sub, levels, levels_le, key_eq, key_eq-is, key_eq-same, child, child_of, is_null, non_null, put}
+use Rattle.rt_tree.specs.Children.{children_of, child_of-children_of}
+use Rattle.rt_tree.specs.Parts.{child-put, child-put_other}
+use Rattle.rt_order.specs.Entries.{Entry, entry, entry_cmp}
+use Rattle.rt_order.specs.declared.index.Index.{Index}
+use Rattle.rt_order.specs.Cuts.{has}
+use Rattle.rt_order.proofs.Orders.{entry_cmp_total}
+use Rattle.rt_query.specs.Queries.{Query}
+use Rattle.rt_view.specs.declared.window.Window.{Window}
+use Rattle.rt_view.specs.inside.Windows.{Entries, IsWindow, joined, value_at, without}
+use Rattle.rt_view.specs.inside.Kept.{IsWindowOf, in_order, put_in, brought_in, taken_out, is_noted, noted_too}
+use Rattle.rt_view.proofs.Listed.{IsListed, same_listed, passing, at_entry, find-value_at, apart_keys, listed-filter, value_at-filter, listed-puts, value_at-puts_all, listed-in_order, value_at-in_order, listed-shown}
+use Rattle.rt_view.proofs.WindowLaws.{parts_rise}
+
+-- the children of a tree with one put in its place
+pub child_of-put : (t : PathTree) (k j : Key) (u : PathTree) → child_of (children_of (put t (k ∷ []) u)) j ≡ cond (key_eq k j) (non_null u) (child_of (children_of t) j)
+child_of-put t k j u =
+    child_of-children_of (put t (k ∷ []) u) j ∙ elim (key_eq k j) as (λ b. key_eq k j ≡ b → non_null (child (put t (k ∷ []) u) j) ≡ cond b (non_null u) (child_of (children_of t) j)) [
+      | true ↦ λ e. ap (λ (i : Key). non_null (child (put t (k ∷ []) u) i)) (sym (key_eq-is k j e)) ∙ ap non_null (child-put t k u)
+      | false ↦ λ e. ap non_null (child-put_other t k j u e) ∙ sym (child_of-children_of t j)
+    ] refl
+
+-- entries of which one key's is another one, or gone
+pub record HasAt (index : Index) (es : Entries) (k : Key) (o : Option PathTree) (fs : Entries) : Type 0 where
+  pub listed : IsListed index fs
+  pub value : (j : Key) → value_at fs j ≡ cond (key_eq k j) o (value_at es j)
+
+-- what is as it was
+as_it_was : (index : Index) (es : Entries) (k : Key) (o : Option PathTree) → IsListed index es → value_at es k ≡ o → HasAt index es k o es
+as_it_was index es k o h is = record {
+  listed = h;
+  value = λ j. elim (key_eq k j) as (λ b. key_eq k j ≡ b → value_at es j ≡ cond b o (value_at es j)) [
+    | true ↦ λ e. ap (value_at es) (sym (key_eq-is k j e)) ∙ is
+    | false ↦ λ e. refl
+  ] refl;
+}
+
+taken_here : (index : Index) (k : Key) (t : PathTree) (es : Entries) → IsListed index es → value_at es k ≡ Some t → HasAt index es k None (without (entry index (k, t)) es)
+taken_here index k t es h is = record {
+  listed = listed-filter (λ x. not (eq_by_cmp entry_cmp (entry index (k, t)) x)) index es h;
+  value = λ j. value_at-filter (λ x. not (eq_by_cmp entry_cmp (entry index (k, t)) x)) index es h j ∙ at j;
+}
+  where
+    other : (j : Key) (o : Option PathTree) → key_eq k j ≡ false → passing (λ x. not (eq_by_cmp entry_cmp (entry index (k, t)) x)) index j o ≡ o
+    other j None n = refl
+    other j (Some v) n = ap (λ b. cond (not b) (Some v) None) (apart_keys (entry index (k, t)) (entry index (j, v)) (swap n))
+      where
+        swap : key_eq k j ≡ false → key_eq j k ≡ false
+        swap f = elim (key_eq j k) as (λ b. key_eq j k ≡ b → b ≡ false) [
+          | true ↦ λ g. cc (f, key_eq-is j k g, key_eq-same j)
+          | false ↦ λ g. refl
+        ] refl
+
+    at : (j : Key) → passing (λ x. not (eq_by_cmp entry_cmp (entry index (k, t)) x)) index j (value_at es j) ≡ cond (key_eq k j) None (value_at es j)
+    at j = elim (key_eq k j) as (λ b. key_eq k j ≡ b → passing (λ x. not (eq_by_cmp entry_cmp (entry index (k, t)) x)) index j (value_at es j) ≡ cond b None (value_at es j)) [
+      | true ↦ λ s.
+          let same = key_eq-is k j s in
+          ap (λ (i : Key). passing (λ x. not (eq_by_cmp entry_cmp (entry index (k, t)) x)) index i (value_at es i)) (sym same)
+          ∙ ap (passing (λ x. not (eq_by_cmp entry_cmp (entry index (k, t)) x)) index k) is
+          ∙ ap (λ o. cond (not (is_eq o)) (Some t) None) (tied_itself entry_cmp_total (entry index (k, t)))
+      | false ↦ λ s. other j (value_at es j) s
+    ] refl
+
+-- a child that is taken out
+pub taken_at_key : (q : Query) (k : Key) (o : Option PathTree) (es : Entries) → IsListed q.index es → value_at es k ≡ passing (has q.range) q.index k o → HasAt q.index es k None (taken_out q k o es)
+taken_at_key q k None es h is = as_it_was q.index es k None h is
+taken_at_key q k (Some t) es h is =
+    elim (has q.range (entry q.index (k, t))) as (λ b. value_at es k ≡ cond b (Some t) None → HasAt q.index es k None (cond b (without (entry q.index (k, t)) es) es)) [
+      | true ↦ λ e. taken_here q.index k t es h e
+      | false ↦ λ e. as_it_was q.index es k None h e
+    ] is
+
+-- a child that is brought in where there is none
+pub brought_at_key : (q : Query) (k : Key) (u : PathTree) (es : Entries) → IsListed q.index es → value_at es k ≡ None → HasAt q.index es k (passing (has q.range) q.index k (non_null u)) (brought_in q k u es)
+brought_at_key q k u es h none =
+    elim (is_null u) as (λ n. HasAt q.index es k (passing (has q.range) q.index k (cond n None (Some u))) (cond n es (put_in q (k, u) es))) [
+      | true ↦ as_it_was q.index es k None h none
+      | false ↦ elim (has q.range (entry q.index (k, u))) as (λ b. HasAt q.index es k (cond b (Some u) None) (cond b (map_of.put entry_cmp (entry q.index (k, u)) u es) es)) [
+        | true ↦ record { listed = listed-puts q.index k u es h none; value = value_at-puts_all q.index k u es none }
+        | false ↦ as_it_was q.index es k None h none
+      ]
+    ]
+
+cond_twice : (b : Bool) (x y z : Option PathTree) → cond b x (cond b y z) ≡ cond b x z
+cond_twice true x y z = refl
+cond_twice false x y z = refl
+
+-- the children in the range, in order, of a tree with one child put in its place
+pub touched_order : (q : Query) (t : PathTree) (k : Key) (u : PathTree)
+    → brought_in q k u (taken_out q k (child_of (children_of t) k) (in_order q (children_of t))) ≡ in_order q (children_of (put t (k ∷ []) u))
+touched_order q t k u =
+    let all = in_order q (children_of t) in
+    let o = child_of (children_of t) k in
+    let taken = taken_at_key q k o all (listed-in_order q t) (value_at-in_order q t k) in
+    let none : value_at (taken_out q k o all) k ≡ None = taken.value k ∙ ap (λ b. cond b None (value_at all k)) (key_eq-same k) in
+    let brought = brought_at_key q k u (taken_out q k o all) taken.listed none in
+    same_listed q.index _ _ brought.listed (listed-in_order q (put t (k ∷ []) u))
+    (λ j. brought.value j ∙ ap (cond (key_eq k j) (passing (has q.range) q.index k (non_null u))) (taken.value j)
+    ∙ cond_twice (key_eq k j) (passing (has q.range) q.index k (non_null u)) None (value_at all j)
+    ∙ elim (key_eq k j) as (λ b. key_eq k j ≡ b → cond b (passing (has q.range) q.index k (non_null u)) (value_at all j) ≡ passing (has q.range) q.index j (cond b (non_null u) (child_of (children_of t) j))) [
+      | true ↦ λ e. ap (λ (i : Key). passing (has q.range) q.index i (non_null u)) (key_eq-is k j e)
+      | false ↦ λ e. value_at-in_order q t j
+    ] refl
+    ∙ ap (passing (has q.range) q.index j) (sym (child_of-put t k j u))
+    ∙ sym (value_at-in_order q (put t (k ∷ []) u) j))
+
+-- ---- a child that is shown
+
+-- found at its entry, where it is shown at all
+pub found_row : (q : Query) (t : PathTree) (w : Window) (k : Key) (v : PathTree) → IsWindowOf q t w → child_of (children_of t) k ≡ Some v
+    → find entry_cmp (entry q.index (k, v)) w.shown.entries ≡ value_at w.shown.entries k
+found_row q t w k v h is =
+    let up = (parts_rise q.limit w.shown.entries w.rest.entries _ h.cut).0 in
+    let shown = listed-shown q.index q.limit w.shown.entries w.rest.entries _ h.cut (listed-in_order q t) up in
+    find-value_at q.index w.shown.entries shown.0.own shown.0.once (entry q.index (k, v)) ∙ at (value_at w.shown.entries k) (shown.1 k)
+  where
+    at : (o : Option PathTree) → ((x : PathTree) → o ≡ Some x → value_at (in_order q (children_of t)) k ≡ Some x) → at_entry q.index (entry q.index (k, v)) o ≡ o
+    at None g = refl
+    at (Some x) g =
+        let there : passing (has q.range) q.index k (Some v) ≡ Some x = ap (passing (has q.range) q.index k) (sym is) ∙ sym (value_at-in_order q t k) ∙ g x refl in
+        let same : v ≡ x = passed (has q.range (entry q.index (k, v))) x there in
+        ap (λ (y : PathTree). cond (eq_by_cmp entry_cmp (entry q.index (k, v)) (entry q.index (k, y))) (Some x) None) (sym same)
+        ∙ ap (λ c. cond (is_eq c) (Some x) None) (tied_itself entry_cmp_total (entry q.index (k, v)))
+      where
+        passed : (b : Bool) (x : PathTree) → cond b (Some v) None ≡ Some x → v ≡ x
+        passed true x e = cc
+        passed false x e = cc
+
+-- and none where the key has no child
+pub no_row : (q : Query) (t : PathTree) (w : Window) (k : Key) → IsWindowOf q t w → child_of (children_of t) k ≡ None → value_at w.shown.entries k ≡ None
+no_row q t w k h is =
+    let up = (parts_rise q.limit w.shown.entries w.rest.entries _ h.cut).0 in
+    let shown = listed-shown q.index q.limit w.shown.entries w.rest.entries _ h.cut (listed-in_order q t) up in
+    at (value_at w.shown.entries k) (shown.1 k)
+  where
+    at : (o : Option PathTree) → ((x : PathTree) → o ≡ Some x → value_at (in_order q (children_of t)) k ≡ Some x) → o ≡ None
+    at None g = refl
+    at (Some x) g = cc (g x refl, value_at-in_order q t k, ap (passing (has q.range) q.index k) is)
+
+-- ---- notes
+
+neither : (a b : Bool) → (a || (b || false)) ≡ false → (a ≡ false) × (b ≡ false)
+neither true b h = cc
+neither false true h = cc
+neither false false h = (refl, refl)
+
+pub is_noted-push : (ks : List Key) (j k : Key) → is_noted (ks ++ j ∷ []) k ≡ (is_noted ks k || (key_eq j k || false))
+is_noted-push ks j k = list_any-append (λ i. key_eq i k) ks (j ∷ [])
+
+pub noted_neither : (ks : List Key) (j k : Key) → is_noted (ks ++ j ∷ []) k ≡ false → (is_noted ks k ≡ false) × (key_eq j k ≡ false)
+noted_neither ks j k h = neither (is_noted ks k) (key_eq j k) (sym (is_noted-push ks j k) ∙ h)
+
+-- ---- what the calls keep
+
+-- a child is not null, and fits below a key
+pub child_fits : (t : PathTree) (k : Key) (v : PathTree) → IsAllowed t → child_of (children_of t) k ≡ Some v → (is_null v ≡ false) × (levels v ≤ 32)
+child_fits t k v allowed e = at (is_null (child t k)) refl (sym (child_of-children_of t k) ∙ e)
+  where
+    at : (b : Bool) → is_null (child t k) ≡ b → cond b None (Some (child t k)) ≡ Some v → (is_null v ≡ false) × (levels v ≤ 32)
+    at true s g = cc
+    at false s g =
+        let same : child t k ≡ v = cc in
+        let low : levels (child t k) ≤ 32 = levels_le (child t k) 32 (λ q l f. omega (arith, (allowed (k ∷ q) l (sym (leaf_at-sub t (k ∷ []) q) ∙ f)).0.short)) in
+        subst (λ x. (is_null x ≡ false) × (levels x ≤ 32)) same (s, low)
+
+-- what stands at the child's entry says whether it is shown
+pub shown_child : (q : Query) (t : PathTree) (w : Window) (k : Key) (v : PathTree) (o : Option PathTree) → IsWindowOf q t w → child_of (children_of t) k ≡ Some v
+    → o ≡ find entry_cmp (entry q.index (k, v)) w.shown.entries → option_map_or (λ x. Some v) o None ≡ value_at w.shown.entries k
+shown_child q t w k v o h is e =
+    let up = (parts_rise q.limit w.shown.entries w.rest.entries _ h.cut).0 in
+    let shown = listed-shown q.index q.limit w.shown.entries w.rest.entries _ h.cut (listed-in_order q t) up in
+    at o (e ∙ found_row q t w k v h is) (shown.1 k)
+  where
+    at : (o : Option PathTree) → o ≡ value_at w.shown.entries k → ((x : PathTree) → value_at w.shown.entries k ≡ Some x → value_at (in_order q (children_of t)) k ≡ Some x)
+        → option_map_or (λ x. Some v) o None ≡ value_at w.shown.entries k
+    at None g up_to = g
+    at (Some x) g up_to = ap Some (passed (has q.range (entry q.index (k, v))) (ap (passing (has q.range) q.index k) (sym is) ∙ sym (value_at-in_order q t k) ∙ up_to x (sym g))) ∙ g
+      where
+        passed : (b : Bool) → cond b (Some v) None ≡ Some x → v ≡ x
+        passed true e = cc
+        passed false e = cc
+
+-- the window after a child was taken out and another one brought in
+pub touched_window : (q : Query) (t u : PathTree) (k : Key) (v : PathTree) (o : Option PathTree) (a b c : Window) → IsWindowOf q t a → o ≡ child_of (children_of t) k
+    → b.limit ≡ a.limit → IsWindow a.limit b.shown.entries b.rest.entries (taken_out q k o (joined a.limit a.shown.entries a.rest.entries))
+    → c.limit ≡ b.limit → IsWindow b.limit c.shown.entries c.rest.entries (brought_in q k v (joined b.limit b.shown.entries b.rest.entries))
+    → u ≡ put t (k ∷ []) v → IsWindowOf q u c
+touched_window q t u k v o a b c h is limit_b cut_b limit_c cut_c e =
+    let whole_a : joined a.limit a.shown.entries a.rest.entries ≡ in_order q (children_of t) = ap (λ l. joined l a.shown.entries a.rest.entries) h.limit ∙ h.cut.whole in
+    let whole_b : joined b.limit b.shown.entries b.rest.entries ≡ taken_out q k (child_of (children_of t) k) (in_order q (children_of t)) =
+    ap (λ l. joined l b.shown.entries b.rest.entries) limit_b ∙ cut_b.whole ∙ (λ i. taken_out q k (is i) (whole_a i)) in
+    let all : brought_in q k v (joined b.limit b.shown.entries b.rest.entries) ≡ in_order q (children_of u) =
+    ap (brought_in q k v) whole_b ∙ touched_order q t k v ∙ ap (λ (x : PathTree). in_order q (children_of x)) (sym e) in
+    record {
+      limit = limit_c ∙ limit_b ∙ h.limit;
+      cut = subst (λ l. IsWindow l c.shown.entries c.rest.entries (in_order q (children_of u))) (limit_b ∙ h.limit) (subst (λ es. IsWindow b.limit c.shown.entries c.rest.entries es) all cut_c);
+    }

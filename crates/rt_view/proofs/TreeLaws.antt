@@ -1,0 +1,219 @@
+-- What is shown, as a tree and as rows.
+use Rattle.std.specs.Prelude.{T, if◌then◌else◌, ◌==◌}
+use Rattle.std.proofs.Common.{◌≡◌, Bool, true, false, cond, not, ◌&&◌, length, List, [], ◌∷◌, ◌++◌, map, refl, sym, ap, subst, ◌∙◌, arith, eqb-true, append-nil, Option, Some, None, is_some}
+use Rattle.std.specs.Option.{option_eq}
+use Rattle.std.specs.Cmp.Lexicographic.{pointwise}
+use Rattle.rt_tree.specs.Leaf.{LeafValue}
+use Rattle.rt_tree.specs.PathTree.{Key, PathTree, path_eq-same, leaf_of, leaf_at, leaf_at-sub, leaf_at-null, leaf_at-of_leaf, leaf_at-object-root, leaf_alone, leaf_of_root, null, null_of_no_leaf, is_null, is_null-null, non_null, child, child_of, object, of_leaf, put, leaf_at-put, key_eq, key_eq-is}
+use Rattle.rt_tree.specs.Children.{children_of, child_of-children_of, is_object}
+use Rattle.rt_tree.specs.TreeEq.{leaf_eq}
+use Rattle.rt_order.specs.declared.index.Index.{Index}
+use Rattle.rt_query.specs.declared.row.Row.{Row}
+use Rattle.rt_query.specs.Queries.{Query, is_filtered}
+use Rattle.rt_query.specs.Rows.{row_at}
+use Rattle.rt_query.specs.Select.{Shown, row_of, rows_of, select, as_children, tree_by, tree_of}
+use Rattle.rt_query.specs.ShownView.{IsShown}
+use Rattle.rt_query.specs.QueryEq.{shown_eq, row_eq}
+use Rattle.rt_query.specs.QueryEqLaws.{shown_eq_tells}
+use Rattle.rt_query.proofs.SelectLaws.{object-parts, object-sorted_by, select-whole}
+use Rattle.rt_query.proofs.ShownLaws.{child_of-as_children, row_at-tree}
+use Rattle.rt_query.proofs.RowLaws.{shown_filtered, shown_whole}
+use Rattle.rt_view.specs.declared.change.Change.{Change}
+use Rattle.rt_view.specs.declared.change.Change.TheVariants.{Value}
+use Rattle.rt_view.specs.declared.window.Window.{Window}
+use Rattle.rt_view.specs.Changes.{row_changes, changes, replay, by_keys}
+use Rattle.rt_view.specs.inside.Windows.{Entries, value_at}
+use Rattle.rt_view.specs.inside.Kept.{IsWindowOf, IsKept, Notes, SetsChild, SetsNoted, is_noted, in_order, leaf_in, rows_in_tree, shown_by}
+use Rattle.rt_view.proofs.ReplayLaws.{row_at-by_keys, replay-row_changes}
+use Rattle.rt_view.proofs.TurnLaws.{row_changes-same}
+use Rattle.rt_view.proofs.Listed.{IsListed, same_listed, listed-children, value_at-children, listed-in_order, listed-shown}
+use Rattle.rt_view.proofs.WindowLaws.{parts_rise}
+use Rattle.rt_view.proofs.TellLaws.{note_other, note_own}
+use Rattle.rt_view.proofs.TouchLaws.{child_of-put, is_noted-push}
+
+-- what a window shows is listed
+pub listed-window : (q : Query) (t : PathTree) (w : Window) → IsWindowOf q t w → IsListed q.index w.shown.entries
+listed-window q t w h =
+    let up = (parts_rise q.limit w.shown.entries w.rest.entries _ h.cut).0 in
+    (listed-shown q.index q.limit w.shown.entries w.rest.entries _ h.cut (listed-in_order q t) up).0
+
+-- the rows of a window
+pub select-window : (q : Query) (t : PathTree) (w : Window) → IsWindowOf q t w → select q t ≡ record { leaf = leaf_in q t; rows = map row_of w.shown.entries }
+select-window q t w h = λ i. record { leaf = leaf_in q t; rows = map row_of (h.cut.cut i) }
+
+-- what a query shows is a view
+pub select-shown : (q : Query) (t : PathTree) → IsShown (leaf_in q t) (rows_of q (children_of t)) (tree_of (select q t))
+select-shown q t =
+    let rows = rows_of q (children_of t) in
+    elim (is_filtered q) as (λ b. is_filtered q ≡ b → IsShown (cond b None (leaf_of t)) rows (tree_by (cond b None (leaf_of t)) rows)) [
+      | true ↦ λ e. shown_filtered q t
+      | false ↦ λ e. let whole = shown_whole q t e in subst (λ u. IsShown (leaf_of t) rows u) whole.whole whole
+    ] refl
+
+-- ---- read off the tree
+
+-- the children of the tree that is shown are those of the window
+pub rows_in_tree-shown : (q : Query) (t : PathTree) (w : Window) → IsWindowOf q t w → rows_in_tree q.index (tree_of (select q t)) ≡ w.shown.entries
+rows_in_tree-shown q t w h =
+    let tree = tree_of (select q t) in
+    same_listed q.index (rows_in_tree q.index tree) w.shown.entries (listed-children q.index tree) (listed-window q t w h)
+    (λ k. value_at-children q.index tree k ∙ row_at-tree (leaf_in q t) (rows_of q (children_of t)) tree k (select-shown q t) ∙ ap (λ (es : Entries). row_at (map row_of es) k) h.cut.cut)
+
+leaf_of-tree_by : (leaf : Option LeafValue) (rows : List Row) → leaf_of (tree_by leaf rows) ≡ leaf
+leaf_of-tree_by None rows = leaf_at-object-root (as_children rows)
+leaf_of-tree_by (Some l) rows = leaf_at-of_leaf l [] ∙ ap (λ b. cond b (Some l) None) (path_eq-same [])
+
+pub shown_by-shown : (q : Query) (t : PathTree) (w : Window) → IsWindowOf q t w → shown_by q.index (tree_of (select q t)) ≡ select q t
+shown_by-shown q t w h =
+    let leaf = leaf_of-tree_by (leaf_in q t) (rows_of q (children_of t)) in
+    let rows = rows_in_tree-shown q t w h ∙ sym h.cut.cut in
+    λ i. record { leaf = leaf i; rows = map row_of (rows i) }
+
+-- what is kept, as a view
+pub kept_shown : (q : Query) (t : PathTree) (w : Window) (tree u : PathTree) (leaf : Option LeafValue) (rows : List Row) → IsKept q t w tree
+    → u ≡ tree → leaf ≡ leaf_of tree → rows ≡ map row_of w.shown.entries → IsShown leaf rows u × (record { leaf = leaf; rows = rows } ≡ select q t)
+kept_shown q t w tree u leaf rows h is of_tree of_window =
+    let same_leaf : leaf ≡ leaf_in q t = of_tree ∙ ap leaf_of h.tree ∙ leaf_of-tree_by (leaf_in q t) (rows_of q (children_of t)) in
+    let same_rows : rows ≡ rows_of q (children_of t) = of_window ∙ ap (map row_of) (sym h.children.cut.cut) in
+    (subst (λ l. IsShown l rows u) (sym same_leaf) (subst (λ rs. IsShown (leaf_in q t) rs u) (sym same_rows) (subst (λ x. IsShown (leaf_in q t) (rows_of q (children_of t)) x) (sym (is ∙ h.tree)) (select-shown q t))),
+    λ i. record { leaf = same_leaf i; rows = same_rows i })
+
+-- a tree is what is read off it
+pub tree_of-shown_by : (index : Index) (t : PathTree) → tree_of (shown_by index t) ≡ t
+tree_of-shown_by index t =
+    elim (leaf_of t) as (λ o. leaf_of t ≡ o → tree_by o (map row_of (rows_in_tree index t)) ≡ t) [
+      | None ↦ λ e. object-sorted_by index t e
+      | Some l ↦ λ e. sym (leaf_of_root t l e)
+    ] refl
+
+-- ---- whether anything differs
+
+-- no changes of the rows mean no difference
+pub same_rows : (index : Index) (old new : Entries) → IsListed index old → IsListed index new → row_changes index (map row_of old) (map row_of new) ≡ [] → old ≡ new
+same_rows index old new h g none =
+    same_listed index old new h g
+    (row_at-by_keys (map row_of old) (map row_of new) (sym (replay_none (row_changes index (map row_of old) (map row_of new)) none) ∙ replay-row_changes index (map row_of old) (map row_of new) g.once))
+  where
+    replay_none : (cs : List Change) → cs ≡ [] → replay cs (by_keys (map row_of old)) ≡ by_keys (map row_of old)
+    replay_none cs e = ap (λ ds. replay ds (by_keys (map row_of old))) e
+
+-- nothing differs where no row changed and the leaf is the same
+pub same_view : (q : Query) (known tree : PathTree) (w : Window) → IsWindowOf q known w → row_changes q.index (map row_of (rows_in_tree q.index tree)) (map row_of w.shown.entries) ≡ []
+    → shown_eq (shown_by q.index tree) (select q known) ≡ option_eq leaf_eq (leaf_of tree) (leaf_in q known)
+same_view q known tree w h none =
+    let rows : map row_of (rows_in_tree q.index tree) ≡ rows_of q (children_of known) =
+    ap (map row_of) (same_rows q.index (rows_in_tree q.index tree) w.shown.entries (listed-children q.index tree) (listed-window q known w h) none ∙ sym h.cut.cut) in
+    ap (λ rs. option_eq leaf_eq (leaf_of tree) (leaf_in q known) && pointwise row_eq rs (rows_of q (children_of known))) rows
+    ∙ ap (λ b. option_eq leaf_eq (leaf_of tree) (leaf_in q known) && b) (same_lists (rows_of q (children_of known)))
+    ∙ and_true (option_eq leaf_eq (leaf_of tree) (leaf_in q known))
+  where
+    same_lists : (rs : List Row) → pointwise row_eq rs rs ≡ true
+    same_lists rs = (shown_eq_tells (record { leaf = None; rows = rs }) (record { leaf = None; rows = rs })).1 refl
+
+    and_true : (b : Bool) → (b && true) ≡ b
+    and_true true = refl
+    and_true false = refl
+
+-- and something does where a row changed
+pub other_view : (q : Query) (known tree : PathTree) (w : Window) → IsWindowOf q known w
+    → (row_changes q.index (map row_of (rows_in_tree q.index tree)) (map row_of w.shown.entries) ≡ [] → ⊥)
+    → shown_eq (shown_by q.index tree) (select q known) ≡ false
+other_view q known tree w h some =
+    elim (shown_eq (shown_by q.index tree) (select q known)) as (λ b. shown_eq (shown_by q.index tree) (select q known) ≡ b → b ≡ false) [
+      | true ↦ λ e.
+          let same : shown_by q.index tree ≡ select q known = (shown_eq_tells (shown_by q.index tree) (select q known)).0 e in
+          let rows : map row_of (rows_in_tree q.index tree) ≡ map row_of w.shown.entries = ap (λ (v : Shown). v.rows) same ∙ ap (map row_of) h.cut.cut in
+          absurd (some (ap (λ rs. row_changes q.index rs (map row_of w.shown.entries)) rows ∙ row_changes-same q.index (map row_of w.shown.entries) (listed-window q known w h).once))
+      | false ↦ λ e. refl
+    ] refl
+
+-- the changes, where nothing differs, and where something does
+pub told_same : (q : Query) (known tree : PathTree) (w : Window) → IsWindowOf q known w → shown_eq (shown_by q.index tree) (select q known) ≡ true
+    → row_changes q.index (map row_of (rows_in_tree q.index tree)) (map row_of w.shown.entries) ≡ changes q.index (Some (shown_by q.index tree)) (select q known)
+told_same q known tree w h e =
+    ap (λ es. row_changes q.index (map row_of (rows_in_tree q.index tree)) (map row_of es)) (sym h.cut.cut)
+    ∙ sym (append-nil (row_changes q.index (map row_of (rows_in_tree q.index tree)) (rows_of q (children_of known))))
+    ∙ ap (λ b. row_changes q.index (map row_of (rows_in_tree q.index tree)) (rows_of q (children_of known)) ++ cond b [] (Value (tree_of (select q known)) ∷ [])) (sym e)
+
+pub told_other : (q : Query) (known tree : PathTree) (w : Window) → IsWindowOf q known w → shown_eq (shown_by q.index tree) (select q known) ≡ false
+    → row_changes q.index (map row_of (rows_in_tree q.index tree)) (map row_of w.shown.entries) ++ Value (tree_of (select q known)) ∷ [] ≡ changes q.index (Some (shown_by q.index tree)) (select q known)
+told_other q known tree w h e =
+    ap (λ es. row_changes q.index (map row_of (rows_in_tree q.index tree)) (map row_of es) ++ Value (tree_of (select q known)) ∷ []) (sym h.cut.cut)
+    ∙ ap (λ b. row_changes q.index (map row_of (rows_in_tree q.index tree)) (rows_of q (children_of known)) ++ cond b [] (Value (tree_of (select q known)) ∷ [])) (sym e)
+
+-- where nothing differs the tree is the one that is shown
+pub tree_same : (q : Query) (known tree : PathTree) → shown_eq (shown_by q.index tree) (select q known) ≡ true → tree ≡ tree_of (select q known)
+tree_same q known tree e = sym (tree_of-shown_by q.index tree) ∙ ap tree_of ((shown_eq_tells (shown_by q.index tree) (select q known)).0 e)
+
+-- ---- the tree of what is shown now
+
+-- the children of null and of a leaf
+pub no_children : (t : PathTree) (l : LeafValue) (k : Key) → leaf_of t ≡ Some l → child_of (children_of t) k ≡ child_of (children_of null) k
+no_children t l k e =
+    child_of-children_of t k ∙ ap non_null (null_of_no_leaf (child t k) (λ q. leaf_at-sub t (k ∷ []) q ∙ leaf_alone t [] l k q e))
+    ∙ sym (ap non_null (null_of_no_leaf (child null k) (λ q. leaf_at-sub null (k ∷ []) q ∙ leaf_at-null (k ∷ q)))) ∙ sym (child_of-children_of null k)
+
+-- children that are what the window shows, and no leaf
+pub tree_of_children : (q : Query) (known tree : PathTree) (w : Window) → IsWindowOf q known w → leaf_in q known ≡ None → leaf_of tree ≡ None
+    → ((k : Key) → child_of (children_of tree) k ≡ value_at w.shown.entries k) → tree ≡ tree_of (select q known)
+tree_of_children q known tree w h no_leaf root same =
+    let rows = map row_of w.shown.entries in
+    sym ((λ i. tree_by (no_leaf i) (map row_of (h.cut.cut i)))
+    ∙ object-parts tree (as_children rows) root (λ k. child_of-as_children rows k ∙ sym (same k) ∙ child_of-children_of tree k))
+
+-- the noted children were set, and the others are as they were
+pub set_all : (q : Query) (ks : List Key) (new : Entries) (t a b : PathTree) → Notes [] ks (rows_in_tree q.index t) new → ((k : Key) → child_of (children_of a) k ≡ child_of (children_of t) k)
+    → SetsNoted ks new (children_of a) (children_of b) → (k : Key) → child_of (children_of b) k ≡ value_at new k
+set_all q ks new t a b notes start set k =
+    set k ∙ elim (is_noted ks k) as (λ n. is_noted ks k ≡ n → cond n (value_at new k) (child_of (children_of a) k) ≡ value_at new k) [
+      | true ↦ λ e. refl
+      | false ↦ λ e. start k ∙ sym (value_at-children q.index t k) ∙ sym ((notes k e).1)
+    ] refl
+
+-- a child is put into a tree of children
+pub leaf_of-put : (t : PathTree) (k : Key) (u : PathTree) → leaf_of t ≡ None → leaf_of (put t (k ∷ []) u) ≡ None
+leaf_of-put t k u none =
+    leaf_at-put t (k ∷ []) u [] ∙ ap (λ o. cond (not (is_null u) && true) None o) none
+    ∙ either_way (not (is_null u) && true) None
+  where
+    either_way : (b : Bool) (o : Option LeafValue) → cond b o o ≡ o
+    either_way true o = refl
+    either_way false o = refl
+
+pub put_sets : (t u : PathTree) (k : Key) (v : PathTree) (o : Option PathTree) → u ≡ put t (k ∷ []) v → non_null v ≡ o → SetsChild k o (children_of t) (children_of u)
+put_sets t u k v o is there j = ap (λ (x : PathTree). child_of (children_of x) j) is ∙ child_of-put t k j v ∙ ap (λ c. cond (key_eq k j) c (child_of (children_of t) j)) there
+
+pub full : (v : PathTree) → is_null v ≡ false → non_null v ≡ Some v
+full v e = ap (λ b. cond b None (Some v)) e
+
+pub empty : (v : PathTree) → v ≡ null → non_null v ≡ None
+empty v e = ap non_null e ∙ ap (λ b. cond b None (Some null)) is_null-null
+
+pub set_more : (ks : List Key) (k : Key) (new : Entries) (a b c : PathTree) → SetsNoted ks new (children_of a) (children_of b) → SetsChild k (value_at new k) (children_of b) (children_of c)
+    → SetsNoted (ks ++ k ∷ []) new (children_of a) (children_of c)
+set_more ks k new a b c set more j =
+    more j ∙ ap (cond (key_eq k j) (value_at new k)) (set j)
+    ∙ elim (key_eq k j) as (λ e. key_eq k j ≡ e → cond e (value_at new k) (cond (is_noted ks j) (value_at new j) (child_of (children_of a) j)) ≡ cond (is_noted (ks ++ k ∷ []) j) (value_at new j) (child_of (children_of a) j)) [
+      | true ↦ λ e.
+          let same = key_eq-is k j e in
+          ap (value_at new) same ∙ sym (ap (λ n. cond n (value_at new j) (child_of (children_of a) j)) (ap (is_noted (ks ++ k ∷ [])) (sym same) ∙ note_own ks k))
+      | false ↦ λ e. ap (λ n. cond n (value_at new j) (child_of (children_of a) j)) (sym (note_other ks k j e))
+    ] refl
+
+-- an object is no leaf
+pub no_leaf : (q : Query) (t : PathTree) → is_filtered q ≡ false → is_object t ≡ true → leaf_in q t ≡ None
+no_leaf q t plain object = ap (λ b. cond b None (leaf_of t)) plain ∙ none (is_null t) (leaf_of t) object
+  where
+    none : (b : Bool) (o : Option LeafValue) → (not b && not (is_some o)) ≡ true → o ≡ None
+    none b None e = refl
+    none true (Some l) e = cc
+    none false (Some l) e = cc
+
+-- a list is empty where its length is 0, and only there
+pub no_changes : (cs : List Change) → (length cs == 0) ≡ true → cs ≡ []
+no_changes [] e = refl
+no_changes (c ∷ cs) e = absurd (omega (arith, eqb-true (length (c ∷ cs)) 0 e))
+
+pub some_changes : (cs : List Change) → (length cs == 0) ≡ false → cs ≡ [] → ⊥
+some_changes [] e f = cc
+some_changes (c ∷ cs) e f = absurd (omega (arith, ap (λ (ds : List Change). length ds) f))

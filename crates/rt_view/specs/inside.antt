@@ -1,0 +1,5 @@
+-- What only the bodies need.
+pub mod Given
+pub mod Kept
+pub mod Positions
+pub mod Windows

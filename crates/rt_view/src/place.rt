@@ -1,0 +1,140 @@
+// Children in their places.
+ghost use Rattle.std.specs.Prelude.{◌≡◌, ◌<◌, ◌≤◌, ◌^◌, ◌∷◌, [], false, IfOk, IfSome, OnOk, length};
+ghost use Rattle.std.specs.Option.{option_copied};
+ghost use Rattle.rt_tree.specs.PathTree.{child_of, is_null, levels, null, put};
+ghost use Rattle.rt_tree.specs.Children.{children_of};
+ghost use Rattle.rt_view.specs.inside.Windows.{IsWindow, joined, value_at};
+ghost use Rattle.rt_view.specs.inside.Kept.{IsWindowOf, placed, put_in};
+
+use crate::position::Position;
+use crate::window::Window;
+use rt_query::Query;
+use rt_tree::{Key, Path, Tree, TreeError};
+use std::alloc::{AllocError, Global};
+use std::collections::BTreeMap;
+
+// Puts a child in its place, where it is in the range.
+fn place(
+    window: &mut Window,
+    alloc: Global,
+    query: &Query,
+    key: &Key,
+    tree: &Tree,
+) -> Result<(), AllocError>
+    requires { IsWindow window.old.limit window.old.shown.entries window.old.rest.entries (joined window.old.limit window.old.shown.entries window.old.rest.entries) }
+    ensures limit { window.new.limit ≡ window.old.limit }
+    ensures placed { OnOk result (IsWindow window.old.limit window.new.shown.entries window.new.rest.entries (put_in query.now (key.now, tree.now) (joined window.old.limit window.old.shown.entries window.old.rest.entries))) }
+{
+    if query.range().has(query.index(), key, tree) {
+        let position = Position::of(alloc, query.index(), key, tree)?;
+        let tree = tree.copy(alloc)?;
+        drop(window.put(position, tree)?);
+    }
+    Ok(())
+}
+
+// Puts all children in their places.
+fn place_all(
+    window: &mut Window,
+    alloc: Global,
+    query: &Query,
+    children: &BTreeMap<Key, Tree>,
+) -> Result<(), AllocError>
+    requires { IsWindow window.old.limit window.old.shown.entries window.old.rest.entries [] }
+    ensures limit { window.new.limit ≡ window.old.limit }
+    ensures placed { OnOk result (IsWindow window.old.limit window.new.shown.entries window.new.rest.entries (placed query.now [] children.now.entries)) }
+{
+    let mut rest = children.iter();
+    while let Some((key, tree)) = rest.next_back() {
+        place(window, alloc, query, key, tree)?;
+    }
+    Ok(())
+}
+
+// The children of a tree that lie in the query's range.
+pub fn window_of(alloc: Global, query: &Query, known: &Tree) -> Result<Window, AllocError>
+    ensures { IfOk result (λ window. IsWindowOf query.now known.now window) }
+{
+    let mut window = Window::new(alloc, query.limit());
+    let Some(children) = known.children() else {
+        return Ok(window);
+    };
+    place_all(&mut window, alloc, query, children)?;
+    Ok(window)
+}
+
+// How many children a tree has.
+pub fn count(tree: &Tree) -> u64
+    ensures count { result ≡ length (children_of tree.now) }
+    ensures small { result < 2 ^ 63 }
+{
+    match tree.children() {
+        Some(children) => children.len() as u64,
+        None => 0,
+    }
+}
+
+// The child of a key. It is not null, and fits below a key.
+pub fn child_at<'a>(tree: &'a Tree, key: &Key) -> Option<&'a Tree>
+    ensures child { option_copied result ≡ child_of (children_of tree.now) key.now }
+    ensures full { IfSome result (λ child. is_null child.now ≡ false) }
+    ensures fits { IfSome result (λ child. levels child.now ≤ 32) }
+{
+    match tree.children()?.get(key) {
+        Some(child) => Some(child),
+        None => None,
+    }
+}
+
+// Puts a child in the place of a tree's own. It fits, so only memory can refuse.
+pub fn put_child(
+    tree: &mut Tree,
+    alloc: Global,
+    key: &Key,
+    child: &Tree,
+) -> Result<(), AllocError>
+    requires { levels child.now ≤ 32 }
+    ensures { OnOk result (tree.new ≡ put tree.old (key.now ∷ []) child.now) }
+{
+    let path = match Path::root(alloc).child(key) {
+        Ok(path) => path,
+        Err(TreeError::NoMemory) => return Err(AllocError),
+        Err(_) => unreachable!(),
+    };
+    let child = child.copy(alloc)?;
+    match tree.put(alloc, &path, child) {
+        Ok(()) => Ok(()),
+        Err(TreeError::NoMemory) => Err(AllocError),
+        Err(_) => unreachable!(),
+    }
+}
+
+// Takes out a child. Only memory can refuse.
+pub fn drop_child(tree: &mut Tree, alloc: Global, key: &Key) -> Result<(), AllocError>
+    ensures { OnOk result (tree.new ≡ put tree.old (key.now ∷ []) null) }
+{
+    put_child(tree, alloc, key, &Tree::null())
+}
+
+// The child of a key, where it is shown.
+pub fn shown_at<'a>(
+    alloc: Global,
+    query: &Query,
+    known: &'a Tree,
+    window: &Window,
+    key: &Key,
+) -> Result<Option<&'a Tree>, AllocError>
+    requires { IsWindowOf query.now known.now window.now }
+    ensures shown { IfOk result (λ child. option_copied child ≡ value_at window.now.shown.entries key.now) }
+    ensures full { IfOk result (λ child. IfSome child (λ t. is_null t.now ≡ false)) }
+    ensures fits { IfOk result (λ child. IfSome child (λ t. levels t.now ≤ 32)) }
+{
+    let Some(child) = child_at(known, key) else {
+        return Ok(None);
+    };
+    let position = Position::of(alloc, query.index(), key, child)?;
+    match window.row(&position) {
+        Some(_) => Ok(Some(child)),
+        None => Ok(None),
+    }
+}

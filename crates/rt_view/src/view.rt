@@ -1,0 +1,201 @@
+// A view, changed child by child.
+ghost use Rattle.std.specs.Prelude.{◌≡◌, ◌≤◌, ◌↔◌, true, All, IfOk, OnOk, OnErr, IsTrue, None, Err};
+ghost use Rattle.rt_tree.specs.PathTree.{leaf_of, levels};
+ghost use Rattle.rt_query.specs.Select.{select};
+ghost use Rattle.rt_view.specs.Changes.{changes};
+ghost use Rattle.rt_view.specs.Views.{first_view, renewed, shown_of, told, touched};
+ghost use Rattle.rt_view.specs.inside.Kept.{IsKept};
+
+use crate::change_list::ChangeList;
+use crate::compare::changes;
+use crate::place::{count, window_of};
+use crate::tell::tell;
+use crate::touch::touch_all;
+use crate::window::Window;
+use rt_query::{Query, Shown};
+use rt_tree::{Key, Leaf, Tree};
+use std::alloc::{AllocError, Global};
+use std::marker::Model;
+use std::mem::replace;
+
+/// Why a view gives no answer.
+#[derive(Clone, Copy, Debug, PartialEq, Eq)]
+pub enum ViewError {
+    /// An earlier call lacked memory.
+    Failed,
+    /// This call lacked memory.
+    NoMemory,
+}
+
+impl From<AllocError> for ViewError {
+    ghost use Rattle.std.specs.Prelude.{◌≡◌};
+    ghost use Rattle.rt_view.specs.declared.view.ViewError.TheVariants.{NoMemory};
+
+    ghost from_gives = { λ _ e. e ≡ NoMemory };
+
+    fn from(_e: AllocError) -> ViewError {
+        ViewError::NoMemory
+    }
+}
+
+/// What a query shows of a tree that changes, kept so that a change of few children costs by these, and not by all.
+#[derive(Drop)]
+pub struct View {
+    query: Query,
+    known: Tree,
+    window: Window,
+    tree: Tree,
+    reads: u64,
+    turns: u64,
+    failed: bool,
+}
+
+impl Model for View {
+    ghost use Rattle.std.specs.Prelude.{◌≡◌, false};
+    ghost use Rattle.rt_view.specs.Views.{View};
+    ghost use Rattle.rt_view.specs.inside.Kept.{IsKept};
+
+    ghost Value = { View };
+
+    ghost view = { λ a. record { query = a.query; tree = a.known; reads = a.reads; turns = a.turns; failed = a.failed } };
+
+    ghost invariant = { λ a. a.failed ≡ false → IsKept a.query a.known a.window a.tree };
+}
+
+// The leaf that a tree is, if it is one.
+fn copy_leaf(alloc: Global, tree: &Tree) -> Result<Option<Leaf>, AllocError>
+    ensures { IfOk result (λ leaf. leaf ≡ leaf_of tree.now) }
+{
+    match tree.as_leaf() {
+        Some(leaf) => Ok(Some(leaf.copy(alloc)?)),
+        None => Ok(None),
+    }
+}
+
+impl View {
+    /// The first view of a tree, and its changes from no view.
+    pub fn first(
+        alloc: Global,
+        query: Query,
+        known: Tree,
+    ) -> Result<(View, ChangeList), AllocError>
+        ensures view { IfOk result (λ p. p.0 ≡ first_view query known) }
+        ensures changes { IfOk result (λ p. p.1 ≡ changes query.index None (select query known)) }
+    {
+        let shown = query.select(&known)?;
+        let changes = changes(alloc, query.index(), None, &shown)?;
+        let window = window_of(alloc, &query, &known)?;
+        let tree = shown.tree().copy(alloc)?;
+        let reads = count(&known);
+        let view = View {
+            query,
+            known,
+            window,
+            tree,
+            reads,
+            turns: 1,
+            failed: false,
+        };
+        Ok((view, changes))
+    }
+
+    /// Shows another tree in place of the one that is known, and answers the changes.
+    ///
+    /// After `NoMemory` the view has failed.
+    pub fn renew(&mut self, alloc: Global, known: Tree) -> Result<ChangeList, ViewError>
+        ensures renewed { OnOk result (self.new ≡ renewed self.old known) }
+        ensures changes { IfOk result (λ list. list ≡ told self.old (renewed self.old known)) }
+        ensures failed { IsTrue self.old.failed ↔ (result ≡ Err ViewError.Failed) }
+        ensures gives_up { OnErr result (self.new.failed ≡ true) }
+    {
+        if self.failed {
+            return Err(ViewError::Failed);
+        }
+        let Ok((window, tree, changes)) = self.kept_of(alloc, &known) else {
+            self.failed = true;
+            return Err(ViewError::NoMemory);
+        };
+        self.reads = count(&self.known) + count(&known);
+        self.turns = self.turns.wrapping_add(1);
+        drop(replace(&mut self.window, window));
+        drop(replace(&mut self.tree, tree));
+        drop(replace(&mut self.known, known));
+        Ok(changes)
+    }
+
+    // What is kept of another tree, and the changes to it.
+    fn kept_of(
+        &self,
+        alloc: Global,
+        known: &Tree,
+    ) -> Result<(Window, Tree, ChangeList), AllocError>
+        ensures kept { IfOk result (λ p. IsKept self.now.query known.now p.0 p.1) }
+        ensures changes { IfOk result (λ p. p.2 ≡ changes self.now.query.index (Some (shown_of self.now)) (select self.now.query known.now)) }
+    {
+        let old = self.query.select(&self.known)?;
+        let shown = self.query.select(known)?;
+        let changes = changes(alloc, self.query.index(), Some(&old), &shown)?;
+        let window = window_of(alloc, &self.query, known)?;
+        let tree = shown.tree().copy(alloc)?;
+        Ok((window, tree, changes))
+    }
+
+    /// Puts the named children in the place of the tree's own, one after another, and answers the changes; null takes a child
+    /// out. A named child has at most 31 keys above a leaf, as the children of any tree. Costs by the named children and by
+    /// the changes, and, the first time after a copy of the tree or of a `Value` was kept, by the number of children too.
+    ///
+    /// After `NoMemory` the view has failed.
+    pub fn touch(
+        &mut self,
+        alloc: Global,
+        named: Vec<(Key, Tree)>,
+    ) -> Result<ChangeList, ViewError>
+        requires { All (λ c. levels c.1 ≤ 32) named.items }
+        ensures touched { OnOk result (self.new ≡ touched self.old named.items) }
+        ensures changes { IfOk result (λ list. list ≡ told self.old (touched self.old named.items)) }
+        ensures failed { IsTrue self.old.failed ↔ (result ≡ Err ViewError.Failed) }
+        ensures gives_up { OnErr result (self.new.failed ≡ true) }
+    {
+        if self.failed {
+            return Err(ViewError::Failed);
+        }
+        self.failed = true;
+        let named = named.as_slice();
+        let noted = touch_all(&mut self.known, &mut self.window, alloc, &self.query, named)?;
+        let noted = noted.as_slice();
+        let changes = tell(&mut self.tree, alloc, &self.query, &self.known, &self.window, noted)?;
+        self.reads = named.len() as u64;
+        self.turns = self.turns.wrapping_add(1);
+        self.failed = false;
+        Ok(changes)
+    }
+
+    /// What is shown; its trees are shared, and it costs by its rows. Nothing changes.
+    pub fn shown(&self) -> Result<Shown, ViewError>
+        ensures shown { IfOk result (λ shown. shown ≡ shown_of self.now) }
+        ensures failed { IsTrue self.now.failed ↔ (result ≡ Err ViewError.Failed) }
+    {
+        if self.failed {
+            return Err(ViewError::Failed);
+        }
+        let alloc = self.query.path().allocator();
+        let leaf = copy_leaf(alloc, &self.tree)?;
+        let rows = self.window.rows(alloc)?;
+        let tree = self.tree.copy(alloc)?;
+        Ok(Shown::of(leaf, rows, tree))
+    }
+
+    /// How many children the last of [`View::first`], [`View::renew`] and [`View::touch`] took anew.
+    pub fn reads(&self) -> u64
+        ensures { result ≡ self.now.reads }
+    {
+        self.reads
+    }
+
+    /// How many of these calls there were, the first included, modulo 2^64.
+    pub fn turns(&self) -> u64
+        ensures { result ≡ self.now.turns }
+    {
+        self.turns
+    }
+}

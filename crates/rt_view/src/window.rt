@@ -1,0 +1,190 @@
+// The children in a range, in order, and how far a limit shows them.
+ghost use Rattle.std.specs.Prelude.{◌≡◌, ◌++◌, ◌∷◌, [], map, IfOk, IfSome, IfNone, OnOk, Some, None, T, is_some};
+ghost use Rattle.std.specs.Option.{option_copied};
+ghost use Rattle.std.specs.FinMap as map_of;
+ghost use Rattle.std.specs.FinMap.Entries.{find, is_sorted};
+ghost use Rattle.std.specs.Map.{lookup};
+ghost use Rattle.std.specs.BTreeMap.{is_at};
+ghost use Rattle.rt_order.specs.Entries.{entry_cmp};
+ghost use Rattle.rt_query.specs.Select.{row_of};
+ghost use Rattle.rt_query.specs.declared.limit.Limit.TheVariants.{First, Last};
+ghost use Rattle.rt_view.specs.inside.Windows.{IsWindow, joined, without, Crosses, before, is_from_first, is_to_last};
+
+use crate::position::Position;
+use rt_query::{Limit, Row};
+use rt_tree::{Key, Tree};
+use std::alloc::{AllocError, Global};
+use std::collections::BTreeMap;
+
+// The children in a range, by their entries: those that the limit shows, and the rest, which lies beside them on one side.
+#[derive(Drop)]
+pub struct Window {
+    pub limit: Option<Limit>,
+    pub shown: BTreeMap<Position, Tree>,
+    pub rest: BTreeMap<Position, Tree>,
+}
+
+// `insert`, without the old child.
+pub fn set(
+    children: &mut BTreeMap<Position, Tree>,
+    position: Position,
+    tree: Tree,
+) -> Result<(), AllocError>
+    ensures { OnOk result (children.new.entries ≡ map_of.put entry_cmp position tree children.old.entries) }
+{
+    children.insert(position, tree)?;
+    Ok(())
+}
+
+// `remove`, which answers whether there was a child.
+fn unset(children: &mut BTreeMap<Position, Tree>, position: &Position) -> bool
+    requires { T (is_sorted entry_cmp children.old.entries) }
+    ensures gone { children.new.entries ≡ without position.now children.old.entries }
+    ensures was { result ≡ is_some (lookup (is_at (entry_cmp position.now)) children.old.entries) }
+{
+    let old = children.remove(position);
+    let was = old.is_some();
+    drop(old);
+    was
+}
+
+fn is_from_first(children: &BTreeMap<Position, Tree>, position: &Position) -> bool
+    ensures { result ≡ is_from_first children.now.entries position.now }
+{
+    match children.first_key_value() {
+        Some((edge, _)) => edge.cmp(position).is_le(),
+        None => false,
+    }
+}
+
+fn is_to_last(children: &BTreeMap<Position, Tree>, position: &Position) -> bool
+    ensures { result ≡ is_to_last children.now.entries position.now }
+{
+    match children.last_key_value() {
+        Some((edge, _)) => position.cmp(edge).is_le(),
+        None => false,
+    }
+}
+
+impl Window {
+    // The window of no children.
+    pub fn new(alloc: Global, limit: Option<Limit>) -> Window
+        ensures limit { result.limit ≡ limit }
+        ensures empty { IsWindow limit result.shown.entries result.rest.entries [] }
+    {
+        Window {
+            limit,
+            shown: BTreeMap::new(alloc),
+            rest: BTreeMap::new(alloc),
+        }
+    }
+
+    // Puts a child at its entry. The key of a child that is shown no more is handed out.
+    pub fn put(&mut self, position: Position, tree: Tree) -> Result<Option<Key>, AllocError>
+        requires { IsWindow self.old.limit self.old.shown.entries self.old.rest.entries (joined self.old.limit self.old.shown.entries self.old.rest.entries) }
+        ensures limit { self.new.limit ≡ self.old.limit }
+        ensures put { OnOk result (IsWindow self.old.limit self.new.shown.entries self.new.rest.entries (map_of.put entry_cmp position tree (joined self.old.limit self.old.shown.entries self.old.rest.entries))) }
+        ensures crosses { IfOk result (λ key. Crosses key position.1 self.old.shown.entries self.new.shown.entries) }
+    {
+        match self.limit {
+            None => {
+                set(&mut self.shown, position, tree)?;
+                Ok(None)
+            }
+            Some(Limit::First(n)) => {
+                if is_from_first(&self.rest, &position) {
+                    set(&mut self.rest, position, tree)?;
+                    return Ok(None);
+                }
+                set(&mut self.shown, position, tree)?;
+                if self.shown.len() <= n as usize {
+                    return Ok(None);
+                }
+                let Some((edge, tree)) = self.shown.pop_last() else {
+                    return Ok(None);
+                };
+                let key = edge.key().copy()?;
+                set(&mut self.rest, edge, tree)?;
+                Ok(Some(key))
+            }
+            Some(Limit::Last(n)) => {
+                if is_to_last(&self.rest, &position) {
+                    set(&mut self.rest, position, tree)?;
+                    return Ok(None);
+                }
+                set(&mut self.shown, position, tree)?;
+                if self.shown.len() <= n as usize {
+                    return Ok(None);
+                }
+                let Some((edge, tree)) = self.shown.pop_first() else {
+                    return Ok(None);
+                };
+                let key = edge.key().copy()?;
+                set(&mut self.rest, edge, tree)?;
+                Ok(Some(key))
+            }
+        }
+    }
+
+    // Takes out the child at an entry. The key of a child that comes to be shown is handed out.
+    pub fn take(&mut self, position: &Position) -> Result<Option<Key>, AllocError>
+        requires { IsWindow self.old.limit self.old.shown.entries self.old.rest.entries (joined self.old.limit self.old.shown.entries self.old.rest.entries) }
+        ensures limit { self.new.limit ≡ self.old.limit }
+        ensures taken { OnOk result (IsWindow self.old.limit self.new.shown.entries self.new.rest.entries (without position.now (joined self.old.limit self.old.shown.entries self.old.rest.entries))) }
+        ensures crosses { IfOk result (λ key. Crosses key position.now.1 self.old.shown.entries self.new.shown.entries) }
+    {
+        if !unset(&mut self.shown, position) {
+            unset(&mut self.rest, position);
+            return Ok(None);
+        }
+        match self.limit {
+            None => Ok(None),
+            Some(Limit::First(_)) => {
+                let Some((edge, tree)) = self.rest.pop_first() else {
+                    return Ok(None);
+                };
+                let key = edge.key().copy()?;
+                set(&mut self.shown, edge, tree)?;
+                Ok(Some(key))
+            }
+            Some(Limit::Last(_)) => {
+                let Some((edge, tree)) = self.rest.pop_last() else {
+                    return Ok(None);
+                };
+                let key = edge.key().copy()?;
+                set(&mut self.shown, edge, tree)?;
+                Ok(Some(key))
+            }
+        }
+    }
+
+    // The children that are shown, as rows. Their trees are shared.
+    pub fn rows(&self, alloc: Global) -> Result<Vec<Row>, AllocError>
+        ensures { IfOk result (λ rows. rows.items ≡ map row_of self.now.shown.entries) }
+    {
+        let mut rows = Vec::with_capacity(alloc, self.shown.len())?;
+        for (position, child) in &self.shown {
+            let key = position.key().copy()?;
+            let value = child.copy(alloc)?;
+            rows.push(Row { key, value })?;
+        }
+        Ok(rows)
+    }
+
+    // The child that is shown at an entry.
+    pub fn row(&self, position: &Position) -> Option<&Tree>
+        ensures { option_copied result ≡ find entry_cmp position.now self.now.shown.entries }
+    {
+        self.shown.get(position)
+    }
+
+    // The key of the child that is shown before an entry.
+    pub fn before(&self, position: &Position) -> Option<&Key>
+        ensures { option_copied result ≡ before position.now self.now.shown.entries }
+    {
+        match self.shown.range(..position).next_back() {
+            Some((edge, _)) => Some(edge.key()),
+            None => None,
+        }
+    }
+}
