@@ -1,2 +1,6 @@
-//! What the listens brought: the definitions of regions, windows and what stays of them when the listens kept change.
+//! What the listens brought: regions under plain listens, windows of filtered ones.
 #![tactic(auto)]
+
+mod examples;
+
+pub use examples::{order_examples, region_examples, window_examples};
