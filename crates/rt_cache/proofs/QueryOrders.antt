@@ -1,14 +1,11 @@
 -- The order of queries is total, and only equal queries tie.
-use Rattle.std.proofs.Common.{◌≡◌, ℕ, Bool, true, false, List, [], ◌∷◌, ℤ, pos, negsuc, refl, sym, ap, ◌∙◌, Option, Some, None}
-use Rattle.std.specs.declared.cmp.Ordering.{Ordering}
-use Rattle.std.specs.declared.cmp.Ordering.TheVariants.{Equal}
+use Rattle.std.proofs.Common.{◌≡◌, ℕ, Bool, true, false, List, [], ◌∷◌, pos, negsuc, refl, sym, ap, ◌∙◌, Option, Some, None}
 use Rattle.std.specs.Ordering.{is_eq, eq_by_cmp}
-use Rattle.std.specs.Option.{unwrap_or}
 use Rattle.std.specs.Cmp.{IsTotalOrder, on_total, tied_itself, Equal-is}
-use Rattle.std.specs.Cmp.Lexicographic.{slice_cmp, lists_total}
+use Rattle.std.specs.Cmp.Lexicographic.{lists_total}
 use Rattle.std.specs.FinMap.{IsAntisymmetric, slice_cmp-IsAntisymmetric}
 use Rattle.rt_tree.specs.Leaf.{LeafValue, truth, number, text}
-use Rattle.rt_tree.specs.PathTree.{path_cmp, paths_total, exact_paths}
+use Rattle.rt_tree.specs.PathTree.{paths_total, exact_paths}
 use Rattle.rt_order.specs.declared.index.Index.{Index}
 use Rattle.rt_order.specs.declared.index.Index.TheVariants.{Key, Child, Value}
 use Rattle.rt_order.specs.declared.cut.Mark.{Mark}

@@ -8,6 +8,7 @@ use Rattle.rt_tree.specs.Assignments.{is_at_or_above, Assignment}
 use Rattle.rt_query.specs.Queries.{Query, is_filtered}
 use Rattle.rt_query.specs.Supply.{form}
 use Rattle.rt_cache.specs.QueryOrder.{query_cmp}
+pub use Rattle.rt_cache.specs.declared.base.Base.{Base}
 
 -- known children of a filtered query; whole where they are all that its path has
 pub record Window : Type 0 where
@@ -34,16 +35,11 @@ region_part (r ∷ rs) p = option_or (option_map (sub r.1) (strip r.0 p)) (regio
 abbrev pub window_of : List (Query × Window) → Query → Option Window
 window_of windows q = map_of.find query_cmp q windows
 
--- what is brought for a query; whole where it is all that its path has
-pub record Base : Type 0 where
-  pub tree : PathTree
-  pub is_whole : Bool
-
 -- the region's part, else the window of the query's form, else nothing
 abbrev pub base : Brought → Query → Option Base
 base b q = option_or
-    (option_map (λ t. record { tree = t; is_whole = true }) (region_part b.regions q.path))
-    (option_map (λ w. record { tree = w.children; is_whole = w.is_whole }) (window_of b.windows (form q)))
+    (option_map (λ t. record { tree = t; whole = true }) (region_part b.regions q.path))
+    (option_map (λ w. record { tree = w.children; whole = w.is_whole }) (window_of b.windows (form q)))
 
 -- of that one child alone
 abbrev pub child_base : Key → Base → Base
@@ -80,16 +76,14 @@ window_pushed (k ∷ rest) u (Some w) = Some (record w { children = put w.childr
 window_pushed (k ∷ rest) u None = None
 
 -- a push on a filtered listen at its path replaces its window by the children; one below is put into the window, if there is one
-abbrev pub push_filtered : Brought → Query → Path → PathTree → Brought
-push_filtered b q rest u = record b {
-  windows = option_map_or (λ w. map_of.put query_cmp q w b.windows) (window_pushed rest u (window_of b.windows q)) b.windows;
-}
+abbrev pub windows_pushed : Query → Path → PathTree → List (Query × Window) → List (Query × Window)
+windows_pushed q rest u windows = option_map_or (λ w. map_of.put query_cmp q w windows) (window_pushed rest u (window_of windows q)) windows
 
 -- a push on a kept listen
 abbrev pub push : Query → Brought → Assignment → Brought
 push q b a =
     if is_filtered q
-    then option_map_or (λ rest. push_filtered b q rest a.1) (strip q.path a.0) b
+    then option_map_or (λ rest. record b { windows = windows_pushed q rest a.1 b.windows }) (strip q.path a.0) b
     else push_plain b a
 
 -- whether a push on a kept listen changes nothing, for want of a window

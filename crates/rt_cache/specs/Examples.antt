@@ -41,13 +41,13 @@ ParentTakesIn = parent_pushed ≡ record { regions = (at (codes "/a"), two (code
 
 -- a part of it is whole, and so is a child, also one that is not there
 abbrev pub PartsAreWhole : Type 0
-PartsAreWhole = base parent_pushed (plain_at (codes "/a/b")) ≡ Some (record { tree = num 2; is_whole = true })
+PartsAreWhole = base parent_pushed (plain_at (codes "/a/b")) ≡ Some (record { tree = num 2; whole = true })
 
 abbrev pub ChildThere : Type 0
-ChildThere = base_child parent_pushed (plain_at (codes "/a")) (codes "c") ≡ Some (record { tree = num 3; is_whole = true })
+ChildThere = base_child parent_pushed (plain_at (codes "/a")) (codes "c") ≡ Some (record { tree = num 3; whole = true })
 
 abbrev pub ChildNotThere : Type 0
-ChildNotThere = base_child parent_pushed (plain_at (codes "/a")) (codes "z") ≡ Some (record { tree = null; is_whole = true })
+ChildNotThere = base_child parent_pushed (plain_at (codes "/a")) (codes "z") ≡ Some (record { tree = null; whole = true })
 
 -- where another listen is kept, only its part stays
 abbrev pub parent_cut : Brought
@@ -85,7 +85,7 @@ abbrev pub leaf_pushed : Brought
 leaf_pushed = push (first_at 2 (codes "/a")) nothing_brought (at (codes "/a"), num 7)
 
 abbrev pub LeafShowsNothing : Type 0
-LeafShowsNothing = base leaf_pushed (first_at 2 (codes "/a")) ≡ Some (record { tree = null; is_whole = false })
+LeafShowsNothing = base leaf_pushed (first_at 2 (codes "/a")) ≡ Some (record { tree = null; whole = false })
 
 -- so a push below it is taken; without a window there is none to take it
 abbrev pub TakenBelow : Type 0
@@ -102,11 +102,11 @@ whole_window =
     push (first_at 2 (codes "/a")) lost (at (codes "/a/x"), num 1)
 
 abbrev pub StaysWhole : Type 0
-StaysWhole = base whole_window (first_at 2 (codes "/a")) ≡ Some (record { tree = object ((codes "x", num 1) ∷ []); is_whole = true })
+StaysWhole = base whole_window (first_at 2 (codes "/a")) ≡ Some (record { tree = object ((codes "x", num 1) ∷ []); whole = true })
 
 -- a push at its path replaces it by one that is not whole
 abbrev pub WholeNoMore : Type 0
-WholeNoMore = base (push (first_at 2 (codes "/a")) whole_window (at (codes "/a"), num 7)) (first_at 2 (codes "/a")) ≡ Some (record { tree = null; is_whole = false })
+WholeNoMore = base (push (first_at 2 (codes "/a")) whole_window (at (codes "/a"), num 7)) (first_at 2 (codes "/a")) ≡ Some (record { tree = null; whole = false })
 
 -- a new region takes the windows in
 abbrev pub TakenIn : Type 0

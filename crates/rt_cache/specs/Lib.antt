@@ -6,3 +6,4 @@ pub mod Canonical
 pub mod Examples
 pub mod QueryOrder
 pub mod Recover
+pub mod inside
