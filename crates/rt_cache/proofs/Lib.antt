@@ -1,0 +1,9 @@
+pub mod Bases
+pub mod InPlace
+pub mod Listing
+pub mod Places
+pub mod Pushes
+pub mod QueryOrders
+pub mod Stays
+pub mod Strips
+pub mod WindowPushes

@@ -3,18 +3,19 @@ use Rattle.std.specs.Prelude.{Bool, true, false, ◌&&◌, not, if◌then◌else
 use Rattle.std.specs.List.{filter}
 use Rattle.std.specs.Option.{option_map, option_map_or, option_or}
 use Rattle.std.specs.FinMap as map_of
-use Rattle.rt_tree.specs.PathTree.{Path, path_cmp, path_eq, strip, PathTree, sub, put, children_alone}
+use Rattle.rt_tree.specs.PathTree.{Key, Path, path_cmp, path_eq, strip, PathTree, sub, child, put, children_alone}
 use Rattle.rt_tree.specs.Assignments.{is_at_or_above, Assignment}
 use Rattle.rt_query.specs.Queries.{Query, is_filtered}
-use Rattle.rt_query.specs.QueryEq.{query_eq}
 use Rattle.rt_query.specs.Supply.{form}
+use Rattle.rt_cache.specs.QueryOrder.{query_cmp}
+pub use Rattle.rt_cache.specs.declared.base.Base.{Base}
 
 -- known children of a filtered query; whole where they are all that its path has
 pub record Window : Type 0 where
   pub children : PathTree
   pub is_whole : Bool
 
--- regions at paths of which none is at or above another, in the order of paths; windows by their filtered form, in order of registration
+-- regions at paths of which none is at or above another, in the order of paths; windows by their filtered form, in the order of forms
 pub record Brought : Type 0 where
   pub regions : List (Path × PathTree)
   pub windows : List (Query × Window)
@@ -32,30 +33,27 @@ region_part (r ∷ rs) p = option_or (option_map (sub r.1) (strip r.0 p)) (regio
 
 -- the window of a filtered form
 abbrev pub window_of : List (Query × Window) → Query → Option Window
-window_of [] q = None
-window_of (w ∷ ws) q = if query_eq w.0 q then Some w.1 else window_of ws q
-
--- what is brought for a query; whole where it is all that its path has
-pub record Base : Type 0 where
-  pub tree : PathTree
-  pub is_whole : Bool
+window_of windows q = map_of.find query_cmp q windows
 
 -- the region's part, else the window of the query's form, else nothing
 abbrev pub base : Brought → Query → Option Base
 base b q = option_or
-    (option_map (λ t. record { tree = t; is_whole = true }) (region_part b.regions q.path))
-    (option_map (λ w. record { tree = w.children; is_whole = w.is_whole }) (window_of b.windows (form q)))
+    (option_map (λ t. record { tree = t; whole = true }) (region_part b.regions q.path))
+    (option_map (λ w. record { tree = w.children; whole = w.is_whole }) (window_of b.windows (form q)))
+
+-- of that one child alone
+abbrev pub child_base : Key → Base → Base
+child_base k x = record x { tree = child x.tree k }
+
+-- what is brought of one child of the query; the child is null where there is none
+abbrev pub base_child : Brought → Query → Key → Option Base
+base_child b q k = option_map (child_base k) (base b q)
 
 -- whether something is brought for the query
 abbrev pub knows : Brought → Query → Bool
 knows b q = is_some (base b q)
 
 -- ---- pushes
-
--- the window set, in place of an older one of that query
-abbrev pub with_window : Query → Window → List (Query × Window) → List (Query × Window)
-with_window q window [] = (q, window) ∷ []
-with_window q window (w ∷ ws) = if query_eq w.0 q then (q, window) ∷ ws else w ∷ with_window q window ws
 
 -- the region with u put at p, if it is at or above p
 abbrev pub region_put : Assignment → Path × PathTree → Path × PathTree
@@ -78,16 +76,14 @@ window_pushed (k ∷ rest) u (Some w) = Some (record w { children = put w.childr
 window_pushed (k ∷ rest) u None = None
 
 -- a push on a filtered listen at its path replaces its window by the children; one below is put into the window, if there is one
-abbrev pub push_filtered : Brought → Query → Path → PathTree → Brought
-push_filtered b q rest u = record b {
-  windows = option_map_or (λ w. with_window q w b.windows) (window_pushed rest u (window_of b.windows q)) b.windows;
-}
+abbrev pub windows_pushed : Query → Path → PathTree → List (Query × Window) → List (Query × Window)
+windows_pushed q rest u windows = option_map_or (λ w. map_of.put query_cmp q w windows) (window_pushed rest u (window_of windows q)) windows
 
 -- a push on a kept listen
 abbrev pub push : Query → Brought → Assignment → Brought
 push q b a =
     if is_filtered q
-    then option_map_or (λ rest. push_filtered b q rest a.1) (strip q.path a.0) b
+    then option_map_or (λ rest. record b { windows = windows_pushed q rest a.1 b.windows }) (strip q.path a.0) b
     else push_plain b a
 
 -- whether a push on a kept listen changes nothing, for want of a window

@@ -1,21 +1,34 @@
 -- What stays brought when the listens kept change.
-use Rattle.std.specs.Prelude.{true, ◌&&◌, not, if◌then◌else◌, List, [], ◌∷◌, Option, None, is_some}
-use Rattle.std.specs.List.{filter, filter_map, flat_map, list_any}
+use Rattle.std.specs.Prelude.{Bool, true, not, ◌&&◌, if◌then◌else◌, List, [], ◌∷◌, Option, None, is_some}
+use Rattle.std.specs.List.{filter, filter_map, flat_map, fold, list_any}
 use Rattle.std.specs.Option.{option_map, option_or}
-use Rattle.rt_tree.specs.PathTree.{Path, strip, PathTree, sub, children_alone}
+use Rattle.std.specs.FinMap as map_of
+use Rattle.rt_tree.specs.PathTree.{Path, path_cmp, strip, PathTree, sub, children_alone}
 use Rattle.rt_tree.specs.Assignments.{is_at_or_above}
 use Rattle.rt_query.specs.Queries.{Query, is_filtered}
+use Rattle.rt_cache.specs.QueryOrder.{query_cmp}
 use Rattle.rt_cache.specs.Brought.{Window, Brought, region_part, window_of}
 
--- what stays of a region: all of it at or under a plain listen, else its parts at the plain listens under it
-abbrev pub parts_kept : List Query → Path × PathTree → List (Path × PathTree)
-parts_kept plains r =
-    if list_any (λ k. is_at_or_above k.path r.0) plains then r ∷ []
-    else filter_map (λ k. option_map (λ rest. (k.path, sub r.1 rest)) (strip r.0 k.path)) plains
+-- the plain listens
+abbrev pub plains : List Query → List Query
+plains kept = filter (λ k. not (is_filtered k)) kept
 
--- the regions cut to the plain listens kept
+-- whether a plain listen is at or above p
+abbrev pub reaches : List Query → Path → Bool
+reaches kept p = list_any (λ k. is_at_or_above k.path p) (plains kept)
+
+-- the parts of a region at the plain listens under it
+abbrev pub parts_of : List Query → Path × PathTree → List (Path × PathTree)
+parts_of kept r = filter_map (λ k. option_map (λ rest. (k.path, sub r.1 rest)) (strip r.0 k.path)) (plains kept)
+
+-- more regions, each in its place
+abbrev pub with_regions : List (Path × PathTree) → List (Path × PathTree) → List (Path × PathTree)
+with_regions regions more = fold (λ rs r. map_of.put path_cmp r.0 r.1 rs) regions more
+
+-- the regions at or under a plain listen stay; of the others there stay the parts at the plain listens under them
 abbrev pub regions_kept : List Query → List (Path × PathTree) → List (Path × PathTree)
-regions_kept kept regions = flat_map (parts_kept (filter (λ k. not (is_filtered k)) kept)) regions
+regions_kept kept regions =
+    with_regions (filter (λ r. reaches kept r.0) regions) (flat_map (parts_of kept) (filter (λ r. not (reaches kept r.0)) regions))
 
 -- the whole window of a filtered form whose path a region held, and none holds now
 abbrev pub window_left : List (Path × PathTree) → List (Path × PathTree) → Query → Option Window
@@ -24,10 +37,18 @@ window_left old new q =
     then option_map (λ t. record { children = children_alone t; is_whole = true }) (region_part old q.path)
     else None
 
--- each registered form's window: the one that a lost region leaves, else the one that it has
+-- the window of a registered form: the one that a lost region leaves, else the one that it has
+abbrev pub window_kept : List (Path × PathTree) → List (Path × PathTree) → List (Query × Window) → Query → Option Window
+window_kept old new windows q = option_or (window_left old new q) (window_of windows q)
+
+-- windows in the order of their queries
+abbrev pub in_query_order : List (Query × Window) → List (Query × Window)
+in_query_order [] = []
+in_query_order (w ∷ ws) = map_of.put query_cmp w.0 w.1 (in_query_order ws)
+
+-- the windows of the registered forms
 abbrev pub windows_kept : List Query → List (Path × PathTree) → List (Path × PathTree) → List (Query × Window) → List (Query × Window)
-windows_kept registered old new windows =
-    filter_map (λ q. option_map (λ w. (q, w)) (option_or (window_left old new q) (window_of windows q))) registered
+windows_kept registered old new windows = in_query_order (filter_map (λ q. option_map (λ w. (q, w)) (window_kept old new windows q)) registered)
 
 -- what was brought, after a change of the registered forms and the kept listens
 abbrev pub recover : List Query → List Query → Brought → Brought

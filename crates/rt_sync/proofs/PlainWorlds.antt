@@ -1,7 +1,7 @@
 -- Worlds of one plain listener: its form and its listen, the regions under its path, and the overlay of one more write.
 use Rattle.std.proofs.Common.{◌≡◌, ℕ, Bool, true, false, cond, not, ◌&&◌, ◌||◌, List, [], ◌∷◌, ◌++◌, map, refl, sym, ap, ◌∙◌, Option, Some, is_some}
 use Rattle.std.specs.declared.cmp.Ordering.TheVariants.{Less, Equal, Greater}
-use Rattle.std.specs.List.{filter, filter_map, fold, list_any, enumerate_from, All}
+use Rattle.std.specs.List.{filter, filter_map, flat_map, fold, list_any, enumerate_from, All}
 use Rattle.std.specs.Option.{option_map}
 use Rattle.std.specs.FinMap as map_of
 use Rattle.std.specs.FinMap.Entries.{by_order}
@@ -16,7 +16,7 @@ use Rattle.rt_query.specs.QueryEq.{query_eq}
 use Rattle.rt_query.specs.Supply.{form, does_supply}
 use Rattle.rt_writes.specs.Writes.{Write, assignments, overlaid, overlaid_by, overlay, sets_whole}
 use Rattle.rt_cache.specs.Brought.{Window, Brought, region_part, Base, knows, region_put, push}
-use Rattle.rt_cache.specs.Recover.{regions_kept, windows_kept, recover}
+use Rattle.rt_cache.specs.Recover.{reaches, parts_of, with_regions, regions_kept, windows_kept, recover}
 use Rattle.rt_cover.specs.Cover.{needed, Tagged, started, kept_for}
 use Rattle.rt_query.proofs.Tests.{query_eq_tells}
 use Rattle.rt_cover.proofs.Paths.{rest_of_above}
@@ -61,12 +61,24 @@ kept_for-kept n k = λ i. cond (own k.form i || false) (k ∷ []) [] ++ started-
 abbrev pub AreUnder : Path → List (Path × PathTree) → Type 0
 AreUnder p regions = All (λ (r : Path × PathTree). is_at_or_above p r.0 ≡ true) regions
 
+-- the listen reaches them all
+all_reached : (p : Path) (regions : List (Path × PathTree)) → AreUnder p regions → filter (λ (r : Path × PathTree). reaches (plain p ∷ []) r.0) regions ≡ regions
+all_reached p [] h = refl
+all_reached p (r ∷ rs) h = λ i.
+    cond (All-head (λ (x : Path × PathTree). is_at_or_above p x.0 ≡ true) r rs h i || false)
+    (r ∷ all_reached p rs (All-tail (λ (x : Path × PathTree). is_at_or_above p x.0 ≡ true) r rs h) i)
+    (all_reached p rs (All-tail (λ (x : Path × PathTree). is_at_or_above p x.0 ≡ true) r rs h) i)
+
+-- and none is lost
+none_lost : (p : Path) (regions : List (Path × PathTree)) → AreUnder p regions → filter (λ (r : Path × PathTree). not (reaches (plain p ∷ []) r.0)) regions ≡ []
+none_lost p [] h = refl
+none_lost p (r ∷ rs) h = λ i.
+    cond (not (All-head (λ (x : Path × PathTree). is_at_or_above p x.0 ≡ true) r rs h i || false))
+    (r ∷ none_lost p rs (All-tail (λ (x : Path × PathTree). is_at_or_above p x.0 ≡ true) r rs h) i)
+    (none_lost p rs (All-tail (λ (x : Path × PathTree). is_at_or_above p x.0 ≡ true) r rs h) i)
+
 pub regions_kept-under : (p : Path) (regions : List (Path × PathTree)) → AreUnder p regions → regions_kept (plain p ∷ []) regions ≡ regions
-regions_kept-under p [] h = refl
-regions_kept-under p (r ∷ rs) h = λ i.
-    cond (All-head (λ (x : Path × PathTree). is_at_or_above p x.0 ≡ true) r rs h i || false) (r ∷ [])
-    (filter_map (λ (k : Query). option_map (λ rest. (k.path, sub r.1 rest)) (strip r.0 k.path)) (plain p ∷ []))
-    ++ regions_kept-under p rs (All-tail (λ (x : Path × PathTree). is_at_or_above p x.0 ≡ true) r rs h) i
+regions_kept-under p regions h = λ i. with_regions (all_reached p regions h i) (flat_map (parts_of (plain p ∷ [])) (none_lost p regions h i))
 
 -- what is under the plain listen that is kept stays
 pub recover-under : (p : Path) (b : Brought) → b.windows ≡ [] → AreUnder p b.regions → recover (plain p ∷ []) (plain p ∷ []) b ≡ b

@@ -1,0 +1,51 @@
+use Rattle.std.proofs.Common.{rules, ◌≡◌, ◌∙◌, ◌<◌, ℕ, ap, sym, length, get_or, refl, true, false, Some, None}
+use Rattle.std.specs.FinMap as map_of
+use Rattle.std.specs.Option.{option_map}
+use Rattle.rt_tree.specs.PathTree.{strip, sub}
+use Rattle.rt_tree.specs.Parts.{sub_root}
+use Rattle.rt_tree.specs.Assignments.{is_at_or_above}
+use Rattle.rt_query.specs.QueryEq.{query_eq}
+use Rattle.rt_cache.specs.QueryOrder.{query_cmp}
+use Rattle.rt_cache.specs.Brought.{region_part, base}
+use Rattle.rt_cache.specs.declared.region.Region.{Region}
+use Rattle.rt_cache.specs.declared.window.Window.{Window}
+use Rattle.rt_cache.specs.inside.Held.{seen_window, pairs_of, entries_of}
+use Rattle.rt_cache.proofs.Bases.{base_found}
+use Rattle.rt_cache.proofs.Listing.{find-at}
+use Rattle.rt_cache.proofs.Places.{part_is}
+use Rattle.rt_cache.proofs.brought.Brought.base.Goals as goal
+
+pub returns-in-Some : goal.returns-in-Some
+returns-in-Some c =
+    let region : Region = c.index.result.now in
+    let within : c.in-Some.place < length c.self.inside.regions.items = search rules in
+    let at : region ≡ get_or c.self.inside.regions.items c.in-Some.place region = search rules in
+    let above : is_at_or_above (get_or c.self.inside.regions.items c.in-Some.place region).path (c.args.query.now).path ≡ true = search rules in
+    let part : Some c.in_ok-tree.tree ≡ option_map (sub (region.tree).tree) (strip region.path (c.args.query.now).path) = search rules in
+    let seen : region_part (pairs_of c.self.inside.regions.items) (c.args.query.now).path ≡ Some c.in_ok-tree.tree =
+    part_is (c.args.query.now).path c.self.inside.regions.items c.in-Some.place region c.self.invariant.apart within above
+    ∙ ap (λ (r : Region). option_map (sub (r.tree).tree) (strip r.path (c.args.query.now).path)) (sym at) ∙ sym part in
+    sym (base_found c.self.inside.regions.items c.self.inside.windows.items c.args.query.now (Some c.in_ok-tree.tree) _ c.self.invariant.filtered seen refl)
+    ∙ ap (λ b. base b c.args.query.now) c.self.view_is
+
+pub returns-in_default-place_of_window : goal.returns-in_default-place_of_window
+returns-in_default-place_of_window c =
+    let none : region_part (pairs_of c.self.inside.regions.items) (c.args.query.now).path ≡ None = search rules in
+    let window : map_of.find query_cmp c.args.query.now (entries_of c.self.inside.windows.items) ≡ None = search rules in
+    sym (base_found c.self.inside.regions.items c.self.inside.windows.items c.args.query.now None None c.self.invariant.filtered none window)
+    ∙ ap (λ b. base b c.args.query.now) c.self.view_is
+
+pub returns : goal.returns
+returns c =
+    let none : region_part (pairs_of c.self.inside.regions.items) (c.args.query.now).path ≡ None = search rules in
+    let window : Window = c.index-window.result.now in
+    let within : c.in-Some-place_of_window.place < length c.self.inside.windows.items = search rules in
+    let at : window ≡ get_or c.self.inside.windows.items c.in-Some-place_of_window.place window = search rules in
+    let own : query_eq (get_or c.self.inside.windows.items c.in-Some-place_of_window.place window).query c.args.query.now ≡ true = search rules in
+    let first : (k : ℕ) → k < c.in-Some-place_of_window.place → query_eq (get_or c.self.inside.windows.items k window).query c.args.query.now ≡ false = search rules in
+    let tree : c.in_ok-tree-2.tree ≡ sub (window.children).tree c.root.result = search rules in
+    let found : map_of.find query_cmp c.args.query.now (entries_of c.self.inside.windows.items) ≡ Some (seen_window window) =
+    find-at c.args.query.now c.self.inside.windows.items c.in-Some-place_of_window.place window within first own ∙ ap (λ (w : Window). Some (seen_window w)) (sym at) in
+    (λ i. Some (record { tree = (tree ∙ ap (sub (window.children).tree) c.root.ensures ∙ sub_root (window.children).tree) i; whole = window.is_whole }))
+    ∙ sym (base_found c.self.inside.regions.items c.self.inside.windows.items c.args.query.now None (Some (seen_window window)) c.self.invariant.filtered none found)
+    ∙ ap (λ b. base b c.args.query.now) c.self.view_is

@@ -1,0 +1,75 @@
+use Rattle.std.proofs.Common.{rules, ◌≡◌, ◌∙◌, ◌<◌, ℕ, ap, sym, length, get_or, true, false, Some, None}
+use Rattle.std.specs.Option.{option_map_or}
+use Rattle.std.specs.FinMap as map_of
+use Rattle.rt_tree.specs.PathTree.{path_eq, strip, put}
+use Rattle.rt_query.specs.QueryEq.{query_eq}
+use Rattle.rt_query.specs.QueryEqLaws.{query_eq_tells}
+use Rattle.rt_query.specs.Queries.{Query}
+use Rattle.rt_cache.specs.QueryOrder.{query_cmp}
+use Rattle.rt_cache.specs.Recover.{in_query_order}
+use Rattle.rt_cache.specs.declared.window.Window.{Window}
+use Rattle.rt_cache.specs.inside.Held.{seen_window, entry_of, entries_of}
+use Rattle.rt_cache.proofs.Listing.{listed-set}
+use Rattle.rt_cache.proofs.WindowPushes.{on_err_of, pushed_own, taken_own, pushed_none, taken_none, pushed_some, taken_some, none_listed, window_listed, entries_of-set}
+use Rattle.rt_cache.proofs.windows.push.Goals as goal
+
+pub returns-then-eq-clause-ok : goal.returns-then-eq-clause-ok
+returns-then-eq-clause-ok c =
+    let own : path_eq c.args.path.now (c.args.query.now).path ≡ true = search rules in
+    let put : in_query_order (entries_of c.replace.new.windows.items) ≡ map_of.put query_cmp c.args.query.now _ (in_query_order (entries_of c.args.windows.now.items)) = c.in_ok-replace.ensures.ok in
+    put ∙ sym (pushed_own c.args.query.now c.args.path.now c.args.tree.now (in_query_order (entries_of c.args.windows.now.items)) own)
+
+pub returns-then-eq-clause-taken : goal.returns-then-eq-clause-taken
+returns-then-eq-clause-taken c =
+    let own : path_eq c.args.path.now (c.args.query.now).path ≡ true = search rules in
+    taken_own c.args.query.now c.args.path.now (in_query_order (entries_of c.args.windows.now.items)) own
+
+pub returns-in_default-clause-ok : goal.returns-in_default-clause-ok
+returns-in_default-clause-ok c =
+    let other : path_eq c.args.path.now (c.args.query.now).path ≡ false = search rules in
+    let none : map_of.find query_cmp c.args.query.now (entries_of c.args.windows.now.items) ≡ None = search rules in
+    pushed_none c.args.query.now c.args.path.now c.args.tree.now (in_query_order (entries_of c.args.windows.now.items)) other (none_listed c.args.query.now c.args.windows.now.items none)
+
+pub returns-in_default-clause-taken : goal.returns-in_default-clause-taken
+returns-in_default-clause-taken c =
+    let other : path_eq c.args.path.now (c.args.query.now).path ≡ false = search rules in
+    let none : map_of.find query_cmp c.args.query.now (entries_of c.args.windows.now.items) ≡ None = search rules in
+    taken_none c.args.query.now c.args.path.now (in_query_order (entries_of c.args.windows.now.items)) other (none_listed c.args.query.now c.args.windows.now.items none)
+
+pub returns-in_err-put_into_window-clause-err : goal.returns-in_err-put_into_window-clause-err
+returns-in_err-put_into_window-clause-err c =
+    let old : Window = c.index_mut.result.now in
+    let within : c.in-Some.place < length c.args.windows.now.items = search rules in
+    let at : old ≡ get_or c.args.windows.now.items c.in-Some.place old = search rules in
+    let tree : (c.put_into_window.new.window.children).tree ≡ (old.children).tree = search rules in
+    let same : entry_of c.put_into_window.new.window ≡ entry_of old =
+    λ i. (c.put_into_window.ensures.query i, record { children = tree i; is_whole = c.put_into_window.ensures.mark i }) in
+    on_err_of _ _ (ap in_query_order (entries_of-set c.args.windows.now.items c.in-Some.place old c.put_into_window.new.window within (same ∙ ap entry_of at)))
+
+pub returns-clause-ok : goal.returns-clause-ok
+returns-clause-ok c =
+    let old : Window = c.index_mut.result.now in
+    let new : Window = c.put_into_window.new.window in
+    let q : Query = c.args.query.now in
+    let within : c.in-Some.place < length c.args.windows.now.items = search rules in
+    let at : old ≡ get_or c.args.windows.now.items c.in-Some.place old = search rules in
+    let own : query_eq (get_or c.args.windows.now.items c.in-Some.place old).query c.args.query.now ≡ true = search rules in
+    let first : (k : ℕ) → k < c.in-Some.place → query_eq (get_or c.args.windows.now.items k old).query c.args.query.now ≡ false = search rules in
+    let other : path_eq c.args.path.now (c.args.query.now).path ≡ false = search rules in
+    let was : old.query ≡ q = (query_eq_tells old.query q).0 (ap (λ (w : Window). query_eq w.query q) at ∙ own) in
+    let tree : (new.children).tree ≡ option_map_or (λ rest. put (old.children).tree rest c.args.tree.now) (strip (old.query).path c.args.path.now) (old.children).tree = c.in_ok-put_into_window.ensures.ok in
+    let found = window_listed q c.args.windows.now.items c.in-Some.place old within first own in
+    listed-set q c.args.windows.now.items c.in-Some.place old new within first own (c.put_into_window.ensures.query ∙ was)
+    ∙ (λ i. map_of.put query_cmp q (record {
+      children = (tree ∙ ap (λ (r : Query). option_map_or (λ rest. put (old.children).tree rest c.args.tree.now) (strip r.path c.args.path.now) (old.children).tree) was) i;
+      is_whole = c.put_into_window.ensures.mark i;
+    }) (in_query_order (entries_of c.args.windows.now.items)))
+    ∙ pushed_some q c.args.path.now c.args.tree.now (in_query_order (entries_of c.args.windows.now.items)) (seen_window old) other c.requires.under (found ∙ ap (λ (w : Window). Some (seen_window w)) (sym at))
+
+pub returns-clause-taken : goal.returns-clause-taken
+returns-clause-taken c =
+    let old : Window = c.index_mut.result.now in
+    let within : c.in-Some.place < length c.args.windows.now.items = search rules in
+    let own : query_eq (get_or c.args.windows.now.items c.in-Some.place old).query c.args.query.now ≡ true = search rules in
+    let first : (k : ℕ) → k < c.in-Some.place → query_eq (get_or c.args.windows.now.items k old).query c.args.query.now ≡ false = search rules in
+    taken_some c.args.query.now c.args.path.now (in_query_order (entries_of c.args.windows.now.items)) _ (window_listed c.args.query.now c.args.windows.now.items c.in-Some.place old within first own)

@@ -1,0 +1,2 @@
+-- What only the representation needs.
+pub mod Held

@@ -1,0 +1,145 @@
+// What the listens brought.
+ghost use Rattle.std.specs.Prelude.{◌≡◌, ◌+◌, ◌≤◌, true, false, not, length, IfOk, OnOk, OnErr};
+ghost use Rattle.rt_tree.specs.PathTree.{levels};
+ghost use Rattle.rt_tree.specs.Assignments.{is_at_or_above, have_overlap};
+ghost use Rattle.rt_cache.specs.inside.Held.{pairs_of, held};
+ghost use Rattle.rt_cache.specs.Brought.{nothing_brought, base, base_child, knows, push_plain, push, is_without_window};
+
+use crate::base::Base;
+use crate::region::Region;
+use crate::window::Window;
+use crate::{regions, stores, windows};
+use rt_query::Query;
+use rt_tree::{Key, Path, Tree};
+use std::alloc::{AllocError, Global};
+use std::marker::Model;
+
+/// What the listens brought: regions, which are trees at paths under plain listens, and windows, which are the known children of
+/// filtered queries.
+///
+/// No region is at or above another. Each tree is a store of its own, so that a tree that a call doesn't touch is neither copied
+/// nor walked.
+#[derive(Drop)]
+pub struct Brought {
+    regions: Vec<Region>,
+    windows: Vec<Window>,
+}
+
+impl Model for Brought {
+    ghost use Rattle.rt_cache.specs.Brought as what;
+
+    ghost Value = { what.Brought };
+
+    ghost use Rattle.rt_cache.specs.Canonical.{IsCanonical};
+    ghost use Rattle.rt_cache.specs.inside.Held.{held};
+
+    ghost view = { λ a. held a.regions.items a.windows.items };
+
+    ghost invariant = { λ a. IsCanonical (held a.regions.items a.windows.items) };
+}
+
+// The tree put into the region at or above the path, or else begun as a region.
+fn put_plain(
+    alloc: Global,
+    regions: &mut Vec<Region>,
+    windows: &mut Vec<Window>,
+    path: &Path,
+    tree: &Tree,
+) -> Result<(), AllocError>
+    requires levels { length path.now + levels tree.now ≤ 33 }
+    requires apart { have_overlap (pairs_of regions.old.items) ≡ false }
+    ensures ok { OnOk result (held regions.new.items windows.new.items ≡ push_plain (held regions.old.items windows.old.items) (path.now, tree.now)) }
+    ensures err { OnErr result (held regions.new.items windows.new.items ≡ held regions.old.items windows.old.items) }
+{
+    match regions::place_above(regions, path) {
+        Some(place) => regions::put_into(alloc, &mut regions[place], path, tree),
+        None => {
+            regions::begin(alloc, regions, path, tree)?;
+            windows::remove_under(windows, path);
+            Ok(())
+        }
+    }
+}
+
+impl Brought {
+    /// Nothing is brought yet.
+    pub fn new(alloc: Global) -> Brought
+        ensures { result ≡ nothing_brought }
+    {
+        Brought {
+            regions: Vec::new(alloc),
+            windows: Vec::new(alloc),
+        }
+    }
+
+    /// Takes in a tree that was pushed on the listen of this query, at the query's path or under it.
+    ///
+    /// On an unfiltered query the tree is put into the region at or above the path; where there is none, it begins a region, which
+    /// takes in the regions and windows below. On a filtered one it replaces the window by its children, or is put into the
+    /// window, if there is one. `Ok(false)` where there is none: the push is stale and changes nothing.
+    ///
+    /// An `Err` is want of memory, and changes nothing.
+    pub fn put(&mut self, query: &Query, path: &Path, tree: &Tree) -> Result<bool, AllocError>
+        requires under { is_at_or_above query.now.path path.now ≡ true }
+        requires levels { length path.now + levels tree.now ≤ 33 }
+        ensures ok { OnOk result (self.new ≡ push query.now self.old (path.now, tree.now)) }
+        ensures taken { IfOk result (λ taken. taken ≡ not (is_without_window self.old query.now (path.now, tree.now))) }
+        ensures err { OnErr result (self.new ≡ self.old) }
+    {
+        let alloc = *self.regions.allocator();
+        if query.is_filtered() {
+            return windows::push(alloc, &mut self.windows, query, path, tree);
+        }
+        put_plain(alloc, &mut self.regions, &mut self.windows, path, tree)?;
+        Ok(true)
+    }
+
+    /// Whether something is brought for the query: a region at or above its path, or its window. Takes no memory.
+    pub fn knows(&self, query: &Query) -> bool
+        ensures { result ≡ knows self.now query.now }
+    {
+        regions::place_above(&self.regions, query.path()).is_some()
+            || windows::place_of_window(&self.windows, query).is_some()
+    }
+
+    /// What is brought for the query: the part of the region at or above its path, which is whole, or its window; `None` where there
+    /// is neither. Costs by the path and the part.
+    pub fn base(&self, query: &Query) -> Result<Option<Base>, AllocError>
+        ensures { IfOk result (λ found. found ≡ base self.now query.now) }
+    {
+        let alloc = *self.regions.allocator();
+        if let Some(place) = regions::place_above(&self.regions, query.path()) {
+            let tree = regions::part_at(alloc, &self.regions[place], query.path())?;
+            return Ok(Some(Base { tree, whole: true }));
+        }
+        let Some(place) = windows::place_of_window(&self.windows, query) else {
+            return Ok(None);
+        };
+        let window = &self.windows[place];
+        let tree = window.children.get(alloc, &Path::root(alloc))?;
+        Ok(Some(Base {
+            tree,
+            whole: window.is_whole,
+        }))
+    }
+
+    /// [`Brought::base`] with one child of the tree in its place, null where there is none. Costs by the path and that child.
+    pub fn base_child(&self, query: &Query, key: &Key) -> Result<Option<Base>, AllocError>
+        ensures { IfOk result (λ found. found ≡ base_child self.now query.now key.now) }
+    {
+        let alloc = *self.regions.allocator();
+        if let Some(place) = regions::place_above(&self.regions, query.path()) {
+            let tree = regions::child_at(alloc, &self.regions[place], query.path(), key)?;
+            return Ok(Some(Base { tree, whole: true }));
+        }
+        let Some(place) = windows::place_of_window(&self.windows, query) else {
+            return Ok(None);
+        };
+        let window = &self.windows[place];
+        let tree = stores::child_at(alloc, &window.children, &Path::root(alloc), key)?;
+        Ok(Some(Base {
+            tree,
+            whole: window.is_whole,
+        }))
+    }
+}

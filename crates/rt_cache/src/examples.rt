@@ -1,0 +1,30 @@
+// Outside examples of what is brought: trees compute here.
+#![tactic(auto, unfolding(rt_tree::specs::PathTree::null, rt_tree::specs::PathTree::of_leaf, rt_tree::specs::PathTree::is_null, rt_tree::specs::PathTree::leaf_at, rt_tree::specs::PathTree::sub, rt_tree::specs::PathTree::put, rt_tree::specs::PathTree::children_alone))]
+
+ghost use Rattle.rt_cache.specs.Examples.{ParentTakesIn, PartsAreWhole, ChildThere, ChildNotThere, PartStays, OtherIsLost, CutInOrder, ListedAlike, LeafShowsNothing, TakenBelow, StaleBelow, StaysWhole, WholeNoMore, TakenIn};
+
+/// A region takes in those below it, its parts are whole, and another listen keeps its part alone.
+pub fn region_examples()
+    ensures taken_in { ParentTakesIn }
+    ensures whole { PartsAreWhole }
+    ensures child { ChildThere }
+    ensures no_child { ChildNotThere }
+    ensures part { PartStays }
+    ensures lost { OtherIsLost }
+{}
+
+/// What is brought does not depend on the order in which listens or windows came.
+pub fn order_examples()
+    ensures regions { CutInOrder }
+    ensures windows { ListedAlike }
+{}
+
+/// A window of a leaf, a window that a region leaves, and what a push makes of them.
+pub fn window_examples()
+    ensures leaf { LeafShowsNothing }
+    ensures below { TakenBelow }
+    ensures stale { StaleBelow }
+    ensures whole { StaysWhole }
+    ensures replaced { WholeNoMore }
+    ensures taken_in { TakenIn }
+{}

@@ -1,0 +1,137 @@
+// Regions in the order of their paths, of which none is at or above another.
+ghost use Rattle.std.specs.Prelude.{vec_len, vec_capacity, ◌≡◌, ◌+◌, ◌<◌, ◌≤◌, length, IfOk, IfSome, IfNone, OnOk, OnErr, Some, None, is_some, not, true, false, filter, slice_index_or};
+ghost use Rattle.std.specs.List.{list_any, position_or_len};
+ghost use Rattle.std.specs.Option.{option_map};
+ghost use Rattle.std.specs.Ordering.{is_lt};
+ghost use Rattle.std.specs.FinMap as map_of;
+ghost use Rattle.rt_tree.specs.PathTree.{levels, path_cmp, path_eq, strip, sub, child};
+ghost use Rattle.rt_tree.specs.Assignments.{is_at_or_above};
+ghost use Rattle.rt_cache.specs.Brought.{region_part, region_put};
+ghost use Rattle.rt_cache.specs.inside.Held.{pair_of, pairs_of};
+ghost use Rattle.rt_cache.specs.declared.region.Region.{Region};
+
+use crate::paths::rest_of;
+use crate::region::Region;
+use crate::stores::{self, store_of};
+use rt_tree::{Key, Path, Tree};
+use std::alloc::{AllocError, Global};
+
+// Where the region at or above the path stands.
+pub(crate) fn place_above(regions: &[Region], path: &Path) -> Option<usize>
+    ensures known { is_some result ≡ is_some (region_part (pairs_of regions.now) path.now) }
+    ensures none { IfNone result (region_part (pairs_of regions.now) path.now ≡ None) }
+    ensures within { IfSome result (λ n. n < length regions.now) }
+    ensures above { IfSome result (λ n. (d : Region) → is_at_or_above (slice_index_or regions.now n d).path path.now ≡ true) }
+{
+    for (place, region) in regions.iter().enumerate() {
+        if region.path.is_prefix_of(path) {
+            return Some(place);
+        }
+    }
+    None
+}
+
+// The part at the path of a region at or above it.
+pub(crate) fn part_at(alloc: Global, region: &Region, path: &Path) -> Result<Tree, AllocError>
+    requires { is_at_or_above region.now.path path.now ≡ true }
+    ensures { IfOk result (λ part. Some part ≡ option_map (sub (region.now.tree).tree) (strip region.now.path path.now)) }
+{
+    match rest_of(alloc, &region.path, path)? {
+        Some(rest) => region.tree.get(alloc, &rest),
+        None => Ok(Tree::null()),
+    }
+}
+
+// The child of that part.
+pub(crate) fn child_at(
+    alloc: Global,
+    region: &Region,
+    path: &Path,
+    key: &Key,
+) -> Result<Tree, AllocError>
+    requires { is_at_or_above region.now.path path.now ≡ true }
+    ensures { IfOk result (λ part. Some part ≡ option_map (λ rest. child (sub (region.now.tree).tree rest) key.now) (strip region.now.path path.now)) }
+{
+    match rest_of(alloc, &region.path, path)? {
+        Some(rest) => stores::child_at(alloc, &region.tree, &rest, key),
+        None => Ok(Tree::null()),
+    }
+}
+
+// The tree put into the region, which is at or above the path.
+pub(crate) fn put_into(
+    alloc: Global,
+    region: &mut Region,
+    path: &Path,
+    tree: &Tree,
+) -> Result<(), AllocError>
+    requires levels { length path.now + levels tree.now ≤ 33 }
+    ensures ok { OnOk result (pair_of region.new ≡ region_put (path.now, tree.now) (pair_of region.old)) }
+    ensures err { OnErr result (pair_of region.new ≡ pair_of region.old) }
+{
+    match rest_of(alloc, &region.path, path)? {
+        Some(rest) => region.tree.set(alloc, &rest, tree).map_err(|_| AllocError),
+        None => Ok(()),
+    }
+}
+
+// How many regions come before the path.
+fn place_of(regions: &[Region], path: &Path) -> usize
+    ensures first { result ≡ position_or_len (λ r. is_lt (path_cmp path.now r.path)) regions.now }
+    ensures within { result ≤ length regions.now }
+{
+    for (place, region) in regions.iter().enumerate() {
+        if path.cmp(&region.path).is_lt() {
+            return place;
+        }
+    }
+    regions.len()
+}
+
+// The region in its place, for which there is room.
+pub(crate) fn insert(regions: &mut Vec<Region>, region: Region)
+    requires room { vec_len regions.old < vec_capacity regions.old }
+    requires absent { list_any (λ r. path_eq region.path r.path) regions.old.items ≡ false }
+    ensures placed { pairs_of regions.new.items ≡ map_of.put path_cmp region.path (region.tree).tree (pairs_of regions.old.items) }
+    ensures len { vec_len regions.new ≡ vec_len regions.old + 1 }
+    ensures room { vec_capacity regions.old ≤ vec_capacity regions.new }
+{
+    let place = place_of(regions, &region.path);
+    let _in_reserved_room = regions.insert(place, region);
+}
+
+// The regions that are not at or under the path.
+fn remove_under(regions: &mut Vec<Region>, path: &Path)
+    ensures left { regions.new.items ≡ filter (λ r. not (is_at_or_above path.now r.path)) regions.old.items }
+    ensures len { vec_len regions.new ≤ vec_len regions.old }
+    ensures room { vec_capacity regions.new ≡ vec_capacity regions.old }
+{
+    regions.retain(|region| !path.is_prefix_of(&region.path));
+}
+
+// A region of a copy of the tree.
+pub(crate) fn region_of(alloc: Global, path: &Path, tree: &Tree) -> Result<Region, AllocError>
+    ensures { IfOk result (λ region. pair_of region ≡ (path.now, tree.now)) }
+{
+    Ok(Region {
+        path: path.copy()?,
+        tree: store_of(alloc, tree)?,
+    })
+}
+
+// A new region, in the place of those at or under the path.
+pub(crate) fn begin(
+    alloc: Global,
+    regions: &mut Vec<Region>,
+    path: &Path,
+    tree: &Tree,
+) -> Result<(), AllocError>
+    ensures ok { OnOk result (pairs_of regions.new.items ≡ map_of.put path_cmp path.now tree.now (filter (λ r. not (is_at_or_above path.now r.0)) (pairs_of regions.old.items))) }
+    ensures err { OnErr result (regions.new.items ≡ regions.old.items) }
+{
+    let region = region_of(alloc, path, tree)?;
+    regions.reserve(1)?;
+    remove_under(regions, path);
+    insert(regions, region);
+    Ok(())
+}

@@ -1,0 +1,118 @@
+// Windows of filtered queries, in any order.
+ghost use Rattle.std.specs.Prelude.{◌≡◌, ℕ, ◌+◌, ◌<◌, ◌≤◌, length, IfOk, IfSome, IfNone, OnOk, OnErr, None, is_some, not, true, false, slice_index_or};
+ghost use Rattle.std.specs.List.{filter};
+ghost use Rattle.std.specs.Option.{option_map_or};
+ghost use Rattle.std.specs.FinMap as map_of;
+ghost use Rattle.rt_tree.specs.PathTree.{levels, strip, children_alone, put};
+ghost use Rattle.rt_tree.specs.Assignments.{is_at_or_above};
+ghost use Rattle.rt_query.specs.QueryEq.{query_eq};
+ghost use Rattle.rt_cache.specs.QueryOrder.{query_cmp};
+ghost use Rattle.rt_cache.specs.Recover.{in_query_order};
+ghost use Rattle.rt_cache.specs.inside.Held.{entries_of, pushed_windows, is_taken};
+ghost use Rattle.rt_cache.specs.declared.window.Window.{Window};
+
+use crate::paths::rest_of;
+use crate::stores::store_of_children;
+use crate::window::Window;
+use rt_query::Query;
+use rt_tree::{Path, Tree};
+use std::alloc::{AllocError, Global};
+
+// Where the window of the query stands.
+pub(crate) fn place_of_window(windows: &[Window], query: &Query) -> Option<usize>
+    ensures known { is_some result ≡ is_some (map_of.find query_cmp query.now (entries_of windows.now)) }
+    ensures none { IfNone result (map_of.find query_cmp query.now (entries_of windows.now) ≡ None) }
+    ensures within { IfSome result (λ n. n < length windows.now) }
+    ensures own { IfSome result (λ n. (d : Window) → query_eq (slice_index_or windows.now n d).query query.now ≡ true) }
+    ensures first { IfSome result (λ n. (k : ℕ) (d : Window) → k < n → query_eq (slice_index_or windows.now k d).query query.now ≡ false) }
+{
+    for (place, window) in windows.iter().enumerate() {
+        if window.query == *query {
+            return Some(place);
+        }
+    }
+    None
+}
+
+// The window of the query replaced by the children of the tree.
+pub(crate) fn replace(
+    alloc: Global,
+    windows: &mut Vec<Window>,
+    query: &Query,
+    tree: &Tree,
+) -> Result<(), AllocError>
+    ensures ok { OnOk result (in_query_order (entries_of windows.new.items) ≡ map_of.put query_cmp query.now (record { children = children_alone tree.now; is_whole = false }) (in_query_order (entries_of windows.old.items))) }
+    ensures err { OnErr result (windows.new.items ≡ windows.old.items) }
+{
+    let children = store_of_children(alloc, tree)?;
+    match place_of_window(windows, query) {
+        Some(place) => {
+            let window = &mut windows[place];
+            window.children = children;
+            window.is_whole = false;
+        }
+        None => {
+            let query = query.copy()?;
+            windows.push(Window {
+                query,
+                children,
+                is_whole: false,
+            })?;
+        }
+    }
+    Ok(())
+}
+
+// The tree put into a window, whose query's path is above the path.
+fn put_into_window(
+    alloc: Global,
+    window: &mut Window,
+    path: &Path,
+    tree: &Tree,
+) -> Result<(), AllocError>
+    requires levels { length path.now + levels tree.now ≤ 33 }
+    ensures query { window.new.query ≡ window.old.query }
+    ensures mark { window.new.is_whole ≡ window.old.is_whole }
+    ensures ok { OnOk result ((window.new.children).tree ≡ option_map_or (λ rest. put (window.old.children).tree rest tree.now) (strip window.old.query.path path.now) (window.old.children).tree) }
+    ensures err { OnErr result ((window.new.children).tree ≡ (window.old.children).tree) }
+{
+    match rest_of(alloc, window.query.path(), path)? {
+        Some(rest) => window
+            .children
+            .set(alloc, &rest, tree)
+            .map_err(|_| AllocError),
+        None => Ok(()),
+    }
+}
+
+// The windows that are not at or under the path.
+pub(crate) fn remove_under(windows: &mut Vec<Window>, path: &Path)
+    ensures { in_query_order (entries_of windows.new.items) ≡ filter (λ w. not (is_at_or_above path.now w.0.path)) (in_query_order (entries_of windows.old.items)) }
+{
+    windows.retain(|window| !path.is_prefix_of(window.query.path()));
+}
+
+// The tree pushed on the query at the path; whether it was taken: below the query's path a window has to be there.
+pub(crate) fn push(
+    alloc: Global,
+    windows: &mut Vec<Window>,
+    query: &Query,
+    path: &Path,
+    tree: &Tree,
+) -> Result<bool, AllocError>
+    requires under { is_at_or_above query.now.path path.now ≡ true }
+    requires levels { length path.now + levels tree.now ≤ 33 }
+    ensures ok { OnOk result (in_query_order (entries_of windows.new.items) ≡ pushed_windows query.now (path.now, tree.now) (in_query_order (entries_of windows.old.items))) }
+    ensures taken { IfOk result (λ taken. taken ≡ is_taken query.now path.now (in_query_order (entries_of windows.old.items))) }
+    ensures err { OnErr result (in_query_order (entries_of windows.new.items) ≡ in_query_order (entries_of windows.old.items)) }
+{
+    if path == query.path() {
+        replace(alloc, windows, query, tree)?;
+        return Ok(true);
+    }
+    let Some(place) = place_of_window(windows, query) else {
+        return Ok(false);
+    };
+    put_into_window(alloc, &mut windows[place], path, tree)?;
+    Ok(true)
+}
