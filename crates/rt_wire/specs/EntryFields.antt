@@ -21,11 +21,12 @@ some_of (x ∷ xs) = Some (x ∷ xs)
 abbrev pub entries_of : Data → Option (List (Path × Data))
 entries_of d = option_and_then some_of (option_and_then places_of (as_object d))
 
--- the entries; the first value that is no tree refuses them
+-- an entry in front of others; a value that is no tree refuses them all
+abbrev pub in_front : Path → Result PathTree WireError → Result (List Assignment) WireError → Result (List Assignment) WireError
+in_front path (Err e) rest = Err e
+in_front path (Ok tree) rest = made rest (λ entries. (path, tree) ∷ entries)
+
+-- the entries, or the first value's refusal
 abbrev pub trees_of : List (Path × Data) → Result (List Assignment) WireError
 trees_of [] = Ok []
-trees_of (place ∷ places) = first_of (tree_of place.1) place.0 (trees_of places)
-  where
-    first_of : Result PathTree WireError → Path → Result (List Assignment) WireError → Result (List Assignment) WireError
-    first_of (Err e) path rest = Err e
-    first_of (Ok tree) path rest = made rest (λ entries. (path, tree) ∷ entries)
+trees_of (place ∷ places) = in_front place.0 (tree_of place.1) (trees_of places)

@@ -4,4 +4,7 @@ pub mod Fields
 pub mod EntryFields
 pub mod QueryFields
 pub mod Server
+pub mod FieldData
+pub mod ServerData
+pub mod ReadBack
 pub mod inside

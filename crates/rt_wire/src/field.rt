@@ -18,7 +18,7 @@ const MAX_NUMBER: u64 = 9007199254740991;
 const MAX_REASON: usize = 65536;
 
 // The JSON value of a text.
-pub(crate) fn json(alloc: Global, text: &str) -> Result<Value, WireError>
+pub(crate) fn json_value(alloc: Global, text: &str) -> Result<Value, WireError>
     ensures ok { IfOk result (λ value. read text.now ≡ Some (view value)) }
     ensures err { IfErr result (λ e. (e ≡ WireError.NotJson) × (read text.now ≡ None) ⊎ (e ≡ WireError.NoMemory)) }
 {

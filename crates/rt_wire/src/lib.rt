@@ -9,6 +9,7 @@ mod error;
 mod field;
 mod reason;
 mod server;
+mod value;
 
 pub use error::WireError;
 pub use reason::Reason;
