@@ -1,0 +1,5 @@
+pub mod Faults
+pub mod Places
+pub mod FieldsBack
+pub mod EntriesBack
+pub mod ServerBack

@@ -1,0 +1,12 @@
+-- What holds of each message of the server, since the types of its parts keep it.
+use Rattle.std.specs.List.{AllByRecursion}
+use Rattle.rt_wire.specs.declared.server.ServerMessage.{ServerMessage}
+use Rattle.rt_wire.specs.declared.server.ServerMessage.TheVariants.{Data as DataMessage, DataMerge, Accepted, Refused, Revoked}
+use Rattle.rt_wire.specs.inside.Standing.{IsStandingPath, IsStandingTree, IsStanding}
+
+abbrev pub IsStandingMessage : ServerMessage → Type 0
+IsStandingMessage (DataMessage tag path tree) = IsStandingPath path × IsStandingTree tree
+IsStandingMessage (DataMerge tag entries) = AllByRecursion IsStanding entries
+IsStandingMessage (Accepted id) = Unit {0}
+IsStandingMessage (Refused id why) = Unit {0}
+IsStandingMessage (Revoked tag why) = Unit {0}
