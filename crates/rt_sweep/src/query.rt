@@ -77,12 +77,7 @@ fn refused(draft: Draft, error: QueryError) -> Outcome {
     }
 }
 
-fn query(
-    alloc: Global,
-    order: Order,
-    bound: Bound,
-    key: Option<&str>,
-) -> Result<Query, Outcome> {
+fn query(alloc: Global, order: Order, bound: Bound, key: Option<&str>) -> Result<Query, Outcome> {
     let mut draft = ordered(alloc, order)?;
     match set_bound(&mut draft, bound, text(alloc)?, key) {
         Ok(()) => Ok(draft.done()),
