@@ -11,7 +11,7 @@ use Rattle.rt_query.specs.QueryEq.{query_eq}
 use Rattle.rt_query.specs.Supply.{form, does_supply}
 use Rattle.rt_cover.specs.Cover.{Supplies, Supplying, IsFewest, needed}
 use Rattle.rt_tree.specs.TreeEq.{both_first, both_second, both}
-use Rattle.rt_query.proofs.Tests.{query_eq_tells}
+use Rattle.rt_query.specs.laws.QueryEq.{query_eq_tells}
 use Rattle.rt_tree.specs.PathTree.{strip-some}
 use Rattle.rt_cover.proofs.Paths.{rest_of_above, is_at_or_above-trans}
 

@@ -9,11 +9,11 @@ use Rattle.rt_tree.specs.Assignments.{is_at_or_above}
 use Rattle.rt_tree.specs.TreeEq.{both_first, both_second}
 use Rattle.rt_order.specs.declared.index.Index.TheVariants.{Key}
 use Rattle.rt_order.specs.Equality.{index_eq}
-use Rattle.rt_order.specs.EqualityLaws.{index_eq_tells}
+use Rattle.rt_order.specs.laws.Equality.{index_eq_tells}
 use Rattle.rt_query.specs.Queries.{Query, plain, is_filtered}
 use Rattle.rt_query.specs.QueryEq.{query_eq}
 use Rattle.rt_query.specs.Supply.{form, does_supply}
-use Rattle.rt_query.proofs.Tests.{query_eq_tells}
+use Rattle.rt_query.specs.laws.QueryEq.{query_eq_tells}
 use Rattle.rt_cover.specs.Cover.{Registered, forms}
 use Rattle.rt_cover.proofs.Paths.{is_at_or_above-same}
 

@@ -8,7 +8,7 @@ use Rattle.rt_query.specs.Queries.{Query, is_filtered, plain}
 use Rattle.rt_query.specs.QueryEq.{query_eq}
 use Rattle.rt_query.specs.Supply.{form}
 use Rattle.rt_cover.specs.Cover.{IsFewest, needed, distinct, Registered, forms, Tagged, is_kept, started, kept_for}
-use Rattle.rt_query.proofs.Tests.{query_eq_tells}
+use Rattle.rt_query.specs.laws.QueryEq.{query_eq_tells}
 use Rattle.rt_cover.proofs.CoverLaws.{IsForm, Contains-filter, Contains-from_filter, passes-from_filter, needed_fewest, needed_in}
 
 -- ---- lists

@@ -11,7 +11,7 @@ use Rattle.rt_tree.specs.TreeEq.{both}
 use Rattle.rt_query.specs.Queries.{Query, plain, is_filtered}
 use Rattle.rt_query.specs.QueryEq.{query_eq}
 use Rattle.rt_query.specs.Supply.{form, does_supply}
-use Rattle.rt_query.proofs.Tests.{query_eq_tells}
+use Rattle.rt_query.specs.laws.QueryEq.{query_eq_tells}
 use Rattle.rt_cover.specs.declared.kept.Kept.{Kept}
 use Rattle.rt_cover.specs.Cover.{Registered, Supplies, IsFewest, forms, first_listener, needed, Tagged}
 use Rattle.rt_cover.specs.State.{Cover, needed_forms, shown_with, shown}

@@ -11,8 +11,9 @@ use Rattle.rt_order.specs.declared.cut.Place.TheVariants.{Min, Before, After, Ma
 use Rattle.rt_order.specs.KeyOrder.{key_cmp}
 use Rattle.rt_order.specs.Values.{SortValue, value_cmp}
 use Rattle.rt_order.specs.Entries.{Entry, entry_cmp}
-use Rattle.rt_order.specs.Cuts.{mark_value, is_after, is_after_by, BeforeIsNextTo, AfterIsNextTo, AboveStaysAfter, RangesAreRuns}
-use Rattle.rt_order.proofs.Orders.{value_cmp_total, value_cmp-IsAntisymmetric, entry_cmp_total}
+use Rattle.rt_order.specs.Cuts.{mark_value, is_after, is_after_by}
+use Rattle.rt_order.specs.laws.Cuts.{BeforeIsNextTo, AfterIsNextTo, AboveStaysAfter, RangesAreRuns}
+use Rattle.rt_order.specs.laws.EntryOrder.{value_cmp_total, value_cmp-IsAntisymmetric, entry_cmp_total}
 use Rattle.rt_order.specs.declared.cut.Mark.{Mark}
 use Rattle.rt_order.specs.declared.cut.Cut.{Cut}
 use Rattle.rt_order.specs.declared.cut.Place.{Place}

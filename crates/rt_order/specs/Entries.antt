@@ -31,7 +31,3 @@ entry index c = (sort_value index c.1, c.0)
 -- by sort value, then by key
 abbrev pub entry_cmp : Entry → Entry → Ordering
 entry_cmp d e = ordering_then (value_cmp d.0 e.0) (key_cmp d.1 e.1)
-
--- of two objects neither is below the other, so they go by key
-abbrev pub ObjectsGoByKey : Type 0
-ObjectsGoByKey = (j k : tree.Key) → entry_cmp (Object, j) (Object, k) ≡ key_cmp j k

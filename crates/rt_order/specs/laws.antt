@@ -1,2 +1,6 @@
--- Laws that are stated for callers.
+-- Laws that are stated for callers, and outside examples.
+pub mod Cuts
+pub mod EntryOrder
+pub mod Equality
+pub mod Examples
 pub mod KeyOrder

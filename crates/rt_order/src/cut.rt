@@ -14,30 +14,40 @@ use std::cmp::Ordering;
 /// The value of a cut.
 #[derive(Debug, Drop)]
 pub enum Mark {
+    /// That of an absent child, and of every child in key order.
     Null,
+    /// A truth value, a number or a text. No cut has the value of an object.
     Leaf(Leaf),
 }
 
 /// Where a cut lies among the entries of its value: before all, next to a key, or after all.
 #[derive(Debug, Drop)]
 pub enum Place {
+    /// Before all entries of the value.
     Min,
+    /// Just before the entry of that key.
     Before(Key),
+    /// Just after the entry of that key.
     After(Key),
+    /// After all entries of the value.
     Max,
 }
 
 /// A place between entries.
 #[derive(Debug, Drop)]
 pub struct Cut {
+    /// The value among whose entries the cut lies.
     pub value: Mark,
+    /// Where it lies among them.
     pub place: Place,
 }
 
 /// The entries after the lower and before the upper cut. An absent cut bounds nothing.
 #[derive(Debug, Drop)]
 pub struct Range {
+    /// Below the first entry of the range.
     pub lower: Option<Cut>,
+    /// Above the last entry of the range.
     pub upper: Option<Cut>,
 }
 
@@ -157,7 +167,7 @@ impl Range {
 impl PartialEq for Mark {
     ghost use Rattle.std.specs.Cmp as Cmp;
     ghost use Rattle.rt_order.specs.Equality.{mark_eq};
-    ghost use Rattle.rt_order.specs.EqualityLaws.{mark_eq_tells};
+    ghost use Rattle.rt_order.specs.laws.Equality.{mark_eq_tells};
     ghost use Rattle.rt_tree.specs.TreeEq.{equivalence};
 
     ghost eq = { mark_eq };
@@ -174,7 +184,7 @@ impl PartialEq for Mark {
 }
 
 impl Eq for Mark {
-    ghost use Rattle.rt_order.specs.EqualityLaws.{mark_eq_tells};
+    ghost use Rattle.rt_order.specs.laws.Equality.{mark_eq_tells};
     ghost use Rattle.rt_tree.specs.TreeEq.{equivalence};
 
     ghost laws = { equivalence mark_eq_tells };
@@ -183,7 +193,7 @@ impl Eq for Mark {
 impl PartialEq for Place {
     ghost use Rattle.std.specs.Cmp as Cmp;
     ghost use Rattle.rt_order.specs.Equality.{place_eq};
-    ghost use Rattle.rt_order.specs.EqualityLaws.{place_eq_tells};
+    ghost use Rattle.rt_order.specs.laws.Equality.{place_eq_tells};
     ghost use Rattle.rt_tree.specs.TreeEq.{equivalence};
 
     ghost eq = { place_eq };
@@ -201,7 +211,7 @@ impl PartialEq for Place {
 }
 
 impl Eq for Place {
-    ghost use Rattle.rt_order.specs.EqualityLaws.{place_eq_tells};
+    ghost use Rattle.rt_order.specs.laws.Equality.{place_eq_tells};
     ghost use Rattle.rt_tree.specs.TreeEq.{equivalence};
 
     ghost laws = { equivalence place_eq_tells };
@@ -210,7 +220,7 @@ impl Eq for Place {
 impl PartialEq for Cut {
     ghost use Rattle.std.specs.Cmp as Cmp;
     ghost use Rattle.rt_order.specs.Equality.{cut_eq};
-    ghost use Rattle.rt_order.specs.EqualityLaws.{cut_eq_tells};
+    ghost use Rattle.rt_order.specs.laws.Equality.{cut_eq_tells};
     ghost use Rattle.rt_tree.specs.TreeEq.{equivalence};
 
     ghost eq = { cut_eq };
@@ -223,7 +233,7 @@ impl PartialEq for Cut {
 }
 
 impl Eq for Cut {
-    ghost use Rattle.rt_order.specs.EqualityLaws.{cut_eq_tells};
+    ghost use Rattle.rt_order.specs.laws.Equality.{cut_eq_tells};
     ghost use Rattle.rt_tree.specs.TreeEq.{equivalence};
 
     ghost laws = { equivalence cut_eq_tells };
@@ -232,7 +242,7 @@ impl Eq for Cut {
 impl PartialEq for Range {
     ghost use Rattle.std.specs.Cmp as Cmp;
     ghost use Rattle.rt_order.specs.Equality.{range_eq};
-    ghost use Rattle.rt_order.specs.EqualityLaws.{range_eq_tells};
+    ghost use Rattle.rt_order.specs.laws.Equality.{range_eq_tells};
     ghost use Rattle.rt_tree.specs.TreeEq.{equivalence};
 
     ghost eq = { range_eq };
@@ -245,7 +255,7 @@ impl PartialEq for Range {
 }
 
 impl Eq for Range {
-    ghost use Rattle.rt_order.specs.EqualityLaws.{range_eq_tells};
+    ghost use Rattle.rt_order.specs.laws.Equality.{range_eq_tells};
     ghost use Rattle.rt_tree.specs.TreeEq.{equivalence};
 
     ghost laws = { equivalence range_eq_tells };

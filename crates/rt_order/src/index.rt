@@ -9,11 +9,14 @@ use rt_tree::{Key, Path, Tree};
 use std::alloc::{AllocError, Global};
 use std::cmp::Ordering;
 
-/// What the children of a path are ordered by: their keys, the values at a path below each, or their own values.
+/// What the children of a path are ordered by.
 #[derive(Debug, Drop)]
 pub enum Index {
+    /// Their keys (`orderByKey` of the Firebase reference).
     Key,
+    /// The values at a path below each (`orderByChild`).
     Child(Path),
+    /// Their own values (`orderByValue`).
     Value,
 }
 
@@ -33,7 +36,7 @@ impl Index {
 impl PartialEq for Index {
     ghost use Rattle.std.specs.Cmp as Cmp;
     ghost use Rattle.rt_order.specs.Equality.{index_eq};
-    ghost use Rattle.rt_order.specs.EqualityLaws.{index_eq_tells};
+    ghost use Rattle.rt_order.specs.laws.Equality.{index_eq_tells};
     ghost use Rattle.rt_tree.specs.TreeEq.{equivalence};
 
     ghost eq = { index_eq };
@@ -50,13 +53,14 @@ impl PartialEq for Index {
 }
 
 impl Eq for Index {
-    ghost use Rattle.rt_order.specs.EqualityLaws.{index_eq_tells};
+    ghost use Rattle.rt_order.specs.laws.Equality.{index_eq_tells};
     ghost use Rattle.rt_tree.specs.TreeEq.{equivalence};
 
     ghost laws = { equivalence index_eq_tells };
 }
 
-/// What a child is sorted by: null in key order, its own value in value order, the value at the path in child order.
+/// What a child is sorted by: null in key order, its own value in value order, the value at the
+/// path in child order.
 pub fn sort_value<'a>(index: &Index, tree: &'a Tree) -> SortRef<'a>
     ensures { value_of result ≡ sort_value index.now tree.now }
 {

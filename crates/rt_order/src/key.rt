@@ -9,7 +9,8 @@ use std::cmp::Ordering;
 // The numbers of integer keys.
 pub(crate) type Number = i32;
 
-// The number of an integer key. A key may have many leading zeros, and a plus is no part of a number.
+// The number of an integer key. A key may have many leading zeros, and a plus is no part of a
+// number.
 pub(crate) fn integer_of(key: &Key) -> Option<Number>
     ensures { result ≡ integer_of key.now }
 {
@@ -39,11 +40,13 @@ pub(crate) fn key_cmp_by(m: Option<Number>, n: Option<Number>, a: &Key, b: &Key)
     }
 }
 
-/// The order of keys of the Firebase Realtime Database: integer keys come first, by number, and the others follow.
+/// The order of keys of the Firebase Realtime Database: integer keys come first, by number, and the
+/// others follow.
 ///
-/// An integer key is an optional minus and one or more digits whose number is an `i32`. Ties of integer keys go by
-/// length, then by bytes; other keys go by bytes. Both keys are read as integers: where one key is compared to many,
-/// read it once, as [`PlacedKey`](crate::PlacedKey) or [`PlacedRef`](crate::PlacedRef).
+/// An integer key is an optional minus and one or more digits whose number is an `i32`. Ties of
+/// integer keys go by length, then by bytes; other keys go by bytes. Both keys are read as integers:
+/// where one key is compared to many, read it once, as [`PlacedKey`](crate::PlacedKey) or
+/// [`PlacedRef`](crate::PlacedRef).
 pub fn key_cmp(a: &Key, b: &Key) -> Ordering
     ensures { result ≡ key_cmp a.now b.now }
 {

@@ -5,8 +5,9 @@ ghost use Rattle.rt_tree.specs.TreeEq.{Tells};
 ghost use Rattle.rt_order.specs.Equality.{index_eq, cut_eq, mark_eq, place_eq, range_eq};
 ghost use Rattle.rt_order.specs.KeyOrder.{key_cmp};
 ghost use Rattle.rt_order.specs.Values.{value_cmp};
-ghost use Rattle.rt_order.specs.Entries.{entry_cmp, ObjectsGoByKey};
-ghost use Rattle.rt_order.specs.Cuts.{AboveStaysAfter, AfterIsNextTo, BeforeIsNextTo, RangesAreRuns};
+ghost use Rattle.rt_order.specs.Entries.{entry_cmp};
+ghost use Rattle.rt_order.specs.laws.EntryOrder.{ObjectsGoByKey};
+ghost use Rattle.rt_order.specs.laws.Cuts.{AboveStaysAfter, AfterIsNextTo, BeforeIsNextTo, RangesAreRuns};
 
 /// The order of keys is total, and only equal keys are equal in it.
 pub fn key_laws()
@@ -23,7 +24,8 @@ pub fn entry_laws()
     ensures objects { ObjectsGoByKey }
 {}
 
-/// A cut next to a key stands next to the entry of its value and that key; a range is a run of entries.
+/// A cut next to a key stands next to the entry of its value and that key; a range is a run of
+/// entries.
 pub fn cut_laws()
     ensures before { BeforeIsNextTo }
     ensures after { AfterIsNextTo }

@@ -1,4 +1,13 @@
 //! The orders of keys, values and entries, and the ranges between two cuts.
+//!
+//! The children of a path are ordered by an [`Index`]; a [`Range`] holds those between two places:
+//!
+//! ```text
+//! let five = Mark::Leaf(Leaf::number(5)?);
+//! let lower = Some(Cut { value: five, place: Place::Max });
+//! let above_five = Range { lower, upper: None };
+//! if above_five.has(&Index::Value, &key, &tree) { .. }
+//! ```
 #![tactic(auto)]
 
 mod cut;

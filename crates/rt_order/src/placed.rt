@@ -14,10 +14,12 @@ use std::alloc::AllocError;
 use std::cmp::Ordering;
 use std::marker::Model;
 
-/// A key whose place among other keys is known: whether it is an integer key, and of which number, is read once.
+/// A key whose place among other keys is known: whether it is an integer key, and of which number,
+/// is read once.
 ///
-/// It is ordered as [`key_cmp`](crate::key_cmp) orders keys, so it keys a map in the order of keys. A search that
-/// has the key but borrowed takes a [`PlacedRef`], or a `PlacedKey` of a copy, which shares the text.
+/// It is ordered as [`key_cmp`](crate::key_cmp) orders keys, so it keys a map in the order of keys. A
+/// search that has the key but borrowed takes a [`PlacedRef`], or a `PlacedKey` of a copy, which
+/// shares the text.
 #[derive(Debug, Drop)]
 pub struct PlacedKey {
     key: Key,

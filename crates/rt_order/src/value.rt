@@ -8,10 +8,13 @@ use rt_tree::{Leaf, LeafRef, Tree};
 use std::cmp::Ordering;
 
 /// What a value is sorted by. Of an object only that it is one: two objects are equal here.
-#[derive(Clone, Copy, Debug)]
+#[derive(Clone, Copy, Debug, PartialEq)]
 pub enum SortRef<'a> {
+    /// Nothing stands there, or the order is that of keys.
     Null,
+    /// The leaf that stands there.
     Leaf(&'a Leaf),
+    /// An object, whatever its children.
     Object,
 }
 

@@ -5,7 +5,7 @@ use Rattle.rt_tree.specs.PathTree.{Key, PathTree, key_eq, key_eq-is, leaf_at, le
 use Rattle.rt_query.specs.declared.row.Row.{Row}
 use Rattle.rt_query.specs.Rows.{HasDistinctKeys, HasNoNull, row_at}
 use Rattle.rt_query.specs.Select.{as_children}
-use Rattle.rt_query.proofs.SelectLaws.{row_at-cons}
+use Rattle.rt_query.specs.laws.Select.{row_at-cons}
 use Rattle.rt_query.proofs.ShownLaws.{child_of-as_children, row_at-full}
 
 -- what rows are left and which children are made of the others

@@ -14,16 +14,16 @@ use Rattle.rt_tree.proofs.Trees.{children_of-none}
 use Rattle.rt_order.specs.declared.index.Index.{Index}
 use Rattle.rt_order.specs.Entries.{Entry, entry, entry_cmp}
 use Rattle.rt_order.specs.Cuts.{has}
-use Rattle.rt_order.proofs.Orders.{entry_cmp-IsAntisymmetric}
+use Rattle.rt_order.specs.laws.EntryOrder.{entry_cmp-IsAntisymmetric}
 use Rattle.rt_query.specs.declared.limit.Limit.{Limit}
 use Rattle.rt_query.specs.declared.limit.Limit.TheVariants.{First, Last}
 use Rattle.rt_query.specs.declared.row.Row.{Row}
 use Rattle.rt_query.specs.Queries.{Query, is_filtered}
 use Rattle.rt_query.specs.Rows.{HasNoNull, row_at}
 use Rattle.rt_query.specs.Select.{sorted_by, limited, row_of, rows_of, as_children, tree_by}
-use Rattle.rt_query.specs.ShownView.{IsShown}
-use Rattle.rt_query.specs.Sorting.{child_row}
-use Rattle.rt_query.proofs.SelectLaws.{row_at-cons, select-distinct, select-whole}
+use Rattle.rt_query.specs.inside.ShownView.{IsShown}
+use Rattle.rt_query.specs.inside.Sorting.{child_row}
+use Rattle.rt_query.specs.laws.Select.{row_at-cons, select-distinct, select-whole}
 use Rattle.rt_query.proofs.ShownLaws.{child_of-as_children}
 
 -- ---- what holds of each element

@@ -8,8 +8,8 @@ use Rattle.rt_tree.specs.Children.{children_of, child_of-children_of}
 use Rattle.rt_query.specs.declared.row.Row.{Row}
 use Rattle.rt_query.specs.Rows.{HasNoNull, row_at}
 use Rattle.rt_query.specs.Select.{as_children, tree_by}
-use Rattle.rt_query.specs.ShownView.{IsShown}
-use Rattle.rt_query.proofs.SelectLaws.{row_at-cons}
+use Rattle.rt_query.specs.inside.ShownView.{IsShown}
+use Rattle.rt_query.specs.laws.Select.{row_at-cons}
 
 -- the rows as children have the same values
 pub child_of-as_children : (rows : List Row) (k : Key) → child_of (as_children rows) k ≡ row_at rows k

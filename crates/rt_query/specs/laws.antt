@@ -1,4 +1,6 @@
--- Laws that are stated for callers.
+-- Laws that are stated for callers, and outside examples.
 pub mod Bounding
+pub mod Examples
+pub mod QueryEq
 pub mod Rows
-pub mod Views
+pub mod Select

@@ -4,7 +4,7 @@ ghost use Rattle.std.specs.List.Sorted.{IsPermutation, IsSorted};
 ghost use Rattle.rt_order.specs.Cuts.{has};
 ghost use Rattle.rt_order.specs.Entries.{entry};
 ghost use Rattle.rt_query.specs.Select.{row_of};
-ghost use Rattle.rt_query.specs.Sorting.{seen, child_cmp};
+ghost use Rattle.rt_query.specs.inside.Sorting.{seen, child_cmp};
 
 use crate::row::Row;
 use rt_order::{Index, PlacedRef, Range, SortRef, sort_value, value_cmp};
@@ -39,7 +39,7 @@ impl<'a> Child<'a> {
 }
 
 // The order of children: by sort value, then by key.
-#[tactic(auto, unfolding(crate::specs::Sorting::child_cmp))]
+#[tactic(auto, unfolding(crate::specs::inside::Sorting::child_cmp))]
 fn child_cmp(a: &Child<'_>, b: &Child<'_>) -> Ordering
     ensures { result ≡ child_cmp a.now b.now }
 {

@@ -15,13 +15,15 @@ use rt_order::{Index, Mark, Range};
 use rt_tree::Path;
 use std::marker::Model;
 
-/// A query that is being made: `Query::at` begins one, its calls say what is asked for, and `done` ends it.
+/// A query that is being made: `Query::at` begins one, its calls say what is asked for, and `done`
+/// ends it.
 ///
-/// An order is named before a bound. A start is set by `start_at`, `start_after` or `equal_to`, an end by `end_at`,
-/// `end_before` or `equal_to`, each once; and so is a limit. A refused call changes nothing.
+/// An order is named before a bound. A start is set by `start_at`, `start_after` or `equal_to`, an end
+/// by `end_at`, `end_before` or `equal_to`, each once; and so is a limit. A refused call changes
+/// nothing.
 ///
-/// A bound names a value, and perhaps a key among the children of that value. In key order it is given a text and no key,
-/// and names the child of that key.
+/// A bound names a value, and perhaps a key among the children of that value. In key order it is
+/// given a text and no key, and names the child of that key.
 #[derive(Debug, Drop)]
 pub struct Draft {
     path: Path,
@@ -55,7 +57,10 @@ impl Draft {
         }
     }
 
-    /// In the order of the children's keys. `OrderTwice` where an order is named already.
+    /// In the order of the children's keys.
+    ///
+    /// # Errors
+    /// `OrderTwice` where an order is named already.
     pub fn order_by_key(&mut self) -> Result<(), QueryError>
         ensures made { OnOk result (self.new ≡ ordered_by index.Key self.old) }
         ensures refused { result_err result ≡ order_refusal self.old }
@@ -64,8 +69,11 @@ impl Draft {
         self.order_by(Index::Key)
     }
 
-    /// In the order of what stands at a path below each child; of a child's own value at the root path. `OrderTwice` where
-    /// an order is named already.
+    /// In the order of what stands at a path below each child; of a child's own value at the root
+    /// path.
+    ///
+    /// # Errors
+    /// `OrderTwice` where an order is named already.
     pub fn order_by_child(&mut self, path: Path) -> Result<(), QueryError>
         ensures made { OnOk result (self.new ≡ ordered_by (index.Child path) self.old) }
         ensures refused { result_err result ≡ order_refusal self.old }
@@ -74,7 +82,10 @@ impl Draft {
         self.order_by(Index::Child(path))
     }
 
-    /// In the order of the children's values. `OrderTwice` where an order is named already.
+    /// In the order of the children's values.
+    ///
+    /// # Errors
+    /// `OrderTwice` where an order is named already.
     pub fn order_by_value(&mut self) -> Result<(), QueryError>
         ensures made { OnOk result (self.new ≡ ordered_by index.Value self.old) }
         ensures refused { result_err result ≡ order_refusal self.old }
@@ -97,8 +108,9 @@ impl Draft {
 
     /// From the value on; with a key, from that key among the children of the value on.
     ///
-    /// Refused as NoOrder, StartTwice, NeedsText, KeyNotAllowed or BadBoundKey, looked at in this order. Takes memory where
-    /// a key is named.
+    /// # Errors
+    /// `NoOrder`, `StartTwice`, `NeedsText`, `KeyNotAllowed` or `BadBoundKey`, looked at in this
+    /// order; `NoMemory`, where a key is named.
     pub fn start_at(&mut self, value: Mark, key: Option<&str>) -> Result<(), QueryError>
         ensures made { OnOk result (self.new ≡ bounded_by start_at value (option_copied key.entry) self.old) }
         ensures refused { IfSome (bound_refusal start_at value (option_copied key.entry) self.old) (λ e. result ≡ Err e) }
@@ -111,7 +123,10 @@ impl Draft {
         Ok(())
     }
 
-    /// After the value; with a key, after that key among the children of the value. Refused as [`Draft::start_at`] is.
+    /// After the value; with a key, after that key among the children of the value.
+    ///
+    /// # Errors
+    /// Those of [`Draft::start_at`].
     pub fn start_after(&mut self, value: Mark, key: Option<&str>) -> Result<(), QueryError>
         ensures made { OnOk result (self.new ≡ bounded_by start_after value (option_copied key.entry) self.old) }
         ensures refused { IfSome (bound_refusal start_after value (option_copied key.entry) self.old) (λ e. result ≡ Err e) }
@@ -126,8 +141,9 @@ impl Draft {
 
     /// To the value; with a key, to that key among the children of the value.
     ///
-    /// Refused as NoOrder, EndTwice, NeedsText, KeyNotAllowed or BadBoundKey, looked at in this order. Takes memory where a
-    /// key is named.
+    /// # Errors
+    /// `NoOrder`, `EndTwice`, `NeedsText`, `KeyNotAllowed` or `BadBoundKey`, looked at in this order;
+    /// `NoMemory`, where a key is named.
     pub fn end_at(&mut self, value: Mark, key: Option<&str>) -> Result<(), QueryError>
         ensures made { OnOk result (self.new ≡ bounded_by end_at value (option_copied key.entry) self.old) }
         ensures refused { IfSome (bound_refusal end_at value (option_copied key.entry) self.old) (λ e. result ≡ Err e) }
@@ -140,7 +156,10 @@ impl Draft {
         Ok(())
     }
 
-    /// To before the value; with a key, to before that key among the children of the value. Refused as [`Draft::end_at`] is.
+    /// To before the value; with a key, to before that key among the children of the value.
+    ///
+    /// # Errors
+    /// Those of [`Draft::end_at`].
     pub fn end_before(&mut self, value: Mark, key: Option<&str>) -> Result<(), QueryError>
         ensures made { OnOk result (self.new ≡ bounded_by end_before value (option_copied key.entry) self.old) }
         ensures refused { IfSome (bound_refusal end_before value (option_copied key.entry) self.old) (λ e. result ≡ Err e) }
@@ -155,7 +174,9 @@ impl Draft {
 
     /// The children of the value alone; with a key, of these the one of that key. Sets the start and the end.
     ///
-    /// Refused as NoOrder, StartTwice, EndTwice, NeedsText, KeyNotAllowed or BadBoundKey, looked at in this order.
+    /// # Errors
+    /// `NoOrder`, `StartTwice`, `EndTwice`, `NeedsText`, `KeyNotAllowed` or `BadBoundKey`, looked at in
+    /// this order; `NoMemory`, where a key is named or the value is a text, which stands in both cuts.
     pub fn equal_to(&mut self, value: Mark, key: Option<&str>) -> Result<(), QueryError>
         ensures made { OnOk result (self.new ≡ bounded_by equal_to value (option_copied key.entry) self.old) }
         ensures refused { IfSome (bound_refusal equal_to value (option_copied key.entry) self.old) (λ e. result ≡ Err e) }
@@ -180,7 +201,10 @@ impl Draft {
         Ok(())
     }
 
-    /// At most the first `n` children. `LimitTwice` where there is a limit already, then `LimitZero` for 0.
+    /// At most the first `n` children.
+    ///
+    /// # Errors
+    /// `LimitTwice` where there is a limit already, then `LimitZero` for 0.
     pub fn limit_to_first(&mut self, n: u32) -> Result<(), QueryError>
         ensures made { OnOk result (self.new ≡ limited_to (First n) self.old) }
         ensures refused { result_err result ≡ limit_refusal n self.old }
@@ -191,7 +215,10 @@ impl Draft {
         Ok(())
     }
 
-    /// At most the last `n` children, in the same order. Refused as [`Draft::limit_to_first`] is.
+    /// At most the last `n` children, in the same order.
+    ///
+    /// # Errors
+    /// Those of [`Draft::limit_to_first`].
     pub fn limit_to_last(&mut self, n: u32) -> Result<(), QueryError>
         ensures made { OnOk result (self.new ≡ limited_to (Last n) self.old) }
         ensures refused { result_err result ≡ limit_refusal n self.old }

@@ -8,7 +8,8 @@ ghost use Rattle.rt_query.specs.laws.Bounding.{
   Equals,
   ComparesKeys,
 };
-ghost use Rattle.rt_query.specs.laws.Views.{SelectHasKeysOnce, UnfilteredShowsAll, EqualityTells};
+ghost use Rattle.rt_query.specs.laws.Select.{SelectHasKeysOnce, UnfilteredShowsAll};
+ghost use Rattle.rt_query.specs.laws.QueryEq.{EqualityTells};
 
 /// What a query shows: each key once, and where the query is not filtered the whole tree.
 pub fn select_laws()
@@ -16,7 +17,8 @@ pub fn select_laws()
     ensures whole { UnfilteredShowsAll }
 {}
 
-/// The rows that a query shows: they rise in its order, lie in its range, and are no more than its limit.
+/// The rows that a query shows: they rise in its order, lie in its range, and are no more than its
+/// limit.
 pub fn row_laws()
     ensures rise { RowsRise }
     ensures in_range { RowsLieInRange }

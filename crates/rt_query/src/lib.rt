@@ -1,4 +1,15 @@
-//! Queries: a path, an order, a range and a limit; what a query shows of a tree; and which query's listen supplies which.
+//! Queries: a path, an order, a range and a limit; what a query shows of a tree; and which query's
+//! listen supplies which.
+//!
+//! The three children of `/scores` whose value is highest:
+//!
+//! ```text
+//! let mut draft = Query::at(Path::parse(alloc, "/scores")?);
+//! draft.order_by_value()?;
+//! draft.limit_to_last(3)?;
+//! let highest = draft.done();
+//! for row in highest.select(&scores)?.rows() { .. }
+//! ```
 #![tactic(auto)]
 
 mod bound;

@@ -2,10 +2,12 @@
 ghost use Rattle.std.specs.Prelude.{◌≡◌};
 ghost use Rattle.rt_query.specs.Select.{limited};
 
-/// How many rows are shown at most, from the first or from the last on (`limitToFirst` and `limitToLast` of the Firebase reference).
+/// How many rows are shown at most. Of a query's limit the number is at least 1.
 #[derive(Clone, Copy, Debug, PartialEq, Eq)]
 pub enum Limit {
+    /// The first rows (`limitToFirst` of the Firebase reference).
     First(u32),
+    /// The last rows, in the same order (`limitToLast`).
     Last(u32),
 }
 

@@ -6,7 +6,7 @@ ghost use Rattle.rt_tree.specs.Children.{children_of};
 ghost use Rattle.rt_query.specs.Queries.{IsQuery, is_filtered};
 ghost use Rattle.rt_query.specs.Drafts.{new_draft};
 ghost use Rattle.rt_query.specs.Select.{select, rows_of};
-ghost use Rattle.rt_query.specs.Sorting.{in_range, seen};
+ghost use Rattle.rt_query.specs.inside.Sorting.{in_range, seen};
 ghost use Rattle.rt_query.specs.Supply.{form};
 
 use crate::child::{self, Child};
@@ -20,7 +20,8 @@ use std::alloc::{AllocError, Global};
 use std::collections::BTreeMap;
 use std::marker::Model;
 
-/// What a listener asks for: the children of a path in an order, of these a range, and of that a limited number.
+/// What a listener asks for: the children of a path in an order, of these a range, and of that a
+/// limited number.
 #[derive(Debug, Drop)]
 pub struct Query {
     pub(crate) path: Path,
@@ -100,7 +101,8 @@ impl Query {
         })
     }
 
-    /// What is listened to for this query: an unfiltered query is listened to as the plain query of its path.
+    /// What is listened to for this query: an unfiltered query is listened to as the plain query of
+    /// its path.
     pub fn listening_form(&self) -> Result<Query, AllocError>
         ensures { IfOk result (λ query. query ≡ form self.now) }
     {
@@ -111,11 +113,12 @@ impl Query {
         }
     }
 
-    /// What the query shows of a tree, as the Firebase reference has it: the children in the range, in order, and of these the
-    /// first or the last n. Of a leaf it shows no rows, and the leaf itself only where the query is not filtered.
+    /// What the query shows of a tree, as the Firebase reference has it: the children in the range,
+    /// in order, and of these the first or the last n. Of a leaf it shows no rows, and the leaf itself
+    /// only where the query is not filtered.
     ///
-    /// The tree's children are shared. Each is looked at once, those in the range are sorted once where they stand, and rows
-    /// are made only of those that are shown.
+    /// The tree's children are shared. Each is looked at once, its key read as a number once; those
+    /// in the range are sorted once where they stand, and rows are made only of those that are shown.
     pub fn select(&self, tree: &Tree) -> Result<Shown, AllocError>
         ensures { IfOk result (λ shown. shown ≡ select self.now tree.now) }
     {
@@ -165,7 +168,7 @@ impl Query {
 impl PartialEq for Query {
     ghost use Rattle.std.specs.Cmp as Cmp;
     ghost use Rattle.rt_query.specs.QueryEq.{query_eq};
-    ghost use Rattle.rt_query.specs.QueryEqLaws.{query_eq_tells};
+    ghost use Rattle.rt_query.specs.laws.QueryEq.{query_eq_tells};
     ghost use Rattle.rt_tree.specs.TreeEq.{equivalence};
 
     ghost eq = { query_eq };
@@ -181,7 +184,7 @@ impl PartialEq for Query {
 }
 
 impl Eq for Query {
-    ghost use Rattle.rt_query.specs.QueryEqLaws.{query_eq_tells};
+    ghost use Rattle.rt_query.specs.laws.QueryEq.{query_eq_tells};
     ghost use Rattle.rt_tree.specs.TreeEq.{equivalence};
 
     ghost laws = { equivalence query_eq_tells };

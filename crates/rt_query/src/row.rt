@@ -13,7 +13,9 @@ use std::collections::BTreeMap;
 /// A child and its key, as a query shows them.
 #[derive(Debug, Drop)]
 pub struct Row {
+    /// The child's key.
     pub key: Key,
+    /// What stands at the child.
     pub value: Tree,
 }
 
@@ -31,7 +33,7 @@ impl Row {
 impl PartialEq for Row {
     ghost use Rattle.std.specs.Cmp as Cmp;
     ghost use Rattle.rt_query.specs.QueryEq.{row_eq};
-    ghost use Rattle.rt_query.specs.QueryEqLaws.{row_eq_tells};
+    ghost use Rattle.rt_query.specs.laws.QueryEq.{row_eq_tells};
     ghost use Rattle.rt_tree.specs.TreeEq.{equivalence};
 
     ghost eq = { row_eq };
@@ -44,7 +46,7 @@ impl PartialEq for Row {
 }
 
 impl Eq for Row {
-    ghost use Rattle.rt_query.specs.QueryEqLaws.{row_eq_tells};
+    ghost use Rattle.rt_query.specs.laws.QueryEq.{row_eq_tells};
     ghost use Rattle.rt_tree.specs.TreeEq.{equivalence};
 
     ghost laws = { equivalence row_eq_tells };

@@ -3,14 +3,15 @@ ghost use Rattle.std.specs.Prelude.{◌≡◌, [], IfOk, OnSome};
 ghost use Rattle.std.specs.Option.{option_copied};
 ghost use Rattle.rt_query.specs.Select.{tree_of};
 ghost use Rattle.rt_query.specs.Rows.{HasDistinctKeys, HasNoNull, row_at};
-ghost use Rattle.rt_query.specs.ShownView.{IsShown};
+ghost use Rattle.rt_query.specs.inside.ShownView.{IsShown};
 
 use crate::row::{Row, copy_rows};
 use rt_tree::{Key, Leaf, Tree};
 use std::alloc::AllocError;
 use std::marker::Model;
 
-/// What a query shows of a tree: a leaf, or rows in the query's order; neither, where there is nothing to show.
+/// What a query shows of a tree: a leaf, or rows in the query's order; neither, where there is
+/// nothing to show.
 #[derive(Debug, Drop)]
 pub struct Shown {
     leaf: Option<Leaf>,
@@ -20,7 +21,7 @@ pub struct Shown {
 
 impl Model for Shown {
     ghost use Rattle.rt_query.specs.Select.{Shown};
-    ghost use Rattle.rt_query.specs.ShownView.{IsShown};
+    ghost use Rattle.rt_query.specs.inside.ShownView.{IsShown};
 
     ghost Value = { Shown };
 
@@ -90,7 +91,7 @@ impl Shown {
 impl PartialEq for Shown {
     ghost use Rattle.std.specs.Cmp as Cmp;
     ghost use Rattle.rt_query.specs.QueryEq.{shown_eq};
-    ghost use Rattle.rt_query.specs.QueryEqLaws.{shown_eq_tells};
+    ghost use Rattle.rt_query.specs.laws.QueryEq.{shown_eq_tells};
     ghost use Rattle.rt_tree.specs.TreeEq.{equivalence};
 
     ghost eq = { shown_eq };
@@ -103,7 +104,7 @@ impl PartialEq for Shown {
 }
 
 impl Eq for Shown {
-    ghost use Rattle.rt_query.specs.QueryEqLaws.{shown_eq_tells};
+    ghost use Rattle.rt_query.specs.laws.QueryEq.{shown_eq_tells};
     ghost use Rattle.rt_tree.specs.TreeEq.{equivalence};
 
     ghost laws = { equivalence shown_eq_tells };

@@ -12,7 +12,7 @@ use Rattle.rt_tree.specs.Parts.{sub-sub}
 use Rattle.rt_tree.specs.Allowed.{IsAllowed, MayStandAt, may_stand_below, allowed-sub}
 use Rattle.rt_tree.proofs.Trees.{sub-root, sub-object, sub-of_leaf, sub-null}
 use Rattle.rt_order.specs.KeyOrder.{key_cmp}
-use Rattle.rt_order.proofs.Orders.{key_cmp_total}
+use Rattle.rt_order.specs.laws.KeyOrder.{key_cmp_total}
 use Rattle.rt_store.specs.Rows.{Row, from_key, from_path}
 use Rattle.rt_store.specs.Stored.{Stored, onward, some_row}
 use Rattle.rt_store.specs.StoreView.{stored, IsStore}

@@ -8,7 +8,9 @@
 #![tactic(auto)]
 
 mod cover;
+mod order;
 mod outcome;
+mod query;
 mod store;
 mod sync;
 mod tree;
@@ -24,6 +26,8 @@ fn run(alloc: Global, name: &str) -> Option<Outcome> {
     match name {
         "core" => Some(sync::run(alloc)),
         "cover" => Some(cover::run(alloc)),
+        "order" => Some(order::run(alloc)),
+        "query" => Some(query::run(alloc)),
         "store" => Some(store::run(alloc)),
         "tree" => Some(tree::run(alloc)),
         "writes" => Some(writes::run(alloc)),

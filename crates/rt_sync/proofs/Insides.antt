@@ -6,7 +6,7 @@ use Rattle.rt_tree.specs.Assignments.{is_at_or_above}
 use Rattle.rt_query.specs.Queries.{Query, is_filtered}
 use Rattle.rt_query.specs.Select.{select}
 use Rattle.rt_query.specs.Rows.{HasDistinctKeys}
-use Rattle.rt_query.proofs.SelectLaws.{select-distinct}
+use Rattle.rt_query.specs.laws.Select.{select-distinct}
 use Rattle.rt_view.proofs.TurnLaws.{changes-same}
 use Rattle.rt_writes.specs.Writes.{overlaid, overlay}
 use Rattle.rt_cache.specs.Brought.{base}

@@ -19,7 +19,7 @@ use Rattle.rt_sync.specs.Steps.{listeners_after, brought_after, requests_after, 
 use Rattle.rt_sync.specs.Answers.{step_by, Answer, batch_note, batch_from, view_before, done_report, stale_report}
 use Rattle.rt_sync.specs.Headline.{view_by, changes_in, changes_told, IsUpToDate}
 use Rattle.rt_sync.specs.inside.Sound.{Rises, IsSound}
-use Rattle.rt_query.proofs.SelectLaws.{select-distinct}
+use Rattle.rt_query.specs.laws.Select.{select-distinct}
 use Rattle.rt_view.proofs.TurnLaws.{turns, turns_not, changes-same}
 use Rattle.rt_sync.proofs.Listeners.{same_number, or_false_left, or_false_right, has_number, has_number-there, has_number-renewed, not_above, not_bound, view_before-there, view_before-none, Rises-push, Rises-renewed, below-push, primed_view}
 

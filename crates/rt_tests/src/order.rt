@@ -163,8 +163,14 @@ fn child_order_by_rank(rt: HostRuntime) -> Result<(), Fail> {
 
 #[test]
 fn value_and_key_order(rt: HostRuntime) -> Result<(), Fail> {
-    assert_eq!(rt; sorted_children(rt.alloc(), &Index::Value)?.as_str(), "gabcdef");
-    assert_eq!(rt; sorted_children(rt.alloc(), &Index::Key)?.as_str(), "abcdefg");
+    assert_eq!(rt;
+        sorted_children(rt.alloc(), &Index::Value)?.as_str(),
+        "gabcdef"
+    );
+    assert_eq!(rt;
+        sorted_children(rt.alloc(), &Index::Key)?.as_str(),
+        "abcdefg"
+    );
     Ok(())
 }
 
@@ -188,15 +194,24 @@ fn ranks(alloc: Global, index: &Index) -> Result<String, TreeError> {
 
 #[test]
 fn small_calls_sort_values(rt: HostRuntime) -> Result<(), Fail> {
-    assert_eq!(rt; ranks(rt.alloc(), &Index::Key)?.as_str(), "null null null null ");
-    assert_eq!(rt; ranks(rt.alloc(), &Index::Value)?.as_str(), "null leaf object object ");
+    assert_eq!(rt;
+        ranks(rt.alloc(), &Index::Key)?.as_str(),
+        "null null null null "
+    );
+    assert_eq!(rt;
+        ranks(rt.alloc(), &Index::Value)?.as_str(),
+        "null leaf object object "
+    );
     Ok(())
 }
 
 #[test]
 fn small_calls_sort_values_by_child(rt: HostRuntime) -> Result<(), Fail> {
     let index = Index::Child(Path::parse(rt.alloc(), "v")?);
-    assert_eq!(rt; ranks(rt.alloc(), &index)?.as_str(), "null null leaf object ");
+    assert_eq!(rt;
+        ranks(rt.alloc(), &index)?.as_str(),
+        "null null leaf object "
+    );
     Ok(())
 }
 
@@ -310,7 +325,10 @@ fn fives_in_bounds(alloc: Global) -> Result<String, TreeError> {
 
 #[test]
 fn value_bounds(rt: HostRuntime) -> Result<(), Fail> {
-    assert_eq!(rt; fives_in_bounds(rt.alloc())?.as_str(), "jklm jklm  klm lm jk j k ");
+    assert_eq!(rt;
+        fives_in_bounds(rt.alloc())?.as_str(),
+        "jklm jklm  klm lm jk j k "
+    );
     Ok(())
 }
 
@@ -391,7 +409,10 @@ fn index_text(alloc: Global, index: &Index) -> Result<String, AllocError> {
 #[test]
 fn copies_of_indexes(rt: HostRuntime) -> Result<(), Fail> {
     assert_eq!(rt; index_copy_text(rt.alloc(), &Index::Key)?.as_str(), "Key");
-    assert_eq!(rt; index_copy_text(rt.alloc(), &Index::Value)?.as_str(), "Value");
+    assert_eq!(rt;
+        index_copy_text(rt.alloc(), &Index::Value)?.as_str(),
+        "Value"
+    );
     Ok(())
 }
 
@@ -399,7 +420,10 @@ fn copies_of_indexes(rt: HostRuntime) -> Result<(), Fail> {
 fn copies_of_child_indexes(rt: HostRuntime) -> Result<(), Fail> {
     let index = Index::Child(Path::parse(rt.alloc(), "v")?);
     let want = index_text(rt.alloc(), &index)?;
-    assert_eq!(rt; index_copy_text(rt.alloc(), &index)?.as_str(), want.as_str());
+    assert_eq!(rt;
+        index_copy_text(rt.alloc(), &index)?.as_str(),
+        want.as_str()
+    );
     Ok(())
 }
 
@@ -420,7 +444,11 @@ fn equal_ranges(rt: HostRuntime) {
         (At::Nowhere, At::Nowhere, Ok(false)),
     ];
     for (lower, upper, want) in cases {
-        assert_eq!(rt; is_past_k(rt.alloc(), lower, upper), want, "{lower:?} {upper:?}");
+        assert_eq!(rt;
+            is_past_k(rt.alloc(), lower, upper),
+            want,
+            "{lower:?} {upper:?}"
+        );
     }
 }
 

@@ -125,7 +125,10 @@ const MIXED: &str =
 
 #[test]
 fn child_order_by_rank(rt: HostRuntime) -> Result<(), Fail> {
-    assert_eq!(rt; keys_shown(rt.alloc(), &[Call::ByChild], MIXED)?.as_str(), "gfedcba ");
+    assert_eq!(rt;
+        keys_shown(rt.alloc(), &[Call::ByChild], MIXED)?.as_str(),
+        "gfedcba "
+    );
     Ok(())
 }
 
@@ -162,8 +165,14 @@ fn among_fives(alloc: Global, key: Option<&str>) -> Result<String, Fail> {
 
 #[test]
 fn value_bounds(rt: HostRuntime) -> Result<(), Fail> {
-    assert_eq!(rt; among_fives(rt.alloc(), None)?.as_str(), "jklm  jklm  jklm ");
-    assert_eq!(rt; among_fives(rt.alloc(), Some("k"))?.as_str(), "klm lm jk j k ");
+    assert_eq!(rt;
+        among_fives(rt.alloc(), None)?.as_str(),
+        "jklm  jklm  jklm "
+    );
+    assert_eq!(rt;
+        among_fives(rt.alloc(), Some("k"))?.as_str(),
+        "klm lm jk j k "
+    );
     Ok(())
 }
 
@@ -187,12 +196,7 @@ fn key_bounds(rt: HostRuntime) -> Result<(), Fail> {
     Ok(())
 }
 
-const LIMITS: [Call<'static>; 4] = [
-    Call::Last(2),
-    Call::Last(9),
-    Call::First(2),
-    Call::First(9),
-];
+const LIMITS: [Call<'static>; 4] = [Call::Last(2), Call::Last(9), Call::First(2), Call::First(9)];
 
 fn keys_limited(alloc: Global) -> Result<String, Fail> {
     let mut keys = String::new(alloc);
@@ -213,9 +217,13 @@ fn limits(rt: HostRuntime) -> Result<(), Fail> {
 // ---- refusals
 
 const START: Call<'static> = Call::Bound(Bound::StartAt, Word::Number(1), None);
+
 const AFTER: Call<'static> = Call::Bound(Bound::StartAfter, Word::Number(2), None);
+
 const SAME: Call<'static> = Call::Bound(Bound::EqualTo, Word::Number(1), None);
+
 const END: Call<'static> = Call::Bound(Bound::EndAt, Word::Number(2), None);
+
 const BEFORE: Call<'static> = Call::Bound(Bound::EndBefore, Word::Number(2), None);
 
 // Calls, the last of which is refused.
@@ -246,13 +254,43 @@ fn draft_refusals_given_twice(rt: HostRuntime) -> Result<(), Fail> {
 
 // An order, and what a bound is given.
 const NAMINGS: [(Call<'static>, Word<'static>, Option<&str>, Answer); 9] = [
-    (Call::ByKey, Word::Number(5), None, Err(QueryError::NeedsText)),
+    (
+        Call::ByKey,
+        Word::Number(5),
+        None,
+        Err(QueryError::NeedsText),
+    ),
     (Call::ByKey, Word::Null, None, Err(QueryError::NeedsText)),
-    (Call::ByKey, Word::Text("a"), Some("k"), Err(QueryError::KeyNotAllowed)),
-    (Call::Last(1), Word::Number(1), None, Err(QueryError::NoOrder)),
-    (Call::ByKey, Word::Text("a.b"), None, Err(QueryError::BadBoundKey)),
-    (Call::ByValue, Word::Number(1), Some("a.b"), Err(QueryError::BadBoundKey)),
-    (Call::ByChild, Word::Number(1), Some(""), Err(QueryError::BadBoundKey)),
+    (
+        Call::ByKey,
+        Word::Text("a"),
+        Some("k"),
+        Err(QueryError::KeyNotAllowed),
+    ),
+    (
+        Call::Last(1),
+        Word::Number(1),
+        None,
+        Err(QueryError::NoOrder),
+    ),
+    (
+        Call::ByKey,
+        Word::Text("a.b"),
+        None,
+        Err(QueryError::BadBoundKey),
+    ),
+    (
+        Call::ByValue,
+        Word::Number(1),
+        Some("a.b"),
+        Err(QueryError::BadBoundKey),
+    ),
+    (
+        Call::ByChild,
+        Word::Number(1),
+        Some(""),
+        Err(QueryError::BadBoundKey),
+    ),
     (Call::ByValue, Word::Null, None, Ok(())),
     (Call::ByChild, Word::Text("a.b"), Some("a"), Ok(())),
 ];
@@ -283,15 +321,60 @@ fn draft_refusals_badly_named(rt: HostRuntime) -> Result<(), Fail> {
 }
 
 const TEXTS: [(QueryError, u8, &str, &str); 10] = [
-    (QueryError::OrderTwice, 1, "OrderTwice", "an order is named already"),
-    (QueryError::StartTwice, 2, "StartTwice", "there is a start already"),
-    (QueryError::EndTwice, 3, "EndTwice", "there is an end already"),
-    (QueryError::LimitTwice, 4, "LimitTwice", "there is a limit already"),
-    (QueryError::LimitZero, 5, "LimitZero", "a limit must be at least 1"),
-    (QueryError::NeedsText, 6, "NeedsText", "in key order a bound must be a text"),
-    (QueryError::KeyNotAllowed, 7, "KeyNotAllowed", "in key order a bound has no key besides"),
-    (QueryError::NoOrder, 8, "NoOrder", "an order must be named before a bound"),
-    (QueryError::BadBoundKey, 9, "BadBoundKey", "the key of a bound is no key"),
+    (
+        QueryError::OrderTwice,
+        1,
+        "OrderTwice",
+        "an order is named already",
+    ),
+    (
+        QueryError::StartTwice,
+        2,
+        "StartTwice",
+        "there is a start already",
+    ),
+    (
+        QueryError::EndTwice,
+        3,
+        "EndTwice",
+        "there is an end already",
+    ),
+    (
+        QueryError::LimitTwice,
+        4,
+        "LimitTwice",
+        "there is a limit already",
+    ),
+    (
+        QueryError::LimitZero,
+        5,
+        "LimitZero",
+        "a limit must be at least 1",
+    ),
+    (
+        QueryError::NeedsText,
+        6,
+        "NeedsText",
+        "in key order a bound must be a text",
+    ),
+    (
+        QueryError::KeyNotAllowed,
+        7,
+        "KeyNotAllowed",
+        "in key order a bound has no key besides",
+    ),
+    (
+        QueryError::NoOrder,
+        8,
+        "NoOrder",
+        "an order must be named before a bound",
+    ),
+    (
+        QueryError::BadBoundKey,
+        9,
+        "BadBoundKey",
+        "the key of a bound is no key",
+    ),
     (QueryError::NoMemory, 10, "NoMemory", "out of memory"),
 ];
 
@@ -322,8 +405,11 @@ fn lack_of_memory_is_an_error(rt: HostRuntime) {
 // ---- queries
 
 const FROM_B: Call<'static> = Call::Bound(Bound::StartAt, Word::Text("b"), None);
+
 const BELOW_Y: Call<'static> = Call::Bound(Bound::EndBefore, Word::Text("y"), None);
+
 const FROM_NULL_K: Call<'static> = Call::Bound(Bound::StartAfter, Word::Null, Some("k"));
+
 const TO_Y_K: Call<'static> = Call::Bound(Bound::EndAt, Word::Text("y"), Some("k"));
 
 // Queries in each order, filtered in each way.
@@ -336,12 +422,7 @@ const FILTERED: [&[Call<'static>]; 6] = [
     &[Call::ByValue, TO_Y_K, Call::Last(1)],
 ];
 
-const UNFILTERED: [&[Call<'static>]; 4] = [
-    &[],
-    &[Call::ByKey],
-    &[Call::ByChild],
-    &[Call::ByValue],
-];
+const UNFILTERED: [&[Call<'static>]; 4] = [&[], &[Call::ByKey], &[Call::ByChild], &[Call::ByValue]];
 
 // What a test makes of a query.
 #[derive(Clone, Copy)]
@@ -369,7 +450,10 @@ fn printed(alloc: Global, calls: &[Call<'_>], what: Made) -> Result<String, Fail
 fn copies_of_filtered_queries(rt: HostRuntime) -> Result<(), Fail> {
     for calls in FILTERED {
         let want = printed(rt.alloc(), calls, Made::Itself)?;
-        assert_eq!(rt; printed(rt.alloc(), calls, Made::Copy)?.as_str(), want.as_str());
+        assert_eq!(rt;
+            printed(rt.alloc(), calls, Made::Copy)?.as_str(),
+            want.as_str()
+        );
     }
     Ok(())
 }
@@ -378,7 +462,10 @@ fn copies_of_filtered_queries(rt: HostRuntime) -> Result<(), Fail> {
 fn copies_of_unfiltered_queries(rt: HostRuntime) -> Result<(), Fail> {
     for calls in UNFILTERED {
         let want = printed(rt.alloc(), calls, Made::Itself)?;
-        assert_eq!(rt; printed(rt.alloc(), calls, Made::Copy)?.as_str(), want.as_str());
+        assert_eq!(rt;
+            printed(rt.alloc(), calls, Made::Copy)?.as_str(),
+            want.as_str()
+        );
     }
     Ok(())
 }
@@ -387,7 +474,10 @@ fn copies_of_unfiltered_queries(rt: HostRuntime) -> Result<(), Fail> {
 fn filtered_queries_are_listened_to_as_they_are(rt: HostRuntime) -> Result<(), Fail> {
     for calls in FILTERED {
         let want = printed(rt.alloc(), calls, Made::Itself)?;
-        assert_eq!(rt; printed(rt.alloc(), calls, Made::Form)?.as_str(), want.as_str());
+        assert_eq!(rt;
+            printed(rt.alloc(), calls, Made::Form)?.as_str(),
+            want.as_str()
+        );
     }
     Ok(())
 }
@@ -396,7 +486,10 @@ fn filtered_queries_are_listened_to_as_they_are(rt: HostRuntime) -> Result<(), F
 fn unfiltered_queries_are_listened_to_as_plain(rt: HostRuntime) -> Result<(), Fail> {
     let plain = printed(rt.alloc(), &[], Made::Itself)?;
     for calls in UNFILTERED {
-        assert_eq!(rt; printed(rt.alloc(), calls, Made::Form)?.as_str(), plain.as_str());
+        assert_eq!(rt;
+            printed(rt.alloc(), calls, Made::Form)?.as_str(),
+            plain.as_str()
+        );
     }
     Ok(())
 }
@@ -418,7 +511,11 @@ fn parts(alloc: Global, query: &Query) -> Result<String, AllocError> {
     let range = query.range();
     let ends = (range.lower.is_some(), range.upper.is_some());
     let filtered = query.is_filtered();
-    format!(in alloc; "{keys} {:?} {ends:?} {:?} {filtered}", query.index(), query.limit())
+    format!(in alloc;
+        "{keys} {:?} {ends:?} {:?} {filtered}",
+        query.index(),
+        query.limit()
+    )
 }
 
 fn parts_of(alloc: Global, calls: &[Call<'_>]) -> Result<String, Fail> {
@@ -429,7 +526,10 @@ fn parts_of(alloc: Global, calls: &[Call<'_>]) -> Result<String, Fail> {
 #[test]
 fn parts_of_queries(rt: HostRuntime) -> Result<(), Fail> {
     let limited = parts_of(rt.alloc(), &[Call::ByValue, START, Call::Last(3)])?;
-    assert_eq!(rt; limited.as_str(), "0 Value (true, false) Some(Last(3)) true");
+    assert_eq!(rt;
+        limited.as_str(),
+        "0 Value (true, false) Some(Last(3)) true"
+    );
     let plain = parts_of(rt.alloc(), &[])?;
     assert_eq!(rt; plain.as_str(), "0 Key (false, false) None false");
     Ok(())

@@ -1,6 +1,6 @@
 use Rattle.std.specs.Prelude.{◌≡◌, map, take}
 use Rattle.rt_query.specs.Select.{row_of}
-use Rattle.rt_query.specs.Sorting.{seen}
+use Rattle.rt_query.specs.inside.Sorting.{seen}
 use Rattle.rt_query.proofs.child.rows.Given as goal
 
 abbrev pub invariant-loop-child : goal.invariant-loop-child

@@ -1,7 +1,7 @@
 use Rattle.std.proofs.Common.{rules}
 use Rattle.std.specs.Ordering.{is_lt}
 use Rattle.std.proofs.lemmas.Fn.{always_returns_same}
-use Rattle.rt_query.specs.Sorting.{child_cmp}
+use Rattle.rt_query.specs.inside.Sorting.{child_cmp}
 use Rattle.rt_query.proofs.SortLaws.{child_cmp_ranks}
 use Rattle.rt_query.proofs.child.sort.Goals as goal
 

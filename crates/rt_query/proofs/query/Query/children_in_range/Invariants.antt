@@ -1,5 +1,5 @@
 use Rattle.std.specs.Prelude.{◌≡◌, ◌++◌, map}
-use Rattle.rt_query.specs.Sorting.{in_range, seen}
+use Rattle.rt_query.specs.inside.Sorting.{in_range, seen}
 use Rattle.rt_query.proofs.query.Query.children_in_range.Given as goal
 
 abbrev pub invariant-loop-key : goal.invariant-loop-key

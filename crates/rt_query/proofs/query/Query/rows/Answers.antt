@@ -4,7 +4,7 @@ use Rattle.std.specs.List.Sorted.{IsPermutation}
 use Rattle.std.proofs.lemmas.List.Sorted.{IsPermutation-map}
 use Rattle.rt_tree.specs.Children.{children_of, children_sorted}
 use Rattle.rt_query.specs.Select.{limited, row_of}
-use Rattle.rt_query.specs.Sorting.{in_range, seen}
+use Rattle.rt_query.specs.inside.Sorting.{in_range, seen}
 use Rattle.rt_query.proofs.SortLaws.{sorted_children, limited-map}
 use Rattle.rt_query.proofs.query.Query.rows.Goals as goal
 

@@ -4,8 +4,8 @@ use Rattle.rt_tree.specs.PathTree.{object, leaf_of}
 use Rattle.rt_tree.specs.Children.{children_of}
 use Rattle.rt_query.specs.Rows.{HasDistinctKeys, HasNoNull}
 use Rattle.rt_query.specs.Select.{as_children, rows_of}
-use Rattle.rt_query.specs.ShownView.{IsShown}
-use Rattle.rt_query.proofs.SelectLaws.{select-distinct}
+use Rattle.rt_query.specs.inside.ShownView.{IsShown}
+use Rattle.rt_query.specs.laws.Select.{select-distinct}
 use Rattle.rt_query.proofs.RowLaws.{full-rows_of, allowed-rows_of, shown_filtered, shown_whole}
 use Rattle.rt_query.proofs.query.Query.select.Goals as goal
 

@@ -1,4 +1,4 @@
--- The orders of keys, values and entries are total, and tie only equal ones.
+-- The orders of values and of entries are total, and tie only equal ones.
 use Rattle.std.proofs.Common.{◌≡◌, ℕ, true, false, List, [], refl, sym, ap, ℤ, pos}
 use Rattle.std.specs.declared.cmp.Ordering.{Ordering}
 use Rattle.std.specs.declared.cmp.Ordering.TheVariants.{Less, Equal, Greater}
@@ -6,9 +6,10 @@ use Rattle.std.specs.Ordering.{ordering_then, nat_cmp, int_cmp, on, then_cmp}
 use Rattle.std.specs.Cmp.{IsTotalOrder, nat_cmp_total, int_cmp_total, on_total, then_total}
 use Rattle.std.specs.FinMap.{IsAntisymmetric, int_cmp-IsAntisymmetric}
 use Rattle.rt_tree.specs.Leaf.{truth, number, text}
+use Rattle.rt_tree.specs.PathTree.{Key}
 use Rattle.rt_order.specs.KeyOrder.{bytes_cmp, key_cmp}
 use Rattle.rt_order.specs.laws.KeyOrder.{total_as, first_tied, second_tied, bytes_cmp_total, bytes_cmp-IsAntisymmetric}
-pub use Rattle.rt_order.specs.laws.KeyOrder.{key_cmp_total, key_cmp-IsAntisymmetric}
+use Rattle.rt_order.specs.laws.KeyOrder.{key_cmp_total, key_cmp-IsAntisymmetric}
 use Rattle.rt_order.specs.Values.{SortValue, Null, Plain, Object, rank, value_cmp}
 use Rattle.rt_order.specs.Entries.{Entry, entry_cmp}
 
@@ -127,3 +128,7 @@ entry_cmp-IsAntisymmetric d e h = λ i. (
   value_cmp-IsAntisymmetric d.0 e.0 (first_tied (value_cmp d.0 e.0) (key_cmp d.1 e.1) h) i,
   key_cmp-IsAntisymmetric d.1 e.1 (second_tied (value_cmp d.0 e.0) (key_cmp d.1 e.1) h) i,
 )
+
+-- of two objects neither is below the other, so they go by key
+abbrev pub ObjectsGoByKey : Type 0
+ObjectsGoByKey = (j k : Key) → entry_cmp (Object, j) (Object, k) ≡ key_cmp j k

@@ -21,7 +21,15 @@ use Rattle.rt_query.specs.declared.row.Row.{Row}
 use Rattle.rt_query.specs.Queries.{Query, is_filtered}
 use Rattle.rt_query.specs.Select.{sorted_by, limited, row_of, rows_of, select, as_children, tree_by, tree_of}
 use Rattle.rt_query.specs.Rows.{HasDistinctKeys, row_at}
-use Rattle.rt_order.proofs.Orders.{entry_cmp-IsAntisymmetric}
+use Rattle.rt_order.specs.laws.EntryOrder.{entry_cmp-IsAntisymmetric}
+
+-- what a query shows has each key once
+abbrev pub SelectHasKeysOnce : Type 0
+SelectHasKeysOnce = (q : Query) (t : PathTree) → HasDistinctKeys ((select q t).rows)
+
+-- an unfiltered query shows the whole tree
+abbrev pub UnfilteredShowsAll : Type 0
+UnfilteredShowsAll = (q : Query) (t : PathTree) → is_filtered q ≡ false → tree_of (select q t) ≡ t
 
 -- whether an element has the key
 has_key : {X : Type 0} → (X → Key) → Key → List X → Bool

@@ -7,7 +7,7 @@ use Rattle.std.specs.Cmp.{nat_eq_equiv}
 use Rattle.rt_tree.specs.PathTree.{key_eq, key_eq-is, key_eq-same, path_eq, path_eq-is, path_eq-same}
 use Rattle.rt_tree.specs.TreeEq.{Tells, tells, both_first, both_second, both, leaf_eq, leaf_eq_tells, tree_eq_tells}
 use Rattle.rt_order.specs.Equality.{index_eq, range_eq}
-use Rattle.rt_order.specs.EqualityLaws.{index_eq_tells, range_eq_tells, option_eq_tells}
+use Rattle.rt_order.specs.laws.Equality.{index_eq_tells, range_eq_tells, option_eq_tells}
 use Rattle.rt_query.specs.declared.limit.Limit.{Limit}
 use Rattle.rt_query.specs.declared.limit.Limit.TheVariants.{First, Last}
 use Rattle.rt_query.specs.QueryEq.{limit_eq, query_eq, row_eq, shown_eq}
@@ -62,3 +62,7 @@ shown_eq_tells = tells
       rows = (pointwise_decides row_eq_tells a.rows b.rows).0 (both_second (option_eq leaf_eq a.leaf b.leaf) _ h) i;
     })
     (λ a. both _ _ ((option_eq_tells leaf_eq_tells a.leaf a.leaf).1 refl) ((pointwise_decides row_eq_tells a.rows a.rows).1 refl))
+
+-- the tests of equality tell exactly the equal ones
+abbrev pub EqualityTells : Type 0
+EqualityTells = Tells query_eq × Tells shown_eq

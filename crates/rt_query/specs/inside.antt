@@ -1,0 +1,3 @@
+-- What only the representation needs.
+pub mod ShownView
+pub mod Sorting
