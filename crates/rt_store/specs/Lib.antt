@@ -8,3 +8,5 @@ pub mod Runs
 pub mod Stored
 pub mod StoreView
 pub mod Walks
+pub mod Often
+pub mod Ranks

@@ -13,14 +13,11 @@ mod laws;
 mod links;
 mod node;
 mod put;
+mod ranks;
 mod row;
 mod run;
 mod slot;
 mod store;
-#[cfg(test)]
-mod tests;
-#[cfg(test)]
-mod walk_tests;
 
 pub use error::StoreError;
 pub use laws::walk_law;

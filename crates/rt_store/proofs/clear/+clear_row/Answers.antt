@@ -50,7 +50,10 @@ clear_row-below-requires t c =
         clear_below c.args.nodes.now c.args.row.first c.args.key.now c.in-Some.index (c.args.row.parent, c.requires.row) (sym c.find.ensures ∙ c.in-Some.is) c.requires.once slot there,
         (
           told_below c.args.nodes.now c.args.row.first c.args.row.parent c.in-Some.index slot c.requires.told there,
-          clear_once c.args.nodes.now c.args.row.first c.args.key.now c.in-Some.index (c.args.row.parent, c.requires.row) (sym c.find.ensures ∙ c.in-Some.is) c.requires.once slot there,
+          (
+            clear_once c.args.nodes.now c.args.row.first c.args.key.now c.in-Some.index (c.args.row.parent, c.requires.row) (sym c.find.ensures ∙ c.in-Some.is) c.requires.once slot there,
+            c.requires.ranked,
+          ),
         ),
       ),
     )
