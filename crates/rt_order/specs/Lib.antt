@@ -6,6 +6,7 @@ pub mod Examples
 pub mod KeyOrder
 pub mod SortRef
 pub mod Values
+pub mod laws
 pub use Rattle.rt_tree.specs.Leaf
 pub use Rattle.rt_tree.specs.Path
 pub use Rattle.rt_tree.specs.PathTree

@@ -1,0 +1,2 @@
+-- Laws that are stated for callers.
+pub mod KeyOrder
