@@ -11,12 +11,12 @@ use Rattle.rt_tree.specs.PathTree.{Key, Path, PathTree, null, leaf_at-null, put,
 use Rattle.rt_tree.specs.Allowed.{IsAllowed, allowed-null, allowed-put}
 use Rattle.rt_tree.proofs.Trees.{put-root}
 use Rattle.rt_order.specs.KeyOrder.{key_cmp}
-use Rattle.rt_store.specs.Forest.{Forest, bare, node, one_if, first, times, entries, IsFull, Sound, Links, IsRow, row_at}
-use Rattle.rt_store.specs.Walks.{IsPlace, index_in}
-use Rattle.rt_store.specs.Changes.{InRow, IsHead, Felled, Changed, is_bare, cleared, without, below_of, with_below, with_content}
+use Rattle.rt_store.specs.inside.Forest.{Forest, bare, node, one_if, first, times, entries, IsFull, Sound, Links, IsRow, row_at}
+use Rattle.rt_store.specs.inside.Walks.{IsPlace, index_in}
+use Rattle.rt_store.specs.inside.Changes.{InRow, IsHead, Felled, Changed, is_bare, cleared, without, below_of, with_below, with_content}
 use Rattle.rt_store.specs.Stored.{Stored}
-use Rattle.rt_store.specs.Ranks.{IsRanked}
-use Rattle.rt_store.specs.StoreView.{stored, IsStore}
+use Rattle.rt_store.specs.inside.Ranks.{IsRanked}
+use Rattle.rt_store.specs.inside.StoreView.{stored, IsStore}
 use Rattle.rt_store.specs.declared.slot.Slot.{Slot}
 use Rattle.rt_store.specs.declared.ranks.Ranks.{Ranks}
 use Rattle.rt_store.specs.declared.store.Store.TheInside.{Inside}

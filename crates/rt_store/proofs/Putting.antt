@@ -12,13 +12,13 @@ use Rattle.rt_tree.specs.Allowed.{IsAllowed, allowed-put, may_stand}
 use Rattle.rt_tree.specs.PathTree.{levels, Key, Path, PathTree, key_eq, key_eq-is, key_eq-symm, null, is_null, put, object, child_of, child_or_null, non_null, PutsBelow}
 use Rattle.rt_tree.proofs.Trees.{put-object, put-of_leaf, is_null-put, some_non_null}
 use Rattle.rt_order.specs.KeyOrder.{key_cmp}
-use Rattle.rt_order.proofs.Orders.{key_cmp-IsAntisymmetric}
-use Rattle.rt_store.specs.Forest.{Forest, bare, node, first, size, times, entries, tree_with, IsFull, IsRow, row_at}
-use Rattle.rt_store.specs.Walks.{IsPlace, spot_in, index_in}
-use Rattle.rt_store.specs.Changes.{InRow, with_below, with_content, linked_in, Felled, Changed, Same, Grown, IsPut}
+use Rattle.rt_order.specs.laws.KeyOrder.{key_cmp-IsAntisymmetric}
+use Rattle.rt_store.specs.inside.Forest.{Forest, bare, node, first, size, times, entries, tree_with, IsFull, IsRow, row_at}
+use Rattle.rt_store.specs.inside.Walks.{IsPlace, spot_in, index_in}
+use Rattle.rt_store.specs.inside.Changes.{InRow, with_below, with_content, linked_in, Felled, Changed, Same, Grown, IsPut}
 use Rattle.rt_store.specs.Stored.{Stored, IsAsBefore}
-use Rattle.rt_store.specs.Ranks.{IsRanked}
-use Rattle.rt_store.specs.StoreView.{stored, IsStore}
+use Rattle.rt_store.specs.inside.Ranks.{IsRanked}
+use Rattle.rt_store.specs.inside.StoreView.{stored, IsStore}
 use Rattle.rt_store.specs.declared.store.Store.TheInside.{Inside}
 use Rattle.rt_store.specs.declared.row.Spot.TheVariants.{Here, Gap}
 use Rattle.rt_store.specs.declared.slot.Slot.{Slot}

@@ -7,10 +7,10 @@ use Rattle.std.proofs.lemmas.Bool.{eqb-true, eq-eqb}
 use Rattle.std.proofs.lemmas.List.Sums.{sum_by-remove}
 use Rattle.std.proofs.lemmas.Option.{get_or_from_slice_get, slice_get_within}
 use Rattle.slab.specs.Slab.{Slab, get, Updates}
-use Rattle.rt_store.specs.Forest.{one_if}
-use Rattle.rt_store.specs.Often.{often}
-use Rattle.rt_store.specs.Ranks.{listed, same_link, is_child, Added, IsAlike, IsRanked}
-use Rattle.rt_store.specs.Changes.{Same}
+use Rattle.rt_store.specs.inside.Forest.{one_if}
+use Rattle.rt_store.specs.inside.Often.{often}
+use Rattle.rt_store.specs.inside.Ranks.{listed, same_link, is_child, Added, IsAlike, IsRanked}
+use Rattle.rt_store.specs.inside.Changes.{Same}
 use Rattle.rt_store.specs.declared.slot.Slot.{Slot}
 use Rattle.rt_store.specs.declared.ranks.Ranks.{Ranks}
 
@@ -58,8 +58,8 @@ ranked_mapped s t r f parents each h p m = h p m ∙ ap one_if (sym (ap (is_chil
 pub ranked_written : (s t : Slab Slot) (r : Ranks) (f : Slot → Slot) (n : ℕ) → ((slot : Slot) → (f slot).parent ≡ slot.parent) → get t n ≡ option_map f (get s n) → ((m : ℕ) → m ≢ n → get t m ≡ get s m)
     → IsRanked s r → IsRanked t r
 ranked_written s t r f n parents written others h p m = h p m ∙ ap one_if (sym (either_node (is_child p (get t m) ≡ is_child p (get s m)) m n
-  (λ e. let same : m ≡ n = eqb-true m n e in ap (λ x. is_child p (get t x)) same ∙ ap (is_child p) written ∙ mapped (get s n) ∙ ap (λ x. is_child p (get s x)) (sym same))
-  (λ e. ap (is_child p) (others m (differ m n e)))))
+    (λ e. let same : m ≡ n = eqb-true m n e in ap (λ x. is_child p (get t x)) same ∙ ap (is_child p) written ∙ mapped (get s n) ∙ ap (λ x. is_child p (get s x)) (sym same))
+    (λ e. ap (is_child p) (others m (differ m n e)))))
   where
     mapped : (o : Option Slot) → is_child p (option_map f o) ≡ is_child p o
     mapped None = refl
@@ -74,13 +74,13 @@ ranked_alike s r q alike h p m = alike p m ∙ h p m
 -- a node more
 pub ranked_more : (s t : Slab Slot) (r q : Ranks) (n : ℕ) (slot : Slot) → get s n ≡ None → Updates s t n (Some slot) → Added r q slot.parent n → IsRanked s r → IsRanked t q
 ranked_more s t r q n slot none updates added h p m = either_node (often m (listed q p) ≡ one_if (is_child p (get t m))) m n
-  (λ e.
+    (λ e.
     let same : m ≡ n = eqb-true m n e in
     let was : often m (listed r p) ≡ 0 = h p m ∙ ap (λ x. one_if (is_child p (get s x))) same ∙ ap (λ o. one_if (is_child p o)) none in
     let one : one_if (same_link p slot.parent && nat_eq m n) ≡ one_if (same_link p slot.parent) = ap (λ b. one_if (same_link p slot.parent && b)) e ∙ ap one_if (and-true (same_link p slot.parent)) in
     let now : one_if (is_child p (get t m)) ≡ one_if (same_link p slot.parent) = ap (λ x. one_if (is_child p (get t x))) same ∙ ap (λ o. one_if (is_child p o)) updates.changed in
     omega (arith, added p m, was, one, now))
-  (λ e.
+    (λ e.
     let none_more : one_if (same_link p slot.parent && nat_eq m n) ≡ 0 = ap (λ b. one_if (same_link p slot.parent && b)) e ∙ ap one_if (and-false (same_link p slot.parent)) in
     let now : one_if (is_child p (get t m)) ≡ one_if (is_child p (get s m)) = ap (λ o. one_if (is_child p o)) (updates.others m (differ m n e)) in
     omega (arith, added p m, h p m, none_more, now))
@@ -88,13 +88,13 @@ ranked_more s t r q n slot none updates added h p m = either_node (often m (list
 -- a node less
 pub ranked_fewer : (s t : Slab Slot) (r q : Ranks) (n : ℕ) (slot : Slot) → get s n ≡ Some slot → Updates s t n None → Added q r slot.parent n → IsRanked s r → IsRanked t q
 ranked_fewer s t r q n slot there updates added h p m = either_node (often m (listed q p) ≡ one_if (is_child p (get t m))) m n
-  (λ e.
+    (λ e.
     let same : m ≡ n = eqb-true m n e in
     let was : often m (listed r p) ≡ one_if (same_link p slot.parent) = h p m ∙ ap (λ x. one_if (is_child p (get s x))) same ∙ ap (λ o. one_if (is_child p o)) there in
     let one : one_if (same_link p slot.parent && nat_eq m n) ≡ one_if (same_link p slot.parent) = ap (λ b. one_if (same_link p slot.parent && b)) e ∙ ap one_if (and-true (same_link p slot.parent)) in
     let now : one_if (is_child p (get t m)) ≡ 0 = ap (λ x. one_if (is_child p (get t x))) same ∙ ap (λ o. one_if (is_child p o)) updates.changed in
     omega (arith, added p m, was, one, now))
-  (λ e.
+    (λ e.
     let none_less : one_if (same_link p slot.parent && nat_eq m n) ≡ 0 = ap (λ b. one_if (same_link p slot.parent && b)) e ∙ ap one_if (and-false (same_link p slot.parent)) in
     let now : one_if (is_child p (get t m)) ≡ one_if (is_child p (get s m)) = ap (λ o. one_if (is_child p o)) (updates.others m (differ m n e)) in
     omega (arith, added p m, h p m, none_less, now))

@@ -4,11 +4,11 @@ use Rattle.std.specs.Option.{option_map_or}
 use Rattle.slab.specs.Slab.{Slab, get, slab_len}
 use Rattle.rt_tree.specs.Allowed.{IsAllowed}
 use Rattle.rt_store.specs.Rows.{root_row}
-use Rattle.rt_store.specs.Forest.{Forest, bare, node, one_if, size, IsRow, reached, row_at, entries, tree_with, times}
-use Rattle.rt_store.specs.Changes.{Changed, Same}
+use Rattle.rt_store.specs.inside.Forest.{Forest, bare, node, one_if, size, IsRow, reached, row_at, entries, tree_with, times}
+use Rattle.rt_store.specs.inside.Changes.{Changed, Same}
 use Rattle.rt_store.specs.Stored.{IsAsBefore, onward}
-use Rattle.rt_store.specs.Ranks.{IsRanked}
-use Rattle.rt_store.specs.StoreView.{IsStore, IsTop, stored}
+use Rattle.rt_store.specs.inside.Ranks.{IsRanked}
+use Rattle.rt_store.specs.inside.StoreView.{IsStore, IsTop, stored}
 use Rattle.rt_store.specs.declared.slot.Slot.{Slot}
 use Rattle.rt_store.specs.declared.store.Store.TheInside.{Inside}
 use Rattle.rt_store.proofs.Linked.{row_at_is, locate, not_nowhere}

@@ -1,9 +1,9 @@
 // What stands at a path is taken out, with each node above it that is left without children.
 ghost use Rattle.std.specs.Prelude.{◌≡◌, ◌≤◌, ℕ, Option, None};
-ghost use Rattle.rt_store.specs.Forest.{IsRow, row_at, times};
-ghost use Rattle.rt_store.specs.Walks.{IsPlace};
-ghost use Rattle.rt_store.specs.Changes.{Changed, is_bare, cleared, Told};
-ghost use Rattle.rt_store.specs.Ranks.{IsRanked};
+ghost use Rattle.rt_store.specs.inside.Forest.{IsRow, row_at, times};
+ghost use Rattle.rt_store.specs.inside.Walks.{IsPlace};
+ghost use Rattle.rt_store.specs.inside.Changes.{Changed, is_bare, cleared, Told};
+ghost use Rattle.rt_store.specs.inside.Ranks.{IsRanked};
 
 use crate::links::{set_content, take_out};
 use crate::ranks::Ranks;
@@ -22,7 +22,7 @@ pub(crate) fn vanishes(nodes: &Slab<Slot>, first: Option<usize>, key: &Key, rest
         return true;
     };
     let slot = nodes.get(index).unwrap();
-    if slot.next.is_some() || !key_cmp(key, &slot.key).is_eq() {
+    if slot.next.is_some() || !key_cmp(key, slot.key.key()).is_eq() {
         return false;
     }
     match rest.split_first() {

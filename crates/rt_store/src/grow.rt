@@ -3,15 +3,15 @@ ghost use Rattle.std.specs.Prelude.{◌≡◌, ◌∷◌, [], false, IfOk, OnErr
 ghost use Rattle.std.specs.BTreeMap.{IsOrdered};
 ghost use Rattle.rt_tree.specs.PathTree.{key_cmp, null, is_null, put, AllFull};
 ghost use Rattle.rt_store.specs.Rows.{in_key_order};
-ghost use Rattle.rt_store.specs.Forest.{row_at, entries, tree_with, IsFull};
-ghost use Rattle.rt_store.specs.Changes.{Grown, Same};
-ghost use Rattle.rt_store.specs.Growing.{seen};
-ghost use Rattle.rt_store.specs.Ranks.{IsRanked};
+ghost use Rattle.rt_store.specs.inside.Forest.{row_at, entries, tree_with, IsFull};
+ghost use Rattle.rt_store.specs.inside.Changes.{Grown, Same};
+ghost use Rattle.rt_store.specs.inside.Growing.{seen};
+ghost use Rattle.rt_store.specs.inside.Ranks.{IsRanked};
 
 use crate::links::{fell, link, set_content};
 use crate::ranks::Ranks;
 use crate::slot::Slot;
-use rt_order::key_cmp;
+use rt_order::{PlacedKey, PlacedRef, key_cmp};
 use rt_tree::{Key, Leaf, Tree};
 use slab::Slab;
 use std::alloc::{AllocError, Global};
@@ -58,7 +58,8 @@ pub(crate) fn grow(
     ensures err { OnErr result (Same nodes.old nodes.new) }
     ensures ranked { IsRanked nodes.new ranks.new }
 {
-    let name = key.copy()?;
+    let copy = key.copy()?;
+    let name = PlacedKey::of(copy);
     let index = nodes.insert(Slot {
         key: name,
         parent,
@@ -67,7 +68,7 @@ pub(crate) fn grow(
         next: None,
         leaf: None,
     })?;
-    if let Err(error) = ranks.add(alloc, nodes, parent, key, index) {
+    if let Err(error) = ranks.add(alloc, nodes, parent, &PlacedRef::of(key), index) {
         drop(nodes.try_remove(index));
         return Err(error);
     }
@@ -78,7 +79,7 @@ pub(crate) fn grow(
         }
         Err(error) => {
             drop(nodes.try_remove(index));
-            ranks.remove(nodes, parent, key, index);
+            ranks.remove(nodes, parent, &PlacedRef::of(key), index);
             Err(error)
         }
     }

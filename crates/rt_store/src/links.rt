@@ -2,10 +2,10 @@
 ghost use Rattle.std.specs.Prelude.{◌≡◌, ◌≢◌, ◌≤◌, ℕ, Option, None};
 ghost use Rattle.std.specs.Option.{option_map};
 ghost use Rattle.slab.specs.Slab.{get, slab_len};
-ghost use Rattle.rt_store.specs.Forest.{IsRow, row_at, times};
-ghost use Rattle.rt_store.specs.Walks.{IsPlace};
-ghost use Rattle.rt_store.specs.Ranks.{IsRanked};
-ghost use Rattle.rt_store.specs.Changes.{Felled, Changed, IsHead, InRow, without, joined, linked_in, with_next, with_previous, with_content};
+ghost use Rattle.rt_store.specs.inside.Forest.{IsRow, row_at, times};
+ghost use Rattle.rt_store.specs.inside.Walks.{IsPlace};
+ghost use Rattle.rt_store.specs.inside.Ranks.{IsRanked};
+ghost use Rattle.rt_store.specs.inside.Changes.{Felled, Changed, IsHead, InRow, without, joined, linked_in, with_next, with_previous, with_content};
 
 use crate::ranks::Ranks;
 use crate::slot::Slot;
@@ -91,7 +91,7 @@ pub(crate) fn fell(nodes: &mut Slab<Slot>, ranks: &mut Ranks, first: Option<usiz
         let Some(slot) = nodes.try_remove(index) else {
             return;
         };
-        ranks.remove(nodes, slot.parent, &slot.key, index);
+        ranks.remove(nodes, slot.parent, &slot.key.borrowed(), index);
         next = slot.next;
         let below = slot.first_child;
         drop(slot);
@@ -117,7 +117,7 @@ pub(crate) fn take_out(
     let Some(slot) = nodes.try_remove(index) else {
         return first;
     };
-    ranks.remove(nodes, slot.parent, &slot.key, index);
+    ranks.remove(nodes, slot.parent, &slot.key.borrowed(), index);
     let below = slot.first_child;
     let previous = slot.previous;
     let next = slot.next;

@@ -1,9 +1,9 @@
 // What stands at a path is replaced by nodes that are made of a tree.
 ghost use Rattle.std.specs.Prelude.{◌≡◌, ◌≤◌, ℕ, false, None, IfOk, OnErr};
 ghost use Rattle.rt_tree.specs.PathTree.{is_null};
-ghost use Rattle.rt_store.specs.Forest.{IsRow, row_at, times};
-ghost use Rattle.rt_store.specs.Changes.{IsPut, Same, Told};
-ghost use Rattle.rt_store.specs.Ranks.{IsRanked};
+ghost use Rattle.rt_store.specs.inside.Forest.{IsRow, row_at, times};
+ghost use Rattle.rt_store.specs.inside.Changes.{IsPut, Same, Told};
+ghost use Rattle.rt_store.specs.inside.Ranks.{IsRanked};
 
 use crate::grow::{content, grow};
 use crate::links::{fell, link, set_content};

@@ -1,11 +1,10 @@
 // The children of each node in the order of keys, from which a search begins.
 ghost use Rattle.std.specs.Prelude.{◌≡◌, ◌+◌, ◌<◌, ◌≤◌, ℕ, Option, Some, length, slice_get, nat_eq, vec_len, IfSome, IfNone, OnOk, OnErr};
-ghost use Rattle.rt_store.specs.Forest.{one_if};
-ghost use Rattle.rt_store.specs.Often.{often, nth_row};
+ghost use Rattle.rt_store.specs.inside.Forest.{one_if};
+ghost use Rattle.rt_store.specs.inside.Often.{often, nth_row};
 
 use crate::slot::Slot;
-use rt_order::key_cmp;
-use rt_tree::Key;
+use rt_order::PlacedRef;
 use slab::Slab;
 use std::alloc::{AllocError, Global};
 use std::cmp::Ordering;
@@ -18,15 +17,15 @@ pub(crate) struct Ranks {
 }
 
 // How a key stands to that of a node.
-fn order_at(nodes: &Slab<Slot>, key: &Key, child: usize) -> Ordering {
+fn order_at(nodes: &Slab<Slot>, key: &PlacedRef<'_>, child: usize) -> Ordering {
     match nodes.get(child) {
-        Some(slot) => key_cmp(key, &slot.key),
+        Some(slot) => key.cmp(&slot.key.borrowed()),
         None => Ordering::Less,
     }
 }
 
 // How many of the children stand at the key or in front of it.
-fn place_of(children: &[usize], nodes: &Slab<Slot>, key: &Key) -> usize
+fn place_of(children: &[usize], nodes: &Slab<Slot>, key: &PlacedRef<'_>) -> usize
     ensures { result ≤ length children.now }
 {
     let mut low = 0;
@@ -55,7 +54,12 @@ fn place_from(children: &[usize], from: usize, child: usize) -> Option<usize>
 }
 
 // The place at which a child stands.
-fn find_child(children: &[usize], nodes: &Slab<Slot>, key: &Key, child: usize) -> Option<usize>
+fn find_child(
+    children: &[usize],
+    nodes: &Slab<Slot>,
+    key: &PlacedRef<'_>,
+    child: usize,
+) -> Option<usize>
     ensures there { IfSome result (λ place. slice_get children.now place ≡ Some child) }
     ensures none { IfNone result (often child children.now ≡ 0) }
 {
@@ -70,7 +74,7 @@ fn find_child(children: &[usize], nodes: &Slab<Slot>, key: &Key, child: usize) -
 fn insert_at(
     children: &mut Vec<usize>,
     nodes: &Slab<Slot>,
-    key: &Key,
+    key: &PlacedRef<'_>,
     child: usize,
 ) -> Result<(), AllocError>
     ensures ok { OnOk result ((m : ℕ) → often m children.new.items ≡ often m children.old.items + one_if (nat_eq m child)) }
@@ -82,7 +86,7 @@ fn insert_at(
 }
 
 // Takes out a child.
-fn take_from(children: &mut Vec<usize>, nodes: &Slab<Slot>, key: &Key, child: usize)
+fn take_from(children: &mut Vec<usize>, nodes: &Slab<Slot>, key: &PlacedRef<'_>, child: usize)
     requires { 0 < often child children.old.items }
     ensures { (m : ℕ) → often m children.new.items + one_if (nat_eq m child) ≡ often m children.old.items }
 {
@@ -103,7 +107,7 @@ fn lengthen(below: &mut Vec<Vec<usize>>, alloc: Global, node: usize) -> Result<(
 }
 
 impl Ranks {
-    ghost use Rattle.rt_store.specs.Ranks.{listed, Added, IsAlike};
+    ghost use Rattle.rt_store.specs.inside.Ranks.{listed, Added, IsAlike};
 
     pub(crate) fn new(alloc: Global) -> Ranks
         ensures { (p : Option ℕ) (m : ℕ) → often m (listed result p) ≡ 0 }
@@ -119,7 +123,7 @@ impl Ranks {
         &self,
         nodes: &Slab<Slot>,
         parent: Option<usize>,
-        key: &Key,
+        key: &PlacedRef<'_>,
     ) -> Option<usize> {
         let children = match parent {
             None => self.top.as_slice(),
@@ -135,7 +139,7 @@ impl Ranks {
         alloc: Global,
         nodes: &Slab<Slot>,
         parent: Option<usize>,
-        key: &Key,
+        key: &PlacedRef<'_>,
         child: usize,
     ) -> Result<(), AllocError>
         ensures ok { OnOk result (Added self.old self.new parent child) }
@@ -154,7 +158,7 @@ impl Ranks {
         &mut self,
         nodes: &Slab<Slot>,
         parent: Option<usize>,
-        key: &Key,
+        key: &PlacedRef<'_>,
         child: usize,
     )
         requires { 0 < often child (listed self.old parent) }

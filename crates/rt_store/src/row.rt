@@ -1,13 +1,14 @@
 // How keys and paths are found in rows of siblings.
 ghost use Rattle.std.specs.Prelude.{◌≡◌, IfSome, None, Some};
 ghost use Rattle.slab.specs.Slab.{get};
-ghost use Rattle.rt_store.specs.Forest.{IsRow, row_at};
-ghost use Rattle.rt_store.specs.Walks.{spot_in, index_in, place_in, IsPlace};
-ghost use Rattle.rt_store.specs.Changes.{Told};
+ghost use Rattle.rt_order.specs.KeyOrder.{key_cmp};
+ghost use Rattle.rt_store.specs.inside.Forest.{IsRow, row_at};
+ghost use Rattle.rt_store.specs.inside.Walks.{spot_in, index_in, place_in, IsPlace};
+ghost use Rattle.rt_store.specs.inside.Changes.{Told};
 
 use crate::ranks::Ranks;
 use crate::slot::Slot;
-use rt_order::key_cmp;
+use rt_order::PlacedRef;
 use rt_tree::Key;
 use slab::Slab;
 use std::cmp::Ordering;
@@ -26,8 +27,20 @@ pub(crate) enum Spot {
     Gap(Option<usize>, Option<usize>),
 }
 
+// How a key stands to that of a node.
+fn order(key: &PlacedRef<'_>, slot: &Slot) -> Ordering
+    ensures { result ≡ key_cmp key.now slot.now.key }
+{
+    key.cmp(&slot.key.borrowed())
+}
+
 // The child of `parent` that the ranks have at the key, or last in front of it.
-fn nearest(nodes: &Slab<Slot>, ranks: &Ranks, parent: Option<usize>, key: &Key) -> Option<usize>
+fn nearest(
+    nodes: &Slab<Slot>,
+    ranks: &Ranks,
+    parent: Option<usize>,
+    key: &PlacedRef<'_>,
+) -> Option<usize>
     ensures { IfSome result (λ n. (slot : Slot) × (get nodes.now n ≡ Some slot) × (slot.parent ≡ parent)) }
 {
     let index = ranks.nearest(nodes, parent, key)?;
@@ -44,7 +57,7 @@ fn start(
     nodes: &Slab<Slot>,
     ranks: &Ranks,
     row: Siblings,
-    key: &Key,
+    key: &PlacedRef<'_>,
 ) -> (Option<usize>, Option<usize>)
     requires row { IsRow nodes.now row.first row.parent None (row_at nodes.now row.first) }
     requires told { Told nodes.now row.first row.parent }
@@ -55,14 +68,14 @@ fn start(
         return (None, row.first);
     };
     let slot = nodes.get(index).unwrap();
-    match key_cmp(key, &slot.key) {
+    match order(key, slot) {
         Ordering::Less => (None, row.first),
         _ => (slot.previous, Some(index)),
     }
 }
 
-// The spot of a key in a row. Passes the siblings in front of it, from the nearest one on.
-pub(crate) fn seek(nodes: &Slab<Slot>, ranks: &Ranks, row: Siblings, key: &Key) -> Spot
+// `seek`, with the key's place known. Passes the siblings in front of the key, from the nearest one on.
+fn pass(nodes: &Slab<Slot>, ranks: &Ranks, row: Siblings, key: &PlacedRef<'_>) -> Spot
     requires row { IsRow nodes.now row.first row.parent None (row_at nodes.now row.first) }
     requires told { Told nodes.now row.first row.parent }
     ensures { result ≡ spot_in key.now None (row_at nodes.now row.first) }
@@ -70,7 +83,7 @@ pub(crate) fn seek(nodes: &Slab<Slot>, ranks: &Ranks, row: Siblings, key: &Key) 
     let (mut previous, mut next) = start(nodes, ranks, row, key);
     while let Some(index) = next {
         let slot = nodes.get(index).unwrap();
-        match key_cmp(key, &slot.key) {
+        match order(key, slot) {
             Ordering::Less => return Spot::Gap(previous, next),
             Ordering::Equal => return Spot::Here(index),
             Ordering::Greater => {
@@ -80,6 +93,15 @@ pub(crate) fn seek(nodes: &Slab<Slot>, ranks: &Ranks, row: Siblings, key: &Key) 
         }
     }
     Spot::Gap(previous, None)
+}
+
+// The spot of a key in a row.
+pub(crate) fn seek(nodes: &Slab<Slot>, ranks: &Ranks, row: Siblings, key: &Key) -> Spot
+    requires row { IsRow nodes.now row.first row.parent None (row_at nodes.now row.first) }
+    requires told { Told nodes.now row.first row.parent }
+    ensures { result ≡ spot_in key.now None (row_at nodes.now row.first) }
+{
+    pass(nodes, ranks, row, &PlacedRef::of(key))
 }
 
 // The node of a key in a row.

@@ -42,7 +42,7 @@ impl Model for Store {
 
     ghost coded = { stored_code };
 
-    ghost use Rattle.rt_store.specs.StoreView.{stored, IsStore};
+    ghost use Rattle.rt_store.specs.inside.StoreView.{stored, IsStore};
 
     ghost view = { stored };
 
@@ -223,7 +223,7 @@ impl Store {
         match node.index() {
             None => None,
             Some(index) => match self.nodes.get(index) {
-                Some(slot) => Some(&slot.key),
+                Some(slot) => Some(slot.key.key()),
                 None => None,
             },
         }

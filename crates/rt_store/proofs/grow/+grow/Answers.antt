@@ -5,9 +5,9 @@ use Rattle.std.proofs.lemmas.List.{drop_all}
 use Rattle.rt_tree.specs.PathTree.{key_cmp, null, is_null, put, of_leaf, leaf_at, object, levels, AllFull}
 use Rattle.rt_tree.specs.Children.{is_object, children_of, children_sorted}
 use Rattle.rt_store.specs.Rows.{in_key_order}
-use Rattle.rt_store.specs.Forest.{row_at, entries}
-use Rattle.rt_store.specs.Growing.{seen}
-use Rattle.rt_store.specs.Changes.{linked_in}
+use Rattle.rt_store.specs.inside.Forest.{row_at, entries}
+use Rattle.rt_store.specs.inside.Growing.{seen}
+use Rattle.rt_store.specs.inside.Changes.{linked_in}
 use Rattle.rt_store.proofs.Ranked.{ranked_mapped, ranked_more, ranked_fewer, ranked_written, ranked_there}
 use Rattle.rt_store.proofs.Linked.{row_at-none}
 use Rattle.rt_store.proofs.Falling.{onto, object-in_key_order}
@@ -65,17 +65,17 @@ grow-content-requires t c = (
 
 pub grow-returns-in-Ok-clause-grown : goal.grow-returns-in-Ok-clause-grown
 grow-returns-in-Ok-clause-grown t c =
-    one_grown c.args.nodes.now c.insert.new.self c.in_ok-index.index c.in_ok-name.name c.args.parent c.in_ok-index.ensures.was_vacant
+    one_grown c.args.nodes.now c.insert.new.self c.in_ok-index.index c.of-name.result c.args.parent c.in_ok-index.ensures.was_vacant
     c.in_ok-index.ensures.updates c.in_ok-index.ensures.len
     c.content.new.nodes c.set_content.new.nodes c.in-Ok.leaf c.in-Ok.first (row_at c.content.new.nodes c.in-Ok.first) c.in-Ok.ensures.grown.row c.in-Ok.ensures.grown.changed c.in-Ok.ensures.full c.set_content.ensures.written c.set_content.ensures.others c.set_content.ensures.len
 
 pub grow-returns-in-Ok-clause-is : goal.grow-returns-in-Ok-clause-is
 grow-returns-in-Ok-clause-is t c =
-    one_entry c.args.nodes.now c.insert.new.self c.in_ok-index.index c.in_ok-name.name c.args.parent c.in_ok-index.ensures.was_vacant
+    one_entry c.args.nodes.now c.insert.new.self c.in_ok-index.index c.of-name.result c.args.parent c.in_ok-index.ensures.was_vacant
     c.in_ok-index.ensures.updates c.in_ok-index.ensures.len
     c.content.new.nodes c.set_content.new.nodes c.in-Ok.leaf c.in-Ok.first (row_at c.content.new.nodes c.in-Ok.first) c.in-Ok.ensures.grown.row c.in-Ok.ensures.grown.changed c.in-Ok.ensures.full c.set_content.ensures.written c.set_content.ensures.others c.set_content.ensures.len
     (put null c.args.rest.now c.args.tree.now) c.in-Ok.ensures.is
-    ∙ ap (λ k. (k, put null c.args.rest.now c.args.tree.now) ∷ []) c.in_ok-name.ensures
+    ∙ ap (λ k. (k, put null c.args.rest.now c.args.tree.now) ∷ []) (c.of-name.ensures ∙ c.in_ok-copy.ensures)
 
 pub grow_row-loop-child-init : goal.grow_row-loop-child-init
 grow_row-loop-child-init t c = (
@@ -112,3 +112,8 @@ grow_row-returns-clause-is t c =
     let xs = c.deref-child-items.result.now in
     let end : length xs ≤ c.loop-child.child-index = omega (arith, c.loop-child-test.false) in
     ap (λ ys. onto (map seen ys) (entries (row_at c.loop-child.nodes c.loop-child.first))) (sym (drop_all c.loop-child.child-index xs end)) ∙ c.loop-child.invariant.1
+
+pub grow-returns-in-Err-content-clause-ranked : goal.grow-returns-in-Err-content-clause-ranked
+grow-returns-in-Err-content-clause-ranked t c =
+    ranked_fewer c.content.new.nodes c.try_remove-in-Err-content.new.self c.content.new.ranks c.remove.new.self c.in_ok-index.index _
+    (c.in-Err-content.ensures.err.kept c.in_ok-index.index ∙ c.in_ok-index.ensures.updates.changed) c.try_remove-in-Err-content.ensures.updates c.remove.ensures c.in-Err-content.ensures.ranked

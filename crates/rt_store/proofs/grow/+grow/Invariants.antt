@@ -1,11 +1,11 @@
 use Rattle.std.proofs.Common.{◌≡◌, ◌+◌, ◌*◌, length, drop, map}
 use Rattle.rt_tree.specs.PathTree.{levels, object}
 use Rattle.rt_store.specs.Rows.{in_key_order}
-use Rattle.rt_store.specs.Forest.{row_at, entries}
-use Rattle.rt_store.specs.Changes.{Grown}
-use Rattle.rt_store.specs.Growing.{seen}
+use Rattle.rt_store.specs.inside.Forest.{row_at, entries}
+use Rattle.rt_store.specs.inside.Changes.{Grown}
+use Rattle.rt_store.specs.inside.Growing.{seen}
 use Rattle.rt_store.proofs.Falling.{onto}
-use Rattle.rt_store.specs.Ranks.{IsRanked}
+use Rattle.rt_store.specs.inside.Ranks.{IsRanked}
 use Rattle.rt_store.proofs.grow.+grow.Given as goal
 
 abbrev pub decreases-content : goal.decreases-content

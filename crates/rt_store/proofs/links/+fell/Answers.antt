@@ -1,6 +1,6 @@
 use Rattle.std.proofs.Common.{◌≡◌, ◌+◌, Some, None, sym, ◌∙◌, arith, rules}
 use Rattle.slab.specs.Slab.{get, slab_len}
-use Rattle.rt_store.specs.Forest.{row_at}
+use Rattle.rt_store.specs.inside.Forest.{row_at}
 use Rattle.rt_store.proofs.Felling.{felling_all, felled_all, not_lost, fell_place, fell_once, fell_smaller, felling_next, fewer_next}
 use Rattle.rt_store.proofs.Ranked.{ranked_there, ranked_fewer}
 use Rattle.rt_store.proofs.links.+fell.Goals as goal

@@ -1,5 +1,5 @@
-use Rattle.rt_store.specs.Forest.{row_at, size}
-use Rattle.rt_store.specs.Ranks.{IsRanked}
+use Rattle.rt_store.specs.inside.Forest.{row_at, size}
+use Rattle.rt_store.specs.inside.Ranks.{IsRanked}
 use Rattle.rt_store.proofs.Felling.{Felling}
 use Rattle.rt_store.proofs.links.+fell.Given as goal
 

@@ -1,8 +1,8 @@
 use Rattle.std.proofs.Common.{◌≡◌, ◌+◌, Some, refl, sym, ◌∙◌, rules}
 use Rattle.slab.specs.Slab.{get, slab_len}
-use Rattle.rt_store.specs.Forest.{row_at}
+use Rattle.rt_store.specs.inside.Forest.{row_at}
 use Rattle.rt_store.proofs.Taking.{not_there, out_place, out_once, out_row, out_changed, first_without}
-use Rattle.rt_store.specs.Changes.{joined}
+use Rattle.rt_store.specs.inside.Changes.{joined}
 use Rattle.rt_store.proofs.Ranked.{ranked_there, ranked_fewer, ranked_mapped}
 use Rattle.rt_store.proofs.links.take_out.Goals as goal
 

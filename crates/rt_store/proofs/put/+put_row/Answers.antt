@@ -2,7 +2,7 @@ use Rattle.std.proofs.Common.{◌≡◌, Some, length, sym, ap, refl, ◌∙◌,
 use Rattle.slab.specs.Slab.{get}
 use Rattle.rt_store.proofs.Putting.{put_new, put_there, put_place, put_once, old_place, old_once, put_here, put_below}
 use Rattle.rt_store.proofs.Near.{told_below}
-use Rattle.rt_store.specs.Changes.{with_content}
+use Rattle.rt_store.specs.inside.Changes.{with_content}
 use Rattle.rt_store.proofs.Ranked.{ranked_written}
 use Rattle.rt_store.proofs.put.+put_row.Goals as goal
 

@@ -1,5 +1,5 @@
 use Rattle.std.proofs.Common.{◌≡◌, ◌-◌, ◌+◌, ℕ, vec_len}
-use Rattle.rt_store.specs.Often.{nth_row}
+use Rattle.rt_store.specs.inside.Often.{nth_row}
 use Rattle.rt_store.proofs.ranks.lengthen.Given as goal
 
 abbrev pub invariant-loop-alloc : goal.invariant-loop-alloc

@@ -1,7 +1,7 @@
 use Rattle.std.proofs.Common.{ap, sym, subst, ◌∙◌, refl, arith, None, is_some, count_by, slice_index_or}
 use Rattle.rt_tree.specs.PathTree.{object}
 use Rattle.rt_tree.specs.Allowed.{IsAllowed, allowed-null}
-use Rattle.rt_store.specs.Forest.{Links, Sound, one_if, first, size, times, entries}
+use Rattle.rt_store.specs.inside.Forest.{Links, Sound, one_if, first, size, times, entries}
 use Rattle.rt_store.proofs.Linked.{row_at-none}
 use Rattle.rt_store.proofs.Ranked.{ranked_none}
 use Rattle.rt_store.proofs.store.Store.new.Goals as goal

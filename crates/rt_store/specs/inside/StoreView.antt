@@ -5,8 +5,8 @@ use Rattle.rt_tree.specs.Leaf.{LeafValue}
 use Rattle.rt_tree.specs.Allowed.{IsAllowed}
 use Rattle.rt_store.specs.Rows.{Row}
 use Rattle.rt_store.specs.Stored.{Stored}
-use Rattle.rt_store.specs.Ranks.{IsRanked}
-use Rattle.rt_store.specs.Forest.{IsRow, row_at, one_if, entries, tree_with, size, times}
+use Rattle.rt_store.specs.inside.Ranks.{IsRanked}
+use Rattle.rt_store.specs.inside.Forest.{IsRow, row_at, one_if, entries, tree_with, size, times}
 use Rattle.rt_store.specs.declared.slot.Slot.{Slot}
 use Rattle.rt_store.specs.declared.store.Store.TheInside.{Inside}
 

@@ -3,7 +3,7 @@ use Rattle.std.specs.Prelude.{◌≡◌, ℕ, List, [], nat_eq, slice_get}
 use Rattle.std.specs.List.{sum_by}
 use Rattle.std.specs.Option.{option_map_or}
 use Rattle.std.specs.Global.{Vec}
-use Rattle.rt_store.specs.Forest.{one_if}
+use Rattle.rt_store.specs.inside.Forest.{one_if}
 
 abbrev pub often : ℕ → List ℕ → ℕ
 often m xs = sum_by (λ x. one_if (nat_eq m x)) xs

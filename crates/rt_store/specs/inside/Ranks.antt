@@ -1,8 +1,8 @@
 -- The children of each node, as the ranks have them.
 use Rattle.std.specs.Prelude.{◌≡◌, ◌+◌, ◌&&◌, ℕ, Bool, true, false, List, Option, Some, None, nat_eq}
 use Rattle.slab.specs.Slab.{Slab, get}
-use Rattle.rt_store.specs.Forest.{one_if}
-use Rattle.rt_store.specs.Often.{often, nth_row}
+use Rattle.rt_store.specs.inside.Forest.{one_if}
+use Rattle.rt_store.specs.inside.Often.{often, nth_row}
 use Rattle.rt_store.specs.declared.slot.Slot.{Slot}
 use Rattle.rt_store.specs.declared.ranks.Ranks.{Ranks}
 
