@@ -17,7 +17,7 @@ use Rattle.rt_query.specs.declared.limit.Limit.{Limit}
 use Rattle.rt_query.specs.declared.limit.Limit.TheVariants.{First, Last}
 use Rattle.rt_query.specs.Queries.{Query}
 use Rattle.rt_query.specs.QueryEq.{query_eq}
-use Rattle.rt_query.specs.QueryEqLaws.{query_eq_tells}
+use Rattle.rt_query.specs.laws.QueryEq.{query_eq_tells}
 use Rattle.rt_cache.specs.QueryOrder.{Word, spelled_index, spelled_leaf, spelled_mark, spelled_place, spelled_cut, spelled_limit, spelled, query_cmp}
 
 abbrev head_or : {A : Type 0} → A → List A → A

@@ -7,8 +7,8 @@ use Rattle.rt_tree.specs.PathTree.{Key, Path, PathTree, key_eq, key_eq-is, key_e
 use Rattle.rt_tree.specs.Allowed.{IsAllowed, may_stand_below, allowed-sub}
 use Rattle.rt_tree.proofs.Trees.{sub-root, sub-object}
 use Rattle.rt_store.specs.Rows.{Row}
-use Rattle.rt_store.specs.Forest.{Forest, bare, node, size, entries, tree_with, AllAfter, Sound, row_at}
-use Rattle.rt_store.specs.Walks.{IsPlace}
+use Rattle.rt_store.specs.inside.Forest.{Forest, bare, node, size, entries, tree_with, AllAfter, Sound, row_at}
+use Rattle.rt_store.specs.inside.Walks.{IsPlace}
 use Rattle.rt_store.specs.declared.slot.Slot.{Slot}
 use Rattle.rt_store.proofs.Linked.{IsAt, at_place, row_at-none, not_nowhere}
 use Rattle.rt_store.proofs.Orders.{full_of}

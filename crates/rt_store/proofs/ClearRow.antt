@@ -11,12 +11,14 @@ use Rattle.rt_tree.specs.PathTree.{Key, Path, PathTree, null, leaf_at-null, put,
 use Rattle.rt_tree.specs.Allowed.{IsAllowed, allowed-null, allowed-put}
 use Rattle.rt_tree.proofs.Trees.{put-root}
 use Rattle.rt_order.specs.KeyOrder.{key_cmp}
-use Rattle.rt_store.specs.Forest.{Forest, bare, node, one_if, first, times, entries, IsFull, Sound, Links, IsRow, row_at}
-use Rattle.rt_store.specs.Walks.{IsPlace, index_in}
-use Rattle.rt_store.specs.Changes.{InRow, IsHead, Felled, Changed, is_bare, cleared, without, below_of, with_below, with_content}
+use Rattle.rt_store.specs.inside.Forest.{Forest, bare, node, one_if, first, times, entries, IsFull, Sound, Links, IsRow, row_at}
+use Rattle.rt_store.specs.inside.Walks.{IsPlace, index_in}
+use Rattle.rt_store.specs.inside.Changes.{InRow, IsHead, Felled, Changed, is_bare, cleared, without, below_of, with_below, with_content}
 use Rattle.rt_store.specs.Stored.{Stored}
-use Rattle.rt_store.specs.StoreView.{stored, IsStore}
+use Rattle.rt_store.specs.inside.Ranks.{IsRanked}
+use Rattle.rt_store.specs.inside.StoreView.{stored, IsStore}
 use Rattle.rt_store.specs.declared.slot.Slot.{Slot}
+use Rattle.rt_store.specs.declared.ranks.Ranks.{Ranks}
 use Rattle.rt_store.specs.declared.store.Store.TheInside.{Inside}
 use Rattle.rt_store.proofs.Linked.{same_some, row_at-none}
 use Rattle.rt_store.proofs.Joining.{slots_same, in_row_times}
@@ -207,16 +209,16 @@ felled_changed s t f h = record {
   len = omega (arith, h.len);
 }
 
-pub emptied : (a : Inside) (t : Slab Slot) → IsStore a → Felled a.nodes t (row_at a.nodes a.first) → IsStore (record a { nodes = t; first = None; leaf = None })
-emptied a t h felled =
-    store_after a (record a { nodes = t; first = None; leaf = None }) h bare (record { links = tt; sound = tt; starts = refl; fits = omega arith })
-    (felled_changed a.nodes t (row_at a.nodes a.first) felled) (λ e. refl) allowed-null
+pub emptied : (a : Inside) (t : Slab Slot) (q : Ranks) → IsStore a → Felled a.nodes t (row_at a.nodes a.first) → IsRanked t q → IsStore (record { nodes = t; first = None; leaf = None; ranks = q })
+emptied a t q h felled ranked =
+    store_after a (record { nodes = t; first = None; leaf = None; ranks = q }) h bare (record { links = tt; sound = tt; starts = refl; fits = omega arith })
+    (felled_changed a.nodes t (row_at a.nodes a.first) felled) (λ e. refl) ranked allowed-null
 
-pub emptied_tree : (a : Inside) (t : Slab Slot) (u : PathTree) (path : Path) → length path ≡ 0 → (stored (record a { nodes = t; first = None; leaf = None })).tree ≡ put u path null
-emptied_tree a t u [] short = ap (λ f. object (entries f)) (row_at-none t) ∙ sym (put-root u null)
-emptied_tree a t u (k ∷ p) short = absurd (omega (arith, short))
+pub emptied_tree : (t : Slab Slot) (q : Ranks) (u : PathTree) (path : Path) → length path ≡ 0 → (stored (record { nodes = t; first = None; leaf = None; ranks = q })).tree ≡ put u path null
+emptied_tree t q u [] short = ap (λ f. object (entries f)) (row_at-none t) ∙ sym (put-root u null)
+emptied_tree t q u (k ∷ p) short = absurd (omega (arith, short))
 
-module _ (a : Inside) (h : IsStore a) (k : Key) (p : Path) (t : Slab Slot) (o : Option ℕ)
+module _ (a : Inside) (h : IsStore a) (k : Key) (p : Path) (t : Slab Slot) (q : Ranks) (o : Option ℕ)
     (row : (parent : Option ℕ) → IsRow a.nodes a.first parent None (row_at a.nodes a.first) → IsRow t o parent None (cleared k p (row_at a.nodes a.first)))
     (changed : Changed a.nodes t (row_at a.nodes a.first) (cleared k p (row_at a.nodes a.first))) where
   is_row : IsRow t o None None (cleared k p (row_at a.nodes a.first))
@@ -225,12 +227,12 @@ module _ (a : Inside) (h : IsStore a) (k : Key) (p : Path) (t : Slab Slot) (o : 
   top : is_some a.leaf ≡ true → o ≡ None
   top e = sym is_row.starts ∙ ap (λ f. first (cleared k p f)) (ap (row_at a.nodes) (h.top e) ∙ row_at-none a.nodes)
 
-  pub cleared_store : IsStore (record a { nodes = t; first = o })
-  cleared_store =
-      store_after a (record a { nodes = t; first = o }) h (cleared k p (row_at a.nodes a.first)) is_row changed top
-      (subst IsAllowed (tree_cleared a.leaf k p (row_at a.nodes a.first) h.row.sound) (allowed-put (stored a).tree (k ∷ p) null h.allowed (λ q l e. cc (leaf_at-null q))))
+  pub cleared_store : IsRanked t q → IsStore (record a { nodes = t; first = o; ranks = q })
+  cleared_store ranked =
+      store_after a (record a { nodes = t; first = o; ranks = q }) h (cleared k p (row_at a.nodes a.first)) is_row changed top ranked
+      (subst IsAllowed (tree_cleared a.leaf k p (row_at a.nodes a.first) h.row.sound) (allowed-put (stored a).tree (k ∷ p) null h.allowed (λ j l e. cc (leaf_at-null j))))
 
-  pub cleared_tree : (s : Stored) (path : Path) → stored a ≡ s → path ≡ k ∷ p → (stored (record a { nodes = t; first = o })).tree ≡ put s.tree path null
+  pub cleared_tree : (s : Stored) (path : Path) → stored a ≡ s → path ≡ k ∷ p → (stored (record a { nodes = t; first = o; ranks = q })).tree ≡ put s.tree path null
   cleared_tree s path view goes =
-      tree_after (record a { nodes = t; first = o }) (cleared k p (row_at a.nodes a.first)) is_row
+      tree_after (record a { nodes = t; first = o; ranks = q }) (cleared k p (row_at a.nodes a.first)) is_row
       ∙ sym (tree_cleared a.leaf k p (row_at a.nodes a.first) h.row.sound) ∙ (λ i. put (view i).tree (sym goes i) null)

@@ -9,8 +9,8 @@ use Rattle.rt_tree.specs.PathTree.{Key, Path, key_eq, key_eq-is, key_eq-symm, nu
 use Rattle.rt_tree.proofs.Trees.{put-root, put-object, put-null-null, put-of_leaf-null, non_null-null, some_non_null}
 use Rattle.rt_order.specs.KeyOrder.{key_cmp}
 use Rattle.rt_order.specs.laws.KeyOrder.{key_cmp-IsAntisymmetric}
-use Rattle.rt_store.specs.Forest.{Forest, bare, node, entries, tree_with, AllAfter, IsFull, Sound}
-use Rattle.rt_store.specs.Changes.{is_bare, cleared}
+use Rattle.rt_store.specs.inside.Forest.{Forest, bare, node, entries, tree_with, AllAfter, IsFull, Sound}
+use Rattle.rt_store.specs.inside.Changes.{is_bare, cleared}
 use Rattle.rt_store.proofs.Orders.{full_tree}
 use Rattle.rt_store.proofs.Paths.{differs, equals, child_of-after}
 use Rattle.rt_store.proofs.Building.{child_of-itself}

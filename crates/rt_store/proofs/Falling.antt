@@ -21,8 +21,8 @@ use Rattle.rt_tree.proofs.Trees.{leaf_at-found}
 use Rattle.rt_order.specs.KeyOrder.{bytes_cmp, key_cmp}
 use Rattle.rt_order.specs.laws.KeyOrder.{key_cmp_total, key_cmp-IsAntisymmetric}
 use Rattle.rt_store.specs.Rows.{Row, in_key_order}
-use Rattle.rt_store.specs.Forest.{Forest, bare, node, entries, AllAfter}
-use Rattle.rt_store.specs.Growing.{seen}
+use Rattle.rt_store.specs.inside.Forest.{Forest, bare, node, entries, AllAfter}
+use Rattle.rt_store.specs.inside.Growing.{seen}
 use Rattle.rt_store.specs.declared.grow.Child.{Child}
 use Rattle.rt_store.proofs.Orders.{tests_alike, find-child_of, sorted-in_key_order, find-in_key_order}
 

@@ -3,9 +3,9 @@ use Rattle.std.proofs.Common.{◌≡◌, ◌≢◌, ◌≤◌, ◌<◌, ℕ, zer
 use Rattle.std.specs.Prelude.{nat_eq}
 use Rattle.std.proofs.lemmas.Bool.{eqb-true, eq-eqb}
 use Rattle.slab.specs.Slab.{Slab, get, slab_len, Updates}
-use Rattle.rt_store.specs.Forest.{Forest, bare, node, one_if, size, times, Links, IsRow, row_at}
-use Rattle.rt_store.specs.Walks.{IsPlace}
-use Rattle.rt_store.specs.Changes.{Felled}
+use Rattle.rt_store.specs.inside.Forest.{Forest, bare, node, one_if, size, times, Links, IsRow, row_at}
+use Rattle.rt_store.specs.inside.Walks.{IsPlace}
+use Rattle.rt_store.specs.inside.Changes.{Felled}
 use Rattle.rt_store.specs.declared.slot.Slot.{Slot}
 use Rattle.rt_store.proofs.Linked.{IsAt, at_place, row_at_is, row_at-none, place_of, not_nowhere}
 

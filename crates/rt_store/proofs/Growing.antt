@@ -14,10 +14,10 @@ use Rattle.rt_tree.specs.Children.{children_of, child_of-children_of}
 use Rattle.rt_tree.proofs.Trees.{put-root, put-object, is_null-put, some_non_null, full_of_non_null}
 use Rattle.rt_order.specs.KeyOrder.{key_cmp}
 use Rattle.rt_store.specs.Rows.{Row, in_key_order}
-use Rattle.rt_store.specs.Growing.{seen}
-use Rattle.rt_store.specs.Forest.{Forest, bare, node, one_if, first, size, times, entries, tree_with, AllAfter, IsFull, IsRow, row_at}
-use Rattle.rt_store.specs.Walks.{IsPlace, spot_in}
-use Rattle.rt_store.specs.Changes.{Same, Felled, Changed, Grown, with_content, linked_in, planted}
+use Rattle.rt_store.specs.inside.Growing.{seen}
+use Rattle.rt_store.specs.inside.Forest.{Forest, bare, node, one_if, first, size, times, entries, tree_with, AllAfter, IsFull, IsRow, row_at}
+use Rattle.rt_store.specs.inside.Walks.{IsPlace, spot_in}
+use Rattle.rt_store.specs.inside.Changes.{Same, Felled, Changed, Grown, with_content, linked_in, planted}
 use Rattle.rt_store.specs.declared.row.Spot.TheVariants.{Gap}
 use Rattle.rt_store.specs.declared.grow.Child.{Child}
 use Rattle.rt_store.specs.declared.slot.Slot.{Slot}

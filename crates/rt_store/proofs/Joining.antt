@@ -4,8 +4,8 @@ use Rattle.std.specs.Prelude.{nat_eq}
 use Rattle.std.specs.Option.{option_map}
 use Rattle.std.proofs.lemmas.Bool.{eqb-true, eq-eqb}
 use Rattle.slab.specs.Slab.{Slab, get}
-use Rattle.rt_store.specs.Forest.{Forest, bare, node, one_if, first, times, Links}
-use Rattle.rt_store.specs.Changes.{is_link, joined, InRow, without}
+use Rattle.rt_store.specs.inside.Forest.{Forest, bare, node, one_if, first, times, Links}
+use Rattle.rt_store.specs.inside.Changes.{is_link, joined, InRow, without}
 use Rattle.rt_store.specs.declared.slot.Slot.{Slot}
 use Rattle.rt_store.proofs.Felling.{one_of, links_kept}
 

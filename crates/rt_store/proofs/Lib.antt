@@ -12,6 +12,7 @@ pub mod Paths
 pub mod Places
 pub mod Planting
 pub mod Putting
+pub mod Ranked
 pub mod Replacing
 pub mod Storing
 pub mod Taking

@@ -8,9 +8,9 @@ use Rattle.slab.specs.Slab.{Slab, get, slab_len}
 use Rattle.rt_tree.specs.Leaf.{LeafValue}
 use Rattle.rt_tree.specs.PathTree.{Key}
 use Rattle.rt_store.specs.Stored.{nth}
-use Rattle.rt_store.specs.Forest.{Forest, bare, node, one_if, first, size, times, entries, AllAfter, IsFull, Links, reached, row_at, IsRow}
-use Rattle.rt_store.specs.Walks.{IsPlace}
-use Rattle.rt_store.specs.StoreView.{rows_from}
+use Rattle.rt_store.specs.inside.Forest.{Forest, bare, node, one_if, first, size, times, entries, AllAfter, IsFull, Links, reached, row_at, IsRow}
+use Rattle.rt_store.specs.inside.Walks.{IsPlace}
+use Rattle.rt_store.specs.inside.StoreView.{rows_from}
 use Rattle.rt_store.specs.declared.slot.Slot.{Slot}
 
 -- enough steps reach the whole row

@@ -8,10 +8,10 @@ use Rattle.slab.specs.Slab.{Slab, get}
 use Rattle.rt_tree.specs.PathTree.{Key}
 use Rattle.rt_order.specs.KeyOrder.{key_cmp}
 use Rattle.rt_order.specs.laws.KeyOrder.{key_cmp_total, key_cmp-IsAntisymmetric}
-use Rattle.rt_store.specs.Forest.{Forest, bare, node, one_if, first, times, AllAfter, Links, IsRow, row_at}
-use Rattle.rt_store.specs.Walks.{IsPlace, spot_in}
-use Rattle.rt_store.specs.Changes.{InRow, Told}
-use Rattle.rt_store.specs.StoreView.{IsStore}
+use Rattle.rt_store.specs.inside.Forest.{Forest, bare, node, one_if, first, times, AllAfter, Links, IsRow, row_at}
+use Rattle.rt_store.specs.inside.Walks.{IsPlace, spot_in}
+use Rattle.rt_store.specs.inside.Changes.{InRow, Told}
+use Rattle.rt_store.specs.inside.StoreView.{IsStore}
 use Rattle.rt_store.specs.declared.row.Spot.TheVariants.{Here, Gap}
 use Rattle.rt_store.specs.declared.slot.Slot.{Slot}
 use Rattle.rt_store.specs.declared.store.Store.TheInside.{Inside}

@@ -16,7 +16,7 @@ use Rattle.rt_order.specs.KeyOrder.{key_cmp}
 use Rattle.rt_order.specs.laws.KeyOrder.{key_cmp_total, key_cmp-IsAntisymmetric}
 use Rattle.rt_store.specs.Rows.{Row, in_key_order, row, root_row}
 use Rattle.rt_store.specs.Stored.{first_tree}
-use Rattle.rt_store.specs.Forest.{Forest, bare, node, first, tree_with, entries, AllAfter, IsFull, Sound}
+use Rattle.rt_store.specs.inside.Forest.{Forest, bare, node, first, tree_with, entries, AllAfter, IsFull, Sound}
 
 -- the test of either order tells equal keys
 pub tests_alike : (j k : Key) → eq_by_cmp key_cmp j k ≡ key_eq j k

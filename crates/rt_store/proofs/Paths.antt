@@ -15,10 +15,10 @@ use Rattle.rt_order.specs.KeyOrder.{key_cmp}
 use Rattle.rt_order.specs.laws.KeyOrder.{key_cmp_total}
 use Rattle.rt_store.specs.Rows.{Row, from_key, from_path}
 use Rattle.rt_store.specs.Stored.{Stored, onward, some_row}
-use Rattle.rt_store.specs.StoreView.{stored, IsStore}
+use Rattle.rt_store.specs.inside.StoreView.{stored, IsStore}
 use Rattle.rt_store.specs.declared.store.Store.TheInside.{Inside}
-use Rattle.rt_store.specs.Forest.{Forest, bare, node, first, size, entries, tree_with, AllAfter, Sound, IsRow, row_at}
-use Rattle.rt_store.specs.Walks.{IsPlace, spot_in, index_in, place_in}
+use Rattle.rt_store.specs.inside.Forest.{Forest, bare, node, first, size, entries, tree_with, AllAfter, Sound, IsRow, row_at}
+use Rattle.rt_store.specs.inside.Walks.{IsPlace, spot_in, index_in, place_in}
 use Rattle.rt_store.specs.declared.row.Spot.{Spot}
 use Rattle.rt_store.specs.declared.row.Spot.TheVariants.{Here, Gap}
 use Rattle.rt_store.specs.declared.slot.Slot.{Slot}

@@ -7,9 +7,9 @@ use Rattle.rt_tree.specs.Leaf.{LeafValue}
 use Rattle.rt_tree.specs.PathTree.{null, is_null, is_null-null, leaf_of, leaf_at-null, leaf_at-of_leaf, leaf_at-object-root, object}
 use Rattle.rt_store.specs.Rows.{Row, row}
 use Rattle.rt_store.specs.Stored.{Stored, onward, some_row, behind, first_tree, first_key, tree_at, key_at}
-use Rattle.rt_store.specs.Forest.{Forest, bare, node, first, entries, tree_with, IsRow, row_at}
-use Rattle.rt_store.specs.Walks.{IsPlace}
-use Rattle.rt_store.specs.StoreView.{stored, IsStore}
+use Rattle.rt_store.specs.inside.Forest.{Forest, bare, node, first, entries, tree_with, IsRow, row_at}
+use Rattle.rt_store.specs.inside.Walks.{IsPlace}
+use Rattle.rt_store.specs.inside.StoreView.{stored, IsStore}
 use Rattle.rt_store.specs.declared.store.Store.TheInside.{Inside}
 use Rattle.rt_store.specs.declared.slot.Slot.{Slot}
 use Rattle.rt_store.proofs.Linked.{nth_is, IsAt, at_place, place_in_store, row_at-none, row_at-nowhere}

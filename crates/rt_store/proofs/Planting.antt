@@ -11,9 +11,9 @@ use Rattle.rt_tree.specs.Leaf.{LeafValue}
 use Rattle.rt_tree.specs.PathTree.{Key, PathTree, key_eq, key_eq-is, key_eq-symm, child_of}
 use Rattle.rt_order.specs.KeyOrder.{key_cmp}
 use Rattle.rt_order.specs.laws.KeyOrder.{key_cmp_total}
-use Rattle.rt_store.specs.Forest.{Forest, bare, node, one_if, first, size, times, entries, tree_with, AllAfter, IsFull, Sound, Links, IsRow}
-use Rattle.rt_store.specs.Walks.{spot_in}
-use Rattle.rt_store.specs.Changes.{is_link, linked_in, planted, Changed}
+use Rattle.rt_store.specs.inside.Forest.{Forest, bare, node, one_if, first, size, times, entries, tree_with, AllAfter, IsFull, Sound, Links, IsRow}
+use Rattle.rt_store.specs.inside.Walks.{spot_in}
+use Rattle.rt_store.specs.inside.Changes.{is_link, linked_in, planted, Changed}
 use Rattle.rt_store.specs.declared.row.Spot.TheVariants.{Here, Gap}
 use Rattle.rt_store.specs.declared.slot.Slot.{Slot}
 use Rattle.rt_store.proofs.Paths.{differs}

@@ -13,14 +13,16 @@ use Rattle.rt_tree.specs.PathTree.{levels, Key, Path, PathTree, key_eq, key_eq-i
 use Rattle.rt_tree.proofs.Trees.{put-object, put-of_leaf, is_null-put, some_non_null}
 use Rattle.rt_order.specs.KeyOrder.{key_cmp}
 use Rattle.rt_order.specs.laws.KeyOrder.{key_cmp-IsAntisymmetric}
-use Rattle.rt_store.specs.Forest.{Forest, bare, node, first, size, times, entries, tree_with, IsFull, IsRow, row_at}
-use Rattle.rt_store.specs.Walks.{IsPlace, spot_in, index_in}
-use Rattle.rt_store.specs.Changes.{InRow, with_below, with_content, linked_in, Felled, Changed, Same, Grown, IsPut}
+use Rattle.rt_store.specs.inside.Forest.{Forest, bare, node, first, size, times, entries, tree_with, IsFull, IsRow, row_at}
+use Rattle.rt_store.specs.inside.Walks.{IsPlace, spot_in, index_in}
+use Rattle.rt_store.specs.inside.Changes.{InRow, with_below, with_content, linked_in, Felled, Changed, Same, Grown, IsPut}
 use Rattle.rt_store.specs.Stored.{Stored, IsAsBefore}
-use Rattle.rt_store.specs.StoreView.{stored, IsStore}
+use Rattle.rt_store.specs.inside.Ranks.{IsRanked}
+use Rattle.rt_store.specs.inside.StoreView.{stored, IsStore}
 use Rattle.rt_store.specs.declared.store.Store.TheInside.{Inside}
 use Rattle.rt_store.specs.declared.row.Spot.TheVariants.{Here, Gap}
 use Rattle.rt_store.specs.declared.slot.Slot.{Slot}
+use Rattle.rt_store.specs.declared.ranks.Ranks.{Ranks}
 use Rattle.rt_store.proofs.Linked.{row_at_is, row_at-none, place_of, locate, not_nowhere}
 use Rattle.rt_store.proofs.Orders.{top_of_full}
 use Rattle.rt_store.proofs.Paths.{here, index_spot, differs, Found, find_found, find_lacks}
@@ -218,19 +220,19 @@ module _ (s : Slab Slot) (o parent : Option ℕ) (k : Key) (n : ℕ) (slot : Slo
 -- ---- the steps of `set`
 module _ (a : Inside) (s : Stored) (h : IsStore a) (view : stored a ≡ s) where
   -- a refusal
-  module _ (u : Slab Slot) (same : Same a.nodes u) where
-    pub set_nothing : IsStore (record a { nodes = u })
-    set_nothing = store_same a (record a { nodes = u }) h same refl refl
+  module _ (u : Slab Slot) (q : Ranks) (same : Same a.nodes u) where
+    pub set_nothing : IsRanked u q → IsStore (record a { nodes = u; ranks = q })
+    set_nothing ranked = store_same a (record a { nodes = u; ranks = q }) h same refl refl ranked
 
-    pub set_as_before : IsAsBefore s (stored (record a { nodes = u }))
-    set_as_before = subst (λ x. IsAsBefore x (stored (record a { nodes = u }))) view (as_before a (record a { nodes = u }) same refl refl)
+    pub set_as_before : IsAsBefore s (stored (record a { nodes = u; ranks = q }))
+    set_as_before = subst (λ x. IsAsBefore x (stored (record a { nodes = u; ranks = q }))) view (as_before a (record a { nodes = u; ranks = q }) same refl refl)
 
 module _ (a : Inside) (s : Stored) (h : IsStore a) (view : stored a ≡ s) (path : Path) (v : PathTree) (valid : IsPath path) (allowed : IsAllowed v) where
   at_root : (x : PathTree) (q : Path) → q ≡ path → length q ≡ 0 → put x path v ≡ v
   at_root x q keys short = ap (λ p. put x p v) (sym keys) ∙ put_whole x q v short
 
   -- the whole tree
-  module _ (t u : Slab Slot) (r : Option ℕ) (l : Option LeafValue) (q : Path) (keys : q ≡ path) (short : length q ≡ 0)
+  module _ (t u : Slab Slot) (ranks : Ranks) (r : Option ℕ) (l : Option LeafValue) (q : Path) (keys : q ≡ path) (short : length q ≡ 0)
       (grown : Grown a.nodes t r None) (full : IsFull l (row_at t r)) (is : tree_with l (entries (row_at t r)) ≡ put null q v) (felled : Felled t u (row_at t a.first)) where
     becomes : tree_with l (entries (row_at t r)) ≡ v
     becomes = is ∙ ap (λ p. put null p v) keys ∙ at_root null q keys short
@@ -238,25 +240,25 @@ module _ (a : Inside) (s : Stored) (h : IsStore a) (view : stored a ≡ s) (path
     row_now : IsRow u r None None (row_at t r)
     row_now = swapped_row a.nodes t a.first r None h.row (once_in a h) grown u felled
 
-    pub set_root : IsStore (record a { nodes = u; first = r; leaf = l })
-    set_root =
-        store_after a (record a { nodes = u; first = r; leaf = l }) h (row_at t r) row_now (swapped a.nodes t a.first r None h.row (once_in a h) grown u felled)
-        (λ e. sym grown.row.starts ∙ ap first (top_of_full l (row_at t r) full e)) (subst IsAllowed (sym becomes) allowed)
+    pub set_root : IsRanked u ranks → IsStore (record { nodes = u; first = r; leaf = l; ranks = ranks })
+    set_root ranked =
+        store_after a (record { nodes = u; first = r; leaf = l; ranks = ranks }) h (row_at t r) row_now (swapped a.nodes t a.first r None h.row (once_in a h) grown u felled)
+        (λ e. sym grown.row.starts ∙ ap first (top_of_full l (row_at t r) full e)) ranked (subst IsAllowed (sym becomes) allowed)
 
-    pub set_root_tree : (stored (record a { nodes = u; first = r; leaf = l })).tree ≡ put s.tree path v
-    set_root_tree = tree_after (record a { nodes = u; first = r; leaf = l }) (row_at t r) row_now ∙ becomes ∙ sym (at_root s.tree q keys short)
+    pub set_root_tree : (stored (record { nodes = u; first = r; leaf = l; ranks = ranks })).tree ≡ put s.tree path v
+    set_root_tree = tree_after (record { nodes = u; first = r; leaf = l; ranks = ranks }) (row_at t r) row_now ∙ becomes ∙ sym (at_root s.tree q keys short)
 
   -- a part of it
-  module _ (u : Slab Slot) (r near : Option ℕ) (k : Key) (p : Path) (goes : path ≡ k ∷ p) (some : is_null v ≡ false) (put_in : IsPut a.nodes u a.first r None k p v) where
-    tree_now : (stored (record { nodes = u; first = r; leaf = None; near = near })).tree ≡ put (stored a).tree path v
+  module _ (u : Slab Slot) (ranks : Ranks) (r : Option ℕ) (k : Key) (p : Path) (goes : path ≡ k ∷ p) (some : is_null v ≡ false) (put_in : IsPut a.nodes u a.first r None k p v) where
+    tree_now : (stored (record { nodes = u; first = r; leaf = None; ranks = ranks })).tree ≡ put (stored a).tree path v
     tree_now =
         sym (put_tree a.leaf (row_at a.nodes a.first) (row_at u r) k p v (λ e. ap (row_at a.nodes) (h.top e) ∙ row_at-none a.nodes) some put_in.puts)
         ∙ ap (λ q. put (stored a).tree q v) (sym goes)
 
-    pub set_part : length path + levels v ≤ 33 → IsStore (record { nodes = u; first = r; leaf = None; near = near })
-    set_part fits =
-        store_after a (record { nodes = u; first = r; leaf = None; near = near }) h (row_at u r) put_in.row put_in.changed (λ e. cc)
+    pub set_part : length path + levels v ≤ 33 → IsRanked u ranks → IsStore (record { nodes = u; first = r; leaf = None; ranks = ranks })
+    set_part fits ranked =
+        store_after a (record { nodes = u; first = r; leaf = None; ranks = ranks }) h (row_at u r) put_in.row put_in.changed (λ e. cc) ranked
         (subst IsAllowed (sym tree_now) (allowed-put (stored a).tree path v h.allowed (may_stand path v valid allowed fits)))
 
-    pub set_part_tree : (stored (record { nodes = u; first = r; leaf = None; near = near })).tree ≡ put s.tree path v
+    pub set_part_tree : (stored (record { nodes = u; first = r; leaf = None; ranks = ranks })).tree ≡ put s.tree path v
     set_part_tree = tree_now ∙ ap (λ (x : Stored). put x.tree path v) view

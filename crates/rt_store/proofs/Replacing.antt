@@ -6,8 +6,8 @@ use Rattle.std.proofs.lemmas.Bool.{eqb-true, eq-eqb}
 use Rattle.slab.specs.Slab.{Slab, get, slab_len}
 use Rattle.rt_tree.specs.Leaf.{LeafValue}
 use Rattle.rt_tree.specs.PathTree.{Key}
-use Rattle.rt_store.specs.Forest.{Forest, bare, node, one_if, first, size, times, AllAfter, IsFull, Sound, Links, IsRow}
-use Rattle.rt_store.specs.Changes.{InRow, below_of, with_below, with_content, Changed}
+use Rattle.rt_store.specs.inside.Forest.{Forest, bare, node, one_if, first, size, times, AllAfter, IsFull, Sound, Links, IsRow}
+use Rattle.rt_store.specs.inside.Changes.{InRow, below_of, with_below, with_content, Changed}
 use Rattle.rt_store.specs.declared.slot.Slot.{Slot}
 use Rattle.rt_store.proofs.Linked.{locate, not_nowhere}
 use Rattle.rt_store.proofs.Felling.{one_of, links_kept}

@@ -4,10 +4,11 @@ use Rattle.std.specs.Option.{option_map_or}
 use Rattle.slab.specs.Slab.{Slab, get, slab_len}
 use Rattle.rt_tree.specs.Allowed.{IsAllowed}
 use Rattle.rt_store.specs.Rows.{root_row}
-use Rattle.rt_store.specs.Forest.{Forest, bare, node, one_if, size, IsRow, reached, row_at, entries, tree_with, times}
-use Rattle.rt_store.specs.Changes.{Changed, Same}
+use Rattle.rt_store.specs.inside.Forest.{Forest, bare, node, one_if, size, IsRow, reached, row_at, entries, tree_with, times}
+use Rattle.rt_store.specs.inside.Changes.{Changed, Same}
 use Rattle.rt_store.specs.Stored.{IsAsBefore, onward}
-use Rattle.rt_store.specs.StoreView.{IsStore, IsTop, stored}
+use Rattle.rt_store.specs.inside.Ranks.{IsRanked}
+use Rattle.rt_store.specs.inside.StoreView.{IsStore, IsTop, stored}
 use Rattle.rt_store.specs.declared.slot.Slot.{Slot}
 use Rattle.rt_store.specs.declared.store.Store.TheInside.{Inside}
 use Rattle.rt_store.proofs.Linked.{row_at_is, locate, not_nowhere}
@@ -38,13 +39,14 @@ once_after s t o parent previous f g row changed n was = of (times n f) refl (ti
 
 -- the nodes of a store became another row
 pub store_after : (a b : Inside) → IsStore a → (g : Forest) → IsRow b.nodes b.first None None g → Changed a.nodes b.nodes (row_at a.nodes a.first) g
-    → IsTop b.leaf b.first → IsAllowed (tree_with b.leaf (entries g)) → IsStore b
-store_after a b h g row changed top allowed =
+    → IsTop b.leaf b.first → IsRanked b.nodes b.ranks → IsAllowed (tree_with b.leaf (entries g)) → IsStore b
+store_after a b h g row changed top ranked allowed =
     let is : row_at b.nodes b.first ≡ g = row_at_is b.nodes b.first None None g row in record {
       row = subst (IsRow b.nodes b.first None None) (sym is) row;
       count = ap size is ∙ (let c : size g ≡ slab_len b.nodes = omega (arith, changed.len, h.count) in c);
       once = λ n. ap (times n) is ∙ once_after a.nodes b.nodes b.first None None (row_at a.nodes a.first) g row changed n (h.once n);
       top = top;
+      ranked = ranked;
       allowed = subst (λ f. IsAllowed (tree_with b.leaf (entries f))) (sym is) allowed;
     }
 
@@ -68,8 +70,8 @@ reached_same (suc m) s t same (Some n) =
 pub row_at_same : (s t : Slab Slot) → Same s t → (o : Option ℕ) → row_at t o ≡ row_at s o
 row_at_same s t same o = ap (λ m. reached m t o) same.len ∙ reached_same (slab_len s) s t same o
 
-pub store_same : (a b : Inside) → IsStore a → Same a.nodes b.nodes → b.first ≡ a.first → b.leaf ≡ a.leaf → IsStore b
-store_same a b h same first leaf =
+pub store_same : (a b : Inside) → IsStore a → Same a.nodes b.nodes → b.first ≡ a.first → b.leaf ≡ a.leaf → IsRanked b.nodes b.ranks → IsStore b
+store_same a b h same first leaf ranked =
     let f = row_at a.nodes a.first in
     let is : row_at b.nodes b.first ≡ f = ap (row_at b.nodes) first ∙ row_at_same a.nodes b.nodes same a.first in
     let starts : IsRow b.nodes a.first None None f = row_kept a.nodes b.nodes a.first None None f h.row (λ n some. same.kept n) (omega (arith, h.row.fits, same.len)) in record {
@@ -77,6 +79,7 @@ store_same a b h same first leaf =
       count = ap size is ∙ h.count ∙ sym same.len;
       once = λ n. ap (times n) is ∙ h.once n ∙ ap (λ x. one_if (is_some x)) (sym (same.kept n));
       top = λ e. first ∙ h.top (ap is_some (sym leaf) ∙ e);
+      ranked = ranked;
       allowed = subst IsAllowed (λ i. tree_with (sym leaf i) (entries (sym is i))) h.allowed;
     }
 

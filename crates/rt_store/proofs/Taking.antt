@@ -5,9 +5,9 @@ use Rattle.std.specs.Option.{option_map}
 use Rattle.std.proofs.lemmas.Bool.{eqb-true, eq-eqb}
 use Rattle.slab.specs.Slab.{Slab, get, slab_len, Updates}
 use Rattle.rt_tree.specs.PathTree.{Key}
-use Rattle.rt_store.specs.Forest.{Forest, bare, node, one_if, first, size, times, AllAfter, Sound, Links, IsRow, row_at}
-use Rattle.rt_store.specs.Walks.{IsPlace}
-use Rattle.rt_store.specs.Changes.{is_link, joined, InRow, without, below_of, Felled, Changed}
+use Rattle.rt_store.specs.inside.Forest.{Forest, bare, node, one_if, first, size, times, AllAfter, Sound, Links, IsRow, row_at}
+use Rattle.rt_store.specs.inside.Walks.{IsPlace}
+use Rattle.rt_store.specs.inside.Changes.{is_link, joined, InRow, without, below_of, Felled, Changed}
 use Rattle.rt_store.specs.declared.slot.Slot.{Slot}
 use Rattle.rt_store.proofs.Linked.{row_at_is, place_of, locate, not_nowhere}
 use Rattle.rt_store.proofs.Felling.{one_of, links_kept}

@@ -9,9 +9,9 @@ use Rattle.slab.specs.Slab.{Slab, get}
 use Rattle.rt_tree.specs.Leaf.{LeafValue}
 use Rattle.rt_tree.specs.PathTree.{Key, Path}
 use Rattle.rt_order.specs.KeyOrder.{key_cmp}
-use Rattle.rt_store.specs.Forest.{Forest, bare, node, first, row_at}
-use Rattle.rt_store.specs.Walks.{IsPlace}
-use Rattle.rt_store.specs.Changes.{is_bare, cleared}
+use Rattle.rt_store.specs.inside.Forest.{Forest, bare, node, first, row_at}
+use Rattle.rt_store.specs.inside.Walks.{IsPlace}
+use Rattle.rt_store.specs.inside.Changes.{is_bare, cleared}
 use Rattle.rt_store.specs.declared.slot.Slot.{Slot}
 use Rattle.rt_store.proofs.Linked.{IsAt, at_place, row_at-none}
 

@@ -3,8 +3,8 @@ ghost use Rattle.std.specs.Prelude.{◌≡◌, IfOk, OnOk, List, ℕ, Some, if�
 ghost use Rattle.std.specs.BTreeMap.{IsOrdered};
 ghost use Rattle.rt_tree.specs.PathTree.{key_cmp, key_eq, child_of};
 ghost use Rattle.rt_tree.specs.Allowed.{IsAllowed};
-ghost use Rattle.rt_store.specs.Forest.{row_at, entries, tree_with};
-ghost use Rattle.rt_store.specs.Walks.{IsPlace};
+ghost use Rattle.rt_store.specs.inside.Forest.{row_at, entries, tree_with};
+ghost use Rattle.rt_store.specs.inside.Walks.{IsPlace};
 
 use crate::slot::Slot;
 use rt_tree::{Key, Leaf, Tree};
@@ -40,7 +40,7 @@ pub(crate) fn build(
     let mut next = first;
     while let Some(index) = next {
         let slot = nodes.get(index).unwrap();
-        let key = slot.key.copy()?;
+        let key = slot.key.key().copy()?;
         let child = build(alloc, nodes, &slot.leaf, slot.first_child)?;
         add_child(&mut children, key, child)?;
         next = slot.next;

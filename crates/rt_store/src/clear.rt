@@ -1,10 +1,12 @@
 // What stands at a path is taken out, with each node above it that is left without children.
 ghost use Rattle.std.specs.Prelude.{◌≡◌, ◌≤◌, ℕ, Option, None};
-ghost use Rattle.rt_store.specs.Forest.{IsRow, row_at, times};
-ghost use Rattle.rt_store.specs.Walks.{IsPlace};
-ghost use Rattle.rt_store.specs.Changes.{Changed, is_bare, cleared, Told};
+ghost use Rattle.rt_store.specs.inside.Forest.{IsRow, row_at, times};
+ghost use Rattle.rt_store.specs.inside.Walks.{IsPlace};
+ghost use Rattle.rt_store.specs.inside.Changes.{Changed, is_bare, cleared, Told};
+ghost use Rattle.rt_store.specs.inside.Ranks.{IsRanked};
 
 use crate::links::{set_content, take_out};
+use crate::ranks::Ranks;
 use crate::row::{Siblings, find};
 use crate::slot::Slot;
 use rt_order::key_cmp;
@@ -20,7 +22,7 @@ pub(crate) fn vanishes(nodes: &Slab<Slot>, first: Option<usize>, key: &Key, rest
         return true;
     };
     let slot = nodes.get(index).unwrap();
-    if slot.next.is_some() || !key_cmp(key, &slot.key).is_eq() {
+    if slot.next.is_some() || !key_cmp(key, slot.key.key()).is_eq() {
         return false;
     }
     match rest.split_first() {
@@ -34,6 +36,7 @@ pub(crate) fn vanishes(nodes: &Slab<Slot>, first: Option<usize>, key: &Key, rest
 // Clears a path below a row. The answer is the first node that is left.
 pub(crate) fn clear_row(
     nodes: &mut Slab<Slot>,
+    ranks: &mut Ranks,
     row: Siblings,
     key: &Key,
     rest: &[Key],
@@ -41,10 +44,12 @@ pub(crate) fn clear_row(
     requires row { IsRow nodes.old row.first row.parent None (row_at nodes.old row.first) }
     requires told { Told nodes.old row.first row.parent }
     requires once { (n : ℕ) → times n (row_at nodes.old row.first) ≤ 1 }
+    requires ranked { IsRanked nodes.old ranks.old }
     ensures row { (parent : Option ℕ) → IsRow nodes.old row.first parent None (row_at nodes.old row.first) → IsRow nodes.new result parent None (cleared key.now rest.now (row_at nodes.old row.first)) }
     ensures changed { Changed nodes.old nodes.new (row_at nodes.old row.first) (cleared key.now rest.now (row_at nodes.old row.first)) }
+    ensures ranked { IsRanked nodes.new ranks.new }
 {
-    let Some(index) = find(nodes, row, key) else {
+    let Some(index) = find(nodes, ranks, row, key) else {
         return row.first;
     };
     let slot = nodes.get(index).unwrap();
@@ -57,12 +62,11 @@ pub(crate) fn clear_row(
             let below = Siblings {
                 parent: Some(index),
                 first: below,
-                ..row
             };
-            let below = clear_row(nodes, below, child, rest);
+            let below = clear_row(nodes, ranks, below, child, rest);
             set_content(nodes, index, None, below);
             return row.first;
         }
     }
-    take_out(nodes, row.first, index)
+    take_out(nodes, ranks, row.first, index)
 }

@@ -13,6 +13,7 @@ mod laws;
 mod links;
 mod node;
 mod put;
+mod ranks;
 mod row;
 mod run;
 mod slot;

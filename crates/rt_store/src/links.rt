@@ -2,10 +2,12 @@
 ghost use Rattle.std.specs.Prelude.{◌≡◌, ◌≢◌, ◌≤◌, ℕ, Option, None};
 ghost use Rattle.std.specs.Option.{option_map};
 ghost use Rattle.slab.specs.Slab.{get, slab_len};
-ghost use Rattle.rt_store.specs.Forest.{IsRow, row_at, times};
-ghost use Rattle.rt_store.specs.Walks.{IsPlace};
-ghost use Rattle.rt_store.specs.Changes.{Felled, Changed, IsHead, InRow, without, joined, linked_in, with_next, with_previous, with_content};
+ghost use Rattle.rt_store.specs.inside.Forest.{IsRow, row_at, times};
+ghost use Rattle.rt_store.specs.inside.Walks.{IsPlace};
+ghost use Rattle.rt_store.specs.inside.Ranks.{IsRanked};
+ghost use Rattle.rt_store.specs.inside.Changes.{Felled, Changed, IsHead, InRow, without, joined, linked_in, with_next, with_previous, with_content};
 
+use crate::ranks::Ranks;
 use crate::slot::Slot;
 use rt_tree::Leaf;
 use slab::Slab;
@@ -77,40 +79,51 @@ pub(crate) fn set_content(
 }
 
 // Takes the nodes of a row out of the slab, with all below them.
-pub(crate) fn fell(nodes: &mut Slab<Slot>, first: Option<usize>)
+pub(crate) fn fell(nodes: &mut Slab<Slot>, ranks: &mut Ranks, first: Option<usize>)
     requires place { IsPlace nodes.old first }
     requires once { (n : ℕ) → times n (row_at nodes.old first) ≤ 1 }
-    ensures { Felled nodes.old nodes.new (row_at nodes.old first) }
+    requires ranked { IsRanked nodes.old ranks.old }
+    ensures felled { Felled nodes.old nodes.new (row_at nodes.old first) }
+    ensures ranked { IsRanked nodes.new ranks.new }
 {
     let mut next = first;
     while let Some(index) = next {
         let Some(slot) = nodes.try_remove(index) else {
             return;
         };
+        ranks.remove(nodes, slot.parent, &slot.key.borrowed(), index);
         next = slot.next;
         let below = slot.first_child;
         drop(slot);
-        fell(nodes, below);
+        fell(nodes, ranks, below);
     }
 }
 
 // Takes a node out of its row, with all below it. The answer is the first node that is left.
-pub(crate) fn take_out(nodes: &mut Slab<Slot>, first: Option<usize>, index: usize) -> Option<usize>
+pub(crate) fn take_out(
+    nodes: &mut Slab<Slot>,
+    ranks: &mut Ranks,
+    first: Option<usize>,
+    index: usize,
+) -> Option<usize>
     requires head { IsHead nodes.old first }
     requires once { (n : ℕ) → times n (row_at nodes.old first) ≤ 1 }
     requires there { InRow index (row_at nodes.old first) }
+    requires ranked { IsRanked nodes.old ranks.old }
     ensures row { (parent : Option ℕ) → IsRow nodes.old first parent None (row_at nodes.old first) → IsRow nodes.new result parent None (without index (row_at nodes.old first)) }
     ensures changed { Changed nodes.old nodes.new (row_at nodes.old first) (without index (row_at nodes.old first)) }
+    ensures ranked { IsRanked nodes.new ranks.new }
 {
     let Some(slot) = nodes.try_remove(index) else {
         return first;
     };
+    ranks.remove(nodes, slot.parent, &slot.key.borrowed(), index);
     let below = slot.first_child;
     let previous = slot.previous;
     let next = slot.next;
     drop(slot);
     join(nodes, previous, next);
-    fell(nodes, below);
+    fell(nodes, ranks, below);
     match previous {
         None => next,
         Some(_) => first,

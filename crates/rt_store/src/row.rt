@@ -1,22 +1,23 @@
 // How keys and paths are found in rows of siblings.
 ghost use Rattle.std.specs.Prelude.{◌≡◌, IfSome, None, Some};
 ghost use Rattle.slab.specs.Slab.{get};
-ghost use Rattle.rt_store.specs.Forest.{IsRow, row_at};
-ghost use Rattle.rt_store.specs.Walks.{spot_in, index_in, place_in, IsPlace};
-ghost use Rattle.rt_store.specs.Changes.{Told};
+ghost use Rattle.rt_order.specs.KeyOrder.{key_cmp};
+ghost use Rattle.rt_store.specs.inside.Forest.{IsRow, row_at};
+ghost use Rattle.rt_store.specs.inside.Walks.{spot_in, index_in, place_in, IsPlace};
+ghost use Rattle.rt_store.specs.inside.Changes.{Told};
 
+use crate::ranks::Ranks;
 use crate::slot::Slot;
-use rt_order::key_cmp;
+use rt_order::PlacedRef;
 use rt_tree::Key;
 use slab::Slab;
 use std::cmp::Ordering;
 
-// The children of a node, or of the root: the first of them, and where a search may begin, for which any number will do.
+// The children of a node, or of the root: the first of them.
 #[derive(Clone, Copy)]
 pub(crate) struct Siblings {
     pub(crate) parent: Option<usize>,
     pub(crate) first: Option<usize>,
-    pub(crate) near: Option<usize>,
 }
 
 // Where a key stands in a row: at a node, or else between two siblings, of which either may be missing.
@@ -26,49 +27,63 @@ pub(crate) enum Spot {
     Gap(Option<usize>, Option<usize>),
 }
 
-// The child of `parent` that a node is, or stands below. Nothing stands deeper than 32 keys.
-fn hint(nodes: &Slab<Slot>, parent: Option<usize>, near: Option<usize>) -> Option<usize>
+// How a key stands to that of a node.
+fn order(key: &PlacedRef<'_>, slot: &Slot) -> Ordering
+    ensures { result ≡ key_cmp key.now slot.now.key }
+{
+    key.cmp(&slot.key.borrowed())
+}
+
+// The child of `parent` that the ranks have at the key, or last in front of it.
+fn nearest(
+    nodes: &Slab<Slot>,
+    ranks: &Ranks,
+    parent: Option<usize>,
+    key: &PlacedRef<'_>,
+) -> Option<usize>
     ensures { IfSome result (λ n. (slot : Slot) × (get nodes.now n ≡ Some slot) × (slot.parent ≡ parent)) }
 {
-    let mut at = near;
-    for _ in 0..32 {
-        let index = at?;
-        let slot = nodes.get(index)?;
-        if slot.parent == parent {
-            return at;
-        }
-        at = slot.parent;
+    let index = ranks.nearest(nodes, parent, key)?;
+    let slot = nodes.get(index)?;
+    if slot.parent == parent {
+        Some(index)
+    } else {
+        None
     }
-    None
 }
 
 // Where a search begins: behind which sibling, and at which.
-fn start(nodes: &Slab<Slot>, row: Siblings, key: &Key) -> (Option<usize>, Option<usize>)
+fn start(
+    nodes: &Slab<Slot>,
+    ranks: &Ranks,
+    row: Siblings,
+    key: &PlacedRef<'_>,
+) -> (Option<usize>, Option<usize>)
     requires row { IsRow nodes.now row.first row.parent None (row_at nodes.now row.first) }
     requires told { Told nodes.now row.first row.parent }
     ensures place { IsPlace nodes.now result.1 }
     ensures spot { spot_in key.now None (row_at nodes.now row.first) ≡ spot_in key.now result.0 (row_at nodes.now result.1) }
 {
-    let Some(index) = hint(nodes, row.parent, row.near) else {
+    let Some(index) = nearest(nodes, ranks, row.parent, key) else {
         return (None, row.first);
     };
     let slot = nodes.get(index).unwrap();
-    match key_cmp(key, &slot.key) {
+    match order(key, slot) {
         Ordering::Less => (None, row.first),
         _ => (slot.previous, Some(index)),
     }
 }
 
-// The spot of a key in a row. Passes the siblings in front of it, or those from `near` on.
-pub(crate) fn seek(nodes: &Slab<Slot>, row: Siblings, key: &Key) -> Spot
+// `seek`, with the key's place known. Passes the siblings in front of the key, from the nearest one on.
+fn pass(nodes: &Slab<Slot>, ranks: &Ranks, row: Siblings, key: &PlacedRef<'_>) -> Spot
     requires row { IsRow nodes.now row.first row.parent None (row_at nodes.now row.first) }
     requires told { Told nodes.now row.first row.parent }
     ensures { result ≡ spot_in key.now None (row_at nodes.now row.first) }
 {
-    let (mut previous, mut next) = start(nodes, row, key);
+    let (mut previous, mut next) = start(nodes, ranks, row, key);
     while let Some(index) = next {
         let slot = nodes.get(index).unwrap();
-        match key_cmp(key, &slot.key) {
+        match order(key, slot) {
             Ordering::Less => return Spot::Gap(previous, next),
             Ordering::Equal => return Spot::Here(index),
             Ordering::Greater => {
@@ -80,25 +95,40 @@ pub(crate) fn seek(nodes: &Slab<Slot>, row: Siblings, key: &Key) -> Spot
     Spot::Gap(previous, None)
 }
 
+// The spot of a key in a row.
+pub(crate) fn seek(nodes: &Slab<Slot>, ranks: &Ranks, row: Siblings, key: &Key) -> Spot
+    requires row { IsRow nodes.now row.first row.parent None (row_at nodes.now row.first) }
+    requires told { Told nodes.now row.first row.parent }
+    ensures { result ≡ spot_in key.now None (row_at nodes.now row.first) }
+{
+    pass(nodes, ranks, row, &PlacedRef::of(key))
+}
+
 // The node of a key in a row.
-pub(crate) fn find(nodes: &Slab<Slot>, row: Siblings, key: &Key) -> Option<usize>
+pub(crate) fn find(nodes: &Slab<Slot>, ranks: &Ranks, row: Siblings, key: &Key) -> Option<usize>
     requires row { IsRow nodes.now row.first row.parent None (row_at nodes.now row.first) }
     requires told { Told nodes.now row.first row.parent }
     ensures { result ≡ index_in key.now (row_at nodes.now row.first) }
 {
-    match seek(nodes, row, key) {
+    match seek(nodes, ranks, row, key) {
         Spot::Here(index) => Some(index),
         Spot::Gap(_, _) => None,
     }
 }
 
 // The node at a path below a row.
-pub(crate) fn descend(nodes: &Slab<Slot>, row: Siblings, key: &Key, rest: &[Key]) -> Option<usize>
+pub(crate) fn descend(
+    nodes: &Slab<Slot>,
+    ranks: &Ranks,
+    row: Siblings,
+    key: &Key,
+    rest: &[Key],
+) -> Option<usize>
     requires row { IsRow nodes.now row.first row.parent None (row_at nodes.now row.first) }
     requires told { Told nodes.now row.first row.parent }
     ensures { result ≡ place_in key.now rest.now (row_at nodes.now row.first) }
 {
-    let index = find(nodes, row, key)?;
+    let index = find(nodes, ranks, row, key)?;
     match rest.split_first() {
         None => Some(index),
         Some((key, rest)) => match nodes.get(index) {
@@ -106,9 +136,8 @@ pub(crate) fn descend(nodes: &Slab<Slot>, row: Siblings, key: &Key, rest: &[Key]
                 let below = Siblings {
                     parent: Some(index),
                     first: slot.first_child,
-                    ..row
                 };
-                descend(nodes, below, key, rest)
+                descend(nodes, ranks, below, key, rest)
             }
             None => None,
         },

@@ -13,6 +13,7 @@ use crate::grow::content;
 use crate::links::fell;
 use crate::node::Node;
 use crate::put::put_row;
+use crate::ranks::Ranks;
 use crate::row::{Siblings, descend};
 use crate::slot::Slot;
 use rt_tree::{Key, Leaf, Path, Tree};
@@ -22,8 +23,7 @@ use std::marker::Model;
 
 /// A tree kept as linked nodes.
 ///
-/// Siblings stand in the order of keys. To find a child is to pass those in front of it; from where the last `set` ended on, where that
-/// is one of them.
+/// Siblings stand in the order of keys. To find a child costs by the logarithm of their number.
 #[derive(Debug, Drop)]
 pub struct Store {
     nodes: Slab<Slot>,
@@ -31,8 +31,8 @@ pub struct Store {
     first: Option<usize>,
     // The leaf that the whole tree is, where it is one.
     leaf: Option<Leaf>,
-    // Where the last `set` ended: searches may begin there. Any number will do.
-    near: Option<usize>,
+    // The children of each node in the order of keys, from which searches begin.
+    ranks: Ranks,
 }
 
 impl Model for Store {
@@ -42,7 +42,7 @@ impl Model for Store {
 
     ghost coded = { stored_code };
 
-    ghost use Rattle.rt_store.specs.StoreView.{stored, IsStore};
+    ghost use Rattle.rt_store.specs.inside.StoreView.{stored, IsStore};
 
     ghost view = { stored };
 
@@ -58,7 +58,7 @@ impl Store {
             nodes: Slab::new(alloc),
             first: None,
             leaf: None,
-            near: None,
+            ranks: Ranks::new(alloc),
         }
     }
 
@@ -68,7 +68,7 @@ impl Store {
     /// `TooDeep` where path and tree together have more than 32 keys. A refusal changes nothing: all nodes are made before the first
     /// of the store's changes.
     ///
-    /// Costs by the path, the siblings in front on it, the tree that is put and what it replaces.
+    /// Costs by the path, the logarithms of their siblings' numbers, the tree that is put and what it replaces.
     pub fn set(&mut self, alloc: Global, path: &Path, tree: &Tree) -> Result<(), StoreError>
         ensures ok { OnOk result (self.new.tree ≡ put self.old.tree path.now tree.now) }
         ensures err { OnErr result (IsAsBefore self.old self.new) }
@@ -84,21 +84,34 @@ impl Store {
         }
         match keys.split_first() {
             None => {
-                let (leaf, first) = content(&mut self.nodes, alloc, None, keys, tree)?;
+                let (leaf, first) = content(
+                    &mut self.nodes,
+                    &mut self.ranks,
+                    alloc,
+                    None,
+                    keys,
+                    tree,
+                )?;
                 self.leaf = leaf;
-                fell(&mut self.nodes, self.first);
+                fell(&mut self.nodes, &mut self.ranks, self.first);
                 self.first = first;
             }
             Some((key, rest)) => {
                 let row = Siblings {
                     parent: None,
                     first: self.first,
-                    near: self.near,
                 };
-                let (first, near) = put_row(&mut self.nodes, alloc, row, key, rest, tree)?;
+                let first = put_row(
+                    &mut self.nodes,
+                    &mut self.ranks,
+                    alloc,
+                    row,
+                    key,
+                    rest,
+                    tree,
+                )?;
                 self.leaf = None;
                 self.first = first;
-                self.near = Some(near);
             }
         }
         Ok(())
@@ -106,23 +119,22 @@ impl Store {
 
     /// Takes out what stands at the path, and with it each object above that is left without children. Takes no memory.
     ///
-    /// Costs by the path, the siblings in front on it and what is taken out.
+    /// Costs by the path, the logarithms of their siblings' numbers and what is taken out.
     pub fn clear(&mut self, path: &Path)
         ensures { self.new.tree ≡ put self.old.tree path.now null }
     {
         match path.keys().split_first() {
             None => {
                 self.leaf = None;
-                fell(&mut self.nodes, self.first);
+                fell(&mut self.nodes, &mut self.ranks, self.first);
                 self.first = None;
             }
             Some((key, rest)) => {
                 let row = Siblings {
                     parent: None,
                     first: self.first,
-                    near: self.near,
                 };
-                self.first = clear_row(&mut self.nodes, row, key, rest);
+                self.first = clear_row(&mut self.nodes, &mut self.ranks, row, key, rest);
             }
         }
     }
@@ -156,12 +168,11 @@ impl Store {
         let row = Siblings {
             parent: None,
             first: self.first,
-            near: self.near,
         };
-        Node::linked(descend(&self.nodes, row, key, rest))
+        Node::linked(descend(&self.nodes, &self.ranks, row, key, rest))
     }
 
-    /// The part of the tree at the path; null where nothing stands there. Costs by the path, the siblings in front on it, and the part.
+    /// The part of the tree at the path; null where nothing stands there. Costs by the path, the logarithms of their siblings' numbers, and the part.
     pub fn get(&self, alloc: Global, path: &Path) -> Result<Tree, AllocError>
         ensures { IfOk result (λ tree. tree ≡ sub self.now.tree path.now) }
     {
@@ -171,9 +182,8 @@ impl Store {
         let row = Siblings {
             parent: None,
             first: self.first,
-            near: self.near,
         };
-        let Some(index) = descend(&self.nodes, row, key, rest) else {
+        let Some(index) = descend(&self.nodes, &self.ranks, row, key, rest) else {
             return Ok(Tree::null());
         };
         let slot = self.nodes.get(index).unwrap();
@@ -213,7 +223,7 @@ impl Store {
         match node.index() {
             None => None,
             Some(index) => match self.nodes.get(index) {
-                Some(slot) => Some(&slot.key),
+                Some(slot) => Some(slot.key.key()),
                 None => None,
             },
         }

@@ -4,7 +4,7 @@ use Rattle.std.proofs.Math.Nat.{mod-add-mod}
 use Rattle.rt_tree.specs.PathTree.{Key, PathTree}
 use Rattle.rt_query.specs.Queries.{Query}
 use Rattle.rt_query.specs.Select.{select}
-use Rattle.rt_query.proofs.SelectLaws.{select-distinct}
+use Rattle.rt_query.specs.laws.Select.{select-distinct}
 use Rattle.rt_view.specs.Changes.{changes, Turns}
 use Rattle.rt_view.specs.Views.{View, first_view, shown_of, told}
 use Rattle.rt_view.specs.laws.Runs.{Call, Renew, Touch, after, after_all, told_all, told_by, ReplayGivesShown, RunTurns, TurnsCountCalls, TouchReadsNamed}

@@ -14,7 +14,7 @@ use Rattle.rt_tree.specs.Children.{children_of}
 use Rattle.rt_tree.specs.TreeEq.{tree_eq_tells}
 use Rattle.rt_order.specs.Entries.{Entry, entry, entry_cmp, sort_value}
 use Rattle.rt_order.specs.declared.index.Index.{Index}
-use Rattle.rt_order.proofs.Orders.{entry_cmp_total, value_cmp_total}
+use Rattle.rt_order.specs.laws.EntryOrder.{entry_cmp_total, value_cmp_total}
 use Rattle.rt_query.specs.declared.row.Row.{Row}
 use Rattle.rt_query.specs.Rows.{row_at}
 use Rattle.rt_query.specs.Select.{row_of}

@@ -15,7 +15,7 @@ use Rattle.rt_tree.specs.Parts.{child-put, child-put_other}
 use Rattle.rt_order.specs.Entries.{Entry, entry, entry_cmp}
 use Rattle.rt_order.specs.declared.index.Index.{Index}
 use Rattle.rt_order.specs.Cuts.{has}
-use Rattle.rt_order.proofs.Orders.{entry_cmp_total}
+use Rattle.rt_order.specs.laws.EntryOrder.{entry_cmp_total}
 use Rattle.rt_query.specs.Queries.{Query}
 use Rattle.rt_view.specs.declared.window.Window.{Window}
 use Rattle.rt_view.specs.inside.Windows.{Entries, IsWindow, joined, value_at, without}

@@ -12,10 +12,10 @@ use Rattle.rt_query.specs.declared.row.Row.{Row}
 use Rattle.rt_query.specs.Queries.{Query, is_filtered}
 use Rattle.rt_query.specs.Rows.{row_at}
 use Rattle.rt_query.specs.Select.{Shown, row_of, rows_of, select, as_children, tree_by, tree_of}
-use Rattle.rt_query.specs.ShownView.{IsShown}
+use Rattle.rt_query.specs.inside.ShownView.{IsShown}
 use Rattle.rt_query.specs.QueryEq.{shown_eq, row_eq}
-use Rattle.rt_query.specs.QueryEqLaws.{shown_eq_tells}
-use Rattle.rt_query.proofs.SelectLaws.{object-parts, object-sorted_by, select-whole}
+use Rattle.rt_query.specs.laws.QueryEq.{shown_eq_tells}
+use Rattle.rt_query.specs.laws.Select.{object-parts, object-sorted_by, select-whole}
 use Rattle.rt_query.proofs.ShownLaws.{child_of-as_children, row_at-tree}
 use Rattle.rt_query.proofs.RowLaws.{shown_filtered, shown_whole}
 use Rattle.rt_view.specs.declared.change.Change.{Change}

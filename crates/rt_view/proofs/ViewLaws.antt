@@ -10,7 +10,7 @@ use Rattle.rt_tree.specs.PathTree.{Key, PathTree}
 use Rattle.rt_order.specs.Entries.{Entry, entry, entry_cmp}
 use Rattle.rt_order.specs.declared.index.Index.{Index}
 use Rattle.rt_order.specs.Cuts.{has}
-use Rattle.rt_order.proofs.Orders.{entry_cmp_total, entry_cmp-IsAntisymmetric}
+use Rattle.rt_order.specs.laws.EntryOrder.{entry_cmp_total, entry_cmp-IsAntisymmetric}
 use Rattle.rt_query.specs.Queries.{Query}
 use Rattle.rt_query.specs.Select.{sorted_by}
 use Rattle.rt_view.specs.inside.Windows.{Entries}

@@ -15,7 +15,7 @@ use Rattle.std.specs.FinMap.Entries.{by_order, is_sorted, below_all, is_sorted-p
 use Rattle.std.proofs.lemmas.List.{take_at, take_all, length-take, length-drop, drop_at}
 use Rattle.rt_tree.specs.PathTree.{Key, PathTree, key_eq, key_eq-is, key_eq-symm, both, first, second}
 use Rattle.rt_order.specs.Entries.{Entry, entry_cmp}
-use Rattle.rt_order.proofs.Orders.{entry_cmp_total, entry_cmp-IsAntisymmetric}
+use Rattle.rt_order.specs.laws.EntryOrder.{entry_cmp_total, entry_cmp-IsAntisymmetric}
 use Rattle.rt_query.specs.declared.limit.Limit.{Limit}
 use Rattle.rt_query.specs.declared.limit.Limit.TheVariants.{First, Last}
 use Rattle.rt_query.specs.Select.{limited, row_of}

@@ -86,7 +86,7 @@ impl PartialEq for Position {
     ghost use Rattle.std.specs.Cmp.{eq_by_cmp_equiv};
     ghost use Rattle.std.specs.Ordering.{eq_by_cmp};
     ghost use Rattle.rt_order.specs.Entries.{entry_cmp};
-    ghost use Rattle.rt_order.proofs.Orders.{entry_cmp_total};
+    ghost use Rattle.rt_order.specs.laws.EntryOrder.{entry_cmp_total};
 
     ghost eq = { eq_by_cmp entry_cmp };
 
@@ -99,7 +99,7 @@ impl PartialEq for Position {
 
 impl Eq for Position {
     ghost use Rattle.std.specs.Cmp.{eq_by_cmp_equiv};
-    ghost use Rattle.rt_order.proofs.Orders.{entry_cmp_total};
+    ghost use Rattle.rt_order.specs.laws.EntryOrder.{entry_cmp_total};
 
     ghost laws = { eq_by_cmp_equiv entry_cmp_total };
 }
@@ -108,7 +108,7 @@ impl PartialOrd for Position {
     ghost use Rattle.std.specs.Prelude.{Some};
     ghost use Rattle.std.specs.Cmp.{partial_order_from_total};
     ghost use Rattle.rt_order.specs.Entries.{entry_cmp};
-    ghost use Rattle.rt_order.proofs.Orders.{entry_cmp_total};
+    ghost use Rattle.rt_order.specs.laws.EntryOrder.{entry_cmp_total};
 
     ghost partial_cmp = { λ x y. Some (entry_cmp x y) };
 
@@ -122,7 +122,7 @@ impl PartialOrd for Position {
 impl Ord for Position {
     ghost use Rattle.std.proofs.Common.{rules};
     ghost use Rattle.rt_order.specs.Entries.{entry_cmp};
-    ghost use Rattle.rt_order.proofs.Orders.{entry_cmp_total};
+    ghost use Rattle.rt_order.specs.laws.EntryOrder.{entry_cmp_total};
 
     ghost cmp = { entry_cmp };
 

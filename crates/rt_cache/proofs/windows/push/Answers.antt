@@ -3,7 +3,7 @@ use Rattle.std.specs.Option.{option_map_or}
 use Rattle.std.specs.FinMap as map_of
 use Rattle.rt_tree.specs.PathTree.{path_eq, strip, put}
 use Rattle.rt_query.specs.QueryEq.{query_eq}
-use Rattle.rt_query.specs.QueryEqLaws.{query_eq_tells}
+use Rattle.rt_query.specs.laws.QueryEq.{query_eq_tells}
 use Rattle.rt_query.specs.Queries.{Query}
 use Rattle.rt_cache.specs.QueryOrder.{query_cmp}
 use Rattle.rt_cache.specs.Recover.{in_query_order}

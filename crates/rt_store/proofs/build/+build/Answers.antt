@@ -3,7 +3,7 @@ use Rattle.std.proofs.lemmas.Result.{IfOk-weaker}
 use Rattle.slab.specs.Slab.{get}
 use Rattle.rt_tree.specs.PathTree.{object}
 use Rattle.rt_tree.specs.Allowed.{IsAllowed}
-use Rattle.rt_store.specs.Forest.{row_at, entries, tree_with}
+use Rattle.rt_store.specs.inside.Forest.{row_at, entries, tree_with}
 use Rattle.rt_store.proofs.Building.{child_place, child_smaller, child_allowed, building_next, fewer_left, built, same_object, built_full}
 use Rattle.rt_store.proofs.build.+build.Goals as goal
 

@@ -1,6 +1,6 @@
 use Rattle.std.specs.BTreeMap.{IsOrdered}
 use Rattle.rt_tree.specs.PathTree.{key_cmp}
-use Rattle.rt_store.specs.Forest.{row_at, size}
+use Rattle.rt_store.specs.inside.Forest.{row_at, size}
 use Rattle.rt_store.proofs.Building.{Building}
 use Rattle.rt_store.proofs.build.+build.Given as goal
 

@@ -1,7 +1,7 @@
 use Rattle.std.proofs.Common.{◌≡◌, ℕ, length, Some, None, true, false, is_some, sym, ap, subst, ◌∙◌, arith, rules}
 use Rattle.slab.specs.Slab.{get}
-use Rattle.rt_store.specs.Forest.{row_at, IsRow}
-use Rattle.rt_store.specs.Changes.{Changed, is_bare, cleared, without}
+use Rattle.rt_store.specs.inside.Forest.{row_at, IsRow}
+use Rattle.rt_store.specs.inside.Changes.{Changed, is_bare, cleared, without}
 use Rattle.rt_store.proofs.Paths.{find_found}
 use Rattle.rt_store.proofs.ClearRow.{clear_none, clear_none-changed, clear_there, clear_end, clear_leaf-row, clear_leaf-changed, clear_below, clear_place, clear_once, clear_out, clear_below-row, clear_below-changed}
 use Rattle.rt_store.proofs.Near.{told_below}
@@ -50,7 +50,10 @@ clear_row-below-requires t c =
         clear_below c.args.nodes.now c.args.row.first c.args.key.now c.in-Some.index (c.args.row.parent, c.requires.row) (sym c.find.ensures ∙ c.in-Some.is) c.requires.once slot there,
         (
           told_below c.args.nodes.now c.args.row.first c.args.row.parent c.in-Some.index slot c.requires.told there,
-          clear_once c.args.nodes.now c.args.row.first c.args.key.now c.in-Some.index (c.args.row.parent, c.requires.row) (sym c.find.ensures ∙ c.in-Some.is) c.requires.once slot there,
+          (
+            clear_once c.args.nodes.now c.args.row.first c.args.key.now c.in-Some.index (c.args.row.parent, c.requires.row) (sym c.find.ensures ∙ c.in-Some.is) c.requires.once slot there,
+            c.requires.ranked,
+          ),
         ),
       ),
     )

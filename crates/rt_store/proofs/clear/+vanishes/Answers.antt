@@ -3,8 +3,8 @@ use Rattle.std.specs.Prelude.{◌&&◌}
 use Rattle.std.specs.Ordering.{is_eq}
 use Rattle.slab.specs.Slab.{get}
 use Rattle.rt_order.specs.KeyOrder.{key_cmp}
-use Rattle.rt_store.specs.Forest.{row_at}
-use Rattle.rt_store.specs.Changes.{is_bare, cleared}
+use Rattle.rt_store.specs.inside.Forest.{row_at}
+use Rattle.rt_store.specs.inside.Changes.{is_bare, cleared}
 use Rattle.rt_store.proofs.Vanishing.{vanish_more, vanish_other, vanish_end, vanish_below, vanish_place}
 use Rattle.rt_store.proofs.clear.+vanishes.Goals as goal
 use Rattle.rt_store.proofs.clear.+vanishes.Goals.{then-is_some-via-then-is_some, then-is_some-via-else-is_some+then-not-is_eq}

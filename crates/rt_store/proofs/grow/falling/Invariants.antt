@@ -1,5 +1,5 @@
 use Rattle.std.specs.Prelude.{◌≡◌, ◌++◌, map}
-use Rattle.rt_store.specs.Growing.{seen}
+use Rattle.rt_store.specs.inside.Growing.{seen}
 use Rattle.rt_store.proofs.grow.falling.Given as goal
 
 abbrev pub invariant-loop-key : goal.invariant-loop-key

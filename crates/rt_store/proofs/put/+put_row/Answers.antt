@@ -2,6 +2,8 @@ use Rattle.std.proofs.Common.{◌≡◌, Some, length, sym, ap, refl, ◌∙◌,
 use Rattle.slab.specs.Slab.{get}
 use Rattle.rt_store.proofs.Putting.{put_new, put_there, put_place, put_once, old_place, old_once, put_here, put_below}
 use Rattle.rt_store.proofs.Near.{told_below}
+use Rattle.rt_store.specs.inside.Changes.{with_content}
+use Rattle.rt_store.proofs.Ranked.{ranked_written}
 use Rattle.rt_store.proofs.put.+put_row.Goals as goal
 
 pub returns-in-None-clause-ok : goal.returns-in-None-clause-ok
@@ -49,7 +51,7 @@ put_row-requires t c =
         put_place c.args.nodes.now c.args.row.first c.args.row.parent c.args.key.now c.in-Here.index slot c.requires.row c.requires.once (sym c.seek.ensures ∙ c.in-Here.is) there,
         (
           told_below c.args.nodes.now c.args.row.first c.args.row.parent c.in-Here.index slot c.requires.told there,
-          (put_once c.args.nodes.now c.args.row.first c.args.row.parent c.args.key.now c.in-Here.index slot c.requires.row c.requires.once (sym c.seek.ensures ∙ c.in-Here.is) there, c.requires.full),
+          (put_once c.args.nodes.now c.args.row.first c.args.row.parent c.args.key.now c.in-Here.index slot c.requires.row c.requires.once (sym c.seek.ensures ∙ c.in-Here.is) there, (c.requires.full, c.requires.ranked)),
         ),
       ),
     )
@@ -60,7 +62,7 @@ returns-in_ok-leaf-in-None-split_first-clause-ok t c =
     let there : get c.args.nodes.now c.in-Here.index ≡ Some slot = search rules in
     put_here c.args.nodes.now c.args.row.first c.args.row.parent c.args.key.now c.in-Here.index slot c.requires.row c.requires.once (sym c.seek.ensures ∙ c.in-Here.is) there
     c.content.new.nodes c.fell.new.nodes c.set_content.new.nodes c.in_ok-leaf-in-None-split_first.grown c.in_ok-leaf-in-None-split_first.leaf c.args.rest.now c.args.tree.now
-    c.requires.full c.in-None-split_first.ensures.cases c.in_ok-leaf-in-None-split_first.ensures.grown c.fell.ensures
+    c.requires.full c.in-None-split_first.ensures.cases c.in_ok-leaf-in-None-split_first.ensures.grown c.fell.ensures.felled
     c.in_ok-leaf-in-None-split_first.ensures.full c.in_ok-leaf-in-None-split_first.ensures.is
     c.set_content.ensures.written c.set_content.ensures.others c.set_content.ensures.len
 
@@ -73,3 +75,8 @@ returns-in_ok-below-in-Some-split_first-clause-ok t c =
     c.put_row.new.nodes c.set_content-in-Some-split_first.new.nodes c.in_ok-below-in-Some-split_first.below c.in-Some-split_first.key.now c.in-Some-split_first.rest.now c.args.tree.now
     c.requires.full c.in_ok-below-in-Some-split_first.ensures.ok
     c.set_content-in-Some-split_first.ensures.written c.set_content-in-Some-split_first.ensures.others c.set_content-in-Some-split_first.ensures.len)
+
+pub returns-in_ok-leaf-in-None-split_first-clause-ranked : goal.returns-in_ok-leaf-in-None-split_first-clause-ranked
+returns-in_ok-leaf-in-None-split_first-clause-ranked t c =
+    ranked_written c.fell.new.nodes c.set_content.new.nodes c.fell.new.ranks (with_content c.in_ok-leaf-in-None-split_first.leaf c.in_ok-leaf-in-None-split_first.grown) c.in-Here.index (λ slot. refl)
+    c.set_content.ensures.written c.set_content.ensures.others c.fell.ensures.ranked

@@ -1,7 +1,7 @@
 use Rattle.std.proofs.Common.{◌≡◌, Some, None, sym, ap, ◌∙◌, arith, length, rules}
 use Rattle.slab.specs.Slab.{get}
-use Rattle.rt_store.specs.Forest.{row_at}
-use Rattle.rt_store.specs.Walks.{index_in}
+use Rattle.rt_store.specs.inside.Forest.{row_at}
+use Rattle.rt_store.specs.inside.Walks.{index_in}
 use Rattle.rt_store.proofs.Paths.{ends_none, ends_here, goes_below, lost}
 use Rattle.rt_store.proofs.Taking.{below_row}
 use Rattle.rt_store.proofs.ClearRow.{found_in_row}

@@ -1,5 +1,5 @@
 use Rattle.std.proofs.Common.{None, sym, ap, ◌∙◌}
-use Rattle.rt_store.specs.Forest.{row_at}
+use Rattle.rt_store.specs.inside.Forest.{row_at}
 use Rattle.rt_store.proofs.Paths.{here, index_spot}
 use Rattle.rt_store.proofs.row.find.Goals as goal
 

@@ -1,5 +1,5 @@
 use Rattle.std.proofs.Common.{◌∙◌, sym}
-use Rattle.rt_query.proofs.SelectLaws.{select-whole}
+use Rattle.rt_query.specs.laws.Select.{select-whole}
 use Rattle.rt_view.proofs.tell.is_bare.Goals as goal
 
 pub returns-in-None-clause-whole : goal.returns-in-None-clause-whole

@@ -4,21 +4,21 @@ use Rattle.rt_store.proofs.Near.{told}
 use Rattle.rt_store.proofs.store.Store.clear.Goals as goal
 
 pub invariant_of-self : goal.invariant_of-self
-invariant_of-self c = emptied c.self.inside c.fell.new.nodes c.self.invariant c.fell.ensures
+invariant_of-self c = emptied c.self.inside c.fell.new.nodes c.fell.new.ranks c.self.invariant c.fell.ensures.felled c.fell.ensures.ranked
 
 pub invariant_of-self-in-Some : goal.invariant_of-self-in-Some
 invariant_of-self-in-Some c =
-    cleared_store c.self.inside c.self.invariant c.in-Some.key.now c.in-Some.rest.now c.clear_row-self-inside.new.nodes c.clear_row-self-inside.result c.clear_row-self-inside.ensures.row c.clear_row-self-inside.ensures.changed
+    cleared_store c.self.inside c.self.invariant c.in-Some.key.now c.in-Some.rest.now c.clear_row-self-inside.new.nodes c.clear_row-self-inside.new.ranks c.clear_row-self-inside.result c.clear_row-self-inside.ensures.row c.clear_row-self-inside.ensures.changed c.clear_row-self-inside.ensures.ranked
 
 pub returns-in-None : goal.returns-in-None
 returns-in-None c =
     let short : length c.args.path.now ≡ 0 = search rules in
-    emptied_tree c.self.inside c.fell.new.nodes c.args.self.now.tree c.args.path.now short
+    emptied_tree c.fell.new.nodes c.fell.new.ranks c.args.self.now.tree c.args.path.now short
 
 pub returns-in-Some : goal.returns-in-Some
 returns-in-Some c =
     let goes : c.args.path.now ≡ c.in-Some.key.now ∷ c.in-Some.rest.now = search rules in
-    cleared_tree c.self.inside c.self.invariant c.in-Some.key.now c.in-Some.rest.now c.clear_row-self-inside.new.nodes c.clear_row-self-inside.result c.clear_row-self-inside.ensures.row c.clear_row-self-inside.ensures.changed
+    cleared_tree c.self.inside c.self.invariant c.in-Some.key.now c.in-Some.rest.now c.clear_row-self-inside.new.nodes c.clear_row-self-inside.new.ranks c.clear_row-self-inside.result c.clear_row-self-inside.ensures.row c.clear_row-self-inside.ensures.changed
     c.args.self.now c.args.path.now c.self.view_is goes
 
 pub clear_row-self-inside-requires-clause-told : goal.clear_row-self-inside-requires-clause-told

@@ -4,7 +4,7 @@ use Rattle.slab.specs.Slab.{get}
 use Rattle.rt_tree.specs.PathTree.{sub}
 use Rattle.rt_tree.specs.Allowed.{IsAllowed}
 use Rattle.rt_store.specs.Stored.{Stored}
-use Rattle.rt_store.specs.Forest.{row_at, entries, tree_with}
+use Rattle.rt_store.specs.inside.Forest.{row_at, entries, tree_with}
 use Rattle.rt_store.proofs.Paths.{root_part, path_part, path_allowed, path_null, part_place, part_is}
 use Rattle.rt_store.proofs.Near.{told}
 use Rattle.rt_store.proofs.store.Store.get.Goals as goal

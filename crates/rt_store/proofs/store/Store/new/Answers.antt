@@ -1,8 +1,9 @@
 use Rattle.std.proofs.Common.{ap, sym, subst, ◌∙◌, refl, arith, None, is_some, count_by, slice_index_or}
 use Rattle.rt_tree.specs.PathTree.{object}
 use Rattle.rt_tree.specs.Allowed.{IsAllowed, allowed-null}
-use Rattle.rt_store.specs.Forest.{Links, Sound, one_if, first, size, times, entries}
+use Rattle.rt_store.specs.inside.Forest.{Links, Sound, one_if, first, size, times, entries}
 use Rattle.rt_store.proofs.Linked.{row_at-none}
+use Rattle.rt_store.proofs.Ranked.{ranked_none}
 use Rattle.rt_store.proofs.store.Store.new.Goals as goal
 
 pub invariant_of-result : goal.invariant_of-result
@@ -12,6 +13,7 @@ invariant_of-result c =
       count = ap size none ∙ sym (ap (count_by is_some) c.new.ensures.empty);
       once = λ n. ap (times n) none ∙ sym (ap (λ os. one_if (is_some (slice_index_or os n None))) c.new.ensures.empty);
       top = λ e. refl;
+      ranked = ranked_none c.new.result c.new-2.result (λ n. ap (λ os. slice_index_or os n None) c.new.ensures.empty) c.new-2.ensures;
       allowed = subst IsAllowed (sym (ap (λ f. object (entries f)) none)) allowed-null;
     }
 

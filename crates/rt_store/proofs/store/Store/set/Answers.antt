@@ -14,11 +14,11 @@ returns-then-is_null-clause-too_deep c =
     (λ e. cc, λ deep. absurd (omega (arith, deep, none, c.keys-keys.ensures.valid.short)))
 
 pub invariant_of-self : goal.invariant_of-self
-invariant_of-self c = set_nothing c.self.inside c.args.self.now c.self.invariant c.self.view_is c.content.new.nodes c.in_err-leaf-in-None.ensures.err
+invariant_of-self c = set_nothing c.self.inside c.args.self.now c.self.invariant c.self.view_is c.content.new.nodes c.content.new.ranks c.in_err-leaf-in-None.ensures.err c.in_err-leaf-in-None.ensures.ranked
 
 pub returns-in_err-leaf-in-None-clause-err : goal.returns-in_err-leaf-in-None-clause-err
 returns-in_err-leaf-in-None-clause-err c =
-    let before = set_as_before c.self.inside c.args.self.now c.self.invariant c.self.view_is c.content.new.nodes c.in_err-leaf-in-None.ensures.err in
+    let before = set_as_before c.self.inside c.args.self.now c.self.invariant c.self.view_is c.content.new.nodes c.content.new.ranks c.in_err-leaf-in-None.ensures.err in
     search (rules, before)
 
 pub fell-requires-clause-place : goal.fell-requires-clause-place
@@ -32,15 +32,15 @@ fell-requires-clause-once c =
 pub invariant_of-self-in-None : goal.invariant_of-self-in-None
 invariant_of-self-in-None c =
     set_root c.self.inside c.args.self.now c.self.invariant c.self.view_is c.args.path.now c.args.tree.now c.keys-keys.ensures.valid c.levels.ensures.allowed
-    c.content.new.nodes c.fell.new.nodes c.in_ok-leaf-in-None.first c.in_ok-leaf-in-None.leaf c.keys-keys.result.now c.keys-keys.ensures.keys c.in-None.ensures.cases
-    c.in_ok-leaf-in-None.ensures.grown c.in_ok-leaf-in-None.ensures.full c.in_ok-leaf-in-None.ensures.is c.fell.ensures
+    c.content.new.nodes c.fell.new.nodes c.fell.new.ranks c.in_ok-leaf-in-None.first c.in_ok-leaf-in-None.leaf c.keys-keys.result.now c.keys-keys.ensures.keys c.in-None.ensures.cases
+    c.in_ok-leaf-in-None.ensures.grown c.in_ok-leaf-in-None.ensures.full c.in_ok-leaf-in-None.ensures.is c.fell.ensures.felled c.fell.ensures.ranked
 
 pub invariant_of-self-in_err-first-in-Some : goal.invariant_of-self-in_err-first-in-Some
-invariant_of-self-in_err-first-in-Some c = set_nothing c.self.inside c.args.self.now c.self.invariant c.self.view_is c.put_row.new.nodes c.in_err-first-in-Some.ensures.err
+invariant_of-self-in_err-first-in-Some c = set_nothing c.self.inside c.args.self.now c.self.invariant c.self.view_is c.put_row.new.nodes c.put_row.new.ranks c.in_err-first-in-Some.ensures.err c.in_err-first-in-Some.ensures.ranked
 
 pub returns-in_err-first-in-Some-clause-err : goal.returns-in_err-first-in-Some-clause-err
 returns-in_err-first-in-Some-clause-err c =
-    let before = set_as_before c.self.inside c.args.self.now c.self.invariant c.self.view_is c.put_row.new.nodes c.in_err-first-in-Some.ensures.err in
+    let before = set_as_before c.self.inside c.args.self.now c.self.invariant c.self.view_is c.put_row.new.nodes c.put_row.new.ranks c.in_err-first-in-Some.ensures.err in
     search (rules, before)
 
 pub invariant_of-self-in-Some : goal.invariant_of-self-in-Some
@@ -50,20 +50,20 @@ invariant_of-self-in-Some c =
     let fits : length c.args.path.now + levels c.args.tree.now ≤ 33 =
     omega (arith, c.keys-keys.ensures.valid.short, ap length c.keys-keys.ensures.keys, c.levels.ensures.levels, c.if-levels-keys.false) in
     set_part c.self.inside c.args.self.now c.self.invariant c.self.view_is c.args.path.now c.args.tree.now c.keys-keys.ensures.valid c.levels.ensures.allowed
-    c.put_row.new.nodes c.in_ok-first-in-Some.first (Some c.in_ok-first-in-Some.near) c.in-Some.key.now c.in-Some.rest.now goes some c.in_ok-first-in-Some.ensures.ok fits
+    c.put_row.new.nodes c.put_row.new.ranks c.in_ok-first-in-Some.first c.in-Some.key.now c.in-Some.rest.now goes some c.in_ok-first-in-Some.ensures.ok fits c.in_ok-first-in-Some.ensures.ranked
 
 pub returns-in_ok-leaf-in-None-clause-ok : goal.returns-in_ok-leaf-in-None-clause-ok
 returns-in_ok-leaf-in-None-clause-ok c =
     set_root_tree c.self.inside c.args.self.now c.self.invariant c.self.view_is c.args.path.now c.args.tree.now c.keys-keys.ensures.valid c.levels.ensures.allowed
-    c.content.new.nodes c.fell.new.nodes c.in_ok-leaf-in-None.first c.in_ok-leaf-in-None.leaf c.keys-keys.result.now c.keys-keys.ensures.keys c.in-None.ensures.cases
-    c.in_ok-leaf-in-None.ensures.grown c.in_ok-leaf-in-None.ensures.full c.in_ok-leaf-in-None.ensures.is c.fell.ensures
+    c.content.new.nodes c.fell.new.nodes c.fell.new.ranks c.in_ok-leaf-in-None.first c.in_ok-leaf-in-None.leaf c.keys-keys.result.now c.keys-keys.ensures.keys c.in-None.ensures.cases
+    c.in_ok-leaf-in-None.ensures.grown c.in_ok-leaf-in-None.ensures.full c.in_ok-leaf-in-None.ensures.is c.fell.ensures.felled
 
 pub returns-in_ok-first-in-Some-clause-ok : goal.returns-in_ok-first-in-Some-clause-ok
 returns-in_ok-first-in-Some-clause-ok c =
     let goes : c.args.path.now ≡ c.in-Some.key.now ∷ c.in-Some.rest.now = search rules in
     let some : is_null c.args.tree.now ≡ false = search rules in
     set_part_tree c.self.inside c.args.self.now c.self.invariant c.self.view_is c.args.path.now c.args.tree.now c.keys-keys.ensures.valid c.levels.ensures.allowed
-    c.put_row.new.nodes c.in_ok-first-in-Some.first (Some c.in_ok-first-in-Some.near) c.in-Some.key.now c.in-Some.rest.now goes some c.in_ok-first-in-Some.ensures.ok
+    c.put_row.new.nodes c.put_row.new.ranks c.in_ok-first-in-Some.first c.in-Some.key.now c.in-Some.rest.now goes some c.in_ok-first-in-Some.ensures.ok
 
 pub put_row-requires-clause-told : goal.put_row-requires-clause-told
 put_row-requires-clause-told c = told c.self.inside c.self.invariant

@@ -5,7 +5,8 @@ use Rattle.rt_tree.specs.Leaf.{LeafValue}
 use Rattle.rt_tree.specs.Allowed.{IsAllowed}
 use Rattle.rt_store.specs.Rows.{Row}
 use Rattle.rt_store.specs.Stored.{Stored}
-use Rattle.rt_store.specs.Forest.{IsRow, row_at, one_if, entries, tree_with, size, times}
+use Rattle.rt_store.specs.inside.Ranks.{IsRanked}
+use Rattle.rt_store.specs.inside.Forest.{IsRow, row_at, one_if, entries, tree_with, size, times}
 use Rattle.rt_store.specs.declared.slot.Slot.{Slot}
 use Rattle.rt_store.specs.declared.store.Store.TheInside.{Inside}
 
@@ -27,4 +28,5 @@ pub record IsStore (a : Inside) : Type 0 where
   pub count : size (row_at a.nodes a.first) ≡ slab_len a.nodes
   pub once : (n : ℕ) → times n (row_at a.nodes a.first) ≡ one_if (is_some (get a.nodes n))
   pub top : IsTop a.leaf a.first
+  pub ranked : IsRanked a.nodes a.ranks
   pub allowed : IsAllowed (stored a).tree

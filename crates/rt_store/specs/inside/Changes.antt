@@ -5,7 +5,7 @@ use Rattle.rt_tree.specs.Leaf.{LeafValue}
 use Rattle.rt_tree.specs.PathTree.{Key, Path, PathTree, PutsBelow}
 use Rattle.rt_order.specs.KeyOrder.{key_cmp}
 use Rattle.slab.specs.Slab.{Slab, get, slab_len}
-use Rattle.rt_store.specs.Forest.{Forest, bare, node, size, times, entries, IsRow, row_at}
+use Rattle.rt_store.specs.inside.Forest.{Forest, bare, node, size, times, entries, IsRow, row_at}
 use Rattle.rt_store.specs.declared.slot.Slot.{Slot}
 
 abbrev pub with_next : Option ℕ → Slot → Slot

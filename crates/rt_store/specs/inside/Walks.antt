@@ -4,7 +4,7 @@ use Rattle.std.specs.FinMap.Entries.{by_order}
 use Rattle.slab.specs.Slab.{Slab}
 use Rattle.rt_tree.specs.PathTree.{Key, Path}
 use Rattle.rt_order.specs.KeyOrder.{key_cmp}
-use Rattle.rt_store.specs.Forest.{Forest, bare, node, IsRow, row_at}
+use Rattle.rt_store.specs.inside.Forest.{Forest, bare, node, IsRow, row_at}
 use Rattle.rt_store.specs.declared.slot.Slot.{Slot}
 use Rattle.rt_store.specs.declared.row.Spot.{Spot}
 use Rattle.rt_store.specs.declared.row.Spot.TheVariants.{Here, Gap}

@@ -1,7 +1,7 @@
 use Rattle.std.proofs.Common.{◌≡◌, None}
-use Rattle.rt_store.specs.Forest.{row_at, size}
-use Rattle.rt_store.specs.Walks.{spot_in, IsPlace}
-use Rattle.rt_store.proofs.row.seek.Given as goal
+use Rattle.rt_store.specs.inside.Forest.{row_at, size}
+use Rattle.rt_store.specs.inside.Walks.{spot_in, IsPlace}
+use Rattle.rt_store.proofs.row.pass.Given as goal
 
 abbrev pub invariant-loop-next : goal.invariant-loop-next
 invariant-loop-next l = IsPlace l.nodes l.next × (spot_in l.key None (row_at l.nodes l.fn.row.first) ≡ spot_in l.key l.previous (row_at l.nodes l.next))

@@ -1,19 +1,19 @@
 use Rattle.std.proofs.Common.{◌≡◌, Some, None, sym, ◌∙◌, rules}
 use Rattle.slab.specs.Slab.{get}
 use Rattle.rt_store.proofs.Paths.{spotted_by, is_there, fewer, next_place, missing}
-use Rattle.rt_store.proofs.row.seek.Goals as goal
+use Rattle.rt_store.proofs.row.pass.Goals as goal
 
 pub returns-in-Less : goal.returns-in-Less
 returns-in-Less c =
     let slot = c.unwrap-slot.result.now in
     let there : get c.args.nodes.now c.in-Some.index ≡ Some slot = search rules in
-    sym (c.loop-next.invariant.1 ∙ spotted_by c.args.nodes.now c.loop-next.next c.loop-next.previous c.in-Some.index slot c.args.key.now c.in-Some.is c.loop-next.invariant.0 there _ (sym c.key_cmp.ensures ∙ c.in-Less.is))
+    sym (c.loop-next.invariant.1 ∙ spotted_by c.args.nodes.now c.loop-next.next c.loop-next.previous c.in-Some.index slot c.args.key.now c.in-Some.is c.loop-next.invariant.0 there _ (sym c.order.ensures ∙ c.in-Less.is))
 
 pub returns-in-Equal : goal.returns-in-Equal
 returns-in-Equal c =
     let slot = c.unwrap-slot.result.now in
     let there : get c.args.nodes.now c.in-Some.index ≡ Some slot = search rules in
-    sym (c.loop-next.invariant.1 ∙ spotted_by c.args.nodes.now c.loop-next.next c.loop-next.previous c.in-Some.index slot c.args.key.now c.in-Some.is c.loop-next.invariant.0 there _ (sym c.key_cmp.ensures ∙ c.in-Equal.is))
+    sym (c.loop-next.invariant.1 ∙ spotted_by c.args.nodes.now c.loop-next.next c.loop-next.previous c.in-Some.index slot c.args.key.now c.in-Some.is c.loop-next.invariant.0 there _ (sym c.order.ensures ∙ c.in-Equal.is))
 
 pub loop-next-smaller : goal.loop-next-smaller
 loop-next-smaller c =
@@ -25,7 +25,7 @@ loop-next-preserved c =
     let slot = c.unwrap-slot.result.now in
     let there : get c.args.nodes.now c.in-Some.index ≡ Some slot = search rules in (
       next_place c.args.nodes.now c.loop-next.next c.in-Some.index slot c.in-Some.is c.loop-next.invariant.0 there,
-      c.loop-next.invariant.1 ∙ spotted_by c.args.nodes.now c.loop-next.next c.loop-next.previous c.in-Some.index slot c.args.key.now c.in-Some.is c.loop-next.invariant.0 there _ (sym c.key_cmp.ensures ∙ c.in-Greater.is),
+      c.loop-next.invariant.1 ∙ spotted_by c.args.nodes.now c.loop-next.next c.loop-next.previous c.in-Some.index slot c.args.key.now c.in-Some.is c.loop-next.invariant.0 there _ (sym c.order.ensures ∙ c.in-Greater.is),
     )
 
 pub returns : goal.returns

@@ -1,0 +1,104 @@
+-- What the ranks have of a slab's nodes.
+use Rattle.std.proofs.Common.{◌≡◌, ◌≢◌, ◌<◌, ℕ, ◌+◌, List, [], ◌∷◌, zero, suc, Option, Some, None, Bool, true, false, refl, sym, ap, ◌∙◌, arith}
+use Rattle.std.specs.Prelude.{slice_get, nat_eq, ◌&&◌}
+use Rattle.std.specs.List.{remove}
+use Rattle.std.specs.Option.{option_map}
+use Rattle.std.proofs.lemmas.Bool.{eqb-true, eq-eqb}
+use Rattle.std.proofs.lemmas.List.Sums.{sum_by-remove}
+use Rattle.std.proofs.lemmas.Option.{get_or_from_slice_get, slice_get_within}
+use Rattle.slab.specs.Slab.{Slab, get, Updates}
+use Rattle.rt_store.specs.inside.Forest.{one_if}
+use Rattle.rt_store.specs.inside.Often.{often}
+use Rattle.rt_store.specs.inside.Ranks.{listed, same_link, is_child, Added, IsAlike, IsRanked}
+use Rattle.rt_store.specs.inside.Changes.{Same}
+use Rattle.rt_store.specs.declared.slot.Slot.{Slot}
+use Rattle.rt_store.specs.declared.ranks.Ranks.{Ranks}
+
+-- a child less, where one stands
+pub often-remove : (m : ℕ) (xs : List ℕ) (i x : ℕ) → slice_get xs i ≡ Some x → often m (remove xs i) + one_if (nat_eq m x) ≡ often m xs
+often-remove m xs i x there =
+    ap (λ y. often m (remove xs i) + one_if (nat_eq m y)) (sym (get_or_from_slice_get xs i x x there))
+    ∙ sum_by-remove (λ y. one_if (nat_eq m y)) xs i x (slice_get_within xs i x there)
+
+-- ---- a node that is there
+same_same : (p : Option ℕ) → same_link p p ≡ true
+same_same None = refl
+same_same (Some n) = eq-eqb n n refl
+
+-- stands in the row of its parent
+pub ranked_there : (s : Slab Slot) (r : Ranks) (n : ℕ) (slot : Slot) → IsRanked s r → get s n ≡ Some slot → 0 < often n (listed r slot.parent)
+ranked_there s r n slot h there =
+    let one : often n (listed r slot.parent) ≡ 1 = h slot.parent n ∙ ap (λ o. one_if (is_child slot.parent o)) there ∙ ap one_if (same_same slot.parent) in
+    omega (arith, one)
+
+-- ---- the nodes change
+-- at one node, or at another
+either_node : (A : Type 0) (m n : ℕ) → (nat_eq m n ≡ true → A) → (nat_eq m n ≡ false → A) → A
+either_node A m n here there = elim (nat_eq m n) as (λ b. nat_eq m n ≡ b → A) [ true ↦ here | false ↦ there ] refl
+
+differ : (m n : ℕ) → nat_eq m n ≡ false → m ≢ n
+differ m n e same = cc (e, eq-eqb m n same)
+
+and-true : (b : Bool) → (b && true) ≡ b
+and-true true = refl
+and-true false = refl
+
+and-false : (b : Bool) → (b && false) ≡ false
+and-false true = refl
+and-false false = refl
+
+-- each has the parent that it had
+pub ranked_mapped : (s t : Slab Slot) (r : Ranks) (f : ℕ → Slot → Slot) → ((n : ℕ) (slot : Slot) → (f n slot).parent ≡ slot.parent) → ((n : ℕ) → get t n ≡ option_map (f n) (get s n)) → IsRanked s r → IsRanked t r
+ranked_mapped s t r f parents each h p m = h p m ∙ ap one_if (sym (ap (is_child p) (each m) ∙ mapped (get s m)))
+  where
+    mapped : (o : Option Slot) → is_child p (option_map (f m) o) ≡ is_child p o
+    mapped None = refl
+    mapped (Some slot) = ap (same_link p) (parents m slot)
+
+pub ranked_written : (s t : Slab Slot) (r : Ranks) (f : Slot → Slot) (n : ℕ) → ((slot : Slot) → (f slot).parent ≡ slot.parent) → get t n ≡ option_map f (get s n) → ((m : ℕ) → m ≢ n → get t m ≡ get s m)
+    → IsRanked s r → IsRanked t r
+ranked_written s t r f n parents written others h p m = h p m ∙ ap one_if (sym (either_node (is_child p (get t m) ≡ is_child p (get s m)) m n
+    (λ e. let same : m ≡ n = eqb-true m n e in ap (λ x. is_child p (get t x)) same ∙ ap (is_child p) written ∙ mapped (get s n) ∙ ap (λ x. is_child p (get s x)) (sym same))
+    (λ e. ap (is_child p) (others m (differ m n e)))))
+  where
+    mapped : (o : Option Slot) → is_child p (option_map f o) ≡ is_child p o
+    mapped None = refl
+    mapped (Some slot) = ap (same_link p) (parents slot)
+
+pub ranked_same : (s t : Slab Slot) (r : Ranks) → Same s t → IsRanked s r → IsRanked t r
+ranked_same s t r same h p m = h p m ∙ ap (λ o. one_if (is_child p o)) (sym (same.kept m))
+
+pub ranked_alike : (s : Slab Slot) (r q : Ranks) → IsAlike r q → IsRanked s r → IsRanked s q
+ranked_alike s r q alike h p m = alike p m ∙ h p m
+
+-- a node more
+pub ranked_more : (s t : Slab Slot) (r q : Ranks) (n : ℕ) (slot : Slot) → get s n ≡ None → Updates s t n (Some slot) → Added r q slot.parent n → IsRanked s r → IsRanked t q
+ranked_more s t r q n slot none updates added h p m = either_node (often m (listed q p) ≡ one_if (is_child p (get t m))) m n
+    (λ e.
+    let same : m ≡ n = eqb-true m n e in
+    let was : often m (listed r p) ≡ 0 = h p m ∙ ap (λ x. one_if (is_child p (get s x))) same ∙ ap (λ o. one_if (is_child p o)) none in
+    let one : one_if (same_link p slot.parent && nat_eq m n) ≡ one_if (same_link p slot.parent) = ap (λ b. one_if (same_link p slot.parent && b)) e ∙ ap one_if (and-true (same_link p slot.parent)) in
+    let now : one_if (is_child p (get t m)) ≡ one_if (same_link p slot.parent) = ap (λ x. one_if (is_child p (get t x))) same ∙ ap (λ o. one_if (is_child p o)) updates.changed in
+    omega (arith, added p m, was, one, now))
+    (λ e.
+    let none_more : one_if (same_link p slot.parent && nat_eq m n) ≡ 0 = ap (λ b. one_if (same_link p slot.parent && b)) e ∙ ap one_if (and-false (same_link p slot.parent)) in
+    let now : one_if (is_child p (get t m)) ≡ one_if (is_child p (get s m)) = ap (λ o. one_if (is_child p o)) (updates.others m (differ m n e)) in
+    omega (arith, added p m, h p m, none_more, now))
+
+-- a node less
+pub ranked_fewer : (s t : Slab Slot) (r q : Ranks) (n : ℕ) (slot : Slot) → get s n ≡ Some slot → Updates s t n None → Added q r slot.parent n → IsRanked s r → IsRanked t q
+ranked_fewer s t r q n slot there updates added h p m = either_node (often m (listed q p) ≡ one_if (is_child p (get t m))) m n
+    (λ e.
+    let same : m ≡ n = eqb-true m n e in
+    let was : often m (listed r p) ≡ one_if (same_link p slot.parent) = h p m ∙ ap (λ x. one_if (is_child p (get s x))) same ∙ ap (λ o. one_if (is_child p o)) there in
+    let one : one_if (same_link p slot.parent && nat_eq m n) ≡ one_if (same_link p slot.parent) = ap (λ b. one_if (same_link p slot.parent && b)) e ∙ ap one_if (and-true (same_link p slot.parent)) in
+    let now : one_if (is_child p (get t m)) ≡ 0 = ap (λ x. one_if (is_child p (get t x))) same ∙ ap (λ o. one_if (is_child p o)) updates.changed in
+    omega (arith, added p m, was, one, now))
+    (λ e.
+    let none_less : one_if (same_link p slot.parent && nat_eq m n) ≡ 0 = ap (λ b. one_if (same_link p slot.parent && b)) e ∙ ap one_if (and-false (same_link p slot.parent)) in
+    let now : one_if (is_child p (get t m)) ≡ one_if (is_child p (get s m)) = ap (λ o. one_if (is_child p o)) (updates.others m (differ m n e)) in
+    omega (arith, added p m, h p m, none_less, now))
+
+-- ---- no nodes
+pub ranked_none : (s : Slab Slot) (r : Ranks) → ((n : ℕ) → get s n ≡ None) → ((p : Option ℕ) (m : ℕ) → often m (listed r p) ≡ 0) → IsRanked s r
+ranked_none s r none empty p m = empty p m ∙ sym (ap (λ o. one_if (is_child p o)) (none m))
