@@ -15,6 +15,8 @@ mod readme;
 #[cfg(test)]
 mod store;
 #[cfg(test)]
+mod sync;
+#[cfg(test)]
 mod tree;
 #[cfg(test)]
 mod writes;
