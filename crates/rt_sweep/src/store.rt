@@ -87,24 +87,15 @@ fn set(store: &mut Store, alloc: Global, at: &str, text: &str) -> Result<(), End
 
 // ---- a wide row
 
-// The JSON of an object of 80 children: every other number from 100 on.
-fn wide_text(alloc: Global) -> Result<String, AllocError> {
-    let mut text = String::from_str(alloc, r#"{"x":1"#)?;
-    for place in 0..80u32 {
-        text.push_str(format!(in alloc; ",\"{}\":true", 100 + 2 * place)?.as_str())?;
-    }
-    text.push('}')?;
-    Ok(text)
-}
-
-fn set_wide(store: &mut Store, alloc: Global) -> Result<(), End> {
-    let text = wide_text(alloc)?;
-    set(store, alloc, "/wide", text.as_str())
-}
+// An object of more children than fit into one node of an ordered map: every other number from 100 on.
+const WIDE: &str = concat!(
+    r#"{"100":true,"102":true,"104":true,"106":true,"108":true,"110":true,"112":true,"114":true,"116":true,"118":true,"#,
+    r#""120":true,"122":true,"124":true,"126":true,"128":true,"130":true,"132":true,"134":true,"136":true,"138":true,"x":1}"#
+);
 
 // New children of the row: in front, between, behind; and one below a leaf.
 fn set_in_wide(store: &mut Store, alloc: Global) -> Result<(), End> {
-    for at in ["/wide/1", "/wide/151", "/wide/y", "/wide/150/a/b"] {
+    for at in ["/wide/1", "/wide/115", "/wide/y", "/wide/114/a/b"] {
         set(store, alloc, at, "7")?;
     }
     Ok(())
@@ -159,7 +150,7 @@ fn steps(store: &mut Store, alloc: Global) -> Result<(), End> {
     for (at, text) in [("/b/c", PART), ("/a/10", PART), ("/b", r#"{"c":{"v":0}}"#)] {
         set(store, alloc, at, text)?;
     }
-    set_wide(store, alloc)?;
+    set(store, alloc, "/wide", WIDE)?;
     set_in_wide(store, alloc)?;
     run_changes(store, alloc)
 }
