@@ -7,8 +7,14 @@ ghost use Rattle.rt_tree.specs.Key.{IsKey, is_allowed, key_fault};
 use crate::error::TreeError;
 use std::alloc::{AllocError, Global};
 use std::cmp::Ordering;
+use std::convert::AsStr;
+use std::fmt;
+use std::hash::{Hash, Hasher};
 use std::marker::Model;
 use std::sync::ArcStr;
+
+// The most bytes that a key has.
+const MAX_KEY_BYTES: usize = 768;
 
 /// The name of a child: 1 to 768 bytes of UTF-8 without the characters 0 to 31 and 127 and without `.` `$` `#` `[` `]`
 /// `/`, as Firebase has them.
@@ -51,7 +57,7 @@ pub fn check_key(text: &str) -> Result<(), TreeError>
     if text.is_empty() {
         return Err(TreeError::BadKey);
     }
-    if text.len() > 768 {
+    if text.len() > MAX_KEY_BYTES {
         return Err(TreeError::KeyTooLong);
     }
     if !all_allowed(text) {
@@ -81,8 +87,10 @@ pub fn index_key(alloc: Global, index: usize) -> Result<Key, AllocError>
 impl Key {
     /// Reads a key: the text itself, where it is one.
     ///
+    /// # Errors
+    ///
     /// `BadKey` for the empty text, then `KeyTooLong` for one above 768 bytes, then `BadKey` for a character that no key
-    /// has.
+    /// has; `NoMemory` where none of them holds.
     pub fn parse(alloc: Global, text: &str) -> Result<Key, TreeError>
         ensures ok { IfOk result (λ key. key ≡ text.now) }
         ensures valid { OnOk result (IsKey text.now) }
@@ -101,12 +109,44 @@ impl Key {
         self.text.as_str()
     }
 
-    /// An equal key that shares the text.
+    /// An equal key that shares the text, and so takes no memory.
     pub fn copy(&self) -> Result<Key, AllocError>
         ensures { IfOk result (λ key. key ≡ self.now) }
     {
         let text = self.text.clone()?;
         Ok(Key { text })
+    }
+}
+
+impl AsStr for Key {
+    ghost text = { λ key. key };
+
+    fn as_str(&self) -> &str {
+        self.text()
+    }
+}
+
+/// A key prints as its text.
+impl fmt::Display for Key {
+    ghost output = { λ key. Some key };
+
+    fn fmt<W: fmt::Write>(&self, f: &mut fmt::Formatter<W>) -> fmt::Result {
+        f.write_str(self.text())
+    }
+}
+
+/// A key hashes as its text.
+impl Hash for Key {
+    ghost use Rattle.std.specs.Hash as fed;
+    ghost use Rattle.std.specs.Cmp.Rules.{hashing};
+    ghost use Rattle.std.proofs.Common.{rules};
+
+    ghost hash_input = { λ key. fed.str key };
+
+    ghost respects_eq = { Prim.search (hashing, rules) };
+
+    fn hash<H: Hasher>(&self, state: &mut H) {
+        self.text().hash(state)
     }
 }
 

@@ -1,5 +1,6 @@
 // A place in a tree.
 ghost use Rattle.std.specs.Prelude.{◌≡◌, ◌↔◌, ◌++◌, ◌∷◌, [], length, IfOk, IfErr, IfSome, OnOk, Some, ◌⊎◌, is_some, string_bytes};
+ghost use Rattle.std.specs.Option.{option_copied};
 ghost use Rattle.std.specs.Result.{result_err};
 ghost use Rattle.rt_tree.specs.Path.{IsPath, path_keys, path_text, path_fault};
 ghost use Rattle.rt_tree.specs.Leaves.{strip};
@@ -77,8 +78,10 @@ impl Path {
     /// Reads a path. The text is cut at each `/`, and empty pieces are dropped: `a//b/` is `/a/b`, and both `/` and the
     /// empty text are the root.
     ///
+    /// # Errors
+    ///
     /// The pieces are looked at from left to right: a 33rd is `TooDeep`, and a piece that is no key is refused as
-    /// [`Key::parse`] refuses it.
+    /// [`Key::parse`] refuses it; `NoMemory` where the text is a path.
     pub fn parse(alloc: Global, text: &str) -> Result<Path, TreeError>
         ensures ok { IfOk result (λ path. path ≡ path_keys text.now) }
         ensures valid { OnOk result (IsPath (path_keys text.now)) }
@@ -111,6 +114,13 @@ impl Path {
         other.keys().starts_with(self.keys())
     }
 
+    /// The keys of this path below the other one; `None` where the other is no prefix of it.
+    pub fn strip_prefix(&self, prefix: &Path) -> Option<&[Key]>
+        ensures { option_copied result ≡ strip prefix.now self.now }
+    {
+        self.keys().strip_prefix(prefix.keys())
+    }
+
     /// The path as it is printed: `/` and its keys joined by `/`. [`Path::parse`] reads it back.
     pub fn text(&self) -> Result<String, AllocError>
         ensures text { IfOk result (λ text. string_bytes text ≡ path_text self.now) }
@@ -138,7 +148,11 @@ impl Path {
         Ok(Path { keys })
     }
 
-    /// The path one key further down. `TooDeep` where this one has 32 keys already.
+    /// The path one key further down.
+    ///
+    /// # Errors
+    ///
+    /// `TooDeep` where this one has 32 keys already, else `NoMemory`.
     pub fn child(&self, key: &Key) -> Result<Path, TreeError>
         ensures ok { IfOk result (λ path. path ≡ self.now ++ key.now ∷ []) }
         ensures too_deep { (result ≡ Err TreeError.TooDeep) ↔ (length self.now ≡ 32) }

@@ -108,7 +108,8 @@ impl Tree {
         self.at(path.keys())
     }
 
-    fn at(&self, keys: &[Key]) -> Option<&Tree>
+    /// The part of the tree below these keys, from the root down; `None` where that is null.
+    pub fn at(&self, keys: &[Key]) -> Option<&Tree>
         ensures { option_copied result ≡ non_null (sub self.now keys.now) }
     {
         let Some((key, rest)) = keys.split_first() else {
@@ -192,9 +193,13 @@ impl Tree {
     /// Puts a tree in the place of what stands at the path. Null takes that out, and with it each object above that is
     /// left without children. Any other tree replaces a leaf above the path by an object; null leaves such a leaf.
     ///
-    /// `TooDeep` where path and tree together have more than 32 keys. A refused tree is dropped, and nothing changes.
     /// Costs by the path and by the tree that is put, and, the first time after a copy, by the number of children along the
     /// path.
+    ///
+    /// # Errors
+    ///
+    /// `TooDeep` where path and tree together have more than 32 keys, else `NoMemory`. A refused tree is dropped, and nothing
+    /// changes.
     pub fn put(&mut self, alloc: Global, path: &Path, tree: Tree) -> Result<(), TreeError>
         ensures ok { OnOk result (self.new ≡ put self.old path.now tree) }
         ensures err { OnErr result (self.new ≡ self.old) }

@@ -12,10 +12,16 @@ ghost use Rattle.rt_tree.specs.Reading.{tree_of_data, item_trees, member_trees, 
 use super::{Tree, set_child};
 use crate::error::TreeError;
 use crate::key::{Key, check_key, index_key, valid_key};
-use crate::leaf::{Leaf, short_text, whole_number};
+use crate::leaf::{Leaf, MAX_TEXT_BYTES, MAX_WHOLE, short_text, whole_number};
 use serde_json::Value;
 use std::alloc::{AllocError, Global};
 use std::collections::BTreeMap;
+
+// The most values that are read.
+const MAX_NODES: u32 = 65536;
+
+// The most keys that stand above a value.
+const MAX_KEYS_ABOVE: u32 = 32;
 
 impl Tree {
     /// The tree that a JSON text stands for, read as RFC 8259 has it.
@@ -127,10 +133,10 @@ fn walk(value: &Value, level: u32, name: Option<&str>, seen: u32) -> Result<u32,
     ensures walked { result ≡ walked seen (visits level (option_map (λ s. s.now) name.entry) (view value.now)) }
     ensures bound { IfOk result (λ n. n ≤ 65536) }
 {
-    if seen >= 65536 {
+    if seen >= MAX_NODES {
         return Err(TreeError::TooManyNodes);
     }
-    if level > 32 {
+    if level > MAX_KEYS_ABOVE {
         return Err(TreeError::TooDeep);
     }
     if let Some(name) = name {
@@ -139,11 +145,11 @@ fn walk(value: &Value, level: u32, name: Option<&str>, seen: u32) -> Result<u32,
     match value {
         Value::Null | Value::Bool(_) => Ok(seen + 1),
         Value::Number(number) => match number.as_i64() {
-            Some(whole) if whole >= -9007199254740991 && whole <= 9007199254740991 => Ok(seen + 1),
+            Some(whole) if whole >= -MAX_WHOLE && whole <= MAX_WHOLE => Ok(seen + 1),
             _ => Err(TreeError::NotWhole),
         },
         Value::String(text) => {
-            if text.len() > 65536 {
+            if text.len() > MAX_TEXT_BYTES {
                 return Err(TreeError::TextTooLong);
             }
             Ok(seen + 1)
