@@ -9,8 +9,14 @@ fn told(alloc: Global) -> Result<Report, Fail> {
     let mut core = Core::new(alloc, Limits::full());
     drop(core.apply(Step::Connected)?);
     let chat = Query::at(Path::parse(alloc, "/chat")?).done();
-    drop(core.apply(Step::Listen { seat: 1, query: chat })?);
-    let (path, tree) = (Path::parse(alloc, "/chat")?, Tree::read(alloc, r#"{"m1":"hi"}"#)?);
+    drop(core.apply(Step::Listen {
+        seat: 1,
+        query: chat,
+    })?);
+    let (path, tree) = (
+        Path::parse(alloc, "/chat")?,
+        Tree::read(alloc, r#"{"m1":"hi"}"#)?,
+    );
     let action = Action::Put { path, tree };
     Ok(core.apply(Step::Write { seat: 1, action })?)
 }
