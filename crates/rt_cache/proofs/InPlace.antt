@@ -75,3 +75,12 @@ put_in_place r (x ∷ rs) h =
 pub place_last : (test : Region → Bool) (rs : List Region) → ((k : ℕ) (d : Region) → k < length rs → test (get_or rs k d) ≡ false) → length rs ≡ position_or_len test rs
 place_last test [] h = refl
 place_last test (r ∷ rs) h = sym (position_or_len_is test (r ∷ rs) (length (r ∷ rs)) r (omega arith) (λ k lt. h k r lt) (λ lt. absurd (omega arith)))
+
+-- the regions whose paths pass a test, as pairs
+pub pairs_of-filter_by : (test : Path → Bool) (rs : List Region) → pairs_of (filter (λ r. test r.path) rs) ≡ filter (λ r. test r.0) (pairs_of rs)
+pairs_of-filter_by test [] = refl
+pairs_of-filter_by test (r ∷ rs) =
+    elim (test r.path) as (λ b. pairs_of (cond b (r ∷ filter (λ x. test x.path) rs) (filter (λ x. test x.path) rs)) ≡ cond b (pair_of r ∷ filter (λ x. test x.0) (pairs_of rs)) (filter (λ x. test x.0) (pairs_of rs))) [
+      | true ↦ ap (λ xs. pair_of r ∷ xs) (pairs_of-filter_by test rs)
+      | false ↦ pairs_of-filter_by test rs
+    ]

@@ -1,5 +1,8 @@
 pub mod Bases
+pub mod Changes
+pub mod Cuts
 pub mod InPlace
+pub mod Keeping
 pub mod Listing
 pub mod Places
 pub mod Pushes

@@ -43,7 +43,7 @@ not_above q r p a e =
       | false ↦ λ f. refl
     ] refl
 
-none_above : (q p : Path) (rs : List (Path × PathTree)) → is_at_or_above q p ≡ true → list_any (λ (b : Path × PathTree). do_overlap q b.0) rs ≡ false
+pub none_above : (q p : Path) (rs : List (Path × PathTree)) → is_at_or_above q p ≡ true → list_any (λ (b : Path × PathTree). do_overlap q b.0) rs ≡ false
     → list_any (λ (r : Path × PathTree). is_at_or_above r.0 p) rs ≡ false
 none_above q p [] a e = refl
 none_above q p (r ∷ rs) a e =
@@ -79,7 +79,7 @@ unseen p (r ∷ rs) e =
     unseen_one p r rs (or_left _ (list_any (λ (x : Path × PathTree). is_at_or_above x.0 p) rs) e) ∙ unseen p rs (or_right (is_at_or_above r.0 p) _ e)
 
 -- a region further on is above p, so the first is not
-first_not : (q p : Path) (rs : List Region) (n : ℕ) (d : Region) → list_any (λ (b : Path × PathTree). do_overlap q b.0) (pairs_of rs) ≡ false → n < length rs
+pub first_not : (q p : Path) (rs : List Region) (n : ℕ) (d : Region) → list_any (λ (b : Path × PathTree). do_overlap q b.0) (pairs_of rs) ≡ false → n < length rs
     → is_at_or_above (get_or rs n d).path p ≡ true → is_at_or_above q p ≡ false
 first_not q p [] n d e lt a = absurd (omega arith)
 first_not q p (r ∷ rs) zero d e lt a =

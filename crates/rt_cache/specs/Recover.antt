@@ -1,25 +1,33 @@
 -- What stays brought when the listens kept change.
-use Rattle.std.specs.Prelude.{Bool, true, not, ◌&&◌, if◌then◌else◌, List, [], ◌∷◌, Option, None, is_some}
+use Rattle.std.specs.Prelude.{Bool, true, not, ◌&&◌, if◌then◌else◌, List, [], ◌∷◌, Option, Some, None, is_some}
 use Rattle.std.specs.List.{filter, filter_map, flat_map, fold, list_any}
 use Rattle.std.specs.Option.{option_map, option_or}
 use Rattle.std.specs.FinMap as map_of
-use Rattle.rt_tree.specs.PathTree.{Path, path_cmp, strip, PathTree, sub, children_alone}
-use Rattle.rt_tree.specs.Assignments.{is_at_or_above}
+use Rattle.rt_tree.specs.PathTree.{Path, path_cmp, strip, PathTree, null, sub, children_alone}
+use Rattle.rt_tree.specs.Assignments.{is_at_or_above, have_overlap}
 use Rattle.rt_query.specs.Queries.{Query, is_filtered}
 use Rattle.rt_cache.specs.QueryOrder.{query_cmp}
 use Rattle.rt_cache.specs.Brought.{Window, Brought, region_part, window_of}
 
--- the plain listens
-abbrev pub plains : List Query → List Query
-plains kept = filter (λ k. not (is_filtered k)) kept
-
 -- whether a plain listen is at or above p
 abbrev pub reaches : List Query → Path → Bool
-reaches kept p = list_any (λ k. is_at_or_above k.path p) (plains kept)
+reaches kept p = list_any (λ k. not (is_filtered k) && is_at_or_above k.path p) kept
 
--- the parts of a region at the plain listens under it
+-- the part of a region at a plain listen under it
+abbrev pub part_for : Path × PathTree → Query → Option (Path × PathTree)
+part_for r k = if is_filtered k then None else option_map (λ rest. (k.path, sub r.1 rest)) (strip r.0 k.path)
+
+-- its parts at all of them
 abbrev pub parts_of : List Query → Path × PathTree → List (Path × PathTree)
-parts_of kept r = filter_map (λ k. option_map (λ rest. (k.path, sub r.1 rest)) (strip r.0 k.path)) (plains kept)
+parts_of kept r = filter_map (part_for r) kept
+
+-- the paths of the plain listens
+abbrev pub plain_spots : List Query → List (Path × PathTree)
+plain_spots kept = filter_map (λ k. if is_filtered k then None else Some (k.path, null)) kept
+
+-- whether of two plain listens one is at or above the other
+abbrev pub do_plains_overlap : List Query → Bool
+do_plains_overlap kept = have_overlap (plain_spots kept)
 
 -- more regions, each in its place
 abbrev pub with_regions : List (Path × PathTree) → List (Path × PathTree) → List (Path × PathTree)

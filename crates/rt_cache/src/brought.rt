@@ -2,13 +2,15 @@
 ghost use Rattle.std.specs.Prelude.{◌≡◌, ◌+◌, ◌≤◌, true, false, not, length, IfOk, OnOk, OnErr};
 ghost use Rattle.rt_tree.specs.PathTree.{levels};
 ghost use Rattle.rt_tree.specs.Assignments.{is_at_or_above, have_overlap};
+ghost use Rattle.rt_cache.specs.Canonical.{IsCanonical};
+ghost use Rattle.rt_cache.specs.Recover.{do_plains_overlap, recover};
 ghost use Rattle.rt_cache.specs.inside.Held.{pairs_of, held};
 ghost use Rattle.rt_cache.specs.Brought.{nothing_brought, base, base_child, knows, push_plain, push, is_without_window};
 
 use crate::base::Base;
 use crate::region::Region;
 use crate::window::Window;
-use crate::{regions, stores, windows};
+use crate::{recover, regions, stores, windows};
 use rt_query::Query;
 use rt_tree::{Key, Path, Tree};
 use std::alloc::{AllocError, Global};
@@ -78,6 +80,9 @@ impl Brought {
     /// takes in the regions and windows below. On a filtered one it replaces the window by its children, or is put into the
     /// window, if there is one. `Ok(false)` where there is none: the push is stale and changes nothing.
     ///
+    /// Passes the paths of the regions, or the queries of the windows, in front of the one that is meant, and then costs by the path
+    /// and the tree that is put. A new region moves those behind it. No other tree is walked.
+    ///
     /// An `Err` is want of memory, and changes nothing.
     pub fn put(&mut self, query: &Query, path: &Path, tree: &Tree) -> Result<bool, AllocError>
         requires under { is_at_or_above query.now.path path.now ≡ true }
@@ -94,16 +99,21 @@ impl Brought {
         Ok(true)
     }
 
-    /// Whether something is brought for the query: a region at or above its path, or its window. Takes no memory.
+    /// Whether something is brought for the query: a region at or above its path, or its window.
+    ///
+    /// Passes the paths of the regions and the queries of the windows. Builds no tree, and takes no memory.
     pub fn knows(&self, query: &Query) -> bool
-        ensures { result ≡ knows self.now query.now }
+        ensures known { result ≡ knows self.now query.now }
+        ensures canonical { IsCanonical self.now }
     {
         regions::place_above(&self.regions, query.path()).is_some()
             || windows::place_of_window(&self.windows, query).is_some()
     }
 
     /// What is brought for the query: the part of the region at or above its path, which is whole, or its window; `None` where there
-    /// is neither. Costs by the path and the part.
+    /// is neither.
+    ///
+    /// Passes what [`Brought::knows`] does, and then costs by the path and the part, of which it makes a copy.
     pub fn base(&self, query: &Query) -> Result<Option<Base>, AllocError>
         ensures { IfOk result (λ found. found ≡ base self.now query.now) }
     {
@@ -123,7 +133,7 @@ impl Brought {
         }))
     }
 
-    /// [`Brought::base`] with one child of the tree in its place, null where there is none. Costs by the path and that child.
+    /// [`Brought::base`] with one child of the tree in its place, null where there is none. It copies that child alone.
     pub fn base_child(&self, query: &Query, key: &Key) -> Result<Option<Base>, AllocError>
         ensures { IfOk result (λ found. found ≡ base_child self.now query.now key.now) }
     {
@@ -141,5 +151,19 @@ impl Brought {
             tree,
             whole: window.is_whole,
         }))
+    }
+
+    /// Takes in a change of the registered forms and of the listens kept. A region at or under a plain listen that is kept stays as it
+    /// is; of any other the parts at the plain listens under it stay. A registered filtered form whose path a region held, and none
+    /// holds now, gets the children there as a window that is whole. Windows of other forms go.
+    ///
+    /// Passes the paths of all regions and the queries of all windows; copies only the parts and the windows that lost regions
+    /// leave. An `Err` is want of memory, and changes nothing: all that is made is made before the first change.
+    pub fn recover(&mut self, registered: &[Query], kept: &[Query]) -> Result<(), AllocError>
+        requires { do_plains_overlap kept.now ≡ false }
+        ensures ok { OnOk result (self.new ≡ recover registered.now kept.now self.old) }
+        ensures err { OnErr result (self.new ≡ self.old) }
+    {
+        recover::change_cover(&mut self.regions, &mut self.windows, registered, kept)
     }
 }

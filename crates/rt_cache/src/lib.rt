@@ -5,6 +5,7 @@ mod base;
 mod brought;
 mod examples;
 mod paths;
+mod recover;
 mod region;
 mod regions;
 mod stores;

@@ -1,6 +1,7 @@
 -- What the fields hold, as what is brought.
-use Rattle.std.specs.Prelude.{Bool, ◌||◌, List, map, is_some}
-use Rattle.std.specs.Option.{option_map_or}
+use Rattle.std.specs.Prelude.{Bool, ◌||◌, List, map, Option, is_some}
+use Rattle.std.specs.List.{filter_map}
+use Rattle.std.specs.Option.{option_map, option_map_or}
 use Rattle.rt_tree.specs.PathTree.{Path, PathTree, path_eq, strip}
 use Rattle.rt_tree.specs.Assignments.{Assignment}
 use Rattle.rt_query.specs.Queries.{Query}
@@ -37,3 +38,7 @@ pushed_windows q a windows = option_map_or (λ rest. windows_pushed q rest a.1 w
 -- whether there is a window to take it, or none is needed
 abbrev pub is_taken : Query → Path → List (Query × Window) → Bool
 is_taken q p windows = path_eq q.path p || is_some (window_of windows q)
+
+-- what h gives of the queries, each with its query
+abbrev pub for_each : (Query → Option Window) → List Query → List (Query × Window)
+for_each h queries = filter_map (λ q. option_map (λ w. (q, w)) (h q)) queries

@@ -1,0 +1,48 @@
+-- Changes of cover.
+use Rattle.std.proofs.Common.{◌≡◌, Bool, true, false, not, List, [], ◌∷◌, ◌++◌, append-nil, refl, sym, ap, subst, ◌∙◌, OnOk, OnErr, IsOk, is_ok, cond}
+use lib.Dec.{T}
+use Rattle.std.specs.declared.result.Result.{Result}
+use Rattle.std.specs.declared.result.Result.TheVariants.{Ok, Err}
+use Rattle.std.specs.List.{filter, flat_map}
+use Rattle.std.specs.FinMap as map_of
+use Rattle.std.specs.FinMap.Entries.{is_sorted-put, is_sorted-where_key}
+use Rattle.rt_tree.specs.PathTree.{path_cmp, paths_total}
+use Rattle.rt_tree.specs.Assignments.{have_overlap}
+use Rattle.rt_query.specs.Queries.{Query}
+use Rattle.rt_cache.specs.Brought.{Brought}
+use Rattle.rt_cache.specs.Canonical.{IsCanonical}
+use Rattle.rt_cache.specs.Recover.{reaches, parts_of, with_regions, regions_kept, window_kept, do_plains_overlap, recover}
+use Rattle.rt_cache.specs.inside.Held.{for_each}
+use Rattle.rt_cache.proofs.Cuts.{moved_overlap, left_apart}
+use Rattle.rt_cache.proofs.Keeping.{kept_filtered}
+use Rattle.rt_cache.proofs.Listing.{listed_sorted}
+use Rattle.rt_cache.proofs.Stays.{Regions}
+
+with_sorted : (rs more : Regions) → T (map_of.is_sorted path_cmp rs) → T (map_of.is_sorted path_cmp (with_regions rs more))
+with_sorted rs [] h = h
+with_sorted rs (r ∷ more) h = with_sorted (map_of.put path_cmp r.0 r.1 rs) more (is_sorted-put path_cmp paths_total r.0 r.1 rs h)
+
+with_apart : (rs more : Regions) → have_overlap (rs ++ more) ≡ false → have_overlap (with_regions rs more) ≡ false
+with_apart rs [] e = ap have_overlap (sym (append-nil rs)) ∙ e
+with_apart rs (r ∷ more) e = with_apart (map_of.put path_cmp r.0 r.1 rs) more (moved_overlap rs r more e)
+
+-- it stays in order, with no region at or above another
+pub recover_stays : (registered kept : List Query) (b : Brought) → do_plains_overlap kept ≡ false → IsCanonical b → IsCanonical (recover registered kept b)
+recover_stays registered kept b e h =
+    let stay : Regions = filter (λ r. reaches kept r.0) b.regions in
+    let parts : Regions = flat_map (parts_of kept) (filter (λ r. not (reaches kept r.0)) b.regions) in
+    record {
+      regions = with_sorted stay parts (is_sorted-where_key path_cmp (λ p. reaches kept p) b.regions h.regions);
+      apart = with_apart stay parts (left_apart kept b.regions e h.apart);
+      windows = listed_sorted (for_each (window_kept b.regions (regions_kept kept b.regions) b.windows) registered);
+      filtered = kept_filtered b.regions (regions_kept kept b.regions) registered b.windows h.filtered;
+    }
+
+pub changed_stays : {A E : Type 0} (r : Result A E) (registered kept : List Query) (old new : Brought) → do_plains_overlap kept ≡ false
+    → OnOk r (new ≡ recover registered kept old) → OnErr r (new ≡ old) → IsCanonical old → IsCanonical new
+changed_stays (Ok x) registered kept old new e ok err h = subst IsCanonical (sym ok) (recover_stays registered kept old e h)
+changed_stays (Err x) registered kept old new e ok err h = subst IsCanonical (sym err) h
+
+-- what a call that is done left
+pub of_ok : {A E X : Type 0} (r : Result A E) (x y z : X) → IsOk r → x ≡ cond (is_ok r) y z → x ≡ y
+of_ok r x y z o e = e ∙ ap (λ b. cond b y z) o

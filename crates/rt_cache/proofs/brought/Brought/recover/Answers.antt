@@ -1,0 +1,8 @@
+use Rattle.rt_cache.specs.inside.Held.{held}
+use Rattle.rt_cache.proofs.Changes.{changed_stays}
+use Rattle.rt_cache.proofs.brought.Brought.recover.Goals as goal
+
+pub invariant_of-self : goal.invariant_of-self
+invariant_of-self c =
+    changed_stays c.change_cover.result c.args.registered.now c.args.kept.now (held c.self.inside.regions.items c.self.inside.windows.items)
+    (held c.change_cover.new.regions.items c.change_cover.new.windows.items) c.requires c.change_cover.ensures.ok c.change_cover.ensures.err c.self.invariant

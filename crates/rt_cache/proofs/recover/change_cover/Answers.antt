@@ -1,0 +1,41 @@
+use Rattle.std.proofs.Common.{rules, ◌≡◌, ◌∙◌, ◌++◌, ap, sym, arith, not, false, List, IsOk}
+use Rattle.std.specs.List.{filter, flat_map}
+use Rattle.rt_tree.specs.Assignments.{have_overlap}
+use Rattle.rt_cache.specs.Recover.{reaches, parts_of, with_regions, regions_kept, window_left, in_query_order}
+use Rattle.rt_cache.specs.declared.window.Window.{Window}
+use Rattle.rt_cache.specs.inside.Held.{pairs_of, entries_of, for_each}
+use Rattle.rt_cache.proofs.Changes.{of_ok}
+use Rattle.rt_cache.proofs.Cuts.{left_apart}
+use Rattle.rt_cache.proofs.InPlace.{pairs_of-filter_by}
+use Rattle.rt_cache.proofs.Keeping.{stays, kept_listed}
+use Rattle.rt_cache.proofs.Stays.{Regions}
+use Rattle.rt_cache.proofs.recover.change_cover.Goals as goal
+
+pub insert_all-requires-clause-apart : goal.insert_all-requires-clause-apart
+insert_all-requires-clause-apart c =
+    let old : Regions = pairs_of c.args.regions.now.items in
+    let stay : pairs_of c.retain_reached.new.regions.items ≡ filter (λ r. reaches c.args.kept.now r.0) old =
+    ap pairs_of c.retain_reached.ensures.left ∙ pairs_of-filter_by (λ p. reaches c.args.kept.now p) c.reserve-2.new.self.items
+    ∙ ap (λ rs. filter (λ r. reaches c.args.kept.now r.0) (pairs_of rs)) c.reserve-2.ensures.items in
+    let parts : pairs_of c.in_ok-parts.parts.items ≡ flat_map (parts_of c.args.kept.now) (filter (λ r. not (reaches c.args.kept.now r.0)) old) = search rules in
+    (λ i. have_overlap (stay i ++ parts i)) ∙ left_apart c.args.kept.now old c.requires.kept c.requires.apart
+
+pub returns-clause-ok : goal.returns-clause-ok
+returns-clause-ok c =
+    let old : Regions = pairs_of c.args.regions.now.items in
+    let stay : pairs_of c.retain_reached.new.regions.items ≡ filter (λ r. reaches c.args.kept.now r.0) old =
+    ap pairs_of c.retain_reached.ensures.left ∙ pairs_of-filter_by (λ p. reaches c.args.kept.now p) c.reserve-2.new.self.items
+    ∙ ap (λ rs. filter (λ r. reaches c.args.kept.now r.0) (pairs_of rs)) c.reserve-2.ensures.items in
+    let parts : pairs_of c.in_ok-parts.parts.items ≡ flat_map (parts_of c.args.kept.now) (filter (λ r. not (reaches c.args.kept.now r.0)) old) = search rules in
+    let regions : pairs_of c.insert_all.new.regions.items ≡ regions_kept c.args.kept.now old = c.insert_all.ensures ∙ (λ i. with_regions (stay i) (parts i)) in
+    let done : IsOk c.append-in_reserved_room.result =
+    c.append-in_reserved_room.ensures.succeeds (omega (arith, c.in_ok-reserve.ensures.ok, c.len.ensures, c.retain_registered.ensures.len)) in
+    let appended : c.append-in_reserved_room.new.self.items ≡ c.reserve.new.self.items ++ c.retain_registered.new.windows.items =
+    of_ok c.append-in_reserved_room.result _ _ _ done c.append-in_reserved_room.ensures.items in
+    let retained : c.retain_registered.new.windows.items ≡ filter (λ w. stays c.args.registered.now (entries_of c.in_ok-all.all.items) w.query) c.args.windows.now.items =
+    c.retain_registered.ensures.left
+    ∙ ap (λ (es : List Window). filter (λ (w : Window). stays c.args.registered.now (entries_of es) w.query) c.args.windows.now.items) (c.deref-4.ensures.value ∙ c.reserve.ensures.items) in
+    let left : entries_of c.in_ok-all.all.items ≡ for_each (window_left old (regions_kept c.args.kept.now old)) c.args.registered.now = search rules in
+    let windows = ap (λ ws. in_query_order (entries_of ws)) (appended ∙ (λ i. c.reserve.ensures.items i ++ retained i))
+    ∙ kept_listed old (regions_kept c.args.kept.now old) c.args.registered.now c.in_ok-all.all.items c.args.windows.now.items left in
+    λ i. record { regions = regions i; windows = windows i }

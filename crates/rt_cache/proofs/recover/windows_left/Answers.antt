@@ -1,0 +1,38 @@
+use Rattle.std.proofs.Common.{rules, ◌≡◌, ◌∙◌, ◌<◌, ◌+◌, ◌++◌, ◌∷◌, [], ap, sym, add-one, length, get_or, drop, Option, Some, None, append-nil}
+use Rattle.std.specs.List.{cons_option}
+use Rattle.std.specs.Option.{option_map}
+use Rattle.rt_query.specs.Queries.{Query}
+use Rattle.rt_cache.specs.Brought.{Window}
+use Rattle.rt_cache.specs.Recover.{regions_kept, window_left}
+use Rattle.rt_cache.specs.declared.window.Window as inside
+use Rattle.rt_cache.specs.inside.Held.{entry_of, pairs_of, entries_of, for_each}
+use Rattle.rt_cache.proofs.Keeping.{for_each-drop, one_more_left}
+use Rattle.rt_cache.proofs.recover.windows_left.Goals as goal
+use Rattle.rt_cache.proofs.recover.windows_left.Goals.{in-Some+in_ok-push, in_default}
+
+pub loop-query-preserved : goal.loop-query-preserved
+loop-query-preserved c =
+    let h : Query → Option Window = window_left (pairs_of c.args.regions.now) (regions_kept c.args.kept.now (pairs_of c.args.regions.now)) in
+    let q : Query = c.query-item.result in
+    let within : c.loop-query.query-index < length c.args.registered.now = search rules in
+    let at : q ≡ get_or c.args.registered.now c.loop-query.query-index q = search rules in
+    let more : entries_of c.loop-query.left.items ++ cons_option (option_map (λ w. (q, w)) (h q)) (for_each h (drop (c.loop-query.query-index + 1) c.args.registered.now)) ≡ for_each h c.args.registered.now =
+    (λ i. entries_of c.loop-query.left.items ++ cons_option (option_map (λ w. (at i, w)) (h (at i))) (for_each h (drop (add-one c.loop-query.query-index i) c.args.registered.now)))
+    ∙ ap (λ es. entries_of c.loop-query.left.items ++ es) (sym (for_each-drop h c.args.registered.now c.loop-query.query-index q within))
+    ∙ c.loop-query.invariant in
+    let made : option_map entry_of c.in_ok-window.field-0 ≡ option_map (λ w. (q, w)) (h q) = c.in_ok-window.ensures in
+    let all = ap (λ o. entries_of c.loop-query.left.items ++ cons_option o (for_each h (drop (c.loop-query.query-index + 1) c.args.registered.now))) made ∙ more in
+    elim c.match-branch-2.branch [
+      | in-Some+in_ok-push w ↦
+          let some : c.in_ok-window.field-0 ≡ Some w.in-Some.window = search rules in
+          let pushed : c.match-branch-2.left.items ≡ c.loop-query.left.items ++ w.in-Some.window ∷ [] = search rules in
+          ap (λ ws. entries_of ws ++ for_each h (drop (c.loop-query.query-index + 1) c.args.registered.now)) pushed
+          ∙ one_more_left c.loop-query.left.items (Some w.in-Some.window) _ _
+          (ap (λ o. entries_of c.loop-query.left.items ++ cons_option (option_map entry_of o) (for_each h (drop (c.loop-query.query-index + 1) c.args.registered.now))) (sym some) ∙ all)
+      | in_default w ↦
+          let none : c.in_ok-window.field-0 ≡ None = search rules in
+          let same : c.match-branch-2.left.items ≡ c.loop-query.left.items = search rules in
+          ap (λ ws. entries_of ws ++ for_each h (drop (c.loop-query.query-index + 1) c.args.registered.now)) (same ∙ sym (append-nil c.loop-query.left.items))
+          ∙ one_more_left c.loop-query.left.items None _ _
+          (ap (λ o. entries_of c.loop-query.left.items ++ cons_option (option_map entry_of o) (for_each h (drop (c.loop-query.query-index + 1) c.args.registered.now))) (sym none) ∙ all)
+    ]

@@ -1,0 +1,10 @@
+use Rattle.std.proofs.Common.{◌≡◌, ◌++◌, drop}
+use Rattle.rt_cache.specs.Recover.{regions_kept, window_left}
+use Rattle.rt_cache.specs.inside.Held.{pairs_of, entries_of, for_each}
+use Rattle.rt_cache.proofs.recover.windows_left.Given as goal
+
+-- the windows so far, and those of the queries that are left
+abbrev pub invariant-loop-query : goal.invariant-loop-query
+invariant-loop-query l =
+    entries_of l.left.items ++ for_each (window_left (pairs_of l.regions) (regions_kept l.kept (pairs_of l.regions))) (drop l.query-index l.registered)
+    ≡ for_each (window_left (pairs_of l.regions) (regions_kept l.kept (pairs_of l.regions))) l.registered

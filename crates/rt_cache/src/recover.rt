@@ -1,0 +1,203 @@
+// What stays when the listens kept change.
+ghost use Rattle.std.specs.Prelude.{◌≡◌, ◌+◌, ◌≤◌, ◌++◌, vec_len, vec_capacity, ◌&&◌, not, false, is_some, IfOk, OnOk, OnErr};
+ghost use Rattle.std.specs.List.{filter, flat_map, list_any};
+ghost use Rattle.std.specs.Option.{option_map};
+ghost use Rattle.std.specs.FinMap as map_of;
+ghost use Rattle.rt_tree.specs.Assignments.{have_overlap};
+ghost use Rattle.rt_query.specs.QueryEq.{query_eq};
+ghost use Rattle.rt_cache.specs.QueryOrder.{query_cmp};
+ghost use Rattle.rt_cache.specs.Brought.{region_part};
+ghost use Rattle.rt_cache.specs.Recover.{reaches, part_for, parts_of, with_regions, regions_kept, window_left, do_plains_overlap, recover};
+ghost use Rattle.rt_cache.specs.inside.Held.{pair_of, pairs_of, entry_of, entries_of, for_each, held};
+
+use crate::region::Region;
+use crate::regions::{insert, part_at, place_above, region_of};
+use crate::stores::store_of_children;
+use crate::window::Window;
+use crate::windows::place_of_window;
+use rt_query::Query;
+use rt_tree::Path;
+use std::alloc::{AllocError, Global};
+
+// Whether a plain listen is at or above the path.
+fn reaches(kept: &[Query], path: &Path) -> bool
+    ensures { result ≡ reaches kept.now path.now }
+{
+    for query in kept {
+        if !query.is_filtered() && query.path().is_prefix_of(path) {
+            return true;
+        }
+    }
+    false
+}
+
+// The part of the region at the query's path, where that is a plain listen under it.
+fn part_for(alloc: Global, region: &Region, query: &Query) -> Result<Option<Region>, AllocError>
+    ensures { IfOk result (λ part. option_map pair_of part ≡ part_for (pair_of region.now) query.now) }
+{
+    if query.is_filtered() || !region.path.is_prefix_of(query.path()) {
+        return Ok(None);
+    }
+    let tree = part_at(alloc, region, query.path())?;
+    Ok(Some(region_of(alloc, query.path(), &tree)?))
+}
+
+// The parts of the region at the plain listens under it, behind the others.
+fn push_parts(
+    alloc: Global,
+    parts: &mut Vec<Region>,
+    region: &Region,
+    kept: &[Query],
+) -> Result<(), AllocError>
+    ensures { OnOk result (pairs_of parts.new.items ≡ pairs_of parts.old.items ++ parts_of kept.now (pair_of region.now)) }
+{
+    for query in kept {
+        if let Some(part) = part_for(alloc, region, query)? {
+            parts.push(part)?;
+        }
+    }
+    Ok(())
+}
+
+// The parts that stay of the regions that are lost.
+pub(crate) fn parts_left(
+    alloc: Global,
+    regions: &[Region],
+    kept: &[Query],
+) -> Result<Vec<Region>, AllocError>
+    ensures { IfOk result (λ parts. pairs_of parts.items ≡ flat_map (parts_of kept.now) (filter (λ r. not (reaches kept.now r.0)) (pairs_of regions.now))) }
+{
+    let mut parts = Vec::new(alloc);
+    for region in regions {
+        if !reaches(kept, &region.path) {
+            push_parts(alloc, &mut parts, region, kept)?;
+        }
+    }
+    Ok(parts)
+}
+
+// The regions that a plain listen reaches.
+fn retain_reached(regions: &mut Vec<Region>, kept: &[Query])
+    ensures left { regions.new.items ≡ filter (λ r. reaches kept.now r.path) regions.old.items }
+    ensures len { vec_len regions.new ≤ vec_len regions.old }
+    ensures room { vec_capacity regions.new ≡ vec_capacity regions.old }
+{
+    regions.retain(|region| reaches(kept, &region.path));
+}
+
+// Regions, each in its place, for which there is room.
+fn insert_all(regions: &mut Vec<Region>, more: Vec<Region>)
+    requires room { vec_len regions.old + vec_len more ≤ vec_capacity regions.old }
+    requires apart { have_overlap (pairs_of regions.old.items ++ pairs_of more.items) ≡ false }
+    ensures { pairs_of regions.new.items ≡ with_regions (pairs_of regions.old.items) (pairs_of more.items) }
+{
+    for region in more {
+        insert(regions, region);
+    }
+}
+
+// Whether a region is at or above the path still, these being the parts that are left.
+fn is_held(regions: &[Region], parts: &[Region], kept: &[Query], path: &Path) -> bool
+    requires apart { have_overlap (pairs_of regions.now) ≡ false }
+    requires parts { pairs_of parts.now ≡ flat_map (parts_of kept.now) (filter (λ r. not (reaches kept.now r.0)) (pairs_of regions.now)) }
+    ensures { result ≡ is_some (region_part (regions_kept kept.now (pairs_of regions.now)) path.now) }
+{
+    match place_above(regions, path) {
+        Some(place) if reaches(kept, &regions[place].path) => true,
+        _ => place_above(parts, path).is_some(),
+    }
+}
+
+// The whole window that a lost region leaves to a filtered query.
+fn window_left(
+    alloc: Global,
+    regions: &[Region],
+    parts: &[Region],
+    kept: &[Query],
+    query: &Query,
+) -> Result<Option<Window>, AllocError>
+    requires apart { have_overlap (pairs_of regions.now) ≡ false }
+    requires parts { pairs_of parts.now ≡ flat_map (parts_of kept.now) (filter (λ r. not (reaches kept.now r.0)) (pairs_of regions.now)) }
+    ensures { IfOk result (λ left. option_map entry_of left ≡ option_map (λ w. (query.now, w)) (window_left (pairs_of regions.now) (regions_kept kept.now (pairs_of regions.now)) query.now)) }
+{
+    if !query.is_filtered() || is_held(regions, parts, kept, query.path()) {
+        return Ok(None);
+    }
+    let Some(place) = place_above(regions, query.path()) else {
+        return Ok(None);
+    };
+    let part = part_at(alloc, &regions[place], query.path())?;
+    Ok(Some(Window {
+        query: query.copy()?,
+        children: store_of_children(alloc, &part)?,
+        is_whole: true,
+    }))
+}
+
+// The windows that lost regions leave to the registered forms.
+pub(crate) fn windows_left(
+    alloc: Global,
+    regions: &[Region],
+    parts: &[Region],
+    registered: &[Query],
+    kept: &[Query],
+) -> Result<Vec<Window>, AllocError>
+    requires apart { have_overlap (pairs_of regions.now) ≡ false }
+    requires parts { pairs_of parts.now ≡ flat_map (parts_of kept.now) (filter (λ r. not (reaches kept.now r.0)) (pairs_of regions.now)) }
+    ensures { IfOk result (λ left. entries_of left.items ≡ for_each (window_left (pairs_of regions.now) (regions_kept kept.now (pairs_of regions.now))) registered.now) }
+{
+    let mut left = Vec::new(alloc);
+    for query in registered {
+        if let Some(window) = window_left(alloc, regions, parts, kept, query)? {
+            left.push(window)?;
+        }
+    }
+    Ok(left)
+}
+
+// Whether the query is one of these.
+fn is_among(queries: &[Query], query: &Query) -> bool
+    ensures { result ≡ list_any (λ q. query_eq q query.now) queries.now }
+{
+    for other in queries {
+        if other == query {
+            return true;
+        }
+    }
+    false
+}
+
+// The windows of registered queries, but for those that a lost region left a window.
+fn retain_registered(windows: &mut Vec<Window>, left: &[Window], registered: &[Query])
+    ensures left { windows.new.items ≡ filter (λ w. list_any (λ q. query_eq q w.query) registered.now && not (is_some (map_of.find query_cmp w.query (entries_of left.now)))) windows.old.items }
+    ensures len { vec_len windows.new ≤ vec_len windows.old }
+{
+    windows.retain(|window| {
+        is_among(registered, &window.query) && place_of_window(left, &window.query).is_none()
+    });
+}
+
+// What is brought after a change of the registered forms and of the listens kept. All that can be refused comes first.
+pub(crate) fn change_cover(
+    regions: &mut Vec<Region>,
+    windows: &mut Vec<Window>,
+    registered: &[Query],
+    kept: &[Query],
+) -> Result<(), AllocError>
+    requires apart { have_overlap (pairs_of regions.old.items) ≡ false }
+    requires kept { do_plains_overlap kept.now ≡ false }
+    ensures ok { OnOk result (held regions.new.items windows.new.items ≡ recover registered.now kept.now (held regions.old.items windows.old.items)) }
+    ensures err { OnErr result (held regions.new.items windows.new.items ≡ held regions.old.items windows.old.items) }
+{
+    let alloc = *regions.allocator();
+    let parts = parts_left(alloc, regions, kept)?;
+    let mut all = windows_left(alloc, regions, &parts, registered, kept)?;
+    all.reserve(windows.len())?;
+    regions.reserve(parts.len())?;
+    retain_reached(regions, kept);
+    insert_all(regions, parts);
+    retain_registered(windows, &all, registered);
+    let _in_reserved_room = all.append(windows);
+    *windows = all;
+    Ok(())
+}
