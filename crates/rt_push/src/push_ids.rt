@@ -15,7 +15,7 @@ const MOMENTS: u64 = 1 << 48;
 const RANDOM_PARTS: u128 = 1 << 72;
 
 // What an id is made of: its moment, in milliseconds since 1970, and its random part, the number that twelve digits write.
-#[derive(Clone, Copy)]
+#[derive(Clone, Copy, Debug)]
 struct Stamp {
     moment: u64,
     random: u128,
@@ -33,7 +33,7 @@ impl Stamp {
 }
 
 /// Makes push ids, each above the ones that it made before.
-#[derive(Drop)]
+#[derive(Debug, Drop)]
 pub struct PushIds {
     last: Option<Stamp>,
 }
@@ -80,6 +80,8 @@ impl PushIds {
     /// An id is 8 characters of its moment and 12 of its random part, in base 64, most significant first. In the moment
     /// last used the last random part is counted up by one, as a number; an earlier moment counts as the last one used.
     ///
+    /// # Errors
+    ///
     /// `MomentTooLarge` from 2^48 on, then `RandomOutOfRange` where one of the twelve is 64 or more, then `Exhausted`
     /// where the random part cannot be counted up. A refusal changes nothing.
     pub fn next(&mut self, now_ms: u64, random: [u8; 12]) -> Result<[u8; 20], PushError>
@@ -100,5 +102,14 @@ impl PushIds {
         }
         self.last = Some(stamp);
         Ok(stamp.id())
+    }
+}
+
+/// A source that has given no id yet.
+impl Default for PushIds {
+    ghost is_default = { λ ids. ids ≡ None };
+
+    fn default() -> PushIds {
+        PushIds::new()
     }
 }
