@@ -1,5 +1,5 @@
 -- Entries that are written are read back, in the order of the bytes of their paths' texts.
-use Rattle.std.proofs.Common.{◌≡◌, ℕ, ◌<◌, ◌≤◌, max, true, false, List, [], ◌∷◌, ◌++◌, length, map, Option, Some, None, Ok, Less, Equal, Greater, refl, sym, ap, subst, ◌∙◌, arith, append-nil, append_assoc}
+use Rattle.std.proofs.Common.{◌≡◌, ℕ, ◌<◌, ◌≤◌, max, true, false, List, [], ◌∷◌, ◌++◌, length, map, Some, Ok, Less, Equal, Greater, refl, sym, ap, subst, ◌∙◌, arith, append-nil}
 use Rattle.std.specs.Prelude.{◌||◌, is_some, Bool}
 use Rattle.std.specs.declared.cmp.Ordering.{Ordering}
 use Rattle.std.specs.Ordering.{nat_cmp, match_ordering}
@@ -13,7 +13,7 @@ use Rattle.serde_json.specs.Written.{members_have_float}
 use Rattle.rt_tree.specs.Allowed.{shallow_of}
 use Rattle.rt_tree.proofs.Writings.{has_float-data_of, depth-data_of}
 use Rattle.rt_tree.specs.Path.{path_text, path_keys}
-use Rattle.rt_tree.specs.PathTree.{Path, PathTree, exact_keys, strip, strip-append}
+use Rattle.rt_tree.specs.PathTree.{Path, exact_keys, strip, strip-append}
 use Rattle.rt_tree.specs.Assignments.{Assignment, do_overlap, have_overlap}
 use Rattle.rt_tree.specs.Writing.{data_of}
 use Rattle.rt_wire.specs.EntryFields.{places_of, trees_of, in_front, some_of}
@@ -147,11 +147,11 @@ apart_placed (x ∷ xs) e f hs h =
       | Greater ↦ (hs.0, apart_placed xs e f hs.1 h)
     ]
 
-or_first : (a b : Bool) → (a || b) ≡ false → a ≡ false
+pub or_first : (a b : Bool) → (a || b) ≡ false → a ≡ false
 or_first true b e = e
 or_first false b e = refl
 
-or_second : (a b : Bool) → (a || b) ≡ false → b ≡ false
+pub or_second : (a b : Bool) → (a || b) ≡ false → b ≡ false
 or_second true b e = cc
 or_second false b e = e
 

@@ -3,3 +3,6 @@ pub mod Places
 pub mod FieldsBack
 pub mod EntriesBack
 pub mod ServerBack
+pub mod QueryItems
+pub mod QueryMembers
+pub mod Floats

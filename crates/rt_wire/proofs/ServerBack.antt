@@ -1,24 +1,21 @@
 -- Messages of the server that are written are read back.
-use Rattle.std.proofs.Common.{◌≡◌, ℕ, ◌≤◌, false, List, [], ◌∷◌, Some, None, Option, Ok, Err, refl, sym, ap, ◌∙◌, arith, subst, length}
-use Rattle.std.specs.Prelude.{◌||◌, codes}
-use Rattle.std.specs.List.{AllByRecursion, fold}
+use Rattle.std.proofs.Common.{◌≡◌, ℕ, ◌≤◌, false, List, Some, Ok, Err, refl, ap, ◌∙◌, arith}
+use Rattle.std.specs.Prelude.{◌||◌}
+use Rattle.std.specs.List.{fold}
 use Rattle.std.specs.Option.{option_map_or}
-use Rattle.std.proofs.lemmas.List.Sorted.{length_permutation}
 use Rattle.serde_json.specs.Data.{object, no_members, depth}
 use Rattle.serde_json.specs.Read.{read, max_depth}
-use Rattle.serde_json.specs.Written.{has_float, members_have_float}
+use Rattle.serde_json.specs.Written.{has_float}
 use Rattle.rt_tree.specs.Allowed.{shallow_of}
 use Rattle.rt_tree.specs.Path.{path_text}
-use Rattle.rt_tree.specs.PathTree.{Path, PathTree}
-use Rattle.rt_tree.specs.Assignments.{Assignment}
 use Rattle.rt_tree.specs.Writing.{data_of}
 use Rattle.rt_tree.proofs.Writings.{has_float-data_of, depth-data_of}
 use Rattle.rt_wire.specs.declared.error.WireError.TheVariants.{NotJson}
 use Rattle.rt_wire.specs.declared.server.ServerMessage.{ServerMessage}
 use Rattle.rt_wire.specs.declared.server.ServerMessage.TheVariants.{Data as DataMessage, DataMerge, Accepted, Refused, Revoked}
-use Rattle.rt_wire.specs.Fields.{with, made, in_range, path_of_text, reason_of_text, tree_of}
+use Rattle.rt_wire.specs.Fields.{with, made, path_of_text, reason_of_text, tree_of}
 use Rattle.rt_wire.specs.EntryFields.{entries_of, trees_of}
-use Rattle.rt_wire.specs.Server.{server_message_in, server_message}
+use Rattle.rt_wire.specs.Server.{server_message_in}
 use Rattle.rt_wire.specs.FieldData.{with_entry}
 use Rattle.rt_wire.specs.ServerData.{server_data}
 use Rattle.rt_wire.specs.ReadBack.{IsServerMessage, IsServerSame, IsServerText}

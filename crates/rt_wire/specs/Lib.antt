@@ -2,9 +2,12 @@
 pub mod Errors
 pub mod Fields
 pub mod EntryFields
-pub mod QueryFields
 pub mod Server
 pub mod FieldData
 pub mod ServerData
+pub mod QueryFields
+pub mod QueryData
+pub mod Client
+pub mod ClientData
 pub mod ReadBack
 pub mod inside

@@ -14,6 +14,7 @@ use Rattle.rt_order.specs.declared.cut.Mark.TheVariants.{Null, Leaf}
 use Rattle.rt_order.specs.declared.cut.Place.{Place}
 use Rattle.rt_order.specs.declared.cut.Place.TheVariants.{Min, Before, After, Max}
 use Rattle.rt_order.specs.declared.cut.Cut.{Cut}
+use Rattle.rt_order.specs.declared.cut.Range.{Range}
 use Rattle.rt_query.specs.declared.limit.Limit.{Limit}
 use Rattle.rt_query.specs.declared.limit.Limit.TheVariants.{First, Last}
 use Rattle.rt_query.specs.Bounds.{is_by_key}
@@ -106,7 +107,7 @@ abbrev pub limit_with : List ℕ → ℕ → Option Limit
 limit_with word n = if bytes_eq word (codes "first") then Some (First n) else if bytes_eq word (codes "last") then Some (Last n) else None
 
 abbrev pub limit_of_items : Items → Option Limit
-limit_of_items (item word (item n no_items)) = option_and_then (λ w. option_and_then (limit_with w) (count_of n)) (as_str word)
+limit_of_items (item word (item n no_items)) = option_and_then (λ m. option_and_then (λ w. limit_with w m) (as_str word)) (count_of n)
 limit_of_items _ = None
 
 abbrev pub limit_of : Data → Option Limit
@@ -117,14 +118,16 @@ abbrev pub if_there : {A : Type 0} → (Data → Option A) → Option Data → O
 if_there f None = Some None
 if_there f (Some d) = option_map Some (f d)
 
+abbrev pub range_of : Index → Data → Option Range
+range_of index d =
+    option_and_then (λ lower. option_map (λ upper. record { lower = lower; upper = upper }) (if_there (cut_of index) (get (codes "upper") d)))
+    (if_there (cut_of index) (get (codes "lower") d))
+
 abbrev pub if_filtered : Query → Option Query
 if_filtered q = if is_filtered q then Some q else None
 
-abbrev pub query_in_order : Path → Index → Data → Option Query
-query_in_order p index d =
-    option_and_then (λ lower. option_and_then (λ upper. option_and_then (λ limit.
-    if_filtered (record { path = p; index = index; range = record { lower = lower; upper = upper }; limit = limit }))
-    (if_there limit_of (get (codes "limit") d))) (if_there (cut_of index) (get (codes "upper") d))) (if_there (cut_of index) (get (codes "lower") d))
-
 abbrev pub query_of : Path → Data → Option Query
-query_of p d = option_and_then (λ index. query_in_order p index d) (field index_of (codes "order") d)
+query_of p d =
+    option_and_then (λ limit. option_and_then (λ index. option_and_then (λ range.
+    if_filtered (record { path = p; index = index; range = range; limit = limit }))
+    (range_of index d)) (field index_of (codes "order") d)) (if_there limit_of (get (codes "limit") d))

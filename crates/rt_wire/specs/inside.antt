@@ -1,3 +1,5 @@
 pub mod Places
 pub mod Standing
 pub mod StandingServer
+pub mod Made
+pub mod QueryMembers

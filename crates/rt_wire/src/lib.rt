@@ -1,16 +1,24 @@
 //! The messages between client and server: each is one JSON object in one text.
 //!
-//! [`ServerMessage::read`] accepts exactly the texts that `specs/Server.antt` makes messages of, and otherwise answers the
-//! first fault.
+//! [`ServerMessage::read`] and [`ClientMessage::read`] accept exactly the texts of which `specs/Server.antt` and
+//! `specs/Client.antt` make messages, and otherwise answer the first fault.
 #![tactic(auto)]
 
+mod client;
 mod entries;
 mod error;
 mod field;
+mod made;
+mod query;
+mod query_json;
 mod reason;
+mod request;
 mod server;
 mod value;
 
+pub use client::ClientMessage;
 pub use error::WireError;
+pub use query_json::query_text;
 pub use reason::Reason;
+pub use request::{Action, Asked, Ending};
 pub use server::ServerMessage;

@@ -1,6 +1,5 @@
 -- What holds of each path and each tree, since their types keep it.
-use Rattle.std.specs.Prelude.{◌≡◌, List}
-use Rattle.std.specs.List.{AllByRecursion}
+use Rattle.std.specs.Prelude.{◌≡◌}
 use Rattle.rt_tree.specs.Path.{IsPath, path_keys, path_text}
 use Rattle.rt_tree.specs.PathTree.{Path, PathTree}
 use Rattle.rt_tree.specs.Allowed.{IsAllowed}

@@ -1,6 +1,6 @@
-use Rattle.std.proofs.Common.{◌∙◌, ap, sym, refl, string_bytes, ◌++◌, ◌≡◌}
+use Rattle.std.proofs.Common.{◌∙◌, ap, sym, refl, string_bytes, ◌++◌}
 use Rattle.std.specs.Option.{option_map}
-use Rattle.serde_json.specs.View.{view, members_view}
+use Rattle.serde_json.specs.View.{members_view}
 use Rattle.rt_wire.specs.EntryFields.{places_of}
 use Rattle.rt_wire.specs.Fields.{path_of_text}
 use Rattle.rt_wire.specs.inside.Places.{places}
