@@ -14,6 +14,7 @@ mod query;
 mod store;
 mod sync;
 mod tree;
+mod view;
 mod writes;
 
 use outcome::Outcome;
@@ -30,6 +31,7 @@ fn run(alloc: Global, name: &str) -> Option<Outcome> {
         "query" => Some(query::run(alloc)),
         "store" => Some(store::run(alloc)),
         "tree" => Some(tree::run(alloc)),
+        "view" => Some(view::run(alloc)),
         "writes" => Some(writes::run(alloc)),
         _ => None,
     }

@@ -3,7 +3,7 @@ ghost use Rattle.std.specs.Prelude.{◌≡◌, ◌<◌, ◌≤◌, ◌^◌, ◌�
 ghost use Rattle.std.specs.Option.{option_copied};
 ghost use Rattle.rt_tree.specs.PathTree.{child_of, is_null, levels, null, put};
 ghost use Rattle.rt_tree.specs.Children.{children_of};
-ghost use Rattle.rt_view.specs.inside.Windows.{IsWindow, joined, value_at};
+ghost use Rattle.rt_view.specs.inside.Windows.{Becomes, HasAll, IsWhole, all_of, value_at};
 ghost use Rattle.rt_view.specs.inside.Kept.{IsWindowOf, placed, put_in};
 
 use crate::position::Position;
@@ -21,9 +21,11 @@ fn place(
     key: &Key,
     tree: &Tree,
 ) -> Result<(), AllocError>
-    requires { IsWindow window.old.limit window.old.shown.entries window.old.rest.entries (joined window.old.limit window.old.shown.entries window.old.rest.entries) }
+    requires { IsWhole window.old }
     ensures limit { window.new.limit ≡ window.old.limit }
-    ensures placed { OnOk result (IsWindow window.old.limit window.new.shown.entries window.new.rest.entries (put_in query.now (key.now, tree.now) (joined window.old.limit window.old.shown.entries window.old.rest.entries))) }
+    ensures placed {
+        OnOk result (Becomes window.old window.new (put_in query.now (key.now, tree.now) (all_of window.old)))
+    }
 {
     if query.range().has(query.index(), key, tree) {
         let position = Position::of(alloc, query.index(), key, tree)?;
@@ -40,9 +42,11 @@ fn place_all(
     query: &Query,
     children: &BTreeMap<Key, Tree>,
 ) -> Result<(), AllocError>
-    requires { IsWindow window.old.limit window.old.shown.entries window.old.rest.entries [] }
+    requires { HasAll window.old [] }
     ensures limit { window.new.limit ≡ window.old.limit }
-    ensures placed { OnOk result (IsWindow window.old.limit window.new.shown.entries window.new.rest.entries (placed query.now [] children.now.entries)) }
+    ensures placed {
+        OnOk result (Becomes window.old window.new (placed query.now [] children.now.entries))
+    }
 {
     let mut rest = children.iter();
     while let Some((key, tree)) = rest.next_back() {
@@ -125,7 +129,9 @@ pub fn shown_at<'a>(
     key: &Key,
 ) -> Result<Option<&'a Tree>, AllocError>
     requires { IsWindowOf query.now known.now window.now }
-    ensures shown { IfOk result (λ child. option_copied child ≡ value_at window.now.shown.entries key.now) }
+    ensures shown {
+        IfOk result (λ child. option_copied child ≡ value_at window.now.shown.entries key.now)
+    }
     ensures full { IfOk result (λ child. IfSome child (λ t. is_null t.now ≡ false)) }
     ensures fits { IfOk result (λ child. IfSome child (λ t. levels t.now ≤ 32)) }
 {

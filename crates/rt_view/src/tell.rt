@@ -7,11 +7,12 @@ ghost use Rattle.rt_tree.specs.PathTree.{Key as KeyValue, child_of, leaf_of};
 ghost use Rattle.rt_tree.specs.Children.{children_of};
 ghost use Rattle.rt_tree.specs.TreeEq.{leaf_eq};
 ghost use Rattle.rt_order.specs.Entries.{entry, entry_cmp};
-ghost use Rattle.rt_query.specs.Select.{row_of, select, tree_of};
+ghost use Rattle.rt_query.specs.Select.{select, tree_of};
 ghost use Rattle.rt_query.specs.QueryEq.{shown_eq};
-ghost use Rattle.rt_view.specs.Changes.{changes, row_changes};
+ghost use Rattle.rt_view.specs.Changes.{changes};
 ghost use Rattle.rt_view.specs.inside.Windows.{value_at};
-ghost use Rattle.rt_view.specs.inside.Kept.{IsWindowOf, Notes, SetsChild, SetsNoted, given_in, gone_at, gone_from, leaf_in, noted_in, removed_of, rows_in_tree, shown_by};
+ghost use Rattle.rt_view.specs.inside.Kept.{IsWindowOf, NotesAll, SetsChild, SetsNoted, changes_to, given_in};
+ghost use Rattle.rt_view.specs.inside.Kept.{gone_at, gone_from, leaf_in, noted_in, removed_of, rows_in_tree, shown_by};
 
 use crate::change::Change;
 use crate::change_list::ChangeList;
@@ -34,7 +35,9 @@ fn put_row(
     key: &Key,
     child: &Tree,
 ) -> Result<(), AllocError>
-    ensures { OnOk result (rows.new.entries ≡ map_of.put entry_cmp (entry index.now (key.now, child.now)) child.now rows.old.entries) }
+    ensures {
+        OnOk result (rows.new.entries ≡ map_of.put entry_cmp (entry index.now (key.now, child.now)) child.now rows.old.entries)
+    }
 {
     let position = Position::of(alloc, index, key, child)?;
     let child = child.copy(alloc)?;
@@ -71,7 +74,9 @@ fn gone_at<'a>(
     key: &Key,
 ) -> Result<Option<&'a Tree>, AllocError>
     requires { IsWindowOf query.now known.now window.now }
-    ensures { IfOk result (λ child. option_copied child ≡ gone_at (value_at window.now.shown.entries key.now) (child_of (children_of tree.now) key.now)) }
+    ensures {
+        IfOk result (λ child. option_copied child ≡ gone_at (value_at window.now.shown.entries key.now) (child_of (children_of tree.now) key.now))
+    }
 {
     match shown_at(alloc, query, known, window, key)? {
         Some(_) => Ok(None),
@@ -89,7 +94,9 @@ fn gone_rows(
     noted: &[Key],
 ) -> Result<BTreeMap<Position, Tree>, AllocError>
     requires { IsWindowOf query.now known.now window.now }
-    ensures { IfOk result (λ rows. rows.entries ≡ gone_from noted.now window.now.shown.entries (rows_in_tree query.now.index tree.now)) }
+    ensures {
+        IfOk result (λ rows. rows.entries ≡ gone_from noted.now window.now.shown.entries (rows_in_tree query.now.index tree.now))
+    }
 {
     let mut rows = BTreeMap::new(alloc);
     for key in noted {
@@ -126,7 +133,9 @@ fn push_given(
     window: &Window,
     rows: &BTreeMap<Position, Tree>,
 ) -> Result<(), AllocError>
-    ensures { OnOk result (changes.new.items ≡ changes.old.items ++ given_in kind index.now tree.now window.now.shown.entries rows.now.entries) }
+    ensures {
+        OnOk result (changes.new.items ≡ changes.old.items ++ given_in kind index.now tree.now window.now.shown.entries rows.now.entries)
+    }
 {
     for (position, child) in rows {
         if kind.is_given(index, child_at(tree, position.key()), child) {
@@ -149,8 +158,8 @@ fn row_changes(
     noted: &[Key],
 ) -> Result<Vec<Change>, AllocError>
     requires kept { IsWindowOf query.now known.now window.now }
-    requires notes { Notes [] noted.now (rows_in_tree query.now.index tree.now) window.now.shown.entries }
-    ensures { IfOk result (λ changes. changes.items ≡ row_changes query.now.index (map row_of (rows_in_tree query.now.index tree.now)) (map row_of window.now.shown.entries)) }
+    requires notes { NotesAll query.now.index noted.now tree.now window.now }
+    ensures { IfOk result (λ changes. changes.items ≡ changes_to query.now.index tree.now window.now) }
 {
     let index = query.index();
     let gone = gone_rows(alloc, query, known, window, tree, noted)?;
@@ -191,7 +200,9 @@ fn set_child(
     requires kept { IsWindowOf query.now known.now window.now }
     requires object { leaf_of tree.old ≡ None }
     ensures object { OnOk result (leaf_of tree.new ≡ None) }
-    ensures set { OnOk result (SetsChild key.now (value_at window.now.shown.entries key.now) (children_of tree.old) (children_of tree.new)) }
+    ensures set {
+        OnOk result (SetsChild key.now (value_at window.now.shown.entries key.now) (children_of tree.old) (children_of tree.new))
+    }
 {
     let Some(child) = shown_at(alloc, query, known, window, key)? else {
         drop_child(tree, alloc, key)?;
@@ -213,7 +224,9 @@ fn set_noted(
     requires kept { IsWindowOf query.now known.now window.now }
     requires object { leaf_of tree.old ≡ None }
     ensures object { OnOk result (leaf_of tree.new ≡ None) }
-    ensures set { OnOk result (SetsNoted noted.now window.now.shown.entries (children_of tree.old) (children_of tree.new)) }
+    ensures set {
+        OnOk result (SetsNoted noted.now window.now.shown.entries (children_of tree.old) (children_of tree.new))
+    }
 {
     for key in noted {
         set_child(tree, alloc, query, known, window, key)?;
@@ -230,7 +243,7 @@ fn is_same(
     tree: &Tree,
 ) -> bool
     requires kept { IsWindowOf query.now known.now window.now }
-    requires all { changes.now ≡ row_changes query.now.index (map row_of (rows_in_tree query.now.index tree.now)) (map row_of window.now.shown.entries) }
+    requires all { changes.now ≡ changes_to query.now.index tree.now window.now }
     ensures { result ≡ shown_eq (shown_by query.now.index tree.now) (select query.now known.now) }
 {
     if !changes.is_empty() {
@@ -274,7 +287,7 @@ fn renew_tree(
     noted: &[Key],
 ) -> Result<(), AllocError>
     requires kept { IsWindowOf query.now known.now window.now }
-    requires notes { Notes [] noted.now (rows_in_tree query.now.index tree.old) window.now.shown.entries }
+    requires notes { NotesAll query.now.index noted.now tree.old window.now }
     ensures { OnOk result (tree.new ≡ tree_of (select query.now known.now)) }
 {
     if is_bare(query, known) {
@@ -296,9 +309,11 @@ pub fn tell(
     noted: &[Key],
 ) -> Result<ChangeList, AllocError>
     requires kept { IsWindowOf query.now known.now window.now }
-    requires notes { Notes [] noted.now (rows_in_tree query.now.index tree.old) window.now.shown.entries }
+    requires notes { NotesAll query.now.index noted.now tree.old window.now }
     ensures tree { OnOk result (tree.new ≡ tree_of (select query.now known.now)) }
-    ensures changes { IfOk result (λ list. list ≡ changes query.now.index (Some (shown_by query.now.index tree.old)) (select query.now known.now)) }
+    ensures changes {
+        IfOk result (λ list. list ≡ changes query.now.index (Some (shown_by query.now.index tree.old)) (select query.now known.now))
+    }
 {
     let mut changes = row_changes(alloc, query, known, window, tree, noted)?;
     if is_same(changes.as_slice(), query, known, window, tree) {

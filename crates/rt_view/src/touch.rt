@@ -3,8 +3,8 @@ ghost use Rattle.std.specs.Prelude.{◌≡◌, ◌≤◌, ◌∷◌, [], All, If
 ghost use Rattle.std.specs.Option.{option_copied};
 ghost use Rattle.rt_tree.specs.PathTree.{levels, put};
 ghost use Rattle.rt_view.specs.Views.{with_named};
-ghost use Rattle.rt_view.specs.inside.Windows.{IsWindow, joined};
-ghost use Rattle.rt_view.specs.inside.Kept.{IsWindowOf, Notes, brought_in, NotesBeside, noted_too, taken_out};
+ghost use Rattle.rt_view.specs.inside.Windows.{Becomes, IsWhole, all_of};
+ghost use Rattle.rt_view.specs.inside.Kept.{IsWindowOf, Notes, NotesBeside, brought_in, noted_too, taken_out};
 
 use crate::place::{child_at, put_child};
 use crate::position::Position;
@@ -32,10 +32,14 @@ fn take_out(
     key: &Key,
     child: Option<&Tree>,
 ) -> Result<(), AllocError>
-    requires { IsWindow window.old.limit window.old.shown.entries window.old.rest.entries (joined window.old.limit window.old.shown.entries window.old.rest.entries) }
+    requires { IsWhole window.old }
     ensures limit { window.new.limit ≡ window.old.limit }
-    ensures taken { OnOk result (IsWindow window.old.limit window.new.shown.entries window.new.rest.entries (taken_out query.now key.now (option_copied child.entry) (joined window.old.limit window.old.shown.entries window.old.rest.entries))) }
-    ensures notes { OnOk result (NotesBeside key.now noted.old.items noted.new.items window.old.shown.entries window.new.shown.entries) }
+    ensures taken {
+        OnOk result (Becomes window.old window.new (taken_out query.now key.now (option_copied child.entry) (all_of window.old)))
+    }
+    ensures notes {
+        OnOk result (NotesBeside key.now noted.old.items noted.new.items window.old.shown.entries window.new.shown.entries)
+    }
 {
     let Some(child) = child else {
         return Ok(());
@@ -57,10 +61,14 @@ fn bring_in(
     key: &Key,
     child: &Tree,
 ) -> Result<(), AllocError>
-    requires { IsWindow window.old.limit window.old.shown.entries window.old.rest.entries (joined window.old.limit window.old.shown.entries window.old.rest.entries) }
+    requires { IsWhole window.old }
     ensures limit { window.new.limit ≡ window.old.limit }
-    ensures put { OnOk result (IsWindow window.old.limit window.new.shown.entries window.new.rest.entries (brought_in query.now key.now child.now (joined window.old.limit window.old.shown.entries window.old.rest.entries))) }
-    ensures notes { OnOk result (NotesBeside key.now noted.old.items noted.new.items window.old.shown.entries window.new.shown.entries) }
+    ensures put {
+        OnOk result (Becomes window.old window.new (brought_in query.now key.now child.now (all_of window.old)))
+    }
+    ensures notes {
+        OnOk result (NotesBeside key.now noted.old.items noted.new.items window.old.shown.entries window.new.shown.entries)
+    }
 {
     if child.is_null() {
         return Ok(());
@@ -89,7 +97,9 @@ fn touch_child(
     requires fits { levels child.now ≤ 32 }
     ensures put { OnOk result (known.new ≡ put known.old (key.now ∷ []) child.now) }
     ensures kept { OnOk result (IsWindowOf query.now known.new window.new) }
-    ensures notes { OnOk result (Notes noted.old.items noted.new.items window.old.shown.entries window.new.shown.entries) }
+    ensures notes {
+        OnOk result (Notes noted.old.items noted.new.items window.old.shown.entries window.new.shown.entries)
+    }
 {
     noted.push(key.copy()?)?;
     take_out(window, noted, alloc, query, key, child_at(known, key))?;
@@ -110,7 +120,9 @@ pub fn touch_all(
     requires fits { All (λ c. levels c.1 ≤ 32) named.now }
     ensures put { OnOk result (known.new ≡ with_named known.old named.now) }
     ensures kept { OnOk result (IsWindowOf query.now known.new window.new) }
-    ensures notes { IfOk result (λ noted. Notes [] noted.items window.old.shown.entries window.new.shown.entries) }
+    ensures notes {
+        IfOk result (λ noted. Notes [] noted.items window.old.shown.entries window.new.shown.entries)
+    }
 {
     let mut noted = Vec::new(alloc);
     for (key, child) in named {

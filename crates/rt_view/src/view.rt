@@ -130,7 +130,9 @@ impl View {
         known: &Tree,
     ) -> Result<(Window, Tree, ChangeList), AllocError>
         ensures kept { IfOk result (λ p. IsKept self.now.query known.now p.0 p.1) }
-        ensures changes { IfOk result (λ p. p.2 ≡ changes self.now.query.index (Some (shown_of self.now)) (select self.now.query known.now)) }
+        ensures changes {
+            IfOk result (λ p. p.2 ≡ changes self.now.query.index (Some (shown_of self.now)) (select self.now.query known.now))
+        }
     {
         let old = self.query.select(&self.known)?;
         let shown = self.query.select(known)?;

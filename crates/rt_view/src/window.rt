@@ -8,7 +8,8 @@ ghost use Rattle.std.specs.BTreeMap.{is_at};
 ghost use Rattle.rt_order.specs.Entries.{entry_cmp};
 ghost use Rattle.rt_query.specs.Select.{row_of};
 ghost use Rattle.rt_query.specs.declared.limit.Limit.TheVariants.{First, Last};
-ghost use Rattle.rt_view.specs.inside.Windows.{IsWindow, joined, without, Crosses, before, is_from_first, is_to_last};
+ghost use Rattle.rt_view.specs.inside.Windows.{Becomes, Crosses, IsWhole, IsWindow, all_of, before};
+ghost use Rattle.rt_view.specs.inside.Windows.{is_from_first, is_to_last, without};
 
 use crate::position::Position;
 use rt_query::{Limit, Row};
@@ -30,7 +31,9 @@ pub fn set(
     position: Position,
     tree: Tree,
 ) -> Result<(), AllocError>
-    ensures { OnOk result (children.new.entries ≡ map_of.put entry_cmp position tree children.old.entries) }
+    ensures {
+        OnOk result (children.new.entries ≡ map_of.put entry_cmp position tree children.old.entries)
+    }
 {
     children.insert(position, tree)?;
     Ok(())
@@ -81,10 +84,14 @@ impl Window {
 
     // Puts a child at its entry. The key of a child that is shown no more is handed out.
     pub fn put(&mut self, position: Position, tree: Tree) -> Result<Option<Key>, AllocError>
-        requires { IsWindow self.old.limit self.old.shown.entries self.old.rest.entries (joined self.old.limit self.old.shown.entries self.old.rest.entries) }
+        requires { IsWhole self.old }
         ensures limit { self.new.limit ≡ self.old.limit }
-        ensures put { OnOk result (IsWindow self.old.limit self.new.shown.entries self.new.rest.entries (map_of.put entry_cmp position tree (joined self.old.limit self.old.shown.entries self.old.rest.entries))) }
-        ensures crosses { IfOk result (λ key. Crosses key position.1 self.old.shown.entries self.new.shown.entries) }
+        ensures put {
+            OnOk result (Becomes self.old self.new (map_of.put entry_cmp position tree (all_of self.old)))
+        }
+        ensures crosses {
+            IfOk result (λ key. Crosses key position.1 self.old.shown.entries self.new.shown.entries)
+        }
     {
         match self.limit {
             None => {
@@ -128,10 +135,14 @@ impl Window {
 
     // Takes out the child at an entry. The key of a child that comes to be shown is handed out.
     pub fn take(&mut self, position: &Position) -> Result<Option<Key>, AllocError>
-        requires { IsWindow self.old.limit self.old.shown.entries self.old.rest.entries (joined self.old.limit self.old.shown.entries self.old.rest.entries) }
+        requires { IsWhole self.old }
         ensures limit { self.new.limit ≡ self.old.limit }
-        ensures taken { OnOk result (IsWindow self.old.limit self.new.shown.entries self.new.rest.entries (without position.now (joined self.old.limit self.old.shown.entries self.old.rest.entries))) }
-        ensures crosses { IfOk result (λ key. Crosses key position.now.1 self.old.shown.entries self.new.shown.entries) }
+        ensures taken {
+            OnOk result (Becomes self.old self.new (without position.now (all_of self.old)))
+        }
+        ensures crosses {
+            IfOk result (λ key. Crosses key position.now.1 self.old.shown.entries self.new.shown.entries)
+        }
     {
         if !unset(&mut self.shown, position) {
             unset(&mut self.rest, position);

@@ -14,6 +14,7 @@ use Rattle.rt_view.specs.declared.window.Window.{Window}
 use Rattle.rt_view.specs.declared.change.Change.{Change}
 use Rattle.rt_view.specs.declared.change.Change.TheVariants.{Removed}
 use Rattle.rt_view.specs.declared.kind.Kind.{Kind}
+use Rattle.rt_view.specs.Changes.{row_changes}
 use Rattle.rt_view.specs.inside.Given.{change_of, is_given}
 use Rattle.rt_view.specs.inside.Windows.{Entries, IsWindow, value_at, without, before}
 
@@ -72,6 +73,10 @@ is_noted noted k = list_any (λ j. key_eq j k) noted
 abbrev pub Notes : List Key → List Key → Entries → Entries → Type 0
 Notes old new before after = (k : Key) → is_noted new k ≡ false → (is_noted old k ≡ false) × (value_at after k ≡ value_at before k)
 
+-- the notes between a tree that was shown and what a window shows
+abbrev pub NotesAll : Index → List Key → PathTree → Window → Type 0
+NotesAll index noted old window = Notes [] noted (rows_in_tree index old) window.shown.entries
+
 -- of the entries those whose keys are noted
 abbrev pub noted_in : List Key → Entries → Entries
 noted_in noted es = filter (λ e. is_noted noted e.0.1) es
@@ -103,6 +108,10 @@ abbrev pub SetsNoted : List Key → Entries → List (Key × PathTree) → List 
 SetsNoted noted shown before after = (k : Key) → child_of after k ≡ if is_noted noted k then value_at shown k else child_of before k
 
 -- ---- what is told of some entries
+
+-- the changes of the rows, from a tree that was shown to what a window shows
+abbrev pub changes_to : Index → PathTree → Window → List Change
+changes_to index old window = row_changes index (map row_of (rows_in_tree index old)) (map row_of window.shown.entries)
 
 -- a child that is shown no more
 abbrev pub removed_of : Entry × PathTree → Change
