@@ -15,7 +15,8 @@ use Rattle.rt_query.specs.Queries.{Query, plain, is_filtered}
 use Rattle.rt_query.specs.QueryEq.{query_eq}
 use Rattle.rt_query.specs.Supply.{form, does_supply}
 use Rattle.rt_writes.specs.Writes.{Write, assignments, overlaid, overlaid_by, overlay, sets_whole}
-use Rattle.rt_cache.specs.Brought.{Window, Brought, region_part, Base, knows, region_put, push}
+use Rattle.rt_cache.specs.Brought.{Window, Brought, region_part, knows, region_put, push}
+use Rattle.rt_cache.specs.declared.base.Base.{Base}
 use Rattle.rt_cache.specs.Recover.{reaches, parts_of, with_regions, regions_kept, windows_kept, recover}
 use Rattle.rt_cover.specs.Cover.{needed, Tagged, started, kept_for}
 use Rattle.rt_query.specs.laws.QueryEq.{query_eq_tells}
