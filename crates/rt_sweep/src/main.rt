@@ -15,6 +15,7 @@ mod store;
 mod sync;
 mod tree;
 mod view;
+mod wire;
 mod writes;
 
 use outcome::Outcome;
@@ -32,6 +33,7 @@ fn run(alloc: Global, name: &str) -> Option<Outcome> {
         "store" => Some(store::run(alloc)),
         "tree" => Some(tree::run(alloc)),
         "view" => Some(view::run(alloc)),
+        "wire" => Some(wire::run(alloc)),
         "writes" => Some(writes::run(alloc)),
         _ => None,
     }

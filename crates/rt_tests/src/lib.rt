@@ -21,4 +21,6 @@ mod sync;
 #[cfg(test)]
 mod tree;
 #[cfg(test)]
+mod wire;
+#[cfg(test)]
 mod writes;

@@ -169,16 +169,19 @@ texts_differ e f he hf none same =
 rest_apart : (done : List Assignment) (e : Assignment) (es : List Assignment) → IsStandingPath e.0 → AllByRecursion IsStanding es → list_any (λ b. do_overlap e.0 b.0) es ≡ false
     → AllByRecursion (λ f. AreApart f done) es → AllByRecursion (λ f. AreApart f (placed done e)) es
 rest_apart done e [] he hs none h = tt
-rest_apart done e (f ∷ es) he hs none h =
-    (apart_placed done e f h.0 (texts_differ e f he hs.0.0 (or_first (do_overlap e.0 f.0) (list_any (λ b. do_overlap e.0 b.0) es) none)),
-    rest_apart done e es he hs.1 (or_second (do_overlap e.0 f.0) (list_any (λ b. do_overlap e.0 b.0) es) none) h.1)
+rest_apart done e (f ∷ es) he hs none h = (
+  apart_placed done e f h.0 (texts_differ e f he hs.0.0 (or_first (do_overlap e.0 f.0) (list_any (λ b. do_overlap e.0 b.0) es) none)),
+  rest_apart done e es he hs.1 (or_second (do_overlap e.0 f.0) (list_any (λ b. do_overlap e.0 b.0) es) none) h.1,
+)
 
 fresh : (done es : List Assignment) → AllByRecursion IsStanding es → have_overlap es ≡ false → AllByRecursion (λ f. AreApart f done) es → IsFresh done es
 unfolding IsFresh
 fresh done [] hs none h = tt
-fresh done (e ∷ es) hs none h =
-    (h.0, fresh (placed done e) es hs.1 (or_second (list_any (λ b. do_overlap e.0 b.0) es) (have_overlap es) none)
-    (rest_apart done e es hs.0.0 hs.1 (or_first (list_any (λ b. do_overlap e.0 b.0) es) (have_overlap es) none) h.1))
+fresh done (e ∷ es) hs none h = (
+  h.0,
+  fresh (placed done e) es hs.1 (or_second (list_any (λ b. do_overlap e.0 b.0) es) (have_overlap es) none)
+      (rest_apart done e es hs.0.0 hs.1 (or_first (list_any (λ b. do_overlap e.0 b.0) es) (have_overlap es) none) h.1),
+)
 
 apart_from_none : (es : List Assignment) → AllByRecursion (λ f. AreApart f []) es
 apart_from_none [] = tt

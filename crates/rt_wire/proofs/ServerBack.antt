@@ -39,32 +39,32 @@ server_depth (Revoked tag why) s = omega arith
 
 server_back : (m : ServerMessage) → IsStandingMessage m → IsServerMessage m → (n : ServerMessage) × (server_message_in (server_data m) ≡ Ok n) × IsServerSame m n
 server_back (DataMessage tag path tree) s h = (
-    DataMessage tag path tree,
-    ap (λ o. with o (λ tag. with (path_of_text (path_text path)) (λ path. made (tree_of (data_of tree)) (λ tree. DataMessage tag path tree)))) (number_back tag h.0)
-    ∙ ap (λ o. with o (λ path. made (tree_of (data_of tree)) (λ tree. DataMessage tag path tree))) (path_back path s.0)
-    ∙ ap (λ r. made r (λ tree. DataMessage tag path tree)) (tree_back tree s.1 h.1),
-    refl,
-  )
+  DataMessage tag path tree,
+  ap (λ o. with o (λ tag. with (path_of_text (path_text path)) (λ path. made (tree_of (data_of tree)) (λ tree. DataMessage tag path tree)))) (number_back tag h.0)
+      ∙ ap (λ o. with o (λ path. made (tree_of (data_of tree)) (λ tree. DataMessage tag path tree))) (path_back path s.0)
+      ∙ ap (λ r. made r (λ tree. DataMessage tag path tree)) (tree_back tree s.1 h.1),
+  refl,
+)
 server_back (DataMerge tag entries) s h = (
-    DataMerge tag (in_text_order entries),
-    ap (λ o. with o (λ tag. with (entries_of (object (fold with_entry no_members entries))) (λ places. made (trees_of places) (λ entries. DataMerge tag entries)))) (number_back tag h.0)
-    ∙ ap (λ o. with o (λ places. made (trees_of places) (λ entries. DataMerge tag entries))) (entries_places entries s h.1)
-    ∙ ap (λ r. made r (λ entries. DataMerge tag entries)) (trees_back (in_text_order entries) (order_back entries s h.1.2)),
-    (in_text_order entries, order_moved entries s h.1.1, refl),
-  )
+  DataMerge tag (in_text_order entries),
+  ap (λ o. with o (λ tag. with (entries_of (object (fold with_entry no_members entries))) (λ places. made (trees_of places) (λ entries. DataMerge tag entries)))) (number_back tag h.0)
+      ∙ ap (λ o. with o (λ places. made (trees_of places) (λ entries. DataMerge tag entries))) (entries_places entries s h.1)
+      ∙ ap (λ r. made r (λ entries. DataMerge tag entries)) (trees_back (in_text_order entries) (order_back entries s h.1.2)),
+  (in_text_order entries, order_moved entries s h.1.1, refl),
+)
 server_back (Accepted id) s h = (Accepted id, ap (λ o. with o (λ id. Ok (Accepted id))) (number_back id h), refl)
 server_back (Refused id why) s h = (
-    Refused id why,
-    ap (λ o. with o (λ id. with (reason_of_text why) (λ why. Ok (Refused id why)))) (number_back id h.0)
-    ∙ ap (λ o. with o (λ why. Ok (Refused id why))) (reason_back why h.1),
-    refl,
-  )
+  Refused id why,
+  ap (λ o. with o (λ id. with (reason_of_text why) (λ why. Ok (Refused id why)))) (number_back id h.0)
+      ∙ ap (λ o. with o (λ why. Ok (Refused id why))) (reason_back why h.1),
+  refl,
+)
 server_back (Revoked tag why) s h = (
-    Revoked tag why,
-    ap (λ o. with o (λ tag. with (reason_of_text why) (λ why. Ok (Revoked tag why)))) (number_back tag h.0)
-    ∙ ap (λ o. with o (λ why. Ok (Revoked tag why))) (reason_back why h.1),
-    refl,
-  )
+  Revoked tag why,
+  ap (λ o. with o (λ tag. with (reason_of_text why) (λ why. Ok (Revoked tag why)))) (number_back tag h.0)
+      ∙ ap (λ o. with o (λ why. Ok (Revoked tag why))) (reason_back why h.1),
+  refl,
+)
 
 pub server_text : (m : ServerMessage) (text : List ℕ) → IsStandingMessage m → read text ≡ Some (server_data m) → IsServerMessage m → IsServerText m text
 server_text m text s reads h =

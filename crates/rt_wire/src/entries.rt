@@ -15,7 +15,10 @@ use std::alloc::Global;
 use std::collections::BTreeMap;
 
 // The members' paths, each with its value.
-fn places<'a>(alloc: Global, members: &'a BTreeMap<String, Value>) -> Result<Vec<(Path, &'a Value)>, WireError>
+fn places<'a>(
+    alloc: Global,
+    members: &'a BTreeMap<String, Value>,
+) -> Result<Vec<(Path, &'a Value)>, WireError>
     ensures ok { IfOk result (λ found. places_of (members_view members.entry.now.entries) ≡ Some (places found.items)) }
     ensures err { IfErr result (λ e. (e ≡ WireError.BadField) × (places_of (members_view members.entry.now.entries) ≡ None) ⊎ (e ≡ WireError.NoMemory)) }
 {

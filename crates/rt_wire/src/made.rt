@@ -118,7 +118,11 @@ fn start(draft: &mut Draft, bound: Option<Bound>) -> Result<(), AllocError>
     let Some(bound) = bound else {
         return Ok(());
     };
-    let Bound { value, key, is_above } = bound;
+    let Bound {
+        value,
+        key,
+        is_above,
+    } = bound;
     let key = key.as_ref().map(Key::text);
     let set = if is_above {
         draft.start_after(value, key)

@@ -129,9 +129,7 @@ fn edge_cut(alloc: Global, items: &[Value]) -> Result<Cut, WireError>
     ensures ok { IfOk result (λ cut. cut_of_items (items_view items.now) ≡ Some cut) }
     ensures err { IfErr result (λ e. (e ≡ WireError.BadField) × (cut_of_items (items_view items.now) ≡ None) ⊎ (e ≡ WireError.NoMemory)) }
 {
-    let [value, word] = items else {
-        unreachable!()
-    };
+    let [value, word] = items else { unreachable!() };
     let place = edge(word)?;
     let value = mark(alloc, value)?;
     Ok(Cut { value, place })

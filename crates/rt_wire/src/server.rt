@@ -11,9 +11,9 @@ use crate::entries::entries;
 use crate::error::WireError;
 use crate::field::{json_value, kind, member, number, path, reason, tree};
 use crate::reason::Reason;
+use crate::value::{entries_value, path_value, tree_value};
 use rt_tree::{Path, Tree};
 use rt_writes::Entries;
-use crate::value::{entries_value, path_value, tree_value};
 use serde_json::{Value, json};
 use std::alloc::{AllocError, Global};
 
