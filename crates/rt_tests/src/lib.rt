@@ -21,6 +21,8 @@ mod sync;
 #[cfg(test)]
 mod tree;
 #[cfg(test)]
+mod view;
+#[cfg(test)]
 mod wire;
 #[cfg(test)]
 mod writes;
