@@ -115,13 +115,7 @@ fn told(
     }
 }
 
-fn touch(
-    view: &mut View,
-    alloc: Global,
-    key: &str,
-    value: Tree,
-    row: &Row,
-) -> Result<(), Outcome> {
+fn touch(view: &mut View, alloc: Global, key: &str, value: Tree, row: &Row) -> Result<(), Outcome> {
     let named = named(alloc, key, value)?;
     let answer = view.touch(alloc, named);
     told(view, alloc, answer, row)
@@ -138,7 +132,13 @@ fn renew(view: &mut View, alloc: Global, row: &Row) -> Result<(), Outcome> {
 fn try_view(alloc: Global, shape: Shape, rows: &[Row; 4]) -> Result<(), Outcome> {
     let (mut view, told) = View::first(alloc, query(alloc, shape)?, children(alloc)?)?;
     judge(&view, &told, &rows[0])?;
-    touch(&mut view, alloc, "k10", Tree::leaf(Leaf::number(99)?), &rows[1])?;
+    touch(
+        &mut view,
+        alloc,
+        "k10",
+        Tree::leaf(Leaf::number(99)?),
+        &rows[1],
+    )?;
     touch(&mut view, alloc, "k30", Tree::null(), &rows[2])?;
     renew(&mut view, alloc, &rows[3])
 }

@@ -92,7 +92,11 @@ const PLAIN: [(Option<&str>, &str, &str); 6] = [
         "{\"a\":2,\"b\":3,\"c\":4}",
         "added c 4 after b; changed b 3 after a; value {\"a\":2,\"b\":3,\"c\":4}",
     ),
-    (TWO, "7", "removed a 2 after none; removed b 1 after none; value 7"),
+    (
+        TWO,
+        "7",
+        "removed a 2 after none; removed b 1 after none; value 7",
+    ),
 ];
 
 #[test]
@@ -218,7 +222,12 @@ fn play(
 fn played_words(alloc: Global) -> Result<String, Fail> {
     let mut children = BTreeMap::new(alloc);
     play(alloc, &mut children, None, "{\"a\":1,\"b\":2}")?;
-    play(alloc, &mut children, Some("{\"a\":1,\"b\":2}"), "{\"b\":2,\"c\":3}")?;
+    play(
+        alloc,
+        &mut children,
+        Some("{\"a\":1,\"b\":2}"),
+        "{\"b\":2,\"c\":3}",
+    )?;
     play(alloc, &mut children, Some("{\"b\":2,\"c\":3}"), "{\"b\":2}")?;
     let mut text = String::new(alloc);
     for (key, value) in &children {
@@ -231,8 +240,16 @@ fn played_words(alloc: Global) -> Result<String, Fail> {
 fn small_calls(rt: HostRuntime) -> Result<(), Fail> {
     let alloc = rt.alloc();
     let value = value_words(alloc, between(alloc, None, "{\"a\":1,\"b\":2}")?)?;
-    assert_eq!(rt; value.as_str(), "value {\"a\":1,\"b\":2}", "the value alone");
+    assert_eq!(rt;
+        value.as_str(),
+        "value {\"a\":1,\"b\":2}",
+        "the value alone"
+    );
     let played = played_words(alloc)?;
-    assert_eq!(rt; played.as_str(), "child b 2 after none; ", "the lists played");
+    assert_eq!(rt;
+        played.as_str(),
+        "child b 2 after none; ",
+        "the lists played"
+    );
     Ok(())
 }

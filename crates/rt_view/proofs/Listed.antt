@@ -231,9 +231,10 @@ pub sorted_listed : (index : Index) (cs : List (Key × PathTree)) → EachOnce c
 sorted_listed index [] h = (record { rises = tt; own = tt; once = tt }, λ k. refl)
 sorted_listed index (c ∷ cs) h =
     let rest = sorted_listed index cs h.1 in
-    let none : value_at (sorted_by index cs) c.0 ≡ None = rest.1 c.0 ∙ h.0 in
-    (listed-puts index c.0 c.1 (sorted_by index cs) rest.0 none,
-    λ k. value_at-puts_all index c.0 c.1 (sorted_by index cs) none k ∙ (λ i. cond (key_eq-symm c.0 k i) (Some c.1) (rest.1 k i)))
+    let none : value_at (sorted_by index cs) c.0 ≡ None = rest.1 c.0 ∙ h.0 in (
+      listed-puts index c.0 c.1 (sorted_by index cs) rest.0 none,
+      λ k. value_at-puts_all index c.0 c.1 (sorted_by index cs) none k ∙ (λ i. cond (key_eq-symm c.0 k i) (Some c.1) (rest.1 k i)),
+    )
 
 pub listed-children : (index : Index) (t : PathTree) → IsListed index (sorted_by index (children_of t))
 listed-children index t = (sorted_listed index (children_of t) (each_once (children_of t) (children_sorted t))).0

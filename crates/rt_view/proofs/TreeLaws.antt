@@ -74,9 +74,10 @@ pub kept_shown : (q : Query) (t : PathTree) (w : Window) (tree u : PathTree) (le
     → u ≡ tree → leaf ≡ leaf_of tree → rows ≡ map row_of w.shown.entries → IsShown leaf rows u × (record { leaf = leaf; rows = rows } ≡ select q t)
 kept_shown q t w tree u leaf rows h is of_tree of_window =
     let same_leaf : leaf ≡ leaf_in q t = of_tree ∙ ap leaf_of h.tree ∙ leaf_of-tree_by (leaf_in q t) (rows_of q (children_of t)) in
-    let same_rows : rows ≡ rows_of q (children_of t) = of_window ∙ ap (map row_of) (sym h.children.cut.cut) in
-    (subst (λ l. IsShown l rows u) (sym same_leaf) (subst (λ rs. IsShown (leaf_in q t) rs u) (sym same_rows) (subst (λ x. IsShown (leaf_in q t) (rows_of q (children_of t)) x) (sym (is ∙ h.tree)) (select-shown q t))),
-    λ i. record { leaf = same_leaf i; rows = same_rows i })
+    let same_rows : rows ≡ rows_of q (children_of t) = of_window ∙ ap (map row_of) (sym h.children.cut.cut) in (
+      subst (λ l. IsShown l rows u) (sym same_leaf) (subst (λ rs. IsShown (leaf_in q t) rs u) (sym same_rows) (subst (λ x. IsShown (leaf_in q t) (rows_of q (children_of t)) x) (sym (is ∙ h.tree)) (select-shown q t))),
+      λ i. record { leaf = same_leaf i; rows = same_rows i },
+    )
 
 -- a tree is what is read off it
 pub tree_of-shown_by : (index : Index) (t : PathTree) → tree_of (shown_by index t) ≡ t

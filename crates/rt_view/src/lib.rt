@@ -22,9 +22,7 @@ pub use batch::Batch;
 pub use change::Change;
 pub use change_list::ChangeList;
 pub use compare::changes;
-pub use examples::{
-    kind_examples, order_examples, plain_examples, view_examples, window_examples,
-};
+pub use examples::{kind_examples, order_examples, plain_examples, view_examples, window_examples};
 pub use kinds::{Kinds, of_kinds};
 pub use laws::{replay_laws, run_laws, turn_laws};
 pub use view::{View, ViewError};

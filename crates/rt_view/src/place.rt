@@ -23,9 +23,7 @@ fn place(
 ) -> Result<(), AllocError>
     requires { IsWhole window.old }
     ensures limit { window.new.limit ≡ window.old.limit }
-    ensures placed {
-        OnOk result (Becomes window.old window.new (put_in query.now (key.now, tree.now) (all_of window.old)))
-    }
+    ensures placed { OnOk result (Becomes window.old window.new (put_in query.now (key.now, tree.now) (all_of window.old))) }
 {
     if query.range().has(query.index(), key, tree) {
         let position = Position::of(alloc, query.index(), key, tree)?;
@@ -44,9 +42,7 @@ fn place_all(
 ) -> Result<(), AllocError>
     requires { HasAll window.old [] }
     ensures limit { window.new.limit ≡ window.old.limit }
-    ensures placed {
-        OnOk result (Becomes window.old window.new (placed query.now [] children.now.entries))
-    }
+    ensures placed { OnOk result (Becomes window.old window.new (placed query.now [] children.now.entries)) }
 {
     let mut rest = children.iter();
     while let Some((key, tree)) = rest.next_back() {
@@ -91,12 +87,7 @@ pub fn child_at<'a>(tree: &'a Tree, key: &Key) -> Option<&'a Tree>
 }
 
 // Puts a child in the place of a tree's own. It fits, so only memory can refuse.
-pub fn put_child(
-    tree: &mut Tree,
-    alloc: Global,
-    key: &Key,
-    child: &Tree,
-) -> Result<(), AllocError>
+pub fn put_child(tree: &mut Tree, alloc: Global, key: &Key, child: &Tree) -> Result<(), AllocError>
     requires { levels child.now ≤ 32 }
     ensures { OnOk result (tree.new ≡ put tree.old (key.now ∷ []) child.now) }
 {
@@ -129,9 +120,7 @@ pub fn shown_at<'a>(
     key: &Key,
 ) -> Result<Option<&'a Tree>, AllocError>
     requires { IsWindowOf query.now known.now window.now }
-    ensures shown {
-        IfOk result (λ child. option_copied child ≡ value_at window.now.shown.entries key.now)
-    }
+    ensures shown { IfOk result (λ child. option_copied child ≡ value_at window.now.shown.entries key.now) }
     ensures full { IfOk result (λ child. IfSome child (λ t. is_null t.now ≡ false)) }
     ensures fits { IfOk result (λ child. IfSome child (λ t. levels t.now ≤ 32)) }
 {

@@ -54,19 +54,12 @@ impl Model for Position {
 
     ghost Value = { Entry };
 
-
-
     ghost view = { λ a. (sort_of a.sort, a.key) };
 }
 
 impl Position {
     // The entry of a child.
-    pub fn of(
-        alloc: Global,
-        index: &Index,
-        key: &Key,
-        tree: &Tree,
-    ) -> Result<Position, AllocError>
+    pub fn of(alloc: Global, index: &Index, key: &Key, tree: &Tree) -> Result<Position, AllocError>
         ensures { IfOk result (λ position. position ≡ entry index.now (key.now, tree.now)) }
     {
         let sort = Sort::of(alloc, &sort_value(index, tree))?;

@@ -35,9 +35,7 @@ fn put_row(
     key: &Key,
     child: &Tree,
 ) -> Result<(), AllocError>
-    ensures {
-        OnOk result (rows.new.entries ≡ map_of.put entry_cmp (entry index.now (key.now, child.now)) child.now rows.old.entries)
-    }
+    ensures { OnOk result (rows.new.entries ≡ map_of.put entry_cmp (entry index.now (key.now, child.now)) child.now rows.old.entries) }
 {
     let position = Position::of(alloc, index, key, child)?;
     let child = child.copy(alloc)?;
@@ -74,9 +72,7 @@ fn gone_at<'a>(
     key: &Key,
 ) -> Result<Option<&'a Tree>, AllocError>
     requires { IsWindowOf query.now known.now window.now }
-    ensures {
-        IfOk result (λ child. option_copied child ≡ gone_at (value_at window.now.shown.entries key.now) (child_of (children_of tree.now) key.now))
-    }
+    ensures { IfOk result (λ child. option_copied child ≡ gone_at (value_at window.now.shown.entries key.now) (child_of (children_of tree.now) key.now)) }
 {
     match shown_at(alloc, query, known, window, key)? {
         Some(_) => Ok(None),
@@ -94,9 +90,7 @@ fn gone_rows(
     noted: &[Key],
 ) -> Result<BTreeMap<Position, Tree>, AllocError>
     requires { IsWindowOf query.now known.now window.now }
-    ensures {
-        IfOk result (λ rows. rows.entries ≡ gone_from noted.now window.now.shown.entries (rows_in_tree query.now.index tree.now))
-    }
+    ensures { IfOk result (λ rows. rows.entries ≡ gone_from noted.now window.now.shown.entries (rows_in_tree query.now.index tree.now)) }
 {
     let mut rows = BTreeMap::new(alloc);
     for key in noted {
@@ -133,9 +127,7 @@ fn push_given(
     window: &Window,
     rows: &BTreeMap<Position, Tree>,
 ) -> Result<(), AllocError>
-    ensures {
-        OnOk result (changes.new.items ≡ changes.old.items ++ given_in kind index.now tree.now window.now.shown.entries rows.now.entries)
-    }
+    ensures { OnOk result (changes.new.items ≡ changes.old.items ++ given_in kind index.now tree.now window.now.shown.entries rows.now.entries) }
 {
     for (position, child) in rows {
         if kind.is_given(index, child_at(tree, position.key()), child) {
@@ -168,7 +160,15 @@ fn row_changes(
     push_removed(&mut changes, alloc, &gone)?;
     push_given(&mut changes, alloc, Kind::Added, index, tree, window, &rows)?;
     push_given(&mut changes, alloc, Kind::Moved, index, tree, window, &rows)?;
-    push_given(&mut changes, alloc, Kind::Changed, index, tree, window, &rows)?;
+    push_given(
+        &mut changes,
+        alloc,
+        Kind::Changed,
+        index,
+        tree,
+        window,
+        &rows,
+    )?;
     Ok(changes)
 }
 
@@ -200,9 +200,7 @@ fn set_child(
     requires kept { IsWindowOf query.now known.now window.now }
     requires object { leaf_of tree.old ≡ None }
     ensures object { OnOk result (leaf_of tree.new ≡ None) }
-    ensures set {
-        OnOk result (SetsChild key.now (value_at window.now.shown.entries key.now) (children_of tree.old) (children_of tree.new))
-    }
+    ensures set { OnOk result (SetsChild key.now (value_at window.now.shown.entries key.now) (children_of tree.old) (children_of tree.new)) }
 {
     let Some(child) = shown_at(alloc, query, known, window, key)? else {
         drop_child(tree, alloc, key)?;
@@ -224,9 +222,7 @@ fn set_noted(
     requires kept { IsWindowOf query.now known.now window.now }
     requires object { leaf_of tree.old ≡ None }
     ensures object { OnOk result (leaf_of tree.new ≡ None) }
-    ensures set {
-        OnOk result (SetsNoted noted.now window.now.shown.entries (children_of tree.old) (children_of tree.new))
-    }
+    ensures set { OnOk result (SetsNoted noted.now window.now.shown.entries (children_of tree.old) (children_of tree.new)) }
 {
     for key in noted {
         set_child(tree, alloc, query, known, window, key)?;
@@ -235,13 +231,7 @@ fn set_noted(
 }
 
 // Whether nothing differs: no row changed, and the leaf is the same.
-fn is_same(
-    changes: &[Change],
-    query: &Query,
-    known: &Tree,
-    window: &Window,
-    tree: &Tree,
-) -> bool
+fn is_same(changes: &[Change], query: &Query, known: &Tree, window: &Window, tree: &Tree) -> bool
     requires kept { IsWindowOf query.now known.now window.now }
     requires all { changes.now ≡ changes_to query.now.index tree.now window.now }
     ensures { result ≡ shown_eq (shown_by query.now.index tree.now) (select query.now known.now) }
@@ -311,9 +301,7 @@ pub fn tell(
     requires kept { IsWindowOf query.now known.now window.now }
     requires notes { NotesAll query.now.index noted.now tree.old window.now }
     ensures tree { OnOk result (tree.new ≡ tree_of (select query.now known.now)) }
-    ensures changes {
-        IfOk result (λ list. list ≡ changes query.now.index (Some (shown_by query.now.index tree.old)) (select query.now known.now))
-    }
+    ensures changes { IfOk result (λ list. list ≡ changes query.now.index (Some (shown_by query.now.index tree.old)) (select query.now known.now)) }
 {
     let mut changes = row_changes(alloc, query, known, window, tree, noted)?;
     if is_same(changes.as_slice(), query, known, window, tree) {

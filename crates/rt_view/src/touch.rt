@@ -34,12 +34,8 @@ fn take_out(
 ) -> Result<(), AllocError>
     requires { IsWhole window.old }
     ensures limit { window.new.limit ≡ window.old.limit }
-    ensures taken {
-        OnOk result (Becomes window.old window.new (taken_out query.now key.now (option_copied child.entry) (all_of window.old)))
-    }
-    ensures notes {
-        OnOk result (NotesBeside key.now noted.old.items noted.new.items window.old.shown.entries window.new.shown.entries)
-    }
+    ensures taken { OnOk result (Becomes window.old window.new (taken_out query.now key.now (option_copied child.entry) (all_of window.old))) }
+    ensures notes { OnOk result (NotesBeside key.now noted.old.items noted.new.items window.old.shown.entries window.new.shown.entries) }
 {
     let Some(child) = child else {
         return Ok(());
@@ -63,12 +59,8 @@ fn bring_in(
 ) -> Result<(), AllocError>
     requires { IsWhole window.old }
     ensures limit { window.new.limit ≡ window.old.limit }
-    ensures put {
-        OnOk result (Becomes window.old window.new (brought_in query.now key.now child.now (all_of window.old)))
-    }
-    ensures notes {
-        OnOk result (NotesBeside key.now noted.old.items noted.new.items window.old.shown.entries window.new.shown.entries)
-    }
+    ensures put { OnOk result (Becomes window.old window.new (brought_in query.now key.now child.now (all_of window.old))) }
+    ensures notes { OnOk result (NotesBeside key.now noted.old.items noted.new.items window.old.shown.entries window.new.shown.entries) }
 {
     if child.is_null() {
         return Ok(());
@@ -97,9 +89,7 @@ fn touch_child(
     requires fits { levels child.now ≤ 32 }
     ensures put { OnOk result (known.new ≡ put known.old (key.now ∷ []) child.now) }
     ensures kept { OnOk result (IsWindowOf query.now known.new window.new) }
-    ensures notes {
-        OnOk result (Notes noted.old.items noted.new.items window.old.shown.entries window.new.shown.entries)
-    }
+    ensures notes { OnOk result (Notes noted.old.items noted.new.items window.old.shown.entries window.new.shown.entries) }
 {
     noted.push(key.copy()?)?;
     take_out(window, noted, alloc, query, key, child_at(known, key))?;
@@ -120,9 +110,7 @@ pub fn touch_all(
     requires fits { All (λ c. levels c.1 ≤ 32) named.now }
     ensures put { OnOk result (known.new ≡ with_named known.old named.now) }
     ensures kept { OnOk result (IsWindowOf query.now known.new window.new) }
-    ensures notes {
-        IfOk result (λ noted. Notes [] noted.items window.old.shown.entries window.new.shown.entries)
-    }
+    ensures notes { IfOk result (λ noted. Notes [] noted.items window.old.shown.entries window.new.shown.entries) }
 {
     let mut noted = Vec::new(alloc);
     for (key, child) in named {

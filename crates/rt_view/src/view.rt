@@ -74,11 +74,7 @@ fn copy_leaf(alloc: Global, tree: &Tree) -> Result<Option<Leaf>, AllocError>
 
 impl View {
     /// The first view of a tree, and its changes from no view.
-    pub fn first(
-        alloc: Global,
-        query: Query,
-        known: Tree,
-    ) -> Result<(View, ChangeList), AllocError>
+    pub fn first(alloc: Global, query: Query, known: Tree) -> Result<(View, ChangeList), AllocError>
         ensures view { IfOk result (λ p. p.0 ≡ first_view query known) }
         ensures changes { IfOk result (λ p. p.1 ≡ changes query.index None (select query known)) }
     {
@@ -124,15 +120,9 @@ impl View {
     }
 
     // What is kept of another tree, and the changes to it.
-    fn kept_of(
-        &self,
-        alloc: Global,
-        known: &Tree,
-    ) -> Result<(Window, Tree, ChangeList), AllocError>
+    fn kept_of(&self, alloc: Global, known: &Tree) -> Result<(Window, Tree, ChangeList), AllocError>
         ensures kept { IfOk result (λ p. IsKept self.now.query known.now p.0 p.1) }
-        ensures changes {
-            IfOk result (λ p. p.2 ≡ changes self.now.query.index (Some (shown_of self.now)) (select self.now.query known.now))
-        }
+        ensures changes { IfOk result (λ p. p.2 ≡ changes self.now.query.index (Some (shown_of self.now)) (select self.now.query known.now)) }
     {
         let old = self.query.select(&self.known)?;
         let shown = self.query.select(known)?;
@@ -147,11 +137,7 @@ impl View {
     /// the changes, and, the first time after a copy of the tree or of a `Value` was kept, by the number of children too.
     ///
     /// After `NoMemory` the view has failed.
-    pub fn touch(
-        &mut self,
-        alloc: Global,
-        named: Vec<(Key, Tree)>,
-    ) -> Result<ChangeList, ViewError>
+    pub fn touch(&mut self, alloc: Global, named: Vec<(Key, Tree)>) -> Result<ChangeList, ViewError>
         requires { All (λ c. levels c.1 ≤ 32) named.items }
         ensures touched { OnOk result (self.new ≡ touched self.old named.items) }
         ensures changes { IfOk result (λ list. list ≡ told self.old (touched self.old named.items)) }
@@ -165,7 +151,14 @@ impl View {
         let named = named.as_slice();
         let noted = touch_all(&mut self.known, &mut self.window, alloc, &self.query, named)?;
         let noted = noted.as_slice();
-        let changes = tell(&mut self.tree, alloc, &self.query, &self.known, &self.window, noted)?;
+        let changes = tell(
+            &mut self.tree,
+            alloc,
+            &self.query,
+            &self.known,
+            &self.window,
+            noted,
+        )?;
         self.reads = named.len() as u64;
         self.turns = self.turns.wrapping_add(1);
         self.failed = false;

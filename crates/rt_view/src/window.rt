@@ -31,9 +31,7 @@ pub fn set(
     position: Position,
     tree: Tree,
 ) -> Result<(), AllocError>
-    ensures {
-        OnOk result (children.new.entries ≡ map_of.put entry_cmp position tree children.old.entries)
-    }
+    ensures { OnOk result (children.new.entries ≡ map_of.put entry_cmp position tree children.old.entries) }
 {
     children.insert(position, tree)?;
     Ok(())
@@ -86,12 +84,8 @@ impl Window {
     pub fn put(&mut self, position: Position, tree: Tree) -> Result<Option<Key>, AllocError>
         requires { IsWhole self.old }
         ensures limit { self.new.limit ≡ self.old.limit }
-        ensures put {
-            OnOk result (Becomes self.old self.new (map_of.put entry_cmp position tree (all_of self.old)))
-        }
-        ensures crosses {
-            IfOk result (λ key. Crosses key position.1 self.old.shown.entries self.new.shown.entries)
-        }
+        ensures put { OnOk result (Becomes self.old self.new (map_of.put entry_cmp position tree (all_of self.old))) }
+        ensures crosses { IfOk result (λ key. Crosses key position.1 self.old.shown.entries self.new.shown.entries) }
     {
         match self.limit {
             None => {
@@ -137,12 +131,8 @@ impl Window {
     pub fn take(&mut self, position: &Position) -> Result<Option<Key>, AllocError>
         requires { IsWhole self.old }
         ensures limit { self.new.limit ≡ self.old.limit }
-        ensures taken {
-            OnOk result (Becomes self.old self.new (without position.now (all_of self.old)))
-        }
-        ensures crosses {
-            IfOk result (λ key. Crosses key position.now.1 self.old.shown.entries self.new.shown.entries)
-        }
+        ensures taken { OnOk result (Becomes self.old self.new (without position.now (all_of self.old))) }
+        ensures crosses { IfOk result (λ key. Crosses key position.now.1 self.old.shown.entries self.new.shown.entries) }
     {
         if !unset(&mut self.shown, position) {
             unset(&mut self.rest, position);

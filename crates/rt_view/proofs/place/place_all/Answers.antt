@@ -16,7 +16,8 @@ loop-key-preserved c =
     let before : Entries = joined old.limit old.shown.entries old.rest.entries in
     let w = c.in_ok-place.ensures.placed in
     let limit = c.in_ok-place.ensures.limit in
-    let steps : c.loop-key.rest ≡ left ++ child ∷ [] = search rules in
-    (limit ∙ c.loop-key.invariant.0,
-    subst (λ l. IsWindow l new.shown.entries new.rest.entries (joined l new.shown.entries new.rest.entries)) (sym limit) (subst (λ a. IsWindow old.limit new.shown.entries new.rest.entries a) (sym w.whole) w),
-    ap (λ a. placed q a left) (ap (λ l. joined l new.shown.entries new.rest.entries) limit ∙ w.whole) ∙ sym (placed-last q before left child) ∙ ap (placed q before) (sym steps) ∙ c.loop-key.invariant.2)
+    let steps : c.loop-key.rest ≡ left ++ child ∷ [] = search rules in (
+      limit ∙ c.loop-key.invariant.0,
+      subst (λ l. IsWindow l new.shown.entries new.rest.entries (joined l new.shown.entries new.rest.entries)) (sym limit) (subst (λ a. IsWindow old.limit new.shown.entries new.rest.entries a) (sym w.whole) w),
+      ap (λ a. placed q a left) (ap (λ l. joined l new.shown.entries new.rest.entries) limit ∙ w.whole) ∙ sym (placed-last q before left child) ∙ ap (placed q before) (sym steps) ∙ c.loop-key.invariant.2,
+    )

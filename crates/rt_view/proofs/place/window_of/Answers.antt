@@ -13,7 +13,7 @@ returns-in_default c =
     record {
       limit = c.new-window.ensures.limit ∙ c.limit.ensures;
       cut = subst (λ l. IsWindow l c.new-window.result.shown.entries c.new-window.result.rest.entries (in_order q (children_of c.args.known.now))) c.limit.ensures
-      (subst (λ cs. IsWindow c.limit.result c.new-window.result.shown.entries c.new-window.result.rest.entries (in_order q cs)) (sym none) c.new-window.ensures.empty);
+          (subst (λ cs. IsWindow c.limit.result c.new-window.result.shown.entries c.new-window.result.rest.entries (in_order q cs)) (sym none) c.new-window.ensures.empty);
     }
 
 pub returns : goal.returns
@@ -24,5 +24,5 @@ returns c =
     record {
       limit = c.in_ok-place_all.ensures.limit ∙ c.new-window.ensures.limit ∙ c.limit.ensures;
       cut = subst (λ l. IsWindow l new.shown.entries new.rest.entries (in_order q (children_of c.args.known.now))) (c.new-window.ensures.limit ∙ c.limit.ensures)
-      (subst (λ es. IsWindow c.new-window.result.limit new.shown.entries new.rest.entries es) (ap (placed q []) all ∙ placed_all q (children_of c.args.known.now)) c.in_ok-place_all.ensures.placed);
+          (subst (λ es. IsWindow c.new-window.result.limit new.shown.entries new.rest.entries es) (ap (placed q []) all ∙ placed_all q (children_of c.args.known.now)) c.in_ok-place_all.ensures.placed);
     }

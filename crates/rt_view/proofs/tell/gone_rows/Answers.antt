@@ -24,12 +24,12 @@ loop-key-preserved c =
     let more = ap (λ js. gone_from js new old) (sym next) in
     let at = c.in_ok-old.ensures ∙ ap (gone_at (value_at new key)) (sym (value_at-children index c.args.tree.now key)) in
     elim c.match-branch-2.branch [
-      in-Some+in_ok-put_row w ↦
-        let there : Some w.in-Some.old.now ≡ gone_at (value_at new key) (value_at old key) = ap option_copied (sym w.in-Some.is) ∙ at in
-        (λ i. (w.rows-is i).entries) ∙ w.in_ok-put_row.ensures
-        ∙ (λ i. map_of.put entry_cmp (entry (w.index.ensures i) (key, w.in-Some.old.now)) w.in-Some.old.now (c.loop-key.invariant i))
-        ∙ gone_more index ks key w.in-Some.old.now new old listed there ∙ more
+      | in-Some+in_ok-put_row w ↦
+          let there : Some w.in-Some.old.now ≡ gone_at (value_at new key) (value_at old key) = ap option_copied (sym w.in-Some.is) ∙ at in
+          (λ i. (w.rows-is i).entries) ∙ w.in_ok-put_row.ensures
+          ∙ (λ i. map_of.put entry_cmp (entry (w.index.ensures i) (key, w.in-Some.old.now)) w.in-Some.old.now (c.loop-key.invariant i))
+          ∙ gone_more index ks key w.in-Some.old.now new old listed there ∙ more
       | in_default w ↦
-        let none : None ≡ gone_at (value_at new key) (value_at old key) = ap option_copied (sym w.in_default.is) ∙ at in
-        (λ i. (w.rows-is i).entries) ∙ c.loop-key.invariant ∙ gone_no_more index ks key new old listed none ∙ more
+          let none : None ≡ gone_at (value_at new key) (value_at old key) = ap option_copied (sym w.in_default.is) ∙ at in
+          (λ i. (w.rows-is i).entries) ∙ c.loop-key.invariant ∙ gone_no_more index ks key new old listed none ∙ more
     ]

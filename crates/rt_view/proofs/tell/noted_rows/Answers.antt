@@ -22,12 +22,12 @@ loop-key-preserved c =
     let next = next_taken c.args.noted.now c.loop-key.key-index key c.loop-key-test.true c.key-item.is in
     let more = ap (λ js. noted_in js shown) (sym next) in
     elim c.match-branch-2.branch [
-      in-Some+in_ok-put_row w ↦
-        let there : value_at shown key ≡ Some w.in-Some.child.now = sym c.in_ok-child.ensures.shown ∙ ap option_copied w.in-Some.is in
-        (λ i. (w.rows-is i).entries) ∙ w.in_ok-put_row.ensures
-        ∙ (λ i. map_of.put entry_cmp (entry (w.index.ensures i) (key, w.in-Some.child.now)) w.in-Some.child.now (c.loop-key.invariant i))
-        ∙ noted_some index ks key w.in-Some.child.now shown listed there ∙ more
+      | in-Some+in_ok-put_row w ↦
+          let there : value_at shown key ≡ Some w.in-Some.child.now = sym c.in_ok-child.ensures.shown ∙ ap option_copied w.in-Some.is in
+          (λ i. (w.rows-is i).entries) ∙ w.in_ok-put_row.ensures
+          ∙ (λ i. map_of.put entry_cmp (entry (w.index.ensures i) (key, w.in-Some.child.now)) w.in-Some.child.now (c.loop-key.invariant i))
+          ∙ noted_some index ks key w.in-Some.child.now shown listed there ∙ more
       | in_default w ↦
-        let none : value_at shown key ≡ None = sym c.in_ok-child.ensures.shown ∙ ap option_copied w.in_default.is in
-        (λ i. (w.rows-is i).entries) ∙ c.loop-key.invariant ∙ noted_none index ks key shown listed none ∙ more
+          let none : value_at shown key ≡ None = sym c.in_ok-child.ensures.shown ∙ ap option_copied w.in_default.is in
+          (λ i. (w.rows-is i).entries) ∙ c.loop-key.invariant ∙ noted_none index ks key shown listed none ∙ more
     ]
