@@ -44,7 +44,10 @@ const FROM_SERVER: [(&str, &str); 11] = [
     (r#"{"k":"ok","id":0}"#, "BadField"),
     (r#"{"k":"ok","id":9007199254740992}"#, "BadField"),
     (r#"{"k":"data","tag":1,"path":"/a","value":1.5}"#, "BadTree"),
-    (r#"{"k":"data","tag":1,"path":"/a.b","value":1.5}"#, "BadField"),
+    (
+        r#"{"k":"data","tag":1,"path":"/a.b","value":1.5}"#,
+        "BadField",
+    ),
     (
         r#"{"k":"data","tag":1,"path":"a//b/","value":[null]}"#,
         r#"{"k":"data","path":"/a/b","tag":1,"value":null}"#,
@@ -53,7 +56,10 @@ const FROM_SERVER: [(&str, &str); 11] = [
         r#"{"k":"data-merge","tag":3,"entries":{"b":{"c":2},"/a":null}}"#,
         r#"{"entries":{"/a":null,"/b":{"c":2}},"k":"data-merge","tag":3}"#,
     ),
-    (r#"{"k":"no","id":2,"why":"denied"}"#, r#"{"id":2,"k":"no","why":"denied"}"#),
+    (
+        r#"{"k":"no","id":2,"why":"denied"}"#,
+        r#"{"id":2,"k":"no","why":"denied"}"#,
+    ),
 ];
 
 // Texts that are read, and written again as they are.
@@ -87,14 +93,25 @@ fn from_client(alloc: Global) -> Result<(), Outcome> {
 }
 
 // ---- large texts: what comes before, a piece, how many of it, what comes behind, and the answer
-type Large = (&'static str, &'static str, usize, &'static str, &'static str);
+type Large = (
+    &'static str,
+    &'static str,
+    usize,
+    &'static str,
+    &'static str,
+);
 
 const DATA: &str = r#"{"k":"data","tag":1,"path":"/","value":"#;
 
-
 const LARGE: [Large; 3] = [
     (DATA, "[", 200, "}", "NotJson"),
-    (r#"{"k":"no","id":1,"why":""#, "x", 65537, r#""}"#, "BadField"),
+    (
+        r#"{"k":"no","id":1,"why":""#,
+        "x",
+        65537,
+        r#""}"#,
+        "BadField",
+    ),
     (
         r#"{"k":"data","tag":1,"path":"/","value":[null"#,
         ",null",
@@ -155,7 +172,8 @@ fn copied(alloc: Global) -> Result<String, WireError> {
     Ok(String::from_str(alloc, why.copy(alloc)?.text())?)
 }
 
-const LISTEN: &str = r#"{"k":"listen","path":"/a","q":{"limit":["first",2],"order":"key"},"tag":1}"#;
+const LISTEN: &str =
+    r#"{"k":"listen","path":"/a","q":{"limit":["first",2],"order":"key"},"tag":1}"#;
 
 const Q: &str = r#"{"limit":["first",2],"order":"key"}"#;
 

@@ -59,18 +59,12 @@ const READINGS: [(&str, &str); 27] = [
     (r#"{"k":1}"#, "UnknownKind"),
     (r#"{"id":1}"#, "UnknownKind"),
     (r#"{"k":"ok","id":0}"#, "BadField"),
-    (
-        r#"{"k":"data","tag":1,"path":"/a","value":1.5}"#,
-        "BadTree",
-    ),
+    (r#"{"k":"data","tag":1,"path":"/a","value":1.5}"#, "BadTree"),
     (
         r#"{"k":"data","tag":1,"path":"/a.b","value":1.5}"#,
         "BadField",
     ),
-    (
-        r#"{"k":"data","tag":0,"path":"/a","value":1}"#,
-        "BadField",
-    ),
+    (r#"{"k":"data","tag":0,"path":"/a","value":1}"#, "BadField"),
     (r#"{"k":"data","tag":1,"path":"/a"}"#, "BadField"),
     (
         r#"{"k":"data","tag":1,"path":"a//b/","value":[null]}"#,
@@ -84,14 +78,8 @@ const READINGS: [(&str, &str); 27] = [
         r#"{"k":"data-merge","tag":3,"entries":{"b":{"c":2},"/a":null},"other":[]}"#,
         r#"{"entries":{"/a":null,"/b":{"c":2}},"k":"data-merge","tag":3}"#,
     ),
-    (
-        r#"{"k":"data-merge","tag":3,"entries":{}}"#,
-        "BadField",
-    ),
-    (
-        r#"{"k":"data-merge","tag":3,"entries":[1]}"#,
-        "BadField",
-    ),
+    (r#"{"k":"data-merge","tag":3,"entries":{}}"#, "BadField"),
+    (r#"{"k":"data-merge","tag":3,"entries":[1]}"#, "BadField"),
     (
         r#"{"k":"data-merge","tag":3,"entries":{"a":1.5,"b.c":1}}"#,
         "BadField",
@@ -110,10 +98,7 @@ const READINGS: [(&str, &str); 27] = [
         r#"{"k":"revoke","tag":4,"why":""}"#,
         r#"{"k":"revoke","tag":4,"why":""}"#,
     ),
-    (
-        r#"{"k":"hello","k":"ok","id":1}"#,
-        r#"{"id":1,"k":"ok"}"#,
-    ),
+    (r#"{"k":"hello","k":"ok","id":1}"#, r#"{"id":1,"k":"ok"}"#),
     (r#"{"k":"ok","id":9007199254740992}"#, "BadField"),
     (r#"{"k":"ok","id":1.0}"#, "BadField"),
     (r#"{"k":"ok","id":-1}"#, "BadField"),
@@ -280,7 +265,10 @@ fn disconnect_actions(rt: HostRuntime) {
 
 const CLIENT_REFUSALS: [(&str, &str); 5] = [
     ("{", "NotJson"),
-    (r#"{"k":"data","tag":1,"path":"/","value":1}"#, "UnknownKind"),
+    (
+        r#"{"k":"data","tag":1,"path":"/","value":1}"#,
+        "UnknownKind",
+    ),
     (r#"{"k":"hello","version":2}"#, "UnknownKind"),
     (r#"{"k":"put","id":0,"path":"/","value":1.5}"#, "BadField"),
     (r#"{"k":"put","id":1,"path":"/","value":1.5}"#, "BadTree"),
