@@ -11,8 +11,8 @@ returns-in_default c =
     let q = c.args.query.now in
     let none : children_of c.args.known.now ≡ [] = search rules in
     record {
-      limit = c.new-window.ensures.limit ∙ c.limit.ensures;
-      cut = subst (λ l. IsWindow l c.new-window.result.shown.entries c.new-window.result.rest.entries (in_order q (children_of c.args.known.now))) c.limit.ensures
+      limit = c.new-window.ensures.limit ∙ c.limit.ensures.limit;
+      cut = subst (λ l. IsWindow l c.new-window.result.shown.entries c.new-window.result.rest.entries (in_order q (children_of c.args.known.now))) c.limit.ensures.limit
           (subst (λ cs. IsWindow c.limit.result c.new-window.result.shown.entries c.new-window.result.rest.entries (in_order q cs)) (sym none) c.new-window.ensures.empty);
     }
 
@@ -22,7 +22,7 @@ returns c =
     let all : c.in-Some.children.now.entries ≡ children_of c.args.known.now = search rules in
     let new = c.place_all.new.window in
     record {
-      limit = c.in_ok-place_all.ensures.limit ∙ c.new-window.ensures.limit ∙ c.limit.ensures;
-      cut = subst (λ l. IsWindow l new.shown.entries new.rest.entries (in_order q (children_of c.args.known.now))) (c.new-window.ensures.limit ∙ c.limit.ensures)
+      limit = c.in_ok-place_all.ensures.limit ∙ c.new-window.ensures.limit ∙ c.limit.ensures.limit;
+      cut = subst (λ l. IsWindow l new.shown.entries new.rest.entries (in_order q (children_of c.args.known.now))) (c.new-window.ensures.limit ∙ c.limit.ensures.limit)
           (subst (λ es. IsWindow c.new-window.result.limit new.shown.entries new.rest.entries es) (ap (placed q []) all ∙ placed_all q (children_of c.args.known.now)) c.in_ok-place_all.ensures.placed);
     }
