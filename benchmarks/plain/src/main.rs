@@ -181,6 +181,7 @@ fn main() {
         linked::stores(&paths);
         linked::wide("wide_1000", linked::wide_paths(1000));
         linked::wide("wide_10000", linked::wide_paths(10000));
+        linked::wide("wide_100000", linked::wide_paths(100_000));
         linked::wide("rising_10000", linked::rising_paths(10000));
     }
     let text = large_text();
