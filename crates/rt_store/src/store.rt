@@ -68,7 +68,8 @@ impl Store {
     /// `TooDeep` where path and tree together have more than 32 keys. A refusal changes nothing: all nodes are made before the first
     /// of the store's changes.
     ///
-    /// Costs by the path, the logarithms of their siblings' numbers, the tree that is put and what it replaces.
+    /// Costs by the path, the logarithm of the number of siblings at each of its keys, the tree that is put and what it
+    /// replaces; a child that is new also moves a word for each sibling behind it.
     pub fn set(&mut self, alloc: Global, path: &Path, tree: &Tree) -> Result<(), StoreError>
         ensures ok { OnOk result (self.new.tree ≡ put self.old.tree path.now tree.now) }
         ensures err { OnErr result (IsAsBefore self.old self.new) }
@@ -119,7 +120,8 @@ impl Store {
 
     /// Takes out what stands at the path, and with it each object above that is left without children. Takes no memory.
     ///
-    /// Costs by the path, the logarithms of their siblings' numbers and what is taken out.
+    /// Costs by the path, the logarithm of the number of siblings at each of its keys and what is taken out; a child that
+    /// goes also moves a word for each sibling behind it.
     pub fn clear(&mut self, path: &Path)
         ensures { self.new.tree ≡ put self.old.tree path.now null }
     {
@@ -172,7 +174,8 @@ impl Store {
         Node::linked(descend(&self.nodes, &self.ranks, row, key, rest))
     }
 
-    /// The part of the tree at the path; null where nothing stands there. Costs by the path, the logarithms of their siblings' numbers, and the part.
+    /// The part of the tree at the path; null where nothing stands there. Costs by the path, the logarithm of
+    /// the number of siblings at each of its keys, and the part.
     pub fn get(&self, alloc: Global, path: &Path) -> Result<Tree, AllocError>
         ensures { IfOk result (λ tree. tree ≡ sub self.now.tree path.now) }
     {
