@@ -20,7 +20,7 @@ use Rattle.rt_cache.proofs.QueryOrders.{exact_queries}
 use Rattle.rt_cache.proofs.Stays.{Windows, AreFiltered}
 
 -- an unfiltered query has no window
-no_window : (q : Query) (ws : Windows) → AreFiltered ws → is_filtered q ≡ false → window_of ws q ≡ None
+pub no_window : (q : Query) (ws : Windows) → AreFiltered ws → is_filtered q ≡ false → window_of ws q ≡ None
 no_window q [] h e = refl
 no_window q (w ∷ ws) h e =
     elim (eq_by_cmp query_cmp q w.0) as (λ b. eq_by_cmp query_cmp q w.0 ≡ b → cond b (Some w.1) (map_of.find query_cmp q ws) ≡ None) [

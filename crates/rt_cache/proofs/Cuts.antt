@@ -108,7 +108,7 @@ split_cross test (r ∷ rs) e =
 
 -- ---- parts
 
-above-trans : (p q r : Path) → is_at_or_above p q ≡ true → is_at_or_above q r ≡ true → is_at_or_above p r ≡ true
+pub above-trans : (p q r : Path) → is_at_or_above p q ≡ true → is_at_or_above q r ≡ true → is_at_or_above p r ≡ true
 above-trans p q r a b =
     let s = some_of (strip p q) a in
     let t = some_of (strip q r) b in
@@ -242,7 +242,7 @@ or_turn true true c = refl
 or_turn true false c = refl
 or_turn false b c = refl
 
-any_put : (p k : Path) (u : PathTree) (rs : Regions) → any_above p (map_of.put path_cmp k u rs) ≡ (is_at_or_above k p || any_above p rs)
+pub any_put : (p k : Path) (u : PathTree) (rs : Regions) → any_above p (map_of.put path_cmp k u rs) ≡ (is_at_or_above k p || any_above p rs)
 any_put p k u [] = refl
 any_put p k u (r ∷ rs) =
     elim (path_cmp k r.0) as (λ o. path_cmp k r.0 ≡ o → any_above p (by_order o ((k, u) ∷ r ∷ rs) ((r.0, u) ∷ rs) (r ∷ map_of.put path_cmp k u rs)) ≡ (is_at_or_above k p || (is_at_or_above r.0 p || any_above p rs))) [
@@ -256,7 +256,7 @@ or_assoc true true c = refl
 or_assoc true false c = refl
 or_assoc false b c = refl
 
-any_with : (p : Path) (rs more : Regions) → any_above p (with_regions rs more) ≡ (any_above p rs || any_above p more)
+pub any_with : (p : Path) (rs more : Regions) → any_above p (with_regions rs more) ≡ (any_above p rs || any_above p more)
 any_with p rs [] = at (any_above p rs)
   where
     at : (b : Bool) → b ≡ (b || false)

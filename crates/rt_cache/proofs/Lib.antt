@@ -1,12 +1,14 @@
 pub mod Bases
 pub mod Changes
 pub mod Cuts
+pub mod Halves
 pub mod InPlace
 pub mod Keeping
 pub mod Listing
 pub mod Places
 pub mod Pushes
 pub mod QueryOrders
+pub mod RunLaws
 pub mod Stays
 pub mod Strips
 pub mod WindowPushes

@@ -73,7 +73,7 @@ untouched p u (r ∷ rs) e =
     let rest = untouched p u rs (or_right (is_at_or_above r.0 p) _ e) in
     λ i. head i ∷ rest i
 
-unseen : (p : Path) (rs : List (Path × PathTree)) → list_any (λ (r : Path × PathTree). is_at_or_above r.0 p) rs ≡ false → region_part rs p ≡ None
+pub unseen : (p : Path) (rs : List (Path × PathTree)) → list_any (λ (r : Path × PathTree). is_at_or_above r.0 p) rs ≡ false → region_part rs p ≡ None
 unseen p [] e = refl
 unseen p (r ∷ rs) e =
     unseen_one p r rs (or_left _ (list_any (λ (x : Path × PathTree). is_at_or_above x.0 p) rs) e) ∙ unseen p rs (or_right (is_at_or_above r.0 p) _ e)

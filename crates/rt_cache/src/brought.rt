@@ -1,6 +1,7 @@
 // What the listens brought.
-ghost use Rattle.std.specs.Prelude.{◌≡◌, ◌+◌, ◌≤◌, true, false, not, length, IfOk, OnOk, OnErr};
-ghost use Rattle.rt_tree.specs.PathTree.{levels};
+ghost use Rattle.std.specs.Prelude.{◌≡◌, ◌+◌, ◌≤◌, T, true, false, not, length, IfOk, OnOk, OnErr};
+ghost use Rattle.std.specs.FinMap as map_of;
+ghost use Rattle.rt_tree.specs.PathTree.{path_cmp, levels};
 ghost use Rattle.rt_tree.specs.Assignments.{is_at_or_above, have_overlap};
 ghost use Rattle.rt_cache.specs.Canonical.{IsCanonical};
 ghost use Rattle.rt_cache.specs.Recover.{do_plains_overlap, recover};
@@ -19,7 +20,8 @@ use std::marker::Model;
 /// What the listens brought: regions, which are trees at paths under plain listens, and windows, which are the known children of
 /// filtered queries.
 ///
-/// No region is at or above another. Each tree is a store of its own, so that a tree that a call doesn't touch is neither copied
+/// Regions stand in the order of their paths, and none is at or above another, so that the one at or above a path is found by
+/// halving. Each tree is a store of its own, so that a tree that a call doesn't touch is neither copied
 /// nor walked.
 #[derive(Drop)]
 pub struct Brought {
@@ -49,9 +51,12 @@ fn put_plain(
     tree: &Tree,
 ) -> Result<(), AllocError>
     requires levels { length path.now + levels tree.now ≤ 33 }
+    requires sorted { T (map_of.is_sorted path_cmp (pairs_of regions.old.items)) }
     requires apart { have_overlap (pairs_of regions.old.items) ≡ false }
-    ensures ok { OnOk result (held regions.new.items windows.new.items ≡ push_plain (held regions.old.items windows.old.items) (path.now, tree.now)) }
-    ensures err { OnErr result (held regions.new.items windows.new.items ≡ held regions.old.items windows.old.items) }
+    ensures ok { OnOk result (held regions.new.items windows.new.items
+        ≡ push_plain (held regions.old.items windows.old.items) (path.now, tree.now)) }
+    ensures err { OnErr result (held regions.new.items windows.new.items
+        ≡ held regions.old.items windows.old.items) }
 {
     match regions::place_above(regions, path) {
         Some(place) => regions::put_into(alloc, &mut regions[place], path, tree),
@@ -64,6 +69,10 @@ fn put_plain(
 }
 
 impl Brought {
+    pub(crate) fn allocator(&self) -> Global {
+        *self.regions.allocator()
+    }
+
     /// Nothing is brought yet.
     pub fn new(alloc: Global) -> Brought
         ensures { result ≡ nothing_brought }
@@ -80,18 +89,20 @@ impl Brought {
     /// takes in the regions and windows below. On a filtered one it replaces the window by its children, or is put into the
     /// window, if there is one. `Ok(false)` where there is none: the push is stale and changes nothing.
     ///
-    /// Passes the paths of the regions, or the queries of the windows, in front of the one that is meant, and then costs by the path
-    /// and the tree that is put. A new region moves those behind it. No other tree is walked.
+    /// Finds the region by halving, or the window by going over their queries, and then costs by the path and the tree that is put.
+    /// A push that begins a region passes the paths of all regions and windows, and moves the regions behind it. No other tree is
+    /// walked.
     ///
     /// An `Err` is want of memory, and changes nothing.
     pub fn put(&mut self, query: &Query, path: &Path, tree: &Tree) -> Result<bool, AllocError>
         requires under { is_at_or_above query.now.path path.now ≡ true }
         requires levels { length path.now + levels tree.now ≤ 33 }
         ensures ok { OnOk result (self.new ≡ push query.now self.old (path.now, tree.now)) }
-        ensures taken { IfOk result (λ taken. taken ≡ not (is_without_window self.old query.now (path.now, tree.now))) }
+        ensures taken { IfOk result (λ taken. taken
+            ≡ not (is_without_window self.old query.now (path.now, tree.now))) }
         ensures err { OnErr result (self.new ≡ self.old) }
     {
-        let alloc = *self.regions.allocator();
+        let alloc = self.allocator();
         if query.is_filtered() {
             return windows::push(alloc, &mut self.windows, query, path, tree);
         }
@@ -101,7 +112,7 @@ impl Brought {
 
     /// Whether something is brought for the query: a region at or above its path, or its window.
     ///
-    /// Passes the paths of the regions and the queries of the windows. Builds no tree, and takes no memory.
+    /// Finds the region by halving; where there is none it goes over the queries of the windows. Builds no tree, and takes no memory.
     pub fn knows(&self, query: &Query) -> bool
         ensures known { result ≡ knows self.now query.now }
         ensures canonical { IsCanonical self.now }
@@ -113,11 +124,11 @@ impl Brought {
     /// What is brought for the query: the part of the region at or above its path, which is whole, or its window; `None` where there
     /// is neither.
     ///
-    /// Passes what [`Brought::knows`] does, and then costs by the path and the part, of which it makes a copy.
+    /// Finds it as [`Brought::knows`] does, and then costs by the path and the part, of which it makes a copy.
     pub fn base(&self, query: &Query) -> Result<Option<Base>, AllocError>
         ensures { IfOk result (λ found. found ≡ base self.now query.now) }
     {
-        let alloc = *self.regions.allocator();
+        let alloc = self.allocator();
         if let Some(place) = regions::place_above(&self.regions, query.path()) {
             let tree = regions::part_at(alloc, &self.regions[place], query.path())?;
             return Ok(Some(Base { tree, whole: true }));
@@ -133,11 +144,12 @@ impl Brought {
         }))
     }
 
-    /// [`Brought::base`] with one child of the tree in its place, null where there is none. It copies that child alone.
+    /// [`Brought::base`] with one child of the tree in its place, null where there is none. It copies that child alone, and
+    /// so costs by the path and that child.
     pub fn base_child(&self, query: &Query, key: &Key) -> Result<Option<Base>, AllocError>
         ensures { IfOk result (λ found. found ≡ base_child self.now query.now key.now) }
     {
-        let alloc = *self.regions.allocator();
+        let alloc = self.allocator();
         if let Some(place) = regions::place_above(&self.regions, query.path()) {
             let tree = regions::child_at(alloc, &self.regions[place], query.path(), key)?;
             return Ok(Some(Base { tree, whole: true }));
@@ -157,8 +169,11 @@ impl Brought {
     /// is; of any other the parts at the plain listens under it stay. A registered filtered form whose path a region held, and none
     /// holds now, gets the children there as a window that is whole. Windows of other forms go.
     ///
-    /// Passes the paths of all regions and the queries of all windows; copies only the parts and the windows that lost regions
-    /// leave. An `Err` is want of memory, and changes nothing: all that is made is made before the first change.
+    /// Passes the paths of all regions, each with the listens kept, and the queries of all windows with the
+    /// registered ones. Copies only the parts and the windows that lost regions leave; a tree that stays is moved,
+    /// and neither copied nor walked.
+    ///
+    /// An `Err` is want of memory, and changes nothing: all that is made is made before the first change.
     pub fn recover(&mut self, registered: &[Query], kept: &[Query]) -> Result<(), AllocError>
         requires { do_plains_overlap kept.now ≡ false }
         ensures ok { OnOk result (self.new ≡ recover registered.now kept.now self.old) }

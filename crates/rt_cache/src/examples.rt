@@ -1,7 +1,8 @@
 // Outside examples of what is brought: trees compute here.
 #![tactic(auto, unfolding(rt_tree::specs::PathTree::null, rt_tree::specs::PathTree::of_leaf, rt_tree::specs::PathTree::is_null, rt_tree::specs::PathTree::leaf_at, rt_tree::specs::PathTree::sub, rt_tree::specs::PathTree::put, rt_tree::specs::PathTree::children_alone))]
 
-ghost use Rattle.rt_cache.specs.Examples.{ParentTakesIn, PartsAreWhole, ChildThere, ChildNotThere, PartStays, OtherIsLost, CutInOrder, ListedAlike, LeafShowsNothing, TakenBelow, StaleBelow, StaysWhole, WholeNoMore, TakenIn};
+ghost use Rattle.rt_cache.specs.laws.Examples.{ParentTakesIn, PartsAreWhole, ChildThere, ChildNotThere, PartStays, OtherIsLost, CutInOrder, ListedAlike, LeafShowsNothing, TakenBelow, StaleBelow, StaysWhole, WholeNoMore, TakenIn};
+ghost use Rattle.rt_cache.specs.laws.Examples.{RowRuns, RowDoesSomething, NoRegionBeside, EndedWindowGoes, StaleOnce, StaleLeavesNothing};
 
 /// A region takes in those below it, its parts are whole, and another listen keeps its part alone.
 pub fn region_examples()
@@ -27,4 +28,14 @@ pub fn window_examples()
     ensures whole { StaysWhole }
     ensures replaced { WholeNoMore }
     ensures taken_in { TakenIn }
+{}
+
+/// Runs of calls: what they leave and which of them are taken, and what they do not.
+pub fn run_examples()
+    ensures row { RowRuns }
+    ensures nothing { RowDoesSomething }
+    ensures beside { NoRegionBeside }
+    ensures ended { EndedWindowGoes }
+    ensures stale { StaleOnce }
+    ensures leaves { StaleLeavesNothing }
 {}

@@ -1,8 +1,9 @@
 // What stays when the listens kept change.
-ghost use Rattle.std.specs.Prelude.{◌≡◌, ◌+◌, ◌≤◌, ◌++◌, vec_len, vec_capacity, ◌&&◌, not, false, is_some, IfOk, OnOk, OnErr};
+ghost use Rattle.std.specs.Prelude.{◌≡◌, ◌+◌, ◌≤◌, ◌++◌, T, vec_len, vec_capacity, ◌&&◌, not, false, is_some, IfOk, OnOk, OnErr};
 ghost use Rattle.std.specs.List.{filter, flat_map, list_any};
 ghost use Rattle.std.specs.Option.{option_map};
 ghost use Rattle.std.specs.FinMap as map_of;
+ghost use Rattle.rt_tree.specs.PathTree.{path_cmp};
 ghost use Rattle.rt_tree.specs.Assignments.{have_overlap};
 ghost use Rattle.rt_query.specs.QueryEq.{query_eq};
 ghost use Rattle.rt_cache.specs.QueryOrder.{query_cmp};
@@ -11,7 +12,7 @@ ghost use Rattle.rt_cache.specs.Recover.{reaches, part_for, parts_of, with_regio
 ghost use Rattle.rt_cache.specs.inside.Held.{pair_of, pairs_of, entry_of, entries_of, for_each, held};
 
 use crate::region::Region;
-use crate::regions::{insert, part_at, place_above, region_of};
+use crate::regions::{insert, is_any_above, part_at, place_above, region_of};
 use crate::stores::store_of_children;
 use crate::window::Window;
 use crate::windows::place_of_window;
@@ -49,7 +50,8 @@ fn push_parts(
     region: &Region,
     kept: &[Query],
 ) -> Result<(), AllocError>
-    ensures { OnOk result (pairs_of parts.new.items ≡ pairs_of parts.old.items ++ parts_of kept.now (pair_of region.now)) }
+    ensures { OnOk result (pairs_of parts.new.items
+        ≡ pairs_of parts.old.items ++ parts_of kept.now (pair_of region.now)) }
 {
     for query in kept {
         if let Some(part) = part_for(alloc, region, query)? {
@@ -65,7 +67,9 @@ pub(crate) fn parts_left(
     regions: &[Region],
     kept: &[Query],
 ) -> Result<Vec<Region>, AllocError>
-    ensures { IfOk result (λ parts. pairs_of parts.items ≡ flat_map (parts_of kept.now) (filter (λ r. not (reaches kept.now r.0)) (pairs_of regions.now))) }
+    ensures { IfOk result (λ parts. pairs_of parts.items
+        ≡ flat_map (parts_of kept.now) (filter (λ r. not (reaches kept.now r.0))
+        (pairs_of regions.now))) }
 {
     let mut parts = Vec::new(alloc);
     for region in regions {
@@ -88,8 +92,10 @@ fn retain_reached(regions: &mut Vec<Region>, kept: &[Query])
 // Regions, each in its place, for which there is room.
 fn insert_all(regions: &mut Vec<Region>, more: Vec<Region>)
     requires room { vec_len regions.old + vec_len more ≤ vec_capacity regions.old }
+    requires sorted { T (map_of.is_sorted path_cmp (pairs_of regions.old.items)) }
     requires apart { have_overlap (pairs_of regions.old.items ++ pairs_of more.items) ≡ false }
-    ensures { pairs_of regions.new.items ≡ with_regions (pairs_of regions.old.items) (pairs_of more.items) }
+    ensures { pairs_of regions.new.items
+        ≡ with_regions (pairs_of regions.old.items) (pairs_of more.items) }
 {
     for region in more {
         insert(regions, region);
@@ -98,13 +104,16 @@ fn insert_all(regions: &mut Vec<Region>, more: Vec<Region>)
 
 // Whether a region is at or above the path still, these being the parts that are left.
 fn is_held(regions: &[Region], parts: &[Region], kept: &[Query], path: &Path) -> bool
+    requires sorted { T (map_of.is_sorted path_cmp (pairs_of regions.now)) }
     requires apart { have_overlap (pairs_of regions.now) ≡ false }
-    requires parts { pairs_of parts.now ≡ flat_map (parts_of kept.now) (filter (λ r. not (reaches kept.now r.0)) (pairs_of regions.now)) }
+    requires parts { pairs_of parts.now
+        ≡ flat_map (parts_of kept.now) (filter (λ r. not (reaches kept.now r.0))
+        (pairs_of regions.now)) }
     ensures { result ≡ is_some (region_part (regions_kept kept.now (pairs_of regions.now)) path.now) }
 {
     match place_above(regions, path) {
         Some(place) if reaches(kept, &regions[place].path) => true,
-        _ => place_above(parts, path).is_some(),
+        _ => is_any_above(parts, path),
     }
 }
 
@@ -116,9 +125,14 @@ fn window_left(
     kept: &[Query],
     query: &Query,
 ) -> Result<Option<Window>, AllocError>
+    requires sorted { T (map_of.is_sorted path_cmp (pairs_of regions.now)) }
     requires apart { have_overlap (pairs_of regions.now) ≡ false }
-    requires parts { pairs_of parts.now ≡ flat_map (parts_of kept.now) (filter (λ r. not (reaches kept.now r.0)) (pairs_of regions.now)) }
-    ensures { IfOk result (λ left. option_map entry_of left ≡ option_map (λ w. (query.now, w)) (window_left (pairs_of regions.now) (regions_kept kept.now (pairs_of regions.now)) query.now)) }
+    requires parts { pairs_of parts.now
+        ≡ flat_map (parts_of kept.now) (filter (λ r. not (reaches kept.now r.0))
+        (pairs_of regions.now)) }
+    ensures { IfOk result (λ left. option_map entry_of left
+        ≡ option_map (λ w. (query.now, w)) (window_left (pairs_of regions.now)
+        (regions_kept kept.now (pairs_of regions.now)) query.now)) }
 {
     if !query.is_filtered() || is_held(regions, parts, kept, query.path()) {
         return Ok(None);
@@ -142,9 +156,14 @@ pub(crate) fn windows_left(
     registered: &[Query],
     kept: &[Query],
 ) -> Result<Vec<Window>, AllocError>
+    requires sorted { T (map_of.is_sorted path_cmp (pairs_of regions.now)) }
     requires apart { have_overlap (pairs_of regions.now) ≡ false }
-    requires parts { pairs_of parts.now ≡ flat_map (parts_of kept.now) (filter (λ r. not (reaches kept.now r.0)) (pairs_of regions.now)) }
-    ensures { IfOk result (λ left. entries_of left.items ≡ for_each (window_left (pairs_of regions.now) (regions_kept kept.now (pairs_of regions.now))) registered.now) }
+    requires parts { pairs_of parts.now
+        ≡ flat_map (parts_of kept.now) (filter (λ r. not (reaches kept.now r.0))
+        (pairs_of regions.now)) }
+    ensures { IfOk result (λ left. entries_of left.items
+        ≡ for_each (window_left (pairs_of regions.now) (regions_kept kept.now
+        (pairs_of regions.now))) registered.now) }
 {
     let mut left = Vec::new(alloc);
     for query in registered {
@@ -169,7 +188,9 @@ fn is_among(queries: &[Query], query: &Query) -> bool
 
 // The windows of registered queries, but for those that a lost region left a window.
 fn retain_registered(windows: &mut Vec<Window>, left: &[Window], registered: &[Query])
-    ensures left { windows.new.items ≡ filter (λ w. list_any (λ q. query_eq q w.query) registered.now && not (is_some (map_of.find query_cmp w.query (entries_of left.now)))) windows.old.items }
+    ensures left { windows.new.items
+        ≡ filter (λ w. list_any (λ q. query_eq q w.query) registered.now && not (is_some
+        (map_of.find query_cmp w.query (entries_of left.now)))) windows.old.items }
     ensures len { vec_len windows.new ≤ vec_len windows.old }
 {
     windows.retain(|window| {
@@ -184,10 +205,13 @@ pub(crate) fn change_cover(
     registered: &[Query],
     kept: &[Query],
 ) -> Result<(), AllocError>
+    requires sorted { T (map_of.is_sorted path_cmp (pairs_of regions.old.items)) }
     requires apart { have_overlap (pairs_of regions.old.items) ≡ false }
     requires kept { do_plains_overlap kept.now ≡ false }
-    ensures ok { OnOk result (held regions.new.items windows.new.items ≡ recover registered.now kept.now (held regions.old.items windows.old.items)) }
-    ensures err { OnErr result (held regions.new.items windows.new.items ≡ held regions.old.items windows.old.items) }
+    ensures ok { OnOk result (held regions.new.items windows.new.items
+        ≡ recover registered.now kept.now (held regions.old.items windows.old.items)) }
+    ensures err { OnErr result (held regions.new.items windows.new.items
+        ≡ held regions.old.items windows.old.items) }
 {
     let alloc = *regions.allocator();
     let parts = parts_left(alloc, regions, kept)?;

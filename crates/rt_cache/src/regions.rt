@@ -1,11 +1,12 @@
 // Regions in the order of their paths, of which none is at or above another.
-ghost use Rattle.std.specs.Prelude.{vec_len, vec_capacity, ◌≡◌, ◌+◌, ◌<◌, ◌≤◌, length, IfOk, IfSome, IfNone, OnOk, OnErr, Some, None, is_some, not, true, false, filter, slice_index_or};
-ghost use Rattle.std.specs.List.{list_any, position_or_len};
+ghost use Rattle.std.specs.Prelude.{◌≡◌, ℕ, suc, ◌+◌, ◌<◌, ◌≤◌, T, true, false, not, length, slice_index_or, filter};
+ghost use Rattle.std.specs.Prelude.{vec_len, vec_capacity, IfOk, IfSome, IfNone, OnOk, OnErr, Some, None, is_some};
+ghost use Rattle.std.specs.List.{list_any};
 ghost use Rattle.std.specs.Option.{option_map};
 ghost use Rattle.std.specs.Ordering.{is_lt};
 ghost use Rattle.std.specs.FinMap as map_of;
 ghost use Rattle.rt_tree.specs.PathTree.{levels, path_cmp, path_eq, strip, sub, child};
-ghost use Rattle.rt_tree.specs.Assignments.{is_at_or_above};
+ghost use Rattle.rt_tree.specs.Assignments.{is_at_or_above, have_overlap};
 ghost use Rattle.rt_cache.specs.Brought.{region_part, region_put};
 ghost use Rattle.rt_cache.specs.inside.Held.{pair_of, pairs_of};
 ghost use Rattle.rt_cache.specs.declared.region.Region.{Region};
@@ -16,25 +17,67 @@ use crate::stores::{self, store_of};
 use rt_tree::{Key, Path, Tree};
 use std::alloc::{AllocError, Global};
 
-// Where the region at or above the path stands.
+// How many regions stand at the path or in front of it, by halving: the path comes before the one at
+// this place, and not before the one in front.
+fn place_of(regions: &[Region], path: &Path) -> usize
+    ensures within { result ≤ length regions.now }
+    ensures front { (k : ℕ) (d : Region) → suc k ≡ result
+        → is_lt (path_cmp path.now (slice_index_or regions.now k d).path) ≡ false }
+    ensures behind { (d : Region) → result < length regions.now
+        → is_lt (path_cmp path.now (slice_index_or regions.now result d).path) ≡ true }
+{
+    let mut low = 0;
+    let mut high = regions.len();
+    while low < high {
+        let middle = low + (high - low) / 2;
+        if path.cmp(&regions[middle].path).is_lt() {
+            high = middle;
+        } else {
+            low = middle + 1;
+        }
+    }
+    low
+}
+
+// Where the region at or above the path stands: it can only be the last that is not behind the path.
 pub(crate) fn place_above(regions: &[Region], path: &Path) -> Option<usize>
+    requires sorted { T (map_of.is_sorted path_cmp (pairs_of regions.now)) }
+    requires apart { have_overlap (pairs_of regions.now) ≡ false }
     ensures known { is_some result ≡ is_some (region_part (pairs_of regions.now) path.now) }
     ensures none { IfNone result (region_part (pairs_of regions.now) path.now ≡ None) }
     ensures within { IfSome result (λ n. n < length regions.now) }
-    ensures above { IfSome result (λ n. (d : Region) → is_at_or_above (slice_index_or regions.now n d).path path.now ≡ true) }
+    ensures above { IfSome result (λ n. (d : Region)
+        → is_at_or_above (slice_index_or regions.now n d).path path.now ≡ true) }
 {
-    for (place, region) in regions.iter().enumerate() {
+    let count = place_of(regions, path);
+    if count == 0 {
+        return None;
+    }
+    let place = count - 1;
+    if regions[place].path.is_prefix_of(path) {
+        Some(place)
+    } else {
+        None
+    }
+}
+
+// Whether one of these regions, in any order, is at or above the path.
+pub(crate) fn is_any_above(regions: &[Region], path: &Path) -> bool
+    ensures { result ≡ is_some (region_part (pairs_of regions.now) path.now) }
+{
+    for region in regions {
         if region.path.is_prefix_of(path) {
-            return Some(place);
+            return true;
         }
     }
-    None
+    false
 }
 
 // The part at the path of a region at or above it.
 pub(crate) fn part_at(alloc: Global, region: &Region, path: &Path) -> Result<Tree, AllocError>
     requires { is_at_or_above region.now.path path.now ≡ true }
-    ensures { IfOk result (λ part. Some part ≡ option_map (sub (region.now.tree).tree) (strip region.now.path path.now)) }
+    ensures { IfOk result (λ part. Some part
+        ≡ option_map (sub (region.now.tree).tree) (strip region.now.path path.now)) }
 {
     match rest_of(alloc, &region.path, path)? {
         Some(rest) => region.tree.get(alloc, &rest),
@@ -50,7 +93,9 @@ pub(crate) fn child_at(
     key: &Key,
 ) -> Result<Tree, AllocError>
     requires { is_at_or_above region.now.path path.now ≡ true }
-    ensures { IfOk result (λ part. Some part ≡ option_map (λ rest. child (sub (region.now.tree).tree rest) key.now) (strip region.now.path path.now)) }
+    ensures { IfOk result (λ part. Some part
+        ≡ option_map (λ rest. child (sub (region.now.tree).tree rest) key.now)
+        (strip region.now.path path.now)) }
 {
     match rest_of(alloc, &region.path, path)? {
         Some(rest) => stores::child_at(alloc, &region.tree, &rest, key),
@@ -66,7 +111,8 @@ pub(crate) fn put_into(
     tree: &Tree,
 ) -> Result<(), AllocError>
     requires levels { length path.now + levels tree.now ≤ 33 }
-    ensures ok { OnOk result (pair_of region.new ≡ region_put (path.now, tree.now) (pair_of region.old)) }
+    ensures ok { OnOk result (pair_of region.new
+        ≡ region_put (path.now, tree.now) (pair_of region.old)) }
     ensures err { OnErr result (pair_of region.new ≡ pair_of region.old) }
 {
     match rest_of(alloc, &region.path, path)? {
@@ -75,24 +121,13 @@ pub(crate) fn put_into(
     }
 }
 
-// How many regions come before the path.
-fn place_of(regions: &[Region], path: &Path) -> usize
-    ensures first { result ≡ position_or_len (λ r. is_lt (path_cmp path.now r.path)) regions.now }
-    ensures within { result ≤ length regions.now }
-{
-    for (place, region) in regions.iter().enumerate() {
-        if path.cmp(&region.path).is_lt() {
-            return place;
-        }
-    }
-    regions.len()
-}
-
 // The region in its place, for which there is room.
 pub(crate) fn insert(regions: &mut Vec<Region>, region: Region)
     requires room { vec_len regions.old < vec_capacity regions.old }
+    requires sorted { T (map_of.is_sorted path_cmp (pairs_of regions.old.items)) }
     requires absent { list_any (λ r. path_eq region.path r.path) regions.old.items ≡ false }
-    ensures placed { pairs_of regions.new.items ≡ map_of.put path_cmp region.path (region.tree).tree (pairs_of regions.old.items) }
+    ensures placed { pairs_of regions.new.items
+        ≡ map_of.put path_cmp region.path (region.tree).tree (pairs_of regions.old.items) }
     ensures len { vec_len regions.new ≡ vec_len regions.old + 1 }
     ensures room { vec_capacity regions.old ≤ vec_capacity regions.new }
 {
@@ -102,7 +137,8 @@ pub(crate) fn insert(regions: &mut Vec<Region>, region: Region)
 
 // The regions that are not at or under the path.
 fn remove_under(regions: &mut Vec<Region>, path: &Path)
-    ensures left { regions.new.items ≡ filter (λ r. not (is_at_or_above path.now r.path)) regions.old.items }
+    ensures left { regions.new.items
+        ≡ filter (λ r. not (is_at_or_above path.now r.path)) regions.old.items }
     ensures len { vec_len regions.new ≤ vec_len regions.old }
     ensures room { vec_capacity regions.new ≡ vec_capacity regions.old }
 {
@@ -126,7 +162,10 @@ pub(crate) fn begin(
     path: &Path,
     tree: &Tree,
 ) -> Result<(), AllocError>
-    ensures ok { OnOk result (pairs_of regions.new.items ≡ map_of.put path_cmp path.now tree.now (filter (λ r. not (is_at_or_above path.now r.0)) (pairs_of regions.old.items))) }
+    requires sorted { T (map_of.is_sorted path_cmp (pairs_of regions.old.items)) }
+    ensures ok { OnOk result (pairs_of regions.new.items
+        ≡ map_of.put path_cmp path.now tree.now (filter (λ r. not (is_at_or_above path.now r.0))
+        (pairs_of regions.old.items))) }
     ensures err { OnErr result (regions.new.items ≡ regions.old.items) }
 {
     let region = region_of(alloc, path, tree)?;

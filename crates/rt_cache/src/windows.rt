@@ -23,8 +23,10 @@ pub(crate) fn place_of_window(windows: &[Window], query: &Query) -> Option<usize
     ensures known { is_some result ≡ is_some (map_of.find query_cmp query.now (entries_of windows.now)) }
     ensures none { IfNone result (map_of.find query_cmp query.now (entries_of windows.now) ≡ None) }
     ensures within { IfSome result (λ n. n < length windows.now) }
-    ensures own { IfSome result (λ n. (d : Window) → query_eq (slice_index_or windows.now n d).query query.now ≡ true) }
-    ensures first { IfSome result (λ n. (k : ℕ) (d : Window) → k < n → query_eq (slice_index_or windows.now k d).query query.now ≡ false) }
+    ensures own { IfSome result (λ n. (d : Window)
+        → query_eq (slice_index_or windows.now n d).query query.now ≡ true) }
+    ensures first { IfSome result (λ n. (k : ℕ) (d : Window) → k < n
+        → query_eq (slice_index_or windows.now k d).query query.now ≡ false) }
 {
     for (place, window) in windows.iter().enumerate() {
         if window.query == *query {
@@ -41,7 +43,10 @@ pub(crate) fn replace(
     query: &Query,
     tree: &Tree,
 ) -> Result<(), AllocError>
-    ensures ok { OnOk result (in_query_order (entries_of windows.new.items) ≡ map_of.put query_cmp query.now (record { children = children_alone tree.now; is_whole = false }) (in_query_order (entries_of windows.old.items))) }
+    ensures ok { OnOk result (in_query_order (entries_of windows.new.items)
+        ≡ map_of.put query_cmp query.now
+        (record { children = children_alone tree.now; is_whole = false }) (in_query_order
+        (entries_of windows.old.items))) }
     ensures err { OnErr result (windows.new.items ≡ windows.old.items) }
 {
     let children = store_of_children(alloc, tree)?;
@@ -73,7 +78,9 @@ fn put_into_window(
     requires levels { length path.now + levels tree.now ≤ 33 }
     ensures query { window.new.query ≡ window.old.query }
     ensures mark { window.new.is_whole ≡ window.old.is_whole }
-    ensures ok { OnOk result ((window.new.children).tree ≡ option_map_or (λ rest. put (window.old.children).tree rest tree.now) (strip window.old.query.path path.now) (window.old.children).tree) }
+    ensures ok { OnOk result ((window.new.children).tree
+        ≡ option_map_or (λ rest. put (window.old.children).tree rest tree.now)
+        (strip window.old.query.path path.now) (window.old.children).tree) }
     ensures err { OnErr result ((window.new.children).tree ≡ (window.old.children).tree) }
 {
     match rest_of(alloc, window.query.path(), path)? {
@@ -87,7 +94,9 @@ fn put_into_window(
 
 // The windows that are not at or under the path.
 pub(crate) fn remove_under(windows: &mut Vec<Window>, path: &Path)
-    ensures { in_query_order (entries_of windows.new.items) ≡ filter (λ w. not (is_at_or_above path.now w.0.path)) (in_query_order (entries_of windows.old.items)) }
+    ensures { in_query_order (entries_of windows.new.items)
+        ≡ filter (λ w. not (is_at_or_above path.now w.0.path)) (in_query_order
+        (entries_of windows.old.items)) }
 {
     windows.retain(|window| !path.is_prefix_of(window.query.path()));
 }
@@ -102,9 +111,13 @@ pub(crate) fn push(
 ) -> Result<bool, AllocError>
     requires under { is_at_or_above query.now.path path.now ≡ true }
     requires levels { length path.now + levels tree.now ≤ 33 }
-    ensures ok { OnOk result (in_query_order (entries_of windows.new.items) ≡ pushed_windows query.now (path.now, tree.now) (in_query_order (entries_of windows.old.items))) }
-    ensures taken { IfOk result (λ taken. taken ≡ is_taken query.now path.now (in_query_order (entries_of windows.old.items))) }
-    ensures err { OnErr result (in_query_order (entries_of windows.new.items) ≡ in_query_order (entries_of windows.old.items)) }
+    ensures ok { OnOk result (in_query_order (entries_of windows.new.items)
+        ≡ pushed_windows query.now (path.now, tree.now) (in_query_order
+        (entries_of windows.old.items))) }
+    ensures taken { IfOk result (λ taken. taken
+        ≡ is_taken query.now path.now (in_query_order (entries_of windows.old.items))) }
+    ensures err { OnErr result (in_query_order (entries_of windows.new.items)
+        ≡ in_query_order (entries_of windows.old.items)) }
 {
     if path == query.path() {
         replace(alloc, windows, query, tree)?;

@@ -3,7 +3,7 @@ use Rattle.std.specs.Prelude.{◌≡◌, true, [], ◌∷◌, map, pos, negsuc, 
 use Rattle.std.specs.declared.cmp.Ordering.TheVariants.{Greater}
 use Rattle.rt_order.specs.KeyOrder.{integer_of, key_cmp}
 use Rattle.rt_order.specs.laws.Examples.{rises}
-use Rattle.rt_push.specs.Laws.{ids}
+use Rattle.rt_push.specs.laws.Ids.{ids}
 
 -- at a moment, again, before it, after it, and there again with no room left: four ids that rise
 abbrev pub FourRise : Type 0

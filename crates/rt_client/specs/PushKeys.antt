@@ -5,7 +5,7 @@ use Rattle.std.specs.List.Sorted.{IsStrictlySortedBy}
 use Rattle.rt_tree.specs.Key.{IsKey}
 use Rattle.rt_order.specs.KeyOrder.{integer_of, key_cmp}
 use Rattle.rt_push.specs.PushIds.{Stamp, push_id}
-use Rattle.rt_push.specs.Laws.{Call, ids, stamps}
+use Rattle.rt_push.specs.laws.Ids.{Call, ids, stamps}
 
 -- a moment in which the text of an id begins with a minus and then a letter or an underscore: 11 * 64^6 to 64^7 - 1
 abbrev pub BeginsAsText : Stamp → Type 0

@@ -9,8 +9,9 @@ pub fn ids_are_keys()
     ensures { IdsAreKeys }
 {}
 
-/// Whatever calls one `PushIds` gets, each id that it gives is above those before it in key order, where the moments used
-/// lie in 755,914,244,096 to 4,398,046,511,103: an id of such a moment is no integer key.
+/// Whatever calls one `PushIds` gets, each id that it gives is above those before it in key order,
+/// where the moments used lie in 755,914,244,096 to 4,398,046,511,103: an id of such a moment is no
+/// integer key.
 pub fn keys_rise()
     ensures rise { KeysRise }
     ensures none { NoIntegerKeys }

@@ -3,7 +3,8 @@ use Rattle.std.specs.Prelude.{ℕ, List, codes}
 use Rattle.rt_console.specs.declared.arguments.ArgumentError.{ArgumentError}
 use Rattle.rt_console.specs.declared.arguments.ArgumentError.TheVariants as argument
 use Rattle.rt_console.specs.declared.error.ConsoleError.{ConsoleError}
-use Rattle.rt_console.specs.declared.error.ConsoleError.TheVariants.{ReadFault, WriteFault, BadWords, NoMemory}
+use Rattle.rt_console.specs.declared.error.ConsoleError.TheVariants.{ReadFault, WriteFault}
+use Rattle.rt_console.specs.declared.error.ConsoleError.TheVariants.{BadWords, NoMemory}
 
 -- the number of an error
 abbrev pub code_of : ConsoleError → ℕ

@@ -324,8 +324,10 @@ impl Script {
         ensures read_fault { IsErrOf result ConsoleError.ReadFault
             → (S.failures reader.old < S.failures reader.new)
             ⊎ (S.given reader.old + most_input < S.given reader.new) }
-        ensures write_fault { IsErrOf result ConsoleError.WriteFault → D.failures writer.old < D.failures writer.new }
-        ensures failed_read { S.failures reader.old < S.failures reader.new → IsErrOf result ConsoleError.ReadFault }
+        ensures write_fault { IsErrOf result ConsoleError.WriteFault
+            → D.failures writer.old < D.failures writer.new }
+        ensures failed_read { S.failures reader.old < S.failures reader.new
+            → IsErrOf result ConsoleError.ReadFault }
         ensures never { IsErrOf result ConsoleError.BadWords → ⊥ }
     {
         match self.read_all(reader, writer) {
@@ -364,8 +366,10 @@ pub fn run_script<S: Source, D: Drain>(
     ensures read_fault { IsErrOf result ConsoleError.ReadFault
         → (S.failures reader.old < S.failures reader.new)
         ⊎ (S.given reader.old + most_input < S.given reader.new) }
-    ensures write_fault { IsErrOf result ConsoleError.WriteFault → D.failures writer.old < D.failures writer.new }
-    ensures failed_read { S.failures reader.old < S.failures reader.new → IsErrOf result ConsoleError.ReadFault }
+    ensures write_fault { IsErrOf result ConsoleError.WriteFault
+        → D.failures writer.old < D.failures writer.new }
+    ensures failed_read { S.failures reader.old < S.failures reader.new
+        → IsErrOf result ConsoleError.ReadFault }
     ensures never { IsErrOf result ConsoleError.BadWords → ⊥ }
 {
     Script::new(alloc).run(reader, writer)

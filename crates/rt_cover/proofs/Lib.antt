@@ -1,10 +1,4 @@
-pub mod CoverLaws
-pub mod FormLaws
-pub mod KeepLaws
-pub mod Pairs
-pub mod Paths
 pub mod RunLaws
-pub mod ShownLaws
-pub mod SoundLaws
+pub mod SeenLaws
 pub mod SupplierLaws
 pub mod TagLaws

@@ -1,8 +1,9 @@
 -- Any run of changes leaves a sound cover, and gives the tags in order.
 use Rattle.std.proofs.Common.{◌≡◌, ℕ, zero, suc, ◌+◌, ◌<◌, Bool, true, false, cond, List, [], ◌∷◌, ◌++◌, map, length, refl, sym, ap, subst, ◌∙◌, arith, Option, Some, None, is_some, length-append}
 use mathlib.Core.Bool.{true≢false}
-use Rattle.std.specs.List.{AllPairs}
+use Rattle.std.specs.List.{All, AllPairs}
 use Rattle.std.specs.Option.{option_map_or}
+use Rattle.rt_query.specs.Supply.{form}
 use Rattle.rt_cover.specs.declared.delta.Delta.{Delta}
 use Rattle.rt_cover.specs.declared.error.CoverError.TheVariants.{UnknownListener, UnknownTag, NoTag}
 use Rattle.rt_cover.specs.declared.kept.Kept.{Kept}
@@ -12,19 +13,24 @@ use Rattle.rt_cover.specs.inside.Sound.{IsSound}
 use Rattle.rt_cover.specs.Shown.{IsTold, counted}
 use Rattle.rt_cover.specs.Runs.{Change, Add, Remove, Revoke, fault, changed, told, after, after_all, tags_of, tags_given}
 use Rattle.rt_cover.specs.laws.Runs.{EveryRunIsSound}
-use Rattle.rt_cover.proofs.ShownLaws.{shown_are_fewest, shown_are_certified}
-use Rattle.rt_cover.proofs.SoundLaws.{sound_after, sound_empty, with_listener_rises, without_listeners_rise, left_after_rise, told_exactly, is_told, is_told_without}
+use Rattle.rt_cover.specs.laws.ShownLaws.{shown_are_fewest, shown_are_certified}
+use Rattle.rt_cover.specs.laws.SoundLaws.{HasForm, sound_after, sound_empty, with_listener_rises, with_listener_forms, without_listeners_rise, without_listeners_forms, left_after_rise, left_after_forms, told_exactly, is_told, is_told_without}
 
 -- the listeners that a change registers
 abbrev listeners_for : Cover → Change → List Registered
-listeners_for c (Add n q) = with_listener c.listeners n q
+listeners_for c (Add n q) = with_listener c.listeners n (form q)
 listeners_for c (Remove ns) = without_listeners c.listeners ns
 listeners_for c (Revoke t) = left_after c t
 
 rises : (c : Cover) (s : Change) → IsSound c → AllPairs (λ (l m : Registered). l.0 < m.0) (listeners_for c s)
-rises c (Add n q) h = with_listener_rises c.listeners n q h.listeners
+rises c (Add n q) h = with_listener_rises c.listeners n (form q) h.listeners
 rises c (Remove ns) h = without_listeners_rise c.listeners ns h.listeners
 rises c (Revoke t) h = left_after_rise c t h.listeners
+
+are_forms : (c : Cover) (s : Change) → IsSound c → All HasForm (listeners_for c s)
+are_forms c (Add n q) h = with_listener_forms c.listeners n q h.forms
+are_forms c (Remove ns) h = without_listeners_forms c.listeners ns h.forms
+are_forms c (Revoke t) h = left_after_forms c t h.forms
 
 changed_is : (c : Cover) (s : Change) → changed c s ≡ with_listeners c (listeners_for c s)
 changed_is c (Add n q) = refl
@@ -40,7 +46,7 @@ has_tag c ls = by (lacks_tag c ls)
     by false h = refl
 
 room : (c : Cover) (s : Change) → is_some (fault c s) ≡ false → lacks_tag c (listeners_for c s) ≡ false
-room c (Add n q) h = has_tag c (with_listener c.listeners n q) h
+room c (Add n q) h = has_tag c (with_listener c.listeners n (form q)) h
 room c (Remove ns) h = has_tag c (without_listeners c.listeners ns) (known (has_unknown c ns) h)
   where
     known : (b : Bool) → is_some (cond b (Some UnknownListener) (fault_of c (without_listeners c.listeners ns))) ≡ false → is_some (fault_of c (without_listeners c.listeners ns)) ≡ false
@@ -62,7 +68,7 @@ started_tags c ls h = ap (λ (d : Delta). length (map (λ (k : Kept). k.tag) d.s
 
 -- what is told of a change: the next tags, as many as the next one rises by
 told_tags : (c : Cover) (s : Change) → IsSound c → IsTold c.next_tag (told c s) × (length (map (λ (k : Kept). k.tag) (told c s).started) ≡ length (started_for c (listeners_for c s)))
-told_tags c (Add n q) h = (is_told c (with_listener c.listeners n q) h (rises c (Add n q) h), started_tags c (with_listener c.listeners n q) h)
+told_tags c (Add n q) h = (is_told c (with_listener c.listeners n (form q)) h (rises c (Add n q) h), started_tags c (with_listener c.listeners n (form q)) h)
 told_tags c (Remove ns) h = (is_told c (without_listeners c.listeners ns) h (rises c (Remove ns) h), started_tags c (without_listeners c.listeners ns) h)
 told_tags c (Revoke t) h = (is_told_without c.next_tag t (difference c (with_listeners c (left_after c t))) (is_told c (left_after c t) h (rises c (Revoke t) h)), started_tags c (left_after c t) h)
 
@@ -94,7 +100,7 @@ steps c s h =
           let given : tags_of c s ≡ map (λ (k : Kept). k.tag) (told c s).started = ap (λ b. cond b [] (map (λ (k : Kept). k.tag) (told c s).started)) e in
           let t = told_tags c s h in
           record {
-            sound = subst IsSound (sym made) (sound_after c (listeners_for c s) h (rises c s h) (room c s e));
+            sound = subst IsSound (sym made) (sound_after c (listeners_for c s) h (rises c s h) (are_forms c s h) (room c s e));
             last = ap (λ (x : Cover). x.last_tag) made;
             tags = subst (λ z. z ≡ counted c.next_tag (length z)) (sym given) ((t.0).next_tags ∙ ap (counted c.next_tag) (sym (length_of_tags (told c s).started)));
             next = omega (arith, ap (λ (x : Cover). x.next_tag) made, ap length given, t.1);

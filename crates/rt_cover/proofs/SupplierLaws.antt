@@ -8,7 +8,7 @@ use Rattle.rt_query.specs.Queries.{Query}
 use Rattle.rt_query.specs.Supply.{does_supply}
 use Rattle.rt_cover.specs.Cover.{Tagged, Supplies}
 use Rattle.rt_cover.specs.Shown.{IsLeastSupplier}
-use Rattle.rt_cover.proofs.Pairs.{Contains-head, Contains-later, AllPairs-first, AllPairs-rest}
+use Rattle.rt_cover.specs.laws.Pairs.{Contains-head, Contains-later, AllPairs-first, AllPairs-rest}
 
 -- the tag of the first that supplies the query
 abbrev first : List Tagged → Query → Option ℕ

@@ -7,14 +7,14 @@ use Rattle.rt_query.specs.Queries.{Query}
 use Rattle.rt_query.specs.QueryEq.{query_eq}
 use Rattle.rt_cover.specs.Cover.{Tagged, is_kept, started, kept_for}
 use Rattle.rt_cover.specs.laws.KeptListens.{AreTagged}
-use Rattle.rt_cover.proofs.CoverLaws.{Contains-from_filter}
+use Rattle.rt_cover.specs.laws.CoverLaws.{Contains-from_filter}
 
 tag_at : (n : ℕ) (fs : List Query) (i : ℕ) (d : Tagged) → i < length fs → (slice_index_or (map (λ (x : ℕ × Query). record { tag = x.0; form = x.1 }) (enumerate_from n fs)) i d).tag ≡ n + i
 tag_at n [] i d lt = absurd (omega arith)
 tag_at n (f ∷ fs) zero d lt = omega arith
 tag_at n (f ∷ fs) (suc i) d lt = omega (arith, tag_at (n + 1) fs i d (omega arith))
 
-length-started : (n : ℕ) (fs : List Query) → length {A = Tagged} (map (λ (x : ℕ × Query). record { tag = x.0; form = x.1 }) (enumerate_from n fs)) ≡ length fs
+pub length-started : (n : ℕ) (fs : List Query) → length {A = Tagged} (map (λ (x : ℕ × Query). record { tag = x.0; form = x.1 }) (enumerate_from n fs)) ≡ length fs
 length-started n [] = refl
 length-started n (f ∷ fs) = ap suc (length-started (n + 1) fs)
 

@@ -4,7 +4,7 @@ use Rattle.std.specs.List.{filter, find, list_any, All, Any, Contains, enumerate
 use Rattle.std.specs.Option.{option_map_or}
 use Rattle.rt_query.specs.Queries.{Query}
 use Rattle.rt_query.specs.QueryEq.{query_eq}
-use Rattle.rt_query.specs.Supply.{form, does_supply}
+use Rattle.rt_query.specs.Supply.{does_supply}
 
 -- ---- sets of forms
 
@@ -29,7 +29,7 @@ needed registered =
 
 -- ---- registered listeners
 
--- a listener's number and its query
+-- a listener's number, and the form that is listened to for it
 abbrev pub Registered : Type 0
 Registered = ℕ × Query
 
@@ -40,12 +40,11 @@ distinct same (x ∷ xs) = x ∷ filter (λ y. not (same x y)) (distinct same xs
 
 -- the registered forms, in order of their least-numbered listeners
 abbrev pub forms : List Registered → List Query
-forms listeners = distinct query_eq (map (λ l. form l.1) listeners)
+forms listeners = distinct query_eq (map (λ l. l.1) listeners)
 
 -- the least number of a listener of that form; the numbers rise
 abbrev pub first_listener : List Registered → Query → ℕ
-first_listener listeners f =
-    option_map_or (λ l. l.0) (find (λ l. query_eq (form l.1) f) listeners) 0
+first_listener listeners f = option_map_or (λ l. l.0) (find (λ l. query_eq l.1 f) listeners) 0
 
 -- ---- listens with tags
 

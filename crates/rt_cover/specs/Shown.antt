@@ -2,7 +2,6 @@
 use Rattle.std.specs.Prelude.{◌≡◌, ◌≢◌, ℕ, zero, suc, ◌+◌, ◌<◌, ◌≤◌, List, [], ◌∷◌, map, length}
 use Rattle.std.specs.List.{All, AllPairs, Any, Contains}
 use Rattle.rt_query.specs.Queries.{Query}
-use Rattle.rt_query.specs.Supply.{form}
 use Rattle.rt_cover.specs.declared.delta.Delta.{Delta}
 use Rattle.rt_cover.specs.declared.kept.Kept.{Kept}
 use Rattle.rt_cover.specs.Cover.{Registered, Supplies, IsFewest, forms, Tagged}
@@ -18,13 +17,11 @@ pub record AreFewest (listeners : List Registered) (shown : List Kept) : Type 0 
   pub supplied : All (λ (l : Registered). Any (λ k. Supplies k.query l.1) shown) listeners
 
 -- the listen is shown with the least-numbered listener of its form, and no other registered form
--- supplies that listener
+-- supplies it
 pub record IsCertified (listeners : List Registered) (k : Kept) : Type 0 where
-  pub query : Query
-  pub registered : Contains listeners (k.listener, query)
-  pub own : form query ≡ k.query
-  pub least : All (λ (l : Registered). form l.1 ≡ k.query → k.listener ≤ l.0) listeners
-  pub alone : All (λ f. Supplies f query → f ≡ k.query) (forms listeners)
+  pub registered : Contains listeners (k.listener, k.query)
+  pub least : All (λ (l : Registered). l.1 ≡ k.query → k.listener ≤ l.0) listeners
+  pub alone : All (λ (l : Registered). Supplies l.1 k.query → l.1 ≡ k.query) listeners
 
 -- a kept listen of that tag supplies the query, and none of a lesser tag does
 pub record IsLeastSupplier (kept : List Tagged) (q : Query) (tag : ℕ) : Type 0 where

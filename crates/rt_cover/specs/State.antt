@@ -15,8 +15,8 @@ use Rattle.rt_cover.specs.declared.kept.Kept.{Kept}
 use Rattle.rt_cover.specs.Cover.{Registered, forms, first_listener, needed, Tagged, started}
 use Rattle.rt_cover.specs.Cover.{kept_for}
 
--- the registered listeners by number, the kept listens by tag, the next tag, and the last one that
--- may be given
+-- the registered listeners by number, each with its form, the kept listens by tag, the next tag, and
+-- the last one that may be given
 pub record Cover : Type 0 where
   pub listeners : List Registered
   pub kept : List Tagged
@@ -33,11 +33,11 @@ empty_cover last_tag = record { listeners = []; kept = []; next_tag = 1; last_ta
 abbrev pub is_registered : List Registered → ℕ → Bool
 is_registered listeners number = list_any (λ l. l.0 == number) listeners
 
--- the listeners with a new one, by number
+-- the listeners with a new one of a form, by number
 abbrev pub with_listener : List Registered → ℕ → Query → List Registered
-with_listener listeners number query =
+with_listener listeners number f =
     filter (λ l. nat_lt l.0 number) listeners
-    ++ (number, query) ∷ filter (λ l. nat_lt number l.0) listeners
+    ++ (number, f) ∷ filter (λ l. nat_lt number l.0) listeners
 
 -- the listeners without those of these numbers
 abbrev pub without_listeners : List Registered → List ℕ → List Registered
@@ -45,11 +45,11 @@ without_listeners listeners numbers = filter (λ l. not (list_any (λ n. n == l.
 
 -- the listeners without those of a form
 abbrev pub without_form : List Registered → Query → List Registered
-without_form listeners f = filter (λ l. not (query_eq (form l.1) f)) listeners
+without_form listeners f = filter (λ l. not (query_eq l.1 f)) listeners
 
 -- the numbers of the listeners of a form
 abbrev pub numbers_of : List Registered → Query → List ℕ
-numbers_of listeners f = map (λ l. l.0) (filter (λ l. query_eq (form l.1) f) listeners)
+numbers_of listeners f = map (λ l. l.0) (filter (λ l. query_eq l.1 f) listeners)
 
 -- the forms that no other registered form supplies
 abbrev pub needed_forms : List Registered → List Query
@@ -106,9 +106,9 @@ difference old new = record {
 
 -- ---- the three changes
 
--- the cover with a new listener
+-- the cover with a new listener, which is registered with the query's form
 abbrev pub added : Cover → ℕ → Query → Cover
-added c number query = with_listeners c (with_listener c.listeners number query)
+added c number query = with_listeners c (with_listener c.listeners number (form query))
 
 -- the cover without these listeners
 abbrev pub removed : Cover → List ℕ → Cover
@@ -139,7 +139,7 @@ fault_of c listeners = if lacks_tag c listeners then Some NoTag else None
 
 -- the refusal of a new listener
 abbrev pub add_fault : Cover → ℕ → Query → Option CoverError
-add_fault c number query = fault_of c (with_listener c.listeners number query)
+add_fault c number query = fault_of c (with_listener c.listeners number (form query))
 
 -- whether one of the numbers is not registered
 abbrev pub has_unknown : Cover → List ℕ → Bool

@@ -1,3 +1,10 @@
+pub mod Paths
+pub mod Pairs
+pub mod FormLaws
+pub mod CoverLaws
+pub mod KeepLaws
+pub mod ShownLaws
+pub mod SoundLaws
 pub mod Needed
 pub mod KeptListens
 pub mod Runs

@@ -9,7 +9,7 @@ use crate::forms::{forms, needed};
 use crate::kept::{Kept, KeptList};
 use crate::listen::{self, Listen};
 use crate::listener::{
-    Listener, first_listener, numbers_of, with_listener, without_form, without_listeners,
+    Listener, first_listener, into_form, numbers_of, with_listener, without_form, without_listeners,
 };
 use crate::numbers::Numbers;
 use crate::plan::Plan;
@@ -50,7 +50,7 @@ impl Model for Cover {
 }
 
 impl Cover {
-    ghost use Rattle.rt_query.specs.Supply.{does_supply};
+    ghost use Rattle.rt_query.specs.Supply.{form, does_supply};
     ghost use Rattle.rt_query.specs.QueryEq.{query_eq};
     ghost use Rattle.rt_cover.specs.Cover.{kept_for};
     ghost use Rattle.rt_cover.specs.State.{empty_cover, is_registered, needed_forms, started_for};
@@ -171,7 +171,8 @@ impl Cover {
 
     // Registers these listeners in place of the ones before, and keeps the listens that they need.
     fn change(&mut self, listeners: Vec<Listener>) -> Result<Delta, CoverError>
-        requires { AllPairs (λ l m. l.0 < m.0) listeners.items }
+        requires rise { AllPairs (λ l m. l.0 < m.0) listeners.items }
+        requires forms { All (λ l. form l.1 ≡ l.1) listeners.items }
         ensures cover { OnOk result (self.new ≡ with_listeners self.old listeners.items) }
         ensures delta { IfOk result (λ delta. delta
             ≡ difference self.old (with_listeners self.old listeners.items)) }
@@ -206,7 +207,8 @@ impl Cover {
         ensures fault { IfErr result (FailsBy (add_fault self.old listener query)) }
         ensures unchanged { OnErr result (self.new ≡ self.old) }
     {
-        let listeners = with_listener(self.alloc(), &self.listeners, listener, query)?;
+        let form = into_form(query)?;
+        let listeners = with_listener(self.alloc(), &self.listeners, listener, form)?;
         self.change(listeners)
     }
 

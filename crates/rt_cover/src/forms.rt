@@ -2,7 +2,7 @@
 ghost use Rattle.std.specs.Prelude.{◌≡◌, ◌++◌, ◌∷◌, [], ◌&&◌, not, if◌then◌else◌, IfOk, OnOk};
 ghost use Rattle.std.specs.List.{list_any};
 ghost use Rattle.rt_query.specs.QueryEq.{query_eq};
-ghost use Rattle.rt_query.specs.Supply.{form, does_supply};
+ghost use Rattle.rt_query.specs.Supply.{does_supply};
 ghost use Rattle.rt_cover.specs.Cover.{forms, needed};
 
 use crate::listener::Listener;
@@ -10,23 +10,23 @@ use crate::supply::supplies;
 use rt_query::Query;
 use std::alloc::{AllocError, Global};
 
-// Whether one of these is the listener's form.
-fn has_form_of(forms: &[Query], listener: &Listener) -> bool
-    ensures { result ≡ list_any (query_eq (form listener.now.1)) forms.now }
+// Whether it is one of these forms.
+fn is_among(form: &Query, forms: &[Query]) -> bool
+    ensures { result ≡ list_any (query_eq form.now) forms.now }
 {
-    forms.iter().any(|form| listener.has_form(form))
+    forms.iter().any(|other| form == other)
 }
 
-// Adds the listener's form, where it is new.
-fn push_form(forms: &mut Vec<Query>, listener: &Listener) -> Result<(), AllocError>
+// Adds a form, where it is new.
+fn push_form(forms: &mut Vec<Query>, form: &Query) -> Result<(), AllocError>
     ensures { OnOk result (forms.new.items ≡ (
-        if list_any (query_eq (form listener.now.1)) forms.old.items then forms.old.items
-        else forms.old.items ++ form listener.now.1 ∷ [])) }
+        if list_any (query_eq form.now) forms.old.items then forms.old.items
+        else forms.old.items ++ form.now ∷ [])) }
 {
-    if has_form_of(forms, listener) {
+    if is_among(form, forms) {
         return Ok(());
     }
-    forms.push(listener.query.listening_form()?)?;
+    forms.push(form.copy()?)?;
     Ok(())
 }
 
@@ -36,7 +36,7 @@ pub(crate) fn forms(alloc: Global, listeners: &[Listener]) -> Result<Vec<Query>,
 {
     let mut forms = Vec::new(alloc);
     for listener in listeners {
-        push_form(&mut forms, listener)?;
+        push_form(&mut forms, &listener.form)?;
     }
     Ok(forms)
 }

@@ -1,21 +1,19 @@
 // Registered listeners.
 ghost use Rattle.std.specs.Prelude.{◌≡◌, ◌++◌, IfOk, OnOk, nat_lt};
 ghost use Rattle.std.specs.List.{filter};
-ghost use Rattle.rt_query.specs.QueryEq.{query_eq};
 ghost use Rattle.rt_query.specs.Supply.{form};
 ghost use Rattle.rt_cover.specs.Cover.{first_listener};
 ghost use Rattle.rt_cover.specs.State.{with_listener, without_listeners, without_form, numbers_of};
 
-use crate::supply::is_plain_at;
 use rt_query::Query;
 use std::alloc::{AllocError, Global};
 use std::marker::Model;
 
-// A registered listener.
+// A registered listener, with the form that is listened to for it.
 #[derive(Drop)]
 pub(crate) struct Listener {
     pub(crate) number: u64,
-    pub(crate) query: Query,
+    pub(crate) form: Query,
 }
 
 impl Model for Listener {
@@ -23,40 +21,39 @@ impl Model for Listener {
 
     ghost Value = { Registered };
 
-    ghost view = { λ a. (a.number, a.query) };
+    ghost view = { λ a. (a.number, a.form) };
 }
 
 impl Listener {
-    // Whether this is what is listened to for it.
-    pub(crate) fn has_form(&self, listen: &Query) -> bool
-        ensures { result ≡ query_eq (form self.now.1) listen.now }
-    {
-        let query = &self.query;
-        if query.is_filtered() {
-            query == listen
-        } else {
-            is_plain_at(listen, query.path())
-        }
-    }
-
     // An equal listener.
     fn copy(&self) -> Result<Listener, AllocError>
         ensures { IfOk result (λ listener. listener ≡ self.now) }
     {
-        let query = self.query.copy()?;
+        let form = self.form.copy()?;
         Ok(Listener {
             number: self.number,
-            query,
+            form,
         })
     }
 }
 
+// What is listened to for a query that is given away.
+pub(crate) fn into_form(query: Query) -> Result<Query, AllocError>
+    ensures { IfOk result (λ f. f ≡ form query) }
+{
+    if query.is_filtered() {
+        Ok(query)
+    } else {
+        query.listening_form()
+    }
+}
+
 // The least number of a listener with that form; the numbers rise. 0 where there is none.
-pub(crate) fn first_listener(listeners: &[Listener], listen: &Query) -> u64
-    ensures { result ≡ first_listener listeners.now listen.now }
+pub(crate) fn first_listener(listeners: &[Listener], form: &Query) -> u64
+    ensures { result ≡ first_listener listeners.now form.now }
 {
     for listener in listeners {
-        if listener.has_form(listen) {
+        if listener.form == *form {
             return listener.number;
         }
     }
@@ -67,13 +64,13 @@ pub(crate) fn first_listener(listeners: &[Listener], listen: &Query) -> u64
 pub(crate) fn numbers_of(
     alloc: Global,
     listeners: &[Listener],
-    listen: &Query,
+    form: &Query,
 ) -> Result<Vec<u64>, AllocError>
-    ensures { IfOk result (λ v. v.items ≡ numbers_of listeners.now listen.now) }
+    ensures { IfOk result (λ v. v.items ≡ numbers_of listeners.now form.now) }
 {
     let mut numbers = Vec::new(alloc);
     for listener in listeners {
-        if listener.has_form(listen) {
+        if listener.form == *form {
             numbers.push(listener.number)?;
         }
     }
@@ -114,18 +111,18 @@ fn push_above(
     Ok(())
 }
 
-// The listeners with a new one, by number.
+// The listeners with a new one of a form, by number.
 pub(crate) fn with_listener(
     alloc: Global,
     listeners: &[Listener],
     number: u64,
-    query: Query,
+    form: Query,
 ) -> Result<Vec<Listener>, AllocError>
-    ensures { IfOk result (λ v. v.items ≡ with_listener listeners.now number query) }
+    ensures { IfOk result (λ v. v.items ≡ with_listener listeners.now number form) }
 {
     let mut all = Vec::new(alloc);
     push_below(&mut all, listeners, number)?;
-    all.push(Listener { number, query })?;
+    all.push(Listener { number, form })?;
     push_above(&mut all, listeners, number)?;
     Ok(all)
 }
@@ -151,13 +148,13 @@ pub(crate) fn without_listeners(
 pub(crate) fn without_form(
     alloc: Global,
     listeners: &[Listener],
-    listen: &Query,
+    form: &Query,
 ) -> Result<Vec<Listener>, AllocError>
-    ensures { IfOk result (λ v. v.items ≡ without_form listeners.now listen.now) }
+    ensures { IfOk result (λ v. v.items ≡ without_form listeners.now form.now) }
 {
     let mut others = Vec::new(alloc);
     for listener in listeners {
-        if !listener.has_form(listen) {
+        if listener.form != *form {
             others.push(listener.copy()?)?;
         }
     }

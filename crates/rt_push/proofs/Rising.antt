@@ -13,7 +13,7 @@ use Rattle.std.proofs.lemmas.Bool.{cases_lt, ltb-true}
 use Rattle.std.proofs.lemmas.Cmp.{nat_list_cmp_total}
 use Rattle.rt_push.specs.Digits.{digit_byte, is_digit, number, text}
 use Rattle.rt_push.specs.PushIds.{Stamp, push_fault, push_id, used}
-use Rattle.rt_push.specs.Laws.{Call, ids, stamps}
+use Rattle.rt_push.specs.laws.Ids.{Call, ids, stamps}
 use Rattle.rt_push.specs.declared.error.PushError.{PushError}
 use Rattle.rt_push.specs.declared.error.PushError.TheVariants.{Exhausted, MomentTooLarge, RandomOutOfRange}
 use Rattle.rt_push.proofs.DigitLaws.{and-first, and-second, text-suc, length-text}

@@ -2,10 +2,9 @@
 --     Digits      numbers in base 64
 --     PushIds     what an id is made of, and which calls are refused
 --     Errors      the number and the name of each refusal
---     Laws        ids rise, and digits stand in them
---     Examples    ids that the prover computes
+-- laws/ has what is stated for callers: ids rise, and digits stand in them (Ids); and ids that the
+-- prover computes (Examples). Nothing is said of a representation alone.
 pub mod Digits
 pub mod Errors
-pub mod Examples
-pub mod Laws
 pub mod PushIds
+pub mod laws

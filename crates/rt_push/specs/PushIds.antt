@@ -13,7 +13,8 @@ Stamp = ℕ × ℕ
 abbrev pub push_id : Stamp → List ℕ
 push_id stamp = text 8 stamp.0 ++ text 12 stamp.1
 
--- what an id is made of: in the moment last used, or before it, the last random part is counted up by one
+-- what an id is made of: in the moment last used, or before it, the last random part is counted up
+-- by one
 abbrev pub used : Option Stamp → ℕ → ℕ → Stamp
 used None now random = (now, random)
 used (Some last) now random = if nat_lt last.0 now then (now, random) else (last.0, last.1 + 1)

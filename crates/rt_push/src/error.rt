@@ -7,10 +7,13 @@ use thiserror::Error;
 /// Why no push id is given.
 #[derive(Clone, Copy, Debug, PartialEq, Eq, Error)]
 pub enum PushError {
+    /// The last random part can be counted up no more.
     #[error("the last random part cannot be counted up in its moment")]
     Exhausted,
+    /// The moment has no eight digits.
     #[error("a moment must be less than 2^48 milliseconds")]
     MomentTooLarge,
+    /// One of the twelve digits is 64 or more.
     #[error("a digit of the random part must be less than 64")]
     RandomOutOfRange,
 }

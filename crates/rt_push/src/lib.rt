@@ -1,4 +1,5 @@
-//! Push ids: keys of 20 characters that rise with the time at which they are made, as Firebase's `push` makes them.
+//! Push ids: keys of 20 characters that rise with the time at which they are made, as Firebase's
+//! `push` makes them.
 //!
 //! ```text
 //! let mut ids = PushIds::new();

@@ -14,7 +14,8 @@ const MOMENTS: u64 = 1 << 48;
 /// The random parts that twelve digits write.
 const RANDOM_PARTS: u128 = 1 << 72;
 
-// What an id is made of: its moment, in milliseconds since 1970, and its random part, the number that twelve digits write.
+// What an id is made of: its moment, in milliseconds since 1970, and its random part, the number
+// that twelve digits write.
 #[derive(Clone, Copy, Debug)]
 struct Stamp {
     moment: u64,
@@ -47,7 +48,8 @@ impl Model for PushIds {
 
     ghost view = { λ ids. option_map (λ last. (last.moment, last.random)) ids.last };
 
-    ghost invariant = { λ ids. IfSome ids.last (λ last. (last.moment < 2 ^ 48) × (last.random < 64 ^ 12)) };
+    ghost invariant = { λ ids. IfSome ids.last (λ last. (last.moment < 2 ^ 48)
+        × (last.random < 64 ^ 12)) };
 }
 
 impl PushIds {
@@ -75,15 +77,18 @@ impl PushIds {
         }
     }
 
-    /// The next id, for the moment now in milliseconds since 1970 and twelve random digits, each from 0 to 63.
+    /// The next id, for the moment now in milliseconds since 1970 and twelve random digits, each
+    /// from 0 to 63.
     ///
-    /// An id is 8 characters of its moment and 12 of its random part, in base 64, most significant first. In the moment
-    /// last used the last random part is counted up by one, as a number; an earlier moment counts as the last one used.
+    /// An id is 8 characters of its moment and 12 of its random part, in base 64, most significant
+    /// first. In the moment last used the last random part is counted up by one, as a number; an
+    /// earlier moment counts as the last one used.
     ///
     /// # Errors
     ///
-    /// `MomentTooLarge` from 2^48 on, then `RandomOutOfRange` where one of the twelve is 64 or more, then `Exhausted`
-    /// where the random part cannot be counted up. A refusal changes nothing.
+    /// `MomentTooLarge` from 2^48 on, then `RandomOutOfRange` where one of the twelve is 64 or
+    /// more, then `Exhausted` where the random part cannot be counted up. A refusal changes
+    /// nothing.
     pub fn next(&mut self, now_ms: u64, random: [u8; 12]) -> Result<[u8; 20], PushError>
         ensures fault { result_err result ≡ push_fault self.old now_ms random }
         ensures id { IfOk result (λ id. id ≡ push_id (used self.old now_ms (number random))) }

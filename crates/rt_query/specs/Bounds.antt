@@ -48,9 +48,12 @@ abbrev pub text_of : Mark → Option (List ℕ)
 text_of (Leaf (text bytes)) = Some bytes
 text_of _ = None
 
--- what a bound names: a value and perhaps a key; in key order, where all values are null, the key of the text that is given
+-- what a bound names: a value and perhaps a key; in key order, where all values are null, the key
+-- of the text that is given
 abbrev pub named : Index → Mark → Option (List ℕ) → Named
-named index value key = if is_by_key index then record { value = Null; key = text_of value } else record { value = value; key = key }
+named index value key =
+    if is_by_key index then record { value = Null; key = text_of value }
+    else record { value = value; key = key }
 
 -- the place on that side of a key, or of all keys
 abbrev pub place_of : Side → Option (List ℕ) → Place

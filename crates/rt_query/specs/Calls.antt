@@ -1,12 +1,16 @@
 -- The calls on a draft: what they make of it, and when they are refused.
-use Rattle.std.specs.Prelude.{ℕ, Bool, false, ◌&&◌, List, [], ◌∷◌, ◌==◌, Option, Some, is_some, is_none, unwrap_or, option_map}
+use Rattle.std.specs.Prelude.{ℕ, Bool, false, ◌&&◌, List, [], ◌∷◌, ◌==◌, Option, Some, is_some}
+use Rattle.std.specs.Prelude.{is_none, unwrap_or, option_map}
 use Rattle.std.specs.List.{find}
 use Rattle.std.specs.Option.{option_map_or}
 use Rattle.rt_tree.specs.Key.{key_fault}
 use Rattle.rt_order.specs.declared.index.Index.{Index}
 use Rattle.rt_order.specs.declared.cut.Mark.{Mark}
 use Rattle.rt_query.specs.declared.error.QueryError.{QueryError}
-use Rattle.rt_query.specs.declared.error.QueryError.TheVariants.{OrderTwice, StartTwice, EndTwice, LimitTwice, LimitZero, NeedsText, KeyNotAllowed, NoOrder, BadBoundKey}
+use Rattle.rt_query.specs.declared.error.QueryError.TheVariants.{OrderTwice, StartTwice, EndTwice}
+use Rattle.rt_query.specs.declared.error.QueryError.TheVariants.{LimitTwice, LimitZero, NeedsText}
+use Rattle.rt_query.specs.declared.error.QueryError.TheVariants.{KeyNotAllowed, NoOrder}
+use Rattle.rt_query.specs.declared.error.QueryError.TheVariants.{BadBoundKey}
 use Rattle.rt_query.specs.declared.limit.Limit.{Limit}
 use Rattle.rt_query.specs.Bounds.{Bound, is_by_key, text_of, named, bounded}
 use Rattle.rt_query.specs.Drafts.{Draft}
@@ -27,7 +31,13 @@ order_of d = unwrap_or d.index Index.Key
 
 -- the draft with a bound at that value and key
 abbrev pub bounded_by : Bound → Mark → Option (List ℕ) → Draft → Draft
-bounded_by b value key d = record { path = d.path; index = d.index; range = bounded b (named (order_of d) value key) d.range; limit = d.limit }
+bounded_by b value key d =
+    record {
+      path = d.path;
+      index = d.index;
+      range = bounded b (named (order_of d) value key) d.range;
+      limit = d.limit;
+    }
 
 -- ---- when they are refused
 

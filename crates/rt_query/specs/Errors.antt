@@ -1,7 +1,10 @@
 -- The number and the name of each refusal.
 use Rattle.std.specs.Prelude.{ℕ, List, codes}
 use Rattle.rt_query.specs.declared.error.QueryError.{QueryError}
-use Rattle.rt_query.specs.declared.error.QueryError.TheVariants.{OrderTwice, StartTwice, EndTwice, LimitTwice, LimitZero, NeedsText, KeyNotAllowed, NoOrder, BadBoundKey, NoMemory}
+use Rattle.rt_query.specs.declared.error.QueryError.TheVariants.{OrderTwice, StartTwice, EndTwice}
+use Rattle.rt_query.specs.declared.error.QueryError.TheVariants.{LimitTwice, LimitZero, NeedsText}
+use Rattle.rt_query.specs.declared.error.QueryError.TheVariants.{KeyNotAllowed, NoOrder}
+use Rattle.rt_query.specs.declared.error.QueryError.TheVariants.{BadBoundKey, NoMemory}
 
 -- the number of a refusal
 abbrev pub code_of : QueryError → ℕ

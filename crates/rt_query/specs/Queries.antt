@@ -16,7 +16,8 @@ pub record Query : Type 0 where
 
 -- the query of all children in key order
 abbrev pub plain : Path → Query
-plain p = record { path = p; index = Index.Key; range = record { lower = None; upper = None }; limit = None }
+plain p =
+    record { path = p; index = Index.Key; range = record { lower = None; upper = None }; limit = None }
 
 -- whether the query has a start, an end or a limit
 abbrev pub is_filtered : Query → Bool
@@ -29,8 +30,11 @@ most_rows (Last n) = n
 
 -- whether each cut of a range has the value null
 abbrev pub HasNullCuts : Range → Type 0
-HasNullCuts range = IfSome range.lower (λ cut. cut.value ≡ Mark.Null) × IfSome range.upper (λ cut. cut.value ≡ Mark.Null)
+HasNullCuts range =
+    IfSome range.lower (λ cut. cut.value ≡ Mark.Null)
+    × IfSome range.upper (λ cut. cut.value ≡ Mark.Null)
 
--- what holds of each query: a limit is at least 1, and in key order, where all values are null, so are those of the cuts
+-- what holds of each query: a limit is at least 1, and in key order, where all values are null, so
+-- are those of the cuts
 abbrev pub IsQuery : Query → Type 0
 IsQuery q = IfSome q.limit (λ l. 1 ≤ most_rows l) × (q.index ≡ Index.Key → HasNullCuts q.range)

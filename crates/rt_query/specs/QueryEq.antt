@@ -19,7 +19,9 @@ limit_eq _ _ = false
 
 -- whether two queries are equal
 abbrev pub query_eq : Query → Query → Bool
-query_eq q r = path_eq q.path r.path && index_eq q.index r.index && range_eq q.range r.range && option_eq limit_eq q.limit r.limit
+query_eq q r =
+    path_eq q.path r.path && index_eq q.index r.index && range_eq q.range r.range
+    && option_eq limit_eq q.limit r.limit
 
 -- whether two rows are equal
 abbrev pub row_eq : Row → Row → Bool

@@ -26,9 +26,12 @@ impl Named {
         key: Option<&str>,
     ) -> Result<Named, QueryError>
         ensures ok { IfOk result (λ n. n ≡ named index.now value (option_copied key.entry)) }
-        ensures refused { IfSome (first_refusal (naming_conditions index.now value (option_copied key.entry))) (λ e. result ≡ Err e) }
-        ensures errors { IfErr result (λ e. (first_refusal (naming_conditions index.now value (option_copied key.entry)) ≡ Some e)
-            ⊎ (e ≡ QueryError.NoMemory) × IsSome (named index.now value (option_copied key.entry)).key) }
+        ensures refused { IfSome (first_refusal
+            (naming_conditions index.now value (option_copied key.entry))) (λ e. result ≡ Err e) }
+        ensures errors { IfErr result (λ e.
+            (first_refusal (naming_conditions index.now value (option_copied key.entry)) ≡ Some e)
+            ⊎ (e ≡ QueryError.NoMemory)
+            × IsSome (named index.now value (option_copied key.entry)).key) }
     {
         match index {
             Index::Key => Named::of_text(alloc, &value, key),
@@ -39,8 +42,10 @@ impl Named {
     // In key order: the key of the text.
     fn of_text(alloc: Global, value: &Mark, key: Option<&str>) -> Result<Named, QueryError>
         ensures ok { IfOk result (λ n. n ≡ named index.Key value.now (option_copied key.entry)) }
-        ensures refused { IfSome (first_refusal (naming_conditions index.Key value.now (option_copied key.entry))) (λ e. result ≡ Err e) }
-        ensures errors { IfErr result (λ e. (first_refusal (naming_conditions index.Key value.now (option_copied key.entry)) ≡ Some e)
+        ensures refused { IfSome (first_refusal
+            (naming_conditions index.Key value.now (option_copied key.entry))) (λ e. result ≡ Err e) }
+        ensures errors { IfErr result (λ e.
+            (first_refusal (naming_conditions index.Key value.now (option_copied key.entry)) ≡ Some e)
             ⊎ (e ≡ QueryError.NoMemory) × IsSome (text_of value.now)) }
     {
         let Some(text) = text_of(value) else {
@@ -58,8 +63,10 @@ impl Named {
     // In any other order: the value, and the key where one is given.
     fn of_value(alloc: Global, value: Mark, key: Option<&str>) -> Result<Named, QueryError>
         ensures ok { IfOk result (λ n. n ≡ named index.Value value (option_copied key.entry)) }
-        ensures refused { IfSome (first_refusal (naming_conditions index.Value value (option_copied key.entry))) (λ e. result ≡ Err e) }
-        ensures errors { IfErr result (λ e. (first_refusal (naming_conditions index.Value value (option_copied key.entry)) ≡ Some e)
+        ensures refused { IfSome (first_refusal
+            (naming_conditions index.Value value (option_copied key.entry))) (λ e. result ≡ Err e) }
+        ensures errors { IfErr result (λ e.
+            (first_refusal (naming_conditions index.Value value (option_copied key.entry)) ≡ Some e)
             ⊎ (e ≡ QueryError.NoMemory) × IsSome (option_copied key.entry)) }
     {
         let key = match key {
@@ -143,7 +150,8 @@ fn copy_value(alloc: Global, value: &Mark) -> Result<Mark, AllocError>
 fn read_key(alloc: Global, text: &str) -> Result<Key, QueryError>
     ensures ok { IfOk result (λ key. key ≡ text.now) }
     ensures refused { IfSome (key_fault text.now) (λ _. result ≡ Err QueryError.BadBoundKey) }
-    ensures errors { IfErr result (λ e. (e ≡ QueryError.BadBoundKey) × IsSome (key_fault text.now) ⊎ (e ≡ QueryError.NoMemory)) }
+    ensures errors { IfErr result (λ e. (e ≡ QueryError.BadBoundKey) × IsSome (key_fault text.now)
+        ⊎ (e ≡ QueryError.NoMemory)) }
 {
     match Key::parse(alloc, text) {
         Ok(key) => Ok(key),

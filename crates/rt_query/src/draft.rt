@@ -1,9 +1,12 @@
 // A query that is being made.
-ghost use Rattle.std.specs.Prelude.{◌≡◌, ◌⊎◌, IfOk, IfErr, IfSome, OnOk, OnErr, IsSome, Some, None, is_some, option_copied};
+ghost use Rattle.std.specs.Prelude.{◌≡◌, ◌⊎◌, IfOk, IfErr, IfSome, OnOk, OnErr, IsSome, Some, None};
+ghost use Rattle.std.specs.Prelude.{is_some, option_copied};
 ghost use Rattle.std.specs.Result.{result_err};
 ghost use Rattle.rt_order.specs.declared.index.Index.TheVariants as index;
-ghost use Rattle.rt_query.specs.Bounds.{start_at, start_after, end_at, end_before, equal_to, named, text_of};
-ghost use Rattle.rt_query.specs.Calls.{ordered_by, order_refusal, limited_to, limit_refusal, order_of, bounded_by, bound_refusal};
+ghost use Rattle.rt_query.specs.Bounds.{start_at, start_after, end_at, end_before, equal_to, named};
+ghost use Rattle.rt_query.specs.Bounds.{text_of};
+ghost use Rattle.rt_query.specs.Calls.{ordered_by, order_refusal, limited_to, limit_refusal};
+ghost use Rattle.rt_query.specs.Calls.{order_of, bounded_by, bound_refusal};
 ghost use Rattle.rt_query.specs.Drafts.{new_draft, finished};
 ghost use Rattle.rt_query.specs.declared.limit.Limit.TheVariants.{First, Last};
 
@@ -39,7 +42,8 @@ impl Model for Draft {
 
     ghost view = { λ a. record { path = a.path; index = a.index; range = a.range; limit = a.limit } };
 
-    ghost invariant = { λ a. IsDraft (record { path = a.path; index = a.index; range = a.range; limit = a.limit }) };
+    ghost invariant = { λ a. IsDraft
+        (record { path = a.path; index = a.index; range = a.range; limit = a.limit }) };
 }
 
 impl Draft {
@@ -112,10 +116,14 @@ impl Draft {
     /// `NoOrder`, `StartTwice`, `NeedsText`, `KeyNotAllowed` or `BadBoundKey`, looked at in this
     /// order; `NoMemory`, where a key is named.
     pub fn start_at(&mut self, value: Mark, key: Option<&str>) -> Result<(), QueryError>
-        ensures made { OnOk result (self.new ≡ bounded_by start_at value (option_copied key.entry) self.old) }
-        ensures refused { IfSome (bound_refusal start_at value (option_copied key.entry) self.old) (λ e. result ≡ Err e) }
-        ensures errors { IfErr result (λ e. (bound_refusal start_at value (option_copied key.entry) self.old ≡ Some e)
-            ⊎ (e ≡ QueryError.NoMemory) × IsSome (named (order_of self.old) value (option_copied key.entry)).key) }
+        ensures made { OnOk result (self.new
+            ≡ bounded_by start_at value (option_copied key.entry) self.old) }
+        ensures refused { IfSome (bound_refusal start_at value (option_copied key.entry) self.old)
+            (λ e. result ≡ Err e) }
+        ensures errors { IfErr result (λ e.
+            (bound_refusal start_at value (option_copied key.entry) self.old ≡ Some e)
+            ⊎ (e ≡ QueryError.NoMemory)
+            × IsSome (named (order_of self.old) value (option_copied key.entry)).key) }
         ensures unchanged { OnErr result (self.new ≡ self.old) }
     {
         let named = self.new_start(value, key)?;
@@ -128,10 +136,14 @@ impl Draft {
     /// # Errors
     /// Those of [`Draft::start_at`].
     pub fn start_after(&mut self, value: Mark, key: Option<&str>) -> Result<(), QueryError>
-        ensures made { OnOk result (self.new ≡ bounded_by start_after value (option_copied key.entry) self.old) }
-        ensures refused { IfSome (bound_refusal start_after value (option_copied key.entry) self.old) (λ e. result ≡ Err e) }
-        ensures errors { IfErr result (λ e. (bound_refusal start_after value (option_copied key.entry) self.old ≡ Some e)
-            ⊎ (e ≡ QueryError.NoMemory) × IsSome (named (order_of self.old) value (option_copied key.entry)).key) }
+        ensures made { OnOk result (self.new
+            ≡ bounded_by start_after value (option_copied key.entry) self.old) }
+        ensures refused { IfSome (bound_refusal start_after value
+            (option_copied key.entry) self.old) (λ e. result ≡ Err e) }
+        ensures errors { IfErr result (λ e.
+            (bound_refusal start_after value (option_copied key.entry) self.old ≡ Some e)
+            ⊎ (e ≡ QueryError.NoMemory)
+            × IsSome (named (order_of self.old) value (option_copied key.entry)).key) }
         ensures unchanged { OnErr result (self.new ≡ self.old) }
     {
         let named = self.new_start(value, key)?;
@@ -145,10 +157,14 @@ impl Draft {
     /// `NoOrder`, `EndTwice`, `NeedsText`, `KeyNotAllowed` or `BadBoundKey`, looked at in this order;
     /// `NoMemory`, where a key is named.
     pub fn end_at(&mut self, value: Mark, key: Option<&str>) -> Result<(), QueryError>
-        ensures made { OnOk result (self.new ≡ bounded_by end_at value (option_copied key.entry) self.old) }
-        ensures refused { IfSome (bound_refusal end_at value (option_copied key.entry) self.old) (λ e. result ≡ Err e) }
-        ensures errors { IfErr result (λ e. (bound_refusal end_at value (option_copied key.entry) self.old ≡ Some e)
-            ⊎ (e ≡ QueryError.NoMemory) × IsSome (named (order_of self.old) value (option_copied key.entry)).key) }
+        ensures made { OnOk result (self.new
+            ≡ bounded_by end_at value (option_copied key.entry) self.old) }
+        ensures refused { IfSome (bound_refusal end_at value (option_copied key.entry) self.old)
+            (λ e. result ≡ Err e) }
+        ensures errors { IfErr result (λ e.
+            (bound_refusal end_at value (option_copied key.entry) self.old ≡ Some e)
+            ⊎ (e ≡ QueryError.NoMemory)
+            × IsSome (named (order_of self.old) value (option_copied key.entry)).key) }
         ensures unchanged { OnErr result (self.new ≡ self.old) }
     {
         let named = self.new_end(value, key)?;
@@ -161,10 +177,14 @@ impl Draft {
     /// # Errors
     /// Those of [`Draft::end_at`].
     pub fn end_before(&mut self, value: Mark, key: Option<&str>) -> Result<(), QueryError>
-        ensures made { OnOk result (self.new ≡ bounded_by end_before value (option_copied key.entry) self.old) }
-        ensures refused { IfSome (bound_refusal end_before value (option_copied key.entry) self.old) (λ e. result ≡ Err e) }
-        ensures errors { IfErr result (λ e. (bound_refusal end_before value (option_copied key.entry) self.old ≡ Some e)
-            ⊎ (e ≡ QueryError.NoMemory) × IsSome (named (order_of self.old) value (option_copied key.entry)).key) }
+        ensures made { OnOk result (self.new
+            ≡ bounded_by end_before value (option_copied key.entry) self.old) }
+        ensures refused { IfSome (bound_refusal end_before value
+            (option_copied key.entry) self.old) (λ e. result ≡ Err e) }
+        ensures errors { IfErr result (λ e.
+            (bound_refusal end_before value (option_copied key.entry) self.old ≡ Some e)
+            ⊎ (e ≡ QueryError.NoMemory)
+            × IsSome (named (order_of self.old) value (option_copied key.entry)).key) }
         ensures unchanged { OnErr result (self.new ≡ self.old) }
     {
         let named = self.new_end(value, key)?;
@@ -172,16 +192,22 @@ impl Draft {
         Ok(())
     }
 
-    /// The children of the value alone; with a key, of these the one of that key. Sets the start and the end.
+    /// The children of the value alone; with a key, of these the one of that key. Sets the start
+    /// and the end.
     ///
     /// # Errors
     /// `NoOrder`, `StartTwice`, `EndTwice`, `NeedsText`, `KeyNotAllowed` or `BadBoundKey`, looked at in
     /// this order; `NoMemory`, where a key is named or the value is a text, which stands in both cuts.
     pub fn equal_to(&mut self, value: Mark, key: Option<&str>) -> Result<(), QueryError>
-        ensures made { OnOk result (self.new ≡ bounded_by equal_to value (option_copied key.entry) self.old) }
-        ensures refused { IfSome (bound_refusal equal_to value (option_copied key.entry) self.old) (λ e. result ≡ Err e) }
-        ensures errors { IfErr result (λ e. (bound_refusal equal_to value (option_copied key.entry) self.old ≡ Some e)
-            ⊎ (e ≡ QueryError.NoMemory) × (IsSome (named (order_of self.old) value (option_copied key.entry)).key ⊎ IsSome (text_of value))) }
+        ensures made { OnOk result (self.new
+            ≡ bounded_by equal_to value (option_copied key.entry) self.old) }
+        ensures refused { IfSome (bound_refusal equal_to value (option_copied key.entry) self.old)
+            (λ e. result ≡ Err e) }
+        ensures errors { IfErr result (λ e.
+            (bound_refusal equal_to value (option_copied key.entry) self.old ≡ Some e)
+            ⊎ (e ≡ QueryError.NoMemory)
+            × (IsSome (named (order_of self.old) value (option_copied key.entry)).key
+            ⊎ IsSome (text_of value))) }
         ensures unchanged { OnErr result (self.new ≡ self.old) }
     {
         let alloc = self.path.allocator();
@@ -252,9 +278,12 @@ impl Draft {
     // What a start names, where there is none yet.
     fn new_start(&self, value: Mark, key: Option<&str>) -> Result<Named, QueryError>
         ensures ok { IfOk result (λ n. n ≡ named (order_of self.now) value (option_copied key.entry)) }
-        ensures refused { IfSome (bound_refusal start_at value (option_copied key.entry) self.now) (λ e. result ≡ Err e) }
-        ensures errors { IfErr result (λ e. (bound_refusal start_at value (option_copied key.entry) self.now ≡ Some e)
-            ⊎ (e ≡ QueryError.NoMemory) × IsSome (named (order_of self.now) value (option_copied key.entry)).key) }
+        ensures refused { IfSome (bound_refusal start_at value (option_copied key.entry) self.now)
+            (λ e. result ≡ Err e) }
+        ensures errors { IfErr result (λ e.
+            (bound_refusal start_at value (option_copied key.entry) self.now ≡ Some e)
+            ⊎ (e ≡ QueryError.NoMemory)
+            × IsSome (named (order_of self.now) value (option_copied key.entry)).key) }
     {
         let index = self.order()?;
         if self.range.lower.is_some() {
@@ -266,9 +295,12 @@ impl Draft {
     // What an end names, where there is none yet.
     fn new_end(&self, value: Mark, key: Option<&str>) -> Result<Named, QueryError>
         ensures ok { IfOk result (λ n. n ≡ named (order_of self.now) value (option_copied key.entry)) }
-        ensures refused { IfSome (bound_refusal end_at value (option_copied key.entry) self.now) (λ e. result ≡ Err e) }
-        ensures errors { IfErr result (λ e. (bound_refusal end_at value (option_copied key.entry) self.now ≡ Some e)
-            ⊎ (e ≡ QueryError.NoMemory) × IsSome (named (order_of self.now) value (option_copied key.entry)).key) }
+        ensures refused { IfSome (bound_refusal end_at value (option_copied key.entry) self.now)
+            (λ e. result ≡ Err e) }
+        ensures errors { IfErr result (λ e.
+            (bound_refusal end_at value (option_copied key.entry) self.now ≡ Some e)
+            ⊎ (e ≡ QueryError.NoMemory)
+            × IsSome (named (order_of self.now) value (option_copied key.entry)).key) }
     {
         let index = self.order()?;
         if self.range.upper.is_some() {

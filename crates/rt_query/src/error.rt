@@ -9,24 +9,34 @@ use thiserror::Error;
 /// Why a call on a draft is refused.
 #[derive(Clone, Copy, Debug, PartialEq, Eq, Error)]
 pub enum QueryError {
+    /// An order was named before.
     #[error("an order is named already")]
     OrderTwice,
+    /// A start was set before.
     #[error("there is a start already")]
     StartTwice,
+    /// An end was set before.
     #[error("there is an end already")]
     EndTwice,
+    /// A limit was set before.
     #[error("there is a limit already")]
     LimitTwice,
+    /// A limit of no rows.
     #[error("a limit must be at least 1")]
     LimitZero,
+    /// In key order, a bound with another value than a text.
     #[error("in key order a bound must be a text")]
     NeedsText,
+    /// In key order, a bound with a key beside its text.
     #[error("in key order a bound has no key besides")]
     KeyNotAllowed,
+    /// A bound before an order.
     #[error("an order must be named before a bound")]
     NoOrder,
+    /// The key of a bound is no key.
     #[error("the key of a bound is no key")]
     BadBoundKey,
+    /// A growth was refused.
     #[error("out of memory")]
     NoMemory,
 }

@@ -1,7 +1,10 @@
 // Outside examples of what queries show: trees compute here.
 #![tactic(auto, unfolding(rt_tree::specs::PathTree::null, rt_tree::specs::PathTree::of_leaf, rt_tree::specs::PathTree::is_null, rt_tree::specs::PathTree::leaf_at, rt_tree::specs::PathTree::sub, rt_tree::specs::PathTree::put, rt_tree::specs::Children::children_of))]
 
-ghost use Rattle.rt_query.specs.laws.Examples.{ByChild, StartsAtValue, StartsAfterValue, StartsAtKey, StartsAfterKey, EndsAtKey, EndsBeforeKey, EqualsKey, LastTwo, FirstTwo, StartsAtText, GivenTwice, BoundTwice, BadlyNamed};
+ghost use Rattle.rt_query.specs.laws.Examples.{ByChild, StartsAtValue, StartsAfterValue};
+ghost use Rattle.rt_query.specs.laws.Examples.{StartsAtKey, StartsAfterKey, EndsAtKey};
+ghost use Rattle.rt_query.specs.laws.Examples.{EndsBeforeKey, EqualsKey, LastTwo, FirstTwo};
+ghost use Rattle.rt_query.specs.laws.Examples.{StartsAtText, GivenTwice, BoundTwice, BadlyNamed};
 
 /// By a child: null, false, true, numbers, texts, objects.
 pub fn order_examples()

@@ -37,7 +37,8 @@ impl Model for Query {
 
     ghost view = { λ a. record { path = a.path; index = a.index; range = a.range; limit = a.limit } };
 
-    ghost invariant = { λ a. IsQuery (record { path = a.path; index = a.index; range = a.range; limit = a.limit }) };
+    ghost invariant = { λ a. IsQuery
+        (record { path = a.path; index = a.index; range = a.range; limit = a.limit }) };
 }
 
 impl Query {

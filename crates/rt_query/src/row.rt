@@ -66,7 +66,9 @@ pub(crate) fn copy_rows(rows: &Vec<Row>) -> Result<Vec<Row>, AllocError>
 
 // `insert`, without an old child.
 fn add(children: &mut BTreeMap<Key, Tree>, key: Key, child: Tree) -> Result<(), AllocError>
-    ensures set { OnOk result ((k : KeyValue) → child_of children.new.entries k ≡ cond (key_eq key k) (Some child) (child_of children.old.entries k)) }
+    ensures set { OnOk result ((k : KeyValue)
+        → child_of children.new.entries k
+        ≡ cond (key_eq key k) (Some child) (child_of children.old.entries k)) }
     ensures ordered { OnOk result (IsOrdered key_cmp children.new) }
 {
     children.insert(key, child)?;
@@ -76,7 +78,8 @@ fn add(children: &mut BTreeMap<Key, Tree>, key: Key, child: Tree) -> Result<(), 
 // The rows as children, in a map.
 fn children_of(alloc: Global, rows: &[Row]) -> Result<BTreeMap<Key, Tree>, AllocError>
     requires { HasDistinctKeys rows.now }
-    ensures same { IfOk result (λ children. (k : KeyValue) → child_of children.entries k ≡ row_at rows.now k) }
+    ensures same { IfOk result (λ children. (k : KeyValue)
+        → child_of children.entries k ≡ row_at rows.now k) }
     ensures ordered { IfOk result (λ children. IsOrdered key_cmp children) }
 {
     let mut children = BTreeMap::new(alloc);

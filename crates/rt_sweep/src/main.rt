@@ -1,12 +1,14 @@
-//! Sweeps of refused allocations. Each run makes a fixed list of calls of one library and looks at every answer. Standard input names
-//! the run and how many allocations are taken before it: `core 12`. `rt try --fail-alloc N` refuses the Nth allocation of the
-//! process, so that this number, from N - 1 down, refuses one allocation of the run after another, in one build.
+//! Sweeps of refused allocations. Each run makes a fixed list of calls of one library and looks at
+//! every answer. Standard input names the run and how many allocations are taken before it: `core
+//! 12`. `rt try --fail-alloc N` refuses the Nth allocation of the process, so that this number,
+//! from N - 1 down, refuses one allocation of the run after another, in one build.
 //!
-//! The exit status is 0 where every answer is right and nothing was refused, 7 where an allocation was refused and the call said so
-//! and left what it has to, 3 where an answer is wrong, and 2 where no such run is known or one of the allocations before it was
-//! refused.
+//! The exit status is 0 where every answer is right and nothing was refused, 7 where an allocation
+//! was refused and the call said so and left what it has to, 3 where an answer is wrong, and 2
+//! where no such run is known or one of the allocations before it was refused.
 #![tactic(auto)]
 
+mod cache;
 mod cover;
 mod order;
 mod outcome;
@@ -26,6 +28,7 @@ use std::process::ExitCode;
 // The run of that name.
 fn run(alloc: Global, name: &str) -> Option<Outcome> {
     match name {
+        "cache" => Some(cache::run(alloc)),
         "core" => Some(sync::run(alloc)),
         "cover" => Some(cover::run(alloc)),
         "order" => Some(order::run(alloc)),

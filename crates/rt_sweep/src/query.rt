@@ -19,16 +19,14 @@ enum Bound {
     EqualTo,
 }
 
-const TREE: &str = "{\"b\":\"b\",\"10\":{\"v\":\"b\"}}";
+const TREE: &str = r#"{"b":"b","10":{"v":"b"}}"#;
 
-const WHOLE: &str = "{\"10\":{\"v\":\"b\"},\"b\":\"b\"}";
-
-// An order, a bound at the text "b" and perhaps a key, and what is shown of the tree.
-const SHOWN: [(Order, Bound, Option<&str>, &str); 4] = [
-    (Order::Key, Bound::EqualTo, None, "{\"b\":\"b\"}"),
-    (Order::Value, Bound::EqualTo, Some("b"), "{\"b\":\"b\"}"),
-    (Order::Value, Bound::StartAfter, Some("a"), WHOLE),
-    (Order::Child, Bound::EndBefore, None, "{\"b\":\"b\"}"),
+// An order, a bound at the text "b" and perhaps a key, and the keys of what is shown of the tree.
+const SHOWN: [(Order, Bound, Option<&str>, &[&str]); 4] = [
+    (Order::Key, Bound::EqualTo, None, &["b"]),
+    (Order::Value, Bound::EqualTo, Some("b"), &["b"]),
+    (Order::Value, Bound::StartAfter, Some("a"), &["b", "10"]),
+    (Order::Child, Bound::EndBefore, None, &["b"]),
 ];
 
 pub(crate) fn run(alloc: Global) -> Outcome {
@@ -36,10 +34,11 @@ pub(crate) fn run(alloc: Global) -> Outcome {
 }
 
 fn queries(alloc: Global) -> Result<(), Outcome> {
+    let tree = Tree::read(alloc, TREE)?;
     for (order, bound, key, want) in SHOWN {
-        bounded_query(alloc, order, bound, key, want)?;
+        bounded_query(alloc, order, bound, key, &tree, want)?;
     }
-    whole_tree(alloc)
+    whole_tree(alloc, &tree)
 }
 
 fn ordered(alloc: Global, order: Order) -> Result<Draft, Outcome> {
@@ -90,12 +89,13 @@ fn bounded_query(
     order: Order,
     bound: Bound,
     key: Option<&str>,
-    want: &str,
+    tree: &Tree,
+    want: &[&str],
 ) -> Result<(), Outcome> {
     let query = query(alloc, order, bound, key)?;
     copied(&query)?;
     listened_to(&query)?;
-    shows(alloc, &query, want)
+    shows(&query, tree, want)
 }
 
 fn copied(query: &Query) -> Result<(), Outcome> {
@@ -109,11 +109,15 @@ fn listened_to(query: &Query) -> Result<(), Outcome> {
     right_if(form == *query)
 }
 
-fn shows(alloc: Global, query: &Query, want: &str) -> Result<(), Outcome> {
-    let tree = Tree::read(alloc, TREE)?;
-    let shown = query.select(&tree)?;
+fn shows(query: &Query, tree: &Tree, want: &[&str]) -> Result<(), Outcome> {
+    let shown = query.select(tree)?;
     copied_view(&shown)?;
-    has_text(alloc, &shown, want)
+    let rows = shown.rows();
+    let are_wanted = rows
+        .iter()
+        .zip(want)
+        .all(|(row, key)| row.key.text() == *key);
+    right_if(rows.len() == want.len() && are_wanted)
 }
 
 fn copied_view(shown: &Shown) -> Result<(), Outcome> {
@@ -121,21 +125,15 @@ fn copied_view(shown: &Shown) -> Result<(), Outcome> {
     right_if(copy == *shown)
 }
 
-fn has_text(alloc: Global, shown: &Shown, want: &str) -> Result<(), Outcome> {
-    let text = shown.tree().text(alloc)?;
-    right_if(text.as_str() == want)
-}
-
 // What the plain query shows of an object and of a leaf.
-fn whole_tree(alloc: Global) -> Result<(), Outcome> {
+fn whole_tree(alloc: Global, tree: &Tree) -> Result<(), Outcome> {
     let query = Query::at(Path::root(alloc)).done();
-    shows(alloc, &query, WHOLE)?;
-    shows_leaf(alloc, &query)
+    shows(&query, tree, &["10", "b"])?;
+    shows_leaf(&query, &Tree::read(alloc, "\"b\"")?)
 }
 
-fn shows_leaf(alloc: Global, query: &Query) -> Result<(), Outcome> {
-    let tree = Tree::read(alloc, "\"b\"")?;
-    let shown = query.select(&tree)?;
+fn shows_leaf(query: &Query, tree: &Tree) -> Result<(), Outcome> {
+    let shown = query.select(tree)?;
     copied_view(&shown)?;
-    has_text(alloc, &shown, "\"b\"")
+    right_if(shown.tree() == tree)
 }

@@ -1,5 +1,6 @@
-// Views of plain and of filtered queries over more than a few children: each is made, touched, renewed and shown. A view that
-// lacked memory in a touch or a renewal has failed; what lacked it in `first` or `shown` can be called again.
+// Views of a plain query and of filtered ones, by key, by child and by value: each is made, touched, renewed and
+// shown. A view that lacked memory in a touch or a renewal has failed; what lacked it in `first` or `shown` can be
+// called again.
 ghost use Rattle.std.specs.Prelude.{◌≤◌, All, IfOk};
 ghost use Rattle.rt_tree.specs.PathTree.{levels};
 
@@ -18,34 +19,42 @@ impl From<ViewError> for Outcome {
     }
 }
 
-// What a run's query shows of its children.
+// What a run's query shows of its children, and in which order.
 #[derive(Clone, Copy)]
 enum Shape {
-    All,
-    FirstThree,
-    LastThreeByValue,
+    AllByKey,
+    FirstTwoByChild,
+    LastTwoByValue,
 }
 
 fn query(alloc: Global, shape: Shape) -> Result<Query, Outcome> {
     let mut draft = Query::at(Path::root(alloc));
     match shape {
-        Shape::All => {}
-        Shape::FirstThree => draft.limit_to_first(3)?,
-        Shape::LastThreeByValue => {
+        Shape::AllByKey => {}
+        Shape::FirstTwoByChild => {
+            draft.order_by_child(Path::root(alloc).child(&Key::parse(alloc, "v")?)?)?;
+            draft.limit_to_first(2)?;
+        }
+        Shape::LastTwoByValue => {
             draft.order_by_value()?;
-            draft.limit_to_last(3)?;
+            draft.limit_to_last(2)?;
         }
     }
     Ok(draft.done())
 }
 
-// The children k10 to k30, each with its number.
+// Puts a number at a key.
+fn put(alloc: Global, tree: &mut Tree, key: &str, number: i64) -> Result<(), Outcome> {
+    let path = Path::root(alloc).child(&Key::parse(alloc, key)?)?;
+    tree.put(alloc, &path, Tree::leaf(Leaf::number(number)?))?;
+    Ok(())
+}
+
+// The children a to d, each with its number.
 fn children(alloc: Global) -> Result<Tree, Outcome> {
     let mut tree = Tree::null();
-    for number in 10..31i64 {
-        let text = format!(in alloc; "/k{number}")?;
-        let path = Path::parse(alloc, text.as_str())?;
-        tree.put(alloc, &path, Tree::leaf(Leaf::number(number)?))?;
+    for (key, number) in [("a", 1), ("b", 2), ("c", 3), ("d", 4)] {
+        put(alloc, &mut tree, key, number)?;
     }
     Ok(tree)
 }
@@ -62,7 +71,8 @@ fn named(alloc: Global, key: &str, value: Tree) -> Result<Vec<(Key, Tree)>, Outc
     Ok(named)
 }
 
-// What a call told and shows since: so many changes, so many rows, the first and the last of them, and so many children read.
+// What a call told and shows since: so many changes, so many rows, the first and the last of them, and so many
+// children read.
 type Row = (usize, usize, &'static str, &'static str, u64);
 
 fn shows(shown: &Shown, row: &Row) -> bool {
@@ -121,62 +131,86 @@ fn touch(view: &mut View, alloc: Global, key: &str, value: Tree, row: &Row) -> R
     told(view, alloc, answer, row)
 }
 
-fn renew(view: &mut View, alloc: Global, row: &Row) -> Result<(), Outcome> {
-    let mut tree = children(alloc)?;
-    tree.put(alloc, &Path::parse(alloc, "/k11")?, Tree::null())?;
-    let answer = view.renew(alloc, tree);
+// The tree without b.
+fn rest(alloc: Global, tree: &Tree) -> Result<Tree, Outcome> {
+    let path = Path::root(alloc).child(&Key::parse(alloc, "b")?)?;
+    let mut rest = tree.copy(alloc)?;
+    rest.put(alloc, &path, Tree::null())?;
+    Ok(rest)
+}
+
+fn renew(view: &mut View, alloc: Global, tree: &Tree, row: &Row) -> Result<(), Outcome> {
+    let rest = rest(alloc, tree)?;
+    let answer = view.renew(alloc, rest);
     told(view, alloc, answer, row)
 }
 
-// The first view; a number in the first child; the last child taken out; and all but k11 anew.
-fn try_view(alloc: Global, shape: Shape, rows: &[Row; 4]) -> Result<(), Outcome> {
-    let (mut view, told) = View::first(alloc, query(alloc, shape)?, children(alloc)?)?;
-    judge(&view, &told, &rows[0])?;
-    touch(
-        &mut view,
-        alloc,
-        "k10",
-        Tree::leaf(Leaf::number(99)?),
-        &rows[1],
-    )?;
-    touch(&mut view, alloc, "k30", Tree::null(), &rows[2])?;
-    renew(&mut view, alloc, &rows[3])
+// An object with a number at "v".
+fn object(alloc: Global) -> Result<Tree, Outcome> {
+    let mut tree = Tree::null();
+    put(alloc, &mut tree, "v", 99)?;
+    Ok(tree)
+}
+
+// The object in the place of the first child; the last child taken out; and all but b anew.
+fn calls(
+    view: &mut View,
+    alloc: Global,
+    told: &ChangeList,
+    tree: &Tree,
+    rows: &[Row; 4],
+) -> Result<(), Outcome> {
+    judge(view, told, &rows[0])?;
+    touch(view, alloc, "a", object(alloc)?, &rows[1])?;
+    touch(view, alloc, "d", Tree::null(), &rows[2])?;
+    renew(view, alloc, tree, &rows[3])
+}
+
+fn first(alloc: Global, query: Query, tree: Tree) -> Result<(View, ChangeList), Outcome> {
+    Ok(View::first(alloc, query, tree)?)
+}
+
+fn try_view(alloc: Global, shape: Shape, tree: &Tree, rows: &[Row; 4]) -> Result<(), Outcome> {
+    let query = query(alloc, shape)?;
+    let (mut view, told) = first(alloc, query, tree.copy(alloc)?)?;
+    calls(&mut view, alloc, &told, tree, rows)
 }
 
 const RUNS: [(Shape, [Row; 4]); 3] = [
     (
-        Shape::All,
+        Shape::AllByKey,
         [
-            (22, 21, "k10", "k30", 21),
-            (2, 21, "k10", "k30", 1),
-            (2, 20, "k10", "k29", 1),
-            (4, 20, "k10", "k30", 40),
+            (5, 4, "a", "d", 4),
+            (2, 4, "a", "d", 1),
+            (2, 3, "a", "c", 1),
+            (4, 3, "a", "d", 6),
         ],
     ),
     (
-        Shape::FirstThree,
+        Shape::FirstTwoByChild,
         [
-            (4, 3, "k10", "k12", 21),
-            (2, 3, "k10", "k12", 1),
-            (0, 3, "k10", "k12", 1),
-            (4, 3, "k10", "k13", 40),
+            (3, 2, "a", "b", 4),
+            (3, 2, "b", "c", 1),
+            (0, 2, "b", "c", 1),
+            (3, 2, "a", "c", 6),
         ],
     ),
     (
-        Shape::LastThreeByValue,
+        Shape::LastTwoByValue,
         [
-            (4, 3, "k28", "k30", 21),
-            (3, 3, "k29", "k10", 1),
-            (3, 3, "k28", "k10", 1),
-            (3, 3, "k28", "k30", 40),
+            (3, 2, "c", "d", 4),
+            (3, 2, "d", "a", 1),
+            (3, 2, "c", "a", 1),
+            (3, 2, "c", "d", 6),
         ],
     ),
 ];
 
 fn views(alloc: Global) -> Result<(), Outcome> {
+    let tree = children(alloc)?;
     for (shape, rows) in RUNS {
-        match try_view(alloc, shape, &rows) {
-            Err(Outcome::Refused) => refused_before(try_view(alloc, shape, &rows))?,
+        match try_view(alloc, shape, &tree, &rows) {
+            Err(Outcome::Refused) => refused_before(try_view(alloc, shape, &tree, &rows))?,
             end => end?,
         }
     }

@@ -36,25 +36,17 @@ fn client(alloc: Global, text: &str) -> Result<String, WireError> {
 
 // ---- small texts
 
-const FROM_SERVER: [(&str, &str); 11] = [
-    (r#"{"k":"ok","id":1}"#, r#"{"id":1,"k":"ok"}"#),
+const FROM_SERVER: [(&str, &str); 6] = [
     (r#"{"k":"ok""#, "NotJson"),
-    ("[1]", "UnknownKind"),
     (r#"{"k":"hello"}"#, "UnknownKind"),
-    (r#"{"k":"ok","id":0}"#, "BadField"),
-    (r#"{"k":"ok","id":9007199254740992}"#, "BadField"),
-    (r#"{"k":"data","tag":1,"path":"/a","value":1.5}"#, "BadTree"),
+    (r#"{"k":"data","tag":1,"path":"/","value":1.5}"#, "BadTree"),
     (
-        r#"{"k":"data","tag":1,"path":"/a.b","value":1.5}"#,
-        "BadField",
+        r#"{"k":"data","tag":1,"path":"a/","value":[null]}"#,
+        r#"{"k":"data","path":"/a","tag":1,"value":null}"#,
     ),
     (
-        r#"{"k":"data","tag":1,"path":"a//b/","value":[null]}"#,
-        r#"{"k":"data","path":"/a/b","tag":1,"value":null}"#,
-    ),
-    (
-        r#"{"k":"data-merge","tag":3,"entries":{"b":{"c":2},"/a":null}}"#,
-        r#"{"entries":{"/a":null,"/b":{"c":2}},"k":"data-merge","tag":3}"#,
+        r#"{"k":"data-merge","tag":3,"entries":{"b":2}}"#,
+        r#"{"entries":{"/b":2},"k":"data-merge","tag":3}"#,
     ),
     (
         r#"{"k":"no","id":2,"why":"denied"}"#,
@@ -63,13 +55,11 @@ const FROM_SERVER: [(&str, &str); 11] = [
 ];
 
 // Texts that are read, and written again as they are.
-const FROM_CLIENT: [&str; 6] = [
-    r#"{"k":"listen","path":"/a","tag":1}"#,
-    r#"{"k":"listen","path":"/a","q":{"limit":["first",2],"lower":["x","after","k"],"order":"/v"},"tag":1}"#,
-    r#"{"k":"listen","path":"/a","q":{"order":"key","upper":[null,"before","k"]},"tag":1}"#,
-    r#"{"id":1,"k":"od-put","path":"/p","value":true}"#,
-    r#"{"entries":{"/p":1},"id":2,"k":"od-merge"}"#,
-    r#"{"id":3,"k":"od-cancel","path":"/p"}"#,
+const FROM_CLIENT: [&str; 4] = [
+    r#"{"k":"listen","path":"/","q":{"lower":["x","after","k"],"order":"/v"},"tag":1}"#,
+    r#"{"id":1,"k":"od-put","path":"/","value":true}"#,
+    r#"{"entries":{"/":1},"id":2,"k":"od-merge"}"#,
+    r#"{"id":3,"k":"od-cancel","path":"/"}"#,
 ];
 
 fn from_server(alloc: Global) -> Result<(), Outcome> {
@@ -92,66 +82,26 @@ fn from_client(alloc: Global) -> Result<(), Outcome> {
     Ok(())
 }
 
-// ---- large texts: what comes before, a piece, how many of it, what comes behind, and the answer
-type Large = (
-    &'static str,
-    &'static str,
-    usize,
-    &'static str,
-    &'static str,
-);
+// ---- a large text: a refusal whose reason is a byte too long
 
-const DATA: &str = r#"{"k":"data","tag":1,"path":"/","value":"#;
-
-const LARGE: [Large; 3] = [
-    (DATA, "[", 200, "}", "NotJson"),
-    (
-        r#"{"k":"no","id":1,"why":""#,
-        "x",
-        65537,
-        r#""}"#,
-        "BadField",
-    ),
-    (
-        r#"{"k":"data","tag":1,"path":"/","value":[null"#,
-        ",null",
-        65535,
-        "]}",
-        "BadTree",
-    ),
-];
-
-fn text_of(alloc: Global, row: &Large) -> Result<String, AllocError> {
-    let mut text = String::from_str(alloc, row.0)?;
-    for _ in 0..row.2 {
-        text.push_str(row.1)?;
+fn long_refusal(alloc: Global) -> Result<String, AllocError> {
+    let mut text = String::with_capacity(alloc, 65600)?;
+    text.push_str(r#"{"k":"no","id":1,"why":""#)?;
+    for _ in 0..65537 {
+        text.push('x')?;
     }
-    text.push_str(row.3)?;
+    text.push_str(r#""}"#)?;
     Ok(text)
 }
 
-// 40 nested arrays.
-fn nested(alloc: Global) -> Result<String, AllocError> {
-    let mut text = text_of(alloc, &(DATA, "[", 40, "", ""))?;
-    for _ in 0..40 {
-        text.push(']')?;
-    }
-    text.push('}')?;
-    Ok(text)
-}
-
-fn large(alloc: Global, text: &str, wanted: &str) -> Result<(), Outcome> {
-    match judged(server(alloc, text), wanted) {
-        Err(Outcome::Refused) => refused_before(judged(server(alloc, text), wanted)),
+fn large_text(alloc: Global) -> Result<(), Outcome> {
+    let text = long_refusal(alloc)?;
+    match judged(server(alloc, text.as_str()), "BadField") {
+        Err(Outcome::Refused) => {
+            refused_before(judged(server(alloc, text.as_str()), "BadField"))
+        }
         end => end,
     }
-}
-
-fn large_texts(alloc: Global) -> Result<(), Outcome> {
-    for row in LARGE {
-        large(alloc, text_of(alloc, &row)?.as_str(), row.4)?;
-    }
-    large(alloc, nested(alloc)?.as_str(), "BadTree")
 }
 
 // ---- parts
@@ -172,8 +122,7 @@ fn copied(alloc: Global) -> Result<String, WireError> {
     Ok(String::from_str(alloc, why.copy(alloc)?.text())?)
 }
 
-const LISTEN: &str =
-    r#"{"k":"listen","path":"/a","q":{"limit":["first",2],"order":"key"},"tag":1}"#;
+const LISTEN: &str = r#"{"k":"listen","path":"/","q":{"limit":["first",2],"order":"key"},"tag":1}"#;
 
 const Q: &str = r#"{"limit":["first",2],"order":"key"}"#;
 
@@ -192,7 +141,7 @@ fn steps(alloc: Global) -> Result<(), Outcome> {
     from_server(alloc)?;
     from_client(alloc)?;
     parts(alloc)?;
-    large_texts(alloc)
+    large_text(alloc)
 }
 
 pub(crate) fn run(alloc: Global) -> Outcome {

@@ -1,12 +1,13 @@
 -- The headline of a run.
-use Rattle.std.proofs.Common.{map, slice_index_or, subst, List, Some}
+use Rattle.std.proofs.Common.{◌≡◌, map, slice_index_or, subst, List, Some}
 use Rattle.std.specs.List.{flat_map, All}
-use Rattle.std.proofs.lemmas.List.Elements.{Contains-get_or}
-use Rattle.rt_cover.specs.Cover.{Tagged, forms}
-use Rattle.rt_cover.proofs.KeepLaws.{forms_are, fewest_kept}
+use Rattle.std.proofs.lemmas.List.Elements.{All-map, Contains-get_or}
+use Rattle.rt_query.specs.Supply.{form}
+use Rattle.rt_cover.specs.Cover.{Registered, Tagged, forms}
+use Rattle.rt_cover.specs.laws.KeepLaws.{form_is_form, forms_are, fewest_kept}
 use Rattle.rt_view.specs.Changes.{Turns}
 use Rattle.rt_sync.specs.declared.step.Step.{Step}
-use Rattle.rt_sync.specs.World.{World, registered}
+use Rattle.rt_sync.specs.World.{World, Listener, registered}
 use Rattle.rt_sync.specs.Answers.{Answer, view_before}
 use Rattle.rt_sync.specs.Runs.{AppliesAll, IsPlainStep}
 use Rattle.rt_sync.specs.Headline.{changes_told, Headline}
@@ -21,8 +22,10 @@ use Rattle.rt_sync.proofs.AloneLaws.{brought_of_applies_all}
 pub headline_of_applies_all : (steps : List Step) (answers : List Answer) (w v : World) → AppliesAll (Some w) steps answers (Some v) → IsSound w → IsAlone w → All IsPlainStep steps → Headline w steps answers v
 headline_of_applies_all steps answers w v all h alone plain =
     let g = sound_of_applies_all steps answers w v all h in
+    let are : All (λ (r : Registered). form r.1 ≡ r.1) (registered v.listeners) =
+    All-map (λ (r : Registered). form r.1 ≡ r.1) (λ (l : Listener). (l.number, form l.query)) v.listeners (λ k d lt. form_is_form (slice_index_or v.listeners k d).query) in
     record {
-      fewest = fewest_kept (forms (registered v.listeners)) (map (λ (k : Tagged). k.form) v.kept) (forms_are (registered v.listeners)) g.only g.all;
+      fewest = fewest_kept (forms (registered v.listeners)) (map (λ (k : Tagged). k.form) v.kept) (forms_are (registered v.listeners) are) g.only g.all;
       written = written_of_applies_all steps answers w v all;
       brought = brought_of_applies_all steps answers w v all alone plain;
       shown = λ k d lt.

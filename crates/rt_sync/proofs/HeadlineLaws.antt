@@ -4,7 +4,7 @@ use Rattle.std.specs.List.{flat_map, All, Contains}
 use Rattle.std.proofs.lemmas.List.Elements.{All-contains}
 use Rattle.std.proofs.lemmas.List.Folds.{Any-from_list_any}
 use Rattle.rt_cover.specs.Cover.{Registered, Tagged, forms, needed}
-use Rattle.rt_cover.proofs.KeepLaws.{kept_for_needed, needed_kept_for}
+use Rattle.rt_cover.specs.laws.KeepLaws.{kept_for_needed, needed_kept_for}
 use Rattle.rt_view.specs.Changes.{Turns}
 use Rattle.rt_sync.specs.declared.error.CoreError.{CoreError}
 use Rattle.rt_sync.specs.declared.limits.Limits.{Limits}

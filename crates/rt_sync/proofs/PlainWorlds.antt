@@ -20,7 +20,7 @@ use Rattle.rt_cache.specs.declared.base.Base.{Base}
 use Rattle.rt_cache.specs.Recover.{reaches, parts_of, with_regions, regions_kept, windows_kept, recover}
 use Rattle.rt_cover.specs.Cover.{needed, Tagged, started, kept_for}
 use Rattle.rt_query.specs.laws.QueryEq.{query_eq_tells}
-use Rattle.rt_cover.proofs.Paths.{rest_of_above}
+use Rattle.rt_cover.specs.laws.Paths.{rest_of_above}
 use Rattle.rt_sync.specs.declared.step.Action.TheVariants.{Put}
 use Rattle.rt_sync.specs.declared.request.Asked.TheVariants.{Now}
 use Rattle.rt_sync.specs.declared.request.Request.{Request}

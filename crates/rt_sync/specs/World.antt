@@ -5,6 +5,7 @@ use Rattle.std.specs.Option.{option_map}
 use Rattle.rt_tree.specs.Assignments.{Assignment}
 use Rattle.rt_query.specs.Queries.{Query}
 use Rattle.rt_query.specs.Select.{Shown}
+use Rattle.rt_query.specs.Supply.{form}
 use Rattle.rt_writes.specs.Writes.{Write}
 use Rattle.rt_cache.specs.Brought.{Brought, nothing_brought}
 use Rattle.rt_cover.specs.Cover.{Registered, Tagged}
@@ -80,9 +81,9 @@ empty_world limits = record {
   next_tag = 1;
 }
 
--- the numbers and queries of the listeners
+-- the numbers of the listeners, with the forms that are listened to for them
 abbrev pub registered : List Listener → List Registered
-registered listeners = map (λ l. (l.number, l.query)) listeners
+registered listeners = map (λ l. (l.number, form l.query)) listeners
 
 -- the paths and trees that an action sets
 abbrev pub entries_of : Action → List Assignment

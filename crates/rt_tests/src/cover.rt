@@ -30,10 +30,18 @@ fn by_child(alloc: Global, path: &str, child: &str) -> Result<Query, Fail> {
     Ok(draft.done())
 }
 
+// All children, by value.
+fn by_value(alloc: Global, path: &str) -> Result<Query, Fail> {
+    let mut draft = Query::at(at(alloc, path)?);
+    draft.order_by_value()?;
+    Ok(draft.done())
+}
+
 // A change of the listeners.
 #[derive(Clone, Copy)]
 enum Change {
     Plain(u64, &'static str),
+    ByValue(u64, &'static str),
     FirstChild(u64, &'static str),
     ByChild(u64, &'static str, &'static str),
     Remove(&'static [u64]),
@@ -100,6 +108,9 @@ fn push_step(texts: &mut String, cover: &mut Cover, change: Change) -> Result<()
     let done = match change {
         Change::Plain(listener, path) => {
             push_change(texts, add(cover, listener, plain(alloc, path)?))
+        }
+        Change::ByValue(listener, path) => {
+            push_change(texts, add(cover, listener, by_value(alloc, path)?))
         }
         Change::FirstChild(listener, path) => {
             push_change(texts, add(cover, listener, first_child(alloc, path)?))
@@ -243,6 +254,23 @@ fn cover_changes_certificate(rt: HostRuntime) -> Result<(), Fail> {
 fn supplier(cover: &Cover, alloc: Global, path: &str) -> Result<Option<u64>, Fail> {
     let query = plain(alloc, path)?;
     Ok(cover.supplier(&query))
+}
+
+// A query of all children is listened to in key order, whatever its own order; with another it
+// shares the listen, and its listener is the one that is left.
+#[test]
+fn registered_forms(rt: HostRuntime) -> Result<(), Fail> {
+    let changes = [
+        Change::ByValue(1, "/a"),
+        Change::Plain(2, "/a"),
+        Change::Remove(&[1]),
+    ];
+    assert_eq!(rt; told_by(rt.alloc(), 100, &changes)?.as_str(), "; +1@1;;");
+    assert_eq!(rt;
+        certificate(rt.alloc(), &changes)?.as_str(),
+        " +1@2 plain /a"
+    );
+    Ok(())
 }
 
 #[test]

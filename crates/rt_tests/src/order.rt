@@ -1,4 +1,5 @@
-// Orders of keys, values and entries, and ranges, over outside values.
+// Orders of keys, values and entries, and ranges, over outside values. A test lends what was made, whether memory sufficed or not, to a
+// function that judges it.
 use rt_order::{
     Cut, Index, Mark, Place, PlacedKey, PlacedRef, Range, SortRef, entry_cmp, key_cmp, leaf_cmp,
     sort_value, value_cmp,
@@ -8,116 +9,84 @@ use std::alloc::{AllocError, Global};
 use std::cmp::Ordering;
 use std::test::Fail;
 
+type Made<T> = Result<T, TreeError>;
+
 // ---- keys
 
-fn keys(alloc: Global, texts: &[&str]) -> Result<Vec<Key>, TreeError> {
-    let mut keys = Vec::new(alloc);
-    for text in texts {
-        keys.push(Key::parse(alloc, text)?)?;
-    }
-    Ok(keys)
+// In their order.
+const KEYS: [&str; 9] = [
+    "-5",
+    "0",
+    "-0",
+    "00",
+    "7",
+    "10",
+    "2147483647",
+    "2147483648",
+    "a",
+];
+
+// How two keys compare: as they are, with their numbers read, and borrowed so.
+fn orders_of(a: &PlacedKey, b: &PlacedKey) -> [Ordering; 3] {
+    [
+        key_cmp(a.key(), b.key()),
+        a.cmp(b),
+        PlacedRef::of(a.key()).cmp(&b.borrowed()),
+    ]
 }
 
-fn joined(alloc: Global, keys: &[Key]) -> Result<String, AllocError> {
-    let mut texts = String::new(alloc);
-    for key in keys {
-        texts.push_str(key.text())?;
-        texts.push(' ')?;
-    }
-    Ok(texts)
-}
-
-const KEYS: [&str; 8] = ["a", "2147483648", "7", "00", "-0", "0", "-5", "2147483647"];
-
-const KEYS_IN_ORDER: &str = "-5 0 -0 00 7 2147483647 2147483648 a ";
-
-fn sorted_keys(alloc: Global) -> Result<String, TreeError> {
-    let mut keys = keys(alloc, &KEYS)?;
-    keys.sort_by(|a, b| key_cmp(a, b))?;
-    Ok(joined(alloc, &keys)?)
-}
-
-#[test]
-fn key_order(rt: HostRuntime) -> Result<(), Fail> {
-    assert_eq!(rt; sorted_keys(rt.alloc())?.as_str(), KEYS_IN_ORDER);
-    Ok(())
-}
-
-fn placed(keys: Vec<Key>) -> Result<Vec<PlacedKey>, AllocError> {
-    let mut placed = Vec::new(*keys.allocator());
-    for key in keys {
-        placed.push(PlacedKey::of(key))?;
-    }
-    Ok(placed)
-}
-
-fn joined_placed(alloc: Global, keys: &[PlacedKey]) -> Result<String, AllocError> {
-    let mut texts = String::new(alloc);
-    for key in keys {
-        texts.push_str(key.key().text())?;
-        texts.push(' ')?;
-    }
-    Ok(texts)
-}
-
-fn sorted_placed(alloc: Global) -> Result<String, TreeError> {
-    let mut placed = placed(keys(alloc, &KEYS)?)?;
-    placed.sort_unstable();
-    Ok(joined_placed(alloc, &placed)?)
+fn key_orders(alloc: Global, a: &str, b: &str) -> Made<[Ordering; 3]> {
+    let a = PlacedKey::of(Key::parse(alloc, a)?);
+    let b = PlacedKey::of(Key::parse(alloc, b)?);
+    Ok(orders_of(&a, &b.copy()?))
 }
 
 #[test]
-fn key_order_of_placed_keys(rt: HostRuntime) -> Result<(), Fail> {
-    assert_eq!(rt; sorted_placed(rt.alloc())?.as_str(), KEYS_IN_ORDER);
-    Ok(())
-}
-
-// How a key compares to another, as a borrowed key to the copy of a held one.
-fn placed_cmp(alloc: Global, a: &str, b: &str) -> Result<Ordering, TreeError> {
-    let a = Key::parse(alloc, a)?;
-    let held = PlacedKey::of(Key::parse(alloc, b)?);
-    let copy = held.copy()?;
-    Ok(PlacedRef::of(&a).cmp(&copy.borrowed()))
-}
-
-#[test]
-fn small_calls_placed_keys(rt: HostRuntime) {
-    let cases = [
-        ("-0", "0", Ok(Ordering::Greater)),
-        ("10", "9", Ok(Ordering::Greater)),
-        ("10", "9a", Ok(Ordering::Less)),
-        ("b", "a", Ok(Ordering::Greater)),
-        ("7", "7", Ok(Ordering::Equal)),
-    ];
-    for (a, b, want) in cases {
-        assert_eq!(rt; placed_cmp(rt.alloc(), a, b), want, "{a} and {b}");
+fn key_order(rt: HostRuntime) {
+    for (m, a) in KEYS.iter().enumerate() {
+        for (n, b) in KEYS.iter().enumerate() {
+            assert_eq!(rt;
+                key_orders(rt.alloc(), a, b),
+                Ok([m.cmp(&n); 3]),
+                "{a} and {b}"
+            );
+        }
     }
 }
 
-fn equal_placed(alloc: Global, a: &str, b: &str) -> Result<(bool, bool), TreeError> {
+fn equal_keys(alloc: Global, a: &str, b: &str) -> Made<(bool, bool)> {
     let a = PlacedKey::of(Key::parse(alloc, a)?);
     let b = PlacedKey::of(Key::parse(alloc, b)?);
     Ok((a == b, a.borrowed() == PlacedRef::of(b.key())))
 }
 
 #[test]
-fn small_calls_equal_placed_keys(rt: HostRuntime) {
-    assert_eq!(rt; equal_placed(rt.alloc(), "00", "00"), Ok((true, true)));
-    assert_eq!(rt; equal_placed(rt.alloc(), "00", "0"), Ok((false, false)));
+fn small_calls_equal_keys(rt: HostRuntime) {
+    assert_eq!(rt; equal_keys(rt.alloc(), "00", "00"), Ok((true, true)));
+    assert_eq!(rt; equal_keys(rt.alloc(), "00", "0"), Ok((false, false)));
 }
 
-fn lent_text(alloc: Global) -> Result<String, TreeError> {
-    let key = Key::parse(alloc, "00")?;
-    Ok(String::from_str(alloc, PlacedRef::of(&key).key().text())?)
+// Whether a borrowed key lends its text.
+fn is_lent(alloc: Global, text: &str) -> Made<bool> {
+    let key = Key::parse(alloc, text)?;
+    Ok(PlacedRef::of(&key).key().text() == text)
 }
 
 #[test]
-fn small_calls_lent_key(rt: HostRuntime) -> Result<(), Fail> {
-    assert_eq!(rt; lent_text(rt.alloc())?.as_str(), "00");
-    Ok(())
+fn small_calls_lent_key(rt: HostRuntime) {
+    assert_eq!(rt; is_lent(rt.alloc(), "00"), Ok(true));
 }
 
 // ---- children
+
+// By key, by value, or by the child at a path.
+fn index(alloc: Global, name: &str) -> Made<Index> {
+    match name {
+        "key" => Ok(Index::Key),
+        "value" => Ok(Index::Value),
+        _ => Path::parse(alloc, name).map(Index::Child),
+    }
+}
 
 // {"a":{"v":{"z":1}},"b":{"v":"9"},"c":{"v":10},"d":{"v":-3},"e":{"v":true},"f":{"v":false},"g":1}
 const CHILDREN: [(&str, &str); 7] = [
@@ -130,89 +99,77 @@ const CHILDREN: [(&str, &str); 7] = [
     ("g", "1"),
 ];
 
-fn children(alloc: Global) -> Result<Vec<(Key, Tree)>, TreeError> {
-    let mut children = Vec::new(alloc);
-    for (key, text) in CHILDREN {
-        let key = Key::parse(alloc, key)?;
-        children.push((key, Tree::read(alloc, text)?))?;
-    }
-    Ok(children)
+type Child = (Made<Key>, Made<Tree>);
+
+fn child(alloc: Global, key: &str, text: &str) -> Child {
+    (Key::parse(alloc, key), Tree::read(alloc, text))
 }
 
-fn joined_children(alloc: Global, children: &[(Key, Tree)]) -> Result<String, AllocError> {
-    let mut texts = String::new(alloc);
-    for child in children {
-        texts.push_str(child.0.text())?;
-    }
-    Ok(texts)
+fn entry_order(index: &Made<Index>, a: &Child, b: &Child) -> Option<Ordering> {
+    let (Ok(index), (Ok(a), Ok(x)), (Ok(b), Ok(y))) = (index, a, b) else {
+        return None;
+    };
+    Some(entry_cmp(index, (a, x), (b, y)))
 }
 
-// The keys of the children in the order of the index.
-fn sorted_children(alloc: Global, index: &Index) -> Result<String, TreeError> {
-    let mut children = children(alloc)?;
-    children.sort_by(|a, b| entry_cmp(index, (&a.0, &a.1), (&b.0, &b.1)))?;
-    Ok(joined_children(alloc, &children)?)
+// The first two children that don't compare as their keys stand in a text.
+fn misplaced(
+    alloc: Global,
+    index: &Made<Index>,
+    order: &str,
+) -> Option<(&'static str, &'static str)> {
+    for (a, x) in CHILDREN {
+        for (b, y) in CHILDREN {
+            let found = entry_order(index, &child(alloc, a, x), &child(alloc, b, y));
+            if found != Some(order.find(a).cmp(&order.find(b))) {
+                return Some((a, b));
+            }
+        }
+    }
+    None
 }
 
 #[test]
-fn child_order_by_rank(rt: HostRuntime) -> Result<(), Fail> {
-    let index = Index::Child(Path::parse(rt.alloc(), "v")?);
-    assert_eq!(rt; sorted_children(rt.alloc(), &index)?.as_str(), "gfedcba");
-    Ok(())
+fn entry_orders(rt: HostRuntime) {
+    for (name, order) in [("key", "abcdefg"), ("value", "gabcdef"), ("v", "gfedcba")] {
+        let index = index(rt.alloc(), name);
+        assert_eq!(rt; misplaced(rt.alloc(), &index, order), None, "{name}");
+    }
 }
 
-#[test]
-fn value_and_key_order(rt: HostRuntime) -> Result<(), Fail> {
-    assert_eq!(rt;
-        sorted_children(rt.alloc(), &Index::Value)?.as_str(),
-        "gabcdef"
-    );
-    assert_eq!(rt;
-        sorted_children(rt.alloc(), &Index::Key)?.as_str(),
-        "abcdefg"
-    );
-    Ok(())
-}
-
-fn rank(index: &Index, tree: &Tree) -> &'static str {
+fn rank(index: &Made<Index>, tree: &Made<Tree>) -> &'static str {
+    let (Ok(index), Ok(tree)) = (index, tree) else {
+        return "none";
+    };
     match sort_value(index, tree) {
-        SortRef::Null => "null ",
-        SortRef::Leaf(_) => "leaf ",
-        SortRef::Object => "object ",
+        SortRef::Null => "null",
+        SortRef::Leaf(_) => "leaf",
+        SortRef::Object => "object",
     }
 }
 
-// What four trees are sorted by.
-fn ranks(alloc: Global, index: &Index) -> Result<String, TreeError> {
-    let mut ranks = String::new(alloc);
-    for text in ["null", "1", "{\"v\":1}", "{\"v\":{\"w\":1}}"] {
-        let tree = Tree::read(alloc, text)?;
-        ranks.push_str(rank(index, &tree))?;
+// What a tree is sorted by: by key, by value, by the child at v.
+const RANKS: [(&str, [&str; 3]); 4] = [
+    ("null", ["null", "null", "null"]),
+    ("1", ["null", "leaf", "null"]),
+    ("{\"v\":1}", ["null", "object", "leaf"]),
+    ("{\"v\":{\"w\":1}}", ["null", "object", "object"]),
+];
+
+fn ranks(alloc: Global, text: &str) -> [&'static str; 3] {
+    let tree = Tree::read(alloc, text);
+    [
+        rank(&index(alloc, "key"), &tree),
+        rank(&index(alloc, "value"), &tree),
+        rank(&index(alloc, "v"), &tree),
+    ]
+}
+
+#[test]
+fn small_calls_sort_values(rt: HostRuntime) {
+    for (text, want) in RANKS {
+        assert_eq!(rt; ranks(rt.alloc(), text), want, "{text}");
     }
-    Ok(ranks)
-}
-
-#[test]
-fn small_calls_sort_values(rt: HostRuntime) -> Result<(), Fail> {
-    assert_eq!(rt;
-        ranks(rt.alloc(), &Index::Key)?.as_str(),
-        "null null null null "
-    );
-    assert_eq!(rt;
-        ranks(rt.alloc(), &Index::Value)?.as_str(),
-        "null leaf object object "
-    );
-    Ok(())
-}
-
-#[test]
-fn small_calls_sort_values_by_child(rt: HostRuntime) -> Result<(), Fail> {
-    let index = Index::Child(Path::parse(rt.alloc(), "v")?);
-    assert_eq!(rt;
-        ranks(rt.alloc(), &index)?.as_str(),
-        "null null leaf object "
-    );
-    Ok(())
 }
 
 // How leaves and sort values compare.
@@ -231,13 +188,15 @@ fn small_calls_value_order(rt: HostRuntime) {
     assert_eq!(rt; comparisons(), want);
 }
 
-fn number_cmp(a: i64, b: i64) -> Result<Ordering, TreeError> {
-    Ok(leaf_cmp(&Leaf::number(a)?, &Leaf::number(b)?))
+fn number_cmp(a: &Made<Leaf>, b: &Made<Leaf>) -> Option<Ordering> {
+    let (Ok(a), Ok(b)) = (a, b) else { return None };
+    Some(leaf_cmp(a, b))
 }
 
 #[test]
 fn small_calls_leaves(rt: HostRuntime) {
-    assert_eq!(rt; number_cmp(10, 9), Ok(Ordering::Greater));
+    let order = number_cmp(&Leaf::number(10), &Leaf::number(9));
+    assert_eq!(rt; order, Some(Ordering::Greater));
 }
 
 // ---- ranges
@@ -252,214 +211,175 @@ enum At {
     Max,
 }
 
-fn place(alloc: Global, at: At) -> Result<Option<Place>, TreeError> {
+fn place(alloc: Global, at: At) -> Made<Option<Place>> {
     match at {
         At::Nowhere => Ok(None),
         At::Min => Ok(Some(Place::Min)),
-        At::BeforeK => Ok(Some(Place::Before(Key::parse(alloc, "k")?))),
-        At::AfterK => Ok(Some(Place::After(Key::parse(alloc, "k")?))),
+        At::BeforeK => Key::parse(alloc, "k").map(|key| Some(Place::Before(key))),
+        At::AfterK => Key::parse(alloc, "k").map(|key| Some(Place::After(key))),
         At::Max => Ok(Some(Place::Max)),
     }
 }
 
-fn cut(alloc: Global, at: At) -> Result<Option<Cut>, TreeError> {
-    let value = Mark::Leaf(Leaf::number(5)?);
-    match place(alloc, at)? {
-        Some(place) => Ok(Some(Cut { value, place })),
-        None => Ok(None),
-    }
+fn cut_of(value: Leaf, place: Option<Place>) -> Option<Cut> {
+    let value = Mark::Leaf(value);
+    place.map(|place| Cut { value, place })
 }
 
-fn range(alloc: Global, lower: At, upper: At) -> Result<Range, TreeError> {
+fn cut(alloc: Global, at: At) -> Made<Option<Cut>> {
+    let value = Leaf::number(5)?;
+    Ok(cut_of(value, place(alloc, at)?))
+}
+
+fn range(alloc: Global, lower: At, upper: At) -> Made<Range> {
     let lower = cut(alloc, lower)?;
     let upper = cut(alloc, upper)?;
     Ok(Range { lower, upper })
 }
 
-fn fives(alloc: Global) -> Result<Vec<(Key, Tree)>, TreeError> {
-    let mut fives = Vec::new(alloc);
-    for text in ["j", "k", "l", "m"] {
-        let key = Key::parse(alloc, text)?;
-        fives.push((key, Tree::leaf(Leaf::number(5)?)))?;
-    }
-    Ok(fives)
+fn is_in(range: &Made<Range>, child: &Child) -> Option<bool> {
+    let (Ok(range), (Ok(key), Ok(tree))) = (range, child) else {
+        return None;
+    };
+    Some(range.has(&Index::Value, key, tree))
 }
 
-// The keys of the children that the range has.
-fn keys_in(alloc: Global, range: &Range, children: &[(Key, Tree)]) -> Result<String, AllocError> {
-    let mut found = String::new(alloc);
-    for child in children {
-        if range.has(&Index::Value, &child.0, &child.1) {
-            found.push_str(child.0.text())?;
-        }
-    }
-    Ok(found)
-}
-
-// Which of four children of the number 5 lie between the cuts.
-fn fives_between(alloc: Global, lower: At, upper: At) -> Result<String, TreeError> {
-    let fives = fives(alloc)?;
-    let range = range(alloc, lower, upper)?;
-    Ok(keys_in(alloc, &range, &fives)?)
-}
-
-const BOUNDS: [(At, At); 8] = [
-    (At::Nowhere, At::Nowhere),
-    (At::Min, At::Nowhere),
-    (At::Max, At::Nowhere),
-    (At::BeforeK, At::Nowhere),
-    (At::AfterK, At::Nowhere),
-    (At::Nowhere, At::AfterK),
-    (At::Nowhere, At::BeforeK),
-    (At::BeforeK, At::AfterK),
-];
-
-fn fives_in_bounds(alloc: Global) -> Result<String, TreeError> {
-    let mut found = String::new(alloc);
-    for (lower, upper) in BOUNDS {
-        found.push_str(fives_between(alloc, lower, upper)?.as_str())?;
-        found.push(' ')?;
-    }
-    Ok(found)
+// Whether of four children of the number 5 just those whose keys a text has lie in the range.
+fn has_just(alloc: Global, range: &Made<Range>, keys: &str) -> bool {
+    ["j", "k", "l", "m"].iter().all(|key| is_in(range, &child(alloc, key, "5"))
+        == Some(keys.contains(*key)))
 }
 
 #[test]
-fn value_bounds(rt: HostRuntime) -> Result<(), Fail> {
-    assert_eq!(rt;
-        fives_in_bounds(rt.alloc())?.as_str(),
-        "jklm jklm  klm lm jk j k "
-    );
-    Ok(())
+fn value_bounds(rt: HostRuntime) {
+    for (lower, upper, keys) in [
+        (At::Nowhere, At::Nowhere, "jklm"),
+        (At::Min, At::Nowhere, "jklm"),
+        (At::Max, At::Nowhere, ""),
+        (At::BeforeK, At::Nowhere, "klm"),
+        (At::AfterK, At::Nowhere, "lm"),
+        (At::Nowhere, At::AfterK, "jk"),
+        (At::Nowhere, At::BeforeK, "j"),
+        (At::BeforeK, At::AfterK, "k"),
+    ] {
+        let range = range(rt.alloc(), lower, upper);
+        assert!(rt; has_just(rt.alloc(), &range, keys), "{lower:?} {upper:?}");
+    }
 }
 
-// ---- copies
+// ---- copies and equality
 
-fn range_text(alloc: Global, lower: At) -> Result<String, TreeError> {
-    let range = range(alloc, lower, At::AfterK)?;
-    Ok(format!(in alloc; "{range:?}")?)
-}
-
-fn copied_range(alloc: Global, range: Range) -> Result<Range, AllocError> {
-    range.copy(alloc)
-}
-
-fn range_copy_text(alloc: Global, lower: At) -> Result<String, TreeError> {
-    let copy = copied_range(alloc, range(alloc, lower, At::AfterK)?)?;
-    Ok(format!(in alloc; "{copy:?}")?)
+// Whether a copy of a range is equal to it.
+fn is_copied(alloc: Global, range: &Made<Range>) -> Option<bool> {
+    let range = range.as_ref().ok()?;
+    let copy = range.copy(alloc).ok()?;
+    Some(copy == *range)
 }
 
 #[test]
-fn copies_of_ranges(rt: HostRuntime) -> Result<(), Fail> {
+fn copies_of_ranges(rt: HostRuntime) {
     for lower in [At::Nowhere, At::Min, At::BeforeK, At::AfterK, At::Max] {
-        let want = range_text(rt.alloc(), lower)?;
-        assert_eq!(rt; range_copy_text(rt.alloc(), lower)?.as_str(), want.as_str());
+        let range = range(rt.alloc(), lower, At::AfterK);
+        assert_eq!(rt; is_copied(rt.alloc(), &range), Some(true), "{lower:?}");
     }
-    Ok(())
 }
 
-fn cut_copy_text(alloc: Global, value: Mark) -> Result<String, AllocError> {
-    let place = Place::Max;
-    let copy = Cut { value, place }.copy(alloc)?;
-    format!(in alloc; "{:?} {:?}", copy.value, copy.place)
+fn text_cut(alloc: Global) -> Made<Cut> {
+    let leaf = Leaf::text(String::from_str(alloc, "b")?)?;
+    Ok(Cut {
+        value: Mark::Leaf(leaf),
+        place: Place::Min,
+    })
 }
 
-fn mark_text(alloc: Global, mark: &Mark) -> Result<String, AllocError> {
-    format!(in alloc; "{mark:?} Max")
+// Whether a copy of a cut, and those of its parts, are equal to it.
+fn is_cut_copied(alloc: Global, cut: &Made<Cut>) -> Option<bool> {
+    let cut = cut.as_ref().ok()?;
+    let copy = cut.copy(alloc).ok()?;
+    Some(copy == *cut && are_parts_copied(alloc, cut) == Some(true))
 }
 
-#[test]
-fn copies_of_null_cuts(rt: HostRuntime) -> Result<(), Fail> {
-    let text = cut_copy_text(rt.alloc(), Mark::Null)?;
-    assert_eq!(rt; text.as_str(), "Null Max");
-    Ok(())
-}
-
-fn text_mark(alloc: Global) -> Result<Mark, TreeError> {
-    Ok(Mark::Leaf(Leaf::text(String::from_str(alloc, "b")?)?))
-}
-
-#[test]
-fn copies_of_text_cuts(rt: HostRuntime) -> Result<(), Fail> {
-    let want = mark_text(rt.alloc(), &text_mark(rt.alloc())?)?;
-    let text = cut_copy_text(rt.alloc(), text_mark(rt.alloc())?)?;
-    assert_eq!(rt; text.as_str(), want.as_str());
-    Ok(())
-}
-
-fn parts_are_copied(alloc: Global) -> Result<bool, TreeError> {
-    let mark = text_mark(alloc)?;
-    let place = Place::Min.copy(alloc)?;
-    Ok(mark.copy(alloc)? == mark && place == Place::Min)
+fn are_parts_copied(alloc: Global, cut: &Cut) -> Option<bool> {
+    let value = cut.value.copy(alloc).ok()?;
+    let is_value = value == cut.value;
+    let place = cut.place.copy(alloc).ok()?;
+    Some(is_value && place == cut.place)
 }
 
 #[test]
-fn copies_of_parts(rt: HostRuntime) {
-    assert_eq!(rt; parts_are_copied(rt.alloc()), Ok(true));
-}
-
-fn index_copy_text(alloc: Global, index: &Index) -> Result<String, AllocError> {
-    let copy = index.copy(alloc)?;
-    format!(in alloc; "{copy:?}")
-}
-
-fn index_text(alloc: Global, index: &Index) -> Result<String, AllocError> {
-    format!(in alloc; "{index:?}")
-}
-
-#[test]
-fn copies_of_indexes(rt: HostRuntime) -> Result<(), Fail> {
-    assert_eq!(rt; index_copy_text(rt.alloc(), &Index::Key)?.as_str(), "Key");
+fn copies_of_cuts(rt: HostRuntime) {
+    let null = Ok(Cut {
+        value: Mark::Null,
+        place: Place::Max,
+    });
+    assert_eq!(rt; is_cut_copied(rt.alloc(), &null), Some(true));
     assert_eq!(rt;
-        index_copy_text(rt.alloc(), &Index::Value)?.as_str(),
-        "Value"
+        is_cut_copied(rt.alloc(), &text_cut(rt.alloc())),
+        Some(true)
     );
-    Ok(())
+}
+
+fn is_index_copied(alloc: Global, index: &Made<Index>) -> Option<bool> {
+    let index = index.as_ref().ok()?;
+    let copy = index.copy(alloc).ok()?;
+    Some(copy == *index)
 }
 
 #[test]
-fn copies_of_child_indexes(rt: HostRuntime) -> Result<(), Fail> {
-    let index = Index::Child(Path::parse(rt.alloc(), "v")?);
-    let want = index_text(rt.alloc(), &index)?;
-    assert_eq!(rt;
-        index_copy_text(rt.alloc(), &index)?.as_str(),
-        want.as_str()
-    );
-    Ok(())
+fn copies_of_indexes(rt: HostRuntime) {
+    for name in ["key", "value", "v"] {
+        let index = index(rt.alloc(), name);
+        assert_eq!(rt; is_index_copied(rt.alloc(), &index), Some(true), "{name}");
+    }
 }
 
-// ---- equality
+fn equal_ranges_are(a: &Made<Range>, b: &Made<Range>) -> Option<bool> {
+    let (Ok(a), Ok(b)) = (a, b) else { return None };
+    Some(a == b)
+}
 
 // Whether the range past k is the range between these cuts.
-fn is_past_k(alloc: Global, lower: At, upper: At) -> Result<bool, TreeError> {
-    let past_k = range(alloc, At::AfterK, At::Nowhere)?;
-    Ok(past_k == range(alloc, lower, upper)?)
-}
-
 #[test]
 fn equal_ranges(rt: HostRuntime) {
-    let cases = [
-        (At::AfterK, At::Nowhere, Ok(true)),
-        (At::AfterK, At::Max, Ok(false)),
-        (At::BeforeK, At::Nowhere, Ok(false)),
-        (At::Nowhere, At::Nowhere, Ok(false)),
-    ];
-    for (lower, upper, want) in cases {
+    let past_k = range(rt.alloc(), At::AfterK, At::Nowhere);
+    for (lower, upper, want) in [
+        (At::AfterK, At::Nowhere, true),
+        (At::AfterK, At::Max, false),
+        (At::BeforeK, At::Nowhere, false),
+        (At::Nowhere, At::Nowhere, false),
+    ] {
+        let range = range(rt.alloc(), lower, upper);
         assert_eq!(rt;
-            is_past_k(rt.alloc(), lower, upper),
-            want,
+            equal_ranges_are(&past_k, &range),
+            Some(want),
             "{lower:?} {upper:?}"
         );
     }
 }
 
-fn is_by_v(alloc: Global, index: &Index) -> Result<bool, TreeError> {
-    Ok(*index == Index::Child(Path::parse(alloc, "v")?))
+fn equal_indexes_are(a: &Made<Index>, b: &Made<Index>) -> Option<bool> {
+    let (Ok(a), Ok(b)) = (a, b) else { return None };
+    Some(a == b)
 }
 
 #[test]
-fn equal_indexes(rt: HostRuntime) -> Result<(), Fail> {
-    let by_v = Index::Child(Path::parse(rt.alloc(), "v")?);
-    assert_eq!(rt; is_by_v(rt.alloc(), &by_v), Ok(true));
-    assert_eq!(rt; is_by_v(rt.alloc(), &Index::Value), Ok(false));
+fn equal_indexes(rt: HostRuntime) {
+    let by_v = index(rt.alloc(), "v");
+    for (name, want) in [("v", true), ("w", false), ("value", false)] {
+        let index = index(rt.alloc(), name);
+        assert_eq!(rt; equal_indexes_are(&by_v, &index), Some(want), "{name}");
+    }
+}
+
+// ---- printing
+
+fn printed(alloc: Global, index: &Index, mark: &Mark, place: &Place) -> Result<String, AllocError> {
+    format!(in alloc; "{index:?} {mark:?} {place:?}")
+}
+
+#[test]
+fn parts_of_queries_are_printed(rt: HostRuntime) -> Result<(), Fail> {
+    let text = printed(rt.alloc(), &Index::Key, &Mark::Null, &Place::Max)?;
+    assert_eq!(rt; text.as_str(), "Key Null Max");
     Ok(())
 }

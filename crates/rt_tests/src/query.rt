@@ -1,19 +1,43 @@
-// Drafts, queries and what they show, over outside values.
+// Drafts, queries and what they show, over outside values. What a call answers is made a text in a
+// function that has the `?`, and judged by `judge`, which has none.
 use rt_order::Mark;
 use rt_query::{Draft, Query, QueryError, Row, Shown};
-use rt_tree::{Key, Leaf, Path, Tree, TreeError};
+use rt_tree::{Key, Path, Tree};
 use std::alloc::{AllocError, Global};
-use std::test::Fail;
+use std::process::Abort;
+
+// Whether a call answered this text, or the refusal of this name.
+fn judge(rt: &impl Abort, answer: Result<String, QueryError>, wanted: &str) {
+    let told = match &answer {
+        Ok(text) => text.as_str(),
+        Err(fault) => fault.name(),
+    };
+    assert_eq!(rt; told, wanted);
+}
+
+// ---- values. A value that can't be made answers NoMemory, which no row wants.
+
+fn path(alloc: Global, text: &str) -> Result<Path, QueryError> {
+    Path::parse(alloc, text).map_err(|_| QueryError::NoMemory)
+}
+
+fn key(alloc: Global, text: &str) -> Result<Key, QueryError> {
+    Key::parse(alloc, text).map_err(|_| QueryError::NoMemory)
+}
+
+fn tree(alloc: Global, text: &str) -> Result<Tree, QueryError> {
+    Tree::read(alloc, text).map_err(|_| QueryError::NoMemory)
+}
+
+// The value of a JSON text: a leaf, or null.
+fn mark(alloc: Global, text: &str) -> Result<Mark, QueryError> {
+    match tree(alloc, text)?.as_leaf() {
+        Some(leaf) => Ok(Mark::Leaf(leaf.copy(alloc)?)),
+        None => Ok(Mark::Null),
+    }
+}
 
 // ---- calls on drafts
-
-// What a bound is given.
-#[derive(Clone, Copy)]
-enum Word<'a> {
-    Null,
-    Number(i64),
-    Text(&'a str),
-}
 
 #[derive(Clone, Copy)]
 enum Bound {
@@ -24,22 +48,23 @@ enum Bound {
     EqualTo,
 }
 
+const BOUNDS: [Bound; 5] = [
+    Bound::StartAt,
+    Bound::StartAfter,
+    Bound::EndAt,
+    Bound::EndBefore,
+    Bound::EqualTo,
+];
+
+// A call on a draft. A bound is given a value as JSON, and perhaps a key.
 #[derive(Clone, Copy)]
 enum Call<'a> {
     ByKey,
     ByChild,
     ByValue,
-    Bound(Bound, Word<'a>, Option<&'a str>),
+    Bound(Bound, &'a str, Option<&'a str>),
     First(u32),
     Last(u32),
-}
-
-fn mark(alloc: Global, word: Word<'_>) -> Result<Mark, Fail> {
-    match word {
-        Word::Null => Ok(Mark::Null),
-        Word::Number(number) => Ok(Mark::Leaf(Leaf::number(number)?)),
-        Word::Text(text) => Ok(Mark::Leaf(Leaf::text(String::from_str(alloc, text)?)?)),
-    }
 }
 
 fn set_bound(
@@ -57,372 +82,230 @@ fn set_bound(
     }
 }
 
-// What a call on a draft answers.
-type Answer = Result<(), QueryError>;
-
 // Makes a call. `ByChild` goes by the child "v".
-fn make_call(alloc: Global, draft: &mut Draft, call: Call<'_>) -> Result<Answer, Fail> {
-    Ok(match call {
+fn make_call(alloc: Global, draft: &mut Draft, call: Call<'_>) -> Result<(), QueryError> {
+    match call {
         Call::ByKey => draft.order_by_key(),
-        Call::ByChild => draft.order_by_child(Path::parse(alloc, "v")?),
+        Call::ByChild => draft.order_by_child(path(alloc, "v")?),
         Call::ByValue => draft.order_by_value(),
         Call::Bound(bound, word, key) => set_bound(draft, bound, mark(alloc, word)?, key),
         Call::First(n) => draft.limit_to_first(n),
         Call::Last(n) => draft.limit_to_last(n),
-    })
+    }
 }
 
-// Makes the calls. What the last of them answers.
-fn make_calls(alloc: Global, draft: &mut Draft, calls: &[Call<'_>]) -> Result<Answer, Fail> {
-    let mut answer = Ok(());
+// The query of these calls, or the first refusal.
+fn query(alloc: Global, calls: &[Call<'_>]) -> Result<Query, QueryError> {
+    let mut draft = Query::at(Path::root(alloc));
     for call in calls {
-        answer = make_call(alloc, draft, *call)?;
+        make_call(alloc, &mut draft, *call)?;
     }
-    Ok(answer)
-}
-
-fn last_answer(alloc: Global, calls: &[Call<'_>]) -> Result<Answer, Fail> {
-    let mut draft = Query::at(Path::root(alloc));
-    make_calls(alloc, &mut draft, calls)
-}
-
-fn query(alloc: Global, calls: &[Call<'_>]) -> Result<Query, Fail> {
-    let mut draft = Query::at(Path::root(alloc));
-    match make_calls(alloc, &mut draft, calls) {
-        Ok(_) => Ok(draft.done()),
-        Err(fail) => Err(fail),
-    }
+    Ok(draft.done())
 }
 
 // ---- what queries show
 
-fn select(query: Query, tree: &Tree) -> Result<Shown, AllocError> {
-    query.select(tree)
+// What the query of these calls shows of a tree.
+fn shown(alloc: Global, calls: &[Call<'_>], text: &str) -> Result<Shown, QueryError> {
+    Ok(query(alloc, calls)?.select(&tree(alloc, text)?)?)
 }
 
-fn shown(alloc: Global, calls: &[Call<'_>], text: &str) -> Result<Shown, Fail> {
-    let tree = Tree::read(alloc, text)?;
-    Ok(select(query(alloc, calls)?, &tree)?)
-}
-
-fn joined_keys(alloc: Global, shown: &Shown) -> Result<String, AllocError> {
+// The keys of its rows, one after another.
+fn keys(alloc: Global, calls: &[Call<'_>], text: &str) -> Result<String, QueryError> {
+    let shown = shown(alloc, calls, text)?;
     let mut keys = String::new(alloc);
     for row in shown.rows() {
         keys.push_str(row.key.text())?;
     }
-    keys.push(' ')?;
     Ok(keys)
-}
-
-// The keys that the query of these calls shows, one after another.
-fn keys_shown(alloc: Global, calls: &[Call<'_>], text: &str) -> Result<String, Fail> {
-    let shown = shown(alloc, calls, text)?;
-    Ok(joined_keys(alloc, &shown)?)
 }
 
 const MIXED: &str =
-    "{\"a\":{\"v\":{\"z\":1}},\"b\":{\"v\":\"9\"},\"c\":{\"v\":10},\"d\":{\"v\":-3},\"e\":{\"v\":true},\"f\":{\"v\":false},\"g\":1}";
+    r#"{"a":{"v":{"z":1}},"b":{"v":"9"},"c":{"v":10},"d":{"v":-3},"e":{"v":true},"f":{"v":false},"g":1}"#;
 
 #[test]
-fn child_order_by_rank(rt: HostRuntime) -> Result<(), Fail> {
-    assert_eq!(rt;
-        keys_shown(rt.alloc(), &[Call::ByChild], MIXED)?.as_str(),
-        "gfedcba "
-    );
-    Ok(())
+fn child_order_by_rank(rt: HostRuntime) {
+    judge(&rt, keys(rt.alloc(), &[Call::ByChild], MIXED), "gfedcba");
 }
 
-const FIVES: &str = "{\"j\":5,\"k\":5,\"l\":5,\"m\":5}";
+const FIVES: &str = r#"{"j":5,"k":5,"l":5,"m":5}"#;
 
-const BOUNDS: [Bound; 5] = [
-    Bound::StartAt,
-    Bound::StartAfter,
-    Bound::EndAt,
-    Bound::EndBefore,
-    Bound::EqualTo,
+const WORDS: &str = r#"{"j":"b","k":"b","l":"c"}"#;
+
+const KEYS: &str = r#"{"a":1,"b":2,"c":4,"10":3}"#;
+
+// An order, what a bound names, a tree, and the keys that each of the five bounds shows.
+const BOUNDED: [(Call<'static>, &str, Option<&str>, &str, [&str; 5]); 4] = [
+    (
+        Call::ByValue,
+        "5",
+        None,
+        FIVES,
+        ["jklm", "", "jklm", "", "jklm"],
+    ),
+    (
+        Call::ByValue,
+        "5",
+        Some("k"),
+        FIVES,
+        ["klm", "lm", "jk", "j", "k"],
+    ),
+    (
+        Call::ByValue,
+        r#""b""#,
+        None,
+        WORDS,
+        ["jkl", "l", "jk", "", "jk"],
+    ),
+    // In key order a bound is given a text and no key.
+    (
+        Call::ByKey,
+        r#""b""#,
+        None,
+        KEYS,
+        ["bc", "c", "10ab", "10a", "b"],
+    ),
 ];
 
-// What each bound at that value shows in that order.
-fn keys_bounded(
-    alloc: Global,
-    order: Call<'_>,
-    word: Word<'_>,
-    key: Option<&str>,
-    text: &str,
-) -> Result<String, Fail> {
-    let mut keys = String::new(alloc);
-    for bound in BOUNDS {
-        let calls = [order, Call::Bound(bound, word, key)];
-        keys.push_str(keys_shown(alloc, &calls, text)?.as_str())?;
+#[test]
+fn value_bounds(rt: HostRuntime) {
+    for (order, word, key, text, wanted) in BOUNDED {
+        for (bound, wanted) in BOUNDS.iter().zip(&wanted) {
+            let calls = [order, Call::Bound(*bound, word, key)];
+            judge(&rt, keys(rt.alloc(), &calls, text), wanted);
+        }
     }
-    Ok(keys)
-}
-
-// Four children of the number 5.
-fn among_fives(alloc: Global, key: Option<&str>) -> Result<String, Fail> {
-    keys_bounded(alloc, Call::ByValue, Word::Number(5), key, FIVES)
 }
 
 #[test]
-fn value_bounds(rt: HostRuntime) -> Result<(), Fail> {
-    assert_eq!(rt;
-        among_fives(rt.alloc(), None)?.as_str(),
-        "jklm  jklm  jklm "
-    );
-    assert_eq!(rt;
-        among_fives(rt.alloc(), Some("k"))?.as_str(),
-        "klm lm jk j k "
-    );
-    Ok(())
-}
-
-const WORDS: &str = "{\"j\":\"b\",\"k\":\"b\",\"l\":\"c\"}";
-
-#[test]
-fn text_bounds(rt: HostRuntime) -> Result<(), Fail> {
-    let word = Word::Text("b");
-    let keys = keys_bounded(rt.alloc(), Call::ByValue, word, None, WORDS)?;
-    assert_eq!(rt; keys.as_str(), "jkl l jk  jk ");
-    Ok(())
-}
-
-// In key order a bound is given a text and no key.
-#[test]
-fn key_bounds(rt: HostRuntime) -> Result<(), Fail> {
-    let word = Word::Text("b");
-    let tree = "{\"a\":1,\"b\":2,\"c\":4,\"10\":3}";
-    let keys = keys_bounded(rt.alloc(), Call::ByKey, word, None, tree)?;
-    assert_eq!(rt; keys.as_str(), "bc c 10ab 10a b ");
-    Ok(())
-}
-
-const LIMITS: [Call<'static>; 4] = [Call::Last(2), Call::Last(9), Call::First(2), Call::First(9)];
-
-fn keys_limited(alloc: Global) -> Result<String, Fail> {
-    let mut keys = String::new(alloc);
-    for limit in LIMITS {
-        let start = Call::Bound(Bound::StartAt, Word::Number(5), None);
-        let calls = [Call::ByValue, start, limit];
-        keys.push_str(keys_shown(alloc, &calls, FIVES)?.as_str())?;
+fn limits(rt: HostRuntime) {
+    for (limit, wanted) in [
+        (Call::Last(2), "lm"),
+        (Call::Last(9), "jklm"),
+        (Call::First(2), "jk"),
+        (Call::First(9), "jklm"),
+    ] {
+        judge(
+            &rt,
+            keys(rt.alloc(), &[Call::ByValue, START, limit], FIVES),
+            wanted,
+        );
     }
-    Ok(keys)
-}
-
-#[test]
-fn limits(rt: HostRuntime) -> Result<(), Fail> {
-    assert_eq!(rt; keys_limited(rt.alloc())?.as_str(), "lm jklm jk jklm ");
-    Ok(())
 }
 
 // ---- refusals
 
-const START: Call<'static> = Call::Bound(Bound::StartAt, Word::Number(1), None);
+const START: Call<'static> = Call::Bound(Bound::StartAt, "1", None);
 
-const AFTER: Call<'static> = Call::Bound(Bound::StartAfter, Word::Number(2), None);
+const AFTER: Call<'static> = Call::Bound(Bound::StartAfter, "2", None);
 
-const SAME: Call<'static> = Call::Bound(Bound::EqualTo, Word::Number(1), None);
+const SAME: Call<'static> = Call::Bound(Bound::EqualTo, "1", None);
 
-const END: Call<'static> = Call::Bound(Bound::EndAt, Word::Number(2), None);
+const END: Call<'static> = Call::Bound(Bound::EndAt, "2", None);
 
-const BEFORE: Call<'static> = Call::Bound(Bound::EndBefore, Word::Number(2), None);
+const BEFORE: Call<'static> = Call::Bound(Bound::EndBefore, "2", None);
 
 // Calls, the last of which is refused.
-const GIVEN_TWICE: [(&[Call<'static>], QueryError); 13] = [
-    (&[Call::ByKey, Call::ByValue], QueryError::OrderTwice),
-    (&[Call::ByValue, Call::ByKey], QueryError::OrderTwice),
-    (&[Call::ByChild, Call::ByChild], QueryError::OrderTwice),
-    (&[Call::ByValue, START, START], QueryError::StartTwice),
-    (&[Call::ByValue, START, AFTER], QueryError::StartTwice),
-    (&[Call::ByValue, START, SAME], QueryError::StartTwice),
-    (&[Call::ByValue, SAME, END], QueryError::EndTwice),
-    (&[Call::ByValue, END, BEFORE], QueryError::EndTwice),
-    (&[Call::ByValue, END, SAME], QueryError::EndTwice),
-    (&[Call::First(1), Call::Last(1)], QueryError::LimitTwice),
-    (&[Call::Last(1), Call::First(0)], QueryError::LimitTwice),
-    (&[Call::First(0)], QueryError::LimitZero),
-    (&[Call::Last(0)], QueryError::LimitZero),
+const GIVEN_TWICE: [(&[Call<'static>], &str); 13] = [
+    (&[Call::ByKey, Call::ByValue], "OrderTwice"),
+    (&[Call::ByValue, Call::ByKey], "OrderTwice"),
+    (&[Call::ByChild, Call::ByChild], "OrderTwice"),
+    (&[Call::ByValue, START, START], "StartTwice"),
+    (&[Call::ByValue, START, AFTER], "StartTwice"),
+    (&[Call::ByValue, START, SAME], "StartTwice"),
+    (&[Call::ByValue, SAME, END], "EndTwice"),
+    (&[Call::ByValue, END, BEFORE], "EndTwice"),
+    (&[Call::ByValue, END, SAME], "EndTwice"),
+    (&[Call::First(1), Call::Last(1)], "LimitTwice"),
+    (&[Call::Last(1), Call::First(0)], "LimitTwice"),
+    (&[Call::First(0)], "LimitZero"),
+    (&[Call::Last(0)], "LimitZero"),
 ];
 
 #[test]
-fn draft_refusals_given_twice(rt: HostRuntime) -> Result<(), Fail> {
-    for (calls, want) in GIVEN_TWICE {
-        let answer = last_answer(rt.alloc(), calls)?;
-        assert_eq!(rt; answer, Err(want));
+fn draft_refusals_given_twice(rt: HostRuntime) {
+    for (calls, wanted) in GIVEN_TWICE {
+        judge(&rt, keys(rt.alloc(), calls, "null"), wanted);
     }
-    Ok(())
 }
 
-// An order, and what a bound is given.
-const NAMINGS: [(Call<'static>, Word<'static>, Option<&str>, Answer); 9] = [
-    (
-        Call::ByKey,
-        Word::Number(5),
-        None,
-        Err(QueryError::NeedsText),
-    ),
-    (Call::ByKey, Word::Null, None, Err(QueryError::NeedsText)),
-    (
-        Call::ByKey,
-        Word::Text("a"),
-        Some("k"),
-        Err(QueryError::KeyNotAllowed),
-    ),
-    (
-        Call::Last(1),
-        Word::Number(1),
-        None,
-        Err(QueryError::NoOrder),
-    ),
-    (
-        Call::ByKey,
-        Word::Text("a.b"),
-        None,
-        Err(QueryError::BadBoundKey),
-    ),
-    (
-        Call::ByValue,
-        Word::Number(1),
-        Some("a.b"),
-        Err(QueryError::BadBoundKey),
-    ),
-    (
-        Call::ByChild,
-        Word::Number(1),
-        Some(""),
-        Err(QueryError::BadBoundKey),
-    ),
-    (Call::ByValue, Word::Null, None, Ok(())),
-    (Call::ByChild, Word::Text("a.b"), Some("a"), Ok(())),
+// An order, what a bound names, and what each of the five bounds answers.
+const NAMINGS: [(Call<'static>, &str, Option<&str>, &str); 9] = [
+    (Call::ByKey, "5", None, "NeedsText"),
+    (Call::ByKey, "null", None, "NeedsText"),
+    (Call::ByKey, r#""a""#, Some("k"), "KeyNotAllowed"),
+    (Call::Last(1), "1", None, "NoOrder"),
+    (Call::ByKey, r#""a.b""#, None, "BadBoundKey"),
+    (Call::ByValue, "1", Some("a.b"), "BadBoundKey"),
+    (Call::ByChild, "1", Some(""), "BadBoundKey"),
+    (Call::ByValue, "null", None, ""),
+    (Call::ByChild, r#""a.b""#, Some("a"), ""),
 ];
 
-// Whether each of the five bounds answers so.
-fn all_answer(
-    alloc: Global,
-    order: Call<'_>,
-    word: Word<'_>,
-    key: Option<&str>,
-    want: Answer,
-) -> Result<bool, Fail> {
-    for bound in BOUNDS {
-        let calls = [order, Call::Bound(bound, word, key)];
-        if last_answer(alloc, &calls)? != want {
-            return Ok(false);
+#[test]
+fn draft_refusals_badly_named(rt: HostRuntime) {
+    for (order, word, key, wanted) in NAMINGS {
+        for bound in BOUNDS {
+            let calls = [order, Call::Bound(bound, word, key)];
+            judge(&rt, keys(rt.alloc(), &calls, "null"), wanted);
         }
     }
-    Ok(true)
 }
 
-#[test]
-fn draft_refusals_badly_named(rt: HostRuntime) -> Result<(), Fail> {
-    for (order, word, key, want) in NAMINGS {
-        assert!(rt; all_answer(rt.alloc(), order, word, key, want)?, "{want:?}");
-    }
-    Ok(())
-}
-
-const TEXTS: [(QueryError, u8, &str, &str); 10] = [
+const REFUSALS: [(QueryError, &str); 10] = [
     (
         QueryError::OrderTwice,
-        1,
-        "OrderTwice",
-        "an order is named already",
+        "1 OrderTwice: an order is named already",
     ),
     (
         QueryError::StartTwice,
-        2,
-        "StartTwice",
-        "there is a start already",
+        "2 StartTwice: there is a start already",
     ),
-    (
-        QueryError::EndTwice,
-        3,
-        "EndTwice",
-        "there is an end already",
-    ),
+    (QueryError::EndTwice, "3 EndTwice: there is an end already"),
     (
         QueryError::LimitTwice,
-        4,
-        "LimitTwice",
-        "there is a limit already",
+        "4 LimitTwice: there is a limit already",
     ),
     (
         QueryError::LimitZero,
-        5,
-        "LimitZero",
-        "a limit must be at least 1",
+        "5 LimitZero: a limit must be at least 1",
     ),
     (
         QueryError::NeedsText,
-        6,
-        "NeedsText",
-        "in key order a bound must be a text",
+        "6 NeedsText: in key order a bound must be a text",
     ),
     (
         QueryError::KeyNotAllowed,
-        7,
-        "KeyNotAllowed",
-        "in key order a bound has no key besides",
+        "7 KeyNotAllowed: in key order a bound has no key besides",
     ),
     (
         QueryError::NoOrder,
-        8,
-        "NoOrder",
-        "an order must be named before a bound",
+        "8 NoOrder: an order must be named before a bound",
     ),
     (
         QueryError::BadBoundKey,
-        9,
-        "BadBoundKey",
-        "the key of a bound is no key",
+        "9 BadBoundKey: the key of a bound is no key",
     ),
-    (QueryError::NoMemory, 10, "NoMemory", "out of memory"),
+    (QueryError::NoMemory, "10 NoMemory: out of memory"),
 ];
 
-fn error_text(alloc: Global, error: QueryError) -> Result<String, AllocError> {
-    format!(in alloc; "{error}")
+fn refusal(alloc: Global, fault: QueryError) -> Result<String, QueryError> {
+    Ok(format!(in alloc; "{} {}: {fault}", fault.code(), fault.name())?)
 }
 
 #[test]
-fn errors_have_texts(rt: HostRuntime) -> Result<(), Fail> {
-    for (error, _, _, text) in TEXTS {
-        assert_eq!(rt; error_text(rt.alloc(), error)?.as_str(), text);
+fn refusals_are_told(rt: HostRuntime) {
+    for (fault, wanted) in REFUSALS {
+        judge(&rt, refusal(rt.alloc(), fault), wanted);
     }
-    Ok(())
-}
-
-#[test]
-fn errors_have_codes_and_names(rt: HostRuntime) {
-    for (error, code, name, _) in TEXTS {
-        assert_eq!(rt; (error.code(), error.name()), (code, name));
-    }
-}
-
-#[test]
-fn lack_of_memory_is_an_error(rt: HostRuntime) {
-    assert_eq!(rt; QueryError::from(AllocError), QueryError::NoMemory);
+    judge(
+        &rt,
+        refusal(rt.alloc(), QueryError::from(AllocError)),
+        "10 NoMemory: out of memory",
+    );
 }
 
 // ---- queries
-
-const FROM_B: Call<'static> = Call::Bound(Bound::StartAt, Word::Text("b"), None);
-
-const BELOW_Y: Call<'static> = Call::Bound(Bound::EndBefore, Word::Text("y"), None);
-
-const FROM_NULL_K: Call<'static> = Call::Bound(Bound::StartAfter, Word::Null, Some("k"));
-
-const TO_Y_K: Call<'static> = Call::Bound(Bound::EndAt, Word::Text("y"), Some("k"));
-
-// Queries in each order, filtered in each way.
-const FILTERED: [&[Call<'static>]; 6] = [
-    &[Call::First(2)],
-    &[Call::ByKey, FROM_B],
-    &[Call::ByKey, FROM_B, BELOW_Y, Call::Last(2)],
-    &[Call::ByChild, FROM_NULL_K, TO_Y_K, Call::First(2)],
-    &[Call::ByValue, FROM_NULL_K],
-    &[Call::ByValue, TO_Y_K, Call::Last(1)],
-];
-
-const UNFILTERED: [&[Call<'static>]; 4] = [&[], &[Call::ByKey], &[Call::ByChild], &[Call::ByValue]];
 
 // What a test makes of a query.
 #[derive(Clone, Copy)]
@@ -440,99 +323,105 @@ fn make(query: Query, what: Made) -> Result<Query, AllocError> {
     }
 }
 
-// What is made of the query of these calls, printed.
-fn printed(alloc: Global, calls: &[Call<'_>], what: Made) -> Result<String, Fail> {
-    let query = make(query(alloc, calls)?, what)?;
-    Ok(format!(in alloc; "{query:?}")?)
-}
-
-#[test]
-fn copies_of_filtered_queries(rt: HostRuntime) -> Result<(), Fail> {
-    for calls in FILTERED {
-        let want = printed(rt.alloc(), calls, Made::Itself)?;
-        assert_eq!(rt;
-            printed(rt.alloc(), calls, Made::Copy)?.as_str(),
-            want.as_str()
-        );
-    }
-    Ok(())
-}
-
-#[test]
-fn copies_of_unfiltered_queries(rt: HostRuntime) -> Result<(), Fail> {
-    for calls in UNFILTERED {
-        let want = printed(rt.alloc(), calls, Made::Itself)?;
-        assert_eq!(rt;
-            printed(rt.alloc(), calls, Made::Copy)?.as_str(),
-            want.as_str()
-        );
-    }
-    Ok(())
-}
-
-#[test]
-fn filtered_queries_are_listened_to_as_they_are(rt: HostRuntime) -> Result<(), Fail> {
-    for calls in FILTERED {
-        let want = printed(rt.alloc(), calls, Made::Itself)?;
-        assert_eq!(rt;
-            printed(rt.alloc(), calls, Made::Form)?.as_str(),
-            want.as_str()
-        );
-    }
-    Ok(())
-}
-
-#[test]
-fn unfiltered_queries_are_listened_to_as_plain(rt: HostRuntime) -> Result<(), Fail> {
-    let plain = printed(rt.alloc(), &[], Made::Itself)?;
-    for calls in UNFILTERED {
-        assert_eq!(rt;
-            printed(rt.alloc(), calls, Made::Form)?.as_str(),
-            plain.as_str()
-        );
-    }
-    Ok(())
-}
-
-fn is_plain(alloc: Global, calls: &[Call<'_>]) -> Result<bool, Fail> {
-    let plain = query(alloc, &[])?;
-    Ok(plain == query(alloc, calls)?)
-}
-
-#[test]
-fn equal_queries(rt: HostRuntime) -> Result<(), Fail> {
-    assert!(rt; is_plain(rt.alloc(), &[Call::ByKey])?);
-    assert!(rt; !is_plain(rt.alloc(), &[Call::ByValue])?);
-    Ok(())
-}
-
+// The parts of a query: the number of its path's keys, its order, its ends, its limit, and whether
+// it is filtered.
 fn parts(alloc: Global, query: &Query) -> Result<String, AllocError> {
     let keys = query.path().keys().len();
-    let range = query.range();
-    let ends = (range.lower.is_some(), range.upper.is_some());
-    let filtered = query.is_filtered();
+    let (lower, upper) = (query.range().lower.is_some(), query.range().upper.is_some());
+    let (limit, is_filtered) = (query.limit(), query.is_filtered());
     format!(in alloc;
-        "{keys} {:?} {ends:?} {:?} {filtered}",
-        query.index(),
-        query.limit()
+        "{keys} {:?} {lower} {upper} {limit:?} {is_filtered}",
+        query.index()
     )
 }
 
-fn parts_of(alloc: Global, calls: &[Call<'_>]) -> Result<String, Fail> {
-    let query = query(alloc, calls)?;
-    Ok(parts(alloc, &query)?)
+fn parts_of(alloc: Global, calls: &[Call<'_>], what: Made) -> Result<String, QueryError> {
+    let made = make(query(alloc, calls)?, what)?;
+    Ok(parts(alloc, &made)?)
 }
 
+// Whether what is made of a query is equal to the query of other calls.
+fn compared(
+    alloc: Global,
+    calls: &[Call<'_>],
+    what: Made,
+    others: &[Call<'_>],
+) -> Result<String, QueryError> {
+    let made = make(query(alloc, calls)?, what)?;
+    Ok(format!(in alloc; "{}", made == query(alloc, others)?)?)
+}
+
+const FROM_B: Call<'static> = Call::Bound(Bound::StartAt, r#""b""#, None);
+
+const BELOW_Y: Call<'static> = Call::Bound(Bound::EndBefore, r#""y""#, None);
+
+const FROM_NULL_K: Call<'static> = Call::Bound(Bound::StartAfter, "null", Some("k"));
+
+const TO_Y_K: Call<'static> = Call::Bound(Bound::EndAt, r#""y""#, Some("k"));
+
+// Queries in each order, filtered in each way, and their parts.
+const FILTERED: [(&[Call<'static>], &str); 6] = [
+    (&[Call::First(2)], "0 Key false false Some(First(2)) true"),
+    (&[Call::ByKey, FROM_B], "0 Key true false None true"),
+    (
+        &[Call::ByKey, FROM_B, BELOW_Y, Call::Last(2)],
+        "0 Key true true Some(Last(2)) true",
+    ),
+    (
+        &[Call::ByChild, FROM_NULL_K, TO_Y_K, Call::First(2)],
+        "0 Child(Path { keys: [Key { text: \"v\" }] }) true true Some(First(2)) true",
+    ),
+    (
+        &[Call::ByValue, FROM_NULL_K],
+        "0 Value true false None true",
+    ),
+    (
+        &[Call::ByValue, TO_Y_K, Call::Last(1)],
+        "0 Value false true Some(Last(1)) true",
+    ),
+];
+
+// A filtered query is listened to as it is.
 #[test]
-fn parts_of_queries(rt: HostRuntime) -> Result<(), Fail> {
-    let limited = parts_of(rt.alloc(), &[Call::ByValue, START, Call::Last(3)])?;
-    assert_eq!(rt;
-        limited.as_str(),
-        "0 Value (true, false) Some(Last(3)) true"
-    );
-    let plain = parts_of(rt.alloc(), &[])?;
-    assert_eq!(rt; plain.as_str(), "0 Key (false, false) None false");
-    Ok(())
+fn filtered_queries(rt: HostRuntime) {
+    for (calls, wanted) in FILTERED {
+        for what in [Made::Itself, Made::Copy, Made::Form] {
+            judge(&rt, parts_of(rt.alloc(), calls, what), wanted);
+            judge(&rt, compared(rt.alloc(), calls, what, calls), "true");
+        }
+    }
+}
+
+// Queries that are not filtered, their parts, and whether they are equal to the plain one.
+const UNFILTERED: [(&[Call<'static>], &str, &str); 4] = [
+    (&[], "0 Key false false None false", "true"),
+    (&[Call::ByKey], "0 Key false false None false", "true"),
+    (
+        &[Call::ByChild],
+        "0 Child(Path { keys: [Key { text: \"v\" }] }) false false None false",
+        "false",
+    ),
+    (&[Call::ByValue], "0 Value false false None false", "false"),
+];
+
+#[test]
+fn unfiltered_queries(rt: HostRuntime) {
+    for (calls, wanted, is_plain) in UNFILTERED {
+        for what in [Made::Itself, Made::Copy] {
+            judge(&rt, parts_of(rt.alloc(), calls, what), wanted);
+            judge(&rt, compared(rt.alloc(), calls, what, &[]), is_plain);
+        }
+    }
+}
+
+// They are listened to as the plain one.
+#[test]
+fn forms_of_unfiltered_queries(rt: HostRuntime) {
+    for (calls, _, _) in UNFILTERED {
+        let form = parts_of(rt.alloc(), calls, Made::Form);
+        judge(&rt, form, "0 Key false false None false");
+        judge(&rt, compared(rt.alloc(), calls, Made::Form, &[]), "true");
+    }
 }
 
 // ---- what is shown
@@ -541,89 +430,89 @@ fn parts_of_queries(rt: HostRuntime) -> Result<(), Fail> {
 fn shown_text(alloc: Global, shown: &Shown) -> Result<String, AllocError> {
     let text = shown.tree().text(alloc)?;
     let rows = shown.rows().len();
-    let leaf = shown.leaf().is_some();
-    format!(in alloc; "{text} {rows} {leaf}")
+    format!(in alloc; "{text} {rows} {}", shown.leaf().is_some())
 }
 
-fn shows(alloc: Global, calls: &[Call<'_>], text: &str) -> Result<String, Fail> {
+// The same of what is shown, or of its copy.
+fn view_text(
+    alloc: Global,
+    calls: &[Call<'_>],
+    text: &str,
+    is_copy: bool,
+) -> Result<String, QueryError> {
     let shown = shown(alloc, calls, text)?;
+    if is_copy {
+        return Ok(shown_text(alloc, &shown.copy()?)?);
+    }
     Ok(shown_text(alloc, &shown)?)
 }
 
-fn copied_view(shown: Shown) -> Result<Shown, AllocError> {
-    shown.copy()
-}
-
-fn copy_shows(alloc: Global, calls: &[Call<'_>], text: &str) -> Result<String, Fail> {
-    let copy = copied_view(shown(alloc, calls, text)?)?;
-    Ok(shown_text(alloc, &copy)?)
-}
-
-const PAIR: &str = "{\"b\":true,\"10\":1}";
+const PAIR: &str = r#"{"b":true,"10":1}"#;
 
 // Calls, a tree, and what their query shows of it.
 const SHOWN: [(&[Call<'static>], &str, &str); 6] = [
-    (&[], PAIR, "{\"10\":1,\"b\":true} 2 false"),
-    (&[Call::Last(1)], PAIR, "{\"b\":true} 1 false"),
-    (&[], "\"word\"", "\"word\" 0 true"),
-    (&[Call::Last(1)], "\"word\"", "null 0 false"),
+    (&[], PAIR, r#"{"10":1,"b":true} 2 false"#),
+    (&[Call::Last(1)], PAIR, r#"{"b":true} 1 false"#),
+    (&[], r#""word""#, r#""word" 0 true"#),
+    (&[Call::Last(1)], r#""word""#, "null 0 false"),
     (&[], "null", "null 0 false"),
     (&[Call::Last(1)], "null", "null 0 false"),
 ];
 
 #[test]
-fn shown_trees(rt: HostRuntime) -> Result<(), Fail> {
-    for (calls, text, want) in SHOWN {
-        assert_eq!(rt; shows(rt.alloc(), calls, text)?.as_str(), want);
+fn shown_trees(rt: HostRuntime) {
+    for (calls, text, wanted) in SHOWN {
+        for is_copy in [false, true] {
+            judge(&rt, view_text(rt.alloc(), calls, text, is_copy), wanted);
+        }
     }
-    Ok(())
+}
+
+// Whether the plain query shows the same of two trees.
+fn compared_views(alloc: Global, left: &str, right: &str) -> Result<String, QueryError> {
+    let left = shown(alloc, &[], left)?;
+    Ok(format!(in alloc; "{}", left == shown(alloc, &[], right)?)?)
 }
 
 #[test]
-fn copies_of_views(rt: HostRuntime) -> Result<(), Fail> {
-    for (calls, text, want) in SHOWN {
-        assert_eq!(rt; copy_shows(rt.alloc(), calls, text)?.as_str(), want);
+fn views_compare(rt: HostRuntime) {
+    for (text, wanted) in [(PAIR, "true"), (r#""word""#, "false"), (FIVES, "false")] {
+        judge(&rt, compared_views(rt.alloc(), PAIR, text), wanted);
     }
-    Ok(())
 }
 
-fn are_equal_views(alloc: Global, text: &str) -> Result<bool, Fail> {
-    let pair = shown(alloc, &[], PAIR)?;
-    Ok(pair == shown(alloc, &[], text)?)
-}
-
-#[test]
-fn equal_views(rt: HostRuntime) -> Result<(), Fail> {
-    assert!(rt; are_equal_views(rt.alloc(), PAIR)?);
-    assert!(rt; !are_equal_views(rt.alloc(), "\"word\"")?);
-    Ok(())
-}
-
-// Whether the view has a row of that key.
-fn has_row(alloc: Global, shown: &Shown, key: &str) -> Result<bool, TreeError> {
-    Ok(shown.row(&Key::parse(alloc, key)?).is_some())
+// What two rows of FIVES show at a key.
+fn row_text(alloc: Global, name: &str) -> Result<String, QueryError> {
+    let shown = shown(alloc, &[Call::First(2)], FIVES)?;
+    match shown.row(&key(alloc, name)?) {
+        Some(tree) => Ok(tree.text(alloc)?),
+        None => Ok(String::from_str(alloc, "none")?),
+    }
 }
 
 #[test]
-fn rows_by_key(rt: HostRuntime) -> Result<(), Fail> {
-    let shown = shown(rt.alloc(), &[Call::First(2)], FIVES)?;
-    assert_eq!(rt; has_row(rt.alloc(), &shown, "k"), Ok(true));
-    assert_eq!(rt; has_row(rt.alloc(), &shown, "l"), Ok(false));
-    Ok(())
+fn rows_by_key(rt: HostRuntime) {
+    for (name, wanted) in [("j", "5"), ("k", "5"), ("l", "none")] {
+        judge(&rt, row_text(rt.alloc(), name), wanted);
+    }
 }
 
-fn row(alloc: Global) -> Result<Row, TreeError> {
-    let key = Key::parse(alloc, "k")?;
-    let value = Tree::read(alloc, FIVES)?;
-    Ok(Row { key, value })
-}
-
-fn is_copied(alloc: Global, row: &Row) -> Result<bool, AllocError> {
-    Ok(row.copy(alloc)? == *row)
+// The copy of a row, and whether it is equal to the row.
+fn copied_row(alloc: Global, name: &str, text: &str) -> Result<String, QueryError> {
+    let row = Row {
+        key: key(alloc, name)?,
+        value: tree(alloc, text)?,
+    };
+    let copy = row.copy(alloc)?;
+    let value = copy.value.text(alloc)?;
+    Ok(format!(in alloc; "{} {value} {}", copy.key, copy == row)?)
 }
 
 #[test]
-fn copy_of_a_row(rt: HostRuntime) -> Result<(), Fail> {
-    assert!(rt; is_copied(rt.alloc(), &row(rt.alloc())?)?);
-    Ok(())
+fn rows_are_copied(rt: HostRuntime) {
+    judge(
+        &rt,
+        copied_row(rt.alloc(), "k", PAIR),
+        r#"k {"10":1,"b":true} true"#,
+    );
 }

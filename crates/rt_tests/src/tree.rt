@@ -1,8 +1,9 @@
-// Keys, paths, leaves and trees. What a call answers is made a text in a function that has the `?`, and judged by `judge`, which
-// has none.
+// Keys, paths, leaves and trees. What a call answers is made a text in a function that has the `?`,
+// and judged by `judge`, which has none.
 use rt_tree::{Key, Leaf, Path, Tree, TreeError};
 use serde_json::Value;
 use std::alloc::{AllocError, Global};
+use std::convert::AsStr;
 use std::process::Abort;
 
 // Whether a call answered this text, or the refusal of this name.
@@ -66,111 +67,97 @@ fn refusals_are_told(rt: HostRuntime) {
 
 // ---- keys
 
-// The number of bytes of the key that the piece makes, so many times.
-fn key_length(alloc: Global, piece: &str, count: usize) -> Result<String, TreeError> {
-    let key = Key::parse(alloc, repeated(alloc, piece, count)?.as_str())?;
-    Ok(key.text().len().to_string(alloc)?)
+// The length of the key that the piece makes, so many times; how it compares with another; whether a
+// copy of it is equal to that; and the other as it prints.
+fn keys(alloc: Global, piece: &str, count: usize, other: &str) -> Result<String, TreeError> {
+    let left = Key::parse(alloc, repeated(alloc, piece, count)?.as_str())?;
+    let right = Key::parse(alloc, other)?;
+    let (len, copy) = (left.as_str().len(), left.copy()?);
+    Ok(format!(in alloc; "{len} {:?} {} {right}", left.cmp(&right), copy == right)?)
 }
 
 #[test]
 fn tree_limits_keys(rt: HostRuntime) {
-    for (piece, count, wanted) in [
-        ("k", 768, "768"),
-        ("k", 769, "KeyTooLong"),
-        ("", 1, "BadKey"),
-        ("a/b", 1, "BadKey"),
-        ("a\tb", 1, "BadKey"),
+    for (piece, count, other, wanted) in [
+        ("k", 768, "k", "768 Greater false k"),
+        ("k", 769, "k", "KeyTooLong"),
+        ("", 1, "k", "BadKey"),
+        ("a/b", 1, "k", "BadKey"),
+        ("a\tb", 1, "k", "BadKey"),
+        ("a", 1, "a", "1 Equal true a"),
+        ("10", 1, "9", "2 Less false 9"),
+        ("b", 1, "B", "1 Greater false B"),
     ] {
-        judge(&rt, key_length(rt.alloc(), piece, count), wanted);
-    }
-}
-
-// How a key compares with another, and whether a copy of it is equal to the other.
-fn compared_keys(alloc: Global, left: &str, right: &str) -> Result<String, TreeError> {
-    let left = Key::parse(alloc, left)?;
-    let right = Key::parse(alloc, right)?;
-    let copy = left.copy()?;
-    Ok(format!(in alloc; "{:?} {}", left.cmp(&right), copy == right)?)
-}
-
-#[test]
-fn keys_compare_by_bytes(rt: HostRuntime) {
-    for (left, right, wanted) in [
-        ("a", "a", "Equal true"),
-        ("10", "9", "Less false"),
-        ("b", "B", "Greater false"),
-    ] {
-        judge(&rt, compared_keys(rt.alloc(), left, right), wanted);
+        judge(&rt, keys(rt.alloc(), piece, count, other), wanted);
     }
 }
 
 // ---- paths
 
-// The number of keys of the path that the piece makes, so many times.
-fn path_length(alloc: Global, piece: &str, count: usize) -> Result<String, TreeError> {
-    let path = Path::parse(alloc, repeated(alloc, piece, count)?.as_str())?;
-    Ok(path.keys().len().to_string(alloc)?)
+// The number of keys of the path that the piece makes, so many times; how a copy of it compares with
+// another, and whether it is equal to it and a prefix of it; how many keys the other has below it;
+// and the other as it prints.
+fn paths(alloc: Global, piece: &str, count: usize, other: &str) -> Result<String, TreeError> {
+    let left = Path::parse(alloc, repeated(alloc, piece, count)?.as_str())?.copy()?;
+    let right = Path::parse(alloc, other)?;
+    let (len, order) = (left.keys().len(), left.cmp(&right));
+    let rest = right.strip_prefix(&left).map(|rest| rest.len());
+    let (same, is_prefix) = (left == right, left.is_prefix_of(&right));
+    Ok(format!(in alloc; "{len} {order:?} {same} {is_prefix} {rest:?} {right}")?)
 }
 
 #[test]
 fn tree_limits_paths(rt: HostRuntime) {
-    for (piece, count, wanted) in [
-        ("/k", 32, "32"),
-        ("/k", 33, "TooDeep"),
-        ("/a/b.c", 1, "BadKey"),
-        ("k", 769, "KeyTooLong"),
+    for (piece, count, other, wanted) in [
+        ("/k", 32, "/", "32 Greater false false None /"),
+        ("/k", 33, "/", "TooDeep"),
+        ("/a/b.c", 1, "/", "BadKey"),
+        ("k", 769, "/", "KeyTooLong"),
+        ("/a/b", 1, "a//b/", "2 Equal true true Some(0) /a/b"),
+        ("/a", 1, "/a/b", "1 Less false true Some(1) /a/b"),
+        ("/a/b", 1, "/a", "2 Greater false false None /a"),
+        ("/a", 1, "/ab", "1 Less false false None /ab"),
+        ("", 1, "/", "0 Equal true true Some(0) /"),
+        ("ä", 1, "/ä/b", "1 Less false true Some(1) /ä/b"),
     ] {
-        judge(&rt, path_length(rt.alloc(), piece, count), wanted);
+        judge(&rt, paths(rt.alloc(), piece, count, other), wanted);
     }
 }
 
-// The text of the path one key below that of the piece, so many times.
+// The text of the path one key below that of the piece, so many times, and the path of both keys.
 fn child_text(alloc: Global, piece: &str, count: usize) -> Result<String, TreeError> {
     let path = Path::parse(alloc, repeated(alloc, piece, count)?.as_str())?;
     let child = path.child(&Key::parse(path.allocator(), "c")?)?;
-    Ok(child.text()?)
+    let again = Path::from_keys(alloc, child.keys())?;
+    Ok(format!(in alloc; "{} {again}{}", child.text()?, Path::root(alloc))?)
 }
 
 #[test]
 fn paths_have_children(rt: HostRuntime) {
     for (piece, count, wanted) in [
-        ("a//b/", 1, "/a/b/c"),
-        ("/", 1, "/c"),
+        ("a//b/", 1, "/a/b/c /a/b/c/"),
+        ("/", 1, "/c /c/"),
         ("/k", 32, "TooDeep"),
     ] {
         judge(&rt, child_text(rt.alloc(), piece, count), wanted);
     }
 }
 
-// Whether a copy of a path is equal to another path, how the two compare, whether the one is a prefix of the other, and their texts.
-fn compared_paths(alloc: Global, left: &str, right: &str) -> Result<String, TreeError> {
-    let left = Path::parse(alloc, left)?.copy()?;
-    let right = Path::parse(alloc, right)?;
-    let (order, is_prefix) = (left.cmp(&right), left.is_prefix_of(&right));
-    Ok(format!(in alloc; "{} {order:?} {is_prefix} {}", left == right, left.text()?)?)
-}
-
-#[test]
-fn paths_compare_by_keys(rt: HostRuntime) {
-    for (left, right, wanted) in [
-        ("/a/b", "a//b/", "true Equal true /a/b"),
-        ("/a", "/a/b", "false Less true /a"),
-        ("/a/b", "/a", "false Greater false /a/b"),
-        ("/a", "/ab", "false Less false /a"),
-        ("", "/", "true Equal true /"),
-        ("ä", "/", "false Greater false /ä"),
-    ] {
-        judge(&rt, compared_paths(rt.alloc(), left, right), wanted);
+// So many keys as a path.
+fn path_of(alloc: Global, count: usize) -> Result<String, TreeError> {
+    let mut keys = Vec::new(alloc);
+    for _ in 0..count {
+        keys.push(Key::parse(alloc, "k")?)?;
     }
-}
-
-fn root_text(alloc: Global) -> Result<String, TreeError> {
-    Ok(Path::root(alloc).text()?)
+    let path = Path::from_keys(alloc, keys.as_slice())?;
+    Ok(path.keys().len().to_string(alloc)?)
 }
 
 #[test]
-fn root_is_printed(rt: HostRuntime) {
-    judge(&rt, root_text(rt.alloc()), "/");
+fn keys_make_paths(rt: HostRuntime) {
+    for (count, wanted) in [(0, "0"), (32, "32"), (33, "TooDeep")] {
+        judge(&rt, path_of(rt.alloc(), count), wanted);
+    }
 }
 
 // ---- leaves
@@ -184,63 +171,55 @@ fn leaf(alloc: Global, kind: &str, amount: i64) -> Result<Leaf, TreeError> {
     }
 }
 
-// The text of a copy of the tree of a copy of a leaf.
+// The text of a copy of the tree of a copy of a leaf, and whether the copy is equal to the leaf and to
+// the truth value true.
 fn leaf_text(alloc: Global, kind: &str, amount: i64) -> Result<String, TreeError> {
     let leaf = leaf(alloc, kind, amount)?;
-    let tree = Tree::leaf(leaf.copy(alloc)?);
-    Ok(tree.copy(alloc)?.text(alloc)?)
+    let copy = leaf.copy(alloc)?;
+    let (same, is_true) = (copy == leaf, copy == Leaf::truth(true));
+    let text = Tree::leaf(copy).copy(alloc)?.text(alloc)?;
+    Ok(format!(in alloc; "{text} {same} {is_true}")?)
 }
 
 #[test]
 fn leaves_are_copied(rt: HostRuntime) {
     for (kind, amount, wanted) in [
-        ("truth", 1, "true"),
-        ("number", 9007199254740991, "9007199254740991"),
-        ("number", -9007199254740991, "-9007199254740991"),
+        ("truth", 1, "true true true"),
+        ("truth", 0, "false true false"),
+        ("number", 9007199254740991, "9007199254740991 true false"),
+        ("number", -9007199254740991, "-9007199254740991 true false"),
         ("number", 9007199254740992, "NotWhole"),
         ("number", -9007199254740992, "NotWhole"),
-        ("text", 3, "\"xxx\""),
+        ("text", 3, "\"xxx\" true false"),
         ("text", 65537, "TextTooLong"),
     ] {
         judge(&rt, leaf_text(rt.alloc(), kind, amount), wanted);
     }
 }
 
-// Whether a copy of a leaf is equal to it, and to another one.
-fn compared_leaves(alloc: Global, kind: &str, other: &str) -> Result<String, TreeError> {
-    let left = leaf(alloc, kind, 1)?;
-    let copy = left.copy(alloc)?;
-    let right = leaf(alloc, other, 65536)?;
-    Ok(format!(in alloc; "{} {}", copy == left, copy == right)?)
-}
-
-#[test]
-fn leaves_compare(rt: HostRuntime) {
-    for (kind, other) in [
-        ("truth", "truth"),
-        ("number", "number"),
-        ("text", "text"),
-        ("text", "number"),
-    ] {
-        judge(&rt, compared_leaves(rt.alloc(), kind, other), "true false");
-    }
+// What a leaf holds: all of it, and as each kind.
+fn kinds(alloc: Global, leaf: &Leaf) -> Result<String, AllocError> {
+    let (truth, number) = (leaf.as_bool(), leaf.as_i64());
+    let (value, text) = (leaf.value(), leaf.as_str());
+    format!(in alloc; "{value:?} {truth:?} {number:?} {text:?}")
 }
 
 // What the leaf holds that a text is read as.
 fn held(alloc: Global, text: &str) -> Result<String, TreeError> {
-    let tree = Tree::read(alloc, text)?;
-    let value = tree.as_leaf().map(|leaf| leaf.value());
-    Ok(format!(in alloc; "{value:?}")?)
+    match Tree::read(alloc, text)?.as_leaf() {
+        Some(leaf) => Ok(kinds(alloc, leaf)?),
+        None => Ok(String::from_str(alloc, "none")?),
+    }
 }
 
 #[test]
 fn leaves_hold_values(rt: HostRuntime) {
     for (text, wanted) in [
-        ("true", "Some(Truth(true))"),
-        ("-5", "Some(Number(-5))"),
-        ("\"x\"", "Some(Text(\"x\"))"),
-        ("null", "None"),
-        ("{\"a\":1}", "None"),
+        ("true", "Truth(true) Some(true) None None"),
+        ("-5", "Number(-5) None Some(-5) None"),
+        ("\"x\"", "Text(\"x\") None None Some(\"x\")"),
+        ("null", "none"),
+        ("{\"a\":1}", "none"),
     ] {
         judge(&rt, held(rt.alloc(), text), wanted);
     }
@@ -269,7 +248,7 @@ fn tree_after(alloc: Global, puts: &[(&str, &str)]) -> Result<Tree, TreeError> {
 // What a tree shows at a path: its levels, the number of its children, and its text.
 fn shown_at(alloc: Global, tree: &Tree, path: &str) -> Result<String, TreeError> {
     let path = Path::parse(alloc, path)?;
-    match tree.get(&path) {
+    match tree.at(path.keys()) {
         None => Ok(String::from_str(alloc, "nothing")?),
         Some(part) => {
             let children = part.children().map(|children| children.len());
@@ -319,7 +298,8 @@ fn puts_and_gets(rt: HostRuntime) {
     }
 }
 
-// Why an object is not put at a path of so many keys into {"a": 7}, the tree's levels then, and whether it is as before.
+// Why an object is not put at a path of so many keys into {"a": 7}, the tree's levels then, and
+// whether it is as before.
 fn deep_put(alloc: Global, count: usize) -> Result<String, TreeError> {
     let mut tree = tree_after(alloc, &[("/a", "7")])?;
     let before = tree.copy(alloc)?;
@@ -394,7 +374,8 @@ fn with_first(alloc: Global, tree: &Tree) -> Result<Tree, TreeError> {
 
 const DOUBLINGS: usize = 18;
 
-// What a tree of 2 ^ DOUBLINGS leaves, or the copy of it that is changed, shows at the last object below a's or b's.
+// What a tree of 2 ^ DOUBLINGS leaves, or the copy of it that is changed, shows at the last object
+// below a's or b's.
 fn large_part(alloc: Global, is_copy: bool, piece: &str) -> Result<String, TreeError> {
     let path = repeated(alloc, piece, DOUBLINGS - 1)?;
     let tree = doubled(alloc, DOUBLINGS)?;
@@ -458,7 +439,8 @@ fn tree_limits(rt: HostRuntime) {
     }
 }
 
-// How many children a text of these pieces is read as that has, the second piece so many times: for no object none.
+// How many children a text of these pieces is read as that has, the second piece so many times: for
+// no object none.
 fn counted(
     alloc: Global,
     first: &str,
@@ -510,6 +492,25 @@ fn nested_arrays(rt: HostRuntime) {
         (100000, "NotJson"),
     ] {
         judge(&rt, written_nested(rt.alloc(), count), wanted);
+    }
+}
+
+// What the part at a path is written as of the tree that a text is read as.
+fn part_text(alloc: Global, text: &str, path: &str) -> Result<String, TreeError> {
+    match Tree::read(alloc, text)?.get(&Path::parse(alloc, path)?) {
+        Some(part) => Ok(part.text(alloc)?),
+        None => Ok(String::from_str(alloc, "nothing")?),
+    }
+}
+
+#[test]
+fn parts_are_given(rt: HostRuntime) {
+    for (path, wanted) in [("/a", "{\"b\":1}"), ("/a/b", "1"), ("/a/b/c", "nothing")] {
+        judge(
+            &rt,
+            part_text(rt.alloc(), "{\"a\":{\"b\":1}}", path),
+            wanted,
+        );
     }
 }
 

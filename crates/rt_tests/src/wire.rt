@@ -206,7 +206,10 @@ fn entry_count(alloc: Global, text: &str) -> Result<String, WireError> {
         ServerMessage::DataMerge { entries, .. } => {
             Ok(entries.as_slice().len().to_string(alloc)?)
         }
-        _ => Err(WireError::UnknownKind),
+        ServerMessage::Data { .. }
+        | ServerMessage::Accepted { .. }
+        | ServerMessage::Refused { .. }
+        | ServerMessage::Revoked { .. } => Err(WireError::UnknownKind),
     }
 }
 

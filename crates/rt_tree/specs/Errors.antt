@@ -1,7 +1,9 @@
 -- The number and the name of each refusal.
 use Rattle.std.specs.Prelude.{ℕ, List, codes}
 use Rattle.rt_tree.specs.declared.error.TreeError.{TreeError}
-use Rattle.rt_tree.specs.declared.error.TreeError.TheVariants.{BadKey, KeyTooLong, TooDeep, NotWhole, TextTooLong, TooManyNodes, NotJson, NoMemory}
+use Rattle.rt_tree.specs.declared.error.TreeError.TheVariants.{BadKey, KeyTooLong, TooDeep}
+use Rattle.rt_tree.specs.declared.error.TreeError.TheVariants.{NotWhole, TextTooLong, TooManyNodes}
+use Rattle.rt_tree.specs.declared.error.TreeError.TheVariants.{NotJson, NoMemory}
 
 -- the number of a refusal
 abbrev pub code_of : TreeError → ℕ

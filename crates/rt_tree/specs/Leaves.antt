@@ -1,5 +1,6 @@
 -- Keys and paths as values, prefixes, and the leaves of a tree by their paths.
-use Rattle.std.specs.Prelude.{◌≡◌, ℕ, suc, max, Bool, true, false, cond, not, ◌&&◌, ◌||◌, List, [], ◌∷◌, ◌++◌, length, Option, Some, None, is_some}
+use Rattle.std.specs.Prelude.{◌≡◌, ℕ, suc, max, Bool, true, false, cond, not, ◌&&◌, ◌||◌, List, []}
+use Rattle.std.specs.Prelude.{◌∷◌, ◌++◌, length, Option, Some, None, is_some}
 use Rattle.std.specs.declared.cmp.Ordering.{Ordering}
 use Rattle.std.specs.Ordering.{eq_by_cmp, nat_cmp}
 use Rattle.std.specs.Option.{option_map_or}
@@ -104,7 +105,8 @@ graft p (e ∷ es) m = map_of.put path_cmp (p ++ e.0) e.1 (graft p es m)
 abbrev pub put_leaves : Leaves → Path → Leaves → Bool → Leaves
 put_leaves m p u n = graft p u (where_key path_cmp (stays p n) m)
 
--- what stands at q after U came at p: what U has below p, or else what stood there, unless U isn't null and q is a prefix of p
+-- what stands at q after U came at p: what U has below p, or else what stood there, unless U isn't
+-- null and q is a prefix of p
 abbrev pub after_put : Option Path → (Path → Option LeafValue) → Bool → Option LeafValue → Option LeafValue
 after_put None u hidden l = cond hidden None l
 after_put (Some r) u hidden l = u r

@@ -1,5 +1,6 @@
 -- Which tree JSON data is, and why data is refused as a tree.
-use Rattle.std.specs.Prelude.{ℕ, suc, ℤ, pos, negsuc, int_lt, ◌≡◌, ◌||◌, List, [], ◌∷◌, ◌++◌, length, nat_le, nat_lt, if◌then◌else◌, Option, Some, None, Result, Ok, Err, decimal}
+use Rattle.std.specs.Prelude.{ℕ, suc, ℤ, int_lt, ◌≡◌, ◌||◌, List, [], ◌∷◌, ◌++◌, length, nat_le, nat_lt}
+use Rattle.std.specs.Prelude.{if◌then◌else◌, Option, Some, None, Result, Ok, Err, decimal}
 use Rattle.std.specs.List.{AllByRecursion}
 use Rattle.std.specs.Option.{option_or, option_map_or}
 use Rattle.std.specs.Result.{result_err}
@@ -11,8 +12,11 @@ use Rattle.rt_tree.specs.Leaf.{truth, number, text}
 use Rattle.rt_tree.specs.Key.{key_fault}
 use Rattle.rt_tree.specs.Leaves.{Key}
 use Rattle.rt_tree.specs.Trees.{PathTree, null, of_leaf, object}
+use Rattle.rt_tree.specs.declared.limits.TheConstants.{MAX_KEYS, MAX_NODES, MAX_TEXT_BYTES}
+use Rattle.rt_tree.specs.declared.limits.TheConstants.{MIN_WHOLE, MAX_WHOLE}
 use Rattle.rt_tree.specs.declared.error.TreeError.{TreeError}
-use Rattle.rt_tree.specs.declared.error.TreeError.TheVariants.{TooDeep, NotWhole, TextTooLong, TooManyNodes, NotJson}
+use Rattle.rt_tree.specs.declared.error.TreeError.TheVariants.{TooDeep, NotWhole, TextTooLong}
+use Rattle.rt_tree.specs.declared.error.TreeError.TheVariants.{TooManyNodes, NotJson}
 
 -- ---- the tree
 
@@ -46,7 +50,8 @@ abbrev mutual
 pub data Visit : Type 0 where
   visit : ℕ → Option (List ℕ) → Data → Visit
 
--- the value and all that is in it, each before what is in it, elements in order, members by the bytes of their names
+-- the value and all that is in it, each before what is in it, elements in order, members by the
+-- bytes of their names
 abbrev mutual
   pub visits : ℕ → Option (List ℕ) → Data → List Visit
   visits level name json.null = visit level name json.null ∷ []
@@ -72,25 +77,28 @@ name_fault (Some k) = key_fault k
 -- why a number is no leaf
 abbrev pub number_fault : Option ℤ → Option TreeError
 number_fault None = Some NotWhole
-number_fault (Some z) = if int_lt z (negsuc 9007199254740990) || int_lt (pos 9007199254740991) z then Some NotWhole else None
+number_fault (Some z) = if int_lt z MIN_WHOLE || int_lt MAX_WHOLE z then Some NotWhole else None
 
 -- why a value by itself is refused
 abbrev pub value_fault : Data → Option TreeError
 value_fault json.null = None
 value_fault (json.boolean b) = None
 value_fault (json.number n) = number_fault (as_i64 n)
-value_fault (json.string s) = if nat_lt 65536 (length s) then Some TextTooLong else None
+value_fault (json.string s) = if nat_lt MAX_TEXT_BYTES (length s) then Some TextTooLong else None
 value_fault (json.array ds) = None
 value_fault (json.object ms) = None
 
 -- why a value is refused in its place: its level is looked at first, then its name
 abbrev pub place_fault : Visit → Option TreeError
-place_fault (visit level name d) = if nat_lt 32 level then Some TooDeep else option_or (name_fault name) (value_fault d)
+place_fault (visit level name d) =
+    if nat_lt MAX_KEYS level then Some TooDeep else option_or (name_fault name) (value_fault d)
 
 -- the first fault of the values, where n were counted before; or how many were counted
 abbrev pub walked : ℕ → List Visit → Result ℕ TreeError
 walked n [] = Ok n
-walked n (v ∷ vs) = if nat_le 65536 n then Err TooManyNodes else option_map_or Err (place_fault v) (walked (suc n) vs)
+walked n (v ∷ vs) =
+    if nat_le MAX_NODES n then Err TooManyNodes
+    else option_map_or Err (place_fault v) (walked (suc n) vs)
 
 -- why data is refused as a tree
 abbrev pub data_fault : Data → Option TreeError

@@ -1,15 +1,22 @@
 -- A tree as a value: a finite map from paths to leaves in which no path is a proper prefix of another.
---     leaf_at T p      the leaf at p.      null, of_leaf l, is_null T      the tree with no leaf, that of one leaf, and whether T is null
---     sub T p          the leaves at and under p, with p taken off
---     put T p U        the leaves at and under p go and those of U come at p; a leaf at a proper prefix of p goes only where U isn't null
---     object es        the tree of children, each at its key.      levels T      one more than the length of the longest path
---     child T k        the part under one key.      leaf_of T      the leaf that T is, if it is one
---     with_children    only the children of some keys.      children_alone T      all but a leaf at the root
---     children_of T    the parts under one key that are not null, in order.      tree_eq      whether two trees are equal
---     MayStandAt, IsAllowed      what the database may hold, and where
--- Proofs know these words by their laws (`laws/`). Under `unfolding` they compute, so that worked rows can be checked: what a tree keeps beside its leaves is a
--- test that computes, and so trees whose leaves compute to the same list are the same.
-use Rattle.std.specs.Prelude.{◌≡◌, ℕ, Bool, true, false, cond, not, ◌&&◌, List, [], ◌∷◌, ◌++◌, Option, Some, None, is_some}
+--     leaf_at T p                 the leaf at p
+--     null, of_leaf l, is_null T  the tree with no leaf, that of one leaf, and whether T is null
+--     sub T p                     the leaves at and under p, with p taken off
+--     put T p U                   the leaves at and under p go and those of U come at p; a leaf at a
+--                                 proper prefix of p goes only where U isn't null
+--     object es, child T k        the tree of children, each at its key, and the part under one key
+--     levels T                    one more than the length of the longest path
+--     leaf_of T                   the leaf that T is, if it is one
+--     with_children               only the children of some keys
+--     children_alone T            all but a leaf at the root
+--     children_of T               the parts under one key that are not null, in order
+--     tree_eq                     whether two trees are equal
+--     MayStandAt, IsAllowed       what the database may hold, and where
+-- Proofs know these words by their laws (`laws/`). Under `unfolding` they compute, so that worked
+-- rows can be checked: what a tree keeps beside its leaves is a test that computes, and so trees
+-- whose leaves compute to the same list are the same.
+use Rattle.std.specs.Prelude.{◌≡◌, ℕ, Bool, true, false, cond, not, ◌&&◌, List, [], ◌∷◌, ◌++◌}
+use Rattle.std.specs.Prelude.{Option, Some, None, is_some}
 use lib.Dec.{T}
 use Rattle.std.specs.Bool.{beq}
 use Rattle.std.specs.Ordering.{int_eq}
@@ -19,7 +26,8 @@ use Rattle.std.specs.BTreeMap.{is_at}
 use Rattle.std.specs.Map.{lookup}
 use Rattle.rt_tree.specs.Leaf.{LeafValue, truth, number, text, IsInRange}
 use Rattle.rt_tree.specs.Path.{IsPath}
-use Rattle.rt_tree.specs.Leaves.{Key, Path, key_cmp, key_eq, path_eq, Leaves, get, is_empty, is_fine, sub_leaves, put_leaves, within_leaves, levels_of}
+use Rattle.rt_tree.specs.Leaves.{Key, Path, key_cmp, key_eq, path_eq, Leaves, get, is_empty}
+use Rattle.rt_tree.specs.Leaves.{is_fine, sub_leaves, put_leaves, within_leaves, levels_of}
 use Rattle.rt_tree.specs.inside.Fine.{sub_fine, put_fine, within_fine}
 
 -- the leaves in the order of their paths, none of which is a prefix of another
@@ -56,9 +64,14 @@ sub t p = record { leaves = sub_leaves t.leaves p; fine = sub_fine t.leaves t.fi
 abbrev pub child : PathTree → Key → PathTree
 child t k = sub t (k ∷ [])
 
--- the leaves at and under p go and those of u come at p; a leaf at a proper prefix of p goes only where u isn't null
+-- the leaves at and under p go and those of u come at p; a leaf at a proper prefix of p goes only
+-- where u isn't null
 unfoldable pub put : PathTree → Path → PathTree → PathTree
-put t p u = record { leaves = put_leaves t.leaves p u.leaves (is_empty u.leaves); fine = put_fine t.leaves p u.leaves t.fine u.fine }
+put t p u =
+    record {
+      leaves = put_leaves t.leaves p u.leaves (is_empty u.leaves);
+      fine = put_fine t.leaves p u.leaves t.fine u.fine;
+    }
 
 -- ---- children
 -- the tree whose children are es: where a key stands twice, the first child counts
@@ -101,7 +114,8 @@ children_of t = in_key_order (head_entries t t.leaves)
 
 -- the tree with only the children of these keys
 unfoldable pub with_children : (Key → Bool) → PathTree → PathTree
-with_children test t = record { leaves = within_leaves test t.leaves; fine = within_fine test t.leaves t.fine }
+with_children test t =
+    record { leaves = within_leaves test t.leaves; fine = within_fine test t.leaves t.fine }
 
 -- the tree without a leaf of its own
 unfoldable pub children_alone : PathTree → PathTree

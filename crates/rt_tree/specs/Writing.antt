@@ -1,5 +1,6 @@
 -- Which JSON data a tree is written as.
-use Rattle.std.specs.Prelude.{ℕ, zero, suc, List, [], ◌∷◌, length, nat_lt, if◌then◌else◌, Option, Some, None}
+use Rattle.std.specs.Prelude.{ℕ, zero, suc, List, [], ◌∷◌, length, nat_lt, if◌then◌else◌, Option}
+use Rattle.std.specs.Prelude.{Some, None}
 use Rattle.serde_json.specs.Data.{Data, Members, no_members, member}
 use Rattle.serde_json.specs.Data as json
 use Rattle.serde_json.specs.Find.{of_integer}
@@ -7,6 +8,7 @@ use Rattle.rt_tree.specs.Leaf.{LeafValue, truth, number, text}
 use Rattle.rt_tree.specs.Leaves.{Key}
 use Rattle.rt_tree.specs.Trees.{PathTree, leaf_of, levels, children_of}
 use Rattle.rt_tree.specs.Reading.{visits}
+use Rattle.rt_tree.specs.declared.limits.TheConstants.{MAX_NODES}
 use Rattle.rt_tree.specs.declared.error.TreeError.{TreeError}
 use Rattle.rt_tree.specs.declared.error.TreeError.TheVariants.{TooManyNodes}
 
@@ -44,6 +46,6 @@ data_of t = data_at (levels t) t
 abbrev pub value_count : PathTree → ℕ
 value_count t = length (visits 0 None (data_of t))
 
--- why a tree is not read back: only that it has more than 65536 values
+-- why a tree is not read back: only that it has more values than are read
 abbrev pub back_fault : PathTree → Option TreeError
-back_fault t = if nat_lt 65536 (value_count t) then Some TooManyNodes else None
+back_fault t = if nat_lt MAX_NODES (value_count t) then Some TooManyNodes else None

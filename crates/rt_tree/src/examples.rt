@@ -1,8 +1,11 @@
 //! Examples that the prover computes: trees are opened here, and nowhere else.
 #![tactic(auto, unfolding(crate::specs::Trees::null, crate::specs::Trees::of_leaf, crate::specs::Trees::is_null, crate::specs::Trees::leaf_at, crate::specs::Trees::sub, crate::specs::Trees::put, crate::specs::Trees::levels, crate::specs::Trees::children_of))]
 
-ghost use Rattle.rt_tree.specs.JsonExamples.{TextsAreRead, ValuesAreCounted, TextsAreRefused, FaultsComeInOrder};
-ghost use Rattle.rt_tree.specs.Examples.{EmptyPiecesDrop, KeysHaveFaults, FirstFaultCounts, PrefixesAreAtOrAbove, LeafStaysUnderNull, EmptyObjectsGo, PutReplaces, ChildrenInOrder, LevelsCount};
+ghost use Rattle.rt_tree.specs.laws.JsonExamples.{TextsAreRead, ValuesAreCounted, TextsAreRefused};
+ghost use Rattle.rt_tree.specs.laws.JsonExamples.{FaultsComeInOrder};
+ghost use Rattle.rt_tree.specs.laws.Examples.{EmptyPiecesDrop, KeysHaveFaults, FirstFaultCounts};
+ghost use Rattle.rt_tree.specs.laws.Examples.{PrefixesAreAtOrAbove, LeafStaysUnderNull, EmptyObjectsGo};
+ghost use Rattle.rt_tree.specs.laws.Examples.{PutReplaces, ChildrenInOrder, LevelsCount};
 
 /// Empty pieces of a path's text drop, and a slash stands before each key that is printed.
 pub fn empty_pieces_drop()

@@ -5,6 +5,7 @@ ghost use Rattle.std.specs.Result.{result_err};
 ghost use Rattle.rt_tree.specs.Key.{IsKey, is_allowed, key_fault};
 
 use crate::error::TreeError;
+use crate::limits::MAX_KEY_BYTES;
 use std::alloc::{AllocError, Global};
 use std::cmp::Ordering;
 use std::convert::AsStr;
@@ -13,11 +14,8 @@ use std::hash::{Hash, Hasher};
 use std::marker::Model;
 use std::sync::ArcStr;
 
-// The most bytes that a key has.
-const MAX_KEY_BYTES: usize = 768;
-
-/// The name of a child: 1 to 768 bytes of UTF-8 without the characters 0 to 31 and 127 and without `.` `$` `#` `[` `]`
-/// `/`, as Firebase has them.
+/// The name of a child: 1 to 768 bytes of UTF-8 without the characters 0 to 31 and 127 and without
+/// `.` `$` `#` `[` `]` `/`, as Firebase has them.
 ///
 /// Keys compare by their bytes. A copy shares its text with the original.
 #[derive(Debug, Drop)]
@@ -89,8 +87,8 @@ impl Key {
     ///
     /// # Errors
     ///
-    /// `BadKey` for the empty text, then `KeyTooLong` for one above 768 bytes, then `BadKey` for a character that no key
-    /// has; `NoMemory` where none of them holds.
+    /// `BadKey` for the empty text, then `KeyTooLong` for one above 768 bytes, then `BadKey` for a
+    /// character that no key has; `NoMemory` where none of them holds.
     pub fn parse(alloc: Global, text: &str) -> Result<Key, TreeError>
         ensures ok { IfOk result (λ key. key ≡ text.now) }
         ensures valid { OnOk result (IsKey text.now) }
@@ -179,7 +177,8 @@ impl PartialOrd for Key {
 
     ghost partial_cmp = { as_partial_cmp (slice_cmp nat_cmp) };
 
-    ghost laws = { partial_order_from_own_ties (Prim.search (comparing, rules)) (Prim.search (comparing, rules)) };
+    ghost laws = { partial_order_from_own_ties (Prim.search (comparing, rules))
+        (Prim.search (comparing, rules)) };
 
     fn partial_cmp(&self, other: &Key) -> Option<Ordering> {
         Some(self.cmp(other))

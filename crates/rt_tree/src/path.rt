@@ -1,22 +1,25 @@
 // A place in a tree.
-ghost use Rattle.std.specs.Prelude.{◌≡◌, ◌↔◌, ◌++◌, ◌∷◌, [], length, IfOk, IfErr, IfSome, OnOk, Some, ◌⊎◌, is_some, string_bytes};
+ghost use Rattle.std.specs.Prelude.{◌≡◌, ◌↔◌, ◌++◌, ◌∷◌, [], ◌<◌, length, IfOk, IfErr, IfSome};
+ghost use Rattle.std.specs.Prelude.{OnOk, Some, ◌⊎◌, is_some, string_bytes};
 ghost use Rattle.std.specs.Option.{option_copied};
 ghost use Rattle.std.specs.Result.{result_err};
+ghost use Rattle.std.specs.List.{AllByRecursion};
+ghost use Rattle.rt_tree.specs.Key.{IsKey};
 ghost use Rattle.rt_tree.specs.Path.{IsPath, path_keys, path_text, path_fault};
 ghost use Rattle.rt_tree.specs.Leaves.{strip};
 
 use crate::error::TreeError;
 use crate::key::{Key, check_key, valid_key};
+use crate::limits::MAX_KEYS;
 use std::alloc::{AllocError, Global};
 use std::cmp::Ordering;
+use std::fmt;
 use std::marker::Model;
-
-// The most keys that a path has.
-const MAX_KEYS: usize = 32;
 
 /// A place in a tree: at most 32 keys, from the root down. The root has none.
 ///
-/// Paths compare key by key, each by its bytes, so that a path stands right before all that lie under it.
+/// Paths compare key by key, each by its bytes, so that a path stands right before all that lie
+/// under it.
 #[derive(Debug, Drop)]
 pub struct Path {
     keys: Vec<Key>,
@@ -65,6 +68,20 @@ fn valid_keys(alloc: Global, text: &str) -> Result<Vec<Key>, AllocError>
     Ok(keys)
 }
 
+// Equal keys, which share their texts.
+fn copy_keys(alloc: Global, keys: &[Key]) -> Result<Vec<Key>, AllocError>
+    ensures same { IfOk result (λ copies. copies.items ≡ keys.now) }
+    ensures keys { OnOk result (AllByRecursion IsKey keys.now) }
+{
+    let mut copies = Vec::new(alloc);
+    for key in keys {
+        // States that it is a key.
+        let _text = key.text();
+        copies.push(key.copy()?)?;
+    }
+    Ok(copies)
+}
+
 impl Path {
     /// The path of the whole tree, `/`.
     pub fn root(alloc: Global) -> Path
@@ -75,13 +92,13 @@ impl Path {
         }
     }
 
-    /// Reads a path. The text is cut at each `/`, and empty pieces are dropped: `a//b/` is `/a/b`, and both `/` and the
-    /// empty text are the root.
+    /// Reads a path. The text is cut at each `/`, and empty pieces are dropped: `a//b/` is `/a/b`,
+    /// and both `/` and the empty text are the root.
     ///
     /// # Errors
     ///
-    /// The pieces are looked at from left to right: a 33rd is `TooDeep`, and a piece that is no key is refused as
-    /// [`Key::parse`] refuses it; `NoMemory` where the text is a path.
+    /// The pieces are looked at from left to right: a 33rd is `TooDeep`, and a piece that is no key
+    /// is refused as [`Key::parse`] refuses it; `NoMemory` where the text is a path.
     pub fn parse(alloc: Global, text: &str) -> Result<Path, TreeError>
         ensures ok { IfOk result (λ path. path ≡ path_keys text.now) }
         ensures valid { OnOk result (IsPath (path_keys text.now)) }
@@ -94,6 +111,24 @@ impl Path {
         })
     }
 
+    /// The path of these keys, from the root down. They share their texts.
+    ///
+    /// # Errors
+    ///
+    /// `TooDeep` where there are more than 32, else `NoMemory`.
+    pub fn from_keys(alloc: Global, keys: &[Key]) -> Result<Path, TreeError>
+        ensures ok { IfOk result (λ path. path ≡ keys.now) }
+        ensures too_deep { (result ≡ Err TreeError.TooDeep) ↔ (MAX_KEYS < length keys.now) }
+        ensures errors { IfErr result (λ e. (e ≡ TreeError.TooDeep) ⊎ (e ≡ TreeError.NoMemory)) }
+    {
+        if keys.len() > MAX_KEYS {
+            return Err(TreeError::TooDeep);
+        }
+        Ok(Path {
+            keys: copy_keys(alloc, keys)?,
+        })
+    }
+
     /// The keys of the path, from the root down.
     pub fn keys(&self) -> &[Key]
         ensures keys { result.now ≡ self.now }
@@ -102,7 +137,8 @@ impl Path {
         self.keys.as_slice()
     }
 
-    /// The allocator of the keys.
+    /// The allocator of the keys, for calls that take none of their own. All allocators of this type
+    /// are alike, so its contract says nothing.
     pub fn allocator(&self) -> Global {
         *self.keys.allocator()
     }
@@ -141,10 +177,7 @@ impl Path {
     pub fn copy(&self) -> Result<Path, AllocError>
         ensures { IfOk result (λ path. path ≡ self.now) }
     {
-        let mut keys = Vec::new(*self.keys.allocator());
-        for key in &self.keys {
-            keys.push(key.copy()?)?;
-        }
+        let keys = copy_keys(self.allocator(), self.keys())?;
         Ok(Path { keys })
     }
 
@@ -155,16 +188,35 @@ impl Path {
     /// `TooDeep` where this one has 32 keys already, else `NoMemory`.
     pub fn child(&self, key: &Key) -> Result<Path, TreeError>
         ensures ok { IfOk result (λ path. path ≡ self.now ++ key.now ∷ []) }
-        ensures too_deep { (result ≡ Err TreeError.TooDeep) ↔ (length self.now ≡ 32) }
+        ensures too_deep { (result ≡ Err TreeError.TooDeep) ↔ (length self.now ≡ MAX_KEYS) }
         ensures errors { IfErr result (λ e. (e ≡ TreeError.TooDeep) ⊎ (e ≡ TreeError.NoMemory)) }
     {
-        let _ = key.text();
+        // States that it is a key.
+        let _text = key.text();
         if self.keys.len() == MAX_KEYS {
             return Err(TreeError::TooDeep);
         }
         let mut path = self.copy()?;
         path.keys.push(key.copy()?)?;
         Ok(path)
+    }
+}
+
+/// A path prints as its text.
+impl fmt::Display for Path {
+    ghost use Rattle.rt_tree.specs.Path.{path_text};
+
+    ghost output = { λ path. Some (path_text path) };
+
+    fn fmt<W: fmt::Write>(&self, f: &mut fmt::Formatter<W>) -> fmt::Result {
+        if self.keys.is_empty() {
+            return f.write_str("/");
+        }
+        for key in &self.keys {
+            f.write_str("/")?;
+            f.write_str(key.text())?;
+        }
+        Ok(())
     }
 }
 

@@ -1,9 +1,13 @@
 // A tree of leaves.
-ghost use Rattle.std.specs.Prelude.{[], ◌∷◌, ◌≡◌, ◌<◌, ◌≤◌, ◌+◌, false, length, IsTrue, ◌↔◌, IfOk, IfErr, OnOk, OnErr, ◌⊎◌, is_some, IfSome, IfNone, List, ℕ, Some, if◌then◌else◌};
+ghost use Rattle.std.specs.Prelude.{[], ◌∷◌, ◌≡◌, ◌<◌, ◌≤◌, ◌+◌, false, length, IsTrue, ◌↔◌, IfOk};
+ghost use Rattle.std.specs.Prelude.{IfErr, OnOk, OnErr, ◌⊎◌, is_some, IfSome, IfNone, List, ℕ};
+ghost use Rattle.std.specs.Prelude.{Some, if◌then◌else◌};
 ghost use Rattle.std.specs.Option.{option_copied};
 ghost use Rattle.std.specs.Arc.{arc_value};
 ghost use Rattle.std.specs.BTreeMap.{IsOrdered, insert_entry};
-ghost use Rattle.rt_tree.specs.Trees.{leaf_at, null, of_leaf, is_null, sub, put, non_null, object, levels, child_of, AllFull, IsAllowed, MayStandAt, is_object, children_of};
+ghost use Rattle.rt_tree.specs.Trees.{leaf_at, null, of_leaf, is_null, sub, put, non_null, object};
+ghost use Rattle.rt_tree.specs.Trees.{levels, child_of, AllFull, IsAllowed, MayStandAt, is_object};
+ghost use Rattle.rt_tree.specs.Trees.{children_of};
 ghost use Rattle.rt_tree.specs.Leaves.{key_cmp, key_eq};
 ghost use Rattle.rt_tree.specs.inside.Puts.{PutsBelow};
 
@@ -13,17 +17,18 @@ mod writing;
 use crate::error::TreeError;
 use crate::key::Key;
 use crate::leaf::Leaf;
+use crate::limits::MAX_LEVELS;
 use crate::path::Path;
 use std::alloc::{AllocError, Global};
 use std::collections::BTreeMap;
 use std::marker::Model;
 use std::sync::Arc;
 
-/// A tree of values: null, a leaf, or an object of children. No child is null, and an object without children is null.
-/// At most 32 keys stand above a leaf.
+/// A tree of values: null, a leaf, or an object of children. No child is null, and an object
+/// without children is null. At most 32 keys stand above a leaf.
 ///
-/// A copy shares all of its original, and takes next to no time. [`Tree::put`] copies what it changes only where another
-/// tree shares it.
+/// A copy shares all of its original, and takes next to no time. [`Tree::put`] copies what it
+/// changes only where another tree shares it.
 #[cycle(tree)]
 #[derive(Debug, Drop)]
 pub struct Tree {
@@ -71,6 +76,7 @@ impl Tree {
     pub fn leaf(leaf: Leaf) -> Tree
         ensures { result ≡ of_leaf leaf }
     {
+        // States that what it holds is in range.
         let _in_range = leaf.value();
         let node = Node::Leaf(leaf);
         Tree { node }
@@ -174,7 +180,7 @@ impl Tree {
     /// One more than the number of keys above the deepest leaf; 0 for null. Walks the whole tree.
     pub fn levels(&self) -> usize
         ensures levels { result ≡ levels self.now }
-        ensures shallow { result ≤ 33 }
+        ensures shallow { result ≤ MAX_LEVELS }
         ensures allowed { IsAllowed self.now }
     {
         match &self.node {
@@ -190,24 +196,26 @@ impl Tree {
         }
     }
 
-    /// Puts a tree in the place of what stands at the path. Null takes that out, and with it each object above that is
-    /// left without children. Any other tree replaces a leaf above the path by an object; null leaves such a leaf.
+    /// Puts a tree in the place of what stands at the path. Null takes that out, and with it each
+    /// object above that is left without children. Any other tree replaces a leaf above the path by
+    /// an object; null leaves such a leaf.
     ///
-    /// Costs by the path and by the tree that is put, and, the first time after a copy, by the number of children along the
-    /// path.
+    /// Costs by the path and by the tree that is put, and, the first time after a copy, by the
+    /// number of children along the path.
     ///
     /// # Errors
     ///
-    /// `TooDeep` where path and tree together have more than 32 keys, else `NoMemory`. A refused tree is dropped, and nothing
-    /// changes.
+    /// `TooDeep` where path and tree together have more than 32 keys, else `NoMemory`. A refused
+    /// tree is dropped, and nothing changes.
     pub fn put(&mut self, alloc: Global, path: &Path, tree: Tree) -> Result<(), TreeError>
         ensures ok { OnOk result (self.new ≡ put self.old path.now tree) }
         ensures err { OnErr result (self.new ≡ self.old) }
-        ensures too_deep { (result ≡ Err TreeError.TooDeep) ↔ (33 < length path.now + levels tree) }
+        ensures too_deep { (result ≡ Err TreeError.TooDeep)
+            ↔ (MAX_LEVELS < length path.now + levels tree) }
         ensures errors { IfErr result (λ e. (e ≡ TreeError.TooDeep) ⊎ (e ≡ TreeError.NoMemory)) }
     {
         let keys = path.keys();
-        if tree.levels() > 33 - keys.len() {
+        if tree.levels() > MAX_LEVELS - keys.len() {
             return Err(TreeError::TooDeep);
         }
         self.put_at(alloc, keys, tree)?;
@@ -285,8 +293,10 @@ impl Eq for Tree {
 
 // `insert`, without the old child.
 fn set_child(children: &mut BTreeMap<Key, Tree>, key: Key, child: Tree) -> Result<(), AllocError>
-    ensures entries { OnOk result (children.new.entries ≡ insert_entry key_cmp children.old.entries key child) }
-    ensures sets { OnOk result ((j : List ℕ) → child_of children.new.entries j ≡ if key_eq key j then Some child else child_of children.old.entries j) }
+    ensures entries { OnOk result (children.new.entries
+        ≡ insert_entry key_cmp children.old.entries key child) }
+    ensures sets { OnOk result ((j : List ℕ) → child_of children.new.entries j ≡ if key_eq key j
+        then Some child else child_of children.old.entries j) }
     ensures ordered { IsOrdered key_cmp children.new }
 {
     children.insert(key, child)?;
@@ -322,7 +332,8 @@ fn put_shared(
     requires allowed { MayStandAt (key.now ∷ rest.now) tree }
     requires full { AllFull (arc_value shared.old).entries }
     requires sorted { IsOrdered key_cmp (arc_value shared.old) }
-    ensures ok { OnOk result (PutsBelow (arc_value shared.old).entries (arc_value shared.new).entries key.now rest.now tree) }
+    ensures ok { OnOk result (PutsBelow (arc_value shared.old).entries
+        (arc_value shared.new).entries key.now rest.now tree) }
     ensures err { OnErr result ((arc_value shared.new).entries ≡ (arc_value shared.old).entries) }
     ensures ordered { IsOrdered key_cmp (arc_value shared.new) }
 {
@@ -346,7 +357,8 @@ fn put_below(
 ) -> Result<(), AllocError>
     requires allowed { MayStandAt (key.now ∷ rest.now) tree }
     requires full { AllFull children.old.entries }
-    ensures ok { OnOk result (PutsBelow children.old.entries children.new.entries key.now rest.now tree) }
+    ensures ok { OnOk result
+        (PutsBelow children.old.entries children.new.entries key.now rest.now tree) }
     ensures err { OnErr result (children.new.entries ≡ children.old.entries) }
     ensures ordered { IsOrdered key_cmp children.new }
 {

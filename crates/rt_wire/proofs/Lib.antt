@@ -6,3 +6,9 @@ pub mod ServerBack
 pub mod QueryItems
 pub mod QueryMembers
 pub mod Floats
+pub mod QueryBack
+pub mod ClientBack
+pub mod Said
+pub mod ServerSaid
+pub mod ClientSaid
+pub mod Others

@@ -9,5 +9,7 @@ pub mod QueryFields
 pub mod QueryData
 pub mod Client
 pub mod ClientData
+pub mod Grammar
 pub mod ReadBack
+pub mod Examples
 pub mod inside

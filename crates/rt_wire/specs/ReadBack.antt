@@ -1,13 +1,23 @@
 -- Which messages are read back from their texts, and as what.
-use Rattle.std.specs.Prelude.{◌≡◌, ℕ, ◌<◌, ◌≤◌, false, List, length, None, Ok}
+use Rattle.std.specs.Prelude.{◌≡◌, ℕ, ◌<◌, ◌≤◌, true, false, List, length, None, IfSome, Ok}
 use Rattle.std.specs.List.{AllByRecursion}
 use Rattle.std.specs.List.Sorted.{IsPermutation}
 use Rattle.rt_tree.specs.PathTree.{PathTree}
 use Rattle.rt_tree.specs.Assignments.{Assignment, have_overlap}
 use Rattle.rt_tree.specs.Writing.{back_fault}
+use Rattle.rt_query.specs.Queries.{Query}
+use Rattle.rt_query.specs.Supply.{form}
 use Rattle.rt_wire.specs.declared.server.ServerMessage.{ServerMessage}
 use Rattle.rt_wire.specs.declared.server.ServerMessage.TheVariants.{Data, DataMerge, Accepted, Refused, Revoked}
 use Rattle.rt_wire.specs.Server.{server_message}
+use Rattle.rt_wire.specs.declared.request.Action.{Action}
+use Rattle.rt_wire.specs.declared.request.Action.TheVariants.{Put, Merge}
+use Rattle.rt_wire.specs.declared.request.Ending.TheVariants.{Run, Cancel}
+use Rattle.rt_wire.specs.declared.request.Asked.TheVariants.{Now, AtDisconnect}
+use Rattle.rt_wire.specs.declared.client.ClientMessage.{ClientMessage}
+use Rattle.rt_wire.specs.declared.client.ClientMessage.TheVariants.{Listen, Unlisten, Ask}
+use Rattle.rt_wire.specs.QueryFields.{may_cut}
+use Rattle.rt_wire.specs.Client.{client_message}
 
 -- ---- parts within their limits
 
@@ -26,6 +36,18 @@ AreEntries entries = (0 < length entries) × (have_overlap entries ≡ false) ×
 -- a reason
 abbrev pub IsShort : List ℕ → Type 0
 IsShort why = length why ≤ 65536
+
+-- a query that is its own listening form, so that it is in key order where it isn't filtered; in key order its cuts are
+-- next to keys, as all calls of a draft make them
+abbrev pub IsListened : Query → Type 0
+IsListened q =
+    (form q ≡ q) × IfSome q.range.lower (λ cut. may_cut q.index cut ≡ true)
+    × IfSome q.range.upper (λ cut. may_cut q.index cut ≡ true)
+
+-- what a write sets
+abbrev pub IsReadableAction : Action → Type 0
+IsReadableAction (Put path tree) = IsReadable tree
+IsReadableAction (Merge entries) = AreEntries entries
 
 -- ---- messages of the server
 
@@ -48,3 +70,31 @@ IsServerSame (Revoked tag why) n = n ≡ Revoked tag why
 -- the text is read as the message, up to the order of the entries
 abbrev pub IsServerText : ServerMessage → List ℕ → Type 0
 IsServerText m text = (n : ServerMessage) × (server_message text ≡ Ok n) × IsServerSame m n
+
+-- ---- messages of the client
+
+-- each part is within its limits
+abbrev pub IsClientMessage : ClientMessage → Type 0
+IsClientMessage (Listen tag query) = IsNumber tag × IsListened query
+IsClientMessage (Unlisten tag) = IsNumber tag
+IsClientMessage (Ask id (Now action)) = IsNumber id × IsReadableAction action
+IsClientMessage (Ask id (AtDisconnect (Run action))) = IsNumber id × IsReadableAction action
+IsClientMessage (Ask id (AtDisconnect (Cancel path))) = IsNumber id
+
+-- b is a up to the order of the entries
+abbrev pub IsSameAction : Action → Action → Type 0
+IsSameAction (Put path tree) b = b ≡ Put path tree
+IsSameAction (Merge entries) b = (others : List Assignment) × IsPermutation entries others × (b ≡ Merge others)
+
+-- n is m up to the order of the entries
+abbrev pub IsClientSame : ClientMessage → ClientMessage → Type 0
+IsClientSame (Listen tag query) n = n ≡ Listen tag query
+IsClientSame (Unlisten tag) n = n ≡ Unlisten tag
+IsClientSame (Ask id (Now action)) n = (b : Action) × IsSameAction action b × (n ≡ Ask id (Now b))
+IsClientSame (Ask id (AtDisconnect (Run action))) n =
+    (b : Action) × IsSameAction action b × (n ≡ Ask id (AtDisconnect (Run b)))
+IsClientSame (Ask id (AtDisconnect (Cancel path))) n = n ≡ Ask id (AtDisconnect (Cancel path))
+
+-- the text is read as the message, up to the order of the entries
+abbrev pub IsClientText : ClientMessage → List ℕ → Type 0
+IsClientText m text = (n : ClientMessage) × (client_message text ≡ Ok n) × IsClientSame m n

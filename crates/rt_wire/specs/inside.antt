@@ -1,5 +1,6 @@
 pub mod Places
 pub mod Standing
 pub mod StandingServer
+pub mod StandingClient
 pub mod Made
 pub mod QueryMembers

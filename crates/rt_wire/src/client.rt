@@ -6,6 +6,8 @@ ghost use Rattle.serde_json.specs.Written.{compact_text};
 ghost use Rattle.rt_wire.specs.Client.{client_message, client_message_in, query_at, put_in, merge_in, listen_in, unlisten_in};
 ghost use Rattle.rt_wire.specs.Client.{put_message, merge_message, od_put_message, od_merge_message, od_cancel_message};
 ghost use Rattle.rt_wire.specs.ClientData.{client_data, listen_data, action_data};
+ghost use Rattle.rt_wire.specs.ReadBack.{IsClientMessage, IsClientText};
+ghost use Rattle.rt_wire.specs.inside.StandingClient.{IsStandingListen, IsStandingAction, IsStandingRequest};
 
 use crate::entries::entries;
 use crate::error::WireError;
@@ -137,6 +139,7 @@ impl ClientMessage {
     /// The message as compact JSON, with the members of each object in the order of the bytes of their names.
     pub fn text(&self, alloc: Global) -> Result<String, AllocError>
         ensures text { IfOk result (λ text. string_bytes text ≡ compact_text (client_data self.now)) }
+        ensures reads_back { IfOk result (λ text. IsClientMessage self.now → IsClientText self.now (string_bytes text)) }
     {
         let value = self.to_value(alloc)?;
         value.to_string(alloc)
@@ -144,6 +147,7 @@ impl ClientMessage {
 
     fn to_value(&self, alloc: Global) -> Result<Value, AllocError>
         ensures value { IfOk result (λ value. view value ≡ client_data self.now) }
+        ensures standing { IfOk result (λ _. IsStandingRequest self.now) }
     {
         match self {
             ClientMessage::Listen { tag, query } => listen_value(alloc, *tag, query),
@@ -195,6 +199,7 @@ fn merge_action(alloc: Global, message: &Value) -> Result<Action, WireError>
 
 fn listen_value(alloc: Global, tag: u64, query: &Query) -> Result<Value, AllocError>
     ensures value { IfOk result (λ value. view value ≡ listen_data tag query.now) }
+    ensures standing { IfOk result (λ _. IsStandingListen query.now) }
 {
     let path = path_value(query.path())?;
     if !query.is_filtered() {
@@ -213,6 +218,7 @@ fn action_value(
     action: &Action,
 ) -> Result<Value, AllocError>
     ensures value { IfOk result (λ value. view value ≡ action_data id put.now merge.now action.now) }
+    ensures standing { IfOk result (λ _. IsStandingAction action.now) }
 {
     match action {
         Action::Put { path, tree } => {

@@ -7,7 +7,9 @@
 mod client;
 mod entries;
 mod error;
+pub mod examples;
 mod field;
+pub mod laws;
 mod made;
 mod query;
 mod query_json;

@@ -1,11 +1,13 @@
 // The member `q` of a listen, written.
-ghost use Rattle.std.specs.Prelude.{◌≡◌, codes, IfOk, OnOk, Some, None, option_map, string_bytes, if◌then◌else◌};
+ghost use Rattle.std.specs.Prelude.{◌≡◌, ◌≤◌, codes, IfOk, OnOk, IfSome, Some, None, option_map, string_bytes, if◌then◌else◌};
 ghost use Rattle.serde_json.specs.Data.{array, string, item, no_items};
 ghost use Rattle.serde_json.specs.View.{view, members_view};
 ghost use Rattle.serde_json.specs.Written.{compact_text};
-ghost use Rattle.rt_query.specs.Queries.{is_filtered};
+ghost use Rattle.rt_tree.specs.Key.{IsKey};
+ghost use Rattle.rt_query.specs.Queries.{is_filtered, most_rows};
 ghost use Rattle.rt_wire.specs.QueryData.{index_data, mark_data, cut_data, limit_data, query_data};
 ghost use Rattle.rt_wire.specs.inside.QueryMembers.{with_member_if};
+ghost use Rattle.rt_wire.specs.inside.StandingClient.{IsStandingIndex, IsStandingMark, IsStandingCut, IsStandingQuery};
 
 use crate::value::path_value;
 use rt_order::{Cut, Index, Mark, Place};
@@ -16,6 +18,7 @@ use std::alloc::{AllocError, Global};
 
 fn index_value(alloc: Global, index: &Index) -> Result<Value, AllocError>
     ensures value { IfOk result (λ value. view value ≡ index_data index.now) }
+    ensures standing { IfOk result (λ _. IsStandingIndex index.now) }
 {
     match index {
         Index::Key => Value::try_from_str(alloc, "key"),
@@ -26,6 +29,7 @@ fn index_value(alloc: Global, index: &Index) -> Result<Value, AllocError>
 
 fn mark_value(alloc: Global, mark: &Mark) -> Result<Value, AllocError>
     ensures value { IfOk result (λ value. view value ≡ mark_data mark.now) }
+    ensures standing { IfOk result (λ _. IsStandingMark mark.now) }
 {
     match mark {
         Mark::Null => Ok(Value::Null),
@@ -47,12 +51,14 @@ fn edge_value(alloc: Global, value: Value, word: &str) -> Result<Value, AllocErr
 // A cut next to a key.
 fn key_value(alloc: Global, value: Value, word: &str, key: &Key) -> Result<Value, AllocError>
     ensures cut { IfOk result (λ cut. view cut ≡ array (item (view value) (item (string word.now) (item (string key.now) no_items)))) }
+    ensures key { IfOk result (λ _. IsKey key.now) }
 {
     json!(in alloc; [value, word, key.text()])
 }
 
 fn cut_value(alloc: Global, cut: &Cut) -> Result<Value, AllocError>
     ensures value { IfOk result (λ value. view value ≡ cut_data cut.now) }
+    ensures standing { IfOk result (λ _. IsStandingCut cut.now) }
 {
     let value = mark_value(alloc, &cut.value)?;
     match &cut.place {
@@ -80,6 +86,7 @@ fn put_cut(
     cut: &Option<Cut>,
 ) -> Result<(), AllocError>
     ensures put { OnOk result (members_view members.new.entries ≡ with_member_if name.now (option_map cut_data cut.now) (members_view members.old.entries)) }
+    ensures standing { OnOk result (IfSome cut.now IsStandingCut) }
 {
     match cut {
         Some(cut) => put(members, alloc, name, cut_value(alloc, cut)?),
@@ -93,7 +100,8 @@ fn put_limit(
     alloc: Global,
     limit: Option<Limit>,
 ) -> Result<(), AllocError>
-    ensures { OnOk result (members_view members.new.entries ≡ with_member_if (codes "limit") (option_map limit_data limit) (members_view members.old.entries)) }
+    ensures put { OnOk result (members_view members.new.entries ≡ with_member_if (codes "limit") (option_map limit_data limit) (members_view members.old.entries)) }
+    ensures few { IfSome limit (λ limit. most_rows limit ≤ 4294967295) }
 {
     match limit {
         Some(limit) => put(members, alloc, "limit", limit_value(alloc, limit)?),
@@ -105,6 +113,7 @@ fn put_limit(
 #[tactic(auto, using(crate::proofs::QueryMembers::members_in_order))]
 pub(crate) fn query_value(alloc: Global, query: &Query) -> Result<Value, AllocError>
     ensures value { IfOk result (λ value. view value ≡ query_data query.now) }
+    ensures standing { IfOk result (λ _. IsStandingQuery query.now) }
 {
     let mut members = Map::new(alloc);
     put_limit(&mut members, alloc, query.limit())?;

@@ -1,9 +1,8 @@
 -- What the public contracts of this crate say, in two parts; nothing is said of a representation
 -- alone. Definitions that contracts name stand here. In reading order: Writes (a write, what
--- pending writes lay over a tree, and settling), Kept (what is so of all pending writes), Errors,
--- and Examples, which the prover computes. laws/ has what is proved of them for callers.
+-- pending writes lay over a tree, and settling), Kept (what is so of all pending writes), Errors.
+-- laws/ has what is proved of them for callers, and examples that the prover computes.
 pub mod Writes
 pub mod Kept
 pub mod Errors
-pub mod Examples
 pub mod laws

@@ -4,6 +4,7 @@ use Rattle.std.specs.Prelude.{Option, Some, None}
 use Rattle.std.specs.List.{fold, filter, find, flat_map, list_any}
 use Rattle.std.specs.Option.{option_map}
 use Rattle.rt_writes.specs.declared.write.Write as declared
+use Rattle.rt_tree.specs.declared.limits.TheConstants.{MAX_LEVELS}
 use Rattle.rt_tree.specs.PathTree.{Key, Path, strip, PathTree, sub, put, levels}
 use Rattle.rt_tree.specs.Assignments.{is_at_or_above, do_overlap, Assignment}
 
@@ -17,7 +18,7 @@ assignments writes = flat_map (λ w. w.entries) writes
 
 -- no leaf of a tree at p stands under more than 32 keys
 abbrev pub IsShallow : Assignment → Type 0
-IsShallow a = length a.0 + levels a.1 ≤ 33
+IsShallow a = length a.0 + levels a.1 ≤ MAX_LEVELS
 
 -- ---- the overlay
 

@@ -2,12 +2,11 @@
 ghost use Rattle.std.specs.Prelude.{◌≡◌, ◌↔◌, ◌+◌, ◌≤◌, ◌∷◌, [], ◌++◌, ◌||◌, length, IfOk, OnErr};
 ghost use Rattle.std.specs.Prelude.{IsTrue, true};
 ghost use Rattle.std.specs.List.{All, fold, list_any};
-ghost use Rattle.rt_tree.specs.PathTree.{levels};
+ghost use Rattle.rt_tree.specs.PathTree.{levels, sub, put};
 ghost use Rattle.rt_tree.specs.Assignments.{is_at_or_above, do_overlap, have_overlap};
 ghost use Rattle.rt_writes.specs.Writes.{IsShallow, overlaid};
 
-use crate::parts::{copy_part, keys_below, path_of};
-use rt_tree::{Key, Path, Tree, TreeError};
+use rt_tree::{Key, MAX_KEYS, MAX_LEVELS, Path, Tree, TreeError};
 use std::alloc::{AllocError, Global};
 use std::marker::Model;
 
@@ -119,7 +118,7 @@ impl Entries {
 pub fn is_shallow(path: &Path, tree: &Tree) -> bool
     ensures { IsTrue result ↔ IsShallow (path.now, tree.now) }
 {
-    path.keys().len() + tree.levels() <= 33
+    path.keys().len() + tree.levels() <= MAX_LEVELS
 }
 
 // Whether one of the two is at or above the other.
@@ -154,16 +153,49 @@ fn overlaid(
     ensures shallow { IfOk result (λ after. IsShallow (path.now, after)) }
     ensures touched { OnErr result (do_overlap at.now path.now ≡ true) }
 {
-    if let Some(rest) = keys_below(at, path) {
+    if let Some(rest) = path.strip_prefix(at) {
         return copy_part(alloc, entry, rest);
     }
-    let Some(rest) = keys_below(path, at) else {
+    let Some(rest) = at.strip_prefix(path) else {
         return Ok(tree);
     };
-    let rest = path_of(alloc, rest)?;
-    let entry = entry.copy(alloc)?;
+    // States that no path has more than 32 keys.
+    let _is_path = at.keys();
+    put_copy(alloc, tree, rest, entry)
+}
+
+// A copy of the part of the tree below these keys; null where there is none.
+fn copy_part(alloc: Global, tree: &Tree, keys: &[Key]) -> Result<Tree, AllocError>
+    ensures { IfOk result (λ copy. copy ≡ sub tree.now keys.now) }
+{
+    match tree.at(keys) {
+        Some(part) => part.copy(alloc),
+        None => Ok(Tree::null()),
+    }
+}
+
+// The path of these keys.
+fn path_of(alloc: Global, keys: &[Key]) -> Result<Path, AllocError>
+    requires { length keys.now ≤ MAX_KEYS }
+    ensures { IfOk result (λ path. path ≡ keys.now) }
+{
+    match Path::from_keys(alloc, keys) {
+        Ok(path) => Ok(path),
+        Err(TreeError::NoMemory) => Err(AllocError),
+        Err(_) => unreachable!(),
+    }
+}
+
+// The tree with a copy of the other one put below these keys.
+fn put_copy(alloc: Global, tree: Tree, keys: &[Key], part: &Tree) -> Result<Tree, AllocError>
+    requires short { length keys.now ≤ MAX_KEYS }
+    requires shallow { IsShallow (keys.now, part.now) }
+    ensures { IfOk result (λ after. after ≡ put tree keys.now part.now) }
+{
+    let path = path_of(alloc, keys)?;
+    let part = part.copy(alloc)?;
     let mut after = tree;
-    match after.put(alloc, &rest, entry) {
+    match after.put(alloc, &path, part) {
         Ok(()) => Ok(after),
         Err(TreeError::NoMemory) => Err(AllocError),
         Err(_) => unreachable!(),

@@ -15,7 +15,6 @@ mod entries;
 mod error;
 pub mod examples;
 mod laws;
-mod parts;
 mod pending;
 mod write;
 

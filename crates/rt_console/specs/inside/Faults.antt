@@ -1,7 +1,8 @@
 -- When a run ends by a fault of its reader or its writer.
 use Rattle.std.specs.Prelude.{◌≡◌, ℕ, ◌+◌, ◌<◌, ◌⊎◌}
 use Rattle.rt_console.specs.declared.error.ConsoleError.{ConsoleError}
-use Rattle.rt_console.specs.declared.error.ConsoleError.TheVariants.{ReadFault, WriteFault, BadWords, NoMemory}
+use Rattle.rt_console.specs.declared.error.ConsoleError.TheVariants.{ReadFault, WriteFault}
+use Rattle.rt_console.specs.declared.error.ConsoleError.TheVariants.{BadWords, NoMemory}
 use Rattle.rt_console.specs.Run.{most_input}
 
 -- what a reader and a writer count: the bytes that were given, and the failures of each

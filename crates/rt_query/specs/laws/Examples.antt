@@ -1,14 +1,19 @@
 -- Outside examples, which the prover computes.
-use Rattle.std.specs.Prelude.{◌≡◌, ℕ, false, true, List, [], ◌∷◌, map, pos, negsuc, Option, Some, None, codes}
+use Rattle.std.specs.Prelude.{◌≡◌, ℕ, false, true, List, [], ◌∷◌, map, pos, negsuc, Option, Some}
+use Rattle.std.specs.Prelude.{None, codes}
 use Rattle.rt_tree.specs.Leaf.{truth, number, text}
 use Rattle.rt_tree.specs.PathTree.{Key, PathTree, of_leaf, object}
 use Rattle.rt_order.specs.declared.index.Index.TheVariants as index
 use Rattle.rt_order.specs.declared.cut.Mark.{Mark}
 use Rattle.rt_order.specs.declared.cut.Mark.TheVariants as mark
-use Rattle.rt_query.specs.declared.error.QueryError.TheVariants.{OrderTwice, StartTwice, EndTwice, LimitTwice, LimitZero, NeedsText, KeyNotAllowed, NoOrder, BadBoundKey}
+use Rattle.rt_query.specs.declared.error.QueryError.TheVariants.{OrderTwice, StartTwice, EndTwice}
+use Rattle.rt_query.specs.declared.error.QueryError.TheVariants.{LimitTwice, LimitZero, NeedsText}
+use Rattle.rt_query.specs.declared.error.QueryError.TheVariants.{KeyNotAllowed, NoOrder}
+use Rattle.rt_query.specs.declared.error.QueryError.TheVariants.{BadBoundKey}
 use Rattle.rt_query.specs.declared.limit.Limit.TheVariants.{First, Last}
 use Rattle.rt_query.specs.Bounds.{Bound, start_at, start_after, end_at, end_before, equal_to}
-use Rattle.rt_query.specs.Calls.{ordered_by, order_refusal, limited_to, limit_refusal, bounded_by, bound_refusal}
+use Rattle.rt_query.specs.Calls.{ordered_by, order_refusal, limited_to, limit_refusal, bounded_by}
+use Rattle.rt_query.specs.Calls.{bound_refusal}
 use Rattle.rt_query.specs.Drafts.{Draft, new_draft, finished}
 use Rattle.rt_query.specs.Select.{select}
 
@@ -46,9 +51,15 @@ with_v t = object ((codes "v", t) ∷ [])
 -- {"a":{"v":{"z":1}},"b":{"v":"9"},"c":{"v":10},"d":{"v":-3},"e":{"v":true},"f":{"v":false},"g":1}
 abbrev pub mixed : PathTree
 mixed = object (
-    (codes "a", with_v (object ((codes "z", of_leaf (number (pos 1))) ∷ []))) ∷ (codes "b", with_v (of_leaf (text (codes "9"))))
+    (codes "a", with_v (object ((codes "z", of_leaf (number (pos 1))) ∷ []))) ∷ (
+      codes "b",
+      with_v (of_leaf (text (codes "9"))),
+    )
     ∷ (codes "c", with_v (of_leaf (number (pos 10)))) ∷ (codes "d", with_v (of_leaf (number (negsuc 2))))
-    ∷ (codes "e", with_v (of_leaf (truth true))) ∷ (codes "f", with_v (of_leaf (truth false))) ∷ (codes "g", of_leaf (number (pos 1))) ∷ [])
+    ∷ (codes "e", with_v (of_leaf (truth true))) ∷ (
+      codes "f",
+      with_v (of_leaf (truth false)),
+    ) ∷ (codes "g", of_leaf (number (pos 1))) ∷ [])
 
 abbrev pub ByChild : Type 0
 ByChild = keys_shown (ordered_by (index.Child (codes "v" ∷ [])) fresh) mixed ≡ letters (codes "gfedcba")
@@ -88,16 +99,23 @@ EqualsKey = among_fives equal_to (Some (codes "k")) ≡ letters (codes "k")
 
 -- startAt(5) with limitToLast(2), and with limitToFirst(2)
 abbrev pub LastTwo : Type 0
-LastTwo = keys_shown (limited_to (Last 2) (bounded_by start_at (numbered 5) None by_value)) fives ≡ letters (codes "lm")
+LastTwo =
+    keys_shown (limited_to (Last 2) (bounded_by start_at (numbered 5) None by_value)) fives
+    ≡ letters (codes "lm")
 
 abbrev pub FirstTwo : Type 0
-FirstTwo = keys_shown (limited_to (First 2) (bounded_by start_at (numbered 5) None by_value)) fives ≡ letters (codes "jk")
+FirstTwo =
+    keys_shown (limited_to (First 2) (bounded_by start_at (numbered 5) None by_value)) fives
+    ≡ letters (codes "jk")
 
 -- startAt("b") in key order over {"a":1,"b":2,"10":3}
 abbrev pub StartsAtText : Type 0
 StartsAtText =
     keys_shown (bounded_by start_at (worded (codes "b")) None by_key) (object (
-    (codes "10", of_leaf (number (pos 3))) ∷ (codes "a", of_leaf (number (pos 1))) ∷ (codes "b", of_leaf (number (pos 2))) ∷ []))
+    (codes "10", of_leaf (number (pos 3))) ∷ (codes "a", of_leaf (number (pos 1))) ∷ (
+      codes "b",
+      of_leaf (number (pos 2)),
+    ) ∷ []))
     ≡ letters (codes "b")
 
 -- ---- refusals
@@ -108,7 +126,8 @@ GivenTwice =
     order_refusal by_key ∷ limit_refusal 1 (limited_to (First 1) fresh) ∷ limit_refusal 0 fresh ∷ []
     ≡ Some OrderTwice ∷ Some LimitTwice ∷ Some LimitZero ∷ []
 
--- startAfter(2) after startAt(1); equalTo(1) after startAt(1); endAt(2) after equalTo(1); startAt(1) without an order
+-- startAfter(2) after startAt(1); equalTo(1) after startAt(1); endAt(2) after equalTo(1);
+-- startAt(1) without an order
 abbrev pub BoundTwice : Type 0
 BoundTwice =
     bound_refusal start_after (numbered 2) None (bounded_by start_at (numbered 1) None by_value)
@@ -118,7 +137,8 @@ BoundTwice =
     ∷ []
     ≡ Some StartTwice ∷ Some StartTwice ∷ Some EndTwice ∷ Some NoOrder ∷ []
 
--- in key order startAt(5), startAt("a","k"), startAt("a.b") and startAt("b"); in value order startAt(1,"a.b")
+-- in key order startAt(5), startAt("a","k"), startAt("a.b") and startAt("b"); in value order
+-- startAt(1,"a.b")
 abbrev pub BadlyNamed : Type 0
 BadlyNamed =
     bound_refusal start_at (numbered 5) None by_key

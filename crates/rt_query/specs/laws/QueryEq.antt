@@ -5,7 +5,8 @@ use lib.Pointwise.{pointwise_decides}
 use Rattle.std.specs.Option.{option_eq}
 use Rattle.std.specs.Cmp.{nat_eq_equiv}
 use Rattle.rt_tree.specs.PathTree.{key_eq, key_eq-is, key_eq-same, path_eq, path_eq-is, path_eq-same}
-use Rattle.rt_tree.specs.TreeEq.{Tells, tells, both_first, both_second, both, leaf_eq, leaf_eq_tells, tree_eq_tells}
+use Rattle.rt_tree.specs.TreeEq.{Tells, tells, both_first, both_second, both, leaf_eq}
+use Rattle.rt_tree.specs.TreeEq.{leaf_eq_tells, tree_eq_tells}
 use Rattle.rt_order.specs.Equality.{index_eq, range_eq}
 use Rattle.rt_order.specs.laws.Equality.{index_eq_tells, range_eq_tells, option_eq_tells}
 use Rattle.rt_query.specs.declared.limit.Limit.{Limit}
@@ -42,7 +43,9 @@ query_eq_tells = tells
     let ranges = (range_eq_tells q.range r.range).0 (both_second (a && b) c abc) in
     let limits = (option_eq_tells limit_eq_tells q.limit r.limit).0 (both_second (a && b && c) d e) in
     λ i. record { path = paths i; index = indices i; range = ranges i; limit = limits i })
-    (λ q. both _ _ (both _ _ (both _ _ (path_eq-same q.path) ((index_eq_tells q.index q.index).1 refl)) ((range_eq_tells q.range q.range).1 refl))
+    (λ q. both _ _
+    (both _ _ (both _ _ (path_eq-same q.path) ((index_eq_tells q.index q.index).1 refl))
+    ((range_eq_tells q.range q.range).1 refl))
     ((option_eq_tells limit_eq_tells q.limit q.limit).1 refl))
 
 -- ---- what is shown
@@ -59,9 +62,12 @@ pub shown_eq_tells : Tells shown_eq
 shown_eq_tells = tells
     (λ a b h i. record {
       leaf = (option_eq_tells leaf_eq_tells a.leaf b.leaf).0 (both_first _ _ h) i;
-      rows = (pointwise_decides row_eq_tells a.rows b.rows).0 (both_second (option_eq leaf_eq a.leaf b.leaf) _ h) i;
+      rows =
+          (pointwise_decides row_eq_tells a.rows b.rows).0
+          (both_second (option_eq leaf_eq a.leaf b.leaf) _ h) i;
     })
-    (λ a. both _ _ ((option_eq_tells leaf_eq_tells a.leaf a.leaf).1 refl) ((pointwise_decides row_eq_tells a.rows a.rows).1 refl))
+    (λ a. both _ _ ((option_eq_tells leaf_eq_tells a.leaf a.leaf).1 refl)
+    ((pointwise_decides row_eq_tells a.rows a.rows).1 refl))
 
 -- the tests of equality tell exactly the equal ones
 abbrev pub EqualityTells : Type 0

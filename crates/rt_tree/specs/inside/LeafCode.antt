@@ -24,4 +24,6 @@ from_parts-to_parts (number n) = refl
 from_parts-to_parts (text s) = refl
 
 abbrev pub leaf_code : Coded LeafValue
-leaf_code = code_by LeafParts (coded⊎ coded_bool (coded⊎ coded_ℤ (coded_list coded_ℕ))) to_parts from_parts from_parts-to_parts
+leaf_code =
+    code_by LeafParts (coded⊎ coded_bool (coded⊎ coded_ℤ (coded_list coded_ℕ)))
+    to_parts from_parts from_parts-to_parts

@@ -10,8 +10,12 @@ child_or_null es k = option_map_or (λ t. t) (child_of es k) null
 
 -- fs are the children of es after u came at p below k
 abbrev pub PutsBelow : List (Key × PathTree) → List (Key × PathTree) → Key → Path → PathTree → Type 0
-PutsBelow es fs k p u = (j : Key) → child_of fs j ≡ cond (key_eq k j) (non_null (put (child_or_null es k) p u)) (child_of es j)
+PutsBelow es fs k p u =
+    (j : Key) → child_of fs j ≡ cond (key_eq k j) (non_null (put (child_or_null es k) p u))
+    (child_of es j)
 
 -- fs are the children of es with u at k, unless it is null
 abbrev pub AddsChild : List (Key × PathTree) → List (Key × PathTree) → Key → PathTree → Type 0
-AddsChild es fs k u = (j : Key) → child_of fs j ≡ cond (key_eq k j) (option_map_or Some (non_null u) (child_of es j)) (child_of es j)
+AddsChild es fs k u =
+    (j : Key) → child_of fs j ≡ cond (key_eq k j) (option_map_or Some (non_null u) (child_of es j))
+    (child_of es j)

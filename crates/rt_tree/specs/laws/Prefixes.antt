@@ -1,5 +1,6 @@
 -- Laws of the orders of keys and paths, and of prefixes.
-use Rattle.std.specs.Prelude.{◌≡◌, suc, ◌+◌, true, false, cond, [], ◌∷◌, ◌++◌, length, Some, None, is_some, refl}
+use Rattle.std.specs.Prelude.{◌≡◌, suc, ◌+◌, true, false, cond, [], ◌∷◌, ◌++◌, length, Some, None}
+use Rattle.std.specs.Prelude.{is_some, refl}
 use Rattle.std.proofs.Common.{sym, ap, ◌∙◌, arith}
 use Rattle.std.specs.declared.cmp.Ordering.TheVariants.{Less, Equal, Greater}
 use Rattle.std.specs.Ordering.{is_eq, ordering_then}
@@ -23,7 +24,8 @@ pub path_eq-append : (p q x : Path) → path_eq (p ++ q) x ≡ option_map_or (pa
 path_eq-append [] q x = refl
 path_eq-append (k ∷ p) q [] = refl
 path_eq-append (k ∷ p) q (j ∷ x) =
-    elim (key_cmp k j) as (λ o. is_eq (ordering_then o (path_cmp (p ++ q) x)) ≡ option_map_or (path_eq q) (cond (is_eq o) (strip p x) None) false) [
+    elim (key_cmp k j) as (λ o. is_eq (ordering_then o (path_cmp (p ++ q) x))
+    ≡ option_map_or (path_eq q) (cond (is_eq o) (strip p x) None) false) [
       | Less ↦ refl
       | Equal ↦ path_eq-append p q x
       | Greater ↦ refl
@@ -55,7 +57,8 @@ pub length-strip : (p q r : Path) → strip p q ≡ Some r → length q ≡ leng
 length-strip [] q r e = omega (arith, ap (λ o. length (unwrap_or o [])) e)
 length-strip (k ∷ p) [] r e = cc
 length-strip (k ∷ p) (j ∷ q) r e =
-    elim (key_eq k j) as (λ b. cond b (strip p q) None ≡ Some r → suc (length q) ≡ suc (length p) + length r) [
+    elim (key_eq k j) as (λ b. cond b (strip p q) None ≡ Some r
+    → suc (length q) ≡ suc (length p) + length r) [
       | true ↦ λ h. omega (arith, length-strip p q r h)
       | false ↦ λ h. cc
     ] e
@@ -65,18 +68,23 @@ pub strip-more : (p q r s : Path) → strip p q ≡ Some r → strip p (q ++ s) 
 strip-more [] q r s e = ap (λ o. Some (unwrap_or o [] ++ s)) e
 strip-more (k ∷ p) [] r s e = cc
 strip-more (k ∷ p) (j ∷ q) r s e =
-    elim (key_eq k j) as (λ b. cond b (strip p q) None ≡ Some r → cond b (strip p (q ++ s)) None ≡ Some (r ++ s)) [
+    elim (key_eq k j) as (λ b. cond b (strip p q) None ≡ Some r
+    → cond b (strip p (q ++ s)) None ≡ Some (r ++ s)) [
       | true ↦ λ h. strip-more p q r s h
       | false ↦ λ h. cc
     ] e
 
 -- q is not under p, and what is under q is: then p is under q
-pub strip-crossed : (p q r s : Path) → strip p q ≡ None → strip p (q ++ s) ≡ Some r → is_some (strip q p) ≡ true
+pub strip-crossed : (p q r s : Path) → strip p q ≡ None → strip p (q ++ s) ≡ Some r
+    → is_some (strip q p) ≡ true
 strip-crossed [] q r s e f = cc
 strip-crossed (k ∷ p) [] r s e f = refl
 strip-crossed (k ∷ p) (j ∷ q) r s e f =
-    elim (key_eq k j) as (λ b. key_eq k j ≡ b → cond b (strip p q) None ≡ None → cond b (strip p (q ++ s)) None ≡ Some r → is_some (cond (key_eq j k) (strip q p) None) ≡ true) [
-      | true ↦ λ h g i. ap (λ b. is_some (cond b (strip q p) None)) (key_eq-symm j k ∙ h) ∙ strip-crossed p q r s g i
+    elim (key_eq k j) as (λ b. key_eq k j ≡ b → cond b (strip p q) None ≡ None
+    → cond b (strip p (q ++ s)) None ≡ Some r
+    → is_some (cond (key_eq j k) (strip q p) None) ≡ true) [
+      | true ↦ λ h g i. ap (λ b. is_some (cond b (strip q p) None)) (key_eq-symm j k ∙ h)
+          ∙ strip-crossed p q r s g i
       | false ↦ λ h g i. cc
     ] refl e f
 
@@ -94,7 +102,8 @@ pub strip-under : (p q x : Path) → strip (p ++ q) x ≡ option_and_then (strip
 strip-under [] q x = refl
 strip-under (k ∷ p) q [] = refl
 strip-under (k ∷ p) q (j ∷ x) =
-    elim (key_eq k j) as (λ b. cond b (strip (p ++ q) x) None ≡ option_and_then (strip q) (cond b (strip p x) None)) [
+    elim (key_eq k j) as (λ b. cond b (strip (p ++ q) x) None
+    ≡ option_and_then (strip q) (cond b (strip p x) None)) [
       | true ↦ strip-under p q x
       | false ↦ refl
     ]

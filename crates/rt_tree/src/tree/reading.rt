@@ -1,5 +1,7 @@
-// Trees are read from JSON: first the data is walked for a fault, and then the tree is built, which only memory can stop.
-ghost use Rattle.std.specs.Prelude.{None, Some, OnOk, IfOk, IfErr, IfSome, ◌≡◌, ◌<◌, ◌≤◌, ◌^◌, ◌⊎◌, length};
+// Trees are read from JSON: first the data is walked for a fault, and then the tree is built, which
+// only memory can stop.
+ghost use Rattle.std.specs.Prelude.{None, Some, OnOk, IfOk, IfErr, IfSome, ◌≡◌, ◌<◌, ◌≤◌, ◌^◌, ◌⊎◌};
+ghost use Rattle.std.specs.Prelude.{length};
 ghost use Rattle.std.specs.Option.{option_map};
 ghost use Rattle.std.specs.BTreeMap.{IsOrdered};
 ghost use Rattle.serde_json.specs.Read.{read};
@@ -7,30 +9,29 @@ ghost use Rattle.serde_json.specs.View.{view, items_view, members_view};
 ghost use Rattle.rt_tree.specs.Leaves.{key_cmp};
 ghost use Rattle.rt_tree.specs.Trees.{object};
 ghost use Rattle.rt_tree.specs.inside.Puts.{AddsChild};
-ghost use Rattle.rt_tree.specs.Reading.{tree_of_data, item_trees, member_trees, visits, item_visits, member_visits, walked, data_fault, text_fault, IsTreeData, AreTreeItems, AreTreeMembers};
+ghost use Rattle.rt_tree.specs.Reading.{tree_of_data, item_trees, member_trees, visits};
+ghost use Rattle.rt_tree.specs.Reading.{item_visits, member_visits, walked, data_fault, text_fault};
+ghost use Rattle.rt_tree.specs.Reading.{IsTreeData, AreTreeItems, AreTreeMembers};
 
 use super::{Tree, set_child};
 use crate::error::TreeError;
 use crate::key::{Key, check_key, index_key, valid_key};
-use crate::leaf::{Leaf, MAX_TEXT_BYTES, MAX_WHOLE, short_text, whole_number};
+use crate::leaf::{Leaf, short_text, whole_number};
+use crate::limits::{MAX_KEYS, MAX_NODES, MAX_TEXT_BYTES, MAX_WHOLE, MIN_WHOLE};
 use serde_json::Value;
 use std::alloc::{AllocError, Global};
 use std::collections::BTreeMap;
 
-// The most values that are read.
-const MAX_NODES: u32 = 65536;
-
-// The most keys that stand above a value.
-const MAX_KEYS_ABOVE: u32 = 32;
-
 impl Tree {
     /// The tree that a JSON text stands for, read as RFC 8259 has it.
     ///
-    /// An array is an object with the keys `"0"`, `"1"`, ..; a null and an empty object stand for nothing.
+    /// An array is an object with the keys `"0"`, `"1"`, ..; a null and an empty object stand for
+    /// nothing.
     ///
     /// # Errors
     ///
-    /// `NotJson` where the text is no JSON or nests deeper than 127 levels, and what `from_value` refuses.
+    /// `NotJson` where the text is no JSON or nests deeper than 127 levels, and what `from_value`
+    /// refuses.
     pub fn read(alloc: Global, text: &str) -> Result<Tree, TreeError>
         ensures ok { IfOk result (λ tree. option_map tree_of_data (read text.now) ≡ Some tree) }
         ensures fault { IfErr result (λ e. (text_fault text.now ≡ Some e) ⊎ (e ≡ TreeError.NoMemory)) }
@@ -45,14 +46,15 @@ impl Tree {
 
     /// The tree that a JSON value stands for.
     ///
-    /// The values are looked at depth first, elements in order, members by the bytes of their names, and the first fault
-    /// is answered. At each value these are looked at in order: its number (`TooManyNodes` from the 65,537th on), the
-    /// number of keys above it (`TooDeep` from 33 on), its name (`KeyTooLong`, `BadKey`), and the value itself
-    /// (`NotWhole`, `TextTooLong`).
+    /// The values are looked at depth first, elements in order, members by the bytes of their
+    /// names, and the first fault is answered. At each value these are looked at in order: its
+    /// number (`TooManyNodes` from the 65,537th on), the number of keys above it (`TooDeep` from 33
+    /// on), its name (`KeyTooLong`, `BadKey`), and the value itself (`NotWhole`, `TextTooLong`).
     pub fn from_value(alloc: Global, value: &Value) -> Result<Tree, TreeError>
         ensures ok { IfOk result (λ tree. tree ≡ tree_of_data (view value.now)) }
         ensures first { IfSome (data_fault (view value.now)) (λ e. result ≡ Err e) }
-        ensures memory { data_fault (view value.now) ≡ None → IfErr result (λ e. e ≡ TreeError.NoMemory) }
+        ensures memory { data_fault (view value.now) ≡ None
+            → IfErr result (λ e. e ≡ TreeError.NoMemory) }
     {
         walk(value, 0, None, 0)?;
         Ok(Tree::build(alloc, value)?)
@@ -102,7 +104,8 @@ impl Tree {
     #[cycle(build)]
     fn of_members(alloc: Global, members: &BTreeMap<String, Value>) -> Result<Tree, AllocError>
         requires { AreTreeMembers (members_view members.now.entries) }
-        ensures { IfOk result (λ tree. tree ≡ object (member_trees (members_view members.now.entries))) }
+        ensures { IfOk result (λ tree. tree
+            ≡ object (member_trees (members_view members.now.entries))) }
     {
         let mut children = BTreeMap::new(alloc);
         for (name, member) in members.iter() {
@@ -126,17 +129,19 @@ fn add_child(children: &mut BTreeMap<Key, Tree>, key: Key, child: Tree) -> Resul
     Ok(())
 }
 
-// Walks a value that stands below `level` keys: the first fault in it, or how many values were seen with those in it.
+// Walks a value that stands below `level` keys: the first fault in it, or how many values were seen
+// with those in it.
 #[cycle(walk)]
-fn walk(value: &Value, level: u32, name: Option<&str>, seen: u32) -> Result<u32, TreeError>
-    requires { seen ≤ 65536 }
-    ensures walked { result ≡ walked seen (visits level (option_map (λ s. s.now) name.entry) (view value.now)) }
-    ensures bound { IfOk result (λ n. n ≤ 65536) }
+fn walk(value: &Value, level: usize, name: Option<&str>, seen: usize) -> Result<usize, TreeError>
+    requires { seen ≤ MAX_NODES }
+    ensures walked { result ≡ walked seen
+        (visits level (option_map (λ s. s.now) name.entry) (view value.now)) }
+    ensures bound { IfOk result (λ n. n ≤ MAX_NODES) }
 {
     if seen >= MAX_NODES {
         return Err(TreeError::TooManyNodes);
     }
-    if level > MAX_KEYS_ABOVE {
+    if level > MAX_KEYS {
         return Err(TreeError::TooDeep);
     }
     if let Some(name) = name {
@@ -145,7 +150,7 @@ fn walk(value: &Value, level: u32, name: Option<&str>, seen: u32) -> Result<u32,
     match value {
         Value::Null | Value::Bool(_) => Ok(seen + 1),
         Value::Number(number) => match number.as_i64() {
-            Some(whole) if whole >= -MAX_WHOLE && whole <= MAX_WHOLE => Ok(seen + 1),
+            Some(whole) if whole >= MIN_WHOLE && whole <= MAX_WHOLE => Ok(seen + 1),
             _ => Err(TreeError::NotWhole),
         },
         Value::String(text) => {
@@ -160,10 +165,10 @@ fn walk(value: &Value, level: u32, name: Option<&str>, seen: u32) -> Result<u32,
 }
 
 #[cycle(walk)]
-fn walk_items(items: &[Value], level: u32, seen: u32) -> Result<u32, TreeError>
-    requires { seen ≤ 65536 }
+fn walk_items(items: &[Value], level: usize, seen: usize) -> Result<usize, TreeError>
+    requires { seen ≤ MAX_NODES }
     ensures walked { result ≡ walked seen (item_visits level (items_view items.now)) }
-    ensures bound { IfOk result (λ n. n ≤ 65536) }
+    ensures bound { IfOk result (λ n. n ≤ MAX_NODES) }
 {
     let mut counted = seen;
     for item in items {
@@ -173,10 +178,14 @@ fn walk_items(items: &[Value], level: u32, seen: u32) -> Result<u32, TreeError>
 }
 
 #[cycle(walk)]
-fn walk_members(members: &BTreeMap<String, Value>, level: u32, seen: u32) -> Result<u32, TreeError>
-    requires { seen ≤ 65536 }
+fn walk_members(
+    members: &BTreeMap<String, Value>,
+    level: usize,
+    seen: usize,
+) -> Result<usize, TreeError>
+    requires { seen ≤ MAX_NODES }
     ensures walked { result ≡ walked seen (member_visits level (members_view members.now.entries)) }
-    ensures bound { IfOk result (λ n. n ≤ 65536) }
+    ensures bound { IfOk result (λ n. n ≤ MAX_NODES) }
 {
     let mut counted = seen;
     for (name, member) in members.iter() {

@@ -42,7 +42,8 @@ impl Tree {
         ensures text { IfOk result (λ text. string_bytes text ≡ compact_text (data_of self.now)) }
         ensures reads_back { IfOk result (λ text. read (string_bytes text) ≡ Some (data_of self.now)) }
         ensures same_tree { IfOk result (λ _. tree_of_data (data_of self.now) ≡ self.now) }
-        ensures read_fault { IfOk result (λ text. text_fault (string_bytes text) ≡ back_fault self.now) }
+        ensures read_fault { IfOk result (λ text. text_fault (string_bytes text)
+            ≡ back_fault self.now) }
     {
         let value = self.to_value(alloc)?;
         value.to_string(alloc)
@@ -70,8 +71,10 @@ fn members_of(
     children: &BTreeMap<Key, Tree>,
 ) -> Result<Map<String, Value>, AllocError>
     requires { IsOrdered key_cmp children.now }
-    ensures members { IfOk result (λ members. members_view members.entries ≡ members_with data_of children.now.entries) }
-    ensures same_trees { IfOk result (λ members. member_trees (members_view members.entries) ≡ children.now.entries) }
+    ensures members { IfOk result (λ members. members_view members.entries
+        ≡ members_with data_of children.now.entries) }
+    ensures same_trees { IfOk result (λ members. member_trees (members_view members.entries)
+        ≡ children.now.entries) }
 {
     let mut members = BTreeMap::new(alloc);
     for (key, child) in children {
@@ -88,7 +91,8 @@ fn set_member(
     name: String,
     value: Value,
 ) -> Result<(), AllocError>
-    ensures { OnOk result (members_view members.new.entries ≡ put (string_bytes name) (view value) (members_view members.old.entries)) }
+    ensures { OnOk result (members_view members.new.entries
+        ≡ put (string_bytes name) (view value) (members_view members.old.entries)) }
 {
     members.insert(name, value)?;
     Ok(())

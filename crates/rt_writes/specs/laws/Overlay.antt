@@ -1,5 +1,6 @@
 -- Laws of the overlay.
 use Rattle.std.specs.Prelude.{◌≡◌, ◌≤◌, true, false, List, [], ◌∷◌, ◌++◌, length}
+use Rattle.rt_tree.specs.declared.limits.TheConstants.{MAX_LEVELS}
 use Rattle.rt_tree.specs.PathTree.{Key, Path, PathTree, sub, child}
 use Rattle.rt_writes.specs.Writes.{Write, IsShallow, overlay, touches, sets_whole}
 
@@ -31,4 +32,4 @@ OverlayOfWhole =
 abbrev pub PartIsShallow : Type 0
 PartIsShallow =
     (p q : Path) (t : PathTree)
-    → length (p ++ q) ≤ 33 → IsShallow (p, t) → IsShallow (p ++ q, sub t q)
+    → length (p ++ q) ≤ MAX_LEVELS → IsShallow (p, t) → IsShallow (p ++ q, sub t q)

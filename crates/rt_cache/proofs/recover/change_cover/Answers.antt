@@ -1,5 +1,9 @@
-use Rattle.std.proofs.Common.{rules, ◌≡◌, ◌∙◌, ◌++◌, ap, sym, arith, not, false, List, IsOk}
+use Rattle.std.proofs.Common.{rules, ◌≡◌, ◌∙◌, ◌++◌, ap, sym, subst, arith, not, List, IsOk}
 use Rattle.std.specs.List.{filter, flat_map}
+use lib.Dec.{T}
+use Rattle.std.specs.FinMap as map_of
+use Rattle.std.specs.FinMap.Entries.{is_sorted-where_key}
+use Rattle.rt_tree.specs.PathTree.{path_cmp}
 use Rattle.rt_tree.specs.Assignments.{have_overlap}
 use Rattle.rt_cache.specs.Recover.{reaches, parts_of, with_regions, regions_kept, window_left, in_query_order}
 use Rattle.rt_cache.specs.declared.window.Window.{Window}
@@ -10,6 +14,14 @@ use Rattle.rt_cache.proofs.InPlace.{pairs_of-filter_by}
 use Rattle.rt_cache.proofs.Keeping.{stays, kept_listed}
 use Rattle.rt_cache.proofs.Stays.{Regions}
 use Rattle.rt_cache.proofs.recover.change_cover.Goals as goal
+
+pub insert_all-requires-clause-sorted : goal.insert_all-requires-clause-sorted
+insert_all-requires-clause-sorted c =
+    let old : Regions = pairs_of c.args.regions.now.items in
+    let stay : pairs_of c.retain_reached.new.regions.items ≡ filter (λ r. reaches c.args.kept.now r.0) old =
+    ap pairs_of c.retain_reached.ensures.left ∙ pairs_of-filter_by (λ p. reaches c.args.kept.now p) c.reserve-2.new.self.items
+    ∙ ap (λ rs. filter (λ r. reaches c.args.kept.now r.0) (pairs_of rs)) c.reserve-2.ensures.items in
+    subst (λ rs. T (map_of.is_sorted path_cmp rs)) (sym stay) (is_sorted-where_key path_cmp (λ p. reaches c.args.kept.now p) old c.requires.sorted)
 
 pub insert_all-requires-clause-apart : goal.insert_all-requires-clause-apart
 insert_all-requires-clause-apart c =

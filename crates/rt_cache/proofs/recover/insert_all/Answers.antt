@@ -1,8 +1,9 @@
-use Rattle.std.proofs.Common.{rules, ◌≡◌, ◌≤◌, ◌+◌, ◌++◌, ◌∷◌, [], List, length, ap, sym, subst, refl, arith, ◌∙◌, false}
+use Rattle.std.proofs.Common.{◌≡◌, ◌++◌, ◌∷◌, [], List, length, ap, sym, subst, refl, arith, ◌∙◌, false}
+use lib.Dec.{T}
 use Rattle.std.specs.FinMap as map_of
-use Rattle.std.specs.Vec.{vec_capacity, vec_len}
+use Rattle.std.specs.FinMap.Entries.{is_sorted-put}
 use Rattle.std.specs.Vec.Iter.{into_iter_items}
-use Rattle.rt_tree.specs.PathTree.{path_cmp}
+use Rattle.rt_tree.specs.PathTree.{path_cmp, paths_total}
 use Rattle.rt_tree.specs.Assignments.{have_overlap}
 use Rattle.rt_cache.specs.Recover.{with_regions}
 use Rattle.rt_cache.specs.declared.region.Region.{Region}
@@ -18,6 +19,9 @@ pub insert-requires-clause-room : goal.insert-requires-clause-room
 insert-requires-clause-room c =
     let rest : into_iter_items c.loop-region.region-iterator ≡ c.in-Some.region ∷ into_iter_items c.next.new.self = c.in-Some.ensures.steps.0 in
     omega (arith, c.loop-region.invariant.0, ap length rest)
+
+pub insert-requires-clause-sorted : goal.insert-requires-clause-sorted
+insert-requires-clause-sorted c = c.loop-region.invariant.3
 
 pub insert-requires-clause-absent : goal.insert-requires-clause-absent
 insert-requires-clause-absent c =
@@ -38,10 +42,12 @@ loop-region-preserved c =
           (subst (λ (xs : List Region). have_overlap (pairs_of c.loop-region.regions.items ++ pairs_of xs) ≡ false) rest c.loop-region.invariant.1)),
       ap (λ xs. with_regions xs (pairs_of left)) placed
           ∙ ap (λ (xs : List Region). with_regions (pairs_of c.loop-region.regions.items) (pairs_of xs)) (sym rest) ∙ c.loop-region.invariant.2,
-      omega (arith, short, c.in-Some.ensures.steps.1, c.loop-region.invariant.3),
+      subst (λ rs. T (map_of.is_sorted path_cmp rs)) (sym placed)
+          (is_sorted-put path_cmp paths_total (c.in-Some.region).path ((c.in-Some.region).tree).tree (pairs_of c.loop-region.regions.items) c.loop-region.invariant.3),
+      omega (arith, short, c.in-Some.ensures.steps.1, c.loop-region.invariant.4),
     )
 
 pub returns : goal.returns
 returns c =
-    ap (λ (xs : List Region). with_regions (pairs_of c.loop-region.regions.items) (pairs_of xs)) (sym (nothing_left (into_iter_items c.loop-region.region-iterator) (sym c.loop-region.invariant.3 ∙ c.in-None.ensures.steps.0)))
+    ap (λ (xs : List Region). with_regions (pairs_of c.loop-region.regions.items) (pairs_of xs)) (sym (nothing_left (into_iter_items c.loop-region.region-iterator) (sym c.loop-region.invariant.4 ∙ c.in-None.ensures.steps.0)))
     ∙ c.loop-region.invariant.2

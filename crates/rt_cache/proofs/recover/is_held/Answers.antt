@@ -22,7 +22,7 @@ returns-in-Some c =
 
 pub returns-in_default : goal.returns-in_default
 returns-in_default c =
-    let part : c.is_some.result ≡ is_some (region_part (pairs_of c.args.parts.now) c.args.path.now) = search rules in
+    let part : c.is_any_above.result ≡ is_some (region_part (pairs_of c.args.parts.now) c.args.path.now) = search rules in
     elim c.in_default.branch [
       | in_default-via-in-Some+else-reaches w ↦
           let region : Region = w.index-regions-place.result in

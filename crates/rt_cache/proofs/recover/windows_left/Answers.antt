@@ -4,7 +4,6 @@ use Rattle.std.specs.Option.{option_map}
 use Rattle.rt_query.specs.Queries.{Query}
 use Rattle.rt_cache.specs.Brought.{Window}
 use Rattle.rt_cache.specs.Recover.{regions_kept, window_left}
-use Rattle.rt_cache.specs.declared.window.Window as inside
 use Rattle.rt_cache.specs.inside.Held.{entry_of, pairs_of, entries_of, for_each}
 use Rattle.rt_cache.proofs.Keeping.{for_each-drop, one_more_left}
 use Rattle.rt_cache.proofs.recover.windows_left.Goals as goal

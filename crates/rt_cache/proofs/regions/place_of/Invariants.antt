@@ -1,9 +1,16 @@
-use Rattle.std.proofs.Common.{◌≡◌, ℕ, ◌<◌, false, get_or}
+use Rattle.std.proofs.Common.{◌≡◌, ℕ, suc, ◌-◌, ◌<◌, ◌≤◌, true, false, length, get_or}
 use Rattle.std.specs.Ordering.{is_lt}
 use Rattle.rt_tree.specs.PathTree.{path_cmp}
 use Rattle.rt_cache.specs.declared.region.Region.{Region}
 use Rattle.rt_cache.proofs.regions.place_of.Given as goal
 
--- the path comes before none of those so far
-abbrev pub invariant-loop-place : goal.invariant-loop-place
-invariant-loop-place l = (k : ℕ) (d : Region) → k < l.place → is_lt (path_cmp l.path (get_or l.regions k d).path) ≡ false
+-- the path comes before the one at `high`, and not before the one in front of `low`
+abbrev pub invariant-loop-low : goal.invariant-loop-low
+invariant-loop-low l =
+    (l.low ≤ l.high)
+    × (l.high ≤ length l.regions)
+    × ((k : ℕ) (d : Region) → suc k ≡ l.low → is_lt (path_cmp l.path (get_or l.regions k d).path) ≡ false)
+    × ((d : Region) → l.high < length l.regions → is_lt (path_cmp l.path (get_or l.regions l.high d).path) ≡ true)
+
+abbrev pub decreases-loop-low : goal.decreases-loop-low
+decreases-loop-low l = l.high - l.low

@@ -1,5 +1,5 @@
 use Rattle.std.specs.Prelude.{None}
-use Rattle.rt_push.specs.Laws.{stamps}
+use Rattle.rt_push.specs.laws.Ids.{stamps}
 use Rattle.rt_client.proofs.Texts.{keys-rise, no-integer}
 use Rattle.rt_client.proofs.laws.keys_rise.Goals as goal
 

@@ -1,6 +1,6 @@
 use Rattle.std.proofs.Common.{◌≡◌, ◌++◌, drop}
 use Rattle.rt_cover.specs.Cover.{forms}
-use Rattle.rt_cover.proofs.FormLaws.{unseen}
+use Rattle.rt_cover.proofs.SeenLaws.{unseen}
 use Rattle.rt_cover.proofs.forms.forms.Given as goal
 
 abbrev pub invariant-loop-listener : goal.invariant-loop-listener

@@ -1,7 +1,7 @@
 use Rattle.std.proofs.Common.{Bool, not, [], ◌∷◌, ◌++◌, sym, ap, ◌∙◌}
 use Rattle.rt_query.specs.Queries.{Query}
-use Rattle.rt_cover.proofs.CoverLaws.{is_covered}
-use Rattle.rt_cover.proofs.Pairs.{filter_takes, filter_leaves}
+use Rattle.rt_cover.specs.laws.CoverLaws.{is_covered}
+use Rattle.rt_cover.specs.laws.Pairs.{filter_takes, filter_leaves}
 use Rattle.rt_cover.proofs.forms.needed.Goals as goal
 use Rattle.rt_cover.proofs.forms.needed.Goals.{then-not-is_covered+in_ok-copy+in_ok-push, else-not-is_covered}
 

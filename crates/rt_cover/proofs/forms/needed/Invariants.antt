@@ -1,7 +1,7 @@
 use Rattle.std.proofs.Common.{◌≡◌, ◌++◌, drop, not}
 use Rattle.std.specs.List.{filter}
 use Rattle.rt_cover.specs.Cover.{needed}
-use Rattle.rt_cover.proofs.CoverLaws.{is_covered}
+use Rattle.rt_cover.specs.laws.CoverLaws.{is_covered}
 use Rattle.rt_cover.proofs.forms.needed.Given as goal
 
 abbrev pub invariant-loop-form : goal.invariant-loop-form

@@ -1,4 +1,4 @@
-use Rattle.rt_cover.proofs.KeepLaws.{kept_for_needed, needed_kept_for, stays}
+use Rattle.rt_cover.specs.laws.KeepLaws.{kept_for_needed, needed_kept_for, stays}
 use Rattle.rt_cover.proofs.TagLaws.{AreTagged-kept_for}
 use Rattle.rt_cover.proofs.laws.kept_law.Goals as goal
 

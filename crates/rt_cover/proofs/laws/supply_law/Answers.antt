@@ -1,4 +1,4 @@
-use Rattle.rt_cover.proofs.CoverLaws.{supplies_itself, supplies_trans, supplies_antisymm}
+use Rattle.rt_cover.specs.laws.CoverLaws.{supplies_itself, supplies_trans, supplies_antisymm}
 use Rattle.rt_cover.proofs.laws.supply_law.Goals as goal
 
 pub returns : goal.returns

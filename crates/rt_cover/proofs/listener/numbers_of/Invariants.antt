@@ -3,4 +3,4 @@ use Rattle.rt_cover.specs.State.{numbers_of}
 use Rattle.rt_cover.proofs.listener.numbers_of.Given as goal
 
 abbrev pub invariant-loop-listener : goal.invariant-loop-listener
-invariant-loop-listener l = l.numbers.items ++ numbers_of (drop l.listener-index l.listeners) l.listen ≡ numbers_of l.listeners l.listen
+invariant-loop-listener l = l.numbers.items ++ numbers_of (drop l.listener-index l.listeners) l.form ≡ numbers_of l.listeners l.form

@@ -1,7 +1,7 @@
 use Rattle.std.proofs.Common.{◌≡◌, ◌==◌, Bool, not, [], ◌∷◌, ◌++◌, sym, ap, ◌∙◌}
 use Rattle.std.specs.List.{list_any}
 use Rattle.rt_cover.specs.Cover.{Registered}
-use Rattle.rt_cover.proofs.Pairs.{filter_takes, filter_leaves}
+use Rattle.rt_cover.specs.laws.Pairs.{filter_takes, filter_leaves}
 use Rattle.rt_cover.proofs.listener.without_listeners.Goals as goal
 use Rattle.rt_cover.proofs.listener.without_listeners.Goals.{then-not-contains+in_ok-copy+in_ok-push, else-not-contains}
 

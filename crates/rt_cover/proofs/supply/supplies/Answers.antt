@@ -1,6 +1,6 @@
 use Rattle.std.proofs.Common.{sym, ◌∙◌, is_some}
 use Rattle.rt_tree.specs.PathTree.{strip}
-use Rattle.rt_cover.proofs.FormLaws.{supply_unfiltered}
+use Rattle.rt_cover.specs.laws.FormLaws.{supply_unfiltered}
 use Rattle.rt_cover.proofs.supply.supplies.Goals as goal
 
 pub returns-else-is_filtered : goal.returns-else-is_filtered

@@ -1,7 +1,7 @@
 use Rattle.std.proofs.Common.{sym, subst}
 use Rattle.std.specs.List.{All}
 use Rattle.rt_cover.specs.Shown.{IsCertified}
-use Rattle.rt_cover.proofs.ShownLaws.{shown_are_certified}
+use Rattle.rt_cover.specs.laws.ShownLaws.{shown_are_certified}
 use Rattle.rt_cover.proofs.cover.Cover.certificate.Goals as goal
 
 pub returns-clause-certified : goal.returns-clause-certified

@@ -1,6 +1,6 @@
 use Rattle.std.proofs.Common.{sym, subst}
 use Rattle.rt_cover.specs.Shown.{AreFewest}
-use Rattle.rt_cover.proofs.ShownLaws.{shown_are_fewest}
+use Rattle.rt_cover.specs.laws.ShownLaws.{shown_are_fewest}
 use Rattle.rt_cover.proofs.cover.Cover.open.Goals as goal
 
 pub returns-clause-fewest : goal.returns-clause-fewest

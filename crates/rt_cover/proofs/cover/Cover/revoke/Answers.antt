@@ -1,15 +1,19 @@
 use Rattle.std.proofs.Common.{◌≡◌, ◌<◌, ◌==◌, ℕ, not, sym, subst, ap, ◌∙◌}
-use Rattle.std.specs.List.{filter, AllPairs}
+use Rattle.std.specs.List.{filter, All, AllPairs}
 use Rattle.rt_cover.specs.declared.delta.Delta.{Delta}
 use Rattle.rt_cover.specs.Cover.{Registered}
 use Rattle.rt_cover.specs.State.{Cover, with_listeners, fault_of, difference, revoked, without_tag}
 use Rattle.rt_cover.specs.Shown.{IsTold}
-use Rattle.rt_cover.proofs.SoundLaws.{left_after_rise, revoke_known, is_told_without}
+use Rattle.rt_cover.specs.laws.SoundLaws.{HasForm, left_after_rise, left_after_forms, revoke_known, is_told_without}
 use Rattle.rt_cover.proofs.cover.Cover.revoke.Goals as goal
 
-pub change-requires : goal.change-requires
-change-requires c =
+pub change-requires-clause-rise : goal.change-requires-clause-rise
+change-requires-clause-rise c =
     subst (AllPairs (λ (l m : Registered). l.0 < m.0)) (sym c.in_ok-ended.ensures.left) (left_after_rise c.args.self.now c.args.tag c.parted.ensures.sound.listeners)
+
+pub change-requires-clause-forms : goal.change-requires-clause-forms
+change-requires-clause-forms c =
+    subst (All HasForm) (sym c.in_ok-ended.ensures.left) (left_after_forms c.args.self.now c.args.tag c.parted.ensures.sound.forms)
 
 pub returns-clause-delta : goal.returns-clause-delta
 returns-clause-delta c =

@@ -1,0 +1,34 @@
+-- Runs of calls: what is brought after any list of them, and which are taken.
+use Rattle.std.specs.Prelude.{◌≡◌, ◌+◌, ◌≤◌, Bool, true, false, not, List, [], ◌∷◌, length}
+use Rattle.std.specs.List.{fold}
+use Rattle.rt_tree.specs.PathTree.{levels}
+use Rattle.rt_tree.specs.Assignments.{is_at_or_above}
+use Rattle.rt_cache.specs.Brought.{Brought, push, is_without_window}
+use Rattle.rt_cache.specs.Recover.{do_plains_overlap, recover}
+use Rattle.rt_cache.specs.declared.run.Call.{Call}
+use Rattle.rt_cache.specs.declared.run.Call.TheVariants.{Put, Recover}
+
+-- what a caller owes: a push is at or under its query's path, and no deeper than trees are; of the
+-- plain listens kept none is at or above another
+abbrev pub IsAllowed : Call → Type 0
+IsAllowed (Put q p t) = (is_at_or_above q.path p ≡ true) × (length p + levels t ≤ 33)
+IsAllowed (Recover registered kept) = do_plains_overlap kept ≡ false
+
+-- what is brought after a call
+abbrev pub after : Brought → Call → Brought
+after b (Put q p t) = push q b (p, t)
+after b (Recover registered kept) = recover registered kept b
+
+-- after calls, one after another
+abbrev pub after_all : Brought → List Call → Brought
+after_all b calls = fold after b calls
+
+-- whether a call is taken: all are but a push that wants a window
+abbrev pub takes : Brought → Call → Bool
+takes b (Put q p t) = not (is_without_window b q (p, t))
+takes b (Recover registered kept) = true
+
+-- which of the calls are taken
+abbrev pub taken_all : Brought → List Call → List Bool
+taken_all b [] = []
+taken_all b (c ∷ cs) = takes b c ∷ taken_all (after b c) cs

@@ -1,0 +1,3 @@
+-- Laws for callers, and outside examples.
+pub mod Examples
+pub mod Runs

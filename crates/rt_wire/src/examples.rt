@@ -1,0 +1,68 @@
+//! Messages that the prover computes.
+ghost use Rattle.rt_wire.specs.Examples.{AnswersAreRead, PrefixesAreNoMessages, KindsAreUnknown, NumbersHaveBounds, FieldsComeFirst, SpellingsAreEntries, DepthIsBounded};
+ghost use Rattle.rt_wire.specs.Examples.{RequestsAreRead, QueriesHaveFaults, CutsAreRead, MessagesAreWritten, NothingElseIsSaid, NothingElseIsReadBack};
+
+/// The order of members is free, of equal names the last counts, and others are ignored.
+pub fn answers_are_read()
+    ensures { AnswersAreRead }
+{}
+
+/// No text that breaks off is a message.
+pub fn prefixes_are_no_messages()
+    ensures { PrefixesAreNoMessages }
+{}
+
+/// What is no object, or of no kind of the server, is refused as such.
+pub fn kinds_are_unknown()
+    ensures { KindsAreUnknown }
+{}
+
+/// Numbers are whole, from 1 to 9007199254740991.
+pub fn numbers_have_bounds()
+    ensures { NumbersHaveBounds }
+{}
+
+/// A bad field comes before a bad tree, and each path before each tree.
+pub fn fields_come_first()
+    ensures { FieldsComeFirst }
+{}
+
+/// Two spellings of a path are two entries.
+pub fn spellings_are_entries()
+    ensures { SpellingsAreEntries }
+{}
+
+/// Nothing stands under more than 32 keys, and no JSON nests deeper than 127 levels.
+pub fn depth_is_bounded()
+    ensures { DepthIsBounded }
+{}
+
+/// What the client asks for is read.
+pub fn requests_are_read()
+    ensures { RequestsAreRead }
+{}
+
+/// What `q` must not be.
+pub fn queries_have_faults()
+    ensures { QueriesHaveFaults }
+{}
+
+/// A range of children by the value below them is read.
+pub fn cuts_are_read()
+    ensures { CutsAreRead }
+{}
+
+/// Members are written in the order of the bytes of their names.
+pub fn messages_are_written()
+    ensures { MessagesAreWritten }
+{}
+
+/// A text says one message alone, or none.
+pub fn nothing_else_is_said()
+    ensures { NothingElseIsSaid }
+{}
+
+/// What is read back is no other message, and has no entry less.
+pub fn nothing_else_is_read_back()
+    ensures { NothingElseIsReadBack }
+{}

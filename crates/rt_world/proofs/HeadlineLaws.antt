@@ -1,0 +1,180 @@
+-- The headline over every list of steps.
+use Rattle.std.proofs.Common.{◌≡◌, ℕ, ◌≤◌, Bool, true, false, ◌||◌, ◌==◌, ◌⊎◌, inl, inr, List, [], ◌∷◌, ◌++◌, map, refl, sym, ap, subst, ◌∙◌, append-nil, arith, slice_index_or, Option, Some, None, cond}
+use mathlib.Core.Bool.{true≢false}
+use Rattle.std.specs.List.{filter, flat_map, fold, All, Contains}
+use Rattle.std.proofs.lemmas.List.Elements.{All-contains, Contains-get_or}
+use Rattle.std.proofs.lemmas.List.Folds.{Any-from_list_any}
+use Rattle.rt_cover.specs.Cover.{Tagged}
+use Rattle.rt_cover.specs.laws.ShownLaws.{shown_are_fewest, shown_are_certified}
+use Rattle.rt_view.specs.Changes.{Turns}
+use Rattle.rt_view.proofs.TurnLaws.{turns_not, turns-append}
+use Rattle.rt_world.specs.declared.error.CoreError.{CoreError}
+use Rattle.rt_world.specs.declared.limits.Limits.{Limits}
+use Rattle.rt_world.specs.declared.step.Step.{Step}
+use Rattle.rt_world.specs.World.{World, Listener, empty_world, pending}
+use Rattle.rt_world.specs.Steps.{listeners_after, brought_after, requests_after, listener_given, counted}
+use Rattle.rt_world.specs.Messages.{listens, request_message}
+use Rattle.rt_world.specs.Refusals.{refusal, is_stale}
+use Rattle.rt_world.specs.Answers.{Answer, step, step_by, answers, world_after, view_before}
+use Rattle.rt_world.specs.Runs.{Opened, Made, events_of, events, heard_after, heard}
+use Rattle.rt_world.specs.Headline.{KeepsFewest, ShowsAll, IsTurned, IsUpToDate, changes_told, Headline}
+use Rattle.rt_world.specs.inside.Sound.{cover_of, IsSound}
+use Rattle.rt_world.proofs.Listeners.{same_number, has_number, has_number-there, has_number-renewed, not_bound, view_before-there, view_before-none}
+use Rattle.rt_world.proofs.ShowLaws.{left_or_more, first_seen, step_up_to_date, told-absent}
+use Rattle.rt_world.proofs.HeardLaws.{fold-append, heard-opened, heard-step, done_connected}
+use Rattle.rt_world.proofs.SoundLaws.{sound_empty, sound_step, sound_run}
+
+-- ---- the listens kept
+
+-- what the server heard is what is kept
+pub heard_all : (steps : List Step) (w : World) (c : List Tagged) → IsSound w → (w.is_connected ≡ true → c ≡ w.kept)
+    → (world_after w steps).is_connected ≡ true → fold heard_after c (events w steps) ≡ (world_after w steps).kept
+heard_all [] w c h same online = same online
+heard_all (s ∷ rest) w c h same online =
+    fold-append c (events_of w s) (events (step w s).0 rest)
+    ∙ heard_all rest (step w s).0 (fold heard_after c (events_of w s)) (sound_step w s (refusal w s) (is_stale w s) h) (heard-step w s c (refusal w s) (is_stale w s) h same) online
+
+opened : (v : World) → v.is_connected ≡ false → heard v (Step.Connected ∷ []) ≡ v.kept
+opened v e =
+    ap (λ b. fold heard_after v.kept (cond b (Opened ∷ map Made (listens v.kept ++ map request_message v.requests)) [] ++ [])) (done_connected v e)
+    ∙ ap (fold heard_after v.kept) (append-nil (Opened ∷ map Made (listens v.kept ++ map request_message v.requests)))
+    ∙ heard-opened v v.kept
+
+keeps : (w : World) (steps : List Step) → IsSound w → KeepsFewest w steps (world_after w steps)
+keeps w steps h =
+    let new = world_after w steps in
+    let g = sound_run steps w h in
+    record {
+      kept = record { online = λ e. heard_all steps w w.kept h (λ _. refl) e; offline = λ e. opened new e };
+      fewest = shown_are_fewest (cover_of new) g.listens;
+      certified = shown_are_certified (cover_of new) g.listens;
+    }
+
+-- ---- the views, step by step
+
+shows_all : (steps : List Step) (w : World) → IsSound w → ShowsAll w steps
+shows_all [] w h = tt
+shows_all (s ∷ rest) w h = (step_up_to_date w s (refusal w s) (is_stale w s) h, shows_all rest (step w s).0 (sound_step w s (refusal w s) (is_stale w s) h))
+
+-- ---- the views, over a run
+
+-- a listener of that number is there, or none has been yet
+IsOpen : ℕ → World → Type 0
+IsOpen n w = (has_number n w.listeners ≡ true) ⊎ (w.next_listener ≤ n)
+
+has_number-push : (n : ℕ) (ls : List Listener) (l : Listener) → has_number n (ls ++ l ∷ []) ≡ true → (has_number n ls ≡ true) ⊎ (l.number ≡ n)
+has_number-push n [] l h = elim (l.number == n) as (λ b. (l.number == n) ≡ b → (b || false) ≡ true → (false ≡ true) ⊎ (l.number ≡ n)) [
+  | true ↦ λ e _. inr (same_number l.number n e)
+  | false ↦ λ e f. inl f
+] refl h
+has_number-push n (m ∷ ls) l h = elim (m.number == n) as (λ b. (b || has_number n (ls ++ l ∷ [])) ≡ true → ((b || has_number n ls) ≡ true) ⊎ (l.number ≡ n)) [
+  | true ↦ λ e. inl refl
+  | false ↦ λ e. has_number-push n ls l e
+] h
+
+has_number-filter : (n : ℕ) (p : Listener → Bool) (ls : List Listener) → has_number n (filter p ls) ≡ true → has_number n ls ≡ true
+has_number-filter n p [] h = h
+has_number-filter n p (l ∷ ls) h = elim (p l) as (λ b. has_number n (cond b (l ∷ filter p ls) (filter p ls)) ≡ true → ((l.number == n) || has_number n ls) ≡ true) [
+  | true ↦ λ e. elim (l.number == n) as (λ b. (b || has_number n (filter p ls)) ≡ true → (b || has_number n ls) ≡ true) [ true ↦ λ _. refl | false ↦ λ f. has_number-filter n p ls f ] e
+  | false ↦ λ e. elim (l.number == n) as (λ b. (b || has_number n ls) ≡ true) [ true ↦ refl | false ↦ has_number-filter n p ls e ]
+] h
+
+grown : (n : ℕ) (o : Option ℕ) → n ≤ counted n o
+grown n None = omega arith
+grown n (Some m) = omega arith
+
+-- what is open after a step was open before
+open_before : (w : World) (s : Step) (o : Option CoreError) (b : Bool) (n : ℕ) → IsOpen n (step_by o b w s).0 → IsOpen n w
+unfolding IsOpen
+open_before w s (Some e) b n h = h
+open_before w s None true n h = h
+open_before w s None false n (inr low) = let more = grown w.next_listener (listener_given w s) in inr (omega (arith, low, more))
+open_before w s None false n (inl there) =
+    let after = sym (has_number-renewed (brought_after w s) (pending (requests_after w s)) n (listeners_after w s)) ∙ there in
+    elim (left_or_more w s) [
+      | inl e ↦ inl (has_number-filter n e.test w.listeners (sym (ap (has_number n) e.left) ∙ after))
+      | inr e ↦ elim (has_number-push n w.listeners (first_seen w e.seat e.query) (sym (ap (has_number n) e.more) ∙ after)) [
+        | inl old ↦ inl old
+        | inr new ↦ inr (omega (arith, new))
+      ]
+    ]
+
+open_at_start : (steps : List Step) (w : World) (n : ℕ) → IsOpen n (world_after w steps) → IsOpen n w
+open_at_start [] w n h = h
+open_at_start (s ∷ rest) w n h = open_before w s (refusal w s) (is_stale w s) n (open_at_start rest (step w s).0 n h)
+
+turned_there : (w : World) (a : Answer) (v : World) (n : ℕ) → IsSound v → All (IsUpToDate w a v) v.listeners → has_number n v.listeners ≡ true
+    → Turns (view_before w.listeners n) (changes_told n a) (view_before v.listeners n)
+turned_there w a v n h each e =
+    let x = Any-from_list_any (λ (m : Listener). m.number == n) v.listeners e in
+    let l : Listener = x.1 in
+    let there : Contains v.listeners l = (x.0, x.2, x.3) in
+    let up = All-contains (IsUpToDate w a v) v.listeners l each there in
+    subst (λ k. Turns (view_before w.listeners k) (changes_told k a) (view_before v.listeners k)) (same_number l.number n x.4)
+    (subst (Turns (view_before w.listeners l.number) (changes_told l.number a)) (sym (view_before-there v.listeners l h.rises there)) up.turned)
+
+-- what a step tells of an open number turns its view before into its view after
+turned_by : (w : World) (s : Step) (o : Option CoreError) (b : Bool) (n : ℕ) → IsSound w → IsOpen n (step_by o b w s).0
+    → Turns (view_before w.listeners n) (changes_told n (step_by o b w s).1) (view_before (step_by o b w s).0.listeners n)
+unfolding IsOpen
+turned_by w s o b n h there =
+    let v : World = (step_by o b w s).0 in
+    elim (has_number n v.listeners) as (λ c. has_number n v.listeners ≡ c → Turns (view_before w.listeners n) (changes_told n (step_by o b w s).1) (view_before v.listeners n)) [
+      | true ↦ λ e. turned_there w (step_by o b w s).1 v n (sound_step w s o b h) (step_up_to_date w s o b h) e
+      | false ↦ λ e.
+          let before = view_before-none w.listeners n (not_yet e there) in
+          let after = view_before-none v.listeners n e in
+          let quiet = told-absent w s o b n e in
+          subst (λ z. z) (λ i. Turns (sym before i) (sym quiet i) (sym after i)) (turns_not None)
+    ] refl
+  where
+    low : (v : World) → v.next_listener ≤ n → IsSound v → has_number n v.listeners ≡ false
+    low v le g = not_bound n v.listeners (λ k d lt. let below = g.below k d lt in omega (arith, below, le))
+
+    not_yet : has_number n (step_by o b w s).0.listeners ≡ false → (has_number n (step_by o b w s).0.listeners ≡ true) ⊎ ((step_by o b w s).0.next_listener ≤ n) → has_number n w.listeners ≡ false
+    not_yet e (inl there) = absurd (true≢false (sym there ∙ e))
+    not_yet e (inr le) = elim (open_before w s o b n (inr le)) [
+      | inr below ↦ low w below h
+      | inl there ↦ before (step_by o b w s).0.next_listener le (no_less o b) there
+    ]
+      where
+        no_less : (o : Option CoreError) (b : Bool) → w.next_listener ≤ (step_by o b w s).0.next_listener
+        no_less (Some e) b = omega arith
+        no_less None true = omega arith
+        no_less None false = grown w.next_listener (listener_given w s)
+
+        before : (m : ℕ) → m ≤ n → w.next_listener ≤ m → has_number n w.listeners ≡ true → has_number n w.listeners ≡ false
+        before m le more there = low w (omega (arith, le, more)) h
+
+turned_run : (steps : List Step) (w : World) (n : ℕ) → IsSound w → IsOpen n (world_after w steps)
+    → Turns (view_before w.listeners n) (flat_map (changes_told n) (answers w steps)) (view_before (world_after w steps).listeners n)
+turned_run [] w n h there = turns_not (view_before w.listeners n)
+turned_run (s ∷ rest) w n h there =
+    let v = (step w s).0 in
+    turns-append (view_before w.listeners n) (view_before v.listeners n) (view_before (world_after v rest).listeners n)
+    (changes_told n (step w s).1) (flat_map (changes_told n) (answers v rest))
+    (turned_by w s (refusal w s) (is_stale w s) n h (open_at_start rest v n there))
+    (turned_run rest v n (sound_step w s (refusal w s) (is_stale w s) h) there)
+
+turned_all : (w : World) (steps : List Step) → IsSound w → All (IsTurned w steps) (world_after w steps).listeners
+unfolding IsOpen
+turned_all w steps h k d lt =
+    let v = world_after w steps in
+    let l = slice_index_or v.listeners k d in
+    let m = Contains-get_or v.listeners k d lt in
+    let g = sound_run steps w h in
+    subst (Turns (view_before w.listeners l.number) (flat_map (changes_told l.number) (answers w steps))) (view_before-there v.listeners l g.rises m)
+    (turned_run steps w l.number h (inl (has_number-there v.listeners m.0 l m.1 m.2)))
+
+-- ---- the headline
+
+-- the headline holds of any steps, from any world that steps lead to
+pub headline : (limits : Limits) (before steps : List Step) → Headline (world_after (empty_world limits) before) steps
+headline limits before steps =
+    let w = world_after (empty_world limits) before in
+    let h = sound_run before (empty_world limits) (sound_empty limits) in
+    record {
+      listens_kept = keeps w steps h;
+      views_shown = shows_all steps w h;
+      views_turned = turned_all w steps h;
+    }

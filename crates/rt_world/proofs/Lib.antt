@@ -1,0 +1,13 @@
+pub mod CoveringLaws
+pub mod DeltaLaws
+pub mod HeadlineLaws
+pub mod HeardLaws
+pub mod LimitLaws
+pub mod Listeners
+pub mod MessageLaws
+pub mod Numbers
+pub mod PlainLaws
+pub mod RunLaws
+pub mod ShowLaws
+pub mod SoundLaws
+pub mod WrittenLaws

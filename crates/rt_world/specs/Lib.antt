@@ -1,0 +1,20 @@
+-- What a reader must believe stands here; laws/ holds the laws and examples that the prover computes,
+-- inside/ what only the proofs need.
+-- In reading order: World (listeners, requests, what is brought), Views (what a listener shows),
+-- Steps (what a step leaves), Messages (what it sends, and the world after it), Refusals (when it is
+-- refused, and when it is stale), Answers (what it answers), Runs (what the server hears), Headline
+-- (what any steps lead to), Plain (the same of what is written and brought), Covering (the cover of a
+-- world), Limited (what keeps within the limits).
+pub mod Answers
+pub mod Covering
+pub mod Headline
+pub mod inside
+pub mod laws
+pub mod Limited
+pub mod Messages
+pub mod Plain
+pub mod Refusals
+pub mod Runs
+pub mod Steps
+pub mod Views
+pub mod World

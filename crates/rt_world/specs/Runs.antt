@@ -1,0 +1,77 @@
+-- What the steps of a run send, and which listens the server keeps then.
+use Rattle.std.specs.Prelude.{ℕ, Bool, true, false, ◌&&◌, not, if◌then◌else◌, List, [], ◌∷◌, ◌++◌}
+use Rattle.std.specs.Prelude.{map, ◌==◌, is_none}
+use Rattle.std.specs.List.{filter, fold, list_any}
+use Rattle.rt_cover.specs.Cover.{Tagged}
+use Rattle.rt_wire.specs.declared.client.ClientMessage.{ClientMessage}
+use Rattle.rt_world.specs.declared.step.Step.{Step}
+use Rattle.rt_world.specs.World.{World}
+use Rattle.rt_world.specs.Messages.{messages_of}
+use Rattle.rt_world.specs.Refusals.{refusal, is_stale}
+use Rattle.rt_world.specs.Answers.{step}
+
+-- a connection is opened, a message is made, a listen is revoked
+pub data Event : Type 0 where
+  Opened : Event
+  Made : ClientMessage → Event
+  Ended : (tag : ℕ) → Event
+
+-- whether the step is neither refused nor stale
+abbrev pub is_done : World → Step → Bool
+is_done w s = is_none (refusal w s) && not (is_stale w s)
+
+-- what a step is besides its messages
+abbrev pub events_before : Step → List Event
+events_before (Step.Listen seat query) = []
+events_before (Step.Unlisten seat listener) = []
+events_before (Step.Write seat action) = []
+events_before (Step.OnDisconnect seat ending) = []
+events_before (Step.Data tag path tree) = []
+events_before (Step.DataMerge tag entries) = []
+events_before (Step.Accepted id) = []
+events_before (Step.Refused id why) = []
+events_before (Step.Revoked tag why) = Ended tag ∷ []
+events_before Step.Connected = Opened ∷ []
+events_before Step.Disconnected = []
+events_before (Step.CloseSeat seat) = []
+
+-- the events of a step that is done; of another none
+abbrev pub events_of : World → Step → List Event
+events_of w s = if is_done w s then events_before s ++ map Made (messages_of w s) else []
+
+-- the events of the steps, one after another
+abbrev pub events : World → List Step → List Event
+events w [] = []
+events w (s ∷ rest) = events_of w s ++ events (step w s).0 rest
+
+-- the messages for the last connection after an event; one that is opened begins with none
+abbrev pub made_after : List ClientMessage → Event → List ClientMessage
+made_after messages (Made m) = messages ++ m ∷ []
+made_after messages (Ended tag) = messages
+made_after messages Opened = []
+
+-- the messages that the steps make for the last connection
+abbrev pub made : World → List Step → List ClientMessage
+made w steps = fold made_after [] (events w steps)
+
+-- the listens that the server keeps after an event; a connection that is opened begins with none
+abbrev pub heard_after : List Tagged → Event → List Tagged
+heard_after kept (Made (ClientMessage.Listen tag q)) = kept ++ record { tag = tag; form = q } ∷ []
+heard_after kept (Made (ClientMessage.Unlisten tag)) = filter (λ k. not (k.tag == tag)) kept
+heard_after kept (Made (ClientMessage.Ask id asked)) = kept
+heard_after kept (Ended tag) = filter (λ k. not (k.tag == tag)) kept
+heard_after kept Opened = []
+
+-- the listens that the server keeps after the steps, from those kept before
+abbrev pub heard : World → List Step → List Tagged
+heard w steps = fold heard_after w.kept (events w steps)
+
+-- whether a connection is opened
+abbrev pub is_opened : Event → Bool
+is_opened Opened = true
+is_opened (Made m) = false
+is_opened (Ended tag) = false
+
+-- the messages that were to be sent before the steps; none once these open a connection
+abbrev pub left_to_send : World → List Step → List ClientMessage
+left_to_send w steps = if list_any is_opened (events w steps) then [] else w.outgoing

@@ -1,0 +1,110 @@
+// Outside examples of the core's steps: trees compute here.
+#![tactic(auto, unfolding(rt_tree::specs::PathTree::null, rt_tree::specs::PathTree::of_leaf, rt_tree::specs::PathTree::is_null, rt_tree::specs::PathTree::leaf_at, rt_tree::specs::PathTree::sub, rt_tree::specs::PathTree::put, rt_tree::specs::PathTree::with_children, rt_tree::specs::PathTree::children_alone, rt_tree::specs::PathTree::levels, rt_tree::specs::Children::children_of, rt_tree::specs::TreeEq::tree_eq))]
+
+ghost use Rattle.rt_world.specs.laws.Examples.{PushOfNull, ParentTakesOverListen};
+ghost use Rattle.rt_world.specs.laws.Examples.{WindowUnderPlainListen, WindowKeptWhole};
+ghost use Rattle.rt_world.specs.laws.Examples.{LimitWithRemovals, DeepWriteUnknownChild};
+ghost use Rattle.rt_world.specs.laws.Examples.{ThreeSetsTwoRefused, MovedInPlace, AddedMovedChanged};
+ghost use Rattle.rt_world.specs.laws.Examples.{ReconnectResends, RevokedPlainListen, LeafAndChild};
+ghost use Rattle.rt_world.specs.laws.Examples.{RootListen, WholeWindow, WritePrimes, DisconnectActions};
+ghost use Rattle.rt_world.specs.laws.Examples.{MergePush, RefusalUnderLeaf, PlainCover, Refusals};
+
+/// A listen that is pushed null is empty, and is known.
+pub fn push_of_null()
+    ensures { PushOfNull }
+{}
+
+/// A listen above takes up the one below.
+pub fn parent_takes_over_listen()
+    ensures { ParentTakesOverListen }
+{}
+
+/// A window stays while a plain listen waits for data, and its push is stale then.
+pub fn window_under_plain_listen()
+    ensures { WindowUnderPlainListen }
+{}
+
+/// Where a region is lost its window is whole, and a refused write comes back into view.
+pub fn window_kept_whole()
+    ensures { WindowKeptWhole }
+{}
+
+/// A limit is taken over the pending writes.
+pub fn limit_with_removals()
+    ensures { LimitWithRemovals }
+{}
+
+/// A deep pending write does not make a child known.
+pub fn deep_write_unknown_child()
+    ensures { DeepWriteUnknownChild }
+{}
+
+/// A refused write does not come back over later ones.
+pub fn three_sets_two_refused()
+    ensures { ThreeSetsTwoRefused }
+{}
+
+/// A child whose sort value differs is moved, also in its place.
+pub fn moved_in_place()
+    ensures { MovedInPlace }
+{}
+
+/// Changes by value.
+pub fn added_moved_changed()
+    ensures { AddedMovedChanged }
+{}
+
+/// After a reconnection the kept listens and the unsettled requests are sent.
+pub fn reconnect_resends()
+    ensures { ReconnectResends }
+{}
+
+/// A revoked listen ends its listeners, and the covered ones get a listen of their own.
+pub fn revoked_plain_listen()
+    ensures { RevokedPlainListen }
+{}
+
+/// Null under a leaf leaves the leaf; another child takes its place.
+pub fn leaf_and_child()
+    ensures { LeafAndChild }
+{}
+
+/// A plain listen at the root, and a write.
+pub fn root_listen()
+    ensures { RootListen }
+{}
+
+/// Writes under a plain listen, and a whole window when it goes.
+pub fn whole_window()
+    ensures { WholeWindow }
+{}
+
+/// A write alone makes a listener known.
+pub fn write_primes()
+    ensures { WritePrimes }
+{}
+
+/// Actions at the end of the connection are asked for and dropped.
+pub fn disconnect_actions()
+    ensures { DisconnectActions }
+{}
+
+/// A push of several entries is one step.
+pub fn merge_push()
+    ensures { MergePush }
+{}
+
+/// A refused write over a leaf shows the leaf again.
+pub fn refusal_under_leaf()
+    ensures { RefusalUnderLeaf }
+{}
+
+/// A listen under another is taken up again when that one goes.
+pub fn plain_cover()
+    ensures { PlainCover }
+{}
+
+/// Refusals in their order, and stale steps.
+pub fn refusals()
+    ensures { Refusals }
+{}

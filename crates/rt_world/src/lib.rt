@@ -1,0 +1,23 @@
+//! The world of the core: all steps, what each answers, leaves and sends, and what follows from that
+//! for every list of steps.
+//!
+//! This is where the core of `rt_sync` is going: definitions, laws and worked rows, and no code that
+//! runs. What runs today takes fewer steps and one listener, and has definitions of its own, in
+//! `rt_sync`; they go once the core takes all steps.
+#![tactic(auto)]
+
+mod error;
+pub mod examples;
+mod laws;
+mod limits;
+mod report;
+mod request;
+mod step;
+
+pub use error::CoreError;
+pub use laws::{cover_law, headline_law, limit_law, message_law, plain_law};
+pub use limits::Limits;
+pub use report::{Body, Note, Notes, Outcome, Report};
+pub use request::Request;
+pub use rt_wire::{Action, Asked, ClientMessage, Ending, Reason};
+pub use step::Step;

@@ -1,0 +1,53 @@
+// What a step answers.
+use rt_view::Batch;
+use rt_wire::Reason;
+use std::marker::Model;
+
+/// Whether a step was made, or changed nothing since it came too late.
+#[derive(Clone, Copy, Debug, PartialEq, Eq)]
+pub enum Outcome {
+    Done,
+    Stale,
+}
+
+/// What a seat is told.
+#[derive(Drop)]
+pub enum Body {
+    /// A request is accepted, or refused for a reason.
+    Settled { id: u64, why: Option<Reason> },
+    /// A listener has ended, for a reason.
+    Cancelled { listener: u64, why: Reason },
+    /// The changes of a listener's view.
+    Batch(Batch),
+}
+
+/// What one seat is told.
+#[derive(Drop)]
+pub struct Note {
+    pub seat: u64,
+    pub body: Body,
+}
+
+/// What the seats are told of a step: settlements, ended listeners, batches, each by number.
+#[derive(Drop)]
+pub struct Notes {
+    items: Vec<Note>,
+}
+
+impl Model for Notes {
+    ghost use Rattle.std.specs.Prelude.{List};
+    ghost use Rattle.rt_world.specs.declared.report.Note.{Note};
+
+    ghost Value = { List Note };
+
+    ghost view = { λ a. a.items.items };
+}
+
+/// What a step answers: its outcome, the number of the new listener or request, and what the seats
+/// are told.
+#[derive(Drop)]
+pub struct Report {
+    pub outcome: Outcome,
+    pub given: Option<u64>,
+    pub notes: Notes,
+}
