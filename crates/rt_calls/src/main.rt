@@ -1,0 +1,100 @@
+//! Makes calls of the libraries, one a line of its input, and prints what each answers, a line for each.
+//!
+//! A line names a library, a call and what is given to it. A call that lacks memory prints `NoMemory`, and is made once more: since
+//! `./check` refuses one allocation of a run, all that is printed but for this line has to be what is printed with none refused.
+//! Empty lines, and those that begin with `#`, are passed over.
+#![tactic(auto)]
+
+mod said;
+mod tree;
+mod words;
+
+use said::Said;
+use std::alloc::{AllocError, Global};
+use std::io::{Read, Write};
+use std::process::ExitCode;
+use words::{Fault, Words};
+
+// What the lines so far have made.
+#[derive(Drop)]
+struct State {
+    tree: tree::State,
+}
+
+fn new_state() -> State {
+    State {
+        tree: tree::State::new(),
+    }
+}
+
+fn call(state: &mut State, alloc: Global, line: &str, said: &mut Said) -> Result<(), Fault> {
+    let mut words = Words::of(line);
+    match words.next()? {
+        "tree" => tree::call(&mut state.tree, alloc, &mut words, said),
+        _ => Err(Fault::NoSuchCall),
+    }
+}
+
+fn is_passed_over(line: &str) -> bool {
+    line.is_empty() || line.starts_with('#')
+}
+
+// Makes the call of a line, behind those before it, and once more where memory was lacking.
+fn make(state: &mut State, alloc: Global, line: &str, said: &mut Said) -> Result<(), Fault> {
+    match call(state, alloc, line, said) {
+        Err(Fault::NoMemory) => {
+            said.say("NoMemory\n");
+            call(state, alloc, line, said)
+        }
+        answer => answer,
+    }
+}
+
+// Makes the first lines anew.
+fn made_anew(alloc: Global, text: &str, count: usize) -> Result<State, Fault> {
+    let mut state = new_state();
+    let mut unsaid = Said::new(alloc)?;
+    for line in text.lines().take(count) {
+        if !is_passed_over(line) {
+            let _ = call(&mut state, alloc, line, &mut unsaid);
+        }
+    }
+    Ok(state)
+}
+
+fn make_all(alloc: Global, text: &str, said: &mut Said) -> Result<(), Fault> {
+    let mut state = new_state();
+    for (count, line) in text.lines().enumerate() {
+        if is_passed_over(line) {
+            continue;
+        }
+        match make(&mut state, alloc, line, said) {
+            Ok(()) => said.say("\n"),
+            Err(Fault::NoSuchCall) => said.say("NoSuchCall\n"),
+            Err(Fault::NoMemory) => return Err(Fault::NoMemory),
+            Err(Fault::Failed) => {
+                said.say("NoMemory\n");
+                state = made_anew(alloc, text, count)?;
+                make(&mut state, alloc, line, said)?;
+                said.say("\n");
+            }
+        }
+    }
+    Ok(())
+}
+
+fn run(rt: &HostRuntime) -> Option<()> {
+    let mut text = String::new(rt.alloc());
+    rt.stdin().read_to_string(&mut text).ok()?;
+    let mut said = Said::new(rt.alloc()).ok()?;
+    let made = make_all(rt.alloc(), text.as_str(), &mut said);
+    rt.stdout().write_all(said.text().as_bytes()).ok()?;
+    made.ok()
+}
+
+fn main(rt: HostRuntime) -> ExitCode {
+    match run(&rt) {
+        Some(()) => ExitCode::SUCCESS,
+        None => ExitCode::FAILURE,
+    }
+}
