@@ -5,6 +5,8 @@
 //! Empty lines, and those that begin with `#`, are passed over.
 #![tactic(auto)]
 
+mod order;
+mod push;
 mod said;
 mod tree;
 mod words;
@@ -18,11 +20,13 @@ use words::{Fault, Words};
 // What the lines so far have made.
 #[derive(Drop)]
 struct State {
+    push: push::State,
     tree: tree::State,
 }
 
 fn new_state() -> State {
     State {
+        push: push::State::new(),
         tree: tree::State::new(),
     }
 }
@@ -30,6 +34,8 @@ fn new_state() -> State {
 fn call(state: &mut State, alloc: Global, line: &str, said: &mut Said) -> Result<(), Fault> {
     let mut words = Words::of(line);
     match words.next()? {
+        "order" => order::call(alloc, &mut words, said),
+        "push" => push::call(&mut state.push, alloc, &mut words, said),
         "tree" => tree::call(&mut state.tree, alloc, &mut words, said),
         _ => Err(Fault::NoSuchCall),
     }

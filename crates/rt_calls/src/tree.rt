@@ -1,19 +1,24 @@
 // Keys, paths, leaves and trees.
 use crate::said::Said;
 use crate::words::{Fault, Words};
-use rt_tree::{Key, Path, Tree, TreeError};
+use rt_tree::{Key, Leaf, Path, Tree, TreeError};
+use serde_json::Value;
 use std::alloc::Global;
 use std::convert::AsStr;
 
-// A tree, changed by puts.
+// A tree, changed by puts, and a copy that was made of it.
 #[derive(Drop)]
 pub(crate) struct State {
     tree: Tree,
+    copy: Tree,
 }
 
 impl State {
     pub(crate) fn new() -> State {
-        State { tree: Tree::null() }
+        State {
+            tree: Tree::null(),
+            copy: Tree::null(),
+        }
     }
 }
 
@@ -28,43 +33,156 @@ fn refused(error: TreeError, said: &mut Said) -> Result<(), Fault> {
     }
 }
 
-fn key(alloc: Global, words: &mut Words, said: &mut Said) -> Result<(), Fault> {
-    let text = words.repeated(alloc)?;
-    let right = words.key(alloc)?;
-    match Key::parse(alloc, text.as_str()) {
-        Ok(left) => tell_keys(alloc, &left, &right, said),
+// What there is no `?` for: it is refused, or else told of by nothing.
+fn done(answer: Result<(), TreeError>, said: &mut Said) -> Result<(), Fault> {
+    match answer {
+        Ok(()) => Ok(()),
         Err(error) => refused(error, said),
     }
 }
 
-fn tell_keys(alloc: Global, left: &Key, right: &Key, said: &mut Said) -> Result<(), Fault> {
-    let is_same = left.copy()? == *right;
-    said.debug(alloc, &(left.as_str().len(), left.cmp(right), is_same));
-    said.display(alloc, right);
+const REFUSALS: [TreeError; 8] = [
+    TreeError::BadKey,
+    TreeError::KeyTooLong,
+    TreeError::TooDeep,
+    TreeError::NotWhole,
+    TreeError::TextTooLong,
+    TreeError::TooManyNodes,
+    TreeError::NotJson,
+    TreeError::NoMemory,
+];
+
+// The number, the name, and the text of each refusal.
+fn refusals(alloc: Global, said: &mut Said) -> Result<(), Fault> {
+    for error in REFUSALS {
+        said.debug(alloc, &(error.code(), error));
+        said.say(error.name());
+        said.say(": ");
+        said.display(alloc, &error);
+        said.say("; ");
+    }
     Ok(())
 }
 
-fn path(alloc: Global, words: &mut Words, said: &mut Said) -> Result<(), Fault> {
+// ---- keys and paths
+
+fn key(alloc: Global, words: &mut Words, said: &mut Said) -> Result<(), Fault> {
     let text = words.repeated(alloc)?;
-    let right = words.path(alloc)?;
-    match Path::parse(alloc, text.as_str()) {
+    let right = words.key(alloc)?;
+    match Key::parse(alloc, text.as_str()) {
         Ok(left) => {
-            tell_paths(alloc, &left, &right, said);
+            tell_keys(alloc, &left, &right, said);
             Ok(())
         }
         Err(error) => refused(error, said),
     }
 }
 
-fn tell_paths(alloc: Global, left: &Path, right: &Path, said: &mut Said) {
+// A copy of a key takes no memory.
+fn tell_keys(alloc: Global, left: &Key, right: &Key, said: &mut Said) {
+    let is_same = left.copy().map(|copy| copy == *right);
+    said.debug(alloc, &(left.as_str().len(), left.cmp(right), is_same));
+    said.display(alloc, right);
+}
+
+fn path(alloc: Global, words: &mut Words, said: &mut Said) -> Result<(), Fault> {
+    let text = words.repeated(alloc)?;
+    let right = words.path(alloc)?;
+    match Path::parse(alloc, text.as_str()) {
+        Ok(left) => tell_paths(alloc, &left.copy()?, &right, said),
+        Err(error) => refused(error, said),
+    }
+}
+
+fn tell_paths(alloc: Global, left: &Path, right: &Path, said: &mut Said) -> Result<(), Fault> {
+    let text = left.text()?;
     said.debug(alloc, &(left.keys().len(), left.cmp(right), left == right));
     let rest = right.strip_prefix(left).map(|rest| rest.len());
     said.debug(alloc, &(left.is_prefix_of(right), rest));
     said.display(alloc, right);
+    said.say(" ");
+    said.say(text.as_str());
+    Ok(())
+}
+
+// A path and a key below it, and the path of the keys of both.
+fn child(alloc: Global, words: &mut Words, said: &mut Said) -> Result<(), Fault> {
+    let text = words.repeated(alloc)?;
+    let path = Path::parse(alloc, text.as_str())?;
+    let key = words.key(path.allocator())?;
+    match path.child(&key) {
+        Ok(child) => tell_child(alloc, &child, said),
+        Err(error) => refused(error, said),
+    }
+}
+
+fn tell_child(alloc: Global, child: &Path, said: &mut Said) -> Result<(), Fault> {
+    let text = child.text()?;
+    let again = Path::from_keys(alloc, child.keys())?;
+    said.say(text.as_str());
+    said.display(alloc, &again);
+    said.display(alloc, &Path::root(alloc));
+    said.debug(alloc, child);
+    Ok(())
+}
+
+// So many keys as a path.
+fn keys(alloc: Global, words: &mut Words, said: &mut Said) -> Result<(), Fault> {
+    let mut keys = Vec::new(alloc);
+    for _ in 0..words.number()? {
+        keys.push(Key::parse(alloc, "k")?)?;
+    }
+    match Path::from_keys(alloc, keys.as_slice()) {
+        Ok(path) => {
+            said.display(alloc, &path);
+            Ok(())
+        }
+        Err(error) => refused(error, said),
+    }
+}
+
+// ---- leaves
+
+fn leaf(alloc: Global, words: &mut Words, said: &mut Said) -> Result<(), Fault> {
+    let leaf = match words.next()? {
+        "truth" => Ok(Leaf::truth(words.number()? == 1)),
+        "number" => Leaf::number(words.next()?.parse().map_err(|_| Fault::NoSuchCall)?),
+        "text" => Leaf::text(words.repeated(alloc)?),
+        _ => return Err(Fault::NoSuchCall),
+    };
+    match leaf {
+        Ok(leaf) => tell_leaf(alloc, &leaf, said),
+        Err(error) => refused(error, said),
+    }
+}
+
+// The tree of a copy of a leaf, and that tree's copy; whether the leaf in it is equal, and whether the leaf is true.
+fn tell_leaf(alloc: Global, leaf: &Leaf, said: &mut Said) -> Result<(), Fault> {
+    let tree = Tree::leaf(leaf.copy(alloc)?).copy(alloc)?;
+    said.debug(
+        alloc,
+        &(tree.as_leaf() == Some(leaf), *leaf == Leaf::truth(true)),
+    );
+    said.debug(alloc, &(leaf.as_bool(), leaf.as_i64(), leaf.as_str()));
+    said.tree(alloc, &tree);
+    Ok(())
+}
+
+// ---- trees
+
+fn tell(alloc: Global, part: Option<&Tree>, said: &mut Said) {
+    let Some(part) = part else {
+        said.say("none");
+        return;
+    };
+    let count = part.children().map(|children| children.len());
+    let leaf = part.as_leaf().map(|leaf| leaf.value());
+    said.debug(alloc, &(part.levels(), count, leaf));
+    said.tree(alloc, part);
 }
 
 fn read(alloc: Global, words: &mut Words, said: &mut Said) -> Result<(), Fault> {
-    match Tree::read(alloc, words.next()?) {
+    match Tree::read(alloc, words.rest()) {
         Ok(tree) => {
             said.tree(alloc, &tree);
             Ok(())
@@ -73,22 +191,107 @@ fn read(alloc: Global, words: &mut Words, said: &mut Said) -> Result<(), Fault> 
     }
 }
 
-fn put(tree: &mut Tree, alloc: Global, words: &mut Words, said: &mut Said) -> Result<(), Fault> {
-    let path = words.path(alloc)?;
-    let part = words.tree(alloc)?;
-    match tree.put(alloc, &path, part) {
-        Ok(()) => {
-            said.tree(alloc, tree);
+// A text of three pieces, each so many times: the levels of what it is read as, and the number of its children.
+fn long(alloc: Global, words: &mut Words, said: &mut Said) -> Result<(), Fault> {
+    let mut text = String::new(alloc);
+    for _ in 0..3 {
+        text.push_str(words.repeated(alloc)?.as_str())?;
+    }
+    match Tree::read(alloc, text.as_str()) {
+        Ok(tree) => {
+            let count = tree.children().map(|children| children.len());
+            said.debug(alloc, &(tree.levels(), count));
             Ok(())
         }
         Err(error) => refused(error, said),
     }
 }
 
-fn get(tree: &Tree, alloc: Global, words: &mut Words, said: &mut Said) -> Result<(), Fault> {
-    match tree.get(&words.path(alloc)?) {
-        Some(part) => said.tree(alloc, part),
-        None => said.say("none"),
+// What a value is taken as and given again.
+fn value(alloc: Global, words: &mut Words, said: &mut Said) -> Result<(), Fault> {
+    let tree = match Value::from_str(alloc, words.rest()) {
+        Ok(value) => Tree::from_value(alloc, &value),
+        Err(error) if error.is_memory() => Err(TreeError::NoMemory),
+        Err(_) => Err(TreeError::NotJson),
+    };
+    match tree {
+        Ok(tree) => {
+            let text = tree.to_value(alloc)?.to_string(alloc)?;
+            said.say(text.as_str());
+            Ok(())
+        }
+        Err(error) => refused(error, said),
+    }
+}
+
+// Whether two texts are read as equal trees, and whether a copy of the one is equal to it.
+fn compare(alloc: Global, words: &mut Words, said: &mut Said) -> Result<(), Fault> {
+    let left = words.tree(alloc)?;
+    let right = Tree::read(alloc, words.rest())?;
+    let copy = left.copy(alloc)?;
+    said.debug(alloc, &(left == right, copy == left));
+    Ok(())
+}
+
+// Puts at a path a tree. The next word may be what the tree was before: a put that lacks memory has to leave it so.
+fn put(tree: &mut Tree, alloc: Global, words: &mut Words, said: &mut Said) -> Result<(), Fault> {
+    let path = words.path(alloc)?;
+    let part = words.tree(alloc)?;
+    let answer = tree.put(alloc, &path, part);
+    if answer == Err(TreeError::NoMemory) && !words.is_empty() && words.tree(alloc)? != *tree {
+        said.say("changed");
+    }
+    done(answer, said)
+}
+
+// Puts a truth value over another in a tree that shares nothing, which takes no memory.
+fn put_in_place(
+    tree: &mut Tree,
+    alloc: Global,
+    words: &mut Words,
+    said: &mut Said,
+) -> Result<(), Fault> {
+    let path = words.path(alloc)?;
+    if tree
+        .put(alloc, &path, Tree::leaf(Leaf::truth(false)))
+        .is_err()
+    {
+        said.say("refused");
+    }
+    Ok(())
+}
+
+// The tree {"a": tree, "b": tree}.
+fn double(tree: &mut Tree, alloc: Global) -> Result<(), Fault> {
+    let mut both = Tree::null();
+    both.put(alloc, &Path::parse(alloc, "a")?, tree.copy(alloc)?)?;
+    both.put(alloc, &Path::parse(alloc, "b")?, tree.copy(alloc)?)?;
+    *tree = both;
+    Ok(())
+}
+
+// Keeps a copy, of an object, which takes no memory.
+fn copy(state: &mut State, alloc: Global, said: &mut Said) -> Result<(), Fault> {
+    match state.tree.copy(alloc) {
+        Ok(copy) => state.copy = copy,
+        Err(_) => said.say("refused"),
+    }
+    Ok(())
+}
+
+// What stands at a path of the tree, by both calls that give it; of the copy, with whether that is equal to the tree;
+// or of the copy, which is dropped.
+fn part(state: &mut State, alloc: Global, words: &mut Words, said: &mut Said) -> Result<(), Fault> {
+    let path = words.path(alloc)?;
+    match words.next()? {
+        "tree" => tell(alloc, state.tree.get(&path), said),
+        "keys" => tell(alloc, state.tree.at(path.keys()), said),
+        "copy" => {
+            said.debug(alloc, &(state.copy == state.tree));
+            tell(alloc, state.copy.at(path.keys()), said);
+        }
+        "drop" => state.copy = Tree::null(),
+        _ => return Err(Fault::NoSuchCall),
     }
     Ok(())
 }
@@ -100,11 +303,21 @@ pub(crate) fn call(
     said: &mut Said,
 ) -> Result<(), Fault> {
     match words.next()? {
+        "refusals" => refusals(alloc, said),
         "key" => key(alloc, words, said),
         "path" => path(alloc, words, said),
+        "child" => child(alloc, words, said),
+        "keys" => keys(alloc, words, said),
+        "leaf" => leaf(alloc, words, said),
         "read" => read(alloc, words, said),
+        "long" => long(alloc, words, said),
+        "value" => value(alloc, words, said),
+        "compare" => compare(alloc, words, said),
         "put" => put(&mut state.tree, alloc, words, said),
-        "get" => get(&state.tree, alloc, words, said),
+        "put_in_place" => put_in_place(&mut state.tree, alloc, words, said),
+        "double" => double(&mut state.tree, alloc),
+        "copy" => copy(state, alloc, said),
+        "get" => part(state, alloc, words, said),
         _ => Err(Fault::NoSuchCall),
     }
 }

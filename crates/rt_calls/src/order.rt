@@ -1,0 +1,197 @@
+// Orders of keys, values and children, and ranges.
+use crate::said::Said;
+use crate::words::{Fault, Words};
+use rt_order::{
+    Cut, Index, Mark, Place, PlacedKey, PlacedRef, Range, SortRef, entry_cmp, key_cmp, leaf_cmp,
+    sort_value, value_cmp,
+};
+use rt_tree::{Key, Leaf, Path, Tree};
+use std::alloc::Global;
+use std::cmp::Ordering;
+
+// ---- keys
+
+// Two keys: how they compare as they are, with their numbers read, and borrowed so; whether they are equal with their
+// numbers read, and borrowed so; and the first as it is lent.
+fn keys(alloc: Global, words: &mut Words, said: &mut Said) -> Result<(), Fault> {
+    let left = PlacedKey::of(words.key(alloc)?);
+    let right = PlacedKey::of(words.key(alloc)?).copy()?;
+    tell_keys(alloc, &left, &right, said);
+    Ok(())
+}
+
+fn tell_keys(alloc: Global, left: &PlacedKey, right: &PlacedKey, said: &mut Said) {
+    let (lent, other) = (PlacedRef::of(left.key()), right.borrowed());
+    let orders = (
+        key_cmp(left.key(), right.key()),
+        left.cmp(right),
+        lent.cmp(&other),
+    );
+    said.debug(alloc, &orders);
+    said.debug(alloc, &(left == right, lent == other));
+    said.display(alloc, lent.key());
+}
+
+fn sign(order: Ordering) -> &'static str {
+    match order {
+        Ordering::Less => "<",
+        Ordering::Equal => "=",
+        Ordering::Greater => ">",
+    }
+}
+
+// How the keys of an object compare, each, in the order of their bytes, with all of them.
+fn matrix(alloc: Global, words: &mut Words, said: &mut Said) -> Result<(), Fault> {
+    let index = index(alloc, words)?;
+    let tree = words.tree(alloc)?;
+    let Some(children) = tree.children() else {
+        return Err(Fault::NoSuchCall);
+    };
+    for (key, child) in children {
+        for (other, beside) in children {
+            said.say(sign(entry_cmp(&index, (key, child), (other, beside))));
+        }
+        said.say(" ");
+    }
+    Ok(())
+}
+
+// ---- values
+
+// By key, by value, or by the child at a path.
+fn index(alloc: Global, words: &mut Words) -> Result<Index, Fault> {
+    match words.next()? {
+        "key" => Ok(Index::Key),
+        "value" => Ok(Index::Value),
+        "child" => Ok(Index::Child(words.path(alloc)?)),
+        _ => Err(Fault::NoSuchCall),
+    }
+}
+
+// What a tree is sorted by.
+fn sort(alloc: Global, words: &mut Words, said: &mut Said) -> Result<(), Fault> {
+    let index = index(alloc, words)?;
+    let tree = words.tree(alloc)?;
+    match sort_value(&index, &tree) {
+        SortRef::Null => said.say("null"),
+        SortRef::Leaf(leaf) => said.debug(alloc, &leaf.value()),
+        SortRef::Object => said.say("object"),
+    }
+    Ok(())
+}
+
+// How what two trees are sorted by compares, and whether it is equal; and how two leaves compare.
+fn values(alloc: Global, words: &mut Words, said: &mut Said) -> Result<(), Fault> {
+    let left = words.tree(alloc)?;
+    let right = words.tree(alloc)?;
+    let (a, b) = (
+        sort_value(&Index::Value, &left),
+        sort_value(&Index::Value, &right),
+    );
+    said.debug(alloc, &(value_cmp(&a, &b), a == b));
+    if let (Some(a), Some(b)) = (left.as_leaf(), right.as_leaf()) {
+        said.debug(alloc, &leaf_cmp(a, b));
+    }
+    Ok(())
+}
+
+// ---- ranges
+
+fn mark(alloc: Global, words: &mut Words) -> Result<Mark, Fault> {
+    match words.tree(alloc)?.as_leaf() {
+        None => Ok(Mark::Null),
+        Some(leaf) => Ok(Mark::Leaf(leaf.copy(alloc)?)),
+    }
+}
+
+// A cut at a value: before all or after all of it, or next to a key; or none.
+fn cut(alloc: Global, words: &mut Words) -> Result<Option<Cut>, Fault> {
+    let place = match words.next()? {
+        "none" => return Ok(None),
+        "min" => Place::Min,
+        "before" => Place::Before(words.key(alloc)?),
+        "after" => Place::After(words.key(alloc)?),
+        "max" => Place::Max,
+        _ => return Err(Fault::NoSuchCall),
+    };
+    let value = mark(alloc, words)?;
+    Ok(Some(Cut { value, place }))
+}
+
+fn range(alloc: Global, words: &mut Words) -> Result<Range, Fault> {
+    let lower = cut(alloc, words)?;
+    let upper = cut(alloc, words)?;
+    Ok(Range { lower, upper })
+}
+
+// The keys of the children of a tree that lie in a range of their values.
+fn has(alloc: Global, words: &mut Words, said: &mut Said) -> Result<(), Fault> {
+    let range = range(alloc, words)?;
+    let index = index(alloc, words)?;
+    let tree = words.tree(alloc)?;
+    let Some(children) = tree.children() else {
+        return Err(Fault::NoSuchCall);
+    };
+    for (key, child) in children {
+        tell_if_had(&range, &index, key, child, said);
+    }
+    Ok(())
+}
+
+fn tell_if_had(range: &Range, index: &Index, key: &Key, child: &Tree, said: &mut Said) {
+    let is_in = range.has(index, key, child);
+    if is_in {
+        said.say(key.text());
+    }
+    if is_in != range.has_entry(&sort_value(index, child), &PlacedRef::of(key)) {
+        said.say("?");
+    }
+}
+
+// ---- copies and equality
+
+// Whether two ranges are equal, and whether a copy of the second is equal to either.
+fn ranges(alloc: Global, words: &mut Words, said: &mut Said) -> Result<(), Fault> {
+    let left = range(alloc, words)?;
+    let right = range(alloc, words)?;
+    let copy = right.copy(alloc)?;
+    said.debug(alloc, &(left == right, left == copy, right == copy));
+    Ok(())
+}
+
+// Whether copies of a cut, of its value and of its place are equal to them; and how these print.
+fn copied_cut(alloc: Global, words: &mut Words, said: &mut Said) -> Result<(), Fault> {
+    let Some(cut) = cut(alloc, words)? else {
+        return Err(Fault::NoSuchCall);
+    };
+    let copy = cut.copy(alloc)?;
+    let is_value = cut.value.copy(alloc)? == cut.value;
+    let is_place = cut.place.copy(alloc)? == cut.place;
+    said.debug(alloc, &(copy == cut, is_value, is_place));
+    said.debug(alloc, &copy);
+    Ok(())
+}
+
+// Whether two indexes are equal, and whether a copy of the second is equal to either; and how it prints.
+fn indexes(alloc: Global, words: &mut Words, said: &mut Said) -> Result<(), Fault> {
+    let left = index(alloc, words)?;
+    let right = index(alloc, words)?;
+    let copy = right.copy(alloc)?;
+    said.debug(alloc, &(left == right, left == copy, right == copy));
+    said.debug(alloc, &copy);
+    Ok(())
+}
+
+pub(crate) fn call(alloc: Global, words: &mut Words, said: &mut Said) -> Result<(), Fault> {
+    match words.next()? {
+        "keys" => keys(alloc, words, said),
+        "matrix" => matrix(alloc, words, said),
+        "sort" => sort(alloc, words, said),
+        "values" => values(alloc, words, said),
+        "has" => has(alloc, words, said),
+        "ranges" => ranges(alloc, words, said),
+        "copied_cut" => copied_cut(alloc, words, said),
+        "indexes" => indexes(alloc, words, said),
+        _ => Err(Fault::NoSuchCall),
+    }
+}
