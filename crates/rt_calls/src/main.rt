@@ -5,11 +5,14 @@
 //! Empty lines, and those that begin with `#`, are passed over.
 #![tactic(auto)]
 
+mod cover;
+mod drafts;
 mod order;
 mod push;
 mod said;
 mod tree;
 mod words;
+mod writes;
 
 use said::Said;
 use std::alloc::{AllocError, Global};
@@ -20,23 +23,29 @@ use words::{Fault, Words};
 // What the lines so far have made.
 #[derive(Drop)]
 struct State {
+    cover: cover::State,
     push: push::State,
     tree: tree::State,
+    writes: writes::State,
 }
 
-fn new_state() -> State {
+fn new_state(alloc: Global) -> State {
     State {
+        cover: cover::State::new(alloc),
         push: push::State::new(),
         tree: tree::State::new(),
+        writes: writes::State::new(alloc),
     }
 }
 
 fn call(state: &mut State, alloc: Global, line: &str, said: &mut Said) -> Result<(), Fault> {
     let mut words = Words::of(line);
     match words.next()? {
+        "cover" => cover::call(&mut state.cover, alloc, &mut words, said),
         "order" => order::call(alloc, &mut words, said),
         "push" => push::call(&mut state.push, alloc, &mut words, said),
         "tree" => tree::call(&mut state.tree, alloc, &mut words, said),
+        "writes" => writes::call(&mut state.writes, alloc, &mut words, said),
         _ => Err(Fault::NoSuchCall),
     }
 }
@@ -58,7 +67,7 @@ fn make(state: &mut State, alloc: Global, line: &str, said: &mut Said) -> Result
 
 // Makes the first lines anew.
 fn made_anew(alloc: Global, text: &str, count: usize) -> Result<State, Fault> {
-    let mut state = new_state();
+    let mut state = new_state(alloc);
     let mut unsaid = Said::new(alloc)?;
     for line in text.lines().take(count) {
         if !is_passed_over(line) {
@@ -69,7 +78,7 @@ fn made_anew(alloc: Global, text: &str, count: usize) -> Result<State, Fault> {
 }
 
 fn make_all(alloc: Global, text: &str, said: &mut Said) -> Result<(), Fault> {
-    let mut state = new_state();
+    let mut state = new_state(alloc);
     for (count, line) in text.lines().enumerate() {
         if is_passed_over(line) {
             continue;
