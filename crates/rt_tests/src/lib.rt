@@ -1,28 +1,7 @@
-//! The tests of the libraries: outside vectors, printed text, and each public call once with ample memory on each of its
-//! ways out. One module a library.
+//! Tests of what no line of `calls/` shows: the example of README.md, and that trees may go to another thread.
 #![tactic(auto)]
 
 #[cfg(test)]
-mod cache;
-#[cfg(test)]
-mod cover;
-#[cfg(test)]
-mod order;
-#[cfg(test)]
-mod push;
-#[cfg(test)]
-mod query;
-#[cfg(test)]
 mod readme;
 #[cfg(test)]
-mod store;
-#[cfg(test)]
-mod sync;
-#[cfg(test)]
-mod tree;
-#[cfg(test)]
-mod view;
-#[cfg(test)]
-mod wire;
-#[cfg(test)]
-mod writes;
+mod threads;

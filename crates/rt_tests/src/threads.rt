@@ -1,0 +1,11 @@
+// That a value may be handed to another thread, which the types say.
+use rt_tree::Tree;
+
+fn crosses<T: Send + Sync + Drop>(value: T) {
+    drop(value);
+}
+
+#[test]
+fn trees_cross_threads(_rt: HostRuntime) {
+    crosses(Tree::null());
+}
