@@ -1,9 +1,11 @@
 -- What the listens brought: regions under plain listens, windows of filtered ones.
-use Rattle.std.specs.Prelude.{Bool, true, false, ◌&&◌, not, if◌then◌else◌, List, [], ◌∷◌, map, Option, Some, None, is_some}
+use Rattle.std.specs.Prelude.{Bool, true, false, ◌&&◌, not, if◌then◌else◌, List, [], ◌∷◌, map}
+use Rattle.std.specs.Prelude.{Option, Some, None, is_some}
 use Rattle.std.specs.List.{filter}
 use Rattle.std.specs.Option.{option_map, option_map_or, option_or}
 use Rattle.std.specs.FinMap as map_of
-use Rattle.rt_tree.specs.PathTree.{Key, Path, path_cmp, path_eq, strip, PathTree, sub, child, put, children_alone}
+use Rattle.rt_tree.specs.PathTree.{Key, Path, path_cmp, path_eq, strip, PathTree, sub, child, put}
+use Rattle.rt_tree.specs.PathTree.{children_alone}
 use Rattle.rt_tree.specs.Assignments.{is_at_or_above, Assignment}
 use Rattle.rt_query.specs.Queries.{Query, is_filtered}
 use Rattle.rt_query.specs.Supply.{form}
@@ -15,7 +17,8 @@ pub record Window : Type 0 where
   pub children : PathTree
   pub is_whole : Bool
 
--- regions at paths of which none is at or above another, in the order of paths; windows by their filtered form, in the order of forms
+-- regions at paths of which none is at or above another, in the order of paths; windows by their
+-- filtered form, in the order of forms
 pub record Brought : Type 0 where
   pub regions : List (Path × PathTree)
   pub windows : List (Query × Window)
@@ -59,7 +62,8 @@ knows b q = is_some (base b q)
 abbrev pub region_put : Assignment → Path × PathTree → Path × PathTree
 region_put a r = (r.0, option_map_or (λ rest. put r.1 rest a.1) (strip r.0 a.0) r.1)
 
--- a push on a plain listen changes the region at or above its path, or makes one that takes in all regions and windows below
+-- a push on a plain listen changes the region at or above its path, or makes one that takes in all
+-- regions and windows below
 abbrev pub push_plain : Brought → Assignment → Brought
 push_plain b a =
     if is_some (region_part b.regions a.0)
@@ -75,17 +79,21 @@ window_pushed [] u w = Some (record { children = children_alone u; is_whole = fa
 window_pushed (k ∷ rest) u (Some w) = Some (record w { children = put w.children (k ∷ rest) u })
 window_pushed (k ∷ rest) u None = None
 
--- a push on a filtered listen at its path replaces its window by the children; one below is put into the window, if there is one
+-- a push on a filtered listen at its path replaces its window by the children; one below is put
+-- into the window, if there is one
 abbrev pub windows_pushed : Query → Path → PathTree → List (Query × Window) → List (Query × Window)
-windows_pushed q rest u windows = option_map_or (λ w. map_of.put query_cmp q w windows) (window_pushed rest u (window_of windows q)) windows
+windows_pushed q rest u windows = option_map_or (λ w. map_of.put query_cmp q w windows)
+    (window_pushed rest u (window_of windows q)) windows
 
 -- a push on a kept listen
 abbrev pub push : Query → Brought → Assignment → Brought
 push q b a =
     if is_filtered q
-    then option_map_or (λ rest. record b { windows = windows_pushed q rest a.1 b.windows }) (strip q.path a.0) b
+    then option_map_or (λ rest. record b { windows = windows_pushed q rest a.1 b.windows })
+    (strip q.path a.0) b
     else push_plain b a
 
 -- whether a push on a kept listen changes nothing, for want of a window
 abbrev pub is_without_window : Brought → Query → Assignment → Bool
-is_without_window b q a = is_filtered q && not (path_eq q.path a.0) && not (is_some (window_of b.windows q))
+is_without_window b q a = is_filtered q && not (path_eq q.path a.0)
+    && not (is_some (window_of b.windows q))

@@ -1,5 +1,6 @@
 -- What stays brought when the listens kept change.
-use Rattle.std.specs.Prelude.{Bool, true, not, ◌&&◌, if◌then◌else◌, List, [], ◌∷◌, Option, Some, None, is_some}
+use Rattle.std.specs.Prelude.{Bool, true, not, ◌&&◌, if◌then◌else◌, List, [], ◌∷◌, Option, Some}
+use Rattle.std.specs.Prelude.{None, is_some}
 use Rattle.std.specs.List.{filter, filter_map, flat_map, fold, list_any}
 use Rattle.std.specs.Option.{option_map, option_or}
 use Rattle.std.specs.FinMap as map_of
@@ -15,7 +16,8 @@ reaches kept p = list_any (λ k. not (is_filtered k) && is_at_or_above k.path p)
 
 -- the part of a region at a plain listen under it
 abbrev pub part_for : Path × PathTree → Query → Option (Path × PathTree)
-part_for r k = if is_filtered k then None else option_map (λ rest. (k.path, sub r.1 rest)) (strip r.0 k.path)
+part_for r k = if is_filtered k then None else option_map (λ rest. (k.path, sub r.1 rest))
+    (strip r.0 k.path)
 
 -- its parts at all of them
 abbrev pub parts_of : List Query → Path × PathTree → List (Path × PathTree)
@@ -33,20 +35,24 @@ do_plains_overlap kept = have_overlap (plain_spots kept)
 abbrev pub with_regions : List (Path × PathTree) → List (Path × PathTree) → List (Path × PathTree)
 with_regions regions more = fold (λ rs r. map_of.put path_cmp r.0 r.1 rs) regions more
 
--- the regions at or under a plain listen stay; of the others there stay the parts at the plain listens under them
+-- the regions at or under a plain listen stay; of the others there stay the parts at the plain
+-- listens under them
 abbrev pub regions_kept : List Query → List (Path × PathTree) → List (Path × PathTree)
 regions_kept kept regions =
-    with_regions (filter (λ r. reaches kept r.0) regions) (flat_map (parts_of kept) (filter (λ r. not (reaches kept r.0)) regions))
+    with_regions (filter (λ r. reaches kept r.0) regions)
+    (flat_map (parts_of kept) (filter (λ r. not (reaches kept r.0)) regions))
 
 -- the whole window of a filtered form whose path a region held, and none holds now
 abbrev pub window_left : List (Path × PathTree) → List (Path × PathTree) → Query → Option Window
 window_left old new q =
     if is_filtered q && not (is_some (region_part new q.path))
-    then option_map (λ t. record { children = children_alone t; is_whole = true }) (region_part old q.path)
+    then option_map (λ t. record { children = children_alone t; is_whole = true })
+    (region_part old q.path)
     else None
 
 -- the window of a registered form: the one that a lost region leaves, else the one that it has
-abbrev pub window_kept : List (Path × PathTree) → List (Path × PathTree) → List (Query × Window) → Query → Option Window
+abbrev pub window_kept : List (Path × PathTree) → List (Path × PathTree) → List (Query × Window)
+    → Query → Option Window
 window_kept old new windows q = option_or (window_left old new q) (window_of windows q)
 
 -- windows in the order of their queries
@@ -55,8 +61,11 @@ in_query_order [] = []
 in_query_order (w ∷ ws) = map_of.put query_cmp w.0 w.1 (in_query_order ws)
 
 -- the windows of the registered forms
-abbrev pub windows_kept : List Query → List (Path × PathTree) → List (Path × PathTree) → List (Query × Window) → List (Query × Window)
-windows_kept registered old new windows = in_query_order (filter_map (λ q. option_map (λ w. (q, w)) (window_kept old new windows q)) registered)
+abbrev pub windows_kept : List Query → List (Path × PathTree) → List (Path × PathTree)
+    → List (Query × Window) → List (Query × Window)
+windows_kept registered old new windows =
+    in_query_order (filter_map (λ q. option_map (λ w. (q, w)) (window_kept old new windows q))
+    registered)
 
 -- what was brought, after a change of the registered forms and the kept listens
 abbrev pub recover : List Query → List Query → Brought → Brought

@@ -2,6 +2,7 @@
 use Rattle.std.specs.Prelude.{◌≡◌, ◌+◌, ◌≤◌, Bool, true, false, not, List, [], ◌∷◌, length}
 use Rattle.std.specs.List.{fold}
 use Rattle.rt_tree.specs.PathTree.{levels}
+use Rattle.rt_tree.specs.declared.limits.TheConstants.{MAX_LEVELS}
 use Rattle.rt_tree.specs.Assignments.{is_at_or_above}
 use Rattle.rt_cache.specs.Brought.{Brought, push, is_without_window}
 use Rattle.rt_cache.specs.Recover.{do_plains_overlap, recover}
@@ -11,7 +12,7 @@ use Rattle.rt_cache.specs.declared.run.Call.TheVariants.{Put, Recover}
 -- what a caller owes: a push is at or under its query's path, and no deeper than trees are; of the
 -- plain listens kept none is at or above another
 abbrev pub IsAllowed : Call → Type 0
-IsAllowed (Put q p t) = (is_at_or_above q.path p ≡ true) × (length p + levels t ≤ 33)
+IsAllowed (Put q p t) = (is_at_or_above q.path p ≡ true) × (length p + levels t ≤ MAX_LEVELS)
 IsAllowed (Recover registered kept) = do_plains_overlap kept ≡ false
 
 -- what is brought after a call

@@ -6,23 +6,24 @@ ghost use Rattle.rt_tree.specs.Assignments.{is_at_or_above, have_overlap};
 ghost use Rattle.rt_cache.specs.Canonical.{IsCanonical};
 ghost use Rattle.rt_cache.specs.Recover.{do_plains_overlap, recover};
 ghost use Rattle.rt_cache.specs.inside.Held.{pairs_of, held};
-ghost use Rattle.rt_cache.specs.Brought.{nothing_brought, base, base_child, knows, push_plain, push, is_without_window};
+ghost use Rattle.rt_cache.specs.Brought.{nothing_brought, base, base_child, knows, push_plain};
+ghost use Rattle.rt_cache.specs.Brought.{push, is_without_window};
 
 use crate::base::Base;
 use crate::region::Region;
 use crate::window::Window;
 use crate::{recover, regions, stores, windows};
 use rt_query::Query;
-use rt_tree::{Key, Path, Tree};
+use rt_tree::{Key, MAX_LEVELS, Path, Tree};
 use std::alloc::{AllocError, Global};
 use std::marker::Model;
 
-/// What the listens brought: regions, which are trees at paths under plain listens, and windows, which are the known children of
-/// filtered queries.
+/// What the listens brought: regions, which are trees at paths under plain listens, and windows,
+/// which are the known children of filtered queries.
 ///
-/// Regions stand in the order of their paths, and none is at or above another, so that the one at or above a path is found by
-/// halving. Each tree is a store of its own, so that a tree that a call doesn't touch is neither copied
-/// nor walked.
+/// Regions stand in the order of their paths, and none is at or above another, so that the one at
+/// or above a path is found by halving. Each tree is a store of its own, so that a tree that a call
+/// doesn't touch is neither copied nor walked.
 #[derive(Drop)]
 pub struct Brought {
     regions: Vec<Region>,
@@ -50,7 +51,7 @@ fn put_plain(
     path: &Path,
     tree: &Tree,
 ) -> Result<(), AllocError>
-    requires levels { length path.now + levels tree.now ≤ 33 }
+    requires levels { length path.now + levels tree.now ≤ MAX_LEVELS }
     requires sorted { T (map_of.is_sorted path_cmp (pairs_of regions.old.items)) }
     requires apart { have_overlap (pairs_of regions.old.items) ≡ false }
     ensures ok { OnOk result (held regions.new.items windows.new.items
@@ -85,18 +86,19 @@ impl Brought {
 
     /// Takes in a tree that was pushed on the listen of this query, at the query's path or under it.
     ///
-    /// On an unfiltered query the tree is put into the region at or above the path; where there is none, it begins a region, which
-    /// takes in the regions and windows below. On a filtered one it replaces the window by its children, or is put into the
-    /// window, if there is one. `Ok(false)` where there is none: the push is stale and changes nothing.
+    /// On an unfiltered query the tree is put into the region at or above the path; where there is
+    /// none, it begins a region, which takes in the regions and windows below. On a filtered one it
+    /// replaces the window by its children, or is put into the window, if there is one. `Ok(false)`
+    /// where there is none: the push is stale and changes nothing.
     ///
-    /// Finds the region by halving, or the window by going over their queries, and then costs by the path and the tree that is put.
-    /// A push that begins a region passes the paths of all regions and windows, and moves the regions behind it. No other tree is
-    /// walked.
+    /// Finds the region by halving, or the window by going over their queries, and then costs by
+    /// the path and the tree that is put. A push that begins a region passes the paths of all
+    /// regions and windows, and moves the regions behind it. No other tree is walked.
     ///
     /// An `Err` is want of memory, and changes nothing.
     pub fn put(&mut self, query: &Query, path: &Path, tree: &Tree) -> Result<bool, AllocError>
         requires under { is_at_or_above query.now.path path.now ≡ true }
-        requires levels { length path.now + levels tree.now ≤ 33 }
+        requires levels { length path.now + levels tree.now ≤ MAX_LEVELS }
         ensures ok { OnOk result (self.new ≡ push query.now self.old (path.now, tree.now)) }
         ensures taken { IfOk result (λ taken. taken
             ≡ not (is_without_window self.old query.now (path.now, tree.now))) }
@@ -112,7 +114,8 @@ impl Brought {
 
     /// Whether something is brought for the query: a region at or above its path, or its window.
     ///
-    /// Finds the region by halving; where there is none it goes over the queries of the windows. Builds no tree, and takes no memory.
+    /// Finds the region by halving; where there is none it goes over the queries of the windows.
+    /// Builds no tree, and takes no memory.
     pub fn knows(&self, query: &Query) -> bool
         ensures known { result ≡ knows self.now query.now }
         ensures canonical { IsCanonical self.now }
@@ -121,10 +124,11 @@ impl Brought {
             || windows::place_of_window(&self.windows, query).is_some()
     }
 
-    /// What is brought for the query: the part of the region at or above its path, which is whole, or its window; `None` where there
-    /// is neither.
+    /// What is brought for the query: the part of the region at or above its path, which is whole,
+    /// or its window; `None` where there is neither.
     ///
-    /// Finds it as [`Brought::knows`] does, and then costs by the path and the part, of which it makes a copy.
+    /// Finds it as [`Brought::knows`] does, and then costs by the path and the part, of which it
+    /// makes a copy.
     pub fn base(&self, query: &Query) -> Result<Option<Base>, AllocError>
         ensures { IfOk result (λ found. found ≡ base self.now query.now) }
     {
@@ -144,8 +148,8 @@ impl Brought {
         }))
     }
 
-    /// [`Brought::base`] with one child of the tree in its place, null where there is none. It copies that child alone, and
-    /// so costs by the path and that child.
+    /// [`Brought::base`] with one child of the tree in its place, null where there is none. It
+    /// copies that child alone, and so costs by the path and that child.
     pub fn base_child(&self, query: &Query, key: &Key) -> Result<Option<Base>, AllocError>
         ensures { IfOk result (λ found. found ≡ base_child self.now query.now key.now) }
     {
@@ -165,15 +169,17 @@ impl Brought {
         }))
     }
 
-    /// Takes in a change of the registered forms and of the listens kept. A region at or under a plain listen that is kept stays as it
-    /// is; of any other the parts at the plain listens under it stay. A registered filtered form whose path a region held, and none
-    /// holds now, gets the children there as a window that is whole. Windows of other forms go.
+    /// Takes in a change of the registered forms and of the listens kept. A region at or under a
+    /// plain listen that is kept stays as it is; of any other the parts at the plain listens under
+    /// it stay. A registered filtered form whose path a region held, and none holds now, gets the
+    /// children there as a window that is whole. Windows of other forms go.
     ///
-    /// Passes the paths of all regions, each with the listens kept, and the queries of all windows with the
-    /// registered ones. Copies only the parts and the windows that lost regions leave; a tree that stays is moved,
-    /// and neither copied nor walked.
+    /// Passes the paths of all regions, each with the listens kept, and the queries of all windows
+    /// with the registered ones. Copies only the parts and the windows that lost regions leave; a
+    /// tree that stays is moved, and neither copied nor walked.
     ///
-    /// An `Err` is want of memory, and changes nothing: all that is made is made before the first change.
+    /// An `Err` is want of memory, and changes nothing: all that is made is made before the first
+    /// change.
     pub fn recover(&mut self, registered: &[Query], kept: &[Query]) -> Result<(), AllocError>
         requires { do_plains_overlap kept.now ≡ false }
         ensures ok { OnOk result (self.new ≡ recover registered.now kept.now self.old) }

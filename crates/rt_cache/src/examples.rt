@@ -1,8 +1,12 @@
 // Outside examples of what is brought: trees compute here.
 #![tactic(auto, unfolding(rt_tree::specs::PathTree::null, rt_tree::specs::PathTree::of_leaf, rt_tree::specs::PathTree::is_null, rt_tree::specs::PathTree::leaf_at, rt_tree::specs::PathTree::sub, rt_tree::specs::PathTree::put, rt_tree::specs::PathTree::children_alone))]
 
-ghost use Rattle.rt_cache.specs.laws.Examples.{ParentTakesIn, PartsAreWhole, ChildThere, ChildNotThere, PartStays, OtherIsLost, CutInOrder, ListedAlike, LeafShowsNothing, TakenBelow, StaleBelow, StaysWhole, WholeNoMore, TakenIn};
-ghost use Rattle.rt_cache.specs.laws.Examples.{RowRuns, RowDoesSomething, NoRegionBeside, EndedWindowGoes, StaleOnce, StaleLeavesNothing};
+ghost use Rattle.rt_cache.specs.laws.Examples.{ParentTakesIn, PartsAreWhole, ChildThere};
+ghost use Rattle.rt_cache.specs.laws.Examples.{ChildNotThere, PartStays, OtherIsLost, CutInOrder};
+ghost use Rattle.rt_cache.specs.laws.Examples.{ListedAlike, LeafShowsNothing, TakenBelow};
+ghost use Rattle.rt_cache.specs.laws.Examples.{StaleBelow, StaysWhole, WholeNoMore, TakenIn};
+ghost use Rattle.rt_cache.specs.laws.Examples.{RowRuns, RowDoesSomething, NoRegionBeside};
+ghost use Rattle.rt_cache.specs.laws.Examples.{EndedWindowGoes, StaleOnce, StaleLeavesNothing};
 
 /// A region takes in those below it, its parts are whole, and another listen keeps its part alone.
 pub fn region_examples()

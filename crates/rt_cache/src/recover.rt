@@ -1,5 +1,6 @@
 // What stays when the listens kept change.
-ghost use Rattle.std.specs.Prelude.{◌≡◌, ◌+◌, ◌≤◌, ◌++◌, T, vec_len, vec_capacity, ◌&&◌, not, false, is_some, IfOk, OnOk, OnErr};
+ghost use Rattle.std.specs.Prelude.{◌≡◌, ◌+◌, ◌≤◌, ◌++◌, T, vec_len, vec_capacity, ◌&&◌, not};
+ghost use Rattle.std.specs.Prelude.{false, is_some, IfOk, OnOk, OnErr};
 ghost use Rattle.std.specs.List.{filter, flat_map, list_any};
 ghost use Rattle.std.specs.Option.{option_map};
 ghost use Rattle.std.specs.FinMap as map_of;
@@ -8,7 +9,8 @@ ghost use Rattle.rt_tree.specs.Assignments.{have_overlap};
 ghost use Rattle.rt_query.specs.QueryEq.{query_eq};
 ghost use Rattle.rt_cache.specs.QueryOrder.{query_cmp};
 ghost use Rattle.rt_cache.specs.Brought.{region_part};
-ghost use Rattle.rt_cache.specs.Recover.{reaches, part_for, parts_of, with_regions, regions_kept, window_left, do_plains_overlap, recover};
+ghost use Rattle.rt_cache.specs.Recover.{reaches, part_for, parts_of, with_regions, regions_kept};
+ghost use Rattle.rt_cache.specs.Recover.{window_left, do_plains_overlap, recover};
 ghost use Rattle.rt_cache.specs.inside.Held.{pair_of, pairs_of, entry_of, entries_of, for_each, held};
 
 use crate::region::Region;
@@ -198,7 +200,8 @@ fn retain_registered(windows: &mut Vec<Window>, left: &[Window], registered: &[Q
     });
 }
 
-// What is brought after a change of the registered forms and of the listens kept. All that can be refused comes first.
+// What is brought after a change of the registered forms and of the listens kept. All that can be
+// refused comes first.
 pub(crate) fn change_cover(
     regions: &mut Vec<Region>,
     windows: &mut Vec<Window>,

@@ -1,6 +1,8 @@
 // Regions in the order of their paths, of which none is at or above another.
-ghost use Rattle.std.specs.Prelude.{◌≡◌, ℕ, suc, ◌+◌, ◌<◌, ◌≤◌, T, true, false, not, length, slice_index_or, filter};
-ghost use Rattle.std.specs.Prelude.{vec_len, vec_capacity, IfOk, IfSome, IfNone, OnOk, OnErr, Some, None, is_some};
+ghost use Rattle.std.specs.Prelude.{◌≡◌, ℕ, suc, ◌+◌, ◌<◌, ◌≤◌, T, true, false, not, length};
+ghost use Rattle.std.specs.Prelude.{slice_index_or, filter};
+ghost use Rattle.std.specs.Prelude.{vec_len, vec_capacity, IfOk, IfSome, IfNone, OnOk, OnErr, Some};
+ghost use Rattle.std.specs.Prelude.{None, is_some};
 ghost use Rattle.std.specs.List.{list_any};
 ghost use Rattle.std.specs.Option.{option_map};
 ghost use Rattle.std.specs.Ordering.{is_lt};
@@ -14,7 +16,7 @@ ghost use Rattle.rt_cache.specs.declared.region.Region.{Region};
 use crate::paths::rest_of;
 use crate::region::Region;
 use crate::stores::{self, store_of};
-use rt_tree::{Key, Path, Tree};
+use rt_tree::{Key, MAX_LEVELS, Path, Tree};
 use std::alloc::{AllocError, Global};
 
 // How many regions stand at the path or in front of it, by halving: the path comes before the one at
@@ -110,7 +112,7 @@ pub(crate) fn put_into(
     path: &Path,
     tree: &Tree,
 ) -> Result<(), AllocError>
-    requires levels { length path.now + levels tree.now ≤ 33 }
+    requires levels { length path.now + levels tree.now ≤ MAX_LEVELS }
     ensures ok { OnOk result (pair_of region.new
         ≡ region_put (path.now, tree.now) (pair_of region.old)) }
     ensures err { OnErr result (pair_of region.new ≡ pair_of region.old) }

@@ -52,7 +52,8 @@ pub enum Call {
 impl Brought {
     /// Makes each call in turn, and tells of each whether it was taken: all are but the stale pushes.
     ///
-    /// Costs what its calls cost. Where memory is lacking, some of the first calls stay made, and none of those behind them.
+    /// Costs what its calls cost. Where memory is lacking, some of the first calls stay made, and
+    /// none of those behind them.
     pub fn run(&mut self, calls: &[Call]) -> Result<Vec<bool>, AllocError>
         requires { All IsAllowed calls.now }
         ensures ok { OnOk result (self.new ≡ after_all self.old calls.now) }

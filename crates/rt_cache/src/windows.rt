@@ -1,5 +1,6 @@
 // Windows of filtered queries, in any order.
-ghost use Rattle.std.specs.Prelude.{◌≡◌, ℕ, ◌+◌, ◌<◌, ◌≤◌, length, IfOk, IfSome, IfNone, OnOk, OnErr, None, is_some, not, true, false, slice_index_or};
+ghost use Rattle.std.specs.Prelude.{◌≡◌, ℕ, ◌+◌, ◌<◌, ◌≤◌, length, IfOk, IfSome, IfNone, OnOk};
+ghost use Rattle.std.specs.Prelude.{OnErr, None, is_some, not, true, false, slice_index_or};
 ghost use Rattle.std.specs.List.{filter};
 ghost use Rattle.std.specs.Option.{option_map_or};
 ghost use Rattle.std.specs.FinMap as map_of;
@@ -15,12 +16,13 @@ use crate::paths::rest_of;
 use crate::stores::store_of_children;
 use crate::window::Window;
 use rt_query::Query;
-use rt_tree::{Path, Tree};
+use rt_tree::{MAX_LEVELS, Path, Tree};
 use std::alloc::{AllocError, Global};
 
 // Where the window of the query stands.
 pub(crate) fn place_of_window(windows: &[Window], query: &Query) -> Option<usize>
-    ensures known { is_some result ≡ is_some (map_of.find query_cmp query.now (entries_of windows.now)) }
+    ensures known { is_some result
+        ≡ is_some (map_of.find query_cmp query.now (entries_of windows.now)) }
     ensures none { IfNone result (map_of.find query_cmp query.now (entries_of windows.now) ≡ None) }
     ensures within { IfSome result (λ n. n < length windows.now) }
     ensures own { IfSome result (λ n. (d : Window)
@@ -75,7 +77,7 @@ fn put_into_window(
     path: &Path,
     tree: &Tree,
 ) -> Result<(), AllocError>
-    requires levels { length path.now + levels tree.now ≤ 33 }
+    requires levels { length path.now + levels tree.now ≤ MAX_LEVELS }
     ensures query { window.new.query ≡ window.old.query }
     ensures mark { window.new.is_whole ≡ window.old.is_whole }
     ensures ok { OnOk result ((window.new.children).tree
@@ -101,7 +103,8 @@ pub(crate) fn remove_under(windows: &mut Vec<Window>, path: &Path)
     windows.retain(|window| !path.is_prefix_of(window.query.path()));
 }
 
-// The tree pushed on the query at the path; whether it was taken: below the query's path a window has to be there.
+// The tree pushed on the query at the path; whether it was taken: below the query's path a window
+// has to be there.
 pub(crate) fn push(
     alloc: Global,
     windows: &mut Vec<Window>,
@@ -110,7 +113,7 @@ pub(crate) fn push(
     tree: &Tree,
 ) -> Result<bool, AllocError>
     requires under { is_at_or_above query.now.path path.now ≡ true }
-    requires levels { length path.now + levels tree.now ≤ 33 }
+    requires levels { length path.now + levels tree.now ≤ MAX_LEVELS }
     ensures ok { OnOk result (in_query_order (entries_of windows.new.items)
         ≡ pushed_windows query.now (path.now, tree.now) (in_query_order
         (entries_of windows.old.items))) }

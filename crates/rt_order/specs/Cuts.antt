@@ -40,4 +40,5 @@ is_after cut e = is_after_by (value_cmp (mark_value cut.value) e.0) cut.place e.
 -- whether an entry lies after the lower and before the upper cut; an absent cut bounds nothing
 abbrev pub has : Range → Entry → Bool
 has range e =
-    option_map_or (λ cut. is_after cut e) range.lower true && option_map_or (λ cut. not (is_after cut e)) range.upper true
+    option_map_or (λ cut. is_after cut e) range.lower true
+    && option_map_or (λ cut. not (is_after cut e)) range.upper true

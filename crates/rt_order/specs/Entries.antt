@@ -14,7 +14,8 @@ use Rattle.rt_order.specs.Values.{SortValue, Null, Plain, Object, value_cmp}
 abbrev pub own_sort_value : PathTree → SortValue
 own_sort_value t = option_map_or Plain (leaf_of t) (if is_null t then Null else Object)
 
--- the sort value of a child: null in key order, its own in value order, that of its part at the path in child order
+-- the sort value of a child: null in key order, its own in value order, that of its part at the
+-- path in child order
 abbrev pub sort_value : Index → PathTree → SortValue
 sort_value Key t = Null
 sort_value (Child p) t = own_sort_value (sub t p)

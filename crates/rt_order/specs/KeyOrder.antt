@@ -1,5 +1,6 @@
 -- The order of keys: integer keys by number, then the others by bytes.
-use Rattle.std.specs.Prelude.{ℕ, ◌-◌, ◌+◌, ◌*◌, ◌&&◌, if◌then◌else◌, List, [], ◌∷◌, length, ℤ, pos, negsuc, neg_ℤ, ◌==◌, int_le, Option, Some, None}
+use Rattle.std.specs.Prelude.{ℕ, ◌-◌, ◌+◌, ◌*◌, ◌&&◌, if◌then◌else◌, List, [], ◌∷◌, length, ℤ, pos}
+use Rattle.std.specs.Prelude.{negsuc, neg_ℤ, ◌==◌, int_le, Option, Some, None}
 use Rattle.std.specs.declared.cmp.Ordering.{Ordering}
 use Rattle.std.specs.declared.cmp.Ordering.TheVariants.{Less, Greater}
 use Rattle.std.specs.List.{fold, list_all}
@@ -32,7 +33,8 @@ numeral_value (c ∷ cs) =
 -- the number, where it lies in -2147483648 to 2147483647
 abbrev pub within_32_bits : Option ℤ → Option ℤ
 within_32_bits None = None
-within_32_bits (Some n) = if int_le (negsuc 2147483647) n && int_le n (pos 2147483647) then Some n else None
+within_32_bits (Some n) = if int_le (negsuc 2147483647) n
+    && int_le n (pos 2147483647) then Some n else None
 
 -- the number of an integer key
 abbrev pub integer_of : Key → Option ℤ
@@ -40,7 +42,8 @@ integer_of key = within_32_bits (numeral_value key)
 
 -- integer keys come first, by number, then length, then bytes; other keys follow, by bytes
 abbrev pub key_cmp_by : Option ℤ → Option ℤ → Key → Key → Ordering
-key_cmp_by (Some m) (Some n) a b = ordering_then (int_cmp m n) (ordering_then (nat_cmp (length a) (length b)) (bytes_cmp a b))
+key_cmp_by (Some m) (Some n) a b =
+    ordering_then (int_cmp m n) (ordering_then (nat_cmp (length a) (length b)) (bytes_cmp a b))
 key_cmp_by (Some m) None a b = Less
 key_cmp_by None (Some n) a b = Greater
 key_cmp_by None None a b = bytes_cmp a b

@@ -1,7 +1,9 @@
 // Outside examples of the orders: trees compute here.
 #![tactic(auto, unfolding(rt_tree::specs::PathTree::null, rt_tree::specs::PathTree::of_leaf, rt_tree::specs::PathTree::is_null, rt_tree::specs::PathTree::leaf_at, rt_tree::specs::PathTree::sub, rt_tree::specs::PathTree::put))]
 
-ghost use Rattle.rt_order.specs.laws.Examples.{IntegerKeys, OtherKeys, KeysRise, ValuesByChild, ValuesRise, FromFive, PastFive, FromK, PastK, ToK, BelowK, OnlyK};
+ghost use Rattle.rt_order.specs.laws.Examples.{IntegerKeys, OtherKeys, KeysRise, ValuesByChild};
+ghost use Rattle.rt_order.specs.laws.Examples.{ValuesRise, FromFive, PastFive, FromK, PastK, ToK};
+ghost use Rattle.rt_order.specs.laws.Examples.{BelowK, OnlyK};
 
 /// Integer keys come first, by number, then by length.
 pub fn key_examples()

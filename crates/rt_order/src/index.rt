@@ -76,7 +76,8 @@ pub fn sort_value<'a>(index: &Index, tree: &'a Tree) -> SortRef<'a>
 
 /// The order of children: by sort value, then by key.
 pub fn entry_cmp(index: &Index, a: (&Key, &Tree), b: (&Key, &Tree)) -> Ordering
-    ensures { result ≡ entry_cmp (entry index.now (a.entry.0.now, a.entry.1.now)) (entry index.now (b.entry.0.now, b.entry.1.now)) }
+    ensures { result ≡ entry_cmp (entry index.now (a.entry.0.now, a.entry.1.now))
+        (entry index.now (b.entry.0.now, b.entry.1.now)) }
 {
     let by_value = value_cmp(&sort_value(index, a.1), &sort_value(index, b.1));
     by_value.then_with(|| key_cmp(a.0, b.0))

@@ -7,7 +7,8 @@ ghost use Rattle.rt_order.specs.KeyOrder.{key_cmp};
 ghost use Rattle.rt_order.specs.Values.{value_cmp};
 ghost use Rattle.rt_order.specs.Entries.{entry_cmp};
 ghost use Rattle.rt_order.specs.laws.EntryOrder.{ObjectsGoByKey};
-ghost use Rattle.rt_order.specs.laws.Cuts.{AboveStaysAfter, AfterIsNextTo, BeforeIsNextTo, RangesAreRuns};
+ghost use Rattle.rt_order.specs.laws.Cuts.{AboveStaysAfter, AfterIsNextTo, BeforeIsNextTo};
+ghost use Rattle.rt_order.specs.laws.Cuts.{RangesAreRuns};
 
 /// The order of keys is total, and only equal keys are equal in it.
 pub fn key_laws()

@@ -1,7 +1,8 @@
 -- The number and the name of each refusal.
 use Rattle.std.specs.Prelude.{ℕ, List, codes}
 use Rattle.rt_push.specs.declared.error.PushError.{PushError}
-use Rattle.rt_push.specs.declared.error.PushError.TheVariants.{Exhausted, MomentTooLarge, RandomOutOfRange}
+use Rattle.rt_push.specs.declared.error.PushError.TheVariants.{Exhausted, MomentTooLarge}
+use Rattle.rt_push.specs.declared.error.PushError.TheVariants.{RandomOutOfRange}
 
 -- the number of a refusal
 abbrev pub code_of : PushError → ℕ

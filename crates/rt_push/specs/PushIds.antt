@@ -3,7 +3,8 @@ use Rattle.std.specs.Prelude.{ℕ, ◌+◌, ◌^◌, not, nat_lt, if◌then◌el
 use Rattle.std.specs.List.{list_all}
 use Rattle.rt_push.specs.Digits.{is_digit, number, text}
 use Rattle.rt_push.specs.declared.error.PushError.{PushError}
-use Rattle.rt_push.specs.declared.error.PushError.TheVariants.{Exhausted, MomentTooLarge, RandomOutOfRange}
+use Rattle.rt_push.specs.declared.error.PushError.TheVariants.{Exhausted, MomentTooLarge}
+use Rattle.rt_push.specs.declared.error.PushError.TheVariants.{RandomOutOfRange}
 
 -- a moment, in milliseconds, and a random part
 abbrev pub Stamp : Type 0

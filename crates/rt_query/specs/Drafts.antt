@@ -16,11 +16,22 @@ pub record Draft : Type 0 where
 
 -- before any call
 abbrev pub new_draft : Path → Draft
-new_draft p = record { path = p; index = None; range = record { lower = None; upper = None }; limit = None }
+new_draft p = record {
+  path = p;
+  index = None;
+  range = record { lower = None; upper = None };
+  limit = None;
+}
 
 -- the query; in key order, where no order is named
 abbrev pub finished : Draft → Query
-finished d = record { path = d.path; index = unwrap_or d.index Index.Key; range = d.range; limit = d.limit }
+finished d = record {
+  path = d.path;
+  index = unwrap_or d.index Index.Key;
+  range = d.range;
+  limit =
+      d.limit;
+}
 
 -- what holds of each draft: what holds of its query
 abbrev pub IsDraft : Draft → Type 0

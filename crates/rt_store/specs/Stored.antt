@@ -4,7 +4,8 @@ use Rattle.std.specs.Coded.{Coded, code_by, coded×, coded_ℕ, coded_list}
 use Rattle.rt_tree.specs.PathTree.{Key, PathTree, null, tree_code}
 use Rattle.rt_store.specs.Rows.{Row, root_row}
 
--- the tree, and for each node below the root, by its number, what stands at it and its siblings behind it
+-- the tree, and for each node below the root, by its number, what stands at it and its siblings
+-- behind it
 pub record Stored : Type 0 where
   pub tree : PathTree
   pub rows : List Row
@@ -13,7 +14,8 @@ abbrev pub row_code : Coded Row
 row_code = coded_list (coded× (coded_list coded_ℕ) tree_code)
 
 abbrev pub stored_code : Coded Stored
-stored_code = code_by (PathTree × List Row) (coded× tree_code (coded_list row_code)) (λ s. (s.tree, s.rows)) (λ p. record { tree = p.0; rows = p.1 }) (λ _. refl)
+stored_code = code_by (PathTree × List Row) (coded× tree_code (coded_list row_code)) (λ s.
+    (s.tree, s.rows)) (λ p. record { tree = p.0; rows = p.1 }) (λ _. refl)
 
 abbrev pub nth : List Row → ℕ → Row
 nth [] n = []

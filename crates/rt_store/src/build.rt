@@ -14,7 +14,8 @@ use std::collections::BTreeMap;
 
 // `insert`, at a key that is new.
 fn add_child(children: &mut BTreeMap<Key, Tree>, key: Key, child: Tree) -> Result<(), AllocError>
-    ensures sets { OnOk result ((j : List ℕ) → child_of children.new.entries j ≡ if key_eq key j then Some child else child_of children.old.entries j) }
+    ensures sets { OnOk result ((j : List ℕ) → child_of children.new.entries j
+        ≡ if key_eq key j then Some child else child_of children.old.entries j) }
     ensures ordered { IsOrdered key_cmp children.new }
 {
     children.insert(key, child)?;

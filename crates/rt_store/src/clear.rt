@@ -45,8 +45,11 @@ pub(crate) fn clear_row(
     requires told { Told nodes.old row.first row.parent }
     requires once { (n : ℕ) → times n (row_at nodes.old row.first) ≤ 1 }
     requires ranked { IsRanked nodes.old ranks.old }
-    ensures row { (parent : Option ℕ) → IsRow nodes.old row.first parent None (row_at nodes.old row.first) → IsRow nodes.new result parent None (cleared key.now rest.now (row_at nodes.old row.first)) }
-    ensures changed { Changed nodes.old nodes.new (row_at nodes.old row.first) (cleared key.now rest.now (row_at nodes.old row.first)) }
+    ensures row { (parent : Option ℕ)
+        → IsRow nodes.old row.first parent None (row_at nodes.old row.first)
+        → IsRow nodes.new result parent None (cleared key.now rest.now (row_at nodes.old row.first)) }
+    ensures changed { Changed nodes.old nodes.new (row_at nodes.old row.first)
+        (cleared key.now rest.now (row_at nodes.old row.first)) }
     ensures ranked { IsRanked nodes.new ranks.new }
 {
     let Some(index) = find(nodes, ranks, row, key) else {

@@ -30,7 +30,8 @@ fn falling<'a>(
     children: &'a BTreeMap<Key, Tree>,
 ) -> Result<Vec<Child<'a>>, AllocError>
     requires { IsOrdered key_cmp children.now }
-    ensures { IfOk result (λ found. reverse (map seen found.items) ≡ in_key_order children.now.entries) }
+    ensures { IfOk result (λ found. reverse (map seen found.items)
+        ≡ in_key_order children.now.entries) }
 {
     let mut found = Vec::with_capacity(alloc, children.len())?;
     for (key, tree) in children {
@@ -54,7 +55,8 @@ pub(crate) fn grow(
     requires full { is_null tree.now ≡ false }
     requires ranked { IsRanked nodes.old ranks.old }
     ensures grown { IfOk result (λ index. Grown nodes.old nodes.new (Some index) parent) }
-    ensures is { IfOk result (λ index. entries (row_at nodes.new (Some index)) ≡ (key.now, put null rest.now tree.now) ∷ []) }
+    ensures is { IfOk result (λ index. entries (row_at nodes.new (Some index))
+        ≡ (key.now, put null rest.now tree.now) ∷ []) }
     ensures err { OnErr result (Same nodes.old nodes.new) }
     ensures ranked { IsRanked nodes.new ranks.new }
 {
@@ -85,7 +87,8 @@ pub(crate) fn grow(
     }
 }
 
-// Makes the nodes below a node that a tree is put at `rest` under: the leaf that it is, or else its children.
+// Makes the nodes below a node that a tree is put at `rest` under: the leaf that it is, or else its
+// children.
 #[cycle(grow)]
 pub(crate) fn content(
     nodes: &mut Slab<Slot>,
@@ -99,7 +102,8 @@ pub(crate) fn content(
     requires ranked { IsRanked nodes.old ranks.old }
     ensures grown { IfOk result (λ r. Grown nodes.old nodes.new r.1 parent) }
     ensures full { IfOk result (λ r. IsFull r.0 (row_at nodes.new r.1)) }
-    ensures is { IfOk result (λ r. tree_with r.0 (entries (row_at nodes.new r.1)) ≡ put null rest.now tree.now) }
+    ensures is { IfOk result (λ r. tree_with r.0 (entries (row_at nodes.new r.1))
+        ≡ put null rest.now tree.now) }
     ensures err { OnErr result (Same nodes.old nodes.new) }
     ensures ranked { IsRanked nodes.new ranks.new }
 {
@@ -131,7 +135,8 @@ pub(crate) fn grow_row(
     requires full { AllFull children.now.entries }
     requires ranked { IsRanked nodes.old ranks.old }
     ensures grown { IfOk result (λ first. Grown nodes.old nodes.new first parent) }
-    ensures is { IfOk result (λ first. entries (row_at nodes.new first) ≡ in_key_order children.now.entries) }
+    ensures is { IfOk result (λ first. entries (row_at nodes.new first)
+        ≡ in_key_order children.now.entries) }
     ensures err { OnErr result (Same nodes.old nodes.new) }
     ensures ranked { IsRanked nodes.new ranks.new }
 {

@@ -1,5 +1,5 @@
-//! A tree kept as linked nodes: each has its key, its parent, its first child, the siblings beside it, and the leaf that it
-//! is, where it is one.
+//! A tree kept as linked nodes: each has its key, its parent, its first child, the siblings beside
+//! it, and the leaf that it is, where it is one.
 //!
 //! A contract sees a store as its tree (`rt_tree`'s) and what can be walked to from each node
 //! (`specs/Stored.antt`).

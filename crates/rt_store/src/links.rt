@@ -5,7 +5,8 @@ ghost use Rattle.slab.specs.Slab.{get, slab_len};
 ghost use Rattle.rt_store.specs.inside.Forest.{IsRow, row_at, times};
 ghost use Rattle.rt_store.specs.inside.Walks.{IsPlace};
 ghost use Rattle.rt_store.specs.inside.Ranks.{IsRanked};
-ghost use Rattle.rt_store.specs.inside.Changes.{Felled, Changed, IsHead, InRow, without, joined, linked_in, with_next, with_previous, with_content};
+ghost use Rattle.rt_store.specs.inside.Changes.{Felled, Changed, IsHead, InRow, without, joined};
+ghost use Rattle.rt_store.specs.inside.Changes.{linked_in, with_next, with_previous, with_content};
 
 use crate::ranks::Ranks;
 use crate::slot::Slot;
@@ -54,7 +55,8 @@ pub(crate) fn link(
     index: usize,
     next: Option<usize>,
 )
-    ensures each { (n : ℕ) → get nodes.new n ≡ option_map (linked_in previous index next n) (get nodes.old n) }
+    ensures each { (n : ℕ) → get nodes.new n ≡ option_map (linked_in previous index next n)
+        (get nodes.old n) }
     ensures len { slab_len nodes.new ≡ slab_len nodes.old }
 {
     join(nodes, previous, Some(index));
@@ -110,8 +112,10 @@ pub(crate) fn take_out(
     requires once { (n : ℕ) → times n (row_at nodes.old first) ≤ 1 }
     requires there { InRow index (row_at nodes.old first) }
     requires ranked { IsRanked nodes.old ranks.old }
-    ensures row { (parent : Option ℕ) → IsRow nodes.old first parent None (row_at nodes.old first) → IsRow nodes.new result parent None (without index (row_at nodes.old first)) }
-    ensures changed { Changed nodes.old nodes.new (row_at nodes.old first) (without index (row_at nodes.old first)) }
+    ensures row { (parent : Option ℕ) → IsRow nodes.old first parent None (row_at nodes.old first)
+        → IsRow nodes.new result parent None (without index (row_at nodes.old first)) }
+    ensures changed { Changed nodes.old nodes.new (row_at nodes.old first)
+        (without index (row_at nodes.old first)) }
     ensures ranked { IsRanked nodes.new ranks.new }
 {
     let Some(slot) = nodes.try_remove(index) else {

@@ -4,8 +4,8 @@ ghost use Rattle.std.specs.Option.{option_map};
 
 use std::marker::Model;
 
-/// What stands at a place of a store. A node is good until the store next changes; after that it may stand for anything that
-/// is in the store, or for nothing.
+/// What stands at a place of a store. A node is good until the store next changes; after that it
+/// may stand for anything that is in the store, or for nothing.
 #[derive(Clone, Copy, Debug, PartialEq, Eq)]
 pub struct Node {
     // The key of the node in the slab; none at the root.

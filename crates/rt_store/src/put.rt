@@ -14,8 +14,8 @@ use rt_tree::{Key, Tree};
 use slab::Slab;
 use std::alloc::{AllocError, Global};
 
-// Puts a tree at a path below a row. The answer is the first node of the row then. All nodes are made before the first of the row
-// changes.
+// Puts a tree at a path below a row. The answer is the first node of the row then. All nodes are
+// made before the first of the row changes.
 pub(crate) fn put_row(
     nodes: &mut Slab<Slot>,
     ranks: &mut Ranks,
@@ -30,7 +30,8 @@ pub(crate) fn put_row(
     requires once { (n : ℕ) → times n (row_at nodes.old row.first) ≤ 1 }
     requires full { is_null tree.now ≡ false }
     requires ranked { IsRanked nodes.old ranks.old }
-    ensures ok { IfOk result (λ first. IsPut nodes.old nodes.new row.first first row.parent key.now rest.now tree.now) }
+    ensures ok { IfOk result (λ first.
+        IsPut nodes.old nodes.new row.first first row.parent key.now rest.now tree.now) }
     ensures err { OnErr result (Same nodes.old nodes.new) }
     ensures ranked { IsRanked nodes.new ranks.new }
 {

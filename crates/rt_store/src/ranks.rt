@@ -1,5 +1,6 @@
 // The children of each node in the order of keys, from which a search begins.
-ghost use Rattle.std.specs.Prelude.{◌≡◌, ◌+◌, ◌<◌, ◌≤◌, ℕ, Option, Some, length, slice_get, nat_eq, vec_len, IfSome, IfNone, OnOk, OnErr};
+ghost use Rattle.std.specs.Prelude.{◌≡◌, ◌+◌, ◌<◌, ◌≤◌, ℕ, Option, Some, length, slice_get, nat_eq};
+ghost use Rattle.std.specs.Prelude.{vec_len, IfSome, IfNone, OnOk, OnErr};
 ghost use Rattle.rt_store.specs.inside.Forest.{one_if};
 ghost use Rattle.rt_store.specs.inside.Often.{often, nth_row};
 
@@ -77,7 +78,8 @@ fn insert_at(
     key: &PlacedRef<'_>,
     child: usize,
 ) -> Result<(), AllocError>
-    ensures ok { OnOk result ((m : ℕ) → often m children.new.items ≡ often m children.old.items + one_if (nat_eq m child)) }
+    ensures ok { OnOk result ((m : ℕ) → often m children.new.items
+        ≡ often m children.old.items + one_if (nat_eq m child)) }
     ensures err { OnErr result (children.new.items ≡ children.old.items) }
 {
     let place = place_of(children.as_slice(), nodes, key);
@@ -88,7 +90,8 @@ fn insert_at(
 // Takes out a child.
 fn take_from(children: &mut Vec<usize>, nodes: &Slab<Slot>, key: &PlacedRef<'_>, child: usize)
     requires { 0 < often child children.old.items }
-    ensures { (m : ℕ) → often m children.new.items + one_if (nat_eq m child) ≡ often m children.old.items }
+    ensures { (m : ℕ) → often m children.new.items + one_if (nat_eq m child)
+        ≡ often m children.old.items }
 {
     if let Some(place) = find_child(children.as_slice(), nodes, key, child) {
         children.remove(place);

@@ -41,7 +41,8 @@ fn nearest(
     parent: Option<usize>,
     key: &PlacedRef<'_>,
 ) -> Option<usize>
-    ensures { IfSome result (λ n. (slot : Slot) × (get nodes.now n ≡ Some slot) × (slot.parent ≡ parent)) }
+    ensures { IfSome result (λ n. (slot : Slot) × (get nodes.now n ≡ Some slot)
+        × (slot.parent ≡ parent)) }
 {
     let index = ranks.nearest(nodes, parent, key)?;
     let slot = nodes.get(index)?;
@@ -62,7 +63,8 @@ fn start(
     requires row { IsRow nodes.now row.first row.parent None (row_at nodes.now row.first) }
     requires told { Told nodes.now row.first row.parent }
     ensures place { IsPlace nodes.now result.1 }
-    ensures spot { spot_in key.now None (row_at nodes.now row.first) ≡ spot_in key.now result.0 (row_at nodes.now result.1) }
+    ensures spot { spot_in key.now None (row_at nodes.now row.first)
+        ≡ spot_in key.now result.0 (row_at nodes.now result.1) }
 {
     let Some(index) = nearest(nodes, ranks, row.parent, key) else {
         return (None, row.first);

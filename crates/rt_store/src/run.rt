@@ -17,12 +17,17 @@ pub enum Change {
 }
 
 impl Store {
-    /// Makes each change in turn. One that would put a value below more than 32 keys changes nothing, and the next ones follow.
+    /// Makes each change in turn. One that would put a value below more than 32 keys changes
+    /// nothing, and the next ones follow.
     ///
-    /// Where memory is lacking, the changes before that one stay made, and neither that one nor those behind it.
+    /// # Errors
+    ///
+    /// `NoMemory`, after which the changes before that one stay made, and neither that one nor
+    /// those behind it.
     pub fn run(&mut self, alloc: Global, changes: &[Change]) -> Result<(), StoreError>
         ensures ok { OnOk result (self.new.tree ≡ after_all self.old.tree changes.now) }
-        ensures err { OnErr result ((n : ℕ) × (n < length changes.now) × (self.new.tree ≡ after_all self.old.tree (take n changes.now))) }
+        ensures err { OnErr result ((n : ℕ) × (n < length changes.now)
+            × (self.new.tree ≡ after_all self.old.tree (take n changes.now))) }
         ensures errors { IfErr result (λ e. e ≡ NoMemory) }
     {
         for change in changes {

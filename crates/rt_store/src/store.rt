@@ -1,5 +1,6 @@
 // A tree as linked nodes.
-ghost use Rattle.std.specs.Prelude.{◌≡◌, ◌+◌, ◌<◌, ◌↔◌, [], not, is_some, length, IfOk, OnOk, OnErr, Err};
+ghost use Rattle.std.specs.Prelude.{◌≡◌, ◌+◌, ◌<◌, ◌↔◌, [], not, is_some, length, IfOk, OnOk};
+ghost use Rattle.std.specs.Prelude.{OnErr, Err};
 ghost use Rattle.std.specs.Option.{option_copied, option_map};
 ghost use Rattle.rt_tree.specs.PathTree.{null, is_null, sub, put, leaf_of, levels};
 ghost use Rattle.rt_store.specs.Rows.{row, from_path};
@@ -16,7 +17,7 @@ use crate::put::put_row;
 use crate::ranks::Ranks;
 use crate::row::{Siblings, descend};
 use crate::slot::Slot;
-use rt_tree::{Key, Leaf, Path, Tree};
+use rt_tree::{Key, Leaf, MAX_LEVELS, Path, Tree};
 use slab::Slab;
 use std::alloc::{AllocError, Global};
 use std::marker::Model;
@@ -62,25 +63,28 @@ impl Store {
         }
     }
 
-    /// Puts a copy of a tree in the place of what stands at the path. Null clears the path; any other tree replaces a leaf above the path
-    /// by an object.
+    /// Puts a copy of a tree in the place of what stands at the path. Null clears the path; any
+    /// other tree replaces a leaf above the path by an object.
     ///
-    /// `TooDeep` where path and tree together have more than 32 keys. A refusal changes nothing: all nodes are made before the first
-    /// of the store's changes.
+    /// Costs by the path, the logarithm of the number of siblings at each of its keys, the tree
+    /// that is put and what it replaces; a child that is new also moves a word for each sibling
+    /// behind it.
     ///
-    /// Costs by the path, the logarithm of the number of siblings at each of its keys, the tree that is put and what it
-    /// replaces; a child that is new also moves a word for each sibling behind it.
+    /// # Errors
+    ///
+    /// `TooDeep` where path and tree together have more than 32 keys, or `NoMemory`. A refusal
+    /// changes nothing: all nodes are made before the first of the store's changes.
     pub fn set(&mut self, alloc: Global, path: &Path, tree: &Tree) -> Result<(), StoreError>
         ensures ok { OnOk result (self.new.tree ≡ put self.old.tree path.now tree.now) }
         ensures err { OnErr result (IsAsBefore self.old self.new) }
-        ensures too_deep { (result ≡ Err TooDeep) ↔ (33 < length path.now + levels tree.now) }
+        ensures too_deep { (result ≡ Err TooDeep) ↔ (MAX_LEVELS < length path.now + levels tree.now) }
     {
         let keys = path.keys();
         if tree.is_null() {
             self.clear(path);
             return Ok(());
         }
-        if tree.levels() > 33 - keys.len() {
+        if tree.levels() > MAX_LEVELS - keys.len() {
             return Err(StoreError::TooDeep);
         }
         match keys.split_first() {
@@ -118,10 +122,11 @@ impl Store {
         Ok(())
     }
 
-    /// Takes out what stands at the path, and with it each object above that is left without children. Takes no memory.
+    /// Takes out what stands at the path, and with it each object above that is left without
+    /// children. Takes no memory.
     ///
-    /// Costs by the path, the logarithm of the number of siblings at each of its keys and what is taken out; a child that
-    /// goes also moves a word for each sibling behind it.
+    /// Costs by the path, the logarithm of the number of siblings at each of its keys and what is
+    /// taken out; a child that goes also moves a word for each sibling behind it.
     pub fn clear(&mut self, path: &Path)
         ensures { self.new.tree ≡ put self.old.tree path.now null }
     {
@@ -157,7 +162,8 @@ impl Store {
 
     /// The node at the path; `None` where nothing stands there.
     pub fn at(&self, path: &Path) -> Option<Node>
-        ensures row { option_map (onward self.now) result ≡ some_row (from_path self.now.tree path.now) }
+        ensures row { option_map (onward self.now) result
+            ≡ some_row (from_path self.now.tree path.now) }
         ensures there { is_some result ≡ not (is_null (sub self.now.tree path.now)) }
     {
         let Some((key, rest)) = path.keys().split_first() else {
@@ -174,8 +180,8 @@ impl Store {
         Node::linked(descend(&self.nodes, &self.ranks, row, key, rest))
     }
 
-    /// The part of the tree at the path; null where nothing stands there. Costs by the path, the logarithm of
-    /// the number of siblings at each of its keys, and the part.
+    /// The part of the tree at the path; null where nothing stands there. Costs by the path, the
+    /// logarithm of the number of siblings at each of its keys, and the part.
     pub fn get(&self, alloc: Global, path: &Path) -> Result<Tree, AllocError>
         ensures { IfOk result (λ tree. tree ≡ sub self.now.tree path.now) }
     {

@@ -107,7 +107,8 @@ put_leaves m p u n = graft p u (where_key path_cmp (stays p n) m)
 
 -- what stands at q after U came at p: what U has below p, or else what stood there, unless U isn't
 -- null and q is a prefix of p
-abbrev pub after_put : Option Path → (Path → Option LeafValue) → Bool → Option LeafValue → Option LeafValue
+abbrev pub after_put : Option Path → (Path → Option LeafValue) → Bool → Option LeafValue
+    → Option LeafValue
 after_put None u hidden l = cond hidden None l
 after_put (Some r) u hidden l = u r
 

@@ -8,8 +8,9 @@ use Rattle.rt_query.specs.Select.{Shown, select}
 use Rattle.rt_view.specs.declared.change.Change.{Change}
 use Rattle.rt_view.specs.Changes.{changes}
 
--- a query; the tree that it was given last, with each touched child put into it since; how many children the last call took
--- anew; how many such calls there were, modulo 2^64; and whether one of them lacked memory
+-- a query; the tree that it was given last, with each touched child put into it since; how many
+-- children the last call took anew; how many such calls there were, modulo 2^64; and whether one of
+-- them lacked memory
 pub record View : Type 0 where
   pub query : Query
   pub tree : PathTree
@@ -23,11 +24,25 @@ shown_of v = select v.query v.tree
 
 -- the first view of a tree takes all its children
 abbrev pub first_view : Query → PathTree → View
-first_view q t = record { query = q; tree = t; reads = length (children_of t); turns = 1; failed = false }
+first_view q t = record {
+  query = q;
+  tree = t;
+  reads = length (children_of t);
+  turns = 1;
+  failed =
+      false;
+}
 
 -- the view with another tree, for which so many children were taken anew
 abbrev pub turned : View → PathTree → ℕ → View
-turned v t reads = record { query = v.query; tree = t; reads = reads; turns = (v.turns + 1) % 2 ^ 64; failed = false }
+turned v t reads = record {
+  query = v.query;
+  tree = t;
+  reads = reads;
+  turns =
+      (v.turns + 1) % 2 ^ 64;
+  failed = false;
+}
 
 -- another tree in place of the one that was known takes all old and all new children, one in both twice
 abbrev pub renewed : View → PathTree → View

@@ -23,7 +23,8 @@ fn place(
 ) -> Result<(), AllocError>
     requires { IsWhole window.old }
     ensures limit { window.new.limit ≡ window.old.limit }
-    ensures placed { OnOk result (Becomes window.old window.new (put_in query.now (key.now, tree.now) (all_of window.old))) }
+    ensures placed { OnOk result
+        (Becomes window.old window.new (put_in query.now (key.now, tree.now) (all_of window.old))) }
 {
     if query.range().has(query.index(), key, tree) {
         let position = Position::of(alloc, query.index(), key, tree)?;
@@ -42,7 +43,8 @@ fn place_all(
 ) -> Result<(), AllocError>
     requires { HasAll window.old [] }
     ensures limit { window.new.limit ≡ window.old.limit }
-    ensures placed { OnOk result (Becomes window.old window.new (placed query.now [] children.now.entries)) }
+    ensures placed { OnOk result
+        (Becomes window.old window.new (placed query.now [] children.now.entries)) }
 {
     let mut rest = children.iter();
     while let Some((key, tree)) = rest.next_back() {
@@ -120,7 +122,8 @@ pub fn shown_at<'a>(
     key: &Key,
 ) -> Result<Option<&'a Tree>, AllocError>
     requires { IsWindowOf query.now known.now window.now }
-    ensures shown { IfOk result (λ child. option_copied child ≡ value_at window.now.shown.entries key.now) }
+    ensures shown { IfOk result (λ child. option_copied child
+        ≡ value_at window.now.shown.entries key.now) }
     ensures full { IfOk result (λ child. IfSome child (λ t. is_null t.now ≡ false)) }
     ensures fits { IfOk result (λ child. IfSome child (λ t. levels t.now ≤ 32)) }
 {

@@ -11,8 +11,10 @@ ghost use Rattle.rt_query.specs.Select.{select, tree_of};
 ghost use Rattle.rt_query.specs.QueryEq.{shown_eq};
 ghost use Rattle.rt_view.specs.Changes.{changes};
 ghost use Rattle.rt_view.specs.inside.Windows.{value_at};
-ghost use Rattle.rt_view.specs.inside.Kept.{IsWindowOf, NotesAll, SetsChild, SetsNoted, changes_to, given_in};
-ghost use Rattle.rt_view.specs.inside.Kept.{gone_at, gone_from, leaf_in, noted_in, removed_of, rows_in_tree, shown_by};
+ghost use Rattle.rt_view.specs.inside.Kept.{IsWindowOf, NotesAll, SetsChild, SetsNoted, changes_to};
+ghost use Rattle.rt_view.specs.inside.Kept.{given_in};
+ghost use Rattle.rt_view.specs.inside.Kept.{gone_at, gone_from, leaf_in, noted_in, removed_of};
+ghost use Rattle.rt_view.specs.inside.Kept.{rows_in_tree, shown_by};
 
 use crate::change::Change;
 use crate::change_list::ChangeList;
@@ -35,7 +37,8 @@ fn put_row(
     key: &Key,
     child: &Tree,
 ) -> Result<(), AllocError>
-    ensures { OnOk result (rows.new.entries ≡ map_of.put entry_cmp (entry index.now (key.now, child.now)) child.now rows.old.entries) }
+    ensures { OnOk result (rows.new.entries
+        ≡ map_of.put entry_cmp (entry index.now (key.now, child.now)) child.now rows.old.entries) }
 {
     let position = Position::of(alloc, index, key, child)?;
     let child = child.copy(alloc)?;
@@ -72,7 +75,9 @@ fn gone_at<'a>(
     key: &Key,
 ) -> Result<Option<&'a Tree>, AllocError>
     requires { IsWindowOf query.now known.now window.now }
-    ensures { IfOk result (λ child. option_copied child ≡ gone_at (value_at window.now.shown.entries key.now) (child_of (children_of tree.now) key.now)) }
+    ensures { IfOk result (λ child. option_copied child
+        ≡ gone_at (value_at window.now.shown.entries key.now)
+        (child_of (children_of tree.now) key.now)) }
 {
     match shown_at(alloc, query, known, window, key)? {
         Some(_) => Ok(None),
@@ -90,7 +95,8 @@ fn gone_rows(
     noted: &[Key],
 ) -> Result<BTreeMap<Position, Tree>, AllocError>
     requires { IsWindowOf query.now known.now window.now }
-    ensures { IfOk result (λ rows. rows.entries ≡ gone_from noted.now window.now.shown.entries (rows_in_tree query.now.index tree.now)) }
+    ensures { IfOk result (λ rows. rows.entries ≡ gone_from noted.now window.now.shown.entries
+        (rows_in_tree query.now.index tree.now)) }
 {
     let mut rows = BTreeMap::new(alloc);
     for key in noted {
@@ -117,7 +123,8 @@ fn push_removed(
     Ok(())
 }
 
-// The children of which a change of this kind is given, each with the key of the one that is shown before it.
+// The children of which a change of this kind is given, each with the key of the one that is shown
+// before it.
 fn push_given(
     changes: &mut Vec<Change>,
     alloc: Global,
@@ -127,7 +134,8 @@ fn push_given(
     window: &Window,
     rows: &BTreeMap<Position, Tree>,
 ) -> Result<(), AllocError>
-    ensures { OnOk result (changes.new.items ≡ changes.old.items ++ given_in kind index.now tree.now window.now.shown.entries rows.now.entries) }
+    ensures { OnOk result (changes.new.items ≡ changes.old.items
+        ++ given_in kind index.now tree.now window.now.shown.entries rows.now.entries) }
 {
     for (position, child) in rows {
         if kind.is_given(index, child_at(tree, position.key()), child) {
@@ -200,7 +208,8 @@ fn set_child(
     requires kept { IsWindowOf query.now known.now window.now }
     requires object { leaf_of tree.old ≡ None }
     ensures object { OnOk result (leaf_of tree.new ≡ None) }
-    ensures set { OnOk result (SetsChild key.now (value_at window.now.shown.entries key.now) (children_of tree.old) (children_of tree.new)) }
+    ensures set { OnOk result (SetsChild key.now (value_at window.now.shown.entries key.now)
+        (children_of tree.old) (children_of tree.new)) }
 {
     let Some(child) = shown_at(alloc, query, known, window, key)? else {
         drop_child(tree, alloc, key)?;
@@ -222,7 +231,8 @@ fn set_noted(
     requires kept { IsWindowOf query.now known.now window.now }
     requires object { leaf_of tree.old ≡ None }
     ensures object { OnOk result (leaf_of tree.new ≡ None) }
-    ensures set { OnOk result (SetsNoted noted.now window.now.shown.entries (children_of tree.old) (children_of tree.new)) }
+    ensures set { OnOk result (SetsNoted noted.now window.now.shown.entries (children_of tree.old)
+        (children_of tree.new)) }
 {
     for key in noted {
         set_child(tree, alloc, query, known, window, key)?;
@@ -245,7 +255,8 @@ fn is_same(changes: &[Change], query: &Query, known: &Tree, window: &Window, tre
 // Makes a leaf null.
 fn clear_leaf(tree: &mut Tree)
     ensures object { leaf_of tree.new ≡ None }
-    ensures children { (k : KeyValue) → child_of (children_of tree.new) k ≡ child_of (children_of tree.old) k }
+    ensures children { (k : KeyValue) → child_of (children_of tree.new) k
+        ≡ child_of (children_of tree.old) k }
 {
     let Some(_) = tree.as_leaf() else {
         return;
@@ -301,7 +312,9 @@ pub fn tell(
     requires kept { IsWindowOf query.now known.now window.now }
     requires notes { NotesAll query.now.index noted.now tree.old window.now }
     ensures tree { OnOk result (tree.new ≡ tree_of (select query.now known.now)) }
-    ensures changes { IfOk result (λ list. list ≡ changes query.now.index (Some (shown_by query.now.index tree.old)) (select query.now known.now)) }
+    ensures changes { IfOk result (λ list. list
+        ≡ changes query.now.index (Some (shown_by query.now.index tree.old))
+        (select query.now known.now)) }
 {
     let mut changes = row_changes(alloc, query, known, window, tree, noted)?;
     if is_same(changes.as_slice(), query, known, window, tree) {

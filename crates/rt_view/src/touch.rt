@@ -4,7 +4,8 @@ ghost use Rattle.std.specs.Option.{option_copied};
 ghost use Rattle.rt_tree.specs.PathTree.{levels, put};
 ghost use Rattle.rt_view.specs.Views.{with_named};
 ghost use Rattle.rt_view.specs.inside.Windows.{Becomes, IsWhole, all_of};
-ghost use Rattle.rt_view.specs.inside.Kept.{IsWindowOf, Notes, NotesBeside, brought_in, noted_too, taken_out};
+ghost use Rattle.rt_view.specs.inside.Kept.{IsWindowOf, Notes, NotesBeside, brought_in, noted_too};
+ghost use Rattle.rt_view.specs.inside.Kept.{taken_out};
 
 use crate::place::{child_at, put_child};
 use crate::position::Position;
@@ -23,7 +24,8 @@ fn note(noted: &mut Vec<Key>, key: Option<Key>) -> Result<(), AllocError>
     Ok(())
 }
 
-// Takes out what stood at a key, which is noted already, and notes the child that comes to be shown for it.
+// Takes out what stood at a key, which is noted already, and notes the child that comes to be shown
+// for it.
 fn take_out(
     window: &mut Window,
     noted: &mut Vec<Key>,
@@ -34,8 +36,12 @@ fn take_out(
 ) -> Result<(), AllocError>
     requires { IsWhole window.old }
     ensures limit { window.new.limit ≡ window.old.limit }
-    ensures taken { OnOk result (Becomes window.old window.new (taken_out query.now key.now (option_copied child.entry) (all_of window.old))) }
-    ensures notes { OnOk result (NotesBeside key.now noted.old.items noted.new.items window.old.shown.entries window.new.shown.entries) }
+    ensures taken { OnOk result
+        (Becomes window.old window.new (taken_out query.now key.now (option_copied child.entry)
+        (all_of window.old))) }
+    ensures notes { OnOk result
+        (NotesBeside key.now noted.old.items noted.new.items window.old.shown.entries
+        window.new.shown.entries) }
 {
     let Some(child) = child else {
         return Ok(());
@@ -59,8 +65,11 @@ fn bring_in(
 ) -> Result<(), AllocError>
     requires { IsWhole window.old }
     ensures limit { window.new.limit ≡ window.old.limit }
-    ensures put { OnOk result (Becomes window.old window.new (brought_in query.now key.now child.now (all_of window.old))) }
-    ensures notes { OnOk result (NotesBeside key.now noted.old.items noted.new.items window.old.shown.entries window.new.shown.entries) }
+    ensures put { OnOk result
+        (Becomes window.old window.new (brought_in query.now key.now child.now (all_of window.old))) }
+    ensures notes { OnOk result
+        (NotesBeside key.now noted.old.items noted.new.items window.old.shown.entries
+        window.new.shown.entries) }
 {
     if child.is_null() {
         return Ok(());
@@ -74,8 +83,8 @@ fn bring_in(
     Ok(())
 }
 
-// Puts a child in the place of the one at its key, in the known tree and in its window, and notes the keys of the children
-// that may be shown otherwise since.
+// Puts a child in the place of the one at its key, in the known tree and in its window, and notes
+// the keys of the children that may be shown otherwise since.
 fn touch_child(
     known: &mut Tree,
     window: &mut Window,
@@ -89,7 +98,8 @@ fn touch_child(
     requires fits { levels child.now ≤ 32 }
     ensures put { OnOk result (known.new ≡ put known.old (key.now ∷ []) child.now) }
     ensures kept { OnOk result (IsWindowOf query.now known.new window.new) }
-    ensures notes { OnOk result (Notes noted.old.items noted.new.items window.old.shown.entries window.new.shown.entries) }
+    ensures notes { OnOk result
+        (Notes noted.old.items noted.new.items window.old.shown.entries window.new.shown.entries) }
 {
     noted.push(key.copy()?)?;
     take_out(window, noted, alloc, query, key, child_at(known, key))?;
@@ -98,7 +108,8 @@ fn touch_child(
     Ok(())
 }
 
-// Puts the named children in their places, and notes the keys of the children that may be shown otherwise since.
+// Puts the named children in their places, and notes the keys of the children that may be shown
+// otherwise since.
 pub fn touch_all(
     known: &mut Tree,
     window: &mut Window,
@@ -110,7 +121,8 @@ pub fn touch_all(
     requires fits { All (λ c. levels c.1 ≤ 32) named.now }
     ensures put { OnOk result (known.new ≡ with_named known.old named.now) }
     ensures kept { OnOk result (IsWindowOf query.now known.new window.new) }
-    ensures notes { IfOk result (λ noted. Notes [] noted.items window.old.shown.entries window.new.shown.entries) }
+    ensures notes { IfOk result (λ noted.
+        Notes [] noted.items window.old.shown.entries window.new.shown.entries) }
 {
     let mut noted = Vec::new(alloc);
     for (key, child) in named {

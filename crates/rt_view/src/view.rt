@@ -38,7 +38,8 @@ impl From<AllocError> for ViewError {
     }
 }
 
-/// What a query shows of a tree that changes, kept so that a change of few children costs by these, and not by all.
+/// What a query shows of a tree that changes, kept so that a change of few children costs by these,
+/// and not by all.
 #[derive(Drop)]
 pub struct View {
     query: Query,
@@ -57,7 +58,13 @@ impl Model for View {
 
     ghost Value = { View };
 
-    ghost view = { λ a. record { query = a.query; tree = a.known; reads = a.reads; turns = a.turns; failed = a.failed } };
+    ghost view = { λ a. record {
+      query = a.query;
+      tree = a.known;
+      reads = a.reads;
+      turns = a.turns;
+      failed = a.failed;
+    } };
 
     ghost invariant = { λ a. a.failed ≡ false → IsKept a.query a.known a.window a.tree };
 }
@@ -122,7 +129,9 @@ impl View {
     // What is kept of another tree, and the changes to it.
     fn kept_of(&self, alloc: Global, known: &Tree) -> Result<(Window, Tree, ChangeList), AllocError>
         ensures kept { IfOk result (λ p. IsKept self.now.query known.now p.0 p.1) }
-        ensures changes { IfOk result (λ p. p.2 ≡ changes self.now.query.index (Some (shown_of self.now)) (select self.now.query known.now)) }
+        ensures changes { IfOk result (λ p. p.2
+            ≡ changes self.now.query.index (Some (shown_of self.now))
+            (select self.now.query known.now)) }
     {
         let old = self.query.select(&self.known)?;
         let shown = self.query.select(known)?;
@@ -132,9 +141,10 @@ impl View {
         Ok((window, tree, changes))
     }
 
-    /// Puts the named children in the place of the tree's own, one after another, and answers the changes; null takes a child
-    /// out. A named child has at most 31 keys above a leaf, as the children of any tree. Costs by the named children and by
-    /// the changes, and, the first time after a copy of the tree or of a `Value` was kept, by the number of children too.
+    /// Puts the named children in the place of the tree's own, one after another, and answers the
+    /// changes; null takes a child out. A named child has at most 31 keys above a leaf, as the
+    /// children of any tree. Costs by the named children and by the changes, and, the first time
+    /// after a copy of the tree or of a `Value` was kept, by the number of children too.
     ///
     /// After `NoMemory` the view has failed.
     pub fn touch(&mut self, alloc: Global, named: Vec<(Key, Tree)>) -> Result<ChangeList, ViewError>

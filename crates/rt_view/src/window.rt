@@ -1,5 +1,6 @@
 // The children in a range, in order, and how far a limit shows them.
-ghost use Rattle.std.specs.Prelude.{◌≡◌, ◌++◌, ◌∷◌, [], map, IfOk, IfSome, IfNone, OnOk, Some, None, T, is_some};
+ghost use Rattle.std.specs.Prelude.{◌≡◌, ◌++◌, ◌∷◌, [], map, IfOk, IfSome, IfNone, OnOk, Some};
+ghost use Rattle.std.specs.Prelude.{None, T, is_some};
 ghost use Rattle.std.specs.Option.{option_copied};
 ghost use Rattle.std.specs.FinMap as map_of;
 ghost use Rattle.std.specs.FinMap.Entries.{find, is_sorted};
@@ -17,7 +18,8 @@ use rt_tree::{Key, Tree};
 use std::alloc::{AllocError, Global};
 use std::collections::BTreeMap;
 
-// The children in a range, by their entries: those that the limit shows, and the rest, which lies beside them on one side.
+// The children in a range, by their entries: those that the limit shows, and the rest, which lies
+// beside them on one side.
 #[derive(Drop)]
 pub struct Window {
     pub limit: Option<Limit>,
@@ -31,7 +33,8 @@ pub fn set(
     position: Position,
     tree: Tree,
 ) -> Result<(), AllocError>
-    ensures { OnOk result (children.new.entries ≡ map_of.put entry_cmp position tree children.old.entries) }
+    ensures { OnOk result (children.new.entries
+        ≡ map_of.put entry_cmp position tree children.old.entries) }
 {
     children.insert(position, tree)?;
     Ok(())
@@ -84,8 +87,10 @@ impl Window {
     pub fn put(&mut self, position: Position, tree: Tree) -> Result<Option<Key>, AllocError>
         requires { IsWhole self.old }
         ensures limit { self.new.limit ≡ self.old.limit }
-        ensures put { OnOk result (Becomes self.old self.new (map_of.put entry_cmp position tree (all_of self.old))) }
-        ensures crosses { IfOk result (λ key. Crosses key position.1 self.old.shown.entries self.new.shown.entries) }
+        ensures put { OnOk result
+            (Becomes self.old self.new (map_of.put entry_cmp position tree (all_of self.old))) }
+        ensures crosses { IfOk result (λ key.
+            Crosses key position.1 self.old.shown.entries self.new.shown.entries) }
     {
         match self.limit {
             None => {
@@ -131,8 +136,10 @@ impl Window {
     pub fn take(&mut self, position: &Position) -> Result<Option<Key>, AllocError>
         requires { IsWhole self.old }
         ensures limit { self.new.limit ≡ self.old.limit }
-        ensures taken { OnOk result (Becomes self.old self.new (without position.now (all_of self.old))) }
-        ensures crosses { IfOk result (λ key. Crosses key position.now.1 self.old.shown.entries self.new.shown.entries) }
+        ensures taken { OnOk result
+            (Becomes self.old self.new (without position.now (all_of self.old))) }
+        ensures crosses { IfOk result (λ key.
+            Crosses key position.now.1 self.old.shown.entries self.new.shown.entries) }
     {
         if !unset(&mut self.shown, position) {
             unset(&mut self.rest, position);

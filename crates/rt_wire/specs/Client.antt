@@ -1,5 +1,6 @@
 -- The messages of the client: which text is which message, and what a text that is none is refused as.
-use Rattle.std.specs.Prelude.{List, ℕ, codes, bytes_eq, if◌then◌else◌, Option, Some, None, Result, Ok, Err}
+use Rattle.std.specs.Prelude.{List, ℕ, codes, bytes_eq, if◌then◌else◌, Option, Some, None, Result}
+use Rattle.std.specs.Prelude.{Ok, Err}
 use Rattle.std.specs.Option.{option_map_or}
 use Rattle.serde_json.specs.Data.{Data}
 use Rattle.serde_json.specs.Find.{get, as_str}
@@ -33,16 +34,19 @@ put_in d =
     made (tree_of value) (λ tree. Put path tree)))
 
 abbrev pub merge_in : Data → Result Action WireError
-merge_in d = with (field entries_of (codes "entries") d) (λ places. made (trees_of places) (λ entries. Merge entries))
+merge_in d = with (field entries_of (codes "entries") d) (λ places.
+    made (trees_of places) (λ entries. Merge entries))
 
 -- a request with its number, which is looked at first
 abbrev pub ask : Data → Result Asked WireError → Result ClientMessage WireError
 ask d asked = with (field number_of (codes "id") d) (λ id. made asked (λ a. Ask id a))
 
--- ---- the message of each kind: `listen`, `unlisten`, `put`, `merge`, `od-put`, `od-merge` and `od-cancel`
+-- ---- the message of each kind: `listen`, `unlisten`, `put`, `merge`, `od-put`, `od-merge` and
+-- `od-cancel`
 abbrev pub listen_in : Data → Result ClientMessage WireError
 listen_in d =
-    with (field number_of (codes "tag") d) (λ tag. with (field path_of (codes "path") d) (λ path. with (query_at path (get (codes "q") d)) (λ query.
+    with (field number_of (codes "tag") d) (λ tag. with (field path_of (codes "path") d) (λ path.
+    with (query_at path (get (codes "q") d)) (λ query.
     Ok (Listen tag query))))
 
 abbrev pub unlisten_in : Data → Result ClientMessage WireError
@@ -61,7 +65,8 @@ abbrev pub od_merge_message : Data → Result ClientMessage WireError
 od_merge_message d = ask d (made (merge_in d) (λ action. AtDisconnect (Run action)))
 
 abbrev pub od_cancel_message : Data → Result ClientMessage WireError
-od_cancel_message d = ask d (with (field path_of (codes "path") d) (λ path. Ok (AtDisconnect (Cancel path))))
+od_cancel_message d =
+    ask d (with (field path_of (codes "path") d) (λ path. Ok (AtDisconnect (Cancel path))))
 
 -- the message of that kind
 abbrev pub client_of_kind : List ℕ → Data → Result ClientMessage WireError
@@ -77,7 +82,8 @@ client_of_kind kind d =
 
 -- the message that a JSON value is, or its first fault
 abbrev pub client_message_in : Data → Result ClientMessage WireError
-client_message_in d = option_map_or (λ kind. client_of_kind kind d) (field as_str (codes "k") d) (Err UnknownKind)
+client_message_in d = option_map_or (λ kind. client_of_kind kind d) (field as_str (codes "k") d)
+    (Err UnknownKind)
 
 -- the message that a text is, or its first fault
 abbrev pub client_message : List ℕ → Result ClientMessage WireError

@@ -1,5 +1,6 @@
 -- Entries in a message: an object of at least one member, from paths to trees.
-use Rattle.std.specs.Prelude.{List, [], ◌∷◌, Option, Some, None, option_map, option_and_then, Result, Ok, Err}
+use Rattle.std.specs.Prelude.{List, [], ◌∷◌, Option, Some, None, option_map, option_and_then}
+use Rattle.std.specs.Prelude.{Result, Ok, Err}
 use Rattle.serde_json.specs.Data.{Data, Members, no_members, member}
 use Rattle.serde_json.specs.Find.{as_object}
 use Rattle.rt_tree.specs.PathTree.{Path, PathTree}
@@ -7,10 +8,13 @@ use Rattle.rt_tree.specs.Assignments.{Assignment}
 use Rattle.rt_wire.specs.declared.error.WireError.{WireError}
 use Rattle.rt_wire.specs.Fields.{path_of_text, tree_of, made}
 
--- each member's path and value, in the order of the bytes of the names: two spellings of a path are two members
+-- each member's path and value, in the order of the bytes of the names: two spellings of a path are
+-- two members
 abbrev pub places_of : Members → Option (List (Path × Data))
 places_of no_members = Some []
-places_of (member name d ms) = option_and_then (λ path. option_map (λ places. (path, d) ∷ places) (places_of ms)) (path_of_text name)
+places_of (member name d ms) =
+    option_and_then (λ path. option_map (λ places. (path, d) ∷ places) (places_of ms))
+    (path_of_text name)
 
 -- at least one
 abbrev pub some_of : {A : Type 0} → List A → Option (List A)
@@ -22,7 +26,8 @@ abbrev pub entries_of : Data → Option (List (Path × Data))
 entries_of d = option_and_then some_of (option_and_then places_of (as_object d))
 
 -- an entry in front of others; a value that is no tree refuses them all
-abbrev pub in_front : Path → Result PathTree WireError → Result (List Assignment) WireError → Result (List Assignment) WireError
+abbrev pub in_front : Path → Result PathTree WireError → Result (List Assignment) WireError
+    → Result (List Assignment) WireError
 in_front path (Err e) rest = Err e
 in_front path (Ok tree) rest = made rest (λ entries. (path, tree) ∷ entries)
 

@@ -1,7 +1,8 @@
 -- The number and the name of each refusal.
 use Rattle.std.specs.Prelude.{ℕ, List, codes}
 use Rattle.rt_wire.specs.declared.error.WireError.{WireError}
-use Rattle.rt_wire.specs.declared.error.WireError.TheVariants.{NotJson, UnknownKind, BadField, BadTree, NoMemory}
+use Rattle.rt_wire.specs.declared.error.WireError.TheVariants.{NotJson, UnknownKind, BadField}
+use Rattle.rt_wire.specs.declared.error.WireError.TheVariants.{BadTree, NoMemory}
 
 -- the number of a refusal
 abbrev pub code_of : WireError → ℕ

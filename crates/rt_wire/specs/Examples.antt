@@ -1,5 +1,7 @@
--- Messages that the prover computes: what texts are read as, what they are refused as, and what is written.
-use Rattle.std.specs.Prelude.{◌≡◌, ℕ, zero, suc, pos, List, [], ◌∷◌, ◌++◌, map, take, codes, replicate, Some, None, Result, Ok, Err}
+-- Messages that the prover computes: what texts are read as, what they are refused as, and what is
+-- written.
+use Rattle.std.specs.Prelude.{◌≡◌, ℕ, zero, suc, pos, List, [], ◌∷◌, ◌++◌, map, take, codes}
+use Rattle.std.specs.Prelude.{replicate, Some, None, Result, Ok, Err}
 use Rattle.serde_json.specs.Written.{compact_text}
 use Rattle.rt_tree.specs.Leaf.{number}
 use Rattle.rt_tree.specs.Path.{path_keys}
@@ -39,7 +41,8 @@ AnswersAreRead =
     (server_message ok_one ≡ Ok (Accepted 1))
     × (server_message (codes "{\"id\":1,\"k\":\"ok\"}") ≡ Ok (Accepted 1))
     × (server_message (codes "{\"k\":\"hello\",\"k\":\"ok\",\"id\":1,\"x\":[]}") ≡ Ok (Accepted 1))
-    × (server_message (codes "{\"k\":\"no\",\"id\":2,\"why\":\"denied\"}") ≡ Ok (Refused 2 (codes "denied")))
+    × (server_message (codes "{\"k\":\"no\",\"id\":2,\"why\":\"denied\"}")
+    ≡ Ok (Refused 2 (codes "denied")))
 
 -- n, n - 1, .., 0
 abbrev pub down_from : ℕ → List ℕ
@@ -48,7 +51,8 @@ down_from (suc n) = suc n ∷ down_from n
 
 -- no text that breaks off is a message
 abbrev pub PrefixesAreNoMessages : Type 0
-PrefixesAreNoMessages = map (λ n. server_message (take n ok_one)) (down_from 16) ≡ replicate 17 (Err NotJson)
+PrefixesAreNoMessages = map (λ n. server_message (take n ok_one)) (down_from 16)
+    ≡ replicate 17 (Err NotJson)
 
 -- what is no object, or of no kind of the server
 abbrev pub KindsAreUnknown : Type 0
@@ -132,7 +136,8 @@ RequestsAreRead =
 
 -- a listen of the root with that `q`
 abbrev pub listen_by : List ℕ → Result ClientMessage WireError
-listen_by q = client_message (codes "{\"k\":\"listen\",\"path\":\"/\",\"tag\":1,\"q\":" ++ (q ++ codes "}"))
+listen_by q = client_message (codes "{\"k\":\"listen\",\"path\":\"/\",\"tag\":1,\"q\":"
+    ++ (q ++ codes "}"))
 
 -- `q` has an order, and a start, an end or a limit; in key order a cut is null and next to a key
 abbrev pub QueriesHaveFaults : Type 0
@@ -190,4 +195,5 @@ abbrev pub NothingElseIsReadBack : Type 0
 NothingElseIsReadBack =
     (IsServerText (Accepted 2) ok_one → ⊥)
     × (IsClientText (Unlisten 2) (codes "{\"k\":\"unlisten\",\"tag\":1}") → ⊥)
-    × (IsServerSame (DataMerge 1 (entry_at [] 1 ∷ entry_at [] 1 ∷ [])) (DataMerge 1 (entry_at [] 1 ∷ [])) → ⊥)
+    × (IsServerSame (DataMerge 1 (entry_at [] 1 ∷ entry_at [] 1 ∷ []))
+    (DataMerge 1 (entry_at [] 1 ∷ [])) → ⊥)

@@ -1,5 +1,6 @@
--- The grammar of the wire as a relation: which text says which message. A text that says none is refused; `Server` and
--- `Client` have the message that a text says as a function, and the order of the faults.
+-- The grammar of the wire as a relation: which text says which message. A text that says none is
+-- refused; `Server` and `Client` have the message that a text says as a function, and the order of
+-- the faults.
 use Rattle.std.specs.Prelude.{◌≡◌, ℕ, ◌<◌, true, List, [], ◌∷◌, length, codes, Option, Some, None, Ok}
 use Rattle.serde_json.specs.Data.{Data, Members, no_members, member}
 use Rattle.serde_json.specs.Find.{get, as_object, as_str}
@@ -43,7 +44,8 @@ abbrev pub AreSaid : Members → List Assignment → Type 0
 AreSaid no_members [] = Unit {0}
 AreSaid no_members (e ∷ es) = ⊥
 AreSaid (member name d ms) [] = ⊥
-AreSaid (member name d ms) (e ∷ es) = (path_of_text name ≡ Some e.0) × (tree_of d ≡ Ok e.1) × AreSaid ms es
+AreSaid (member name d ms) (e ∷ es) = (path_of_text name ≡ Some e.0) × (tree_of d ≡ Ok e.1)
+    × AreSaid ms es
 
 -- at least one
 abbrev pub HasEntries : List Assignment → Data → Type 0
@@ -72,7 +74,8 @@ SaysServer (server.Data tag path tree) d =
 SaysServer (server.DataMerge tag entries) d =
     IsOfKind (codes "data-merge") d × HasNumber (codes "tag") tag d × HasEntries entries d
 SaysServer (server.Accepted id) d = IsOfKind (codes "ok") d × HasNumber (codes "id") id d
-SaysServer (server.Refused id why) d = IsOfKind (codes "no") d × HasNumber (codes "id") id d × HasReason why d
+SaysServer (server.Refused id why) d = IsOfKind (codes "no") d × HasNumber (codes "id") id d
+    × HasReason why d
 SaysServer (server.Revoked tag why) d = IsOfKind (codes "revoke") d × HasNumber (codes "tag") tag d
     × HasReason why d
 
@@ -88,7 +91,8 @@ SaysAction put merge (Put path tree) d = IsOfKind put d × HasPath path d × Has
 SaysAction put merge (Merge entries) d = IsOfKind merge d × HasEntries entries d
 
 abbrev pub SaysClient : ClientMessage → Data → Type 0
-SaysClient (Listen tag query) d = IsOfKind (codes "listen") d × HasNumber (codes "tag") tag d × HasQuery query d
+SaysClient (Listen tag query) d = IsOfKind (codes "listen") d × HasNumber (codes "tag") tag d
+    × HasQuery query d
 SaysClient (Unlisten tag) d = IsOfKind (codes "unlisten") d × HasNumber (codes "tag") tag d
 SaysClient (Ask id (Now action)) d = HasNumber (codes "id") id d
     × SaysAction (codes "put") (codes "merge") action d

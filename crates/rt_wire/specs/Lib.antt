@@ -1,4 +1,5 @@
--- The definitions that public contracts name, in reading order; what only the code's values need stands in `inside`.
+-- The definitions that public contracts name, in reading order; what only the code's values need
+-- stands in `inside`.
 pub mod Errors
 pub mod Fields
 pub mod EntryFields

@@ -36,8 +36,10 @@ abbrev pub cut_data : Cut → Data
 cut_data cut = json.array (item (mark_data cut.value) (place_items cut.place))
 
 abbrev pub limit_data : Limit → Data
-limit_data (First n) = json.array (item (json.string (codes "first")) (item (json.number (json.unsigned n)) no_items))
-limit_data (Last n) = json.array (item (json.string (codes "last")) (item (json.number (json.unsigned n)) no_items))
+limit_data (First n) =
+    json.array (item (json.string (codes "first")) (item (json.number (json.unsigned n)) no_items))
+limit_data (Last n) =
+    json.array (item (json.string (codes "last")) (item (json.number (json.unsigned n)) no_items))
 
 -- a member that may be left out
 abbrev pub field_if : {A : Type 0} → (A → Data) → List ℕ → Option A → List Field

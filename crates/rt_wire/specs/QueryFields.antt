@@ -1,5 +1,7 @@
 -- The member `q` of a listen: what a filtered query has beside its path.
-use Rattle.std.specs.Prelude.{ℕ, ◌==◌, ◌&&◌, ◌||◌, Bool, true, false, List, [], ◌∷◌, length, bytes_eq, codes, nat_le, not, if◌then◌else◌, ℤ, Option, Some, None, is_none, option_map, option_and_then}
+use Rattle.std.specs.Prelude.{ℕ, ◌==◌, ◌&&◌, ◌||◌, Bool, true, false, List, [], ◌∷◌, length}
+use Rattle.std.specs.Prelude.{bytes_eq, codes, nat_le, not, if◌then◌else◌, ℤ, Option, Some, None}
+use Rattle.std.specs.Prelude.{is_none, option_map, option_and_then}
 use Rattle.serde_json.specs.Data.{Data, Items, no_items, item}
 use Rattle.serde_json.specs.Data as json
 use Rattle.serde_json.specs.Find.{get, as_str, as_number, as_array, as_u64, as_i64}
@@ -62,18 +64,23 @@ key_of d = option_and_then key_of_text (as_str d)
 
 -- a place that names no key, and one that does
 abbrev pub edge_of : List ℕ → Option Place
-edge_of word = if bytes_eq word (codes "min") then Some Min else if bytes_eq word (codes "max") then Some Max else None
+edge_of word = if bytes_eq word (codes "min") then Some Min else if bytes_eq word
+    (codes "max") then Some Max else None
 
 abbrev pub side_of : List ℕ → Key → Option Place
-side_of word k = if bytes_eq word (codes "before") then Some (Before k) else if bytes_eq word (codes "after") then Some (After k) else None
+side_of word k = if bytes_eq word (codes "before") then Some (Before k) else if bytes_eq word
+    (codes "after") then Some (After k) else None
 
 -- the cut at a value and a place
 abbrev pub cut_at : Option Mark → Option Place → Option Cut
-cut_at value place = option_and_then (λ v. option_map (λ p. record { value = v; place = p }) place) value
+cut_at value place = option_and_then (λ v. option_map (λ p. record { value = v; place = p }) place)
+    value
 
 abbrev pub cut_of_items : Items → Option Cut
 cut_of_items (item v (item word no_items)) = cut_at (mark_of v) (option_and_then edge_of (as_str word))
-cut_of_items (item v (item word (item k no_items))) = cut_at (mark_of v) (option_and_then (λ key. option_and_then (λ w. side_of w key) (as_str word)) (key_of k))
+cut_of_items (item v (item word (item k no_items))) =
+    cut_at (mark_of v) (option_and_then (λ key. option_and_then (λ w. side_of w key) (as_str word))
+    (key_of k))
 cut_of_items _ = None
 
 -- in key order, where each child's value is null, a cut is next to a key
@@ -104,10 +111,12 @@ abbrev pub count_of : Data → Option ℕ
 count_of d = option_and_then count_of_number (option_and_then as_u64 (as_number d))
 
 abbrev pub limit_with : List ℕ → ℕ → Option Limit
-limit_with word n = if bytes_eq word (codes "first") then Some (First n) else if bytes_eq word (codes "last") then Some (Last n) else None
+limit_with word n = if bytes_eq word (codes "first") then Some (First n) else if bytes_eq word
+    (codes "last") then Some (Last n) else None
 
 abbrev pub limit_of_items : Items → Option Limit
-limit_of_items (item word (item n no_items)) = option_and_then (λ m. option_and_then (λ w. limit_with w m) (as_str word)) (count_of n)
+limit_of_items (item word (item n no_items)) =
+    option_and_then (λ m. option_and_then (λ w. limit_with w m) (as_str word)) (count_of n)
 limit_of_items _ = None
 
 abbrev pub limit_of : Data → Option Limit
@@ -120,7 +129,8 @@ if_there f (Some d) = option_map Some (f d)
 
 abbrev pub range_of : Index → Data → Option Range
 range_of index d =
-    option_and_then (λ lower. option_map (λ upper. record { lower = lower; upper = upper }) (if_there (cut_of index) (get (codes "upper") d)))
+    option_and_then (λ lower. option_map (λ upper. record { lower = lower; upper = upper })
+    (if_there (cut_of index) (get (codes "upper") d)))
     (if_there (cut_of index) (get (codes "lower") d))
 
 abbrev pub if_filtered : Query → Option Query

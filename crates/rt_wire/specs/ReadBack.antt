@@ -8,7 +8,8 @@ use Rattle.rt_tree.specs.Writing.{back_fault}
 use Rattle.rt_query.specs.Queries.{Query}
 use Rattle.rt_query.specs.Supply.{form}
 use Rattle.rt_wire.specs.declared.server.ServerMessage.{ServerMessage}
-use Rattle.rt_wire.specs.declared.server.ServerMessage.TheVariants.{Data, DataMerge, Accepted, Refused, Revoked}
+use Rattle.rt_wire.specs.declared.server.ServerMessage.TheVariants.{Data, DataMerge, Accepted}
+use Rattle.rt_wire.specs.declared.server.ServerMessage.TheVariants.{Refused, Revoked}
 use Rattle.rt_wire.specs.Server.{server_message}
 use Rattle.rt_wire.specs.declared.request.Action.{Action}
 use Rattle.rt_wire.specs.declared.request.Action.TheVariants.{Put, Merge}
@@ -31,14 +32,15 @@ IsReadable tree = back_fault tree ≡ None
 
 -- entries of which none is at or above another
 abbrev pub AreEntries : List Assignment → Type 0
-AreEntries entries = (0 < length entries) × (have_overlap entries ≡ false) × AllByRecursion (λ entry. IsReadable entry.1) entries
+AreEntries entries = (0 < length entries) × (have_overlap entries ≡ false)
+    × AllByRecursion (λ entry. IsReadable entry.1) entries
 
 -- a reason
 abbrev pub IsShort : List ℕ → Type 0
 IsShort why = length why ≤ 65536
 
--- a query that is its own listening form, so that it is in key order where it isn't filtered; in key order its cuts are
--- next to keys, as all calls of a draft make them
+-- a query that is its own listening form, so that it is in key order where it isn't filtered; in
+-- key order its cuts are next to keys, as all calls of a draft make them
 abbrev pub IsListened : Query → Type 0
 IsListened q =
     (form q ≡ q) × IfSome q.range.lower (λ cut. may_cut q.index cut ≡ true)
@@ -62,7 +64,8 @@ IsServerMessage (Revoked tag why) = IsNumber tag × IsShort why
 -- n is m up to the order of the entries
 abbrev pub IsServerSame : ServerMessage → ServerMessage → Type 0
 IsServerSame (Data tag path tree) n = n ≡ Data tag path tree
-IsServerSame (DataMerge tag entries) n = (others : List Assignment) × IsPermutation entries others × (n ≡ DataMerge tag others)
+IsServerSame (DataMerge tag entries) n = (others : List Assignment) × IsPermutation entries others
+    × (n ≡ DataMerge tag others)
 IsServerSame (Accepted id) n = n ≡ Accepted id
 IsServerSame (Refused id why) n = n ≡ Refused id why
 IsServerSame (Revoked tag why) n = n ≡ Revoked tag why
@@ -84,7 +87,8 @@ IsClientMessage (Ask id (AtDisconnect (Cancel path))) = IsNumber id
 -- b is a up to the order of the entries
 abbrev pub IsSameAction : Action → Action → Type 0
 IsSameAction (Put path tree) b = b ≡ Put path tree
-IsSameAction (Merge entries) b = (others : List Assignment) × IsPermutation entries others × (b ≡ Merge others)
+IsSameAction (Merge entries) b = (others : List Assignment) × IsPermutation entries others
+    × (b ≡ Merge others)
 
 -- n is m up to the order of the entries
 abbrev pub IsClientSame : ClientMessage → ClientMessage → Type 0

@@ -7,29 +7,34 @@ use Rattle.serde_json.specs.Read.{read}
 use Rattle.rt_wire.specs.declared.error.WireError.{WireError}
 use Rattle.rt_wire.specs.declared.error.WireError.TheVariants.{NotJson, UnknownKind}
 use Rattle.rt_wire.specs.declared.server.ServerMessage.{ServerMessage}
-use Rattle.rt_wire.specs.declared.server.ServerMessage.TheVariants.{Data as DataMessage, DataMerge, Accepted, Refused, Revoked}
+use Rattle.rt_wire.specs.declared.server.ServerMessage.TheVariants.{Data as DataMessage, DataMerge}
+use Rattle.rt_wire.specs.declared.server.ServerMessage.TheVariants.{Accepted, Refused, Revoked}
 use Rattle.rt_wire.specs.Fields.{field, any_of, number_of, path_of, reason_of, tree_of, with, made}
 use Rattle.rt_wire.specs.EntryFields.{entries_of, trees_of}
 
 -- ---- the message of each kind: `data`, `data-merge`, `ok`, `no` and `revoke`
 abbrev pub data_in : Data → Result ServerMessage WireError
 data_in d =
-    with (field number_of (codes "tag") d) (λ tag. with (field path_of (codes "path") d) (λ path. with (field any_of (codes "value") d) (λ value.
+    with (field number_of (codes "tag") d) (λ tag. with (field path_of (codes "path") d) (λ path.
+    with (field any_of (codes "value") d) (λ value.
     made (tree_of value) (λ tree. DataMessage tag path tree))))
 
 abbrev pub data_merge_in : Data → Result ServerMessage WireError
 data_merge_in d =
-    with (field number_of (codes "tag") d) (λ tag. with (field entries_of (codes "entries") d) (λ places.
+    with (field number_of (codes "tag") d) (λ tag. with (field entries_of (codes "entries") d)
+    (λ places.
     made (trees_of places) (λ entries. DataMerge tag entries)))
 
 abbrev pub ok_in : Data → Result ServerMessage WireError
 ok_in d = with (field number_of (codes "id") d) (λ id. Ok (Accepted id))
 
 abbrev pub no_in : Data → Result ServerMessage WireError
-no_in d = with (field number_of (codes "id") d) (λ id. with (field reason_of (codes "why") d) (λ why. Ok (Refused id why)))
+no_in d = with (field number_of (codes "id") d) (λ id.
+    with (field reason_of (codes "why") d) (λ why. Ok (Refused id why)))
 
 abbrev pub revoke_in : Data → Result ServerMessage WireError
-revoke_in d = with (field number_of (codes "tag") d) (λ tag. with (field reason_of (codes "why") d) (λ why. Ok (Revoked tag why)))
+revoke_in d = with (field number_of (codes "tag") d) (λ tag.
+    with (field reason_of (codes "why") d) (λ why. Ok (Revoked tag why)))
 
 -- the message of that kind
 abbrev pub of_kind : List ℕ → Data → Result ServerMessage WireError
@@ -43,7 +48,8 @@ of_kind kind d =
 
 -- the message that a JSON value is, or its first fault
 abbrev pub server_message_in : Data → Result ServerMessage WireError
-server_message_in d = option_map_or (λ kind. of_kind kind d) (field as_str (codes "k") d) (Err UnknownKind)
+server_message_in d = option_map_or (λ kind. of_kind kind d) (field as_str (codes "k") d)
+    (Err UnknownKind)
 
 -- the message that a text is, or its first fault
 abbrev pub server_message : List ℕ → Result ServerMessage WireError

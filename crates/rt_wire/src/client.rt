@@ -3,11 +3,14 @@ ghost use Rattle.std.specs.Prelude.{◌≡◌, ◌⊎◌, codes, IfOk, IfErr, Ok
 ghost use Rattle.serde_json.specs.Find.{get};
 ghost use Rattle.serde_json.specs.View.{view};
 ghost use Rattle.serde_json.specs.Written.{compact_text};
-ghost use Rattle.rt_wire.specs.Client.{client_message, client_message_in, query_at, put_in, merge_in, listen_in, unlisten_in};
-ghost use Rattle.rt_wire.specs.Client.{put_message, merge_message, od_put_message, od_merge_message, od_cancel_message};
+ghost use Rattle.rt_wire.specs.Client.{client_message, client_message_in, query_at, put_in};
+ghost use Rattle.rt_wire.specs.Client.{merge_in, listen_in, unlisten_in};
+ghost use Rattle.rt_wire.specs.Client.{put_message, merge_message, od_put_message};
+ghost use Rattle.rt_wire.specs.Client.{od_merge_message, od_cancel_message};
 ghost use Rattle.rt_wire.specs.ClientData.{client_data, listen_data, action_data};
 ghost use Rattle.rt_wire.specs.ReadBack.{IsClientMessage, IsClientText};
-ghost use Rattle.rt_wire.specs.inside.StandingClient.{IsStandingListen, IsStandingAction, IsStandingRequest};
+ghost use Rattle.rt_wire.specs.inside.StandingClient.{IsStandingListen, IsStandingAction};
+ghost use Rattle.rt_wire.specs.inside.StandingClient.{IsStandingRequest};
 
 use crate::entries::entries;
 use crate::error::WireError;
@@ -33,11 +36,12 @@ pub enum ClientMessage {
 }
 
 impl ClientMessage {
-    /// Reads a message of the client. The order of its members is free, those that its kind lacks are ignored, and of
-    /// members with the same name the last one counts.
+    /// Reads a message of the client. The order of its members is free, those that its kind lacks
+    /// are ignored, and of members with the same name the last one counts.
     pub fn read(alloc: Global, text: &str) -> Result<ClientMessage, WireError>
         ensures ok { IfOk result (λ message. client_message text.now ≡ Ok message) }
-        ensures fault { IfErr result (λ e. (client_message text.now ≡ Err e) ⊎ (e ≡ WireError.NoMemory)) }
+        ensures fault { IfErr result (λ e. (client_message text.now ≡ Err e)
+            ⊎ (e ≡ WireError.NoMemory)) }
     {
         ClientMessage::of(alloc, &json_value(alloc, text)?)
     }
@@ -45,7 +49,8 @@ impl ClientMessage {
     // The message that a JSON value is.
     fn of(alloc: Global, message: &Value) -> Result<ClientMessage, WireError>
         ensures ok { IfOk result (λ m. client_message_in (view message.now) ≡ Ok m) }
-        ensures fault { IfErr result (λ e. (client_message_in (view message.now) ≡ Err e) ⊎ (e ≡ WireError.NoMemory)) }
+        ensures fault { IfErr result (λ e. (client_message_in (view message.now) ≡ Err e)
+            ⊎ (e ≡ WireError.NoMemory)) }
     {
         match kind(message)? {
             "listen" => ClientMessage::listen(alloc, message),
@@ -61,7 +66,8 @@ impl ClientMessage {
 
     fn listen(alloc: Global, message: &Value) -> Result<ClientMessage, WireError>
         ensures ok { IfOk result (λ m. listen_in (view message.now) ≡ Ok m) }
-        ensures fault { IfErr result (λ e. (listen_in (view message.now) ≡ Err e) ⊎ (e ≡ WireError.NoMemory)) }
+        ensures fault { IfErr result (λ e. (listen_in (view message.now) ≡ Err e)
+            ⊎ (e ≡ WireError.NoMemory)) }
     {
         let tag = number(message, "tag")?;
         let path = path(alloc, message)?;
@@ -78,7 +84,8 @@ impl ClientMessage {
 
     fn put(alloc: Global, message: &Value) -> Result<ClientMessage, WireError>
         ensures ok { IfOk result (λ m. put_message (view message.now) ≡ Ok m) }
-        ensures fault { IfErr result (λ e. (put_message (view message.now) ≡ Err e) ⊎ (e ≡ WireError.NoMemory)) }
+        ensures fault { IfErr result (λ e. (put_message (view message.now) ≡ Err e)
+            ⊎ (e ≡ WireError.NoMemory)) }
     {
         let id = number(message, "id")?;
         let action = put_action(alloc, message)?;
@@ -90,7 +97,8 @@ impl ClientMessage {
 
     fn merge(alloc: Global, message: &Value) -> Result<ClientMessage, WireError>
         ensures ok { IfOk result (λ m. merge_message (view message.now) ≡ Ok m) }
-        ensures fault { IfErr result (λ e. (merge_message (view message.now) ≡ Err e) ⊎ (e ≡ WireError.NoMemory)) }
+        ensures fault { IfErr result (λ e. (merge_message (view message.now) ≡ Err e)
+            ⊎ (e ≡ WireError.NoMemory)) }
     {
         let id = number(message, "id")?;
         let action = merge_action(alloc, message)?;
@@ -102,7 +110,8 @@ impl ClientMessage {
 
     fn od_put(alloc: Global, message: &Value) -> Result<ClientMessage, WireError>
         ensures ok { IfOk result (λ m. od_put_message (view message.now) ≡ Ok m) }
-        ensures fault { IfErr result (λ e. (od_put_message (view message.now) ≡ Err e) ⊎ (e ≡ WireError.NoMemory)) }
+        ensures fault { IfErr result (λ e. (od_put_message (view message.now) ≡ Err e)
+            ⊎ (e ≡ WireError.NoMemory)) }
     {
         let id = number(message, "id")?;
         let action = put_action(alloc, message)?;
@@ -114,7 +123,8 @@ impl ClientMessage {
 
     fn od_merge(alloc: Global, message: &Value) -> Result<ClientMessage, WireError>
         ensures ok { IfOk result (λ m. od_merge_message (view message.now) ≡ Ok m) }
-        ensures fault { IfErr result (λ e. (od_merge_message (view message.now) ≡ Err e) ⊎ (e ≡ WireError.NoMemory)) }
+        ensures fault { IfErr result (λ e. (od_merge_message (view message.now) ≡ Err e)
+            ⊎ (e ≡ WireError.NoMemory)) }
     {
         let id = number(message, "id")?;
         let action = merge_action(alloc, message)?;
@@ -126,7 +136,8 @@ impl ClientMessage {
 
     fn od_cancel(alloc: Global, message: &Value) -> Result<ClientMessage, WireError>
         ensures ok { IfOk result (λ m. od_cancel_message (view message.now) ≡ Ok m) }
-        ensures fault { IfErr result (λ e. (od_cancel_message (view message.now) ≡ Err e) ⊎ (e ≡ WireError.NoMemory)) }
+        ensures fault { IfErr result (λ e. (od_cancel_message (view message.now) ≡ Err e)
+            ⊎ (e ≡ WireError.NoMemory)) }
     {
         let id = number(message, "id")?;
         let path = path(alloc, message)?;
@@ -136,10 +147,12 @@ impl ClientMessage {
         })
     }
 
-    /// The message as compact JSON, with the members of each object in the order of the bytes of their names.
+    /// The message as compact JSON, with the members of each object in the order of the bytes of
+    /// their names.
     pub fn text(&self, alloc: Global) -> Result<String, AllocError>
         ensures text { IfOk result (λ text. string_bytes text ≡ compact_text (client_data self.now)) }
-        ensures reads_back { IfOk result (λ text. IsClientMessage self.now → IsClientText self.now (string_bytes text)) }
+        ensures reads_back { IfOk result (λ text. IsClientMessage self.now
+            → IsClientText self.now (string_bytes text)) }
     {
         let value = self.to_value(alloc)?;
         value.to_string(alloc)
@@ -169,7 +182,8 @@ impl ClientMessage {
 // The query of a listen: of the path alone, where there is no `q`.
 fn listened(alloc: Global, path: Path, message: &Value) -> Result<Query, WireError>
     ensures ok { IfOk result (λ q. query_at path (get (codes "q") (view message.now)) ≡ Some q) }
-    ensures err { IfErr result (λ e. (e ≡ WireError.BadField) × (query_at path (get (codes "q") (view message.now)) ≡ None) ⊎ (e ≡ WireError.NoMemory)) }
+    ensures err { IfErr result (λ e. (e ≡ WireError.BadField)
+        × (query_at path (get (codes "q") (view message.now)) ≡ None) ⊎ (e ≡ WireError.NoMemory)) }
 {
     match message.get("q") {
         Some(q) => query(alloc, path, q),
@@ -191,7 +205,8 @@ fn put_action(alloc: Global, message: &Value) -> Result<Action, WireError>
 // The update of a message.
 fn merge_action(alloc: Global, message: &Value) -> Result<Action, WireError>
     ensures ok { IfOk result (λ action. merge_in (view message.now) ≡ Ok action) }
-    ensures fault { IfErr result (λ e. (merge_in (view message.now) ≡ Err e) ⊎ (e ≡ WireError.NoMemory)) }
+    ensures fault { IfErr result (λ e. (merge_in (view message.now) ≡ Err e)
+        ⊎ (e ≡ WireError.NoMemory)) }
 {
     let entries = entries(alloc, message)?;
     Ok(Action::Merge { entries })

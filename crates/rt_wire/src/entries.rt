@@ -19,8 +19,10 @@ fn places<'a>(
     alloc: Global,
     members: &'a BTreeMap<String, Value>,
 ) -> Result<Vec<(Path, &'a Value)>, WireError>
-    ensures ok { IfOk result (λ found. places_of (members_view members.entry.now.entries) ≡ Some (places found.items)) }
-    ensures err { IfErr result (λ e. (e ≡ WireError.BadField) × (places_of (members_view members.entry.now.entries) ≡ None) ⊎ (e ≡ WireError.NoMemory)) }
+    ensures ok { IfOk result (λ found. places_of (members_view members.entry.now.entries)
+        ≡ Some (places found.items)) }
+    ensures err { IfErr result (λ e. (e ≡ WireError.BadField)
+        × (places_of (members_view members.entry.now.entries) ≡ None) ⊎ (e ≡ WireError.NoMemory)) }
 {
     let mut found = Vec::new(alloc);
     for (name, value) in members.iter() {
@@ -32,8 +34,10 @@ fn places<'a>(
 
 // The members of the member `entries`.
 fn object(message: &Value) -> Result<&BTreeMap<String, Value>, WireError>
-    ensures ok { IfOk result (λ members. field as_object (codes "entries") (view message.entry.now) ≡ Some (members_view members.now.entries)) }
-    ensures err { IfErr result (λ e. (e ≡ WireError.BadField) × (field as_object (codes "entries") (view message.entry.now) ≡ None)) }
+    ensures ok { IfOk result (λ members. field as_object (codes "entries") (view message.entry.now)
+        ≡ Some (members_view members.now.entries)) }
+    ensures err { IfErr result (λ e. (e ≡ WireError.BadField)
+        × (field as_object (codes "entries") (view message.entry.now) ≡ None)) }
 {
     message
         .get("entries")
@@ -44,7 +48,8 @@ fn object(message: &Value) -> Result<&BTreeMap<String, Value>, WireError>
 // The entries at these places.
 fn trees(alloc: Global, found: Vec<(Path, &Value)>) -> Result<Entries, WireError>
     ensures ok { IfOk result (λ entries. trees_of (places found.entry.items) ≡ Ok entries) }
-    ensures err { IfErr result (λ e. (trees_of (places found.entry.items) ≡ Err e) ⊎ (e ≡ WireError.NoMemory)) }
+    ensures err { IfErr result (λ e. (trees_of (places found.entry.items) ≡ Err e)
+        ⊎ (e ≡ WireError.NoMemory)) }
 {
     let mut items = Vec::new(alloc);
     for (path, value) in found {
@@ -54,10 +59,14 @@ fn trees(alloc: Global, found: Vec<(Path, &Value)>) -> Result<Entries, WireError
     Ok(Entries::of(items))
 }
 
-// The member `entries`: an object of at least one member, from paths to trees. All paths are looked at before the trees.
+// The member `entries`: an object of at least one member, from paths to trees. All paths are looked
+// at before the trees.
 pub(crate) fn entries(alloc: Global, message: &Value) -> Result<Entries, WireError>
-    ensures ok { IfOk result (λ entries. with (field entries_of (codes "entries") (view message.now)) trees_of ≡ Ok entries) }
-    ensures err { IfErr result (λ e. (with (field entries_of (codes "entries") (view message.now)) trees_of ≡ Err e) ⊎ (e ≡ WireError.NoMemory)) }
+    ensures ok { IfOk result (λ entries.
+        with (field entries_of (codes "entries") (view message.now)) trees_of ≡ Ok entries) }
+    ensures err { IfErr result (λ e.
+        (with (field entries_of (codes "entries") (view message.now)) trees_of ≡ Err e)
+        ⊎ (e ≡ WireError.NoMemory)) }
 {
     let found = places(alloc, object(message)?)?;
     if found.is_empty() {

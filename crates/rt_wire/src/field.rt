@@ -3,7 +3,8 @@ ghost use Rattle.std.specs.Prelude.{◌≡◌, ◌⊎◌, codes, IfOk, IfErr, So
 ghost use Rattle.serde_json.specs.Find.{as_str};
 ghost use Rattle.serde_json.specs.Read.{read};
 ghost use Rattle.serde_json.specs.View.{view};
-ghost use Rattle.rt_wire.specs.Fields.{field, any_of, number_of, path_of, path_of_text as path_in, reason_of, tree_of};
+ghost use Rattle.rt_wire.specs.Fields.{field, any_of, number_of, path_of, path_of_text as path_in};
+ghost use Rattle.rt_wire.specs.Fields.{reason_of, tree_of};
 
 use crate::error::WireError;
 use crate::reason::Reason;
@@ -11,7 +12,8 @@ use rt_tree::{Path, Tree, TreeError};
 use serde_json::Value;
 use std::alloc::Global;
 
-// The largest tag and the largest number of a request: above it JavaScript doesn't have each whole number.
+// The largest tag and the largest number of a request: above it JavaScript doesn't have each whole
+// number.
 const MAX_NUMBER: u64 = 9007199254740991;
 
 // The most bytes of a reason.
@@ -20,7 +22,8 @@ const MAX_REASON: usize = 65536;
 // The JSON value of a text.
 pub(crate) fn json_value(alloc: Global, text: &str) -> Result<Value, WireError>
     ensures ok { IfOk result (λ value. read text.now ≡ Some (view value)) }
-    ensures err { IfErr result (λ e. (e ≡ WireError.NotJson) × (read text.now ≡ None) ⊎ (e ≡ WireError.NoMemory)) }
+    ensures err { IfErr result (λ e. (e ≡ WireError.NotJson) × (read text.now ≡ None)
+        ⊎ (e ≡ WireError.NoMemory)) }
 {
     match Value::from_str(alloc, text) {
         Ok(value) => Ok(value),
@@ -31,8 +34,10 @@ pub(crate) fn json_value(alloc: Global, text: &str) -> Result<Value, WireError>
 
 // The kind of a message.
 pub(crate) fn kind(message: &Value) -> Result<&str, WireError>
-    ensures ok { IfOk result (λ kind. field as_str (codes "k") (view message.entry.now) ≡ Some kind.now) }
-    ensures err { IfErr result (λ e. (e ≡ WireError.UnknownKind) × (field as_str (codes "k") (view message.entry.now) ≡ None)) }
+    ensures ok { IfOk result (λ kind. field as_str (codes "k") (view message.entry.now)
+        ≡ Some kind.now) }
+    ensures err { IfErr result (λ e. (e ≡ WireError.UnknownKind)
+        × (field as_str (codes "k") (view message.entry.now) ≡ None)) }
 {
     message
         .get("k")
@@ -42,8 +47,10 @@ pub(crate) fn kind(message: &Value) -> Result<&str, WireError>
 
 // Any value, as the member of that name.
 pub(crate) fn member<'a>(message: &'a Value, name: &str) -> Result<&'a Value, WireError>
-    ensures ok { IfOk result (λ value. field any_of name.now (view message.entry.now) ≡ Some (view value.now)) }
-    ensures err { IfErr result (λ e. (e ≡ WireError.BadField) × (field any_of name.now (view message.entry.now) ≡ None)) }
+    ensures ok { IfOk result (λ value. field any_of name.now (view message.entry.now)
+        ≡ Some (view value.now)) }
+    ensures err { IfErr result (λ e. (e ≡ WireError.BadField)
+        × (field any_of name.now (view message.entry.now) ≡ None)) }
 {
     message.get(name).ok_or(WireError::BadField)
 }
@@ -51,7 +58,8 @@ pub(crate) fn member<'a>(message: &'a Value, name: &str) -> Result<&'a Value, Wi
 // The text of the member of that name.
 fn text<'a>(message: &'a Value, name: &str) -> Result<&'a str, WireError>
     ensures ok { IfOk result (λ text. field as_str name.now (view message.entry.now) ≡ Some text.now) }
-    ensures err { IfErr result (λ e. (e ≡ WireError.BadField) × (field as_str name.now (view message.entry.now) ≡ None)) }
+    ensures err { IfErr result (λ e. (e ≡ WireError.BadField)
+        × (field as_str name.now (view message.entry.now) ≡ None)) }
 {
     message
         .get(name)
@@ -62,7 +70,8 @@ fn text<'a>(message: &'a Value, name: &str) -> Result<&'a str, WireError>
 // A tag, or the number of a request.
 pub(crate) fn number(message: &Value, name: &str) -> Result<u64, WireError>
     ensures ok { IfOk result (λ n. field number_of name.now (view message.now) ≡ Some n) }
-    ensures err { IfErr result (λ e. (e ≡ WireError.BadField) × (field number_of name.now (view message.now) ≡ None)) }
+    ensures err { IfErr result (λ e. (e ≡ WireError.BadField)
+        × (field number_of name.now (view message.now) ≡ None)) }
 {
     match message.get(name).and_then(Value::as_u64) {
         Some(n) if n >= 1 && n <= MAX_NUMBER => Ok(n),
@@ -73,7 +82,8 @@ pub(crate) fn number(message: &Value, name: &str) -> Result<u64, WireError>
 // The path of a text.
 pub(crate) fn path_of_text(alloc: Global, text: &str) -> Result<Path, WireError>
     ensures ok { IfOk result (λ path. path_in text.now ≡ Some path) }
-    ensures err { IfErr result (λ e. (e ≡ WireError.BadField) × (path_in text.now ≡ None) ⊎ (e ≡ WireError.NoMemory)) }
+    ensures err { IfErr result (λ e. (e ≡ WireError.BadField) × (path_in text.now ≡ None)
+        ⊎ (e ≡ WireError.NoMemory)) }
 {
     match Path::parse(alloc, text) {
         Ok(path) => Ok(path),
@@ -85,7 +95,8 @@ pub(crate) fn path_of_text(alloc: Global, text: &str) -> Result<Path, WireError>
 // The member `path`.
 pub(crate) fn path(alloc: Global, message: &Value) -> Result<Path, WireError>
     ensures ok { IfOk result (λ path. field path_of (codes "path") (view message.now) ≡ Some path) }
-    ensures err { IfErr result (λ e. (e ≡ WireError.BadField) × (field path_of (codes "path") (view message.now) ≡ None) ⊎ (e ≡ WireError.NoMemory)) }
+    ensures err { IfErr result (λ e. (e ≡ WireError.BadField)
+        × (field path_of (codes "path") (view message.now) ≡ None) ⊎ (e ≡ WireError.NoMemory)) }
 {
     path_of_text(alloc, text(message, "path")?)
 }
@@ -93,7 +104,8 @@ pub(crate) fn path(alloc: Global, message: &Value) -> Result<Path, WireError>
 // The member `why`.
 pub(crate) fn reason(alloc: Global, message: &Value) -> Result<Reason, WireError>
     ensures ok { IfOk result (λ why. field reason_of (codes "why") (view message.now) ≡ Some why) }
-    ensures err { IfErr result (λ e. (e ≡ WireError.BadField) × (field reason_of (codes "why") (view message.now) ≡ None) ⊎ (e ≡ WireError.NoMemory)) }
+    ensures err { IfErr result (λ e. (e ≡ WireError.BadField)
+        × (field reason_of (codes "why") (view message.now) ≡ None) ⊎ (e ≡ WireError.NoMemory)) }
 {
     let why = text(message, "why")?;
     if why.len() > MAX_REASON {

@@ -1,7 +1,7 @@
 //! The messages between client and server: each is one JSON object in one text.
 //!
-//! [`ServerMessage::read`] and [`ClientMessage::read`] accept exactly the texts of which `specs/Server.antt` and
-//! `specs/Client.antt` make messages, and otherwise answer the first fault.
+//! [`ServerMessage::read`] and [`ClientMessage::read`] accept exactly the texts of which
+//! `specs/Server.antt` and `specs/Client.antt` make messages, and otherwise answer the first fault.
 #![tactic(auto)]
 
 mod client;

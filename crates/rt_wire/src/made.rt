@@ -3,7 +3,8 @@ ghost use Rattle.std.specs.Prelude.{◌≡◌, true, IfOk, OnOk, IsSome, None, o
 ghost use Rattle.rt_tree.specs.Key.{IsKey};
 ghost use Rattle.rt_tree.specs.Leaf.{text};
 ghost use Rattle.rt_query.specs.Calls.{ordered_by, order_of};
-ghost use Rattle.rt_wire.specs.inside.Made.{cut_named, AreNamed, IsNamed, MayCut, Counts, with_lower, with_upper, with_limit};
+ghost use Rattle.rt_wire.specs.inside.Made.{cut_named, AreNamed, IsNamed, MayCut, Counts};
+ghost use Rattle.rt_wire.specs.inside.Made.{with_lower, with_upper, with_limit};
 ghost use Rattle.rt_wire.specs.QueryFields.{may_cut};
 
 use rt_order::{Cut, Index, Mark, Place, Range};
@@ -113,7 +114,8 @@ fn start(draft: &mut Draft, bound: Option<Bound>) -> Result<(), AllocError>
     requires index { IsSome draft.old.index }
     requires free { draft.old.range.lower ≡ None }
     requires named { AreNamed (order_of draft.old) bound }
-    ensures { OnOk result (draft.new ≡ with_lower (option_map (cut_named (order_of draft.old)) bound) draft.old) }
+    ensures { OnOk result (draft.new
+        ≡ with_lower (option_map (cut_named (order_of draft.old)) bound) draft.old) }
 {
     let Some(bound) = bound else {
         return Ok(());
@@ -141,7 +143,8 @@ fn end(draft: &mut Draft, bound: Option<Bound>) -> Result<(), AllocError>
     requires index { IsSome draft.old.index }
     requires free { draft.old.range.upper ≡ None }
     requires named { AreNamed (order_of draft.old) bound }
-    ensures { OnOk result (draft.new ≡ with_upper (option_map (cut_named (order_of draft.old)) bound) draft.old) }
+    ensures { OnOk result (draft.new
+        ≡ with_upper (option_map (cut_named (order_of draft.old)) bound) draft.old) }
 {
     let Some(bound) = bound else {
         return Ok(());
@@ -192,7 +195,12 @@ pub(crate) fn made(
     requires lower { MayCut index range.lower }
     requires upper { MayCut index range.upper }
     requires counts { Counts limit }
-    ensures { IfOk result (λ query. query ≡ record { path = path; index = index; range = range; limit = limit }) }
+    ensures { IfOk result (λ query. query ≡ record {
+      path = path;
+      index = index;
+      range = range;
+      limit = limit;
+    }) }
 {
     let lower = bound_of(alloc, &index, range.lower)?;
     let upper = bound_of(alloc, &index, range.upper)?;

@@ -3,8 +3,10 @@ ghost use Rattle.std.specs.Prelude.{◌≡◌, ◌≤◌, ◌⊎◌, codes, leng
 ghost use Rattle.std.specs.Option.{option_and_then};
 ghost use Rattle.serde_json.specs.Find.{get, as_array, as_str};
 ghost use Rattle.serde_json.specs.View.{view, items_view};
-ghost use Rattle.rt_wire.specs.QueryFields.{index_of, whole_of, text_mark_of, mark_of, edge_of, side_of, key_of, cut_of, cut_of_items, may_cut};
-ghost use Rattle.rt_wire.specs.QueryFields.{range_of, count_of, limit_with, limit_of, limit_of_items, if_there, query_of};
+ghost use Rattle.rt_wire.specs.QueryFields.{index_of, whole_of, text_mark_of, mark_of, edge_of};
+ghost use Rattle.rt_wire.specs.QueryFields.{side_of, key_of, cut_of, cut_of_items, may_cut};
+ghost use Rattle.rt_wire.specs.QueryFields.{range_of, count_of, limit_with, limit_of};
+ghost use Rattle.rt_wire.specs.QueryFields.{limit_of_items, if_there, query_of};
 ghost use Rattle.rt_wire.specs.inside.Made.{MayCut, Counts};
 
 use crate::error::WireError;
@@ -19,7 +21,8 @@ use std::alloc::Global;
 // The elements of an array.
 fn items(value: &Value) -> Result<&[Value], WireError>
     ensures ok { IfOk result (λ items. as_array (view value.entry.now) ≡ Some (items_view items.now)) }
-    ensures err { IfErr result (λ e. (e ≡ WireError.BadField) × (as_array (view value.entry.now) ≡ None)) }
+    ensures err { IfErr result (λ e. (e ≡ WireError.BadField)
+        × (as_array (view value.entry.now) ≡ None)) }
 {
     match value.as_array() {
         Some(items) => Ok(items.as_slice()),
@@ -30,7 +33,8 @@ fn items(value: &Value) -> Result<&[Value], WireError>
 // The order.
 fn index(alloc: Global, value: &Value) -> Result<Index, WireError>
     ensures ok { IfOk result (λ index. index_of (view value.now) ≡ Some index) }
-    ensures err { IfErr result (λ e. (e ≡ WireError.BadField) × (index_of (view value.now) ≡ None) ⊎ (e ≡ WireError.NoMemory)) }
+    ensures err { IfErr result (λ e. (e ≡ WireError.BadField) × (index_of (view value.now) ≡ None)
+        ⊎ (e ≡ WireError.NoMemory)) }
 {
     match value.as_str() {
         Some("key") => Ok(Index::Key),
@@ -56,7 +60,8 @@ fn whole_mark(number: i64) -> Option<Mark>
 // The value of a cut.
 fn mark(alloc: Global, value: &Value) -> Result<Mark, WireError>
     ensures ok { IfOk result (λ mark. mark_of (view value.now) ≡ Some mark) }
-    ensures err { IfErr result (λ e. (e ≡ WireError.BadField) × (mark_of (view value.now) ≡ None) ⊎ (e ≡ WireError.NoMemory)) }
+    ensures err { IfErr result (λ e. (e ≡ WireError.BadField) × (mark_of (view value.now) ≡ None)
+        ⊎ (e ≡ WireError.NoMemory)) }
 {
     match value {
         Value::Null => Ok(Mark::Null),
@@ -73,7 +78,8 @@ fn mark(alloc: Global, value: &Value) -> Result<Mark, WireError>
 // A text as the value of a cut.
 fn text_mark(alloc: Global, text: &str) -> Result<Mark, WireError>
     ensures ok { IfOk result (λ mark. text_mark_of text.now ≡ Some mark) }
-    ensures err { IfErr result (λ e. (e ≡ WireError.BadField) × (text_mark_of text.now ≡ None) ⊎ (e ≡ WireError.NoMemory)) }
+    ensures err { IfErr result (λ e. (e ≡ WireError.BadField) × (text_mark_of text.now ≡ None)
+        ⊎ (e ≡ WireError.NoMemory)) }
 {
     if text.len() > 65536 {
         return Err(WireError::BadField);
@@ -87,7 +93,8 @@ fn text_mark(alloc: Global, text: &str) -> Result<Mark, WireError>
 // A key.
 fn key(alloc: Global, value: &Value) -> Result<Key, WireError>
     ensures ok { IfOk result (λ key. key_of (view value.now) ≡ Some key) }
-    ensures err { IfErr result (λ e. (e ≡ WireError.BadField) × (key_of (view value.now) ≡ None) ⊎ (e ≡ WireError.NoMemory)) }
+    ensures err { IfErr result (λ e. (e ≡ WireError.BadField) × (key_of (view value.now) ≡ None)
+        ⊎ (e ≡ WireError.NoMemory)) }
 {
     let Some(text) = value.as_str() else {
         return Err(WireError::BadField);
@@ -102,7 +109,8 @@ fn key(alloc: Global, value: &Value) -> Result<Key, WireError>
 // A place that names no key.
 fn edge(word: &Value) -> Result<Place, WireError>
     ensures ok { IfOk result (λ place. option_and_then edge_of (as_str (view word.now)) ≡ Some place) }
-    ensures err { IfErr result (λ e. (e ≡ WireError.BadField) × (option_and_then edge_of (as_str (view word.now)) ≡ None)) }
+    ensures err { IfErr result (λ e. (e ≡ WireError.BadField)
+        × (option_and_then edge_of (as_str (view word.now)) ≡ None)) }
 {
     match word.as_str() {
         Some("min") => Ok(Place::Min),
@@ -113,8 +121,10 @@ fn edge(word: &Value) -> Result<Place, WireError>
 
 // A place next to a key.
 fn side(word: &Value, key: Key) -> Result<Place, WireError>
-    ensures ok { IfOk result (λ place. option_and_then (λ w. side_of w key) (as_str (view word.now)) ≡ Some place) }
-    ensures err { IfErr result (λ e. (e ≡ WireError.BadField) × (option_and_then (λ w. side_of w key) (as_str (view word.now)) ≡ None)) }
+    ensures ok { IfOk result (λ place. option_and_then (λ w. side_of w key) (as_str (view word.now))
+        ≡ Some place) }
+    ensures err { IfErr result (λ e. (e ≡ WireError.BadField)
+        × (option_and_then (λ w. side_of w key) (as_str (view word.now)) ≡ None)) }
 {
     match word.as_str() {
         Some("before") => Ok(Place::Before(key)),
@@ -127,7 +137,8 @@ fn side(word: &Value, key: Key) -> Result<Place, WireError>
 fn edge_cut(alloc: Global, items: &[Value]) -> Result<Cut, WireError>
     requires { length items.now ≡ 2 }
     ensures ok { IfOk result (λ cut. cut_of_items (items_view items.now) ≡ Some cut) }
-    ensures err { IfErr result (λ e. (e ≡ WireError.BadField) × (cut_of_items (items_view items.now) ≡ None) ⊎ (e ≡ WireError.NoMemory)) }
+    ensures err { IfErr result (λ e. (e ≡ WireError.BadField)
+        × (cut_of_items (items_view items.now) ≡ None) ⊎ (e ≡ WireError.NoMemory)) }
 {
     let [value, word] = items else { unreachable!() };
     let place = edge(word)?;
@@ -139,7 +150,8 @@ fn edge_cut(alloc: Global, items: &[Value]) -> Result<Cut, WireError>
 fn key_cut(alloc: Global, items: &[Value]) -> Result<Cut, WireError>
     requires { length items.now ≡ 3 }
     ensures ok { IfOk result (λ cut. cut_of_items (items_view items.now) ≡ Some cut) }
-    ensures err { IfErr result (λ e. (e ≡ WireError.BadField) × (cut_of_items (items_view items.now) ≡ None) ⊎ (e ≡ WireError.NoMemory)) }
+    ensures err { IfErr result (λ e. (e ≡ WireError.BadField)
+        × (cut_of_items (items_view items.now) ≡ None) ⊎ (e ≡ WireError.NoMemory)) }
 {
     let [value, word, at] = items else {
         unreachable!()
@@ -154,7 +166,8 @@ fn key_cut(alloc: Global, items: &[Value]) -> Result<Cut, WireError>
 #[tactic(auto, using(crate::proofs::QueryItems::no_cut))]
 fn any_cut(alloc: Global, items: &[Value]) -> Result<Cut, WireError>
     ensures ok { IfOk result (λ cut. cut_of_items (items_view items.now) ≡ Some cut) }
-    ensures err { IfErr result (λ e. (e ≡ WireError.BadField) × (cut_of_items (items_view items.now) ≡ None) ⊎ (e ≡ WireError.NoMemory)) }
+    ensures err { IfErr result (λ e. (e ≡ WireError.BadField)
+        × (cut_of_items (items_view items.now) ≡ None) ⊎ (e ≡ WireError.NoMemory)) }
 {
     if items.len() == 2 {
         return edge_cut(alloc, items);
@@ -165,7 +178,8 @@ fn any_cut(alloc: Global, items: &[Value]) -> Result<Cut, WireError>
     Err(WireError::BadField)
 }
 
-// Whether children in that order are cut so: in key order their values are null, and a cut is next to a key.
+// Whether children in that order are cut so: in key order their values are null, and a cut is next
+// to a key.
 fn may_be_cut(index: &Index, cut: &Cut) -> bool
     ensures { result ≡ may_cut index.now cut.now }
 {
@@ -181,7 +195,8 @@ fn may_be_cut(index: &Index, cut: &Cut) -> bool
 // A cut of children in that order.
 fn cut(alloc: Global, index: &Index, value: &Value) -> Result<Cut, WireError>
     ensures ok { IfOk result (λ cut. cut_of index.now (view value.now) ≡ Some cut) }
-    ensures err { IfErr result (λ e. (e ≡ WireError.BadField) × (cut_of index.now (view value.now) ≡ None) ⊎ (e ≡ WireError.NoMemory)) }
+    ensures err { IfErr result (λ e. (e ≡ WireError.BadField)
+        × (cut_of index.now (view value.now) ≡ None) ⊎ (e ≡ WireError.NoMemory)) }
     ensures may { IfOk result (λ cut. may_cut index.now cut ≡ true) }
 {
     let cut = any_cut(alloc, items(value)?)?;
@@ -193,8 +208,11 @@ fn cut(alloc: Global, index: &Index, value: &Value) -> Result<Cut, WireError>
 
 // The cut of that name, where it is there.
 fn bound(alloc: Global, index: &Index, q: &Value, name: &str) -> Result<Option<Cut>, WireError>
-    ensures ok { IfOk result (λ cut. if_there (cut_of index.now) (get name.now (view q.now)) ≡ Some cut) }
-    ensures err { IfErr result (λ e. (e ≡ WireError.BadField) × (if_there (cut_of index.now) (get name.now (view q.now)) ≡ None) ⊎ (e ≡ WireError.NoMemory)) }
+    ensures ok { IfOk result (λ cut. if_there (cut_of index.now) (get name.now (view q.now))
+        ≡ Some cut) }
+    ensures err { IfErr result (λ e. (e ≡ WireError.BadField)
+        × (if_there (cut_of index.now) (get name.now (view q.now)) ≡ None)
+        ⊎ (e ≡ WireError.NoMemory)) }
     ensures may { IfOk result (MayCut index.now) }
 {
     match q.get(name) {
@@ -206,7 +224,8 @@ fn bound(alloc: Global, index: &Index, q: &Value, name: &str) -> Result<Option<C
 // The range.
 fn range(alloc: Global, index: &Index, q: &Value) -> Result<Range, WireError>
     ensures ok { IfOk result (λ range. range_of index.now (view q.now) ≡ Some range) }
-    ensures err { IfErr result (λ e. (e ≡ WireError.BadField) × (range_of index.now (view q.now) ≡ None) ⊎ (e ≡ WireError.NoMemory)) }
+    ensures err { IfErr result (λ e. (e ≡ WireError.BadField)
+        × (range_of index.now (view q.now) ≡ None) ⊎ (e ≡ WireError.NoMemory)) }
     ensures lower { IfOk result (λ range. MayCut index.now range.lower) }
     ensures upper { IfOk result (λ range. MayCut index.now range.upper) }
 {
@@ -230,8 +249,10 @@ fn count(value: &Value) -> Result<u32, WireError>
 // A limit of that word.
 fn limit_of_word(word: &Value, n: u32) -> Result<Limit, WireError>
     requires { 1 ≤ n }
-    ensures ok { IfOk result (λ limit. option_and_then (λ w. limit_with w n) (as_str (view word.now)) ≡ Some limit) }
-    ensures err { IfErr result (λ e. (e ≡ WireError.BadField) × (option_and_then (λ w. limit_with w n) (as_str (view word.now)) ≡ None)) }
+    ensures ok { IfOk result (λ limit.
+        option_and_then (λ w. limit_with w n) (as_str (view word.now)) ≡ Some limit) }
+    ensures err { IfErr result (λ e. (e ≡ WireError.BadField)
+        × (option_and_then (λ w. limit_with w n) (as_str (view word.now)) ≡ None)) }
     ensures counts { IfOk result (λ limit. Counts (Some limit)) }
 {
     match word.as_str() {
@@ -244,7 +265,8 @@ fn limit_of_word(word: &Value, n: u32) -> Result<Limit, WireError>
 // A limit, of its array's elements.
 fn limit(items: &[Value]) -> Result<Limit, WireError>
     ensures ok { IfOk result (λ limit. limit_of_items (items_view items.now) ≡ Some limit) }
-    ensures err { IfErr result (λ e. (e ≡ WireError.BadField) × (limit_of_items (items_view items.now) ≡ None)) }
+    ensures err { IfErr result (λ e. (e ≡ WireError.BadField)
+        × (limit_of_items (items_view items.now) ≡ None)) }
     ensures counts { IfOk result (λ limit. Counts (Some limit)) }
 {
     let [word, n] = items else {
@@ -255,8 +277,10 @@ fn limit(items: &[Value]) -> Result<Limit, WireError>
 
 // The limit, where it is there.
 fn limit_in(q: &Value) -> Result<Option<Limit>, WireError>
-    ensures ok { IfOk result (λ limit. if_there limit_of (get (codes "limit") (view q.now)) ≡ Some limit) }
-    ensures err { IfErr result (λ e. (e ≡ WireError.BadField) × (if_there limit_of (get (codes "limit") (view q.now)) ≡ None)) }
+    ensures ok { IfOk result (λ limit. if_there limit_of (get (codes "limit") (view q.now))
+        ≡ Some limit) }
+    ensures err { IfErr result (λ e. (e ≡ WireError.BadField)
+        × (if_there limit_of (get (codes "limit") (view q.now)) ≡ None)) }
     ensures counts { IfOk result Counts }
 {
     match q.get("limit") {
@@ -268,7 +292,8 @@ fn limit_in(q: &Value) -> Result<Option<Limit>, WireError>
 /// The filtered query of the path that `q` makes.
 pub(crate) fn query(alloc: Global, path: Path, q: &Value) -> Result<Query, WireError>
     ensures ok { IfOk result (λ query. query_of path (view q.now) ≡ Some query) }
-    ensures err { IfErr result (λ e. (e ≡ WireError.BadField) × (query_of path (view q.now) ≡ None) ⊎ (e ≡ WireError.NoMemory)) }
+    ensures err { IfErr result (λ e. (e ≡ WireError.BadField) × (query_of path (view q.now) ≡ None)
+        ⊎ (e ≡ WireError.NoMemory)) }
 {
     let limit = limit_in(q)?;
     let index = index(alloc, member(q, "order")?)?;

@@ -1,5 +1,6 @@
 // The member `q` of a listen, written.
-ghost use Rattle.std.specs.Prelude.{◌≡◌, ◌≤◌, codes, IfOk, OnOk, IfSome, Some, None, option_map, string_bytes, if◌then◌else◌};
+ghost use Rattle.std.specs.Prelude.{◌≡◌, ◌≤◌, codes, IfOk, OnOk, IfSome, Some, None, option_map};
+ghost use Rattle.std.specs.Prelude.{string_bytes, if◌then◌else◌};
 ghost use Rattle.serde_json.specs.Data.{array, string, item, no_items};
 ghost use Rattle.serde_json.specs.View.{view, members_view};
 ghost use Rattle.serde_json.specs.Written.{compact_text};
@@ -7,7 +8,8 @@ ghost use Rattle.rt_tree.specs.Key.{IsKey};
 ghost use Rattle.rt_query.specs.Queries.{is_filtered, most_rows};
 ghost use Rattle.rt_wire.specs.QueryData.{index_data, mark_data, cut_data, limit_data, query_data};
 ghost use Rattle.rt_wire.specs.inside.QueryMembers.{with_member_if};
-ghost use Rattle.rt_wire.specs.inside.StandingClient.{IsStandingIndex, IsStandingMark, IsStandingCut, IsStandingQuery};
+ghost use Rattle.rt_wire.specs.inside.StandingClient.{IsStandingIndex, IsStandingMark};
+ghost use Rattle.rt_wire.specs.inside.StandingClient.{IsStandingCut, IsStandingQuery};
 
 use crate::value::path_value;
 use rt_order::{Cut, Index, Mark, Place};
@@ -43,14 +45,16 @@ fn mark_value(alloc: Global, mark: &Mark) -> Result<Value, AllocError>
 
 // A cut that names no key.
 fn edge_value(alloc: Global, value: Value, word: &str) -> Result<Value, AllocError>
-    ensures { IfOk result (λ cut. view cut ≡ array (item (view value) (item (string word.now) no_items))) }
+    ensures { IfOk result (λ cut. view cut
+        ≡ array (item (view value) (item (string word.now) no_items))) }
 {
     json!(in alloc; [value, word])
 }
 
 // A cut next to a key.
 fn key_value(alloc: Global, value: Value, word: &str, key: &Key) -> Result<Value, AllocError>
-    ensures cut { IfOk result (λ cut. view cut ≡ array (item (view value) (item (string word.now) (item (string key.now) no_items)))) }
+    ensures cut { IfOk result (λ cut. view cut
+        ≡ array (item (view value) (item (string word.now) (item (string key.now) no_items)))) }
     ensures key { IfOk result (λ _. IsKey key.now) }
 {
     json!(in alloc; [value, word, key.text()])
@@ -85,7 +89,8 @@ fn put_cut(
     name: &str,
     cut: &Option<Cut>,
 ) -> Result<(), AllocError>
-    ensures put { OnOk result (members_view members.new.entries ≡ with_member_if name.now (option_map cut_data cut.now) (members_view members.old.entries)) }
+    ensures put { OnOk result (members_view members.new.entries
+        ≡ with_member_if name.now (option_map cut_data cut.now) (members_view members.old.entries)) }
     ensures standing { OnOk result (IfSome cut.now IsStandingCut) }
 {
     match cut {
@@ -100,7 +105,9 @@ fn put_limit(
     alloc: Global,
     limit: Option<Limit>,
 ) -> Result<(), AllocError>
-    ensures put { OnOk result (members_view members.new.entries ≡ with_member_if (codes "limit") (option_map limit_data limit) (members_view members.old.entries)) }
+    ensures put { OnOk result (members_view members.new.entries
+        ≡ with_member_if (codes "limit") (option_map limit_data limit)
+        (members_view members.old.entries)) }
     ensures few { IfSome limit (λ limit. most_rows limit ≤ 4294967295) }
 {
     match limit {
@@ -124,9 +131,11 @@ pub(crate) fn query_value(alloc: Global, query: &Query) -> Result<Value, AllocEr
     Ok(Value::Object(members))
 }
 
-/// The text of a listen's `q` for the query; `None` for one that is not filtered, whose listen has no `q`.
+/// The text of a listen's `q` for the query; `None` for one that is not filtered, whose listen has
+/// no `q`.
 pub fn query_text(alloc: Global, query: &Query) -> Result<Option<String>, AllocError>
-    ensures { IfOk result (λ text. option_map (λ s. string_bytes s) text ≡ (if is_filtered query.now then Some (compact_text (query_data query.now)) else None)) }
+    ensures { IfOk result (λ text. option_map (λ s. string_bytes s) text
+        ≡ (if is_filtered query.now then Some (compact_text (query_data query.now)) else None)) }
 {
     if !query.is_filtered() {
         return Ok(None);

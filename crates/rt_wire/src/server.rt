@@ -5,7 +5,8 @@ ghost use Rattle.serde_json.specs.Written.{compact_text};
 ghost use Rattle.rt_wire.specs.ServerData.{server_data};
 ghost use Rattle.rt_wire.specs.ReadBack.{IsServerMessage, IsServerText};
 ghost use Rattle.rt_wire.specs.inside.StandingServer.{IsStandingMessage};
-ghost use Rattle.rt_wire.specs.Server.{server_message, server_message_in, data_in, data_merge_in, ok_in, no_in, revoke_in};
+ghost use Rattle.rt_wire.specs.Server.{server_message, server_message_in, data_in, data_merge_in};
+ghost use Rattle.rt_wire.specs.Server.{ok_in, no_in, revoke_in};
 
 use crate::entries::entries;
 use crate::error::WireError;
@@ -33,11 +34,12 @@ pub enum ServerMessage {
 }
 
 impl ServerMessage {
-    /// Reads a message of the server. The order of its members is free, those that its kind lacks are ignored, and of
-    /// members with the same name the last one counts.
+    /// Reads a message of the server. The order of its members is free, those that its kind lacks
+    /// are ignored, and of members with the same name the last one counts.
     pub fn read(alloc: Global, text: &str) -> Result<ServerMessage, WireError>
         ensures ok { IfOk result (λ message. server_message text.now ≡ Ok message) }
-        ensures fault { IfErr result (λ e. (server_message text.now ≡ Err e) ⊎ (e ≡ WireError.NoMemory)) }
+        ensures fault { IfErr result (λ e. (server_message text.now ≡ Err e)
+            ⊎ (e ≡ WireError.NoMemory)) }
     {
         ServerMessage::of(alloc, &json_value(alloc, text)?)
     }
@@ -45,7 +47,8 @@ impl ServerMessage {
     // The message that a JSON value is.
     fn of(alloc: Global, message: &Value) -> Result<ServerMessage, WireError>
         ensures ok { IfOk result (λ m. server_message_in (view message.now) ≡ Ok m) }
-        ensures fault { IfErr result (λ e. (server_message_in (view message.now) ≡ Err e) ⊎ (e ≡ WireError.NoMemory)) }
+        ensures fault { IfErr result (λ e. (server_message_in (view message.now) ≡ Err e)
+            ⊎ (e ≡ WireError.NoMemory)) }
     {
         match kind(message)? {
             "data" => ServerMessage::data(alloc, message),
@@ -59,7 +62,8 @@ impl ServerMessage {
 
     fn data(alloc: Global, message: &Value) -> Result<ServerMessage, WireError>
         ensures ok { IfOk result (λ m. data_in (view message.now) ≡ Ok m) }
-        ensures fault { IfErr result (λ e. (data_in (view message.now) ≡ Err e) ⊎ (e ≡ WireError.NoMemory)) }
+        ensures fault { IfErr result (λ e. (data_in (view message.now) ≡ Err e)
+            ⊎ (e ≡ WireError.NoMemory)) }
     {
         let tag = number(message, "tag")?;
         let path = path(alloc, message)?;
@@ -70,7 +74,8 @@ impl ServerMessage {
 
     fn data_merge(alloc: Global, message: &Value) -> Result<ServerMessage, WireError>
         ensures ok { IfOk result (λ m. data_merge_in (view message.now) ≡ Ok m) }
-        ensures fault { IfErr result (λ e. (data_merge_in (view message.now) ≡ Err e) ⊎ (e ≡ WireError.NoMemory)) }
+        ensures fault { IfErr result (λ e. (data_merge_in (view message.now) ≡ Err e)
+            ⊎ (e ≡ WireError.NoMemory)) }
     {
         let tag = number(message, "tag")?;
         let entries = entries(alloc, message)?;
@@ -86,7 +91,8 @@ impl ServerMessage {
 
     fn no(alloc: Global, message: &Value) -> Result<ServerMessage, WireError>
         ensures ok { IfOk result (λ m. no_in (view message.now) ≡ Ok m) }
-        ensures fault { IfErr result (λ e. (no_in (view message.now) ≡ Err e) ⊎ (e ≡ WireError.NoMemory)) }
+        ensures fault { IfErr result (λ e. (no_in (view message.now) ≡ Err e)
+            ⊎ (e ≡ WireError.NoMemory)) }
     {
         let id = number(message, "id")?;
         let why = reason(alloc, message)?;
@@ -95,17 +101,20 @@ impl ServerMessage {
 
     fn revoke(alloc: Global, message: &Value) -> Result<ServerMessage, WireError>
         ensures ok { IfOk result (λ m. revoke_in (view message.now) ≡ Ok m) }
-        ensures fault { IfErr result (λ e. (revoke_in (view message.now) ≡ Err e) ⊎ (e ≡ WireError.NoMemory)) }
+        ensures fault { IfErr result (λ e. (revoke_in (view message.now) ≡ Err e)
+            ⊎ (e ≡ WireError.NoMemory)) }
     {
         let tag = number(message, "tag")?;
         let why = reason(alloc, message)?;
         Ok(ServerMessage::Revoked { tag, why })
     }
 
-    /// The message as compact JSON, with the members of each object in the order of the bytes of their names.
+    /// The message as compact JSON, with the members of each object in the order of the bytes of
+    /// their names.
     pub fn text(&self, alloc: Global) -> Result<String, AllocError>
         ensures text { IfOk result (λ text. string_bytes text ≡ compact_text (server_data self.now)) }
-        ensures reads_back { IfOk result (λ text. IsServerMessage self.now → IsServerText self.now (string_bytes text)) }
+        ensures reads_back { IfOk result (λ text. IsServerMessage self.now
+            → IsServerText self.now (string_bytes text)) }
     {
         let value = self.to_value(alloc)?;
         value.to_string(alloc)

@@ -33,7 +33,8 @@ pub(crate) fn tree_value(alloc: Global, tree: &Tree) -> Result<Value, AllocError
 
 // A member for each entry, in the order of the bytes of the paths' texts.
 pub(crate) fn entries_value(alloc: Global, entries: &Entries) -> Result<Value, AllocError>
-    ensures value { IfOk result (λ value. view value ≡ object (fold with_entry no_members entries.now)) }
+    ensures value { IfOk result (λ value. view value
+        ≡ object (fold with_entry no_members entries.now)) }
     ensures standing { IfOk result (λ _. AllByRecursion IsStanding entries.now) }
 {
     let mut members = Map::new(alloc);

@@ -4,6 +4,7 @@ use Rattle.std.specs.Prelude.{◌==◌, nat_lt, nat_le, Option, Some, None, is_s
 use Rattle.std.specs.List.{find, list_any, list_all}
 use Rattle.std.specs.Option.{option_map, option_map_or, option_and_then}
 use Rattle.rt_tree.specs.PathTree.{levels}
+use Rattle.rt_tree.specs.declared.limits.TheConstants.{MAX_LEVELS}
 use Rattle.rt_tree.specs.Assignments.{is_at_or_above, Assignment, have_overlap}
 use Rattle.rt_cache.specs.Brought.{is_without_window}
 use Rattle.rt_world.specs.declared.error.CoreError.{CoreError}
@@ -107,9 +108,9 @@ is_empty_update s = option_map_or is_empty_action (action_of s) false
 
 -- ---- paths and trees
 
--- whether a leaf would stand under more than 32 keys: levels counts one more
+-- whether a leaf would stand under too many keys: levels counts one more
 abbrev pub stands_too_deep : Assignment → Bool
-stands_too_deep a = nat_lt 33 (length a.0 + levels a.1)
+stands_too_deep a = nat_lt MAX_LEVELS (length a.0 + levels a.1)
 
 -- whether an entry of the step, a write's or a push's, would
 abbrev pub is_too_deep : Step → Bool

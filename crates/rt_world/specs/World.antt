@@ -13,6 +13,7 @@ use Rattle.rt_cover.specs.declared.kept.Kept.{Kept}
 use Rattle.rt_cover.specs.Cover.{Registered, Tagged}
 use Rattle.rt_cover.specs.State.{shown_with}
 use Rattle.rt_world.specs.declared.limits.Limits.{Limits}
+use Rattle.rt_world.specs.declared.limits.TheConstants.{MAX_LISTENERS, MAX_REQUESTS, MAX_NUMBER}
 use Rattle.rt_wire.specs.declared.client.ClientMessage.{ClientMessage}
 use Rattle.rt_wire.specs.declared.request.Action.{Action}
 use Rattle.rt_wire.specs.declared.request.Action.TheVariants.{Put, Merge}
@@ -35,9 +36,9 @@ pub record Listener : Type 0 where
 -- a 0 counts as 1, and more than the largest number as that
 abbrev pub limits_from : Limits → Limits
 limits_from limits = record {
-  listeners = min (max 1 limits.listeners) 65536;
-  requests = min (max 1 limits.requests) 65536;
-  last_number = min (max 1 limits.last_number) 9007199254740991;
+  listeners = min (max 1 limits.listeners) MAX_LISTENERS;
+  requests = min (max 1 limits.requests) MAX_REQUESTS;
+  last_number = min (max 1 limits.last_number) MAX_NUMBER;
 }
 
 -- the listeners and the unsettled requests by number, what the listens brought, the kept listens by

@@ -1,7 +1,8 @@
 //! Examples that the prover computes: trees are opened here, and nowhere else.
 #![tactic(auto, unfolding(rt_tree::specs::PathTree::null, rt_tree::specs::PathTree::of_leaf, rt_tree::specs::PathTree::is_null, rt_tree::specs::PathTree::leaf_at, rt_tree::specs::PathTree::sub, rt_tree::specs::PathTree::put))]
 
-ghost use Rattle.rt_writes.specs.laws.Examples.{ParentHides, ChildShows, ThreeSetsTwoRefused, UnderLeaf};
+ghost use Rattle.rt_writes.specs.laws.Examples.{ParentHides, ChildShows, ThreeSetsTwoRefused};
+ghost use Rattle.rt_writes.specs.laws.Examples.{UnderLeaf};
 ghost use Rattle.rt_writes.specs.laws.Examples.{PartOfEntry};
 
 /// A child is set, and then its parent, which is refused.

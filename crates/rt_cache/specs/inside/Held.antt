@@ -29,11 +29,16 @@ entries_of windows = map entry_of windows
 
 -- regions stand in order; windows stand anyhow
 abbrev pub held : List Region → List inside.Window → Brought
-held regions windows = record { regions = pairs_of regions; windows = in_query_order (entries_of windows) }
+held regions windows = record {
+  regions = pairs_of regions;
+  windows =
+      in_query_order (entries_of windows);
+}
 
 -- the windows after a push on a filtered query
 abbrev pub pushed_windows : Query → Assignment → List (Query × Window) → List (Query × Window)
-pushed_windows q a windows = option_map_or (λ rest. windows_pushed q rest a.1 windows) (strip q.path a.0) windows
+pushed_windows q a windows = option_map_or (λ rest. windows_pushed q rest a.1 windows)
+    (strip q.path a.0) windows
 
 -- whether there is a window to take it, or none is needed
 abbrev pub is_taken : Query → Path → List (Query × Window) → Bool

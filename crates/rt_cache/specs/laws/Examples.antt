@@ -5,7 +5,8 @@ use Rattle.rt_tree.specs.Path.{path_keys}
 use Rattle.rt_tree.specs.PathTree.{Path, PathTree, null, of_leaf, object}
 use Rattle.rt_query.specs.declared.limit.Limit.TheVariants.{First}
 use Rattle.rt_query.specs.Queries.{Query, plain}
-use Rattle.rt_cache.specs.Brought.{Brought, nothing_brought, base, base_child, knows, push, is_without_window}
+use Rattle.rt_cache.specs.Brought.{Brought, nothing_brought, base, base_child, knows, push}
+use Rattle.rt_cache.specs.Brought.{is_without_window}
 use Rattle.rt_cache.specs.Recover.{recover}
 use Rattle.rt_cache.specs.Runs.{after_all, taken_all}
 use Rattle.rt_cache.specs.declared.run.Call.{Call}
@@ -40,17 +41,21 @@ parent_pushed =
 
 -- the parent's region takes in the child's
 abbrev pub ParentTakesIn : Type 0
-ParentTakesIn = parent_pushed ≡ record { regions = (at (codes "/a"), two (codes "b") 2 (codes "c") 3) ∷ []; windows = [] }
+ParentTakesIn = parent_pushed
+    ≡ record { regions = (at (codes "/a"), two (codes "b") 2 (codes "c") 3) ∷ []; windows = [] }
 
 -- a part of it is whole, and so is a child, also one that is not there
 abbrev pub PartsAreWhole : Type 0
-PartsAreWhole = base parent_pushed (plain_at (codes "/a/b")) ≡ Some (record { tree = num 2; whole = true })
+PartsAreWhole = base parent_pushed (plain_at (codes "/a/b"))
+    ≡ Some (record { tree = num 2; whole = true })
 
 abbrev pub ChildThere : Type 0
-ChildThere = base_child parent_pushed (plain_at (codes "/a")) (codes "c") ≡ Some (record { tree = num 3; whole = true })
+ChildThere = base_child parent_pushed (plain_at (codes "/a")) (codes "c")
+    ≡ Some (record { tree = num 3; whole = true })
 
 abbrev pub ChildNotThere : Type 0
-ChildNotThere = base_child parent_pushed (plain_at (codes "/a")) (codes "z") ≡ Some (record { tree = null; whole = true })
+ChildNotThere = base_child parent_pushed (plain_at (codes "/a")) (codes "z")
+    ≡ Some (record { tree = null; whole = true })
 
 -- where another listen is kept, only its part stays
 abbrev pub parent_cut : Brought
@@ -69,17 +74,23 @@ both_kept = plain_at (codes "/b") ∷ plain_at (codes "/a") ∷ []
 
 -- a region is cut to two listens: the parts stand in the order of paths
 abbrev pub cut_in_two : Brought
-cut_in_two = recover both_kept both_kept (push (plain_at (codes "/")) nothing_brought (at (codes "/"), two (codes "b") 2 (codes "a") 1))
+cut_in_two = recover both_kept both_kept (push (plain_at (codes "/")) nothing_brought
+    (at (codes "/"), two (codes "b") 2 (codes "a") 1))
 
 abbrev pub CutInOrder : Type 0
-CutInOrder = cut_in_two ≡ record { regions = (at (codes "/a"), num 1) ∷ (at (codes "/b"), num 2) ∷ []; windows = [] }
+CutInOrder = cut_in_two
+    ≡ record { regions = (at (codes "/a"), num 1) ∷ (at (codes "/b"), num 2) ∷ []; windows = [] }
 
 -- two windows are listed alike, whichever came first
 abbrev pub windows_pushed : Query → Query → Brought
-windows_pushed q r = push r (push q nothing_brought (at (codes "/a"), two (codes "x") 1 (codes "y") 2)) (at (codes "/a"), two (codes "x") 1 (codes "y") 2)
+windows_pushed q r = push r (push q nothing_brought (
+  at (codes "/a"),
+  two (codes "x") 1 (codes "y") 2,
+)) (at (codes "/a"), two (codes "x") 1 (codes "y") 2)
 
 abbrev pub ListedAlike : Type 0
-ListedAlike = windows_pushed (first_at 1 (codes "/a")) (first_at 2 (codes "/a")) ≡ windows_pushed (first_at 2 (codes "/a")) (first_at 1 (codes "/a"))
+ListedAlike = windows_pushed (first_at 1 (codes "/a")) (first_at 2 (codes "/a"))
+    ≡ windows_pushed (first_at 2 (codes "/a")) (first_at 1 (codes "/a"))
 
 -- ---- windows
 
@@ -88,14 +99,16 @@ abbrev pub leaf_pushed : Brought
 leaf_pushed = push (first_at 2 (codes "/a")) nothing_brought (at (codes "/a"), num 7)
 
 abbrev pub LeafShowsNothing : Type 0
-LeafShowsNothing = base leaf_pushed (first_at 2 (codes "/a")) ≡ Some (record { tree = null; whole = false })
+LeafShowsNothing = base leaf_pushed (first_at 2 (codes "/a"))
+    ≡ Some (record { tree = null; whole = false })
 
 -- so a push below it is taken; without a window there is none to take it
 abbrev pub TakenBelow : Type 0
 TakenBelow = is_without_window leaf_pushed (first_at 2 (codes "/a")) (at (codes "/a/x"), num 1) ≡ false
 
 abbrev pub StaleBelow : Type 0
-StaleBelow = is_without_window nothing_brought (first_at 2 (codes "/a")) (at (codes "/a/x"), num 1) ≡ true
+StaleBelow = is_without_window nothing_brought (first_at 2 (codes "/a")) (at (codes "/a/x"), num 1)
+    ≡ true
 
 -- a region that is lost leaves a whole window, and a push below keeps the mark
 abbrev pub whole_window : Brought
@@ -105,15 +118,18 @@ whole_window =
     push (first_at 2 (codes "/a")) lost (at (codes "/a/x"), num 1)
 
 abbrev pub StaysWhole : Type 0
-StaysWhole = base whole_window (first_at 2 (codes "/a")) ≡ Some (record { tree = object ((codes "x", num 1) ∷ []); whole = true })
+StaysWhole = base whole_window (first_at 2 (codes "/a"))
+    ≡ Some (record { tree = object ((codes "x", num 1) ∷ []); whole = true })
 
 -- a push at its path replaces it by one that is not whole
 abbrev pub WholeNoMore : Type 0
-WholeNoMore = base (push (first_at 2 (codes "/a")) whole_window (at (codes "/a"), num 7)) (first_at 2 (codes "/a")) ≡ Some (record { tree = null; whole = false })
+WholeNoMore = base (push (first_at 2 (codes "/a")) whole_window (at (codes "/a"), num 7))
+    (first_at 2 (codes "/a")) ≡ Some (record { tree = null; whole = false })
 
 -- a new region takes the windows in
 abbrev pub TakenIn : Type 0
-TakenIn = push (plain_at (codes "/")) whole_window (at (codes "/"), num 7) ≡ record { regions = (at (codes "/"), num 7) ∷ []; windows = [] }
+TakenIn = push (plain_at (codes "/")) whole_window (at (codes "/"), num 7)
+    ≡ record { regions = (at (codes "/"), num 7) ∷ []; windows = [] }
 
 -- ---- runs of calls
 
@@ -132,12 +148,17 @@ RowRuns =
 
 -- it doesn't leave nothing, nor are there fewer answers than calls
 abbrev pub RowDoesSomething : Type 0
-RowDoesSomething = (after_all nothing_brought row ≢ nothing_brought) × (taken_all nothing_brought row ≢ [])
+RowDoesSomething = (after_all nothing_brought row ≢ nothing_brought)
+    × (taken_all nothing_brought row ≢ [])
 
 -- nor the child beside its parent, nor the parent behind the change of cover
 abbrev pub NoRegionBeside : Type 0
 NoRegionBeside =
-    (after_all nothing_brought row ≢ record { regions = (at (codes "/a/b"), num 1) ∷ (at (codes "/a/c"), num 3) ∷ []; windows = [] })
+    (after_all nothing_brought row ≢ record {
+      regions =
+          (at (codes "/a/b"), num 1) ∷ (at (codes "/a/c"), num 3) ∷ [];
+      windows = [];
+    })
     × (after_all nothing_brought row ≢ parent_pushed)
 
 -- a window is pushed between two pushes below it, and its query ends
@@ -163,4 +184,14 @@ StaleOnce =
 abbrev pub StaleLeavesNothing : Type 0
 StaleLeavesNothing =
     after_all nothing_brought (Put (first_at 2 (codes "/a")) (at (codes "/a/x")) (num 1) ∷ [])
-    ≢ record { regions = []; windows = (first_at 2 (codes "/a"), record { children = object ((codes "x", num 1) ∷ []); is_whole = false }) ∷ [] }
+    ≢ record {
+      regions = [];
+      windows = (
+        first_at 2 (codes "/a"),
+        record {
+          children = object ((codes "x", num 1) ∷ []);
+          is_whole =
+              false;
+        },
+      ) ∷ [];
+    }

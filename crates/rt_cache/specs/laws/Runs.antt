@@ -1,5 +1,7 @@
--- What any pushes and changes of cover leave for a plain query, told by the calls alone: no word of regions.
-use Rattle.std.specs.Prelude.{◌≡◌, Bool, true, false, ◌&&◌, ◌||◌, if◌then◌else◌, List, Option, Some, None}
+-- What any pushes and changes of cover leave for a plain query, told by the calls alone: no word of
+-- regions.
+use Rattle.std.specs.Prelude.{◌≡◌, Bool, true, false, ◌&&◌, ◌||◌, if◌then◌else◌, List, Option, Some}
+use Rattle.std.specs.Prelude.{None}
 use Rattle.std.specs.List.{All, fold}
 use Rattle.rt_tree.specs.PathTree.{Path, PathTree, null, sub, put}
 use Rattle.rt_tree.specs.Assignments.{is_at_or_above}

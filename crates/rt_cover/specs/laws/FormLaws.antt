@@ -31,7 +31,8 @@ supply_filtered f q e =
     (λ h. let is : f ≡ form q = (query_eq_tells f (form q)).0 (or_no (query_eq f (form q)) h) in
     (query_eq_tells f q).1 (is ∙ form_filtered q (filtered_form q (sym (ap is_filtered is) ∙ e))))
     (λ h. let is : f ≡ q = (query_eq_tells f q).0 h in
-    or_left (query_eq f (form q)) ((query_eq_tells f (form q)).1 (is ∙ sym (form_filtered q (sym (ap is_filtered is) ∙ e)))))
+    or_left (query_eq f (form q)) ((query_eq_tells f (form q)).1 (is
+    ∙ sym (form_filtered q (sym (ap is_filtered is) ∙ e)))))
   where
     or_no : (b : Bool) → (b || false) ≡ true → b ≡ true
     or_no true h = refl
@@ -42,15 +43,20 @@ supply_filtered f q e =
     or_left false h = h
 
     filtered_form : (q : Query) → is_filtered (form q) ≡ true → is_filtered q ≡ true
-    filtered_form q h = elim (is_filtered q) as (λ b. is_filtered (cond b q (plain q.path)) ≡ true → b ≡ true) [ true ↦ λ _. refl | false ↦ λ x. x ] h
+    filtered_form q h = elim (is_filtered q) as (λ b. is_filtered (cond b q (plain q.path)) ≡ true
+        → b ≡ true) [ true ↦ λ _. refl | false ↦ λ x. x ] h
 
 -- an unfiltered one supplies what is at or under its path
-pub supply_unfiltered : (f q : Query) → is_filtered f ≡ false → does_supply f q ≡ is_at_or_above f.path q.path
+pub supply_unfiltered : (f q : Query) → is_filtered f ≡ false
+    → does_supply f q ≡ is_at_or_above f.path q.path
 supply_unfiltered f q e =
     ap (λ b. query_eq f (form q) || not b && is_at_or_above f.path q.path) e
     ∙ same_tests (query_eq f (form q) || is_at_or_above f.path q.path) (is_at_or_above f.path q.path)
-    (λ h. elim (query_eq f (form q)) as (λ b. query_eq f (form q) ≡ b → (b || is_at_or_above f.path q.path) ≡ true → is_at_or_above f.path q.path ≡ true) [
-      | true ↦ λ t _. subst (λ p. is_at_or_above p q.path ≡ true) (sym (ap (λ r. r.path) ((query_eq_tells f (form q)).0 t) ∙ path_of_form q)) (is_at_or_above-same q.path)
+    (λ h. elim (query_eq f (form q)) as (λ b. query_eq f (form q) ≡ b
+    → (b || is_at_or_above f.path q.path) ≡ true → is_at_or_above f.path q.path ≡ true) [
+      | true ↦ λ t _. subst (λ p. is_at_or_above p q.path ≡ true)
+          (sym (ap (λ r. r.path) ((query_eq_tells f (form q)).0 t) ∙ path_of_form q))
+          (is_at_or_above-same q.path)
       | false ↦ λ _ x. x
     ] refl h)
     (λ h. or_right (query_eq f (form q)) (is_at_or_above f.path q.path) h)
@@ -60,4 +66,5 @@ supply_unfiltered f q e =
     or_right false b h = h
 
     path_of_form : (q : Query) → (form q).path ≡ q.path
-    path_of_form q = elim (is_filtered q) as (λ b. (cond b q (plain q.path)).path ≡ q.path) [ true ↦ refl | false ↦ refl ]
+    path_of_form q = elim (is_filtered q) as (λ b. (cond b q (plain q.path)).path ≡ q.path)
+        [ true ↦ refl | false ↦ refl ]

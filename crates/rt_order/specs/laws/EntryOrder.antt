@@ -8,7 +8,8 @@ use Rattle.std.specs.FinMap.{IsAntisymmetric, int_cmp-IsAntisymmetric}
 use Rattle.rt_tree.specs.Leaf.{truth, number, text}
 use Rattle.rt_tree.specs.PathTree.{Key}
 use Rattle.rt_order.specs.KeyOrder.{bytes_cmp, key_cmp}
-use Rattle.rt_order.specs.laws.KeyOrder.{total_as, first_tied, second_tied, bytes_cmp_total, bytes_cmp-IsAntisymmetric}
+use Rattle.rt_order.specs.laws.KeyOrder.{total_as, first_tied, second_tied, bytes_cmp_total}
+use Rattle.rt_order.specs.laws.KeyOrder.{bytes_cmp-IsAntisymmetric}
 use Rattle.rt_order.specs.laws.KeyOrder.{key_cmp_total, key_cmp-IsAntisymmetric}
 use Rattle.rt_order.specs.Values.{SortValue, Null, Plain, Object, rank, value_cmp}
 use Rattle.rt_order.specs.Entries.{Entry, entry_cmp}
@@ -78,10 +79,12 @@ value_cmp-parts Object Object = refl
 
 pub value_cmp_total : IsTotalOrder value_cmp
 unfolding value_parts
-value_cmp_total = total_as value_cmp-parts (then_total (on_total rank nat_cmp_total) (then_total (on_total number_in int_cmp_total) (on_total text_in bytes_cmp_total)))
+value_cmp_total = total_as value_cmp-parts (then_total (on_total rank nat_cmp_total)
+    (then_total (on_total number_in int_cmp_total) (on_total text_in bytes_cmp_total)))
 
 pub entry_cmp_total : IsTotalOrder entry_cmp
-entry_cmp_total = then_total (on_total (λ (e : Entry). e.0) value_cmp_total) (on_total (λ (e : Entry). e.1) key_cmp_total)
+entry_cmp_total = then_total (on_total (λ (e : Entry). e.0) value_cmp_total)
+    (on_total (λ (e : Entry). e.1) key_cmp_total)
 
 -- only equal values tie
 pub value_cmp-IsAntisymmetric : IsAntisymmetric value_cmp
@@ -106,14 +109,16 @@ value_cmp-IsAntisymmetric (Plain (truth true)) Object e = cc
 value_cmp-IsAntisymmetric (Plain (number m)) Null e = cc
 value_cmp-IsAntisymmetric (Plain (number m)) (Plain (truth false)) e = cc
 value_cmp-IsAntisymmetric (Plain (number m)) (Plain (truth true)) e = cc
-value_cmp-IsAntisymmetric (Plain (number m)) (Plain (number n)) e = ap (λ x. Plain (number x)) (int_cmp-IsAntisymmetric m n e)
+value_cmp-IsAntisymmetric (Plain (number m)) (Plain (number n)) e =
+    ap (λ x. Plain (number x)) (int_cmp-IsAntisymmetric m n e)
 value_cmp-IsAntisymmetric (Plain (number m)) (Plain (text t)) e = cc
 value_cmp-IsAntisymmetric (Plain (number m)) Object e = cc
 value_cmp-IsAntisymmetric (Plain (text s)) Null e = cc
 value_cmp-IsAntisymmetric (Plain (text s)) (Plain (truth false)) e = cc
 value_cmp-IsAntisymmetric (Plain (text s)) (Plain (truth true)) e = cc
 value_cmp-IsAntisymmetric (Plain (text s)) (Plain (number n)) e = cc
-value_cmp-IsAntisymmetric (Plain (text s)) (Plain (text t)) e = ap (λ x. Plain (text x)) (bytes_cmp-IsAntisymmetric s t e)
+value_cmp-IsAntisymmetric (Plain (text s)) (Plain (text t)) e =
+    ap (λ x. Plain (text x)) (bytes_cmp-IsAntisymmetric s t e)
 value_cmp-IsAntisymmetric (Plain (text s)) Object e = cc
 value_cmp-IsAntisymmetric Object Null e = cc
 value_cmp-IsAntisymmetric Object (Plain (truth false)) e = cc

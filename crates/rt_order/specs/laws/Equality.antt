@@ -97,6 +97,7 @@ pub range_eq_tells : Tells range_eq
 range_eq_tells = tells
     (λ r s e i. record {
       lower = (option_eq_tells cut_eq_tells r.lower s.lower).0 (both_first _ _ e) i;
-      upper = (option_eq_tells cut_eq_tells r.upper s.upper).0 (both_second (option_eq cut_eq r.lower s.lower) _ e) i;
+      upper = (option_eq_tells cut_eq_tells r.upper s.upper).0
+          (both_second (option_eq cut_eq r.lower s.lower) _ e) i;
     })
     (λ r. both _ _ (own_option cut_eq_tells r.lower) (own_option cut_eq_tells r.upper))

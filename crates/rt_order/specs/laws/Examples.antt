@@ -1,5 +1,6 @@
 -- Outside examples, which the prover computes.
-use Rattle.std.specs.Prelude.{◌≡◌, Bool, true, false, ◌&&◌, List, [], ◌∷◌, map, pos, negsuc, Option, Some, None, codes}
+use Rattle.std.specs.Prelude.{◌≡◌, Bool, true, false, ◌&&◌, List, [], ◌∷◌, map, pos, negsuc, Option}
+use Rattle.std.specs.Prelude.{Some, None, codes}
 use Rattle.std.specs.declared.cmp.Ordering.{Ordering}
 use Rattle.std.specs.Ordering.{is_lt}
 use Rattle.std.specs.List.{filter}
@@ -26,14 +27,18 @@ rises cmp (a ∷ b ∷ rest) = is_lt (cmp a b) && rises cmp (b ∷ rest)
 
 abbrev pub IntegerKeys : Type 0
 IntegerKeys =
-    map integer_of (codes "-0" ∷ codes "00" ∷ codes "2147483647" ∷ codes "2147483648" ∷ codes "-2147483648" ∷ codes "-2147483649" ∷ [])
+    map integer_of (codes "-0" ∷ codes "00" ∷ codes "2147483647" ∷ codes "2147483648" ∷ codes
+    "-2147483648" ∷ codes "-2147483649" ∷ [])
     ≡ Some (pos 0) ∷ Some (pos 0) ∷ Some (pos 2147483647) ∷ None ∷ Some (negsuc 2147483647) ∷ None ∷ []
 
 abbrev pub OtherKeys : Type 0
-OtherKeys = map integer_of (codes "-" ∷ codes "+1" ∷ codes "--1" ∷ codes "1e2" ∷ codes " 1" ∷ []) ≡ None ∷ None ∷ None ∷ None ∷ None ∷ []
+OtherKeys = map integer_of (codes "-" ∷ codes "+1" ∷ codes "--1" ∷ codes "1e2" ∷ codes " 1" ∷ [])
+    ≡ None ∷ None ∷ None ∷ None ∷ None ∷ []
 
 abbrev pub KeysRise : Type 0
-KeysRise = rises key_cmp (codes "-5" ∷ codes "0" ∷ codes "-0" ∷ codes "00" ∷ codes "7" ∷ codes "2147483647" ∷ codes "2147483648" ∷ codes "a" ∷ []) ≡ true
+KeysRise = rises key_cmp
+    (codes "-5" ∷ codes "0" ∷ codes "-0" ∷ codes "00" ∷ codes "7" ∷ codes "2147483647" ∷ codes
+    "2147483648" ∷ codes "a" ∷ []) ≡ true
 
 -- ---- values
 
@@ -44,11 +49,14 @@ with_v t = object ((codes "v", t) ∷ [])
 -- the sort values by the child "v"
 abbrev pub ranks_by_v : List SortValue
 ranks_by_v = map (sort_value (Child (codes "v" ∷ []))) (
-    of_leaf (number (pos 1)) ∷ with_v (of_leaf (truth false)) ∷ with_v (of_leaf (truth true)) ∷ with_v (of_leaf (number (negsuc 2)))
-    ∷ with_v (of_leaf (number (pos 10))) ∷ with_v (of_leaf (text (codes "9"))) ∷ with_v (object ((codes "z", of_leaf (number (pos 1))) ∷ [])) ∷ [])
+    of_leaf (number (pos 1)) ∷ with_v (of_leaf (truth false)) ∷ with_v
+    (of_leaf (truth true)) ∷ with_v (of_leaf (number (negsuc 2)))
+    ∷ with_v (of_leaf (number (pos 10))) ∷ with_v (of_leaf (text (codes "9"))) ∷ with_v
+    (object ((codes "z", of_leaf (number (pos 1))) ∷ [])) ∷ [])
 
 abbrev pub ValuesByChild : Type 0
-ValuesByChild = ranks_by_v ≡ Null ∷ Plain (truth false) ∷ Plain (truth true) ∷ Plain (number (negsuc 2)) ∷ Plain (number (pos 10)) ∷ Plain (text (codes "9")) ∷ Object ∷ []
+ValuesByChild = ranks_by_v ≡ Null ∷ Plain (truth false) ∷ Plain (truth true) ∷ Plain
+    (number (negsuc 2)) ∷ Plain (number (pos 10)) ∷ Plain (text (codes "9")) ∷ Object ∷ []
 
 abbrev pub ValuesRise : Type 0
 ValuesRise = rises value_cmp ranks_by_v ≡ true
@@ -62,7 +70,8 @@ at_five place = Some (record { value = mark.Leaf (number (pos 5)); place = place
 -- which of the keys j, k, l, m of the number 5 a range has
 abbrev pub among_fives : Option Cut → Option Cut → List tree.Key
 among_fives lower upper =
-    filter (λ k. has (record { lower = lower; upper = upper }) (Plain (number (pos 5)), k)) (codes "j" ∷ codes "k" ∷ codes "l" ∷ codes "m" ∷ [])
+    filter (λ k. has (record { lower = lower; upper = upper }) (Plain (number (pos 5)), k))
+    (codes "j" ∷ codes "k" ∷ codes "l" ∷ codes "m" ∷ [])
 
 abbrev pub FromFive : Type 0
 FromFive = among_fives (at_five Min) None ≡ codes "j" ∷ codes "k" ∷ codes "l" ∷ codes "m" ∷ []

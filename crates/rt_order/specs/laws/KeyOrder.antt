@@ -10,8 +10,10 @@ use Rattle.rt_tree.specs.PathTree.{Key, path_cmp}
 use Rattle.rt_order.specs.KeyOrder.{bytes_cmp, key_cmp, key_cmp_by, integer_of}
 
 -- orders that answer alike are total alike
-pub total_as : {K : Type 0} {R S : K → K → Ordering} → ((x y : K) → R x y ≡ S x y) → IsTotalOrder S → IsTotalOrder R
-total_as {K} {R} {S} e total = let P : (K → K → Ordering) → Type 0 = λ Q. IsTotalOrder Q in subst P (λ i x y. sym (e x y) i) total
+pub total_as : {K : Type 0} {R S : K → K → Ordering} → ((x y : K) → R x y ≡ S x y) → IsTotalOrder S
+    → IsTotalOrder R
+total_as {K} {R} {S} e total = let P : (K → K → Ordering) → Type 0 = λ Q. IsTotalOrder Q in
+    subst P (λ i x y. sym (e x y) i) total
 
 -- of a tie in two steps, both are ties
 pub first_tied : (r s : Ordering) → ordering_then r s ≡ Equal → r ≡ Equal
@@ -54,10 +56,14 @@ size_of (Some n) k = length k
 size_of None k = 0
 
 key_parts : Key → Key → Ordering
-key_parts = then_cmp (on (λ k. kind_of (integer_of k)) nat_cmp) (then_cmp (on (λ k. number_of (integer_of k)) int_cmp) (then_cmp (on (λ k. size_of (integer_of k) k) nat_cmp) bytes_cmp))
+key_parts = then_cmp (on (λ k. kind_of (integer_of k)) nat_cmp)
+    (then_cmp (on (λ k. number_of (integer_of k)) int_cmp)
+    (then_cmp (on (λ k. size_of (integer_of k) k) nat_cmp) bytes_cmp))
 
 key_cmp_by-parts : (m n : Option ℤ) (a b : Key) → key_cmp_by m n a b
-    ≡ ordering_then (nat_cmp (kind_of m) (kind_of n)) (ordering_then (int_cmp (number_of m) (number_of n)) (ordering_then (nat_cmp (size_of m a) (size_of n b)) (bytes_cmp a b)))
+    ≡ ordering_then (nat_cmp (kind_of m) (kind_of n))
+    (ordering_then (int_cmp (number_of m) (number_of n))
+    (ordering_then (nat_cmp (size_of m a) (size_of n b)) (bytes_cmp a b)))
 unfolding kind_of number_of size_of
 key_cmp_by-parts (Some m) (Some n) a b = refl
 key_cmp_by-parts (Some m) None a b = refl
@@ -66,7 +72,9 @@ key_cmp_by-parts None None a b = refl
 
 key_parts_total : IsTotalOrder key_parts
 unfolding key_parts
-key_parts_total = then_total (on_total (λ k. kind_of (integer_of k)) nat_cmp_total) (then_total (on_total (λ k. number_of (integer_of k)) int_cmp_total) (then_total (on_total (λ k. size_of (integer_of k) k) nat_cmp_total) bytes_cmp_total))
+key_parts_total = then_total (on_total (λ k. kind_of (integer_of k)) nat_cmp_total)
+    (then_total (on_total (λ k. number_of (integer_of k)) int_cmp_total)
+    (then_total (on_total (λ k. size_of (integer_of k) k) nat_cmp_total) bytes_cmp_total))
 
 key_cmp-parts : (a b : Key) → key_cmp a b ≡ key_parts a b
 unfolding key_parts
@@ -85,4 +93,6 @@ key_cmp-IsAntisymmetric a b e =
     bytes_cmp-IsAntisymmetric a b
     (second_tied sizes (bytes_cmp a b)
     (second_tied numbers (ordering_then sizes (bytes_cmp a b))
-    (second_tied (nat_cmp (kind_of m) (kind_of n)) (ordering_then numbers (ordering_then sizes (bytes_cmp a b))) (sym (key_cmp-parts a b) ∙ e))))
+    (second_tied (nat_cmp (kind_of m) (kind_of n))
+    (ordering_then numbers (ordering_then sizes (bytes_cmp a b))) (sym (key_cmp-parts a b)
+    ∙ e))))

@@ -2,7 +2,8 @@
 use Rattle.std.specs.Prelude.{◌≡◌, ◌+◌, [], ◌∷◌, ◌++◌, Some, None, codes, replicate}
 use Rattle.rt_push.specs.Digits.{number}
 use Rattle.rt_push.specs.PushIds.{push_fault, push_id, used}
-use Rattle.rt_push.specs.declared.error.PushError.TheVariants.{Exhausted, MomentTooLarge, RandomOutOfRange}
+use Rattle.rt_push.specs.declared.error.PushError.TheVariants.{Exhausted, MomentTooLarge}
+use Rattle.rt_push.specs.declared.error.PushError.TheVariants.{RandomOutOfRange}
 
 -- the moment is written first, and the random part after it, as it was given
 abbrev pub IdsAsWritten : Type 0
@@ -24,4 +25,5 @@ FirstCauseCounts =
     let full = Some (7, number (replicate 12 63)) in
     (push_fault full 281474976710656 (64 ∷ []) ≡ Some MomentTooLarge)
     × (push_fault full 7 (replicate 11 0 ++ 64 ∷ []) ≡ Some RandomOutOfRange)
-    × (push_fault full 7 (replicate 12 0) ≡ Some Exhausted) × (push_fault full 8 (replicate 12 63) ≡ None)
+    × (push_fault full 7 (replicate 12 0) ≡ Some Exhausted)
+    × (push_fault full 8 (replicate 12 63) ≡ None)

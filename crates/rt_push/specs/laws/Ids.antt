@@ -17,7 +17,8 @@ abbrev pub stamps : Option Stamp → List Call → List Stamp
 stamps last [] = []
 stamps last (call ∷ calls) =
     let stamp = used last call.0 (number call.1) in
-    if is_some (push_fault last call.0 call.1) then stamps last calls else stamp ∷ stamps (Some stamp) calls
+    if is_some (push_fault last call.0 call.1) then stamps last calls else stamp ∷ stamps
+    (Some stamp) calls
 
 -- the ids that calls give, in order
 abbrev pub ids : Option Stamp → List Call → List (List ℕ)

@@ -55,7 +55,10 @@ mixed = object (
       codes "b",
       with_v (of_leaf (text (codes "9"))),
     )
-    ∷ (codes "c", with_v (of_leaf (number (pos 10)))) ∷ (codes "d", with_v (of_leaf (number (negsuc 2))))
+    ∷ (codes "c", with_v (of_leaf (number (pos 10)))) ∷ (
+      codes "d",
+      with_v (of_leaf (number (negsuc 2))),
+    )
     ∷ (codes "e", with_v (of_leaf (truth true))) ∷ (
       codes "f",
       with_v (of_leaf (truth false)),

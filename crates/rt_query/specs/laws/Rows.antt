@@ -165,13 +165,19 @@ below x (e ∷ es) h = (less_of _ (first_of _ _ h), below x es (second_of (is_lt
 rising : (es : List (Entry × PathTree)) → T (is_sorted entry_cmp es) → Rising es
 unfolding Rising
 rising [] h = tt
-rising (e ∷ es) h = (below e.0 es (first_of _ _ h), rising es (second_of (below_all entry_cmp e.0 es) _ h))
+rising (e ∷ es) h = (
+  below e.0 es (first_of _ _ h),
+  rising es (second_of (below_all entry_cmp e.0 es) _ h),
+)
 
 rising-take : (n : ℕ) (es : List (Entry × PathTree)) → Rising es → Rising (take n es)
 unfolding Rising
 rising-take zero es h = tt
 rising-take (suc n) [] h = tt
-rising-take (suc n) (e ∷ es) h = (all-take (λ d. entry_cmp e.0 d.0 ≡ Less) n es h.0, rising-take n es h.1)
+rising-take (suc n) (e ∷ es) h = (
+  all-take (λ d. entry_cmp e.0 d.0 ≡ Less) n es h.0,
+  rising-take n es h.1,
+)
 
 rising-drop : (n : ℕ) (es : List (Entry × PathTree)) → Rising es → Rising (drop n es)
 unfolding Rising

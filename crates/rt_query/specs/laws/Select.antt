@@ -114,7 +114,8 @@ unfolding has_key
 has_key-above k [] h = refl
 has_key-above k (c ∷ cs) h = λ i. is_eq (h.0 i) || has_key-above k cs h.1 i
 
-Apart-sorted : (cs : List (Key × PathTree)) → IsStrictlySortedBy key_cmp (keys_of cs) → Apart first_of cs
+Apart-sorted : (cs : List (Key × PathTree)) → IsStrictlySortedBy key_cmp (keys_of cs)
+    → Apart first_of cs
 unfolding Apart IsStrictlySortedBy
 Apart-sorted [] h = tt
 Apart-sorted (c ∷ cs) h = (has_key-above c.0 cs h.0, Apart-sorted cs h.1)
@@ -244,7 +245,8 @@ rows_of-unfiltered q cs h =
     let upper = none_there q.range.upper
     (or_false_right (is_some q.range.lower) _
     (or_false_left (is_some q.range.lower || is_some q.range.upper) _ h)) in
-    let limit = none_there q.limit (or_false_right (is_some q.range.lower || is_some q.range.upper) _ h) in
+    let limit = none_there q.limit (or_false_right (is_some q.range.lower
+    || is_some q.range.upper) _ h) in
     (λ i. map row_of (limited (limit i) (filter-all (sorted_by q.index cs) q.range lower upper i)))
 
 -- entries with a value each, as children

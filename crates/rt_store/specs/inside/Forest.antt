@@ -1,5 +1,6 @@
 -- The linked nodes of a row and below it, as they stand in a slab.
-use Rattle.std.specs.Prelude.{◌≡◌, ◌≤◌, ℕ, suc, ◌+◌, [], ◌∷◌, Option, Some, None, nat_eq, zero, Bool, true, false}
+use Rattle.std.specs.Prelude.{◌≡◌, ◌≤◌, ℕ, suc, ◌+◌, [], ◌∷◌, Option, Some, None, nat_eq, zero}
+use Rattle.std.specs.Prelude.{Bool, true, false}
 use Rattle.std.specs.Option.{option_map_or}
 use Rattle.std.specs.declared.cmp.Ordering.TheVariants.{Less}
 use Rattle.slab.specs.Slab.{Slab, get, slab_len}
@@ -9,7 +10,8 @@ use Rattle.rt_order.specs.KeyOrder.{key_cmp}
 use Rattle.rt_store.specs.Rows.{Row}
 use Rattle.rt_store.specs.declared.slot.Slot.{Slot}
 
--- a row of nodes: the first one, by its number, with its key and its leaf, the row of its children, and the row behind it
+-- a row of nodes: the first one, by its number, with its key and its leaf, the row of its children,
+-- and the row behind it
 pub data Forest : Type 0 where
   bare : Forest
   node : ℕ → Key → Option LeafValue → Forest → Forest → Forest
@@ -58,20 +60,31 @@ IsFull None (node n key leaf below behind) = Unit {0}
 -- keys strictly rise in each row, and nothing is null
 abbrev pub Sound : Forest → Type 0
 Sound bare = Unit {0}
-Sound (node n key leaf below behind) = AllAfter key behind × IsFull leaf below × Sound below × Sound behind
+Sound (node n key leaf below behind) = AllAfter key behind × IsFull leaf below × Sound below
+    × Sound behind
 
 -- the slab has these nodes, under this parent and behind this sibling, and their links agree both ways
 abbrev pub Links : Slab Slot → Option ℕ → Option ℕ → Forest → Type 0
 Links s parent previous bare = Unit {0}
 Links s parent previous (node n key leaf below behind) =
-    (get s n ≡ Some (record { key = key; parent = parent; first_child = first below; previous = previous; next = first behind; leaf = leaf }))
+    (get s n ≡ Some (record {
+      key = key;
+      parent = parent;
+      first_child = first below;
+      previous =
+          previous;
+      next = first behind;
+      leaf = leaf;
+    }))
     × Links s (Some n) None below × Links s parent (Some n) behind
 
 -- what is reached from a node, by a bound on the steps
 abbrev pub reached : ℕ → Slab Slot → Option ℕ → Forest
 reached zero s o = bare
 reached (suc m) s None = bare
-reached (suc m) s (Some n) = option_map_or (λ slot. node n slot.key slot.leaf (reached m s slot.first_child) (reached m s slot.next)) (get s n) bare
+reached (suc m) s (Some n) =
+    option_map_or (λ slot. node n slot.key slot.leaf (reached m s slot.first_child)
+    (reached m s slot.next)) (get s n) bare
 
 -- what is reached from a node
 abbrev pub row_at : Slab Slot → Option ℕ → Forest

@@ -25,7 +25,8 @@ is_child p (Some slot) = same_link p slot.parent
 
 -- a child more stands in the row of this parent
 abbrev pub Added : Ranks → Ranks → Option ℕ → ℕ → Type 0
-Added old new parent child = (p : Option ℕ) (m : ℕ) → often m (listed new p) ≡ often m (listed old p) + one_if (same_link p parent && nat_eq m child)
+Added old new parent child = (p : Option ℕ) (m : ℕ) → often m (listed new p)
+    ≡ often m (listed old p) + one_if (same_link p parent && nat_eq m child)
 
 -- each row has the same children
 abbrev pub IsAlike : Ranks → Ranks → Type 0

@@ -16,13 +16,18 @@ rows_from s n [] = []
 rows_from s n (o ∷ os) = entries (row_at s (Some n)) ∷ rows_from s (n + 1) os
 
 abbrev pub stored : Inside → Stored
-stored a = record { tree = tree_with a.leaf (entries (row_at a.nodes a.first)); rows = rows_from a.nodes 0 a.nodes.slots }
+stored a = record {
+  tree = tree_with a.leaf (entries (row_at a.nodes a.first));
+  rows =
+      rows_from a.nodes 0 a.nodes.slots;
+}
 
 -- a leaf has no children
 abbrev pub IsTop : Option LeafValue → Option ℕ → Type 0
 IsTop leaf o = is_some leaf ≡ true → o ≡ None
 
--- the nodes are a row and what stands below it, each node is reached once, and the tree is one that the database may hold
+-- the nodes are a row and what stands below it, each node is reached once, and the tree is one that
+-- the database may hold
 pub record IsStore (a : Inside) : Type 0 where
   pub row : IsRow a.nodes a.first None None (row_at a.nodes a.first)
   pub count : size (row_at a.nodes a.first) ≡ slab_len a.nodes

@@ -16,7 +16,8 @@ IsPlace s o = (parent : Option ℕ) × (previous : Option ℕ) × IsRow s o pare
 -- where a key stands in a row, behind this sibling, or between which two it would
 abbrev pub spot_in : Key → Option ℕ → Forest → Spot
 spot_in k previous bare = Gap previous None
-spot_in k previous (node n key leaf below behind) = by_order (key_cmp k key) (Gap previous (Some n)) (Here n) (spot_in k (Some n) behind)
+spot_in k previous (node n key leaf below behind) = by_order (key_cmp k key) (Gap previous (Some n))
+    (Here n) (spot_in k (Some n) behind)
 
 -- the node of a key in a row
 abbrev pub index_in : Key → Forest → Option ℕ
@@ -26,5 +27,7 @@ index_in k (node n key leaf below behind) = by_order (key_cmp k key) None (Some 
 -- the node at a path below a row
 abbrev pub place_in : Key → Path → Forest → Option ℕ
 place_in k p bare = None
-place_in k [] (node n key leaf below behind) = by_order (key_cmp k key) None (Some n) (place_in k [] behind)
-place_in k (j ∷ p) (node n key leaf below behind) = by_order (key_cmp k key) None (place_in j p below) (place_in k (j ∷ p) behind)
+place_in k [] (node n key leaf below behind) =
+    by_order (key_cmp k key) None (Some n) (place_in k [] behind)
+place_in k (j ∷ p) (node n key leaf below behind) =
+    by_order (key_cmp k key) None (place_in j p below) (place_in k (j ∷ p) behind)

@@ -63,7 +63,8 @@ apart_at x (f ∷ es) h q l e =
     ] refl e
 
 not_under : (p q : Path) → T (are_apart p (p ++ q)) → ⊥
-not_under p q h = subst (λ o. T (not (is_some o) && not (is_some (strip (p ++ q) p)))) (strip-append p q) h
+not_under p q h = subst (λ o. T (not (is_some o) && not (is_some (strip (p ++ q) p))))
+    (strip-append p q) h
 
 not_above : (p q : Path) → T (are_apart (p ++ q) p) → ⊥
 not_above p q h =
@@ -200,7 +201,8 @@ pub not_empty_of_leaf : (m : Leaves) (q : Path) (l : LeafValue) → get m q ≡ 
 not_empty_of_leaf [] q l e = cc
 not_empty_of_leaf (x ∷ m) q l e = refl
 
-sorted-graft : (p : Path) (es m : Leaves) → T (is_sorted path_cmp m) → T (is_sorted path_cmp (graft p es m))
+sorted-graft : (p : Path) (es m : Leaves) → T (is_sorted path_cmp m)
+    → T (is_sorted path_cmp (graft p es m))
 sorted-graft p [] m h = h
 sorted-graft p (e ∷ es) m h =
     is_sorted-put path_cmp paths_total (p ++ e.0) e.1 (graft p es m) (sorted-graft p es m h)
@@ -221,7 +223,8 @@ get-graft p (e ∷ es) m q =
     ≡ option_map_or (λ r. option_or (cond (path_eq r e.0) (Some e.1) (find path_cmp r es))
     (get m q)) o (get m q)) [
       | None ↦ refl
-      | Some r ↦ ap (λ b. cond b (Some e.1) (option_or (find path_cmp r es) (get m q))) (path_eq-symm e.0 r)
+      | Some r ↦ ap (λ b. cond b (Some e.1) (option_or (find path_cmp r es) (get m q)))
+          (path_eq-symm e.0 r)
           ∙ elim (path_eq r e.0) as (λ b. cond b (Some e.1)
           (option_or (find path_cmp r es) (get m q))
           ≡ option_or (cond b (Some e.1) (find path_cmp r es)) (get m q))
@@ -229,7 +232,8 @@ get-graft p (e ∷ es) m q =
     ]
 
 pub get-put_leaves : (m : Leaves) (p : Path) (u : Leaves) (n : Bool) (q : Path)
-    → get (put_leaves m p u n) q ≡ after_put (strip p q) (get u) (not n && is_some (strip q p)) (get m q)
+    → get (put_leaves m p u n) q ≡ after_put (strip p q) (get u) (not n && is_some (strip q p))
+    (get m q)
 get-put_leaves m p u n q =
     get-graft p u _ q
     ∙ ap (λ l. option_map_or (λ r. option_or (find path_cmp r u) l) (strip p q) l)

@@ -14,7 +14,8 @@ use Rattle.rt_tree.specs.laws.PathTree.{after_put, object, child_of, leaf_at-obj
 use Rattle.rt_tree.specs.laws.PathTree.{leaf_at-object, levels, levels_le, length_lt_levels}
 pub use Rattle.rt_tree.specs.Trees.{MayStandAt, IsAllowed}
 
-all_keys : (p q : Path) → AllByRecursion IsKey p → AllByRecursion IsKey q → AllByRecursion IsKey (p ++ q)
+all_keys : (p q : Path) → AllByRecursion IsKey p → AllByRecursion IsKey q
+    → AllByRecursion IsKey (p ++ q)
 all_keys [] q h g = g
 all_keys (k ∷ p) q h g = (h.0, all_keys p q h.1 g)
 
@@ -47,7 +48,11 @@ pub allowed-of_leaf : (l : LeafValue) → IsInRange l → IsAllowed (of_leaf l)
 allowed-of_leaf l h q n e = at q (sym (leaf_at-of_leaf l q) ∙ e)
   where
     at : (q : Path) → cond (path_eq q []) (Some l) None ≡ Some n → IsPath q × IsInRange n
-    at [] e = (record { short = omega arith; keys = tt }, subst IsInRange (let same : l ≡ n = cc in same) h)
+    at [] e = (
+      record { short = omega arith; keys = tt },
+      subst IsInRange (let same : l ≡ n = cc in
+          same) h,
+    )
     at (k ∷ q) e = cc
 
 -- a tree that may stand at p is put there

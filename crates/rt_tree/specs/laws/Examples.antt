@@ -33,7 +33,8 @@ FirstFaultCounts =
     let deep = path_text (replicate 32 (codes "k")) in
     (path_fault deep ≡ None) × (path_fault (deep ++ codes "//") ≡ None)
     × (path_fault (deep ++ codes "/k") ≡ Some TooDeep)
-    × (path_fault (deep ++ codes "/a.b") ≡ Some TooDeep) × (path_fault (codes "/a.b" ++ deep) ≡ Some BadKey)
+    × (path_fault (deep ++ codes "/a.b") ≡ Some TooDeep)
+    × (path_fault (codes "/a.b" ++ deep) ≡ Some BadKey)
 
 -- a path is a prefix of itself and of what lies under it
 abbrev pub PrefixesAreAtOrAbove : Type 0

@@ -1,5 +1,6 @@
 -- What some texts are read as, what is refused, and what is written, as the prover computes it.
-use Rattle.std.specs.Prelude.{◌≡◌, List, ℕ, zero, suc, [], Option, Some, None, codes, replicate, option_map}
+use Rattle.std.specs.Prelude.{◌≡◌, List, ℕ, zero, suc, [], Option, Some, None, codes, replicate}
+use Rattle.std.specs.Prelude.{option_map}
 use Rattle.serde_json.specs.Data.{Data, no_items, item, no_members, member}
 use Rattle.serde_json.specs.Data as json
 use Rattle.serde_json.specs.Read.{read}

@@ -54,14 +54,16 @@ unfolding is_null null
 null_of_is_null t e = same_leaves t null (no_leaf t.leaves e)
 
 -- a tree with a leaf is not null
-pub not_null_of_leaf : (t : PathTree) (q : Path) (l : LeafValue) → leaf_at t q ≡ Some l → is_null t ≡ false
+pub not_null_of_leaf : (t : PathTree) (q : Path) (l : LeafValue) → leaf_at t q ≡ Some l
+    → is_null t ≡ false
 not_null_of_leaf t q l e =
     elim (is_null t) as (λ b. is_null t ≡ b → b ≡ false) [
       | true ↦ λ h. cc (ap (λ u. leaf_at u q) (null_of_is_null t h), leaf_at-null q)
       | false ↦ λ h. refl
     ] refl
 
-pub leaf_at-of_leaf : (l : LeafValue) (q : Path) → leaf_at (of_leaf l) q ≡ cond (path_eq q []) (Some l) None
+pub leaf_at-of_leaf : (l : LeafValue) (q : Path) → leaf_at (of_leaf l) q
+    ≡ cond (path_eq q []) (Some l) None
 unfolding leaf_at of_leaf
 leaf_at-of_leaf l q = refl
 
@@ -210,7 +212,8 @@ child_levels es k t is full =
     let at : (q : Path) → leaf_at (object es) (k ∷ q) ≡ leaf_at t q = λ q. leaf_at-object es k q
     ∙ ap (option_and_then (λ u. leaf_at u q)) is in
     let less : levels t ≤ levels (object es) - 1 = levels_le t (levels (object es) - 1) (λ q l e.
-    let below : suc (length q) < levels (object es) = length_lt_levels (object es) (k ∷ q) l (at q ∙ e) in
+    let below : suc (length q) < levels (object es) = length_lt_levels (object es) (k ∷ q) l (at q
+    ∙ e) in
     omega arith) in
     let some : levels (object es) ≡ 0
     → ⊥ = λ z. cc (

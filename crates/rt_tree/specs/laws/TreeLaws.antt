@@ -86,7 +86,8 @@ PrefixTells = (p q r : Path) → (strip p q ≡ Some r) ↔ (q ≡ p ++ r)
 
 -- `levels` is above the length of each path to a leaf, and the least such number
 abbrev pub LevelsAreLeast : Type 0
-LevelsAreLeast = (t : PathTree) → ((q : Path) (l : LeafValue) → leaf_at t q ≡ Some l → length q < levels t)
+LevelsAreLeast = (t : PathTree) → ((q : Path) (l : LeafValue) → leaf_at t q ≡ Some l
+    → length q < levels t)
     × ((n : ℕ) → ((q : Path) (l : LeafValue) → leaf_at t q ≡ Some l → length q < n) → levels t ≤ n)
 
 -- ---- what the database may hold

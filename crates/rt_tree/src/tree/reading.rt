@@ -46,10 +46,13 @@ impl Tree {
 
     /// The tree that a JSON value stands for.
     ///
+    /// # Errors
+    ///
     /// The values are looked at depth first, elements in order, members by the bytes of their
     /// names, and the first fault is answered. At each value these are looked at in order: its
     /// number (`TooManyNodes` from the 65,537th on), the number of keys above it (`TooDeep` from 33
     /// on), its name (`KeyTooLong`, `BadKey`), and the value itself (`NotWhole`, `TextTooLong`).
+    /// `NoMemory` where memory lacks.
     pub fn from_value(alloc: Global, value: &Value) -> Result<Tree, TreeError>
         ensures ok { IfOk result (λ tree. tree ≡ tree_of_data (view value.now)) }
         ensures first { IfSome (data_fault (view value.now)) (λ e. result ≡ Err e) }

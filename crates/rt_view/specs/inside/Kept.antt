@@ -1,5 +1,6 @@
 -- What a view keeps, and how a child is put and taken out.
-use Rattle.std.specs.Prelude.{◌≡◌, Bool, false, not, ◌&&◌, if◌then◌else◌, List, [], ◌∷◌, ◌++◌, map, Option, Some, None, is_some}
+use Rattle.std.specs.Prelude.{◌≡◌, Bool, false, not, ◌&&◌, if◌then◌else◌, List, [], ◌∷◌, ◌++◌, map}
+use Rattle.std.specs.Prelude.{Option, Some, None, is_some}
 use Rattle.std.specs.List.{filter, list_any}
 use Rattle.std.specs.FinMap as map_of
 use Rattle.rt_tree.specs.PathTree.{Key, PathTree, key_eq, is_null, leaf_of, child_of}
@@ -25,7 +26,8 @@ in_order q cs = filter (λ e. has q.range e.0) (sorted_by q.index cs)
 -- the window of a tree: its children in the range, cut by the limit
 pub record IsWindowOf (query : Query) (known : PathTree) (window : Window) : Type 0 where
   pub limit : window.limit ≡ query.limit
-  pub cut : IsWindow query.limit window.shown.entries window.rest.entries (in_order query (children_of known))
+  pub cut : IsWindow query.limit window.shown.entries window.rest.entries
+      (in_order query (children_of known))
 
 -- what is kept: the window of the known tree, and what is shown as a tree
 pub record IsKept (query : Query) (known : PathTree) (window : Window) (shown : PathTree) : Type 0 where
@@ -48,7 +50,8 @@ shown_by index t = record { leaf = leaf_of t; rows = map row_of (rows_in_tree in
 
 -- a child is put in its place, where it is in the range
 abbrev pub put_in : Query → Key × PathTree → Entries → Entries
-put_in q c es = if has q.range (entry q.index c) then map_of.put entry_cmp (entry q.index c) c.1 es else es
+put_in q c es = if has q.range (entry q.index c) then map_of.put entry_cmp
+    (entry q.index c) c.1 es else es
 
 -- the children are put in their places, the last one first
 abbrev pub placed : Query → Entries → List (Key × PathTree) → Entries
@@ -62,7 +65,8 @@ brought_in q k t es = if is_null t then es else put_in q (k, t) es
 -- the child that stood at a key is taken out
 abbrev pub taken_out : Query → Key → Option PathTree → Entries → Entries
 taken_out q k None es = es
-taken_out q k (Some t) es = if has q.range (entry q.index (k, t)) then without (entry q.index (k, t)) es else es
+taken_out q k (Some t) es = if has q.range (entry q.index (k, t)) then without
+    (entry q.index (k, t)) es else es
 
 -- ---- the keys of children that may be shown otherwise
 
@@ -71,7 +75,8 @@ is_noted noted k = list_any (λ j. key_eq j k) noted
 
 -- more keys are noted, and under those that are not the same is shown
 abbrev pub Notes : List Key → List Key → Entries → Entries → Type 0
-Notes old new before after = (k : Key) → is_noted new k ≡ false → (is_noted old k ≡ false) × (value_at after k ≡ value_at before k)
+Notes old new before after = (k : Key) → is_noted new k ≡ false → (is_noted old k ≡ false)
+    × (value_at after k ≡ value_at before k)
 
 -- the notes between a tree that was shown and what a window shows
 abbrev pub NotesAll : Index → List Key → PathTree → Window → Type 0
@@ -88,7 +93,8 @@ gone_from noted new old = filter (λ e. is_noted noted e.0.1 && not (is_some (va
 -- the same, beside one key that is noted already
 abbrev pub NotesBeside : Key → List Key → List Key → Entries → Entries → Type 0
 NotesBeside own old new before after =
-    (k : Key) → is_noted new k ≡ false → (is_noted old k ≡ false) × (key_eq own k ≡ false → value_at after k ≡ value_at before k)
+    (k : Key) → is_noted new k ≡ false → (is_noted old k ≡ false)
+    × (key_eq own k ≡ false → value_at after k ≡ value_at before k)
 
 -- the noted keys, and one more, if there is one
 abbrev pub noted_too : Option Key → List Key → List Key
@@ -101,23 +107,28 @@ gone_at new old = if is_some new then None else old
 
 -- under one key another child stands, or none, and under the others those before
 abbrev pub SetsChild : Key → Option PathTree → List (Key × PathTree) → List (Key × PathTree) → Type 0
-SetsChild key child before after = (k : Key) → child_of after k ≡ if key_eq key k then child else child_of before k
+SetsChild key child before after = (k : Key)
+    → child_of after k ≡ if key_eq key k then child else child_of before k
 
 -- under each noted key the children after are what is shown there, and under another one those before
 abbrev pub SetsNoted : List Key → Entries → List (Key × PathTree) → List (Key × PathTree) → Type 0
-SetsNoted noted shown before after = (k : Key) → child_of after k ≡ if is_noted noted k then value_at shown k else child_of before k
+SetsNoted noted shown before after = (k : Key)
+    → child_of after k ≡ if is_noted noted k then value_at shown k else child_of before k
 
 -- ---- what is told of some entries
 
 -- the changes of the rows, from a tree that was shown to what a window shows
 abbrev pub changes_to : Index → PathTree → Window → List Change
-changes_to index old window = row_changes index (map row_of (rows_in_tree index old)) (map row_of window.shown.entries)
+changes_to index old window = row_changes index (map row_of (rows_in_tree index old))
+    (map row_of window.shown.entries)
 
 -- a child that is shown no more
 abbrev pub removed_of : Entry × PathTree → Change
 removed_of e = Removed e.0.1 e.1
 
--- the changes of one kind of these entries, which are among those that are shown, where a tree was shown before
+-- the changes of one kind of these entries, which are among those that are shown, where a tree was
+-- shown before
 abbrev pub given_in : Kind → Index → PathTree → Entries → Entries → List Change
 given_in kind index old shown es =
-    map (λ e. change_of kind e.0.1 e.1 (before e.0 shown)) (filter (λ e. is_given kind index (child_of (children_of old) e.0.1) e.1) es)
+    map (λ e. change_of kind e.0.1 e.1 (before e.0 shown))
+    (filter (λ e. is_given kind index (child_of (children_of old) e.0.1) e.1) es)

@@ -36,16 +36,20 @@ told_by q t cs = changes q.index None (select q t) ++ told_all (first_view q t) 
 
 -- all that a run tells, replayed from nothing, gives the rows that are shown now
 abbrev pub ReplayGivesShown : Type 0
-ReplayGivesShown = (q : Query) (t : PathTree) (cs : List Call) → replay (told_by q t cs) [] ≡ by_keys ((shown_of (after_all (first_view q t) cs)).rows)
+ReplayGivesShown = (q : Query) (t : PathTree) (cs : List Call) → replay (told_by q t cs) []
+    ≡ by_keys ((shown_of (after_all (first_view q t) cs)).rows)
 
 -- it turns no view into the one that is shown now: its last change carries that as a tree
 abbrev pub RunTurns : Type 0
-RunTurns = (q : Query) (t : PathTree) (cs : List Call) → Turns None (told_by q t cs) (Some (shown_of (after_all (first_view q t) cs)))
+RunTurns = (q : Query) (t : PathTree) (cs : List Call)
+    → Turns None (told_by q t cs) (Some (shown_of (after_all (first_view q t) cs)))
 
 -- each call is one turn, the first included
 abbrev pub TurnsCountCalls : Type 0
-TurnsCountCalls = (q : Query) (t : PathTree) (cs : List Call) → (after_all (first_view q t) cs).turns ≡ (1 + length cs) % 2 ^ 64
+TurnsCountCalls = (q : Query) (t : PathTree) (cs : List Call)
+    → (after_all (first_view q t) cs).turns ≡ (1 + length cs) % 2 ^ 64
 
 -- after a touch the named children were read, whatever came before
 abbrev pub TouchReadsNamed : Type 0
-TouchReadsNamed = (v : View) (cs : List Call) (named : List (Key × PathTree)) → (after_all v (cs ++ Touch named ∷ [])).reads ≡ length named
+TouchReadsNamed = (v : View) (cs : List Call) (named : List (Key × PathTree))
+    → (after_all v (cs ++ Touch named ∷ [])).reads ≡ length named

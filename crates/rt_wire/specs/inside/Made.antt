@@ -41,10 +41,22 @@ Counts (Some (Last n)) = 1 ≤ n
 
 -- the draft with these
 abbrev pub with_lower : Option Cut → Draft → Draft
-with_lower cut d = record { path = d.path; index = d.index; range = record { lower = cut; upper = d.range.upper }; limit = d.limit }
+with_lower cut d = record {
+  path = d.path;
+  index = d.index;
+  range =
+      record { lower = cut; upper = d.range.upper };
+  limit = d.limit;
+}
 
 abbrev pub with_upper : Option Cut → Draft → Draft
-with_upper cut d = record { path = d.path; index = d.index; range = record { lower = d.range.lower; upper = cut }; limit = d.limit }
+with_upper cut d = record {
+  path = d.path;
+  index = d.index;
+  range =
+      record { lower = d.range.lower; upper = cut };
+  limit = d.limit;
+}
 
 abbrev pub with_limit : Option Limit → Draft → Draft
 with_limit limit d = record { path = d.path; index = d.index; range = d.range; limit = limit }

@@ -1,7 +1,8 @@
 -- What holds of each message of the server, since the types of its parts keep it.
 use Rattle.std.specs.List.{AllByRecursion}
 use Rattle.rt_wire.specs.declared.server.ServerMessage.{ServerMessage}
-use Rattle.rt_wire.specs.declared.server.ServerMessage.TheVariants.{Data as DataMessage, DataMerge, Accepted, Refused, Revoked}
+use Rattle.rt_wire.specs.declared.server.ServerMessage.TheVariants.{Data as DataMessage, DataMerge}
+use Rattle.rt_wire.specs.declared.server.ServerMessage.TheVariants.{Accepted, Refused, Revoked}
 use Rattle.rt_wire.specs.inside.Standing.{IsStandingPath, IsStandingTree, IsStanding}
 
 abbrev pub IsStandingMessage : ServerMessage → Type 0

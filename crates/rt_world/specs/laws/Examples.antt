@@ -173,7 +173,10 @@ DeepWriteUnknownChild =
     ∷ answered None (told 1 (batch 1 (Added (codes "p") (num 1) None
     ∷ Value (object ((codes "p", num 1) ∷ [])) ∷ [])) ∷ [])
     ∷ answered (Some 1) []
-    ∷ answered (Some 2) (told 1 (batch 1 (Added (codes "q") (object ((codes "m", num 1) ∷ [])) (Some (codes "p")) ∷ Value (object ((codes "p", num 1) ∷ (codes "q", object ((codes "m", num 1) ∷ [])) ∷ [])) ∷ [])) ∷ [])
+    ∷ answered (Some 2) (told 1
+    (batch 1 (Added (codes "q") (object ((codes "m", num 1) ∷ [])) (Some (codes "p")) ∷ Value
+    (object ((codes "p", num 1) ∷ (codes "q", object ((codes "m", num 1) ∷ [])) ∷ [])) ∷ [])) ∷
+    [])
     ∷ answered None []
     ∷ answered None (told 1 (Settled 1 None) ∷ [])
     ∷ answered None (told 1 (Settled 2 None) ∷ [])
@@ -220,10 +223,16 @@ MovedInPlace =
     ∷ answered (Some 1) []
     ∷ answered None (told 1 (batch 1 (Added (codes "p") (object ((codes "v", num 1) ∷ [])) None
     ∷ Added (codes "q") (object ((codes "v", num 5) ∷ [])) (Some (codes "p"))
-    ∷ Value (object ((codes "p", object ((codes "v", num 1) ∷ [])) ∷ (codes "q", object ((codes "v", num 5) ∷ [])) ∷ [])) ∷ [])) ∷ [])
+    ∷ Value (object ((codes "p", object ((codes "v", num 1) ∷ [])) ∷ (
+      codes "q",
+      object ((codes "v", num 5) ∷ []),
+    ) ∷ [])) ∷ [])) ∷ [])
     ∷ answered None (told 1 (batch 1 (Moved (codes "p") (object ((codes "v", num 3) ∷ [])) None
     ∷ Changed (codes "p") (object ((codes "v", num 3) ∷ [])) None
-    ∷ Value (object ((codes "p", object ((codes "v", num 3) ∷ [])) ∷ (codes "q", object ((codes "v", num 5) ∷ [])) ∷ [])) ∷ [])) ∷ [])
+    ∷ Value (object ((codes "p", object ((codes "v", num 3) ∷ [])) ∷ (
+      codes "q",
+      object ((codes "v", num 5) ∷ []),
+    ) ∷ [])) ∷ [])) ∷ [])
     ∷ []
 
 -- changes by value
@@ -341,7 +350,8 @@ RootListen =
     ∷ Added (codes "b") (num 1) (Some (codes "a"))
     ∷ Value (object ((codes "a", yes_leaf) ∷ (codes "b", num 1) ∷ [])) ∷ [])) ∷ [])
     ∷ answered (Some 1) (told 1 (batch 1 (Added (codes "c") (txt (codes "x")) (Some (codes "b"))
-    ∷ Value (object ((codes "a", yes_leaf) ∷ (codes "b", num 1) ∷ (codes "c", txt (codes "x")) ∷ [])) ∷ [])) ∷ [])
+    ∷ Value (object ((codes "a", yes_leaf) ∷ (codes "b", num 1) ∷ (codes "c", txt (codes "x")) ∷
+    [])) ∷ [])) ∷ [])
     ∷ []
 
 -- writes under a plain listen, and a whole window when it goes
@@ -362,7 +372,13 @@ WholeWindow =
     ∷ Value (object ((codes "p", num 1) ∷ [])) ∷ []))
     ∷ told 1 (batch 2 (Added (codes "p") (num 1) None ∷ Value (object ((codes "p", num 1) ∷ []))
     ∷ [])) ∷ [])
-    ∷ answered (Some 1) (told 1 (batch 1 (Added (codes "q") (object ((codes "d", num 5) ∷ [])) (Some (codes "p")) ∷ Value (object ((codes "p", num 1) ∷ (codes "q", object ((codes "d", num 5) ∷ [])) ∷ [])) ∷ [])) ∷ told 1 (batch 2 (Added (codes "q") (object ((codes "d", num 5) ∷ [])) (Some (codes "p")) ∷ Value (object ((codes "p", num 1) ∷ (codes "q", object ((codes "d", num 5) ∷ [])) ∷ [])) ∷ [])) ∷ [])
+    ∷ answered (Some 1) (told 1
+    (batch 1 (Added (codes "q") (object ((codes "d", num 5) ∷ [])) (Some (codes "p")) ∷ Value
+    (object ((codes "p", num 1) ∷ (codes "q", object ((codes "d", num 5) ∷ [])) ∷ [])) ∷ [])) ∷
+    told 1 (batch 2 (Added (codes "q") (object ((codes "d", num 5) ∷ []))
+    (Some (codes "p")) ∷ Value
+    (object ((codes "p", num 1) ∷ (codes "q", object ((codes "d", num 5) ∷ [])) ∷ [])) ∷ [])) ∷
+    [])
     ∷ answered None []
     ∷ answered None (told 1 (batch 1 (Removed (codes "q") (object ((codes "d", num 5) ∷ []))
     ∷ Value (object ((codes "p", num 1) ∷ [])) ∷ [])) ∷ [])
@@ -498,7 +514,9 @@ Refusals =
     ∷ Do (Step.Accepted 9)
     ∷ Do (Step.Listen 1 (ordered (path_keys (codes "/b")) Index.Key (Some (First 1))))
     ∷ Do (Step.Data 2 (path_keys (codes "/b/x")) (num 1))
-    ∷ Do (Step.Write 1 (Put (path_keys (codes "/k/k/k/k/k/k/k/k/k/k/k/k/k/k/k/k/k/k/k/k/k/k/k/k/k/k/k/k/k/k/k/k")) (object ((codes "k", num 1) ∷ []))))
+    ∷ Do (Step.Write 1 (Put
+    (path_keys (codes "/k/k/k/k/k/k/k/k/k/k/k/k/k/k/k/k/k/k/k/k/k/k/k/k/k/k/k/k/k/k/k/k"))
+    (object ((codes "k", num 1) ∷ []))))
     ∷ Do (Step.CloseSeat 1)
     ∷ ShowCover ∷ [])
     ≡ refused NotConnected

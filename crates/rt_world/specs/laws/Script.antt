@@ -11,6 +11,7 @@ use Rattle.rt_query.specs.Queries.{Query}
 use Rattle.rt_query.specs.Select.{Shown}
 use Rattle.rt_cover.specs.declared.kept.Kept.{Kept}
 use Rattle.rt_view.specs.declared.change.Change.{Change}
+use Rattle.rt_world.specs.declared.limits.TheConstants.{MAX_LISTENERS, MAX_REQUESTS, MAX_NUMBER}
 use Rattle.rt_world.specs.declared.error.CoreError.{CoreError}
 use Rattle.rt_wire.specs.declared.client.ClientMessage.{ClientMessage}
 use Rattle.rt_world.specs.declared.report.Body.{Body}
@@ -49,7 +50,11 @@ shows w (ShowView n ∷ rest) = Viewed (view_in w n) ∷ shows w rest
 
 -- a core with the largest limits
 abbrev pub fresh : World
-fresh = empty_world (record { listeners = 65536; requests = 65536; last_number = 9007199254740991 })
+fresh = empty_world (record {
+  listeners = MAX_LISTENERS;
+  requests = MAX_REQUESTS;
+  last_number = MAX_NUMBER;
+})
 
 -- ---- short spellings
 
