@@ -1,5 +1,6 @@
 // A run of a script.
-ghost use Rattle.std.specs.Prelude.{◌≡◌, ◌+◌, ◌<◌, ◌≤◌, ◌^◌, ◌⊎◌, ◌++◌, ◌∷◌, [], ◌==◌, ℕ, List, Option, Some};
+ghost use Rattle.std.specs.Prelude.{◌≡◌, ◌+◌, ◌<◌, ◌≤◌, ◌^◌, ◌⊎◌, ◌++◌, ◌∷◌, [], ◌==◌, ℕ, List};
+ghost use Rattle.std.specs.Prelude.{Option, Some};
 ghost use Rattle.std.specs.Prelude.{IfSome, IfOk, IfErr, OnOk, OnErr, IsErrOf, MatchOption};
 ghost use Rattle.std.specs.Prelude.{min, length, is_some, option_and_then, position, take};
 ghost use Rattle.std.specs.Io.KnownBytes.{Consumes, IsAtEnd};
@@ -87,7 +88,8 @@ fn do_line(
     line: Line<'_>,
     out: &mut String,
 ) -> Result<(), AllocError>
-    ensures ok { OnOk result (DoesLine (as_line line.entry) (at core.old out.old) (at core.new out.new)) }
+    ensures ok { OnOk result (DoesLine (as_line line.entry) (at core.old out.old)
+        (at core.new out.new)) }
     ensures failed { OnErr result (AfterOrNot (step_of (as_line line.entry)) core.old core.new) }
 {
     match task::task_of(alloc, line) {
@@ -187,7 +189,8 @@ impl Script {
         ensures ok { OnOk result (EndsLine self.old.line.items self.new.lines
             (at self.old.core self.old.printed) (at self.new.core self.new.printed)) }
         ensures number { self.new.lines ≡ min (self.old.lines + 1) u64.MAX }
-        ensures after { OnOk result (AfterLine self.old.line.items (so_far self.old) (so_far self.new)) }
+        ensures after { OnOk result (AfterLine self.old.line.items (so_far self.old)
+            (so_far self.new)) }
         ensures begins { OnOk result (self.new.line.items ≡ []) }
     {
         self.lines = self.lines.saturating_add(1);
@@ -228,8 +231,10 @@ impl Script {
     fn end_line_to<D: Drain>(&mut self, writer: &mut D) -> Result<(), ConsoleError>
         requires { D.failures writer.old + 1 < 2 ^ 64 }
         ensures ok { OnOk result (D.failures writer.new ≡ D.failures writer.old) }
-        ensures fault { IfErr result (λ e. WriteTells e (D.failures writer.old) (D.failures writer.new)) }
-        ensures after { OnOk result (AfterLine self.old.line.items (so_far self.old) (so_far self.new)) }
+        ensures fault { IfErr result (λ e.
+            WriteTells e (D.failures writer.old) (D.failures writer.new)) }
+        ensures after { OnOk result (AfterLine self.old.line.items (so_far self.old)
+            (so_far self.new)) }
         ensures begins { OnOk result (self.new.line.items ≡ []) }
     {
         self.end_line()?;
@@ -243,7 +248,8 @@ impl Script {
     fn take<D: Drain>(&mut self, bytes: &[u8], writer: &mut D) -> Result<(), ConsoleError>
         requires { D.failures writer.old + 1 < 2 ^ 64 }
         ensures ok { OnOk result (D.failures writer.new ≡ D.failures writer.old) }
-        ensures fault { IfErr result (λ e. WriteTells e (D.failures writer.old) (D.failures writer.new)) }
+        ensures fault { IfErr result (λ e.
+            WriteTells e (D.failures writer.old) (D.failures writer.new)) }
         ensures takes { OnOk result (Takes self.old.line.items bytes.now (so_far self.old)
             self.new.line.items (so_far self.new)) }
     {
@@ -261,8 +267,10 @@ impl Script {
     fn finish<D: Drain>(&mut self, writer: &mut D) -> Result<(), ConsoleError>
         requires { D.failures writer.old + 1 < 2 ^ 64 }
         ensures ok { OnOk result (D.failures writer.new ≡ D.failures writer.old) }
-        ensures fault { IfErr result (λ e. WriteTells e (D.failures writer.old) (D.failures writer.new)) }
-        ensures after { OnOk result (AfterLine self.old.line.items (so_far self.old) (so_far self.new)) }
+        ensures fault { IfErr result (λ e.
+            WriteTells e (D.failures writer.old) (D.failures writer.new)) }
+        ensures after { OnOk result (AfterLine self.old.line.items (so_far self.old)
+            (so_far self.new)) }
     {
         self.end_line()?;
         self.write_out(writer)

@@ -1,5 +1,6 @@
 -- What a step answers, and the world after steps.
-use Rattle.std.specs.Prelude.{ℕ, Bool, true, false, List, [], ◌∷◌, ◌==◌, Option, Some, None, Ok, Err, Result}
+use Rattle.std.specs.Prelude.{ℕ, Bool, true, false, List, [], ◌∷◌, ◌==◌, Option, Some, None, Ok}
+use Rattle.std.specs.Prelude.{Err, Result}
 use Rattle.std.specs.List.{filter_map, find, fold}
 use Rattle.std.specs.Option.{option_map_or, option_and_then, option_or}
 use Rattle.rt_query.specs.Select.{Shown}

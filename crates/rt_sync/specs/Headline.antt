@@ -1,6 +1,7 @@
 -- The fewest listens, and the views over what they brought: what a run leaves, said of the worlds
 -- before and after, the steps and the answers.
-use Rattle.std.specs.Prelude.{◌≡◌, ℕ, Bool, true, false, List, [], ◌∷◌, ◌++◌, map, ◌==◌, Option, Some, None, Ok, Err}
+use Rattle.std.specs.Prelude.{◌≡◌, ℕ, Bool, true, false, List, [], ◌∷◌, ◌++◌, map, ◌==◌, Option}
+use Rattle.std.specs.Prelude.{Some, None, Ok, Err}
 use Rattle.std.specs.List.{filter, flat_map, fold, All}
 use Rattle.std.specs.Option.{option_map_or}
 use Rattle.rt_tree.specs.Assignments.{Assignment}

@@ -1,12 +1,15 @@
 -- When a step is refused, and when it is stale.
-use Rattle.std.specs.Prelude.{ℕ, ◌+◌, Bool, true, false, ◌&&◌, ◌||◌, not, List, [], ◌∷◌, length, nat_lt, nat_le, Option}
+use Rattle.std.specs.Prelude.{ℕ, ◌+◌, Bool, true, false, ◌&&◌, ◌||◌, not, List, [], ◌∷◌, length}
+use Rattle.std.specs.Prelude.{nat_lt, nat_le, Option}
 use Rattle.std.specs.List.{find, list_any, list_all}
 use Rattle.std.specs.Option.{option_map, option_map_or}
 use Rattle.rt_tree.specs.PathTree.{levels}
 use Rattle.rt_tree.specs.Assignments.{is_at_or_above, Assignment, have_overlap}
 use Rattle.rt_cache.specs.Brought.{is_without_window}
 use Rattle.rt_sync.specs.declared.error.CoreError.{CoreError}
-use Rattle.rt_sync.specs.declared.error.CoreError.TheVariants.{TooManyListeners, TooManyRequests, TooDeep, BadPush, AlreadyConnected, NotConnected}
+use Rattle.rt_sync.specs.declared.error.CoreError.TheVariants.{TooManyListeners, TooManyRequests}
+use Rattle.rt_sync.specs.declared.error.CoreError.TheVariants.{TooDeep, BadPush, AlreadyConnected}
+use Rattle.rt_sync.specs.declared.error.CoreError.TheVariants.{NotConnected}
 use Rattle.rt_sync.specs.declared.step.Step.{Step}
 use Rattle.rt_sync.specs.World.{World, listen_of, entries_of}
 use Rattle.rt_sync.specs.Steps.{Part, parts_of, started_by}

@@ -1,5 +1,6 @@
 -- What a core answers to steps, and what it becomes: a world, or none once it has lacked memory.
-use Rattle.std.specs.Prelude.{◌≡◌, ℕ, false, ◌⊎◌, List, [], ◌∷◌, ◌==◌, Option, Some, None, Err, Ok, Result}
+use Rattle.std.specs.Prelude.{◌≡◌, ℕ, false, ◌⊎◌, List, [], ◌∷◌, ◌==◌, Option, Some, None, Err, Ok}
+use Rattle.std.specs.Prelude.{Result}
 use Rattle.std.specs.List.{find}
 use Rattle.std.specs.Option.{option_map_or}
 use Rattle.rt_query.specs.Queries.{is_filtered}

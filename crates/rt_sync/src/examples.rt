@@ -1,7 +1,9 @@
 // Outside examples of the core's steps: trees compute here.
 #![tactic(auto, unfolding(rt_tree::specs::PathTree::null, rt_tree::specs::PathTree::of_leaf, rt_tree::specs::PathTree::is_null, rt_tree::specs::PathTree::leaf_at, rt_tree::specs::PathTree::sub, rt_tree::specs::PathTree::put, rt_tree::specs::PathTree::with_children, rt_tree::specs::PathTree::children_alone, rt_tree::specs::PathTree::levels, rt_tree::specs::Children::children_of, rt_tree::specs::TreeEq::tree_eq))]
 
-ghost use Rattle.rt_sync.specs.laws.Examples.{PushOfNull, NothingShown, LeafAlone, LeafShown, LeafAndChild, ChildShown, RootListen, WritePrimes, Refusals};
+ghost use Rattle.rt_sync.specs.laws.Examples.{PushOfNull, NothingShown, LeafAlone, LeafShown};
+ghost use Rattle.rt_sync.specs.laws.Examples.{LeafAndChild, ChildShown, RootListen, WritePrimes};
+ghost use Rattle.rt_sync.specs.laws.Examples.{Refusals};
 
 /// A push of null shows that there is nothing.
 pub fn push_of_null()

@@ -3,7 +3,8 @@ ghost use Rattle.std.specs.Prelude.{◌≡◌, IfOk, IfSome, OnOk, Some, false};
 ghost use Rattle.std.specs.Option.{option_map, option_to_list};
 ghost use Rattle.rt_query.specs.Queries.{is_filtered};
 ghost use Rattle.rt_sync.specs.Answers.{batch_note};
-ghost use Rattle.rt_sync.specs.inside.StateView.{listener_of, told, all_told, view_over, renewed_listener, written_listener};
+ghost use Rattle.rt_sync.specs.inside.StateView.{listener_of, told, all_told, view_over};
+ghost use Rattle.rt_sync.specs.inside.StateView.{renewed_listener, written_listener};
 
 use crate::listener::{Listener, View};
 use crate::overlay::{overlaid, overlay, sets_whole};

@@ -7,7 +7,8 @@ use Rattle.rt_tree.specs.PathTree.{Path, PathTree, null, of_leaf, object}
 use Rattle.rt_query.specs.Queries.{plain}
 use Rattle.rt_view.specs.declared.change.Change.{Change}
 use Rattle.rt_view.specs.declared.change.Change.TheVariants.{Added, Value}
-use Rattle.rt_sync.specs.declared.error.CoreError.TheVariants.{TooManyListeners, TooDeep, BadPush, AlreadyConnected, NotConnected}
+use Rattle.rt_sync.specs.declared.error.CoreError.TheVariants.{TooManyListeners, TooDeep, BadPush}
+use Rattle.rt_sync.specs.declared.error.CoreError.TheVariants.{AlreadyConnected, NotConnected}
 use Rattle.rt_sync.specs.declared.report.Body.TheVariants.{Batch}
 use Rattle.rt_sync.specs.declared.report.Outcome.TheVariants.{Done}
 use Rattle.rt_sync.specs.declared.step.Action.TheVariants.{Put}
