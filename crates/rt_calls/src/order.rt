@@ -2,17 +2,18 @@
 use crate::said::Said;
 use crate::words::{Fault, Words};
 use rt_order::{
-    Cut, Index, Mark, Place, PlacedKey, PlacedRef, Range, SortRef, entry_cmp, key_cmp, leaf_cmp,
-    sort_value, value_cmp,
+    Cut, Index, Mark, Place, PlacedKey, PlacedRef, Range, entry_cmp, key_cmp, leaf_cmp, sort_value,
+    value_cmp,
 };
-use rt_tree::{Key, Leaf, Path, Tree};
+use rt_tree::{Key, Tree};
 use std::alloc::Global;
 use std::cmp::Ordering;
 
 // ---- keys
 
-// Two keys: how they compare as they are, with their numbers read, and borrowed so; whether they are equal with their
-// numbers read, and borrowed so; and the first as it is lent.
+// Two keys: how they compare as they are, with their numbers read, and borrowed so; whether they
+// are equal with their numbers read, and borrowed so; the first as it is lent; how the first prints
+// with its number, and how the other does borrowed.
 fn keys(alloc: Global, words: &mut Words, said: &mut Said) -> Result<(), Fault> {
     let left = PlacedKey::of(words.key(alloc)?);
     let right = PlacedKey::of(words.key(alloc)?).copy()?;
@@ -30,6 +31,8 @@ fn tell_keys(alloc: Global, left: &PlacedKey, right: &PlacedKey, said: &mut Said
     said.debug(alloc, &orders);
     said.debug(alloc, &(left == right, lent == other));
     said.display(alloc, lent.key());
+    said.debug(alloc, left);
+    said.debug(alloc, &other);
 }
 
 fn sign(order: Ordering) -> &'static str {
@@ -72,15 +75,11 @@ fn index(alloc: Global, words: &mut Words) -> Result<Index, Fault> {
 fn sort(alloc: Global, words: &mut Words, said: &mut Said) -> Result<(), Fault> {
     let index = index(alloc, words)?;
     let tree = words.tree(alloc)?;
-    match sort_value(&index, &tree) {
-        SortRef::Null => said.say("null"),
-        SortRef::Leaf(leaf) => said.debug(alloc, &leaf.value()),
-        SortRef::Object => said.say("object"),
-    }
+    said.debug(alloc, &sort_value(&index, &tree));
     Ok(())
 }
 
-// How what two trees are sorted by compares, and whether it is equal; and how two leaves compare.
+// How what two trees are sorted by compares, and whether it is equal; and how leaves compare.
 fn values(alloc: Global, words: &mut Words, said: &mut Said) -> Result<(), Fault> {
     let left = words.tree(alloc)?;
     let right = words.tree(alloc)?;
@@ -150,16 +149,18 @@ fn tell_if_had(range: &Range, index: &Index, key: &Key, child: &Tree, said: &mut
 
 // ---- copies and equality
 
-// Whether two ranges are equal, and whether a copy of the second is equal to either.
+// Whether two ranges are equal, and whether a copy of the second is equal to either; and how that
+// prints.
 fn ranges(alloc: Global, words: &mut Words, said: &mut Said) -> Result<(), Fault> {
     let left = range(alloc, words)?;
     let right = range(alloc, words)?;
     let copy = right.copy(alloc)?;
     said.debug(alloc, &(left == right, left == copy, right == copy));
+    said.debug(alloc, &copy);
     Ok(())
 }
 
-// Whether copies of a cut, of its value and of its place are equal to them; and how these print.
+// Whether copies of a cut, of its value and of its place are equal to them.
 fn copied_cut(alloc: Global, words: &mut Words, said: &mut Said) -> Result<(), Fault> {
     let Some(cut) = cut(alloc, words)? else {
         return Err(Fault::NoSuchCall);
@@ -168,11 +169,11 @@ fn copied_cut(alloc: Global, words: &mut Words, said: &mut Said) -> Result<(), F
     let is_value = cut.value.copy(alloc)? == cut.value;
     let is_place = cut.place.copy(alloc)? == cut.place;
     said.debug(alloc, &(copy == cut, is_value, is_place));
-    said.debug(alloc, &copy);
     Ok(())
 }
 
-// Whether two indexes are equal, and whether a copy of the second is equal to either; and how it prints.
+// Whether two indexes are equal, and whether a copy of the second is equal to either; and how that
+// prints.
 fn indexes(alloc: Global, words: &mut Words, said: &mut Said) -> Result<(), Fault> {
     let left = index(alloc, words)?;
     let right = index(alloc, words)?;

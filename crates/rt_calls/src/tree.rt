@@ -33,7 +33,7 @@ fn refused(error: TreeError, said: &mut Said) -> Result<(), Fault> {
     }
 }
 
-// What there is no `?` for: it is refused, or else told of by nothing.
+// Nothing is said of a call that answers nothing and is not refused.
 fn done(answer: Result<(), TreeError>, said: &mut Said) -> Result<(), Fault> {
     match answer {
         Ok(()) => Ok(()),
@@ -156,7 +156,8 @@ fn leaf(alloc: Global, words: &mut Words, said: &mut Said) -> Result<(), Fault> 
     }
 }
 
-// The tree of a copy of a leaf, and that tree's copy; whether the leaf in it is equal, and whether the leaf is true.
+// A copy of the tree of a copy of a leaf: whether its leaf is equal, and whether that is true; what
+// the leaf is as each kind; and the tree.
 fn tell_leaf(alloc: Global, leaf: &Leaf, said: &mut Said) -> Result<(), Fault> {
     let tree = Tree::leaf(leaf.copy(alloc)?).copy(alloc)?;
     said.debug(
@@ -191,7 +192,8 @@ fn read(alloc: Global, words: &mut Words, said: &mut Said) -> Result<(), Fault> 
     }
 }
 
-// A text of three pieces, each so many times: the levels of what it is read as, and the number of its children.
+// A text of three pieces, each so many times: the levels of what it is read as, the number of its
+// children, and whether it is null.
 fn long(alloc: Global, words: &mut Words, said: &mut Said) -> Result<(), Fault> {
     let mut text = String::new(alloc);
     for _ in 0..3 {
@@ -200,7 +202,7 @@ fn long(alloc: Global, words: &mut Words, said: &mut Said) -> Result<(), Fault> 
     match Tree::read(alloc, text.as_str()) {
         Ok(tree) => {
             let count = tree.children().map(|children| children.len());
-            said.debug(alloc, &(tree.levels(), count));
+            said.debug(alloc, &(tree.levels(), count, tree.is_null()));
             Ok(())
         }
         Err(error) => refused(error, said),
@@ -233,7 +235,8 @@ fn compare(alloc: Global, words: &mut Words, said: &mut Said) -> Result<(), Faul
     Ok(())
 }
 
-// Puts at a path a tree. The next word may be what the tree was before: a put that lacks memory has to leave it so.
+// Puts a tree at a path. The next word may be what the whole was before: a put that lacks memory
+// has to leave that.
 fn put(tree: &mut Tree, alloc: Global, words: &mut Words, said: &mut Said) -> Result<(), Fault> {
     let path = words.path(alloc)?;
     let part = words.tree(alloc)?;
@@ -279,8 +282,9 @@ fn copy(state: &mut State, alloc: Global, said: &mut Said) -> Result<(), Fault> 
     Ok(())
 }
 
-// What stands at a path of the tree, by both calls that give it; of the copy, with whether that is equal to the tree;
-// or of the copy, which is dropped.
+// What stands at a path of the tree, by each of two calls; what stands there in the copy, behind
+// whether that is equal to the tree; or how the tree prints. Or the copy and the tree are swapped,
+// or the copy is dropped.
 fn part(state: &mut State, alloc: Global, words: &mut Words, said: &mut Said) -> Result<(), Fault> {
     let path = words.path(alloc)?;
     match words.next()? {
@@ -290,6 +294,8 @@ fn part(state: &mut State, alloc: Global, words: &mut Words, said: &mut Said) ->
             said.debug(alloc, &(state.copy == state.tree));
             tell(alloc, state.copy.at(path.keys()), said);
         }
+        "debug" => said.debug(alloc, &state.tree.get(&path)),
+        "swap" => std::mem::swap(&mut state.copy, &mut state.tree),
         "drop" => state.copy = Tree::null(),
         _ => return Err(Fault::NoSuchCall),
     }
