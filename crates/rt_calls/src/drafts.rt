@@ -1,7 +1,7 @@
 // Queries, each as one word: a path, and behind a `?` the calls of its draft, with `&` between two.
 //
-// The calls are `key`, `child=PATH`, `value`; a bound, as `startAt=LEAF` or `startAt=LEAF,KEY`, by JSON;
-// `limitToFirst=N` and `limitToLast=N`: `/a?child=v&startAt="x",k&limitToLast=2`.
+// The calls are `key`, `child=PATH`, `value`; a bound, as `startAt=LEAF` or `startAt=LEAF,KEY`, by
+// JSON; `limitToFirst=N` and `limitToLast=N`: `/a?child=v&startAt="x",k&limitToLast=2`.
 use crate::words::{Fault, Words};
 use rt_order::Mark;
 use rt_query::{Draft, Query, QueryError};

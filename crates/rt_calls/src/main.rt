@@ -1,8 +1,10 @@
-//! Makes calls of the libraries, one a line of its input, and prints what each answers, a line for each.
+//! Makes calls of the libraries, one a line of its input, and prints what each answers, a line for
+//! each.
 //!
-//! A line names a library, a call and what is given to it. A call that lacks memory prints `NoMemory`, and is made once more: since
-//! `./check` refuses one allocation of a run, all that is printed but for this line has to be what is printed with none refused.
-//! Empty lines, and those that begin with `#`, are passed over.
+//! A line names a library, a call and what is given to it. A call that lacks memory prints
+//! `NoMemory`, and is made once more: since `./check` refuses one allocation of a run, all that is
+//! printed but for this line has to be what is printed with none refused. Empty lines, and those
+//! that begin with `#`, are passed over.
 #![tactic(auto)]
 
 mod cover;

@@ -1,4 +1,5 @@
-// What is printed. Its room is taken before the first call, so that printing takes no memory of its own.
+// What is printed. Its room is taken before the first call, so that printing takes no memory of its
+// own.
 use rt_tree::Tree;
 use std::alloc::{AllocError, Global};
 use std::fmt::{Debug, Display};

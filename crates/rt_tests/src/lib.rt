@@ -1,4 +1,5 @@
-//! Tests of what no line of `calls/` shows: the example of README.md, and that trees may go to another thread.
+//! Tests of what no line of `calls/` shows: the example of README.md, and that trees may go to
+//! another thread.
 #![tactic(auto)]
 
 #[cfg(test)]
