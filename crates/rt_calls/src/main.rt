@@ -21,12 +21,14 @@ use words::{Fault, Words};
 // What the lines so far have made.
 #[derive(Drop)]
 struct State {
+    query: query::State,
     store: store::State,
     tree: tree::State,
 }
 
 fn new_state(alloc: Global) -> State {
     State {
+        query: query::State::new(alloc),
         store: store::State::new(alloc),
         tree: tree::State::new(),
     }
@@ -35,7 +37,7 @@ fn new_state(alloc: Global) -> State {
 fn call(state: &mut State, alloc: Global, line: &str, said: &mut Said) -> Result<(), Fault> {
     let mut words = Words::of(line);
     match words.next()? {
-        "query" => query::call(alloc, &mut words, said),
+        "query" => query::call(&mut state.query, alloc, &mut words, said),
         "store" => store::call(&mut state.store, alloc, &mut words, said),
         "tree" => tree::call(&mut state.tree, alloc, &mut words, said),
         _ => Err(Fault::NoSuchCall),
