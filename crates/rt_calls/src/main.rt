@@ -11,7 +11,9 @@ mod cover;
 mod drafts;
 mod order;
 mod push;
+mod query;
 mod said;
+mod store;
 mod tree;
 mod words;
 mod writes;
@@ -27,6 +29,8 @@ use words::{Fault, Words};
 struct State {
     cover: cover::State,
     push: push::State,
+    query: query::State,
+    store: store::State,
     tree: tree::State,
     writes: writes::State,
 }
@@ -35,6 +39,8 @@ fn new_state(alloc: Global) -> State {
     State {
         cover: cover::State::new(alloc),
         push: push::State::new(),
+        query: query::State::new(alloc),
+        store: store::State::new(alloc),
         tree: tree::State::new(),
         writes: writes::State::new(alloc),
     }
@@ -46,6 +52,8 @@ fn call(state: &mut State, alloc: Global, line: &str, said: &mut Said) -> Result
         "cover" => cover::call(&mut state.cover, alloc, &mut words, said),
         "order" => order::call(alloc, &mut words, said),
         "push" => push::call(&mut state.push, alloc, &mut words, said),
+        "query" => query::call(&mut state.query, alloc, &mut words, said),
+        "store" => store::call(&mut state.store, alloc, &mut words, said),
         "tree" => tree::call(&mut state.tree, alloc, &mut words, said),
         "writes" => writes::call(&mut state.writes, alloc, &mut words, said),
         _ => Err(Fault::NoSuchCall),
