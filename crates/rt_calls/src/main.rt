@@ -6,7 +6,9 @@
 #![tactic(auto)]
 
 mod said;
+mod sync;
 mod tree;
+mod wire;
 mod words;
 
 use said::Said;
@@ -19,11 +21,13 @@ use words::{Fault, Words};
 #[derive(Drop)]
 struct State {
     tree: tree::State,
+    sync: sync::State,
 }
 
-fn new_state() -> State {
+fn new_state(alloc: Global) -> State {
     State {
         tree: tree::State::new(),
+        sync: sync::State::new(alloc),
     }
 }
 
@@ -31,6 +35,8 @@ fn call(state: &mut State, alloc: Global, line: &str, said: &mut Said) -> Result
     let mut words = Words::of(line);
     match words.next()? {
         "tree" => tree::call(&mut state.tree, alloc, &mut words, said),
+        "wire" => wire::call(alloc, &mut words, said),
+        "sync" => sync::call(&mut state.sync, alloc, &mut words, said),
         _ => Err(Fault::NoSuchCall),
     }
 }
@@ -52,7 +58,7 @@ fn make(state: &mut State, alloc: Global, line: &str, said: &mut Said) -> Result
 
 // Makes the first lines anew.
 fn made_anew(alloc: Global, text: &str, count: usize) -> Result<State, Fault> {
-    let mut state = new_state();
+    let mut state = new_state(alloc);
     let mut unsaid = Said::new(alloc)?;
     for line in text.lines().take(count) {
         if !is_passed_over(line) {
@@ -63,7 +69,7 @@ fn made_anew(alloc: Global, text: &str, count: usize) -> Result<State, Fault> {
 }
 
 fn make_all(alloc: Global, text: &str, said: &mut Said) -> Result<(), Fault> {
-    let mut state = new_state();
+    let mut state = new_state(alloc);
     for (count, line) in text.lines().enumerate() {
         if is_passed_over(line) {
             continue;
