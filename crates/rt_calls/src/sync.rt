@@ -108,7 +108,7 @@ fn failed(core: &mut Core) -> Fault {
     }
 }
 
-// Makes steps, and says what each answers.
+// Makes a step, and says what it answers.
 fn make(core: &mut Core, alloc: Global, words: &mut Words, said: &mut Said) -> Result<(), Fault> {
     match core.apply(step(alloc, words)?) {
         Err(CoreError::NoMemory) => return Err(failed(core)),
