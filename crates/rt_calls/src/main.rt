@@ -14,7 +14,9 @@ mod push;
 mod query;
 mod said;
 mod store;
+mod sync;
 mod tree;
+mod wire;
 mod words;
 mod writes;
 
@@ -31,6 +33,7 @@ struct State {
     push: push::State,
     query: query::State,
     store: store::State,
+    sync: sync::State,
     tree: tree::State,
     writes: writes::State,
 }
@@ -41,6 +44,7 @@ fn new_state(alloc: Global) -> State {
         push: push::State::new(),
         query: query::State::new(alloc),
         store: store::State::new(alloc),
+        sync: sync::State::new(alloc),
         tree: tree::State::new(),
         writes: writes::State::new(alloc),
     }
@@ -54,7 +58,9 @@ fn call(state: &mut State, alloc: Global, line: &str, said: &mut Said) -> Result
         "push" => push::call(&mut state.push, alloc, &mut words, said),
         "query" => query::call(&mut state.query, alloc, &mut words, said),
         "store" => store::call(&mut state.store, alloc, &mut words, said),
+        "sync" => sync::call(&mut state.sync, alloc, &mut words, said),
         "tree" => tree::call(&mut state.tree, alloc, &mut words, said),
+        "wire" => wire::call(alloc, &mut words, said),
         "writes" => writes::call(&mut state.writes, alloc, &mut words, said),
         _ => Err(Fault::NoSuchCall),
     }

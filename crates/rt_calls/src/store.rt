@@ -42,7 +42,8 @@ fn key_of(store: &Store, node: Option<Node>) -> &str {
     key.map_or("no key", |key| key.text())
 }
 
-// What is known of nodes: of each its leaf, its key, and the keys of its first child and of the sibling behind it.
+// What is known of nodes: of each its leaf, its key, and the keys of its first child and of the
+// sibling behind it.
 fn known(store: &Store, alloc: Global, nodes: &[Node]) -> Result<String, AllocError> {
     let mut text = String::new(alloc);
     for node in nodes {
@@ -107,7 +108,8 @@ fn kept(state: &State, alloc: Global, said: &mut Said) -> Result<(), Fault> {
     Ok(())
 }
 
-// Says the part at a path, the keys of its children in the order of a walk, and whether something stands there.
+// Says the part at a path, the keys of its children in the order of a walk, and whether something
+// stands there.
 fn part(store: &Store, alloc: Global, words: &mut Words, said: &mut Said) -> Result<(), Fault> {
     let path = words.path(alloc)?;
     let part = store.get(alloc, &path)?;
@@ -221,7 +223,8 @@ fn run(store: &mut Store, alloc: Global, words: &mut Words, said: &mut Said) -> 
     Ok(())
 }
 
-// Says how a store, its node, and the change that clears a path print, and the refusal for want of memory.
+// Says how a store, its node, and the change that clears a path print, and the refusal for want of
+// memory.
 fn debug(state: &State, alloc: Global, words: &mut Words, said: &mut Said) -> Result<(), Fault> {
     let change = Change::Clear(words.path(alloc)?);
     said.debug(alloc, &state.store);

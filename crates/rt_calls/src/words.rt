@@ -49,6 +49,10 @@ impl<'a> Words<'a> {
         self.rest.is_empty()
     }
 
+    pub(crate) fn len(&self) -> usize {
+        self.rest.len()
+    }
+
     pub(crate) fn next(&mut self) -> Result<&'a str, Fault> {
         if self.rest.is_empty() {
             return Err(Fault::NoSuchCall);
@@ -64,6 +68,10 @@ impl<'a> Words<'a> {
     }
 
     pub(crate) fn number(&mut self) -> Result<u64, Fault> {
+        self.next()?.parse().map_err(|_| Fault::NoSuchCall)
+    }
+
+    pub(crate) fn small_number(&mut self) -> Result<u32, Fault> {
         self.next()?.parse().map_err(|_| Fault::NoSuchCall)
     }
 
@@ -95,6 +103,22 @@ impl<'a> Words<'a> {
         let mut text = String::new(alloc);
         for _ in 0..self.number()? {
             text.push_str(piece.as_str())?;
+        }
+        Ok(text)
+    }
+
+    // The text of pieces: a word, and each that follows as many times as the number before it.
+    pub(crate) fn pieces(&mut self, alloc: Global) -> Result<String, Fault> {
+        let mut text = String::from_str(alloc, self.next()?)?;
+        for _ in 0..self.len() {
+            if self.is_empty() {
+                break;
+            }
+            let count = self.number()?;
+            let piece = self.next()?;
+            for _ in 0..count {
+                text.push_str(piece)?;
+            }
         }
         Ok(text)
     }
