@@ -5,6 +5,8 @@
 //! Empty lines, and those that begin with `#`, are passed over.
 #![tactic(auto)]
 
+mod cache;
+mod drafts;
 mod said;
 mod tree;
 mod words;
@@ -18,11 +20,13 @@ use words::{Fault, Words};
 // What the lines so far have made.
 #[derive(Drop)]
 struct State {
+    cache: cache::State,
     tree: tree::State,
 }
 
-fn new_state() -> State {
+fn new_state(alloc: Global) -> State {
     State {
+        cache: cache::State::new(alloc),
         tree: tree::State::new(),
     }
 }
@@ -30,6 +34,7 @@ fn new_state() -> State {
 fn call(state: &mut State, alloc: Global, line: &str, said: &mut Said) -> Result<(), Fault> {
     let mut words = Words::of(line);
     match words.next()? {
+        "cache" => cache::call(&mut state.cache, alloc, &mut words, said),
         "tree" => tree::call(&mut state.tree, alloc, &mut words, said),
         _ => Err(Fault::NoSuchCall),
     }
@@ -52,7 +57,7 @@ fn make(state: &mut State, alloc: Global, line: &str, said: &mut Said) -> Result
 
 // Makes the first lines anew.
 fn made_anew(alloc: Global, text: &str, count: usize) -> Result<State, Fault> {
-    let mut state = new_state();
+    let mut state = new_state(alloc);
     let mut unsaid = Said::new(alloc)?;
     for line in text.lines().take(count) {
         if !is_passed_over(line) {
@@ -63,7 +68,7 @@ fn made_anew(alloc: Global, text: &str, count: usize) -> Result<State, Fault> {
 }
 
 fn make_all(alloc: Global, text: &str, said: &mut Said) -> Result<(), Fault> {
-    let mut state = new_state();
+    let mut state = new_state(alloc);
     for (count, line) in text.lines().enumerate() {
         if is_passed_over(line) {
             continue;

@@ -1,6 +1,6 @@
 // The words of a line, one space between two, and what they stand for.
 use rt_tree::{Key, Path, Tree, TreeError};
-use std::alloc::{AllocError, Global};
+use std::alloc::{AllocError, AllocFailed, Global};
 
 // Why a line said nothing.
 #[derive(Drop)]
@@ -15,6 +15,12 @@ pub(crate) enum Fault {
 
 impl From<AllocError> for Fault {
     fn from(_error: AllocError) -> Fault {
+        Fault::NoMemory
+    }
+}
+
+impl<T: Drop> From<AllocFailed<T>> for Fault {
+    fn from(_error: AllocFailed<T>) -> Fault {
         Fault::NoMemory
     }
 }
