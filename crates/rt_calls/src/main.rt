@@ -9,6 +9,7 @@ mod cache;
 mod drafts;
 mod said;
 mod tree;
+mod view;
 mod words;
 
 use said::Said;
@@ -22,12 +23,14 @@ use words::{Fault, Words};
 struct State {
     cache: cache::State,
     tree: tree::State,
+    view: view::State,
 }
 
 fn new_state(alloc: Global) -> State {
     State {
         cache: cache::State::new(alloc),
         tree: tree::State::new(),
+        view: view::State::new(alloc),
     }
 }
 
@@ -36,6 +39,7 @@ fn call(state: &mut State, alloc: Global, line: &str, said: &mut Said) -> Result
     match words.next()? {
         "cache" => cache::call(&mut state.cache, alloc, &mut words, said),
         "tree" => tree::call(&mut state.tree, alloc, &mut words, said),
+        "view" => view::call(&mut state.view, alloc, &mut words, said),
         _ => Err(Fault::NoSuchCall),
     }
 }
@@ -56,36 +60,51 @@ fn make(state: &mut State, alloc: Global, line: &str, said: &mut Said) -> Result
 }
 
 // Makes the first lines anew.
-fn made_anew(alloc: Global, text: &str, count: usize) -> Result<State, Fault> {
-    let mut state = new_state(alloc);
+fn make_anew(state: &mut State, alloc: Global, text: &str, count: usize) -> Result<(), Fault> {
     let mut unsaid = Said::new(alloc)?;
+    *state = new_state(alloc);
     for line in text.lines().take(count) {
         if !is_passed_over(line) {
-            let _ = call(&mut state, alloc, line, &mut unsaid);
-        }
-    }
-    Ok(state)
-}
-
-fn make_all(alloc: Global, text: &str, said: &mut Said) -> Result<(), Fault> {
-    let mut state = new_state(alloc);
-    for (count, line) in text.lines().enumerate() {
-        if is_passed_over(line) {
-            continue;
-        }
-        match make(&mut state, alloc, line, said) {
-            Ok(()) => said.say("\n"),
-            Err(Fault::NoSuchCall) => said.say("NoSuchCall\n"),
-            Err(Fault::NoMemory) => return Err(Fault::NoMemory),
-            Err(Fault::Failed) => {
-                said.say("NoMemory\n");
-                state = made_anew(alloc, text, count)?;
-                make(&mut state, alloc, line, said)?;
-                said.say("\n");
-            }
+            let _ = call(state, alloc, line, &mut unsaid);
         }
     }
     Ok(())
+}
+
+// Makes the call of a line, behind so many, and where what is called has failed, these and then it once more.
+fn make_line(
+    state: &mut State,
+    alloc: Global,
+    text: &str,
+    count: usize,
+    line: &str,
+    said: &mut Said,
+) -> Result<(), Fault> {
+    match make(state, alloc, line, said) {
+        Ok(()) => said.say("\n"),
+        Err(Fault::NoSuchCall) => said.say("NoSuchCall\n"),
+        Err(Fault::NoMemory) => return Err(Fault::NoMemory),
+        Err(Fault::Failed) => {
+            said.say("NoMemory\n");
+            make_anew(state, alloc, text, count)?;
+            make(state, alloc, line, said)?;
+            said.say("\n");
+        }
+    }
+    Ok(())
+}
+
+fn make_lines(state: &mut State, alloc: Global, text: &str, said: &mut Said) -> Result<(), Fault> {
+    for (count, line) in text.lines().enumerate() {
+        if !is_passed_over(line) {
+            make_line(state, alloc, text, count, line, said)?;
+        }
+    }
+    Ok(())
+}
+
+fn make_all(alloc: Global, text: &str, said: &mut Said) -> Result<(), Fault> {
+    make_lines(&mut new_state(alloc), alloc, text, said)
 }
 
 fn run(rt: &HostRuntime) -> Option<()> {
