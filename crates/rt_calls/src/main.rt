@@ -7,6 +7,7 @@
 //! that begin with `#`, are passed over.
 #![tactic(auto)]
 
+mod cache;
 mod cover;
 mod drafts;
 mod order;
@@ -16,6 +17,7 @@ mod said;
 mod store;
 mod sync;
 mod tree;
+mod view;
 mod wire;
 mod words;
 mod writes;
@@ -29,23 +31,27 @@ use words::{Fault, Words};
 // What the lines so far have made.
 #[derive(Drop)]
 struct State {
+    cache: cache::State,
     cover: cover::State,
     push: push::State,
     query: query::State,
     store: store::State,
     sync: sync::State,
     tree: tree::State,
+    view: view::State,
     writes: writes::State,
 }
 
 fn new_state(alloc: Global) -> State {
     State {
+        cache: cache::State::new(alloc),
         cover: cover::State::new(alloc),
         push: push::State::new(),
         query: query::State::new(alloc),
         store: store::State::new(alloc),
         sync: sync::State::new(alloc),
         tree: tree::State::new(),
+        view: view::State::new(alloc),
         writes: writes::State::new(alloc),
     }
 }
@@ -53,6 +59,7 @@ fn new_state(alloc: Global) -> State {
 fn call(state: &mut State, alloc: Global, line: &str, said: &mut Said) -> Result<(), Fault> {
     let mut words = Words::of(line);
     match words.next()? {
+        "cache" => cache::call(&mut state.cache, alloc, &mut words, said),
         "cover" => cover::call(&mut state.cover, alloc, &mut words, said),
         "order" => order::call(alloc, &mut words, said),
         "push" => push::call(&mut state.push, alloc, &mut words, said),
@@ -60,6 +67,7 @@ fn call(state: &mut State, alloc: Global, line: &str, said: &mut Said) -> Result
         "store" => store::call(&mut state.store, alloc, &mut words, said),
         "sync" => sync::call(&mut state.sync, alloc, &mut words, said),
         "tree" => tree::call(&mut state.tree, alloc, &mut words, said),
+        "view" => view::call(&mut state.view, alloc, &mut words, said),
         "wire" => wire::call(alloc, &mut words, said),
         "writes" => writes::call(&mut state.writes, alloc, &mut words, said),
         _ => Err(Fault::NoSuchCall),
@@ -82,36 +90,52 @@ fn make(state: &mut State, alloc: Global, line: &str, said: &mut Said) -> Result
 }
 
 // Makes the first lines anew.
-fn made_anew(alloc: Global, text: &str, count: usize) -> Result<State, Fault> {
-    let mut state = new_state(alloc);
+fn make_anew(state: &mut State, alloc: Global, text: &str, count: usize) -> Result<(), Fault> {
     let mut unsaid = Said::new(alloc)?;
+    *state = new_state(alloc);
     for line in text.lines().take(count) {
         if !is_passed_over(line) {
-            let _ = call(&mut state, alloc, line, &mut unsaid);
-        }
-    }
-    Ok(state)
-}
-
-fn make_all(alloc: Global, text: &str, said: &mut Said) -> Result<(), Fault> {
-    let mut state = new_state(alloc);
-    for (count, line) in text.lines().enumerate() {
-        if is_passed_over(line) {
-            continue;
-        }
-        match make(&mut state, alloc, line, said) {
-            Ok(()) => said.say("\n"),
-            Err(Fault::NoSuchCall) => said.say("NoSuchCall\n"),
-            Err(Fault::NoMemory) => return Err(Fault::NoMemory),
-            Err(Fault::Failed) => {
-                said.say("NoMemory\n");
-                state = made_anew(alloc, text, count)?;
-                make(&mut state, alloc, line, said)?;
-                said.say("\n");
-            }
+            let _ = call(state, alloc, line, &mut unsaid);
         }
     }
     Ok(())
+}
+
+// Makes the call of a line, behind so many, and where what is called has failed, these and then it
+// once more.
+fn make_line(
+    state: &mut State,
+    alloc: Global,
+    text: &str,
+    count: usize,
+    line: &str,
+    said: &mut Said,
+) -> Result<(), Fault> {
+    match make(state, alloc, line, said) {
+        Ok(()) => said.say("\n"),
+        Err(Fault::NoSuchCall) => said.say("NoSuchCall\n"),
+        Err(Fault::NoMemory) => return Err(Fault::NoMemory),
+        Err(Fault::Failed) => {
+            said.say("NoMemory\n");
+            make_anew(state, alloc, text, count)?;
+            make(state, alloc, line, said)?;
+            said.say("\n");
+        }
+    }
+    Ok(())
+}
+
+fn make_lines(state: &mut State, alloc: Global, text: &str, said: &mut Said) -> Result<(), Fault> {
+    for (count, line) in text.lines().enumerate() {
+        if !is_passed_over(line) {
+            make_line(state, alloc, text, count, line, said)?;
+        }
+    }
+    Ok(())
+}
+
+fn make_all(alloc: Global, text: &str, said: &mut Said) -> Result<(), Fault> {
+    make_lines(&mut new_state(alloc), alloc, text, said)
 }
 
 fn run(rt: &HostRuntime) -> Option<()> {
