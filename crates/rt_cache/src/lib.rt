@@ -1,4 +1,11 @@
 //! What the listens brought: regions under plain listens, windows of filtered ones.
+//!
+//! ```text
+//! let mut brought = Brought::new(alloc);
+//! let chat = Query::at(Path::parse(alloc, "/chat")?).done();
+//! brought.put(&chat, chat.path(), &tree)?;            // true: it was not stale
+//! brought.base(&chat)?                                // the tree, whole
+//! ```
 #![tactic(auto)]
 
 mod base;

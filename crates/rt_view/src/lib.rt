@@ -1,4 +1,10 @@
 //! The changes from one view to the next, their replay, and views that are changed child by child.
+//!
+//! ```text
+//! let (mut view, changes) = View::first(alloc, query, tree)?;
+//! let changes = view.touch(alloc, named)?;            // what these children change
+//! view.shown()?.rows()
+//! ```
 #![tactic(auto)]
 
 mod apply;

@@ -1,5 +1,10 @@
 //! The messages between client and server: each is one JSON object in one text.
 //!
+//! ```text
+//! let message = ServerMessage::read(alloc, "{\"id\":1,\"k\":\"ok\"}")?;
+//! message.text(alloc)?                                // {"id":1,"k":"ok"}
+//! ```
+//!
 //! [`ServerMessage::read`] and [`ClientMessage::read`] accept exactly the texts of which
 //! `specs/Server.antt` and `specs/Client.antt` make messages, and otherwise answer the first fault.
 #![tactic(auto)]
