@@ -33,7 +33,7 @@ fn is_too_deep(step: &Step) -> bool
             ..
         } => stands_too_deep(path, tree),
         Step::Data { path, tree, .. } => stands_too_deep(path, tree),
-        _ => false,
+        Step::Listen { .. } | Step::Connected => false,
     }
 }
 
@@ -44,7 +44,7 @@ impl State {
     {
         match &self.listener {
             Some(listener) if tag == 1 => Some(&listener.query),
-            _ => None,
+            Some(_) | None => None,
         }
     }
 
@@ -53,7 +53,7 @@ impl State {
     {
         match step {
             Step::Listen { .. } => self.listener.is_some(),
-            _ => false,
+            Step::Write { .. } | Step::Data { .. } | Step::Connected => false,
         }
     }
 
@@ -65,7 +65,7 @@ impl State {
                 let count = self.requests.len() as u64;
                 count >= u64::from(self.limits.requests) || count >= self.limits.last_number
             }
-            _ => false,
+            Step::Listen { .. } | Step::Data { .. } | Step::Connected => false,
         }
     }
 
@@ -77,7 +77,7 @@ impl State {
                 Some(query) => !query.path().is_prefix_of(path),
                 None => false,
             },
-            _ => false,
+            Step::Listen { .. } | Step::Write { .. } | Step::Connected => false,
         }
     }
 
@@ -86,7 +86,7 @@ impl State {
     {
         match step {
             Step::Connected => self.is_connected,
-            _ => false,
+            Step::Listen { .. } | Step::Write { .. } | Step::Data { .. } => false,
         }
     }
 
@@ -95,7 +95,7 @@ impl State {
     {
         match step {
             Step::Data { .. } => !self.is_connected,
-            _ => false,
+            Step::Listen { .. } | Step::Write { .. } | Step::Connected => false,
         }
     }
 
@@ -130,7 +130,7 @@ impl State {
     {
         match step {
             Step::Data { tag, .. } => self.listen_of(*tag).is_none(),
-            _ => false,
+            Step::Listen { .. } | Step::Write { .. } | Step::Connected => false,
         }
     }
 }

@@ -78,7 +78,7 @@ impl State {
             Some(listener) if listener.number == number => {
                 Ok(listener.view.as_ref().map(|view| &view.shown))
             }
-            _ => Err(CoreError::UnknownListener),
+            Some(_) | None => Err(CoreError::UnknownListener),
         }
     }
 
