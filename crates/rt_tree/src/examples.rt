@@ -5,7 +5,8 @@ ghost use Rattle.rt_tree.specs.laws.JsonExamples.{TextsAreRead, ValuesAreCounted
 ghost use Rattle.rt_tree.specs.laws.JsonExamples.{FaultsComeInOrder};
 ghost use Rattle.rt_tree.specs.laws.Examples.{EmptyPiecesDrop, KeysHaveFaults, FirstFaultCounts};
 ghost use Rattle.rt_tree.specs.laws.Examples.{PrefixesAreAtOrAbove, LeafStaysUnderNull, EmptyObjectsGo};
-ghost use Rattle.rt_tree.specs.laws.Examples.{PutReplaces, ChildrenInOrder, LevelsCount};
+ghost use Rattle.rt_tree.specs.laws.Examples.{PutReplaces, ChildrenInOrder, LastChildCounts};
+ghost use Rattle.rt_tree.specs.laws.Examples.{LevelsCount};
 
 /// Empty pieces of a path's text drop, and a slash stands before each key that is printed.
 pub fn empty_pieces_drop()
@@ -45,6 +46,11 @@ pub fn put_replaces()
 /// Children stand in the order of their keys' bytes.
 pub fn children_in_order()
     ensures { ChildrenInOrder }
+{}
+
+/// Of children in turn the last at a key counts, null too.
+pub fn last_child_counts()
+    ensures { LastChildCounts }
 {}
 
 /// A leaf has one level, and each key above it one more.

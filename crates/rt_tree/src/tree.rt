@@ -11,6 +11,7 @@ ghost use Rattle.rt_tree.specs.Trees.{children_of};
 ghost use Rattle.rt_tree.specs.Leaves.{key_cmp, key_eq};
 ghost use Rattle.rt_tree.specs.inside.Puts.{PutsBelow};
 
+mod children;
 mod reading;
 mod writing;
 

@@ -1,5 +1,5 @@
 -- Trees, keys and paths that the prover computes.
-use Rattle.std.specs.Prelude.{◌≡◌, ℕ, pos, true, [], ◌∷◌, ◌++◌, Some, None, codes, replicate}
+use Rattle.std.specs.Prelude.{◌≡◌, ℕ, pos, true, [], ◌∷◌, ◌++◌, Some, None, codes, replicate, reverse}
 use Rattle.rt_tree.specs.declared.error.TreeError.TheVariants.{BadKey, KeyTooLong, TooDeep}
 use Rattle.rt_tree.specs.Key.{key_fault}
 use Rattle.rt_tree.specs.Path.{path_keys, path_text, path_fault}
@@ -88,3 +88,14 @@ abbrev pub LevelsCount : Type 0
 LevelsCount =
     (levels null ≡ 0) × (levels (num 1) ≡ 1)
     × (levels (put (num 1) (path_keys (codes "/a/b")) (num 2)) ≡ 3)
+
+-- of children in turn the last at a key counts, and null takes out what stood there
+abbrev pub LastChildCounts : Type 0
+LastChildCounts =
+    let a = codes "a" in
+    let b = codes "b" in
+    (object (reverse ((a, num 1) ∷ (b, num 2) ∷ (a, num 3) ∷ []))
+    ≡ object ((b, num 2) ∷ (a, num 3) ∷ []))
+    × (object (reverse ((a, num 1) ∷ (b, num 2) ∷ (a, null) ∷ [])) ≡ object ((b, num 2) ∷ []))
+    × (object (reverse ((a, null) ∷ (a, num 1) ∷ [])) ≡ object ((a, num 1) ∷ []))
+    × (object (reverse ((a, num 1) ∷ (a, null) ∷ [])) ≡ null)
