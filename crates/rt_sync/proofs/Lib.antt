@@ -9,5 +9,4 @@ pub mod Places
 pub mod PlainWorlds
 pub mod RefusalLaws
 pub mod ShowLaws
-pub mod Strips
 pub mod WrittenLaws

@@ -1,8 +1,7 @@
 -- Worlds of one plain listener: its form and its listen, the regions under its path, and the overlay of one more write.
 use Rattle.std.proofs.Common.{◌≡◌, ℕ, Bool, true, false, cond, not, ◌&&◌, ◌||◌, List, [], ◌∷◌, ◌++◌, map, refl, sym, ap, ◌∙◌, Option, Some, is_some}
 use Rattle.std.specs.declared.cmp.Ordering.TheVariants.{Less, Equal, Greater}
-use Rattle.std.specs.List.{filter, filter_map, flat_map, fold, list_any, enumerate_from, All}
-use Rattle.std.specs.Option.{option_map}
+use Rattle.std.specs.List.{filter, flat_map, fold, list_any, enumerate_from, All}
 use Rattle.std.specs.FinMap as map_of
 use Rattle.std.specs.FinMap.Entries.{by_order}
 use Rattle.std.proofs.lemmas.List.Elements.{All-cons, All-head, All-tail, All-map, All-filter, filter_map-append}

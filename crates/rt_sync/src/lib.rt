@@ -22,7 +22,7 @@ pub mod examples;
 mod limits;
 mod listener;
 mod overlay;
-mod paths;
+mod parts;
 mod refusals;
 mod region;
 mod regions;

@@ -3,7 +3,7 @@ ghost use Rattle.std.specs.Prelude.{◌≡◌, IfOk};
 ghost use Rattle.rt_writes.specs.Writes.{overlaid, overlay, sets_whole};
 ghost use Rattle.rt_sync.specs.World.{pending};
 
-use crate::paths::{part_of, rest_of, with_part};
+use crate::parts::{part_at, with_part};
 use crate::request::{Asked, Request};
 use crate::step::Action;
 use rt_tree::{Path, Tree};
@@ -20,11 +20,11 @@ pub(crate) fn overlaid(
 ) -> Result<Tree, AllocError>
     ensures { IfOk result (λ after. after ≡ overlaid path.now tree (at.now, entry.now)) }
 {
-    if let Some(rest) = rest_of(alloc, at, path)? {
-        return part_of(alloc, entry, &rest);
+    if let Some(rest) = path.strip_prefix(at) {
+        return part_at(alloc, entry, rest);
     }
-    match rest_of(alloc, path, at)? {
-        Some(rest) => with_part(alloc, tree, &rest, entry),
+    match at.strip_prefix(path) {
+        Some(rest) => with_part(alloc, tree, rest, entry),
         None => Ok(tree),
     }
 }

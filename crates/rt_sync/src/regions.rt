@@ -8,7 +8,7 @@ ghost use Rattle.rt_tree.specs.Assignments.{is_at_or_above};
 ghost use Rattle.rt_cache.specs.Brought.{region_part, region_put, push_plain};
 ghost use Rattle.rt_sync.specs.inside.StateView.{pair_of, pairs_of, brought_of};
 
-use crate::paths::{part_of, rest_of, with_part};
+use crate::parts::{part_at, with_part};
 use crate::region::Region;
 use rt_tree::{Path, Tree};
 use std::alloc::{AllocError, Global};
@@ -23,8 +23,8 @@ pub(crate) fn region_part(
     ensures { IfOk result (λ part. part ≡ region_part (pairs_of regions.now) path.now) }
 {
     for region in regions {
-        if let Some(rest) = rest_of(alloc, &region.path, path)? {
-            let part = part_of(alloc, &region.tree, &rest)?;
+        if let Some(rest) = path.strip_prefix(&region.path) {
+            let part = part_at(alloc, &region.tree, rest)?;
             return Ok(Some(part));
         }
     }
@@ -47,9 +47,9 @@ fn is_in_region(regions: &[Region], path: &Path) -> bool
 fn put_into(alloc: Global, region: &mut Region, path: &Path, tree: &Tree) -> Result<(), AllocError>
     ensures { OnOk result (pair_of region.new ≡ region_put (path.now, tree.now) (pair_of region.old)) }
 {
-    if let Some(rest) = rest_of(alloc, &region.path, path)? {
+    if let Some(rest) = path.strip_prefix(&region.path) {
         let old = mem::replace(&mut region.tree, Tree::null());
-        region.tree = with_part(alloc, old, &rest, tree)?;
+        region.tree = with_part(alloc, old, rest, tree)?;
     }
     Ok(())
 }
