@@ -1,3 +1,5 @@
+pub mod CalledLaws
+pub mod CountLaws
 pub mod CoveringLaws
 pub mod DeltaLaws
 pub mod HeadlineLaws
@@ -5,9 +7,14 @@ pub mod HeardLaws
 pub mod LimitLaws
 pub mod Listeners
 pub mod MessageLaws
+pub mod NamedLaws
 pub mod Numbers
 pub mod PlainLaws
+pub mod PushLaws
+pub mod RecoverLaws
 pub mod RunLaws
 pub mod ShowLaws
 pub mod SoundLaws
+pub mod StayLaws
+pub mod TouchingLaws
 pub mod WrittenLaws

@@ -3,8 +3,9 @@
 -- In reading order: World (listeners, requests, what is brought), Views (what a listener shows),
 -- Steps (what a step leaves), Messages (what it sends, and the world after it), Refusals (when it is
 -- refused, and when it is stale), Answers (what it answers), Runs (what the server hears), Headline
--- (what any steps lead to), Plain (the same of what is written and brought), Covering (the cover of a
--- world), Limited (what keeps within the limits).
+-- (what any steps lead to), Plain (the same of what is written and brought), Touched (which children
+-- of a view a step can change), Covering (the cover of a world), Limited (what keeps within the
+-- limits).
 pub mod Answers
 pub mod Covering
 pub mod Headline
@@ -16,5 +17,6 @@ pub mod Plain
 pub mod Refusals
 pub mod Runs
 pub mod Steps
+pub mod Touched
 pub mod Views
 pub mod World

@@ -1,3 +1,4 @@
+pub mod Children
 pub mod Examples
 pub mod Script
 pub mod World

@@ -1,6 +1,8 @@
 // Outside examples of the core's steps: trees compute here.
 #![tactic(auto, unfolding(rt_tree::specs::PathTree::null, rt_tree::specs::PathTree::of_leaf, rt_tree::specs::PathTree::is_null, rt_tree::specs::PathTree::leaf_at, rt_tree::specs::PathTree::sub, rt_tree::specs::PathTree::put, rt_tree::specs::PathTree::with_children, rt_tree::specs::PathTree::children_alone, rt_tree::specs::PathTree::levels, rt_tree::specs::Children::children_of, rt_tree::specs::TreeEq::tree_eq))]
 
+ghost use Rattle.rt_world.specs.laws.Children.{OneIsNamed, BelowIsSeen, AboveNamesNone};
+ghost use Rattle.rt_world.specs.laws.Children.{NamedOnce, SettledNames, LeafIsBack, LostWouldShow};
 ghost use Rattle.rt_world.specs.laws.Examples.{PushOfNull, ParentTakesOverListen};
 ghost use Rattle.rt_world.specs.laws.Examples.{WindowUnderPlainListen, WindowKeptWhole};
 ghost use Rattle.rt_world.specs.laws.Examples.{LimitWithRemovals, DeepWriteUnknownChild};
@@ -107,4 +109,31 @@ pub fn plain_cover()
 /// Refusals in their order, and stale steps.
 pub fn refusals()
     ensures { Refusals }
+{}
+
+/// A write changes the view above it by the child that it names, and nothing beside it.
+pub fn child_is_named()
+    ensures one { OneIsNamed }
+    ensures seen { BelowIsSeen }
+{}
+
+/// An entry above a path names no child of it, and may change each.
+pub fn entry_above()
+    ensures { AboveNamesNone }
+{}
+
+/// What is named: each child once, and of a settled write what it set.
+pub fn names()
+    ensures once { NamedOnce }
+    ensures settled { SettledNames }
+{}
+
+/// Where a leaf comes back, the named children put back are not what is seen.
+pub fn leaf_is_back()
+    ensures { LeafIsBack }
+{}
+
+/// A view outlives the listen that brought it, since its data stay.
+pub fn cover_goes()
+    ensures { LostWouldShow }
 {}

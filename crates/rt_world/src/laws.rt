@@ -1,5 +1,7 @@
 // The laws of the world.
 ghost use Rattle.rt_world.specs.laws.World.{HeadlineHolds, CoverTakesChanges, DeltaIsSent};
+ghost use Rattle.rt_world.specs.laws.World.{CoverChangesNoView, OnlyNamedChange, LeafNamesAll};
+ghost use Rattle.rt_world.specs.laws.World.{LeafReadsNamed, TouchedIsSeen, OthersKeepViews};
 ghost use Rattle.rt_world.specs.laws.World.{MessagesAreHeard, ConnectedSendsAll, NumbersStayWithin};
 ghost use Rattle.rt_world.specs.laws.World.{IsWritten, IsBrought};
 
@@ -9,11 +11,24 @@ pub fn headline_law()
     ensures { HeadlineHolds }
 {}
 
-/// A step that registers or ends listeners changes the cover as rt_cover says, and starts and stops
-/// the listens that this tells.
+/// A step that registers or ends listeners changes the cover as rt_cover says, starts and stops the
+/// listens that this tells, and changes the view and the primed mark of no listener that stays.
 pub fn cover_law()
     ensures changes { CoverTakesChanges }
     ensures told { DeltaIsSent }
+    ensures views { CoverChangesNoView }
+{}
+
+/// Of what a listener sees a step changes the children that its entries name, unless one of them sits
+/// at or above the listener's path: a view that is touched with these is the view from scratch, and
+/// where a leaf comes or goes, one that takes all its children anew reads no more. A listener whose
+/// path no entry overlaps stays as it was.
+pub fn named_law()
+    ensures named { OnlyNamedChange }
+    ensures leaf { LeafNamesAll }
+    ensures reads { LeafReadsNamed }
+    ensures touched { TouchedIsSeen }
+    ensures others { OthersKeepViews }
 {}
 
 /// The messages to be sent are those that the steps made, and the server that hears them keeps just

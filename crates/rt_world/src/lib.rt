@@ -15,7 +15,7 @@ mod request;
 mod step;
 
 pub use error::CoreError;
-pub use laws::{cover_law, headline_law, limit_law, message_law, plain_law};
+pub use laws::{cover_law, headline_law, limit_law, message_law, named_law, plain_law};
 pub use limits::{Limits, MAX_LISTENERS, MAX_NUMBER, MAX_REQUESTS};
 pub use report::{Body, Note, Notes, Outcome, Report};
 pub use request::Request;

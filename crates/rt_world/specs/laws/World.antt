@@ -1,13 +1,18 @@
 -- Laws of the world.
-use Rattle.std.specs.Prelude.{◌≡◌, ◌<◌, true, List, ◌++◌, map, Some, None}
-use Rattle.std.specs.List.{All, AllPairs}
+use Rattle.std.specs.Prelude.{◌≡◌, ◌<◌, ◌≤◌, ◌+◌, ◌⊎◌, Bool, true, false, List, ◌++◌, map, length}
+use Rattle.std.specs.Prelude.{Some, None, is_some}
+use Rattle.std.specs.List.{list_any, All, AllPairs}
+use Rattle.rt_tree.specs.PathTree.{Key, null, leaf_of, child}
+use Rattle.rt_tree.specs.Children.{children_of}
+use Rattle.rt_tree.specs.Assignments.{do_overlap}
 use Rattle.rt_cover.specs.Cover.{Tagged}
 use Rattle.rt_cover.specs.Runs.{Change, told}
+use Rattle.rt_view.specs.Views.{with_named}
 use Rattle.rt_world.specs.declared.limits.Limits.{Limits}
 use Rattle.rt_world.specs.declared.request.Request.{Request}
 use Rattle.rt_world.specs.declared.step.Step.{Step}
 use Rattle.rt_world.specs.Plain.{IsPlainStep, fold_both, writes_by, brought_by}
-use Rattle.rt_world.specs.World.{World, empty_world, pending}
+use Rattle.rt_world.specs.World.{Listener, World, empty_world, pending}
 use Rattle.rt_world.specs.Messages.{listens, request_message, next}
 use Rattle.rt_world.specs.Refusals.{refusal}
 use Rattle.rt_world.specs.Answers.{step, answers, world_after}
@@ -15,6 +20,8 @@ use Rattle.rt_world.specs.Runs.{made, heard, left_to_send}
 use Rattle.rt_world.specs.Covering.{cover_in, cover_after, change_by, delta_by}
 use Rattle.rt_world.specs.Limited.{IsWithin}
 use Rattle.rt_world.specs.Headline.{Headline}
+use Rattle.rt_world.specs.Touched.{entries_by, is_covered, children_named, is_named, seen}
+use Rattle.rt_world.specs.Touched.{children_at, IsInBoth}
 
 -- the headline holds of any steps, from any world that steps lead to
 abbrev pub HeadlineHolds : Type 0
@@ -35,6 +42,95 @@ abbrev pub DeltaIsSent : Type 0
 DeltaIsSent = (limits : Limits) (before : List Step) (s : Step)
     → let w = world_after (empty_world limits) before in
     (change : Change) → change_by w s ≡ Some change → told (cover_in w) change ≡ delta_by w s
+
+-- whether a step registers or ends listeners
+abbrev pub changes_listeners : Step → Bool
+changes_listeners (Step.Listen seat query) = true
+changes_listeners (Step.Unlisten seat listener) = true
+changes_listeners (Step.Write seat action) = false
+changes_listeners (Step.OnDisconnect seat ending) = false
+changes_listeners (Step.Data tag path tree) = false
+changes_listeners (Step.DataMerge tag entries) = false
+changes_listeners (Step.Accepted id) = false
+changes_listeners (Step.Refused id why) = false
+changes_listeners (Step.Revoked tag why) = true
+changes_listeners Step.Connected = false
+changes_listeners Step.Disconnected = false
+changes_listeners (Step.CloseSeat seat) = true
+
+-- the listeners that were there and stay are as they were, with their views and primed marks
+abbrev pub StayAsTheyWere : World → World → Type 0
+StayAsTheyWere old new = (l m : Listener) → IsInBoth old new l m → m ≡ l
+
+-- so they are after such a step, which changes the listens kept and what they brought
+abbrev pub CoverChangesNoView : Type 0
+CoverChangesNoView = (limits : Limits) (before : List Step) (s : Step)
+    → let w = world_after (empty_world limits) before in
+    changes_listeners s ≡ true → StayAsTheyWere w (step w s).0
+
+-- ---- children
+
+-- where no entry of the step sits at or above a listener's path, a child that none names is seen as
+-- before
+abbrev pub OnlyNamedChange : Type 0
+OnlyNamedChange = (limits : Limits) (before : List Step) (s : Step)
+    → let w = world_after (empty_world limits) before in
+    let v = (step w s).0 in
+    (l m : Listener) → IsInBoth w v l m
+    → let p = l.query.path in
+    let entries = entries_by w s in
+    is_covered p entries ≡ false
+    → (k : Key) → is_named p entries k ≡ false
+    → child (seen v l.query) k ≡ child (seen w l.query) k
+
+-- so where a leaf stands at the path before or after, all children that are seen before or after are
+-- named
+abbrev pub LeafNamesAll : Type 0
+LeafNamesAll = (limits : Limits) (before : List Step) (s : Step)
+    → let w = world_after (empty_world limits) before in
+    let v = (step w s).0 in
+    (l m : Listener) → IsInBoth w v l m
+    → let p = l.query.path in
+    let entries = entries_by w s in
+    is_covered p entries ≡ false
+    → is_some (leaf_of (seen w l.query)) ≡ true ⊎ is_some (leaf_of (seen v l.query)) ≡ true
+    → (k : Key) → is_named p entries k ≡ false
+    → (child (seen w l.query) k ≡ null) × (child (seen v l.query) k ≡ null)
+
+-- and a view that takes all its children anew there reads no more of them than are named
+abbrev pub LeafReadsNamed : Type 0
+LeafReadsNamed = (limits : Limits) (before : List Step) (s : Step)
+    → let w = world_after (empty_world limits) before in
+    let v = (step w s).0 in
+    (l m : Listener) → IsInBoth w v l m
+    → let p = l.query.path in
+    let entries = entries_by w s in
+    is_covered p entries ≡ false
+    → is_some (leaf_of (seen w l.query)) ≡ true ⊎ is_some (leaf_of (seen v l.query)) ≡ true
+    → length (children_of (seen w l.query)) + length (children_of (seen v l.query))
+    ≤ length (children_named p entries)
+
+-- where the leaf at the path stays, or there is none before and after, what is seen is what was
+-- seen with the named children put into it, as a view is touched
+abbrev pub TouchedIsSeen : Type 0
+TouchedIsSeen = (limits : Limits) (before : List Step) (s : Step)
+    → let w = world_after (empty_world limits) before in
+    let v = (step w s).0 in
+    (l m : Listener) → IsInBoth w v l m
+    → let p = l.query.path in
+    let entries = entries_by w s in
+    is_covered p entries ≡ false
+    → leaf_of (seen w l.query) ≡ leaf_of (seen v l.query)
+    → with_named (seen w l.query) (children_at (seen v l.query) (children_named p entries))
+    ≡ seen v l.query
+
+-- a listener is as it was where no entry of the step sits at, above or below its path
+abbrev pub OthersKeepViews : Type 0
+OthersKeepViews = (limits : Limits) (before : List Step) (s : Step)
+    → let w = world_after (empty_world limits) before in
+    (l m : Listener) → IsInBoth w (step w s).0 l m
+    → list_any (λ a. do_overlap a.0 l.query.path) (entries_by w s) ≡ false
+    → m ≡ l
 
 -- ---- messages
 

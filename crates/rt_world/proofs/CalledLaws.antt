@@ -1,0 +1,180 @@
+-- What is brought is what calls of a cache leave: each push that is not refused is one, and the change of cover behind it.
+use Rattle.std.proofs.Common.{◌≡◌, ℕ, Bool, true, false, cond, not, ◌&&◌, ◌||◌, List, [], ◌∷◌, ◌++◌, map, refl, sym, ap, subst, ◌∙◌, arith, Option, Some, None, slice_index_or}
+use mathlib.Core.Bool.{true≢false}
+use Rattle.std.specs.List.{cons_option, fold, list_any, All, AllPairs, Contains}
+use Rattle.std.specs.Option.{option_map_or}
+use Rattle.std.proofs.lemmas.List.Elements.{All-nil, All-cons, All-head, All-tail}
+use Rattle.std.proofs.lemmas.List.Folds.{list_any_at}
+use Rattle.rt_tree.specs.PathTree.{Path, PathTree, null}
+use Rattle.rt_tree.specs.Assignments.{is_at_or_above, do_overlap, have_overlap, Assignment}
+use Rattle.rt_query.specs.Queries.{Query, is_filtered}
+use Rattle.rt_query.specs.QueryEq.{query_eq}
+use Rattle.rt_query.specs.Supply.{does_supply}
+use Rattle.rt_query.specs.laws.QueryEq.{query_eq_tells}
+use Rattle.rt_cache.specs.Brought.{Brought, nothing_brought, push}
+use Rattle.rt_cache.specs.Recover.{plain_spots, do_plains_overlap}
+use Rattle.rt_cache.specs.Runs.{IsAllowed, after, after_all}
+use Rattle.rt_cache.specs.declared.run.Call.{Call}
+use Rattle.rt_cache.specs.declared.run.Call.TheVariants.{Put, Recover}
+use Rattle.rt_cover.specs.Cover.{Tagged, forms, needed}
+use Rattle.rt_cover.specs.laws.CoverLaws.{Contains-from_filter, passes-from_filter, is_covered}
+use Rattle.rt_cover.specs.laws.FormLaws.{supply_unfiltered}
+use Rattle.rt_cover.specs.laws.Pairs.{AllPairs-first, AllPairs-rest, AllPairs-map}
+use Rattle.rt_world.specs.declared.limits.Limits.{Limits}
+use Rattle.rt_world.specs.declared.error.CoreError.{CoreError}
+use Rattle.rt_world.specs.declared.step.Step.{Step}
+use Rattle.rt_world.specs.World.{World, empty_world, listen_of, registered}
+use Rattle.rt_world.specs.Steps.{forms_after, kept_after, pushed}
+use Rattle.rt_world.specs.Messages.{next}
+use Rattle.rt_world.specs.Refusals.{refusal, is_stale, stands_too_deep, is_no_merge, is_within_listen}
+use Rattle.rt_world.specs.Answers.{step, step_by, world_after}
+use Rattle.rt_world.specs.Plain.{IsPushOn}
+use Rattle.rt_world.specs.inside.Called.{IsCalled}
+use Rattle.rt_world.specs.inside.Sound.{IsSound}
+use Rattle.rt_world.proofs.LimitLaws.{allowed}
+use Rattle.rt_world.proofs.PlainLaws.{forms_kept, pushes_on}
+use Rattle.rt_world.proofs.SoundLaws.{sound_empty, sound_next, sound_step}
+
+-- ---- of the plain listens kept none is at or above another
+
+-- a needed plain form is at or above no other needed one
+needed_alone : (fs : List Query) (g f : Query) → Contains (needed fs) g → Contains (needed fs) f → is_filtered g ≡ false → is_at_or_above g.path f.path ≡ true → g ≡ f
+needed_alone fs g f mg mf plain above =
+    let free : not (is_covered fs f) ≡ true = passes-from_filter (λ x. not (is_covered fs x)) fs f mf in
+    let there = Contains-from_filter (λ x. not (is_covered fs x)) fs g mg in
+    let supplies : does_supply g f ≡ true = supply_unfiltered g f plain ∙ above in
+    elim (query_eq g f) as (λ b. query_eq g f ≡ b → g ≡ f) [
+      | true ↦ λ e. (query_eq_tells g f).0 e
+      | false ↦ λ e.
+          let covered : is_covered fs f ≡ true = list_any_at (λ x. not (query_eq x f) && does_supply x f) fs there.0 g there.1
+          (ap (λ x. not (query_eq x f) && does_supply x f) there.2 ∙ (λ i. not (e i) && supplies i)) in
+          absurd (true≢false (sym free ∙ ap not covered))
+    ] refl
+
+-- two listens that are not both plain, or that are apart
+abbrev ArePlainApart : Query → Query → Type 0
+ArePlainApart f g = is_filtered f ≡ false → is_filtered g ≡ false → do_overlap f.path g.path ≡ false
+
+or_no : (a b : Bool) → a ≡ false → b ≡ false → (a || b) ≡ false
+or_no a b e f = λ i. e i || f i
+
+needed_apart : (fs : List Query) (g f : Query) → Contains (needed fs) g → Contains (needed fs) f → (g ≡ f → ⊥) → ArePlainApart g f
+needed_apart fs g f mg mf other eg ef = or_no _ _ (never (is_at_or_above g.path f.path) (λ a. other (needed_alone fs g f mg mf eg a)))
+    (never (is_at_or_above f.path g.path) (λ a. other (sym (needed_alone fs f g mf mg ef a))))
+  where
+    never : (b : Bool) → (b ≡ true → ⊥) → b ≡ false
+    never true h = absurd (h refl)
+    never false h = refl
+
+one_apart : (q : Query) (fs : List Query) → is_filtered q ≡ false → All (ArePlainApart q) fs → list_any (λ (b : Path × PathTree). do_overlap q.path b.0) (plain_spots fs) ≡ false
+one_apart q [] e h = refl
+one_apart q (f ∷ fs) e h =
+    let rest = one_apart q fs e (All-tail (ArePlainApart q) f fs h) in
+    elim (is_filtered f) as (λ b. is_filtered f ≡ b → list_any (λ (x : Path × PathTree). do_overlap q.path x.0) (cons_option (cond b None (Some (f.path, null))) (plain_spots fs)) ≡ false) [
+      | true ↦ λ g. rest
+      | false ↦ λ g. or_no _ _ (All-head (ArePlainApart q) f fs h e g) rest
+    ] refl
+
+all_apart : (fs : List Query) → AllPairs ArePlainApart fs → do_plains_overlap fs ≡ false
+all_apart [] h = refl
+all_apart (f ∷ fs) h =
+    let rest = all_apart fs (AllPairs-rest ArePlainApart f fs h) in
+    elim (is_filtered f) as (λ b. is_filtered f ≡ b → have_overlap (cons_option (cond b None (Some (f.path, null))) (plain_spots fs)) ≡ false) [
+      | true ↦ λ e. rest
+      | false ↦ λ e. or_no _ _ (one_apart f fs e (AllPairs-first ArePlainApart f fs h)) rest
+    ] refl
+
+-- so it is after a step
+pub kept_apart : (w : World) (s : Step) → IsSound w → do_plains_overlap (forms_kept (kept_after w s)) ≡ false
+kept_apart w s h =
+    let c = (sound_next w s h).listens in
+    all_apart (forms_kept (kept_after w s)) (pairs (forms (registered (next w s).listeners)) (forms_kept (kept_after w s)) c.only (AllPairs-map (λ (k : Tagged). k.form) (λ (f g : Query). f ≡ g → ⊥) (kept_after w s) c.once))
+  where
+    pairs : (all fs : List Query) → All (Contains (needed all)) fs → AllPairs (λ (f g : Query). f ≡ g → ⊥) fs → AllPairs ArePlainApart fs
+    pairs all fs m once i j d lt within =
+        needed_apart all (slice_index_or fs i d) (slice_index_or fs j d) (m i d (omega (arith, lt, within))) (m j d (omega (arith, within))) (once i j d lt within)
+
+-- ---- calls
+
+run_append : (cs ds : List Call) (b : Brought) → after_all b (cs ++ ds) ≡ after_all (after_all b cs) ds
+run_append [] ds b = refl
+run_append (c ∷ cs) ds b = run_append cs ds (after b c)
+
+All-both : {X : Type 0} (P : X → Type 0) (xs ys : List X) → All P xs → All P ys → All P (xs ++ ys)
+All-both P [] ys h g = g
+All-both P (x ∷ xs) ys h g = All-cons P x (xs ++ ys) (All-head P x xs h) (All-both P xs ys (All-tail P x xs h) g)
+
+-- more calls
+pub called_more : (b : Brought) (cs : List Call) → IsCalled b → All IsAllowed cs → IsCalled (after_all b cs)
+called_more b cs h ok = record {
+  calls = h.calls ++ cs;
+  allowed = All-both IsAllowed h.calls cs h.allowed ok;
+  left = run_append h.calls cs nothing_brought ∙ ap (λ x. after_all x cs) h.left;
+}
+
+-- a push on a listen, entry by entry
+abbrev puts : Query → List Assignment → List Call
+puts q entries = map (λ (a : Assignment). Put q a.0 a.1) entries
+
+puts_push : (q : Query) (entries : List Assignment) (b : Brought) → after_all b (puts q entries) ≡ fold (push q) b entries
+puts_push q [] b = refl
+puts_push q (a ∷ entries) b = puts_push q entries (push q b a)
+
+puts_allowed : (q : Query) (entries : List Assignment) → All (IsPushOn q) entries → All IsAllowed (puts q entries)
+puts_allowed q [] h = All-nil IsAllowed
+puts_allowed q (a ∷ entries) h =
+    let on = All-head (IsPushOn q) a entries h in
+    All-cons IsAllowed (Put q a.0 a.1) (puts q entries) (on.under, on.shallow) (puts_allowed q entries (All-tail (IsPushOn q) a entries h))
+
+-- ---- a step
+
+or_first : (b : Bool) → (b || false) ≡ false → b ≡ false
+or_first true e = e
+or_first false e = refl
+
+-- a push on the listen of a tag
+called_push : (w : World) (tag : ℕ) (entries : List Assignment) → IsCalled w.brought
+    → (not (is_within_listen w (tag, entries)) || is_no_merge entries) ≡ false → list_any stands_too_deep entries ≡ false
+    → IsCalled (option_map_or (λ q. fold (push q) w.brought entries) (listen_of w tag) w.brought)
+called_push w tag entries h good deep = at (listen_of w tag) refl
+  where
+    at : (o : Option Query) → listen_of w tag ≡ o → IsCalled (option_map_or (λ q. fold (push q) w.brought entries) o w.brought)
+    at None e = h
+    at (Some q) e = subst IsCalled (puts_push q entries w.brought) (called_more w.brought (puts q entries) h (puts_allowed q entries (pushes_on w tag entries q e good deep)))
+
+-- what is brought once the step's push is taken
+pub called_pushed : (w : World) (s : Step) → IsCalled w.brought → refusal w s ≡ None → IsCalled (pushed w s)
+called_pushed w (Step.Data tag path tree) h free =
+    let a = allowed w (Step.Data tag path tree) free in
+    called_push w tag ((path, tree) ∷ []) h (or_first _ a.push) (or_first _ a.deep)
+called_pushed w (Step.DataMerge tag entries) h free =
+    let a = allowed w (Step.DataMerge tag entries) free in
+    called_push w tag entries h (or_first _ a.push) (or_first _ a.deep)
+called_pushed w (Step.Listen seat query) h free = h
+called_pushed w (Step.Unlisten seat listener) h free = h
+called_pushed w (Step.Write seat action) h free = h
+called_pushed w (Step.OnDisconnect seat ending) h free = h
+called_pushed w (Step.Accepted id) h free = h
+called_pushed w (Step.Refused id why) h free = h
+called_pushed w (Step.Revoked tag why) h free = h
+called_pushed w Step.Connected h free = h
+called_pushed w Step.Disconnected h free = h
+called_pushed w (Step.CloseSeat seat) h free = h
+
+called_next : (w : World) (s : Step) → IsSound w → IsCalled w.brought → refusal w s ≡ None → IsCalled (next w s).brought
+called_next w s sound h free =
+    called_more (pushed w s) (Recover (forms_after w s) (forms_kept (kept_after w s)) ∷ []) (called_pushed w s h free)
+    (All-cons IsAllowed (Recover (forms_after w s) (forms_kept (kept_after w s))) [] (kept_apart w s sound) (All-nil IsAllowed))
+
+called_step : (w : World) (s : Step) (o : Option CoreError) (b : Bool) → refusal w s ≡ o → IsSound w → IsCalled w.brought → IsCalled (step_by o b w s).0.brought
+called_step w s (Some e) b f sound h = h
+called_step w s None true f sound h = h
+called_step w s None false f sound h = called_next w s sound h f
+
+called_run : (steps : List Step) (w : World) → IsSound w → IsCalled w.brought → IsCalled (world_after w steps).brought
+called_run [] w sound h = h
+called_run (s ∷ rest) w sound h = called_run rest (step w s).0 (sound_step w s (refusal w s) (is_stale w s) sound) (called_step w s (refusal w s) (is_stale w s) refl sound h)
+
+pub called_world : (limits : Limits) (steps : List Step) → IsCalled (world_after (empty_world limits) steps).brought
+called_world limits steps =
+    called_run steps (empty_world limits) (sound_empty limits) (record { calls = []; allowed = All-nil IsAllowed; left = refl })

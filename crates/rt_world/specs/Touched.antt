@@ -1,0 +1,66 @@
+-- Which children of a listener's path a step can change.
+use Rattle.std.specs.Prelude.{◌≡◌, ℕ, Bool, List, [], ◌∷◌, map, Option, unwrap_or}
+use Rattle.std.specs.List.{filter_map, list_any, Contains}
+use Rattle.std.specs.Option.{option_and_then}
+use Rattle.rt_tree.specs.PathTree.{Key, Path, PathTree, key_eq, strip, child, first_key}
+use Rattle.rt_tree.specs.Assignments.{Assignment, is_at_or_above}
+use Rattle.rt_query.specs.Queries.{Query}
+use Rattle.rt_writes.specs.Writes as writes
+use Rattle.rt_cache.specs.Brought.{base}
+use Rattle.rt_cover.specs.Cover.{distinct}
+use Rattle.rt_world.specs.declared.step.Step.{Step}
+use Rattle.rt_world.specs.Views.{seen_over}
+use Rattle.rt_world.specs.World.{Listener, World, entries_of, pending}
+
+-- ---- what a step names
+
+-- the entries of the pending write of that number, if there is one
+abbrev pub entries_settled : World → ℕ → List Assignment
+entries_settled w id = unwrap_or (writes.entries_of id (pending w.requests)) []
+
+-- the entries of a step: those of its write, of its push, or of the write that it settles
+abbrev pub entries_by : World → Step → List Assignment
+entries_by w (Step.Listen seat query) = []
+entries_by w (Step.Unlisten seat listener) = []
+entries_by w (Step.Write seat action) = entries_of action
+entries_by w (Step.OnDisconnect seat ending) = []
+entries_by w (Step.Data tag path tree) = (path, tree) ∷ []
+entries_by w (Step.DataMerge tag entries) = entries
+entries_by w (Step.Accepted id) = entries_settled w id
+entries_by w (Step.Refused id why) = entries_settled w id
+entries_by w (Step.Revoked tag why) = []
+entries_by w Step.Connected = []
+entries_by w Step.Disconnected = []
+entries_by w (Step.CloseSeat seat) = []
+
+-- whether an entry sits at or above p
+abbrev pub is_covered : Path → List Assignment → Bool
+is_covered p entries = list_any (λ a. is_at_or_above a.0 p) entries
+
+-- the child of p that an entry names: the key that follows p in its path, where that is below p
+abbrev pub named_by : Path → Assignment → Option Key
+named_by p a = option_and_then first_key (strip p a.0)
+
+-- the children of p that the entries name, each once
+abbrev pub children_named : Path → List Assignment → List Key
+children_named p entries = distinct key_eq (filter_map (named_by p) entries)
+
+-- whether one of the entries names the child
+abbrev pub is_named : Path → List Assignment → Key → Bool
+is_named p entries k = list_any (key_eq k) (children_named p entries)
+
+-- ---- what a listener sees
+
+-- what a query sees in a world: what is brought for it, under the pending writes
+abbrev pub seen : World → Query → PathTree
+seen w q = seen_over (base w.brought q) (pending w.requests) q
+
+-- these children of a tree, as a view is touched with them
+abbrev pub children_at : PathTree → List Key → List (Key × PathTree)
+children_at t keys = map (λ k. (k, child t k)) keys
+
+-- a listener that is registered in both worlds, as the one has it and the other
+pub record IsInBoth (old new : World) (l m : Listener) : Type 0 where
+  pub before : Contains old.listeners l
+  pub after : Contains new.listeners m
+  pub number : m.number ≡ l.number
