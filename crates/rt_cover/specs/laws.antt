@@ -8,3 +8,4 @@ pub mod SoundLaws
 pub mod Needed
 pub mod KeptListens
 pub mod Runs
+pub mod Apart

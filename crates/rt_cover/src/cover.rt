@@ -1,18 +1,22 @@
 // The cover.
 ghost use Rattle.std.specs.Prelude.{◌≡◌, ◌<◌, ◌+◌, ◌⊎◌, false, true, not, map, length, IfOk, IfErr};
-ghost use Rattle.std.specs.Prelude.{OnOk, OnErr, IfSome, IfNone, is_some};
+ghost use Rattle.std.specs.Prelude.{OnOk, OnErr, IfSome, IfNone, is_some, ℕ};
 ghost use Rattle.std.specs.List.{filter, list_any, All, AllPairs};
+ghost use Rattle.std.specs.Option.{option_copied, option_map, option_map_or};
 
 use crate::delta::{Delta, Revoked};
+use crate::ending::Ending;
 use crate::error::CoverError;
 use crate::forms::{forms, needed};
 use crate::kept::{Kept, KeptList};
 use crate::listen::{self, Listen};
 use crate::listener::{
-    Listener, first_listener, into_form, numbers_of, with_listener, without_form, without_listeners,
+    self, Listener, first_listener, into_form, numbers_of, with_listener, without_form,
+    without_listeners,
 };
 use crate::numbers::Numbers;
 use crate::plan::Plan;
+use crate::starting;
 use rt_query::Query;
 use std::alloc::{AllocError, Global};
 use std::marker::Model;
@@ -52,8 +56,10 @@ impl Model for Cover {
 impl Cover {
     ghost use Rattle.rt_query.specs.Supply.{form, does_supply};
     ghost use Rattle.rt_query.specs.QueryEq.{query_eq};
-    ghost use Rattle.rt_cover.specs.Cover.{kept_for};
+    ghost use Rattle.rt_cover.specs.Cover.{forms, kept_for};
+    ghost use Rattle.rt_cover.specs.Apart.{do_plains_overlap};
     ghost use Rattle.rt_cover.specs.State.{empty_cover, is_registered, needed_forms, started_for};
+    ghost use Rattle.rt_cover.specs.State.{with_listener, without_listeners};
     ghost use Rattle.rt_cover.specs.State.{shown_with, shown, listen_at, supplier};
     ghost use Rattle.rt_cover.specs.State.{with_listeners, lacks_tag, difference};
     ghost use Rattle.rt_cover.specs.State.{added, removed, revoked};
@@ -61,6 +67,7 @@ impl Cover {
     ghost use Rattle.rt_cover.specs.State.{fault_of, add_fault, remove_fault, revoke_fault};
     ghost use Rattle.rt_cover.specs.State.{has_unknown, FailsBy};
     ghost use Rattle.rt_cover.specs.Shown.{AreFewest, IsCertified, IsLeastSupplier, IsTold};
+    ghost use Rattle.rt_cover.specs.inside.Endings.{left};
     ghost use Rattle.rt_cover.specs.inside.Sound.{IsSound};
 
     /// The cover of no listener. Tags count from 1, and none is above the last one.
@@ -73,6 +80,29 @@ impl Cover {
             given: 0,
             last_tag,
         }
+    }
+
+    /// An equal cover: a change that is to be made only together with others can be made of the
+    /// copy, which takes the cover's place once they are made too.
+    ///
+    /// Copies each listener's form and each listen's, as a change does.
+    ///
+    /// # Errors
+    ///
+    /// `NoMemory` alone.
+    pub fn copy(&self) -> Result<Cover, CoverError>
+        ensures same { IfOk result (λ copy. copy ≡ self.now) }
+        ensures fault { IfErr result (λ e. e ≡ CoverError.NoMemory) }
+    {
+        let alloc = self.alloc();
+        let listeners = listener::copies(alloc, &self.listeners)?;
+        let kept = listen::copies(alloc, &self.kept)?;
+        Ok(Cover {
+            listeners,
+            kept,
+            given: self.given,
+            last_tag: self.last_tag,
+        })
     }
 
     // The allocator of its lists.
@@ -135,6 +165,46 @@ impl Cover {
         Ok(self.shown()?)
     }
 
+    /// The registered forms, each once, in order of their least-numbered listeners.
+    ///
+    /// Copies each form, after a look at the forms before it.
+    ///
+    /// # Errors
+    ///
+    /// `NoMemory` alone.
+    pub fn forms(&self) -> Result<Vec<Query>, CoverError>
+        ensures forms { IfOk result (λ v. v.items ≡ forms self.now.listeners) }
+        ensures fault { IfErr result (λ e. e ≡ CoverError.NoMemory) }
+    {
+        Ok(forms(self.alloc(), &self.listeners)?)
+    }
+
+    /// The forms of the kept listens, by tag. Of those that are plain queries none is at or above
+    /// another.
+    ///
+    /// Copies each form.
+    ///
+    /// # Errors
+    ///
+    /// `NoMemory` alone.
+    pub fn kept_forms(&self) -> Result<Vec<Query>, CoverError>
+        ensures forms { IfOk result (λ v. v.items ≡ map (λ k. k.form) self.now.kept) }
+        ensures apart { IfOk result (λ v. do_plains_overlap v.items ≡ false) }
+        ensures fault { IfErr result (λ e. e ≡ CoverError.NoMemory) }
+    {
+        Ok(listen::forms_of(self.alloc(), &self.kept)?)
+    }
+
+    /// The form of the kept listen with that tag.
+    pub fn form_at(&self, tag: u64) -> Option<&Query>
+        ensures { option_copied result ≡ option_map (λ k. k.form) (listen_at self.now tag) }
+    {
+        match listen::listen_at(&self.kept, tag) {
+            Some(listen) => Some(&listen.form),
+            None => None,
+        }
+    }
+
     /// The least tag of a kept listen that supplies the query.
     pub fn supplier(&self, query: &Query) -> Option<u64>
         ensures exact { result ≡ supplier self.now query.now }
@@ -145,8 +215,59 @@ impl Cover {
         listen::supplier(&self.kept, query)
     }
 
+    /// Whether a new listener of the query, of whatever number, would need a tag above the last one,
+    /// so that [`Cover::add`] would answer `NoTag`.
+    ///
+    /// Takes no memory. Looks at the listens kept only once the last tag is given.
+    pub fn lacks_tag_to_add(&self, query: &Query) -> bool
+        ensures { (listener : ℕ) → is_registered self.now.listeners listener ≡ false
+            → result
+            ≡ lacks_tag self.now (with_listener self.now.listeners listener (form query.now)) }
+    {
+        self.given == self.last_tag && self.supplier(query).is_none()
+    }
+
+    // Whether a change that ends these listeners would need a tag above the last one. No more listens
+    // start than there are listeners.
+    fn lacks_tag_to_end(&self, ending: &Ending<'_>) -> bool
+        ensures { result ≡ lacks_tag self.now (left ending.now self.now.listeners) }
+    {
+        let room = self.last_tag - self.given;
+        if self.listeners.len() as u64 <= room {
+            return false;
+        }
+        starting::exceeds(&self.listeners, &self.kept, ending, room)
+    }
+
+    /// Whether the end of these listeners would need a tag above the last one, so that
+    /// [`Cover::remove`] would answer `NoTag`. A number that is not registered changes nothing.
+    ///
+    /// Takes no memory. Compares the listeners with one another only where fewer tags are left than
+    /// there are listeners.
+    pub fn lacks_tag_to_remove(&self, listeners: &[u64]) -> bool
+        ensures { result
+            ≡ lacks_tag self.now (without_listeners self.now.listeners listeners.now) }
+    {
+        self.lacks_tag_to_end(&Ending::Numbers(listeners))
+    }
+
+    /// Whether a revocation of the tag would need a tag above the last one, so that
+    /// [`Cover::revoke`] would answer `NoTag`. False where no listen with the tag is kept.
+    ///
+    /// Costs what [`Cover::lacks_tag_to_remove`] does.
+    pub fn lacks_tag_to_revoke(&self, tag: u64) -> bool
+        ensures { result ≡ option_map_or (λ _. lacks_tag self.now (left_after self.now tag))
+            (listen_at self.now tag) false }
+    {
+        match listen::listen_at(&self.kept, tag) {
+            Some(listen) => self.lacks_tag_to_end(&Ending::Form(&listen.form)),
+            None => false,
+        }
+    }
+
     // What a change to these listeners makes of the listens kept.
-    fn plan(&self, listeners: &[Listener]) -> Result<Plan, CoverError>
+    fn plan(&self, listeners: &[Listener]) -> Result<Plan, AllocError>
+        requires room { lacks_tag self.now listeners.now ≡ false }
         ensures kept { IfOk result (λ plan. plan.kept.items
             ≡ kept_for self.now.next_tag self.now.kept (needed_forms listeners.now)) }
         ensures given { IfOk result (λ plan. plan.given + 1
@@ -158,14 +279,14 @@ impl Cover {
             plan.stopped.items
             ≡ map (λ k. k.tag)
             (filter (λ k. not (list_any (query_eq k.form) needed)) self.now.kept)) }
-        ensures taken { OnOk result (lacks_tag self.now listeners.now ≡ false) }
-        ensures fault { IfErr result (FailsBy (fault_of self.now listeners.now)) }
     {
         let alloc = self.alloc();
         let forms = forms(alloc, listeners)?;
         let needed = needed(alloc, &forms)?;
+        // read for the prover: no tag is above it
+        let _last_tag = self.last_tag;
         let mut plan = Plan::staying(alloc, &self.kept, self.given, &needed)?;
-        plan.start_new(self.last_tag, &self.kept, &needed, listeners)?;
+        plan.start_new(&self.kept, &needed, listeners)?;
         Ok(plan)
     }
 
@@ -173,12 +294,12 @@ impl Cover {
     fn change(&mut self, listeners: Vec<Listener>) -> Result<Delta, CoverError>
         requires rise { AllPairs (λ l m. l.0 < m.0) listeners.items }
         requires forms { All (λ l. form l.1 ≡ l.1) listeners.items }
+        requires room { lacks_tag self.old listeners.items ≡ false }
         ensures cover { OnOk result (self.new ≡ with_listeners self.old listeners.items) }
         ensures delta { IfOk result (λ delta. delta
             ≡ difference self.old (with_listeners self.old listeners.items)) }
         ensures told { IfOk result (λ delta. IsTold self.old.next_tag delta) }
-        ensures taken { OnOk result (fault_of self.old listeners.items ≡ None) }
-        ensures fault { IfErr result (FailsBy (fault_of self.old listeners.items)) }
+        ensures fault { IfErr result (λ e. e ≡ CoverError.NoMemory) }
         ensures unchanged { OnErr result (self.new ≡ self.old) }
     {
         let plan = self.plan(&listeners)?;
@@ -191,11 +312,27 @@ impl Cover {
         })
     }
 
+    // Registers a listener, where no tag is lacking.
+    fn register(&mut self, listener: u64, query: Query) -> Result<Delta, CoverError>
+        requires room { lacks_tag self.old (with_listener self.old.listeners listener (form query))
+            ≡ false }
+        ensures cover { OnOk result (self.new ≡ added self.old listener query) }
+        ensures delta { IfOk result (λ delta. delta
+            ≡ difference self.old (added self.old listener query)) }
+        ensures told { IfOk result (λ delta. IsTold self.old.next_tag delta) }
+        ensures fault { IfErr result (λ e. e ≡ CoverError.NoMemory) }
+        ensures unchanged { OnErr result (self.new ≡ self.old) }
+    {
+        let form = into_form(query)?;
+        let listeners = with_listener(self.alloc(), &self.listeners, listener, form)?;
+        self.change(listeners)
+    }
+
     /// Registers a listener, under a number that no registered one has.
     ///
     /// # Errors
     ///
-    /// `NoTag` where a new listen would need a tag above the last one, or `NoMemory`. The cover
+    /// `NoTag` where a new listen would need a tag above the last one; else `NoMemory`. The cover
     /// stays as it was.
     pub fn add(&mut self, listener: u64, query: Query) -> Result<Delta, CoverError>
         requires { is_registered self.old.listeners listener ≡ false }
@@ -205,11 +342,14 @@ impl Cover {
         ensures told { IfOk result (λ delta. IsTold self.old.next_tag delta) }
         ensures taken { OnOk result (add_fault self.old listener query ≡ None) }
         ensures fault { IfErr result (FailsBy (add_fault self.old listener query)) }
+        ensures no_tag { add_fault self.old listener query ≡ Some CoverError.NoTag
+            → result ≡ Err CoverError.NoTag }
         ensures unchanged { OnErr result (self.new ≡ self.old) }
     {
-        let form = into_form(query)?;
-        let listeners = with_listener(self.alloc(), &self.listeners, listener, form)?;
-        self.change(listeners)
+        if self.lacks_tag_to_add(&query) {
+            return Err(CoverError::NoTag);
+        }
+        self.register(listener, query)
     }
 
     // Whether one of the numbers is not registered.
@@ -219,12 +359,27 @@ impl Cover {
         numbers.iter().any(|number| !self.is_registered(*number))
     }
 
+    // Ends these listeners, where no tag is lacking.
+    fn unregister(&mut self, listeners: &[u64]) -> Result<Delta, CoverError>
+        requires room { lacks_tag self.old (without_listeners self.old.listeners listeners.now)
+            ≡ false }
+        ensures cover { OnOk result (self.new ≡ removed self.old listeners.now) }
+        ensures delta { IfOk result (λ delta. delta
+            ≡ difference self.old (removed self.old listeners.now)) }
+        ensures told { IfOk result (λ delta. IsTold self.old.next_tag delta) }
+        ensures fault { IfErr result (λ e. e ≡ CoverError.NoMemory) }
+        ensures unchanged { OnErr result (self.new ≡ self.old) }
+    {
+        let left = without_listeners(self.alloc(), &self.listeners, listeners)?;
+        self.change(left)
+    }
+
     /// Ends all these listeners, in one change; a repeated number counts once.
     ///
     /// # Errors
     ///
     /// `UnknownListener` where one of them is not registered; then `NoTag` where a new listen would
-    /// need a tag above the last one, or `NoMemory`. The cover stays as it was.
+    /// need a tag above the last one; else `NoMemory`. The cover stays as it was.
     pub fn remove(&mut self, listeners: &[u64]) -> Result<Delta, CoverError>
         ensures cover { OnOk result (self.new ≡ removed self.old listeners.now) }
         ensures delta { IfOk result (λ delta. delta
@@ -234,13 +389,17 @@ impl Cover {
         ensures fault { IfErr result (FailsBy (remove_fault self.old listeners.now)) }
         ensures unknown { has_unknown self.old listeners.now ≡ true
             → result ≡ Err CoverError.UnknownListener }
+        ensures no_tag { remove_fault self.old listeners.now ≡ Some CoverError.NoTag
+            → result ≡ Err CoverError.NoTag }
         ensures unchanged { OnErr result (self.new ≡ self.old) }
     {
         if self.has_unknown(listeners) {
             return Err(CoverError::UnknownListener);
         }
-        let left = without_listeners(self.alloc(), &self.listeners, listeners)?;
-        self.change(left)
+        if self.lacks_tag_to_remove(listeners) {
+            return Err(CoverError::NoTag);
+        }
+        self.unregister(listeners)
     }
 
     // The numbers of the listeners whose form the listen with this tag is, and the other listeners.
@@ -269,7 +428,7 @@ impl Cover {
     /// # Errors
     ///
     /// `UnknownTag` where no listen with the tag is kept; then `NoTag` where a new listen would
-    /// need a tag above the last one, or `NoMemory`. The cover stays as it was.
+    /// need a tag above the last one; else `NoMemory`. The cover stays as it was.
     pub fn revoke(&mut self, tag: u64) -> Result<Revoked, CoverError>
         ensures cover { OnOk result (self.new ≡ revoked self.old tag) }
         ensures ended { IfOk result (λ revoked. revoked.ended ≡ ended_by self.old tag) }
@@ -279,8 +438,13 @@ impl Cover {
         ensures taken { OnOk result (revoke_fault self.old tag ≡ None) }
         ensures fault { IfErr result (FailsBy (revoke_fault self.old tag)) }
         ensures unknown { listen_at self.old tag ≡ None → result ≡ Err CoverError.UnknownTag }
+        ensures no_tag { revoke_fault self.old tag ≡ Some CoverError.NoTag
+            → result ≡ Err CoverError.NoTag }
         ensures unchanged { OnErr result (self.new ≡ self.old) }
     {
+        if self.lacks_tag_to_revoke(tag) {
+            return Err(CoverError::NoTag);
+        }
         let (ended, left) = self.parted(tag)?;
         let Delta {
             started,

@@ -1,4 +1,5 @@
 // The laws of the cover.
+ghost use Rattle.rt_cover.specs.laws.Apart.{PlainsStandApart, NeededStandApart, KeptStandApart};
 ghost use Rattle.rt_cover.specs.laws.KeptListens.{KeptHaveForms, NeededStay, TagsStayApart};
 ghost use Rattle.rt_cover.specs.laws.Needed.{SuppliesItself, SuppliesOnward, SuppliesOneWay};
 ghost use Rattle.rt_cover.specs.laws.Needed.{NeededAreFewest};
@@ -22,6 +23,14 @@ pub fn kept_law()
     ensures forms { KeptHaveForms }
     ensures stay { NeededStay }
     ensures tags { TagsStayApart }
+{}
+
+/// Of the plain queries among needed forms, and among the listens kept for them, none is at or above
+/// another.
+pub fn apart_law()
+    ensures plains { PlainsStandApart }
+    ensures needed { NeededStandApart }
+    ensures kept { KeptStandApart }
 {}
 
 /// After any changes of a new cover, of which refused ones change nothing, the listens are the

@@ -13,6 +13,7 @@
 
 mod cover;
 mod delta;
+mod ending;
 mod error;
 mod examples;
 mod forms;
@@ -22,6 +23,7 @@ mod listen;
 mod listener;
 mod numbers;
 mod plan;
+mod starting;
 mod supply;
 
 pub use cover::Cover;
@@ -29,5 +31,5 @@ pub use delta::{Delta, Revoked};
 pub use error::CoverError;
 pub use examples::change_examples;
 pub use kept::{Kept, KeptList};
-pub use laws::{kept_law, needed_law, run_law, supply_law};
+pub use laws::{apart_law, kept_law, needed_law, run_law, supply_law};
 pub use numbers::Numbers;

@@ -1,5 +1,5 @@
 // Kept listens.
-ghost use Rattle.std.specs.Prelude.{◌≡◌, ◌==◌, IfOk};
+ghost use Rattle.std.specs.Prelude.{◌≡◌, ◌==◌, map, IfOk};
 ghost use Rattle.std.specs.List.{find, list_any};
 ghost use Rattle.std.specs.Option.{option_copied, option_map};
 ghost use Rattle.rt_query.specs.QueryEq.{query_eq};
@@ -8,7 +8,7 @@ ghost use Rattle.rt_cover.specs.Cover.{is_kept};
 
 use crate::supply::supplies;
 use rt_query::Query;
-use std::alloc::AllocError;
+use std::alloc::{AllocError, Global};
 use std::marker::Model;
 
 // A kept form and its tag.
@@ -52,6 +52,28 @@ pub(crate) fn is_kept(kept: &[Listen], form: &Query) -> bool
     ensures { result ≡ is_kept kept.now form.now }
 {
     kept.iter().any(|listen| listen.form == *form)
+}
+
+// Equal listens.
+pub(crate) fn copies(alloc: Global, kept: &[Listen]) -> Result<Vec<Listen>, AllocError>
+    ensures { IfOk result (λ v. v.items ≡ kept.now) }
+{
+    let mut copies = Vec::with_capacity(alloc, kept.len())?;
+    for listen in kept {
+        copies.push(listen.copy()?)?;
+    }
+    Ok(copies)
+}
+
+// The forms of listens.
+pub(crate) fn forms_of(alloc: Global, kept: &[Listen]) -> Result<Vec<Query>, AllocError>
+    ensures { IfOk result (λ v. v.items ≡ map (λ k. k.form) kept.now) }
+{
+    let mut forms = Vec::with_capacity(alloc, kept.len())?;
+    for listen in kept {
+        forms.push(listen.form.copy()?)?;
+    }
+    Ok(forms)
 }
 
 // The listen with that tag.

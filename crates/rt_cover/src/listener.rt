@@ -37,6 +37,17 @@ impl Listener {
     }
 }
 
+// Equal listeners.
+pub(crate) fn copies(alloc: Global, listeners: &[Listener]) -> Result<Vec<Listener>, AllocError>
+    ensures { IfOk result (λ v. v.items ≡ listeners.now) }
+{
+    let mut copies = Vec::with_capacity(alloc, listeners.len())?;
+    for listener in listeners {
+        copies.push(listener.copy()?)?;
+    }
+    Ok(copies)
+}
+
 // What is listened to for a query that is given away.
 pub(crate) fn into_form(query: Query) -> Result<Query, AllocError>
     ensures { IfOk result (λ f. f ≡ form query) }

@@ -1,13 +1,10 @@
 // What a change makes of the listens kept.
-ghost use Rattle.std.specs.Prelude.{◌≡◌, ◌+◌, ◌<◌, ◌≤◌, ◌⊎◌, ◌++◌, ◌∷◌, [], not, map, length, IfOk};
-ghost use Rattle.std.specs.Prelude.{IfErr, OnOk};
+ghost use Rattle.std.specs.Prelude.{◌≡◌, ◌+◌, ◌<◌, ◌^◌, ◌++◌, ◌∷◌, [], not, map, length, IfOk, OnOk};
 ghost use Rattle.std.specs.List.{filter, list_any};
 ghost use Rattle.rt_query.specs.QueryEq.{query_eq};
 ghost use Rattle.rt_cover.specs.Cover.{started};
 ghost use Rattle.rt_cover.specs.State.{shown_with};
-ghost use Rattle.rt_cover.specs.declared.error.CoverError.TheVariants.{NoTag, NoMemory};
 
-use crate::error::CoverError;
 use crate::kept::Kept;
 use crate::listen::{Listen, is_kept};
 use crate::listener::{Listener, first_listener};
@@ -58,21 +55,15 @@ impl Plan {
     }
 
     // Starts a listen of the form, under the next tag.
-    fn start(&mut self, last_tag: u64, form: &Query, listener: u64) -> Result<(), CoverError>
-        requires { self.old.given ≤ last_tag }
+    fn start(&mut self, form: &Query, listener: u64) -> Result<(), AllocError>
+        requires { self.old.given + 1 < 2 ^ 64 }
         ensures kept { OnOk result (self.new.kept.items ≡ self.old.kept.items
             ++ record { tag = self.old.given + 1; form = form.now } ∷ []) }
         ensures started { OnOk result (self.new.started.items ≡ self.old.started.items
             ++ record { tag = self.old.given + 1; query = form.now; listener = listener } ∷ []) }
         ensures given { OnOk result (self.new.given ≡ self.old.given + 1) }
         ensures stopped { OnOk result (self.new.stopped.items ≡ self.old.stopped.items) }
-        ensures room { OnOk result (self.old.given < last_tag) }
-        ensures fault { IfErr result (λ e.
-            ((e ≡ NoTag) × (self.old.given ≡ last_tag)) ⊎ (e ≡ NoMemory)) }
     {
-        if self.given == last_tag {
-            return Err(CoverError::NoTag);
-        }
         let tag = self.given + 1;
         let query = form.copy()?;
         let form = form.copy()?;
@@ -89,12 +80,12 @@ impl Plan {
     // Starts the needed forms of which no listen was kept.
     pub(crate) fn start_new(
         &mut self,
-        last_tag: u64,
         old: &[Listen],
         needed: &[Query],
         listeners: &[Listener],
-    ) -> Result<(), CoverError>
-        requires { self.old.given ≤ last_tag }
+    ) -> Result<(), AllocError>
+        requires { self.old.given + length (started (self.old.given + 1) old.now needed.now)
+            < 2 ^ 64 }
         ensures kept { OnOk result (self.new.kept.items
             ≡ self.old.kept.items ++ started (self.old.given + 1) old.now needed.now) }
         ensures started { OnOk result (self.new.started.items ≡ self.old.started.items
@@ -102,16 +93,10 @@ impl Plan {
         ensures given { OnOk result (self.new.given
             ≡ self.old.given + length (started (self.old.given + 1) old.now needed.now)) }
         ensures stopped { OnOk result (self.new.stopped.items ≡ self.old.stopped.items) }
-        ensures room { OnOk result (self.new.given ≤ last_tag) }
-        ensures fault { IfErr result (λ e.
-            ((e ≡ NoTag)
-            × (last_tag
-            < self.old.given + length (started (self.old.given + 1) old.now needed.now)))
-            ⊎ (e ≡ NoMemory)) }
     {
         for form in needed {
             if !is_kept(old, form) {
-                self.start(last_tag, form, first_listener(listeners, form))?;
+                self.start(form, first_listener(listeners, form))?;
             }
         }
         Ok(())

@@ -118,25 +118,27 @@ sound_tags c fs s =
     (started c.next_tag c.kept fs) k (tags_from c.next_tag (new_forms c.kept fs)) mk in
     omega (arith, low, high))
 
-sound_once : (c : Cover) (ls : List Registered) → IsSound c
-    → AllPairs (λ (j k : Tagged). j.form ≢ k.form) (kept_for c.next_tag c.kept (needed_forms ls))
-sound_once c ls s =
+-- each form is kept once, as it was before
+pub once_after : (n : ℕ) (kept : List Tagged) (ls : List Registered)
+    → AllPairs (λ (j k : Tagged). j.form ≢ k.form) kept
+    → AllPairs (λ (j k : Tagged). j.form ≢ k.form) (kept_for n kept (needed_forms ls))
+once_after n kept ls once =
     AllPairs-append (λ (j k : Tagged). j.form ≢ k.form)
-    (filter (λ (k : Tagged). list_any (query_eq k.form) fs) c.kept)
-    (started c.next_tag c.kept fs)
+    (filter (λ (k : Tagged). list_any (query_eq k.form) fs) kept)
+    (started n kept fs)
     (AllPairs-filter (λ (j k : Tagged). j.form ≢ k.form) (λ (k : Tagged).
-    list_any (query_eq k.form) fs) c.kept s.once)
-    (AllPairs-from_map (λ (k : Tagged). k.form) (λ f g. f ≢ g) (started c.next_tag c.kept fs)
-    (subst (AllPairs (λ f g. f ≢ g)) (sym (forms-started c.next_tag (new_forms c.kept fs)))
-    (AllPairs-filter (λ f g. f ≢ g) (λ f. not (is_kept c.kept f)) fs
+    list_any (query_eq k.form) fs) kept once)
+    (AllPairs-from_map (λ (k : Tagged). k.form) (λ f g. f ≢ g) (started n kept fs)
+    (subst (AllPairs (λ f g. f ≢ g)) (sym (forms-started n (new_forms kept fs)))
+    (AllPairs-filter (λ f g. f ≢ g) (λ f. not (is_kept kept f)) fs
     (AllPairs-filter (λ f g. f ≢ g) (λ f. not (is_covered (forms ls) f)) (forms ls)
     (distinct_apart (map (λ (l : Registered). l.1) ls))))))
     (λ j k mj mk same.
-    let m = Contains-from_filter (λ (x : Tagged). list_any (query_eq x.form) fs) c.kept j mj in
-    let new = not_true (is_kept c.kept k.form)
-    (passes-from_filter (λ f. not (is_kept c.kept f)) fs k.form
-    (form_of_numbered c.next_tag (new_forms c.kept fs) k mk)) in
-    true≢false (sym (list_any_at (λ (x : Tagged). query_eq x.form k.form) c.kept m.0 j m.1
+    let m = Contains-from_filter (λ (x : Tagged). list_any (query_eq x.form) fs) kept j mj in
+    let new = not_true (is_kept kept k.form)
+    (passes-from_filter (λ f. not (is_kept kept f)) fs k.form
+    (form_of_numbered n (new_forms kept fs) k mk)) in
+    true≢false (sym (list_any_at (λ (x : Tagged). query_eq x.form k.form) kept m.0 j m.1
     (ap (λ (x : Tagged). query_eq x.form k.form) m.2 ∙ (query_eq_tells j.form k.form).1 same))
     ∙ new))
   where
@@ -161,7 +163,7 @@ sound_after c ls s rise are room = record {
   next = ltb-false (c.last_tag + 1) (c.next_tag + length (started_for c ls)) room;
   only = kept_for_needed c.next_tag c.kept (needed_forms ls);
   all = needed_kept_for c.next_tag c.kept (needed_forms ls);
-  once = sound_once c ls s;
+  once = once_after c.next_tag c.kept ls s.once;
 }
 
 pub sound_empty : (last : ℕ) → IsSound (empty_cover last)

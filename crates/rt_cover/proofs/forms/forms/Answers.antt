@@ -1,4 +1,4 @@
-use Rattle.std.proofs.Common.{◌≡◌, cond, [], ◌∷◌, ◌++◌, ◌∙◌}
+use Rattle.std.proofs.Common.{cond, [], ◌∷◌, ◌++◌, ◌∙◌}
 use Rattle.std.specs.List.{list_any}
 use Rattle.rt_query.specs.QueryEq.{query_eq}
 use Rattle.rt_cover.proofs.SeenLaws.{unseen_none, forms_more}

@@ -1,41 +1,30 @@
-use Rattle.std.proofs.Common.{◌≡◌, ◌<◌, ◌⊎◌, Some, None, sym, subst, ◌∙◌, IfOk, IfErr, OnOk}
-use Rattle.std.specs.List.{All, AllPairs}
+use Rattle.std.proofs.Common.{◌≡◌, ◌⊎◌, Some, inl, inr, sym}
+use Rattle.std.proofs.lemmas.Result.{on_ok_weaker, IfErr-weaker}
 use Rattle.rt_query.specs.Supply.{form}
 use Rattle.rt_cover.specs.declared.error.CoverError.TheVariants.{NoMemory}
-use Rattle.rt_cover.specs.Cover.{Registered}
-use Rattle.rt_cover.specs.State.{Cover, with_listener, with_listeners, fault_of, difference}
-use Rattle.rt_cover.specs.inside.Sound.{IsSound}
-use Rattle.rt_cover.specs.laws.SoundLaws.{HasForm, with_listener_rises, with_listener_forms}
+use Rattle.rt_cover.specs.State.{Cover, with_listener, add_fault}
+use Rattle.rt_cover.proofs.RefusalLaws.{fault_none, fault_other, fault_lacking}
 use Rattle.rt_cover.proofs.cover.Cover.add.Goals as goal
 
-pub change-requires-clause-rise : goal.change-requires-clause-rise
-change-requires-clause-rise c =
-    let old : Cover = c.args.self.now in
-    let sound : IsSound old = subst IsSound c.self.view_is c.self.invariant in
-    let e : c.in_ok-listeners.listeners.items ≡ with_listener old.listeners c.args.listener (form c.args.query) = c.in_ok-listeners.ensures ∙ (λ i. with_listener ((c.deref.ensures.value ∙ (λ j. (c.self.view_is j).listeners)) i) c.args.listener (c.in_ok-form.ensures i)) in
-    subst (AllPairs (λ (l m : Registered). l.0 < m.0)) (sym e) (with_listener_rises old.listeners c.args.listener (form c.args.query) sound.listeners)
+pub register-requires : goal.register-requires
+register-requires c = record { room = sym (c.if-lacks_tag_to_add.ensures c.args.listener c.requires) }
 
-pub change-requires-clause-forms : goal.change-requires-clause-forms
-change-requires-clause-forms c =
+pub returns-then-lacks_tag_to_add-clause-fault : goal.returns-then-lacks_tag_to_add-clause-fault
+returns-then-lacks_tag_to_add-clause-fault c =
     let old : Cover = c.args.self.now in
-    let sound : IsSound old = subst IsSound c.self.view_is c.self.invariant in
-    let e : c.in_ok-listeners.listeners.items ≡ with_listener old.listeners c.args.listener (form c.args.query) = c.in_ok-listeners.ensures ∙ (λ i. with_listener ((c.deref.ensures.value ∙ (λ j. (c.self.view_is j).listeners)) i) c.args.listener (c.in_ok-form.ensures i)) in
-    subst (All HasForm) (sym e) (with_listener_forms old.listeners c.args.listener c.args.query sound.forms)
-
-pub returns-clause-delta : goal.returns-clause-delta
-returns-clause-delta c =
-    let old : Cover = c.args.self.now in
-    let e : c.in_ok-listeners.listeners.items ≡ with_listener old.listeners c.args.listener (form c.args.query) = c.in_ok-listeners.ensures ∙ (λ i. with_listener ((c.deref.ensures.value ∙ (λ j. (c.self.view_is j).listeners)) i) c.args.listener (c.in_ok-form.ensures i)) in
-    subst (λ ls. IfOk c.change.result (λ d. d ≡ difference old (with_listeners old ls))) e c.change.ensures.delta
+    inl (fault_lacking old (with_listener old.listeners c.args.listener (form c.args.query)) (sym (c.if-lacks_tag_to_add.ensures c.args.listener c.requires)))
 
 pub returns-clause-taken : goal.returns-clause-taken
 returns-clause-taken c =
     let old : Cover = c.args.self.now in
-    let e : c.in_ok-listeners.listeners.items ≡ with_listener old.listeners c.args.listener (form c.args.query) = c.in_ok-listeners.ensures ∙ (λ i. with_listener ((c.deref.ensures.value ∙ (λ j. (c.self.view_is j).listeners)) i) c.args.listener (c.in_ok-form.ensures i)) in
-    subst (λ ls. OnOk c.change.result (fault_of old ls ≡ None)) e c.change.ensures.taken
+    on_ok_weaker c.register.result (λ _. fault_none old (with_listener old.listeners c.args.listener (form c.args.query))
+    (sym (c.if-lacks_tag_to_add.ensures c.args.listener c.requires))) c.register.ensures.cover
 
 pub returns-clause-fault : goal.returns-clause-fault
-returns-clause-fault c =
+returns-clause-fault c = IfErr-weaker c.register.result (λ e. e ≡ NoMemory) (λ e. (add_fault c.args.self.now c.args.listener c.args.query ≡ Some e) ⊎ (e ≡ NoMemory)) (λ e is. inr is) c.register.ensures.fault
+
+pub returns-clause-no_tag : goal.returns-clause-no_tag
+returns-clause-no_tag c = λ is.
     let old : Cover = c.args.self.now in
-    let e : c.in_ok-listeners.listeners.items ≡ with_listener old.listeners c.args.listener (form c.args.query) = c.in_ok-listeners.ensures ∙ (λ i. with_listener ((c.deref.ensures.value ∙ (λ j. (c.self.view_is j).listeners)) i) c.args.listener (c.in_ok-form.ensures i)) in
-    subst (λ ls. IfErr c.change.result (λ r. (fault_of old ls ≡ Some r) ⊎ (r ≡ NoMemory))) e c.change.ensures.fault
+    absurd (fault_other (add_fault old c.args.listener c.args.query) (fault_none old (with_listener old.listeners c.args.listener (form c.args.query))
+    (sym (c.if-lacks_tag_to_add.ensures c.args.listener c.requires))) is)

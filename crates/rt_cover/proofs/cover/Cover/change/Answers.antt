@@ -13,7 +13,7 @@ invariant_of-self c =
     let e = c.deref.ensures.value in
     let new : record { listeners = c.args.listeners.items; kept = c.in_ok-plan.plan.kept.items; next_tag = c.in_ok-plan.plan.given + 1; last_tag = c.self.inside.last_tag } ≡ with_listeners old c.deref.result.now =
     (λ i. record { listeners = sym e i; kept = c.in_ok-plan.ensures.kept i; next_tag = c.in_ok-plan.ensures.given i; last_tag = (c.self.view_is i).last_tag }) in
-    subst IsSound (sym new) (sound_after old c.deref.result.now sound (rw e c.requires.rise) (rw e c.requires.forms) c.in_ok-plan.ensures.taken)
+    subst IsSound (sym new) (sound_after old c.deref.result.now sound (rw e c.requires.rise) (rw e c.requires.forms) (rw e c.requires.room))
 
 pub returns-clause-delta : goal.returns-clause-delta
 returns-clause-delta c =

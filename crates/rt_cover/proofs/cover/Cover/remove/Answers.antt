@@ -1,44 +1,30 @@
-use Rattle.std.proofs.Common.{◌≡◌, ◌<◌, ◌⊎◌, ℕ, false, cond, List, Some, None, sym, subst, ap, ◌∙◌, IfOk, IfErr, OnOk}
-use Rattle.std.specs.List.{All, AllPairs}
-use Rattle.rt_cover.specs.declared.error.CoverError.TheVariants.{UnknownListener, NoMemory}
-use Rattle.rt_cover.specs.Cover.{Registered}
-use Rattle.rt_cover.specs.State.{Cover, without_listeners, with_listeners, fault_of, remove_fault, has_unknown, difference}
-use Rattle.rt_cover.specs.inside.Sound.{IsSound}
-use Rattle.rt_cover.specs.laws.SoundLaws.{HasForm, without_listeners_rise, without_listeners_forms}
+use Rattle.std.proofs.Common.{◌≡◌, ◌⊎◌, Some, inl, inr, sym, ◌∙◌}
+use Rattle.std.proofs.lemmas.Result.{on_ok_weaker, IfErr-weaker}
+use Rattle.rt_cover.specs.declared.error.CoverError.TheVariants.{NoMemory}
+use Rattle.rt_cover.specs.State.{Cover, without_listeners, remove_fault}
+use Rattle.rt_cover.proofs.RefusalLaws.{fault_none, fault_other, fault_lacking, remove_known, remove_unknown}
 use Rattle.rt_cover.proofs.cover.Cover.remove.Goals as goal
 
-pub change-requires-clause-rise : goal.change-requires-clause-rise
-change-requires-clause-rise c =
+pub returns-then-lacks_tag_to_remove-clause-fault : goal.returns-then-lacks_tag_to_remove-clause-fault
+returns-then-lacks_tag_to_remove-clause-fault c =
     let old : Cover = c.args.self.now in
-    let sound : IsSound old = subst IsSound c.self.view_is c.self.invariant in
-    let e : c.in_ok-left.left.items ≡ without_listeners old.listeners c.args.listeners.now = c.in_ok-left.ensures ∙ (λ i. without_listeners ((c.deref.ensures.value ∙ (λ j. (c.self.view_is j).listeners)) i) c.args.listeners.now) in
-    subst (AllPairs (λ (l m : Registered). l.0 < m.0)) (sym e) (without_listeners_rise old.listeners c.args.listeners.now sound.listeners)
+    inl (remove_known old c.args.listeners.now (sym c.if-has_unknown.ensures)
+    ∙ fault_lacking old (without_listeners old.listeners c.args.listeners.now) (sym c.if-lacks_tag_to_remove.ensures))
 
-pub change-requires-clause-forms : goal.change-requires-clause-forms
-change-requires-clause-forms c =
-    let old : Cover = c.args.self.now in
-    let sound : IsSound old = subst IsSound c.self.view_is c.self.invariant in
-    let e : c.in_ok-left.left.items ≡ without_listeners old.listeners c.args.listeners.now = c.in_ok-left.ensures ∙ (λ i. without_listeners ((c.deref.ensures.value ∙ (λ j. (c.self.view_is j).listeners)) i) c.args.listeners.now) in
-    subst (All HasForm) (sym e) (without_listeners_forms old.listeners c.args.listeners.now sound.forms)
-
-pub returns-clause-delta : goal.returns-clause-delta
-returns-clause-delta c =
-    let old : Cover = c.args.self.now in
-    let e : c.in_ok-left.left.items ≡ without_listeners old.listeners c.args.listeners.now = c.in_ok-left.ensures ∙ (λ i. without_listeners ((c.deref.ensures.value ∙ (λ j. (c.self.view_is j).listeners)) i) c.args.listeners.now) in
-    subst (λ ls. IfOk c.change.result (λ d. d ≡ difference old (with_listeners old ls))) e c.change.ensures.delta
-
--- the refusal of a removal of known listeners
-known : (old : Cover) (numbers : List ℕ) → has_unknown old numbers ≡ false → remove_fault old numbers ≡ fault_of old (without_listeners old.listeners numbers)
-known old numbers e = ap (λ b. cond b (Some UnknownListener) (fault_of old (without_listeners old.listeners numbers))) e
+pub returns-then-has_unknown-clause-no_tag : goal.returns-then-has_unknown-clause-no_tag
+returns-then-has_unknown-clause-no_tag c = λ is. absurd (remove_unknown c.args.self.now c.args.listeners.now (sym c.if-has_unknown.ensures) is)
 
 pub returns-clause-taken : goal.returns-clause-taken
 returns-clause-taken c =
     let old : Cover = c.args.self.now in
-    let e : c.in_ok-left.left.items ≡ without_listeners old.listeners c.args.listeners.now = c.in_ok-left.ensures ∙ (λ i. without_listeners ((c.deref.ensures.value ∙ (λ j. (c.self.view_is j).listeners)) i) c.args.listeners.now) in
-    subst (λ o. OnOk c.change.result (o ≡ None)) (ap (fault_of old) e ∙ sym (known old c.args.listeners.now (sym c.if-has_unknown.ensures))) c.change.ensures.taken
+    on_ok_weaker c.unregister.result (λ _. remove_known old c.args.listeners.now (sym c.if-has_unknown.ensures)
+    ∙ fault_none old (without_listeners old.listeners c.args.listeners.now) (sym c.if-lacks_tag_to_remove.ensures)) c.unregister.ensures.cover
 
 pub returns-clause-fault : goal.returns-clause-fault
-returns-clause-fault c =
+returns-clause-fault c = IfErr-weaker c.unregister.result (λ e. e ≡ NoMemory) (λ e. (remove_fault c.args.self.now c.args.listeners.now ≡ Some e) ⊎ (e ≡ NoMemory)) (λ e is. inr is) c.unregister.ensures.fault
+
+pub returns-clause-no_tag : goal.returns-clause-no_tag
+returns-clause-no_tag c = λ is.
     let old : Cover = c.args.self.now in
-    let e : c.in_ok-left.left.items ≡ without_listeners old.listeners c.args.listeners.now = c.in_ok-left.ensures ∙ (λ i. without_listeners ((c.deref.ensures.value ∙ (λ j. (c.self.view_is j).listeners)) i) c.args.listeners.now) in
-    subst (λ o. IfErr c.change.result (λ r. (o ≡ Some r) ⊎ (r ≡ NoMemory))) (ap (fault_of old) e ∙ sym (known old c.args.listeners.now (sym c.if-has_unknown.ensures))) c.change.ensures.fault
+    absurd (fault_other (remove_fault old c.args.listeners.now) (remove_known old c.args.listeners.now (sym c.if-has_unknown.ensures)
+    ∙ fault_none old (without_listeners old.listeners c.args.listeners.now) (sym c.if-lacks_tag_to_remove.ensures)) is)

@@ -1,4 +1,4 @@
-use Rattle.std.proofs.Common.{◌≡◌, ◌≤◌, ◌+◌, ◌++◌, drop, map, length}
+use Rattle.std.proofs.Common.{◌≡◌, ◌+◌, ◌++◌, drop, map, length}
 use Rattle.rt_cover.specs.Cover.{started}
 use Rattle.rt_cover.specs.State.{shown_with}
 use Rattle.rt_cover.proofs.plan.Plan.start_new.Given as goal
@@ -9,5 +9,4 @@ invariant-loop-form l = record {
   told : l.self.started.items ++ map (shown_with l.listeners) (started (l.self.given + 1) l.old (drop l.form-index l.needed)) ≡ l.initial.self.started.items ++ map (shown_with l.listeners) (started (l.initial.self.given + 1) l.old l.needed);
   count : l.self.given + length (started (l.self.given + 1) l.old (drop l.form-index l.needed)) ≡ l.initial.self.given + length (started (l.initial.self.given + 1) l.old l.needed);
   others : l.self.stopped.items ≡ l.initial.self.stopped.items;
-  room : l.self.given ≤ l.last_tag;
 }

@@ -1,0 +1,78 @@
+-- The refusals of changes, by whether a tag is lacking.
+use Rattle.std.proofs.Common.{◌≡◌, ◌≢◌, ℕ, Bool, true, false, cond, List, Option, Some, None, is_some, sym, ap, ◌∙◌, arith}
+use mathlib.Core.Bool.{true≢false}
+use Rattle.std.specs.Option.{option_map_or}
+use Rattle.rt_cover.specs.declared.error.CoverError.{CoverError}
+use Rattle.rt_cover.specs.declared.error.CoverError.TheVariants.{UnknownListener, UnknownTag, NoTag}
+use Rattle.rt_cover.specs.Errors.{code_of}
+use Rattle.rt_cover.specs.Cover.{Registered, Tagged}
+use Rattle.rt_cover.specs.State.{Cover, lacks_tag, fault_of, has_unknown, remove_fault, revoke_fault, without_listeners, left_after, listen_at}
+
+-- ---- a change to some listeners
+
+pub fault_lacking : (c : Cover) (ls : List Registered) → lacks_tag c ls ≡ true → fault_of c ls ≡ Some NoTag
+fault_lacking c ls e = ap (λ b. cond b (Some NoTag) None) e
+
+pub fault_none : (c : Cover) (ls : List Registered) → lacks_tag c ls ≡ false → fault_of c ls ≡ None
+fault_none c ls e = ap (λ b. cond b (Some NoTag) None) e
+
+-- refusals are told apart by their numbers
+abbrev number : Option CoverError → ℕ
+number o = option_map_or code_of o 0
+
+pub fault_other : (o : Option CoverError) → o ≡ None → o ≢ Some NoTag
+fault_other o none e = absurd (omega (arith, ap number (sym none ∙ e)))
+
+-- ---- a removal
+
+pub remove_known : (c : Cover) (numbers : List ℕ) → has_unknown c numbers ≡ false
+    → remove_fault c numbers ≡ fault_of c (without_listeners c.listeners numbers)
+remove_known c numbers e = ap (λ b. cond b (Some UnknownListener) (fault_of c (without_listeners c.listeners numbers))) e
+
+pub remove_unknown : (c : Cover) (numbers : List ℕ) → has_unknown c numbers ≡ true → remove_fault c numbers ≢ Some NoTag
+remove_unknown c numbers e is =
+    absurd (omega (arith, ap number (sym (ap (λ b. cond b (Some UnknownListener) (fault_of c (without_listeners c.listeners numbers))) e) ∙ is)))
+
+-- ---- a revocation
+
+-- whether one of a kept tag lacks a tag
+abbrev pub lacks_to_revoke : Cover → ℕ → Bool
+lacks_to_revoke c tag = option_map_or (λ _. lacks_tag c (left_after c tag)) (listen_at c tag) false
+
+pub revoke_lacking : (c : Cover) (tag : ℕ) → lacks_to_revoke c tag ≡ true → revoke_fault c tag ≡ Some NoTag
+revoke_lacking c tag h = by (listen_at c tag) h
+  where
+    by : (o : Option Tagged) → option_map_or (λ (_ : Tagged). lacks_tag c (left_after c tag)) o false ≡ true
+        → option_map_or (λ (_ : Tagged). fault_of c (left_after c tag)) o (Some UnknownTag) ≡ Some NoTag
+    by None h = absurd (true≢false (sym h))
+    by (Some k) h = fault_lacking c (left_after c tag) h
+
+pub revoke_room : (c : Cover) (tag : ℕ) → lacks_to_revoke c tag ≡ false → is_some (listen_at c tag) ≡ true
+    → lacks_tag c (left_after c tag) ≡ false
+revoke_room c tag h known = by (listen_at c tag) h known
+  where
+    by : (o : Option Tagged) → option_map_or (λ (_ : Tagged). lacks_tag c (left_after c tag)) o false ≡ false → is_some o ≡ true
+        → lacks_tag c (left_after c tag) ≡ false
+    by None h known = absurd (true≢false (sym known))
+    by (Some k) h known = h
+
+pub revoke_other : (c : Cover) (tag : ℕ) → lacks_to_revoke c tag ≡ false → revoke_fault c tag ≢ Some NoTag
+revoke_other c tag h is = by (listen_at c tag) h is
+  where
+    by : (o : Option Tagged) → option_map_or (λ (_ : Tagged). lacks_tag c (left_after c tag)) o false ≡ false
+        → option_map_or (λ (_ : Tagged). fault_of c (left_after c tag)) o (Some UnknownTag) ≢ Some NoTag
+    by None h is = absurd (omega (arith, ap number is))
+    by (Some k) h is = fault_other (fault_of c (left_after c tag)) (fault_none c (left_after c tag) h) is
+
+-- the refusal of a kept tag's revocation that lacks none
+pub revoke_none : (c : Cover) (tag : ℕ) → lacks_to_revoke c tag ≡ false → is_some (listen_at c tag) ≡ true → revoke_fault c tag ≡ None
+revoke_none c tag h known = by (listen_at c tag) h known
+  where
+    by : (o : Option Tagged) → option_map_or (λ (_ : Tagged). lacks_tag c (left_after c tag)) o false ≡ false → is_some o ≡ true
+        → option_map_or (λ (_ : Tagged). fault_of c (left_after c tag)) o (Some UnknownTag) ≡ None
+    by None h known = absurd (true≢false (sym known))
+    by (Some k) h known = fault_none c (left_after c tag) h
+
+-- a tag that is not kept lacks none
+pub revoke_kept : (c : Cover) (tag : ℕ) → lacks_to_revoke c tag ≡ true → listen_at c tag ≢ None
+revoke_kept c tag h is = true≢false (sym h ∙ ap (λ o. option_map_or (λ (_ : Tagged). lacks_tag c (left_after c tag)) o false) is)
