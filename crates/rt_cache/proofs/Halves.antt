@@ -17,11 +17,11 @@ use Rattle.rt_cache.specs.inside.Held.{pairs_of}
 use Rattle.rt_cache.specs.Brought.{region_part}
 use Rattle.rt_cache.proofs.Places.{or_left, or_right, or_false, unseen}
 
-first : (a b : Bool) → T (a && b) → T a
+pub first : (a b : Bool) → T (a && b) → T a
 first true b h = tt
 first false b h = h
 
-second : (a b : Bool) → T (a && b) → T b
+pub second : (a b : Bool) → T (a && b) → T b
 second true b h = h
 second false b h = absurd h
 
@@ -73,7 +73,7 @@ between (k ∷ r) (i ∷ s) (j ∷ p) a b c =
 
 -- ---- regions in order
 
-below_at : (q : Path) (rs : List Region) (n : ℕ) (d : Region) → T (below_all path_cmp q (pairs_of rs))
+pub below_at : (q : Path) (rs : List Region) (n : ℕ) (d : Region) → T (below_all path_cmp q (pairs_of rs))
     → n < length rs
     → is_lt (path_cmp q (get_or rs n d).path) ≡ true
 below_at q [] n d h lt = absurd (omega arith)

@@ -9,6 +9,7 @@ pub mod Places
 pub mod Pushes
 pub mod QueryOrders
 pub mod RunLaws
+pub mod Sharing
 pub mod Stays
 pub mod Strips
 pub mod WindowPushes

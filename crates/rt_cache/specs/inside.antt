@@ -1,2 +1,3 @@
 -- What only the representation needs.
 pub mod Held
+pub mod Shared

@@ -91,9 +91,10 @@ impl Brought {
     /// replaces the window by its children, or is put into the window, if there is one. `Ok(false)`
     /// where there is none: the push is stale and changes nothing.
     ///
-    /// Finds the region by halving, or the window by going over their queries, and then costs by
-    /// the path and the tree that is put. A push that begins a region passes the paths of all
-    /// regions and windows, and moves the regions behind it. No other tree is walked.
+    /// Finds the region by halving, where keys that the path shares with all regions that are left
+    /// are not compared again, or the window by going over their queries, and then costs by the
+    /// path and the tree that is put. A push that begins a region passes the paths of all regions
+    /// and windows, and moves the regions behind it. No other tree is walked.
     ///
     /// An `Err` is want of memory, and changes nothing.
     pub fn put(&mut self, query: &Query, path: &Path, tree: &Tree) -> Result<bool, AllocError>

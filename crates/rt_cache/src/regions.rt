@@ -13,15 +13,17 @@ ghost use Rattle.rt_cache.specs.Brought.{region_part, region_put};
 ghost use Rattle.rt_cache.specs.inside.Held.{pair_of, pairs_of};
 ghost use Rattle.rt_cache.specs.declared.region.Region.{Region};
 
-use crate::paths::rest_of;
+use crate::paths::{meet, rest_of};
 use crate::region::Region;
 use crate::stores::{self, store_of};
 use rt_tree::{Key, MAX_LEVELS, Path, Tree};
 use std::alloc::{AllocError, Global};
 
 // How many regions stand at the path or in front of it, by halving: the path comes before the one at
-// this place, and not before the one in front.
+// this place, and not before the one in front. The keys that the path shares with both ends of what
+// is left all paths between them share, so these are not compared again.
 fn place_of(regions: &[Region], path: &Path) -> usize
+    requires sorted { T (map_of.is_sorted path_cmp (pairs_of regions.now)) }
     ensures within { result ≤ length regions.now }
     ensures front { (k : ℕ) (d : Region) → suc k ≡ result
         → is_lt (path_cmp path.now (slice_index_or regions.now k d).path) ≡ false }
@@ -30,12 +32,18 @@ fn place_of(regions: &[Region], path: &Path) -> usize
 {
     let mut low = 0;
     let mut high = regions.len();
+    let mut shared_below = 0;
+    let mut shared_above = 0;
     while low < high {
         let middle = low + (high - low) / 2;
-        if path.cmp(&regions[middle].path).is_lt() {
+        let known = shared_below.min(shared_above);
+        let (shared, is_before) = meet(path, &regions[middle].path, known);
+        if is_before {
             high = middle;
+            shared_above = shared;
         } else {
             low = middle + 1;
+            shared_below = shared;
         }
     }
     low
