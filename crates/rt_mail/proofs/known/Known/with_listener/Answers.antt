@@ -1,0 +1,42 @@
+use Rattle.std.proofs.Common.{◌≡◌, true, false, cond, sym, ap, [], ◌∙◌, rules}
+use Rattle.std.specs.List.{insert}
+use Rattle.rt_mail.specs.Mailbox.{with_listener}
+use Rattle.rt_mail.specs.inside.Places.{does_stand}
+use Rattle.rt_mail.proofs.Places.{place, numbers, with_listener-place, numbers-insert}
+use Rattle.rt_mail.proofs.known.Known.with_listener.Goals as goal
+
+pub returns-then-stands_at : goal.returns-then-stands_at
+returns-then-stands_at c =
+    let ls = c.known.inside.heard.items in
+    let n = c.args.listener in
+    let at : c.place_of-place.result ≡ place n c.known.inside.numbers.items = search rules in
+    let there : does_stand c.known.inside.numbers.items c.place_of-place.result n ≡ true = search rules in
+    let same : c.known.inside.numbers.items ≡ numbers ls = c.known.invariant in
+    let stands : does_stand (numbers ls) (place n (numbers ls)) n ≡ true = (λ i. does_stand (sym same i) (place n (sym same i)) n) ∙ ap (λ p. does_stand c.known.inside.numbers.items p n) (sym at) ∙ there in
+    let done : with_listener n ls ≡ ls = with_listener-place n ls ∙ ap (λ b. cond b ls (insert ls (place n (numbers ls)) (n, []))) stands in
+    let view : c.args.self.listeners ≡ ls = ap (λ v. v.listeners) (sym c.known.view_is) in
+    λ i. record (c.args.self) { listeners = (view ∙ sym done ∙ ap (with_listener n) (sym view)) i }
+
+pub invariant_of-known : goal.invariant_of-known
+invariant_of-known c =
+    let ls = c.known.inside.heard.items in
+    let ns : c.insert.new.self.items ≡ insert c.known.inside.numbers.items c.place_of-place.result c.args.listener = search rules in
+    let hs : c.insert_heard.new.heard.items ≡ insert ls c.place_of-place.result (c.args.listener, []) = c.in_ok-insert_heard.ensures in
+    ns ∙ ap (λ z. insert z c.place_of-place.result c.args.listener) c.known.invariant ∙ sym (numbers-insert c.place_of-place.result ls (c.args.listener, [])) ∙ ap numbers (sym hs)
+
+pub returns : goal.returns
+returns c =
+    let ls = c.known.inside.heard.items in
+    let n = c.args.listener in
+    let at : c.place_of-place.result ≡ place n c.known.inside.numbers.items = search rules in
+    let there : does_stand c.known.inside.numbers.items c.place_of-place.result n ≡ false = search rules in
+    let same : c.known.inside.numbers.items ≡ numbers ls = c.known.invariant in
+    let stands : does_stand (numbers ls) (place n (numbers ls)) n ≡ false = (λ i. does_stand (sym same i) (place n (sym same i)) n) ∙ ap (λ p. does_stand c.known.inside.numbers.items p n) (sym at) ∙ there in
+    let done : with_listener n ls ≡ insert ls (place n (numbers ls)) (n, []) = with_listener-place n ls ∙ ap (λ b. cond b ls (insert ls (place n (numbers ls)) (n, []))) stands in
+    let hs : c.insert_heard.new.heard.items ≡ insert ls c.place_of-place.result (n, []) = c.in_ok-insert_heard.ensures in
+    let view : c.args.self.listeners ≡ ls = ap (λ v. v.listeners) (sym c.known.view_is) in
+    let requests : c.args.self.requests ≡ c.known.inside.requests.items = ap (λ v. v.requests) (sym c.known.view_is) in
+    λ i. record {
+      listeners = (hs ∙ ap (λ p. insert ls p (n, [])) (at ∙ ap (place n) same) ∙ sym done ∙ ap (with_listener n) (sym view)) i;
+      requests = sym requests i;
+    }

@@ -1,0 +1,286 @@
+// What is known of a seat by the items that were taken.
+ghost use Rattle.std.specs.Prelude.{◌≡◌, ◌≤◌, IfOk, OnOk, length, map};
+ghost use Rattle.std.specs.List.{find, insert, position_or_len};
+ghost use Rattle.std.specs.Option.{option_map};
+ghost use Rattle.std.specs.Prelude.{nat_le, ◌==◌, []};
+ghost use Rattle.rt_view.specs.Changes.{replay};
+ghost use Rattle.rt_mail.specs.inside.Places.{does_stand};
+ghost use Rattle.rt_mail.specs.Mailbox.{with_request, without_request, without_listener, played};
+
+use crate::item::Item;
+use crate::receipt::Receipt;
+use rt_tree::{Key, Tree};
+use rt_view::{Batch, Change, apply_changes};
+use std::alloc::{AllocError, Global};
+use std::collections::BTreeMap;
+use std::marker::Model;
+
+// A listener with its children.
+#[derive(Drop)]
+pub(crate) struct Heard {
+    listener: u64,
+    children: BTreeMap<Key, Tree>,
+}
+
+impl Model for Heard {
+    ghost use Rattle.std.specs.Prelude.{List, ℕ};
+    ghost use Rattle.std.specs.BTreeMap.{IsOrdered};
+    ghost use Rattle.rt_tree.specs.PathTree.{Key, PathTree, key_cmp};
+
+    ghost Value = { ℕ × List (Key × PathTree) };
+
+    ghost view = { λ a. (a.listener, a.children.entries) };
+
+    ghost invariant = { λ a. IsOrdered key_cmp a.children };
+}
+
+impl Heard {
+    // A listener without children.
+    fn new(alloc: Global, listener: u64) -> Heard
+        ensures { result ≡ (listener, []) }
+    {
+        Heard {
+            listener,
+            children: BTreeMap::new(alloc),
+        }
+    }
+
+    // The children after the changes, where they are this listener's.
+    fn play(&mut self, alloc: Global, listener: u64, changes: &[Change]) -> Result<(), AllocError>
+        ensures { OnOk result (self.new ≡ played listener changes.now self.old) }
+    {
+        if self.listener == listener {
+            apply_changes(alloc, &mut self.children, changes)?;
+        }
+        Ok(())
+    }
+}
+
+// The first place at which no lesser number stands.
+fn place_of(numbers: &[u64], number: u64) -> usize
+    ensures first { result ≡ position_or_len (nat_le number) numbers.now }
+    ensures within { result ≤ length numbers.now }
+{
+    for (place, other) in numbers.iter().enumerate() {
+        if *other >= number {
+            return place;
+        }
+    }
+    numbers.len()
+}
+
+// Whether the number stands at the place.
+fn stands_at(numbers: &[u64], place: usize, number: u64) -> bool
+    ensures { result ≡ does_stand numbers.now place number }
+{
+    match numbers.get(place) {
+        Some(other) => *other == number,
+        None => false,
+    }
+}
+
+// The number among the others, which stand in order; it may be there.
+fn insert(numbers: &mut Vec<u64>, number: u64) -> Result<(), AllocError>
+    ensures { OnOk result (numbers.new.items ≡ with_request number numbers.old.items) }
+{
+    let place = place_of(numbers.as_slice(), number);
+    if !stands_at(numbers.as_slice(), place, number) {
+        numbers.insert(place, number)?;
+    }
+    Ok(())
+}
+
+// The numbers without that one.
+fn remove(numbers: &mut Vec<u64>, number: u64)
+    ensures { numbers.new.items ≡ without_request number numbers.old.items }
+{
+    numbers.retain(|other| *other != number);
+}
+
+// Each listener after the changes of one.
+fn play_each(
+    alloc: Global,
+    heard: &mut Vec<Heard>,
+    listener: u64,
+    changes: &[Change],
+) -> Result<(), AllocError>
+    ensures { OnOk result (heard.new.items ≡ map (played listener changes.now) heard.old.items) }
+{
+    for one in heard.iter_mut() {
+        one.play(alloc, listener, changes)?;
+    }
+    Ok(())
+}
+
+// The children of a listener.
+fn children_of(heard: &[Heard], listener: u64) -> Option<&BTreeMap<Key, Tree>>
+    ensures { option_map (λ c. c.now.entries) result
+        ≡ option_map (λ l. l.1) (find (λ l. l.0 == listener) heard.now) }
+{
+    for one in heard {
+        if one.listener == listener {
+            return Some(&one.children);
+        }
+    }
+    None
+}
+
+// A listener without children at the place.
+fn insert_heard(
+    alloc: Global,
+    heard: &mut Vec<Heard>,
+    place: usize,
+    listener: u64,
+) -> Result<(), AllocError>
+    requires { place ≤ length heard.old.items }
+    ensures { OnOk result (heard.new.items ≡ insert heard.old.items place (listener, [])) }
+{
+    heard.insert(place, Heard::new(alloc, listener))?;
+    Ok(())
+}
+
+// The other listeners.
+fn remove_heard(heard: &mut Vec<Heard>, listener: u64)
+    ensures { heard.new.items ≡ without_listener listener heard.old.items }
+{
+    heard.retain(|one| one.listener != listener);
+}
+
+// The listeners by number, and their numbers beside them; the unsettled requests by number.
+#[derive(Drop)]
+pub(crate) struct Known {
+    heard: Vec<Heard>,
+    numbers: Vec<u64>,
+    requests: Vec<u64>,
+}
+
+impl Model for Known {
+    ghost use Rattle.rt_mail.specs.Mailbox.{Known};
+    ghost use Rattle.std.specs.Prelude.{◌≡◌, map};
+
+    ghost Value = { Known };
+
+    ghost view = { λ a. record { listeners = a.heard.items; requests = a.requests.items } };
+
+    ghost invariant = { λ a. a.numbers.items ≡ map (λ l. l.0) a.heard.items };
+}
+
+impl Known {
+    ghost use Rattle.rt_mail.specs.Mailbox.{nothing_known, with_listener, signed, taken, children_of};
+
+    // Nothing is known.
+    pub(crate) fn new(alloc: Global) -> Known
+        ensures { result ≡ nothing_known }
+    {
+        Known {
+            heard: Vec::new(alloc),
+            numbers: Vec::new(alloc),
+            requests: Vec::new(alloc),
+        }
+    }
+
+    // The numbers of the listeners.
+    pub(crate) fn listeners(&self) -> &[u64]
+        ensures { result.now ≡ map (λ l. l.0) self.now.listeners }
+    {
+        self.numbers.as_slice()
+    }
+
+    // The numbers of the unsettled requests.
+    pub(crate) fn requests(&self) -> &[u64]
+        ensures { result.now ≡ self.now.requests }
+    {
+        self.requests.as_slice()
+    }
+
+    // The children of a listener.
+    pub(crate) fn children(&self, listener: u64) -> Option<&BTreeMap<Key, Tree>>
+        ensures { option_map (λ c. c.now.entries) result ≡ children_of self.now listener }
+    {
+        children_of(self.heard.as_slice(), listener)
+    }
+
+    // A new listener, if it is none.
+    fn with_listener(self, listener: u64) -> Result<Known, AllocError>
+        ensures { IfOk result (λ known. known ≡ record self { listeners = with_listener listener self.listeners }) }
+    {
+        let alloc = *self.numbers.allocator();
+        let mut known = self;
+        let place = place_of(known.numbers.as_slice(), listener);
+        if stands_at(known.numbers.as_slice(), place, listener) {
+            return Ok(known);
+        }
+        known.numbers.insert(place, listener)?;
+        insert_heard(alloc, &mut known.heard, place, listener)?;
+        Ok(known)
+    }
+
+    // The others.
+    fn without_listener(self, listener: u64) -> Known
+        ensures { result ≡ record self { listeners = without_listener listener self.listeners } }
+    {
+        let mut known = self;
+        remove(&mut known.numbers, listener);
+        remove_heard(&mut known.heard, listener);
+        known
+    }
+
+    // A new request, if it is none.
+    fn with_request(self, id: u64) -> Result<Known, AllocError>
+        ensures { IfOk result (λ known. known ≡ record self { requests = with_request id self.requests }) }
+    {
+        let mut known = self;
+        insert(&mut known.requests, id)?;
+        Ok(known)
+    }
+
+    // The others.
+    fn without_request(self, id: u64) -> Known
+        ensures { result ≡ record self { requests = without_request id self.requests } }
+    {
+        let mut known = self;
+        remove(&mut known.requests, id);
+        known
+    }
+
+    // The changes of a listener's view, played over its children.
+    fn played(self, batch: &Batch) -> Result<Known, AllocError>
+        ensures { IfOk result (λ known. known ≡ record self {
+          listeners = map (played batch.now.listener batch.now.changes) self.listeners;
+        }) }
+    {
+        let alloc = *self.numbers.allocator();
+        let mut known = self;
+        play_each(
+            alloc,
+            &mut known.heard,
+            batch.listener,
+            batch.changes.as_slice(),
+        )?;
+        Ok(known)
+    }
+
+    // What is known after a receipt.
+    fn signed(self, receipt: &Receipt) -> Result<Known, AllocError>
+        ensures { IfOk result (λ known. known ≡ signed self receipt.now) }
+    {
+        match receipt {
+            Receipt::Listened { listener, .. } => self.with_listener(*listener),
+            Receipt::Unlistened { listener } => Ok(self.without_listener(*listener)),
+            Receipt::Wrote { id, .. } => self.with_request(*id),
+            Receipt::Asked { id, .. } => self.with_request(*id),
+        }
+    }
+
+    // What is known after an item.
+    pub(crate) fn after(self, item: &Item) -> Result<Known, AllocError>
+        ensures { IfOk result (λ known. known ≡ taken self item.now) }
+    {
+        match item {
+            Item::Receipt(receipt) => self.signed(receipt),
+            Item::Batch(batch) => self.played(batch),
+            Item::Settled { id, .. } => Ok(self.without_request(*id)),
+            Item::Cancelled { listener, .. } => Ok(self.without_listener(*listener)),
+        }
+    }
+}

@@ -1,0 +1,34 @@
+//! Mailboxes: what a seat is told, in order, each item once, and what one who takes it all knows.
+//!
+//! A [`Lane`] stays with the one who tells, an [`Inbox`] with the seat. What the ring has no room for
+//! waits in the lane, and nothing is dropped. A contract sees a lane as its waiting items and its
+//! mirror, and a ring as its items and its capacity (`specs/Lanes.antt`).
+//!
+//! ```
+//! let mut inbox = Inbox::new(alloc, 2)?;
+//! let mut lane = Lane::new(alloc);
+//! lane.queue(Item::Settled { id: 1, why: None })?;     // it waits
+//! lane.flush(&mut inbox)?;                             // the ring holds it, as far as there is room
+//! while let Some(item) = inbox.next() {                // the seat takes it, and waits for nobody
+//!     mirror.take(item)?;                              // listeners, their children, requests
+//! }
+//! ```
+#![tactic(auto)]
+
+mod error;
+pub mod examples;
+mod inbox;
+mod item;
+mod known;
+mod lane;
+mod laws;
+mod mirror;
+mod receipt;
+
+pub use error::MailError;
+pub use inbox::{Inbox, MAX_CAPACITY};
+pub use item::Item;
+pub use lane::{Lane, Unqueued};
+pub use laws::{order_law, replay_law};
+pub use mirror::Mirror;
+pub use receipt::Receipt;
