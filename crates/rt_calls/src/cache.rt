@@ -9,6 +9,7 @@ use crate::said::Said;
 use crate::words::{Fault, Words};
 use rt_cache::{Base, Brought, Call, QueryList};
 use rt_query::Query;
+use rt_tree::MAX_LEVELS;
 use std::alloc::{AllocError, Global};
 
 // What is brought, and queries whose answers a refusal may not change.
@@ -84,7 +85,7 @@ fn push(alloc: Global, words: &mut Words) -> Result<Call, Fault>
     let query = query(words, alloc)?;
     let path = words.path(alloc)?;
     let tree = words.tree(alloc)?;
-    if !query.path().is_prefix_of(&path) || path.keys().len() + tree.levels() > 33 {
+    if !query.path().is_prefix_of(&path) || path.keys().len() + tree.levels() > MAX_LEVELS {
         return Err(Fault::NoSuchCall);
     }
     Ok(Call::Put(query, path, tree))

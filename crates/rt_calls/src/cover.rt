@@ -3,6 +3,7 @@ use crate::drafts::query;
 use crate::said::Said;
 use crate::words::{Fault, Words};
 use rt_cover::{Cover, CoverError, Delta, Kept, KeptList};
+use rt_query::Query;
 use std::alloc::Global;
 
 // A cover, changed by the lines.
@@ -56,6 +57,16 @@ fn tell_numbers(alloc: Global, sign: &str, numbers: &[u64], said: &mut Said) {
     }
 }
 
+// A form: whether it is filtered, and its path.
+fn tell_form(alloc: Global, form: &Query, said: &mut Said) {
+    said.say(if form.is_filtered() {
+        " filtered "
+    } else {
+        " plain "
+    });
+    said.display(alloc, form.path());
+}
+
 // Each listen with its tag, its listener and its form.
 fn tell_listens(alloc: Global, listens: &[Kept], said: &mut Said) {
     for kept in listens {
@@ -63,12 +74,7 @@ fn tell_listens(alloc: Global, listens: &[Kept], said: &mut Said) {
         said.debug(alloc, &kept.tag);
         said.say("@");
         said.debug(alloc, &kept.listener);
-        said.say(if kept.query.is_filtered() {
-            " filtered "
-        } else {
-            " plain "
-        });
-        said.display(alloc, kept.query.path());
+        tell_form(alloc, &kept.query, said);
     }
 }
 
@@ -150,6 +156,57 @@ fn supplier(cover: &Cover, alloc: Global, words: &mut Words, said: &mut Said) ->
     Ok(())
 }
 
+fn tell_forms(
+    alloc: Global,
+    forms: Result<Vec<Query>, CoverError>,
+    said: &mut Said,
+) -> Result<(), Fault> {
+    match forms {
+        Ok(forms) => {
+            for form in &forms {
+                tell_form(alloc, form, said);
+            }
+        }
+        Err(error) => refused(alloc, error, said)?,
+    }
+    Ok(())
+}
+
+// The form of the listen with a tag.
+fn form_at(cover: &Cover, alloc: Global, words: &mut Words, said: &mut Said) -> Result<(), Fault> {
+    match cover.form_at(words.number()?) {
+        Some(form) => tell_form(alloc, form, said),
+        None => said.say("None"),
+    }
+    Ok(())
+}
+
+// Whether a change would need a tag above the last one.
+fn lacks_tag(
+    cover: &Cover,
+    alloc: Global,
+    words: &mut Words,
+    said: &mut Said,
+) -> Result<(), Fault> {
+    let lacks = match words.next()? {
+        "add" => cover.lacks_tag_to_add(&query(words, alloc)?),
+        "remove" => cover.lacks_tag_to_remove(&numbers(alloc, words)?),
+        "revoke" => cover.lacks_tag_to_revoke(words.number()?),
+        _ => return Err(Fault::NoSuchCall),
+    };
+    said.debug(alloc, &lacks);
+    Ok(())
+}
+
+// An equal cover in the place of this one.
+fn copy(cover: &mut Cover, alloc: Global, said: &mut Said) -> Result<(), Fault> {
+    match cover.copy() {
+        Ok(copy) => *cover = copy,
+        Err(error) => refused(alloc, error, said)?,
+    }
+    Ok(())
+}
+
 pub(crate) fn call(
     state: &mut State,
     alloc: Global,
@@ -164,7 +221,12 @@ pub(crate) fn call(
         "revoke" => revoke(cover, alloc, words, said)?,
         "open" => tell_kept(alloc, cover.open(), said)?,
         "certificate" => tell_kept(alloc, cover.certificate(), said)?,
+        "forms" => tell_forms(alloc, cover.forms(), said)?,
+        "kept_forms" => tell_forms(alloc, cover.kept_forms(), said)?,
+        "form_at" => form_at(cover, alloc, words, said)?,
         "supplier" => supplier(cover, alloc, words, said)?,
+        "lacks_tag" => lacks_tag(cover, alloc, words, said)?,
+        "copy" => copy(cover, alloc, said)?,
         "registered" => said.debug(alloc, &cover.is_registered(words.number()?)),
         "errors" => errors(alloc, said),
         _ => return Err(Fault::NoSuchCall),

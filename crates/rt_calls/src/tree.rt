@@ -264,6 +264,30 @@ fn put_in_place(
     Ok(())
 }
 
+// Pairs of a key and a tree, to the end of the line.
+fn pairs(alloc: Global, words: &mut Words) -> Result<Vec<(Key, Tree)>, Fault> {
+    let mut pairs = Vec::new(alloc);
+    for _ in 0..words.len() {
+        if words.is_empty() {
+            break;
+        }
+        let key = words.key(alloc)?;
+        pairs.push((key, words.tree(alloc)?))?;
+    }
+    Ok(pairs)
+}
+
+// The object of children in turn.
+fn children(alloc: Global, words: &mut Words, said: &mut Said) -> Result<(), Fault> {
+    match Tree::from_children(alloc, pairs(alloc, words)?) {
+        Ok(tree) => {
+            said.tree(alloc, &tree);
+            Ok(())
+        }
+        Err(error) => refused(error, said),
+    }
+}
+
 // The tree {"a": tree, "b": tree}.
 fn double(tree: &mut Tree, alloc: Global) -> Result<(), Fault> {
     let mut both = Tree::null();
@@ -319,6 +343,7 @@ pub(crate) fn call(
         "long" => long(alloc, words, said),
         "value" => value(alloc, words, said),
         "compare" => compare(alloc, words, said),
+        "children" => children(alloc, words, said),
         "put" => put(&mut state.tree, alloc, words, said),
         "put_in_place" => put_in_place(&mut state.tree, alloc, words, said),
         "double" => double(&mut state.tree, alloc),

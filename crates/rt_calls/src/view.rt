@@ -6,7 +6,7 @@ use crate::drafts::query;
 use crate::said::Said;
 use crate::words::{Fault, Words};
 use rt_query::{Query, Row, Shown};
-use rt_tree::{Key, Tree};
+use rt_tree::{Key, MAX_KEYS, Tree};
 use rt_view::{
     Batch, Change, ChangeList, Kinds, View, ViewError, apply_changes, changes, of_kinds,
 };
@@ -143,13 +143,13 @@ fn first(
 
 // So many children, each a key and a tree.
 fn named(alloc: Global, words: &mut Words) -> Result<Vec<(Key, Tree)>, Fault>
-    ensures { IfOk result (λ named. All (λ c. levels c.1 ≤ 32) named.items) }
+    ensures { IfOk result (λ named. All (λ c. levels c.1 ≤ MAX_KEYS) named.items) }
 {
     let mut named = Vec::new(alloc);
     for _ in 0..words.number()? {
         let key = words.key(alloc)?;
         let value = words.tree(alloc)?;
-        if value.levels() > 32 {
+        if value.levels() > MAX_KEYS {
             return Err(Fault::NoSuchCall);
         }
         named.push((key, value))?;
