@@ -1,5 +1,5 @@
 -- What a reader has to believe: the definitions that public contracts name. In reading order:
 --     PushKeys    push ids as keys
---     Examples    ids in key order, which the prover computes
-pub mod Examples
+-- laws/ has ids in key order that the prover computes (Examples).
+pub mod laws
 pub mod PushKeys

@@ -1,6 +1,6 @@
 // The laws of push ids as keys.
 ghost use Rattle.rt_client.specs.PushKeys.{IdsAreKeys, KeysRise, NoIntegerKeys};
-ghost use Rattle.rt_client.specs.Examples.{FallsAbove, FallsBelow, FourRise};
+ghost use Rattle.rt_client.specs.laws.Examples.{FallsAbove, FallsBelow, FourRise};
 
 use rt_push::ids_rise;
 

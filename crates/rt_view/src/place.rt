@@ -9,7 +9,7 @@ ghost use Rattle.rt_view.specs.inside.Kept.{IsWindowOf, placed, put_in};
 use crate::position::Position;
 use crate::window::Window;
 use rt_query::Query;
-use rt_tree::{Key, Path, Tree, TreeError};
+use rt_tree::{Key, MAX_KEYS, Path, Tree, TreeError};
 use std::alloc::{AllocError, Global};
 use std::collections::BTreeMap;
 
@@ -80,7 +80,7 @@ pub fn count(tree: &Tree) -> u64
 pub fn child_at<'a>(tree: &'a Tree, key: &Key) -> Option<&'a Tree>
     ensures child { option_copied result ≡ child_of (children_of tree.now) key.now }
     ensures full { IfSome result (λ child. is_null child.now ≡ false) }
-    ensures fits { IfSome result (λ child. levels child.now ≤ 32) }
+    ensures fits { IfSome result (λ child. levels child.now ≤ MAX_KEYS) }
 {
     match tree.children()?.get(key) {
         Some(child) => Some(child),
@@ -90,7 +90,7 @@ pub fn child_at<'a>(tree: &'a Tree, key: &Key) -> Option<&'a Tree>
 
 // Puts a child in the place of a tree's own. It fits, so only memory can refuse.
 pub fn put_child(tree: &mut Tree, alloc: Global, key: &Key, child: &Tree) -> Result<(), AllocError>
-    requires { levels child.now ≤ 32 }
+    requires { levels child.now ≤ MAX_KEYS }
     ensures { OnOk result (tree.new ≡ put tree.old (key.now ∷ []) child.now) }
 {
     let path = match Path::root(alloc).child(key) {
@@ -125,7 +125,7 @@ pub fn shown_at<'a>(
     ensures shown { IfOk result (λ child. option_copied child
         ≡ value_at window.now.shown.entries key.now) }
     ensures full { IfOk result (λ child. IfSome child (λ t. is_null t.now ≡ false)) }
-    ensures fits { IfOk result (λ child. IfSome child (λ t. levels t.now ≤ 32)) }
+    ensures fits { IfOk result (λ child. IfSome child (λ t. levels t.now ≤ MAX_KEYS)) }
 {
     let Some(child) = child_at(known, key) else {
         return Ok(None);

@@ -11,7 +11,7 @@ use crate::place::{child_at, put_child};
 use crate::position::Position;
 use crate::window::Window;
 use rt_query::Query;
-use rt_tree::{Key, Tree};
+use rt_tree::{Key, MAX_KEYS, Tree};
 use std::alloc::{AllocError, Global};
 
 // Notes the key, where there is one.
@@ -95,7 +95,7 @@ fn touch_child(
     child: &Tree,
 ) -> Result<(), AllocError>
     requires kept { IsWindowOf query.now known.old window.old }
-    requires fits { levels child.now ≤ 32 }
+    requires fits { levels child.now ≤ MAX_KEYS }
     ensures put { OnOk result (known.new ≡ put known.old (key.now ∷ []) child.now) }
     ensures kept { OnOk result (IsWindowOf query.now known.new window.new) }
     ensures notes { OnOk result
@@ -118,7 +118,7 @@ pub fn touch_all(
     named: &[(Key, Tree)],
 ) -> Result<Vec<Key>, AllocError>
     requires kept { IsWindowOf query.now known.old window.old }
-    requires fits { All (λ c. levels c.1 ≤ 32) named.now }
+    requires fits { All (λ c. levels c.1 ≤ MAX_KEYS) named.now }
     ensures put { OnOk result (known.new ≡ with_named known.old named.now) }
     ensures kept { OnOk result (IsWindowOf query.now known.new window.new) }
     ensures notes { IfOk result (λ noted.

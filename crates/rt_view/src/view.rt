@@ -13,7 +13,7 @@ use crate::tell::tell;
 use crate::touch::touch_all;
 use crate::window::Window;
 use rt_query::{Query, Shown};
-use rt_tree::{Key, Leaf, Tree};
+use rt_tree::{Key, Leaf, MAX_KEYS, Tree};
 use std::alloc::{AllocError, Global};
 use std::marker::Model;
 use std::mem::replace;
@@ -148,7 +148,7 @@ impl View {
     ///
     /// After `NoMemory` the view has failed.
     pub fn touch(&mut self, alloc: Global, named: Vec<(Key, Tree)>) -> Result<ChangeList, ViewError>
-        requires { All (λ c. levels c.1 ≤ 32) named.items }
+        requires { All (λ c. levels c.1 ≤ MAX_KEYS) named.items }
         ensures touched { OnOk result (self.new ≡ touched self.old named.items) }
         ensures changes { IfOk result (λ list. list ≡ told self.old (touched self.old named.items)) }
         ensures failed { IsTrue self.old.failed ↔ (result ≡ Err ViewError.Failed) }

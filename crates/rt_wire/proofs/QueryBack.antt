@@ -51,7 +51,7 @@ whole_back : (z : ℤ) → IsWhole z → whole_of z ≡ Some (Leaf (number z))
 whole_back (pos n) h = grind (arith, common_steps)
 whole_back (negsuc n) h = grind (arith, common_steps)
 
-text_back : (s : List ℕ) → length s ≤ 65536 → text_mark_of s ≡ Some (Leaf (text s))
+text_back : (s : List ℕ) → length s ≤ MAX_TEXT_BYTES → text_mark_of s ≡ Some (Leaf (text s))
 text_back s h = grind (arith, common_steps)
 
 mark_back : (m : Mark) → IsStandingMark m → mark_of (mark_data m) ≡ Some m

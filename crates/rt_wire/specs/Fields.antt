@@ -8,6 +8,7 @@ use Rattle.rt_tree.specs.PathTree.{Path, PathTree}
 use Rattle.rt_tree.specs.Reading.{tree_of_data, data_fault}
 use Rattle.rt_wire.specs.declared.error.WireError.{WireError}
 use Rattle.rt_wire.specs.declared.error.WireError.TheVariants.{BadField, BadTree}
+use Rattle.rt_wire.specs.declared.limits.TheConstants.{MAX_NUMBER, MAX_REASON_BYTES}
 
 -- the member of that name, as `f` has it
 abbrev pub field : {A : Type 0} → (Data → Option A) → List ℕ → Data → Option A
@@ -17,9 +18,9 @@ field f name message = option_and_then f (get name message)
 abbrev pub any_of : Data → Option Data
 any_of d = Some d
 
--- a tag, or the number of a request: a whole number from 1 to 9007199254740991
+-- a tag, or the number of a request: a whole number from 1 to the largest
 abbrev pub in_range : ℕ → Option ℕ
-in_range n = if nat_le 1 n && nat_le n 9007199254740991 then Some n else None
+in_range n = if nat_le 1 n && nat_le n MAX_NUMBER then Some n else None
 
 abbrev pub number_of : Data → Option ℕ
 number_of d = option_and_then in_range (option_and_then as_u64 (as_number d))
@@ -31,9 +32,9 @@ path_of_text s = if is_none (path_fault s) then Some (path_keys s) else None
 abbrev pub path_of : Data → Option Path
 path_of d = option_and_then path_of_text (as_str d)
 
--- a reason: a text of at most 65536 bytes
+-- a reason: a text that is not too long
 abbrev pub reason_of_text : List ℕ → Option (List ℕ)
-reason_of_text s = if nat_le (length s) 65536 then Some s else None
+reason_of_text s = if nat_le (length s) MAX_REASON_BYTES then Some s else None
 
 abbrev pub reason_of : Data → Option (List ℕ)
 reason_of d = option_and_then reason_of_text (as_str d)

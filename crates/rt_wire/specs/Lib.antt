@@ -1,5 +1,5 @@
--- The definitions that public contracts name, in reading order; what only the code's values need
--- stands in `inside`.
+-- The definitions that public contracts name, in reading order. laws/ has readings and texts that
+-- the prover computes; inside/ what only the code's values need.
 pub mod Errors
 pub mod Fields
 pub mod EntryFields
@@ -12,5 +12,5 @@ pub mod Client
 pub mod ClientData
 pub mod Grammar
 pub mod ReadBack
-pub mod Examples
 pub mod inside
+pub mod laws

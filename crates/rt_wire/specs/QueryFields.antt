@@ -9,6 +9,7 @@ use Rattle.rt_tree.specs.Key.{key_fault}
 use Rattle.rt_tree.specs.Leaf.{truth, number, text}
 use Rattle.rt_tree.specs.PathTree.{Key, Path}
 use Rattle.rt_tree.specs.Reading.{number_fault}
+use Rattle.rt_tree.specs.declared.limits.TheConstants.{MAX_TEXT_BYTES}
 use Rattle.rt_order.specs.declared.index.Index.{Index}
 use Rattle.rt_order.specs.declared.index.Index.TheVariants as index
 use Rattle.rt_order.specs.declared.cut.Mark.{Mark}
@@ -45,7 +46,7 @@ abbrev pub whole_of : ℤ → Option Mark
 whole_of z = if is_none (number_fault (Some z)) then Some (Leaf (number z)) else None
 
 abbrev pub text_mark_of : List ℕ → Option Mark
-text_mark_of s = if nat_le (length s) 65536 then Some (Leaf (text s)) else None
+text_mark_of s = if nat_le (length s) MAX_TEXT_BYTES then Some (Leaf (text s)) else None
 
 abbrev pub mark_of : Data → Option Mark
 mark_of json.null = Some Null

@@ -7,6 +7,7 @@ use Rattle.rt_tree.specs.Assignments.{Assignment, have_overlap}
 use Rattle.rt_tree.specs.Writing.{back_fault}
 use Rattle.rt_query.specs.Queries.{Query}
 use Rattle.rt_query.specs.Supply.{form}
+use Rattle.rt_wire.specs.declared.limits.TheConstants.{MAX_NUMBER, MAX_REASON_BYTES}
 use Rattle.rt_wire.specs.declared.server.ServerMessage.{ServerMessage}
 use Rattle.rt_wire.specs.declared.server.ServerMessage.TheVariants.{Data, DataMerge, Accepted}
 use Rattle.rt_wire.specs.declared.server.ServerMessage.TheVariants.{Refused, Revoked}
@@ -24,9 +25,9 @@ use Rattle.rt_wire.specs.Client.{client_message}
 
 -- a tag, or the number of a request
 abbrev pub IsNumber : ℕ → Type 0
-IsNumber n = (1 ≤ n) × (n ≤ 9007199254740991)
+IsNumber n = (1 ≤ n) × (n ≤ MAX_NUMBER)
 
--- a tree of at most 65536 values
+-- a tree of no more values than are read
 abbrev pub IsReadable : PathTree → Type 0
 IsReadable tree = back_fault tree ≡ None
 
@@ -37,7 +38,7 @@ AreEntries entries = (0 < length entries) × (have_overlap entries ≡ false)
 
 -- a reason
 abbrev pub IsShort : List ℕ → Type 0
-IsShort why = length why ≤ 65536
+IsShort why = length why ≤ MAX_REASON_BYTES
 
 -- a query that is its own listening form, so that it is in key order where it isn't filtered; in
 -- key order its cuts are next to keys, as all calls of a draft make them

@@ -1,10 +1,10 @@
 //! Messages that the prover computes.
-ghost use Rattle.rt_wire.specs.Examples.{AnswersAreRead, PrefixesAreNoMessages, KindsAreUnknown};
-ghost use Rattle.rt_wire.specs.Examples.{NumbersHaveBounds, FieldsComeFirst, SpellingsAreEntries};
-ghost use Rattle.rt_wire.specs.Examples.{DepthIsBounded};
-ghost use Rattle.rt_wire.specs.Examples.{RequestsAreRead, QueriesHaveFaults, CutsAreRead};
-ghost use Rattle.rt_wire.specs.Examples.{MessagesAreWritten, NothingElseIsSaid};
-ghost use Rattle.rt_wire.specs.Examples.{NothingElseIsReadBack};
+ghost use Rattle.rt_wire.specs.laws.Examples.{AnswersAreRead, PrefixesAreNoMessages, KindsAreUnknown};
+ghost use Rattle.rt_wire.specs.laws.Examples.{NumbersHaveBounds, FieldsComeFirst, SpellingsAreEntries};
+ghost use Rattle.rt_wire.specs.laws.Examples.{DepthIsBounded};
+ghost use Rattle.rt_wire.specs.laws.Examples.{RequestsAreRead, QueriesHaveFaults, CutsAreRead};
+ghost use Rattle.rt_wire.specs.laws.Examples.{MessagesAreWritten, NothingElseIsSaid};
+ghost use Rattle.rt_wire.specs.laws.Examples.{NothingElseIsReadBack};
 
 /// The order of members is free, of equal names the last counts, and others are ignored.
 pub fn answers_are_read()

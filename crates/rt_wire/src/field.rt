@@ -7,17 +7,11 @@ ghost use Rattle.rt_wire.specs.Fields.{field, any_of, number_of, path_of, path_o
 ghost use Rattle.rt_wire.specs.Fields.{reason_of, tree_of};
 
 use crate::error::WireError;
+use crate::limits::{MAX_NUMBER, MAX_REASON_BYTES};
 use crate::reason::Reason;
 use rt_tree::{Path, Tree, TreeError};
 use serde_json::Value;
 use std::alloc::Global;
-
-// The largest tag and the largest number of a request: above it JavaScript doesn't have each whole
-// number.
-const MAX_NUMBER: u64 = 9007199254740991;
-
-// The most bytes of a reason.
-const MAX_REASON: usize = 65536;
 
 // The JSON value of a text.
 pub(crate) fn json_value(alloc: Global, text: &str) -> Result<Value, WireError>
@@ -108,7 +102,7 @@ pub(crate) fn reason(alloc: Global, message: &Value) -> Result<Reason, WireError
         × (field reason_of (codes "why") (view message.now) ≡ None) ⊎ (e ≡ WireError.NoMemory)) }
 {
     let why = text(message, "why")?;
-    if why.len() > MAX_REASON {
+    if why.len() > MAX_REASON_BYTES {
         return Err(WireError::BadField);
     }
     Ok(Reason::of(String::from_str(alloc, why)?))

@@ -15,6 +15,7 @@ mod error;
 pub mod examples;
 mod field;
 pub mod laws;
+mod limits;
 mod made;
 mod query;
 mod query_json;
@@ -25,6 +26,7 @@ mod value;
 
 pub use client::ClientMessage;
 pub use error::WireError;
+pub use limits::{MAX_NUMBER, MAX_REASON_BYTES};
 pub use query_json::query_text;
 pub use reason::Reason;
 pub use request::{Action, Asked, Ending};

@@ -14,7 +14,7 @@ use crate::field::{member, path_of_text};
 use crate::made::made;
 use rt_order::{Cut, Index, Mark, Place, Range};
 use rt_query::{Limit, Query};
-use rt_tree::{Key, Leaf, Path, TreeError};
+use rt_tree::{Key, Leaf, MAX_TEXT_BYTES, Path, TreeError};
 use serde_json::Value;
 use std::alloc::Global;
 
@@ -81,7 +81,7 @@ fn text_mark(alloc: Global, text: &str) -> Result<Mark, WireError>
     ensures err { IfErr result (λ e. (e ≡ WireError.BadField) × (text_mark_of text.now ≡ None)
         ⊎ (e ≡ WireError.NoMemory)) }
 {
-    if text.len() > 65536 {
+    if text.len() > MAX_TEXT_BYTES {
         return Err(WireError::BadField);
     }
     match Leaf::text(String::from_str(alloc, text)?) {

@@ -1,7 +1,7 @@
 use Rattle.std.proofs.Common.{◌≡◌, [], ◌∷◌, length, ap, ◌∙◌, arith}
 use Rattle.std.proofs.lemmas.List.Sorted.{length_permutation}
 use Rattle.serde_json.proofs.OnLiterals.{serde_json_on_literals}
-use Rattle.rt_wire.specs.Examples.{entry_at}
+use Rattle.rt_wire.specs.laws.Examples.{entry_at}
 use Rattle.rt_wire.proofs.Others.{number_in, server_number, tag_in, client_number}
 use Rattle.rt_wire.proofs.examples.nothing_else_is_read_back.Goals as goal
 

@@ -5,7 +5,7 @@ use Rattle.rt_tree.specs.Path.{path_keys}
 use Rattle.rt_query.specs.Queries.{plain}
 use Rattle.rt_wire.specs.declared.server.ServerMessage.TheVariants.{DataMerge, Accepted, Refused}
 use Rattle.rt_wire.specs.declared.client.ClientMessage.TheVariants.{Listen}
-use Rattle.rt_wire.specs.Examples.{ok_one, two_entries, entry_at, listen_first}
+use Rattle.rt_wire.specs.laws.Examples.{ok_one, two_entries, entry_at, listen_first}
 use Rattle.rt_wire.proofs.Others.{server_number, server_kind, is_filtered_by}
 use Rattle.rt_wire.proofs.ServerSaid.{server_read}
 use Rattle.rt_wire.proofs.ClientSaid.{client_read}

@@ -1,0 +1,8 @@
+// What numbers and texts a message may have: the limits that definitions and code name alike.
+
+/// The largest tag, and the largest number of a request: above it JavaScript doesn't have each whole
+/// number.
+pub const MAX_NUMBER: u64 = 9007199254740991;
+
+/// The most bytes that a reason has.
+pub const MAX_REASON_BYTES: usize = 65536;
