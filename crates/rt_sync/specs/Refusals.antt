@@ -1,9 +1,10 @@
 -- When a step is refused, and when it is stale.
-use Rattle.std.specs.Prelude.{ℕ, ◌+◌, Bool, true, false, ◌&&◌, ◌||◌, not, List, [], ◌∷◌, length}
+use Rattle.std.specs.Prelude.{◌+◌, Bool, true, false, ◌&&◌, ◌||◌, not, List, [], ◌∷◌, length}
 use Rattle.std.specs.Prelude.{nat_lt, nat_le, Option}
 use Rattle.std.specs.List.{find, list_any, list_all}
 use Rattle.std.specs.Option.{option_map, option_map_or}
 use Rattle.rt_tree.specs.PathTree.{levels}
+use Rattle.rt_tree.specs.declared.limits.TheConstants.{MAX_LEVELS}
 use Rattle.rt_tree.specs.Assignments.{is_at_or_above, Assignment, have_overlap}
 use Rattle.rt_cache.specs.Brought.{is_without_window}
 use Rattle.rt_sync.specs.declared.error.CoreError.{CoreError}
@@ -39,13 +40,9 @@ abbrev pub entries_set : Step → List Assignment
 entries_set (Step.Write seat action) = entries_of action
 entries_set _ = []
 
--- the most keys that a leaf stands under
-abbrev pub max_keys : ℕ
-max_keys = 32
-
--- whether a leaf would stand under more: levels counts one more
+-- whether a leaf would stand under too many keys: levels counts one more
 abbrev pub stands_too_deep : Assignment → Bool
-stands_too_deep a = nat_lt (max_keys + 1) (length a.0 + levels a.1)
+stands_too_deep a = nat_lt MAX_LEVELS (length a.0 + levels a.1)
 
 -- whether an entry of the step, a write's or a Data's, would
 abbrev pub is_too_deep : Step → Bool

@@ -11,16 +11,13 @@ use crate::error::CoreError;
 use crate::state::State;
 use crate::step::{Action, Step};
 use rt_query::Query;
-use rt_tree::{Path, Tree};
+use rt_tree::{MAX_LEVELS, Path, Tree};
 
-// The most keys that a leaf stands under.
-const MAX_KEYS: usize = 32;
-
-// Whether a leaf would stand under more keys; the levels of a tree count one more.
+// Whether a leaf would stand under too many keys: levels count one more.
 fn stands_too_deep(path: &Path, tree: &Tree) -> bool
     ensures { result ≡ stands_too_deep (path.now, tree.now) }
 {
-    path.keys().len() + tree.levels() > MAX_KEYS + 1
+    path.keys().len() + tree.levels() > MAX_LEVELS
 }
 
 // Whether a leaf of the step would.
