@@ -10,6 +10,7 @@ use Rattle.rt_tree.specs.Key.{IsKey}
 use Rattle.rt_tree.specs.Leaf.{truth, number, text, IsWhole, IsInRange}
 use Rattle.rt_tree.specs.Path.{path_text}
 use Rattle.rt_tree.specs.PathTree.{Path}
+use Rattle.rt_tree.specs.declared.limits.TheConstants.{MAX_TEXT_BYTES}
 use Rattle.rt_tree.specs.PathTree as tree
 use Rattle.rt_tree.specs.Reading.{number_fault}
 use Rattle.rt_order.specs.declared.index.Index.{Index}
