@@ -1,0 +1,2 @@
+pub mod StateView
+pub mod Parts
