@@ -105,7 +105,7 @@ impl Lane {
     pub fn has_room(&self, inbox: &Inbox) -> bool
         ensures { IsTrue result ↔ (length self.now.waiting < room inbox.now) }
     {
-        self.waiting.len() < inbox.room()
+        inbox.room() > self.waiting.len()
     }
 
     /// How many items wait.
