@@ -9,3 +9,4 @@ pub mod Needed
 pub mod KeptListens
 pub mod Runs
 pub mod Apart
+pub mod Examples
