@@ -14,7 +14,7 @@ use Rattle.rt_world.specs.Views.{is_known, view_of}
 use Rattle.rt_world.specs.World.{Listener, registered}
 use Rattle.rt_world.specs.Steps.{renewed}
 use Rattle.rt_world.specs.Answers.{view_before}
-use Rattle.rt_world.specs.inside.Sound.{Rises}
+use Rattle.rt_world.specs.Sound.{Rises}
 
 -- ---- numbers
 
