@@ -5,7 +5,7 @@ ghost use Rattle.rt_world.specs.laws.World.{LeafReadsNamed, TouchedIsSeen, Other
 ghost use Rattle.rt_world.specs.laws.World.{MessagesAreHeard, ConnectedSendsAll, NumbersStayWithin};
 ghost use Rattle.rt_world.specs.laws.World.{IsWritten, IsBrought};
 ghost use Rattle.rt_world.specs.laws.Steps.{WorldsAreSound, WorldsAreCalled, StaysSound};
-ghost use Rattle.rt_world.specs.laws.Steps.{ListensStay, UnmetStays};
+ghost use Rattle.rt_world.specs.laws.Steps.{ListensStay, UnmetStays, RenewedIsOne};
 ghost use Rattle.rt_world.specs.laws.Steps.{PushIsBrought, ListenBringsNothing, StaysPlain};
 ghost use Rattle.rt_world.specs.laws.Steps.{WriteIsPending, EndingIsNotPending};
 ghost use Rattle.rt_world.specs.laws.Steps.{SettledIsNotPending, UnseatedIsPending};
@@ -65,11 +65,12 @@ pub fn sound_law()
     ensures next { StaysSound }
 {}
 
-/// What a step leaves as it is: the listens where the listeners stay, and a listener whose path no
-/// entry of the step overlaps.
+/// What a step leaves as it is: the listens where the listeners stay, a listener whose path no entry
+/// of the step overlaps, and of each other its number, seat and query.
 pub fn stay_law()
     ensures listens { ListensStay }
     ensures unmet { UnmetStays }
+    ensures renewed { RenewedIsOne }
 {}
 
 /// What plain listens brought is changed by a push alone where no listener ends; a step that registers

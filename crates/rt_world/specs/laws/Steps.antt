@@ -6,7 +6,8 @@ use Rattle.std.specs.Option.{option_and_then, option_to_list}
 use Rattle.rt_tree.specs.declared.limits.TheConstants.{MAX_KEYS}
 use Rattle.rt_tree.specs.Assignments.{do_overlap}
 use Rattle.rt_query.specs.Queries.{Query, is_filtered}
-use Rattle.rt_writes.specs.Writes.{without}
+use Rattle.rt_writes.specs.Writes.{Write, without}
+use Rattle.rt_cache.specs.Brought.{Brought}
 use Rattle.rt_wire.specs.declared.request.Action.{Action}
 use Rattle.rt_wire.specs.declared.request.Asked.TheVariants.{Now, AtDisconnect}
 use Rattle.rt_wire.specs.declared.request.Ending.{Ending}
@@ -63,6 +64,13 @@ UnmetStays =
     → (l : Listener) → Contains w.listeners l → Contains (listeners_after w s) l
     → list_any (λ a. do_overlap a.0 l.query.path) (entries_by w s) ≡ false
     → renewed (brought_after w s) (pending (requests_after w s)) l ≡ l
+
+-- a listener that is renewed is one of that number, seat and query
+abbrev pub RenewedIsOne : Type 0
+RenewedIsOne =
+    (brought : Brought) (writes : List Write) (l : Listener)
+    → let m = renewed brought writes l in
+    (m.number ≡ l.number) × (m.seat ≡ l.seat) × (m.query ≡ l.query)
 
 -- ---- what plain listens brought
 
