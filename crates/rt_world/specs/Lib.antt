@@ -4,9 +4,11 @@
 -- refused, and when it is stale), Answers (what it answers), Runs (what the server hears), Headline
 -- (what any steps lead to), Plain (the same of what is written and brought), Touched (which children
 -- of a view a step can change), Covering (the cover of a world), Limited (what keeps within the
--- limits), Sound and Called (what holds of a world between steps).
+-- limits), Sound and Called (what holds of a world between steps), Codes (numbers and words of
+-- refusals).
 pub mod Answers
 pub mod Called
+pub mod Codes
 pub mod Covering
 pub mod Headline
 pub mod laws
