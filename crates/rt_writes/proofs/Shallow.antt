@@ -1,6 +1,10 @@
 -- No leaf of an overlaid tree is too deep.
-use Rattle.std.proofs.Common.{◌≡◌, ◌+◌, ◌-◌, ◌<◌, ◌≤◌, not, ◌&&◌, ◌++◌, length, Option, Some, None, is_some, refl, sym, subst, ◌∙◌, arith, length-append, Result, Ok, Err, IfOk}
+use Rattle.std.proofs.Common.{◌≡◌, ◌+◌, ◌-◌, ◌<◌, ◌≤◌, not, ◌&&◌, List, [], ◌∷◌, ◌++◌, length, Option, Some, None, is_some, refl, sym, subst, ◌∙◌, arith, length-append, Result, Ok, Err, IfOk}
+use Rattle.std.specs.List.{fold, All}
+use Rattle.std.proofs.lemmas.List.Elements.{All-nil, All-head, All-tail, All-append}
 use Rattle.rt_tree.specs.Leaf.{LeafValue}
+use Rattle.rt_tree.specs.Assignments.{Assignment}
+use Rattle.rt_writes.specs.Writes.{Write, IsShallow, assignments, overlaid, overlaid_by, overlay}
 use Rattle.rt_tree.specs.PathTree.{Path, PathTree, strip, length-strip, shown, leaf_at, leaf_at-sub, leaf_at-put, after_put, is_null, sub, put, levels, levels_le, length_lt_levels}
 
 -- the part that an entry above gives
@@ -24,6 +28,31 @@ shallow-below p e r t u s fits h =
     at q l (Some x) is f =
         let deep : length x < levels u = length_lt_levels u x l f in
         omega (arith, length-strip r q x is, length-strip p e r s)
+
+-- one entry
+shallow-overlaid : (p : Path) (t : PathTree) (a : Assignment) → length p ≤ 33 → IsShallow (p, t) → IsShallow a → IsShallow (p, overlaid p t a)
+shallow-overlaid p t a fits h g =
+    elim (strip a.0 p) as (λ o. strip a.0 p ≡ o → length p + levels (overlaid_by o (strip p a.0) t a.1) ≤ 33) [
+      | Some r ↦ λ e. shallow-part a.0 p r a.1 e fits g
+      | None ↦ λ e. elim (strip p a.0) as (λ o. strip p a.0 ≡ o → length p + levels (overlaid_by None o t a.1) ≤ 33) [
+        | Some r ↦ λ f. shallow-below p a.0 r t a.1 f h g
+        | None ↦ λ f. h
+      ] refl
+    ] refl
+
+-- all entries, one after another
+shallow-fold : (p : Path) (entries : List Assignment) (t : PathTree) → length p ≤ 33 → IsShallow (p, t) → All IsShallow entries → IsShallow (p, fold (overlaid p) t entries)
+shallow-fold p [] t fits h g = h
+shallow-fold p (a ∷ entries) t fits h g =
+    shallow-fold p entries (overlaid p t a) fits (shallow-overlaid p t a fits h (All-head IsShallow a entries g)) (All-tail IsShallow a entries g)
+
+all_entries : (writes : List Write) → All (λ w. All IsShallow w.entries) writes → All IsShallow (assignments writes)
+all_entries [] h = All-nil IsShallow
+all_entries (w ∷ writes) h =
+    All-append IsShallow w.entries (assignments writes) (All-head (λ (x : Write). All IsShallow x.entries) w writes h) (all_entries writes (All-tail (λ (x : Write). All IsShallow x.entries) w writes h))
+
+pub shallow-overlay : (p : Path) (t : PathTree) (writes : List Write) → length p ≤ 33 → IsShallow (p, t) → All (λ w. All IsShallow w.entries) writes → IsShallow (p, overlay p t writes)
+shallow-overlay p t writes fits h g = shallow-fold p (assignments writes) t fits h (all_entries writes g)
 
 -- what the one value of a result is
 pub if_ok : {X E : Type 0} (P : X → Type 0) (x : X) (r : Result X E) → IfOk r (λ y. y ≡ x) → P x → IfOk r P
