@@ -1,6 +1,6 @@
 use Rattle.std.specs.Prelude.{◌++◌}
 use Rattle.rt_tree.specs.PathTree.{strip-append}
-use Rattle.rt_writes.proofs.Shallow.{shallow-below, shallow-overlay}
+use Rattle.rt_writes.specs.laws.ShallowLaws.{shallow-below, shallow-overlay}
 use Rattle.rt_writes.proofs.laws.shallow_law.Goals as goal
 
 pub returns : goal.returns
