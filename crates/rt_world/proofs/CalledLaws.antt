@@ -29,8 +29,8 @@ use Rattle.rt_world.specs.Messages.{next}
 use Rattle.rt_world.specs.Refusals.{refusal, is_stale, stands_too_deep, is_no_merge, is_within_listen}
 use Rattle.rt_world.specs.Answers.{step, step_by, world_after}
 use Rattle.rt_world.specs.Plain.{IsPushOn}
-use Rattle.rt_world.specs.inside.Called.{IsCalled}
-use Rattle.rt_world.specs.inside.Sound.{IsSound}
+use Rattle.rt_world.specs.Called.{IsCalled}
+use Rattle.rt_world.specs.Sound.{IsSound}
 use Rattle.rt_world.proofs.LimitLaws.{allowed}
 use Rattle.rt_world.proofs.PlainLaws.{forms_kept, pushes_on}
 use Rattle.rt_world.proofs.SoundLaws.{sound_empty, sound_next, sound_step}

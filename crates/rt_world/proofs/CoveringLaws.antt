@@ -20,7 +20,7 @@ use Rattle.rt_world.specs.World.{World, Listener, empty_world, registered, pendi
 use Rattle.rt_world.specs.Steps.{is_cancelled, listeners_after, requests_after, brought_after, started_by}
 use Rattle.rt_world.specs.Messages.{next}
 use Rattle.rt_world.specs.Answers.{world_after}
-use Rattle.rt_world.specs.inside.Sound.{IsSound}
+use Rattle.rt_world.specs.Sound.{IsSound}
 use Rattle.rt_world.specs.Covering.{cover_in, numbers_of, cover_after}
 use Rattle.rt_world.specs.laws.World.{CoverTakesChanges}
 use Rattle.rt_world.proofs.Listeners.{same_number, registered-renewed}

@@ -12,7 +12,7 @@ use Rattle.rt_world.specs.World.{World, Listener, empty_world, registered}
 use Rattle.rt_world.specs.Steps.{listeners_after, started_by}
 use Rattle.rt_world.specs.Messages.{stopped_by}
 use Rattle.rt_world.specs.Answers.{world_after}
-use Rattle.rt_world.specs.inside.Sound.{cover_of, IsSound}
+use Rattle.rt_world.specs.Sound.{cover_of, IsSound}
 use Rattle.rt_world.specs.Limited.{IsWithin}
 use Rattle.rt_world.specs.Covering.{cover_in, change_by, delta_by}
 use Rattle.rt_world.specs.laws.World.{DeltaIsSent}

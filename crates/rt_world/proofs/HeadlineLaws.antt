@@ -18,7 +18,7 @@ use Rattle.rt_world.specs.Refusals.{refusal, is_stale}
 use Rattle.rt_world.specs.Answers.{Answer, step, step_by, answers, world_after, view_before}
 use Rattle.rt_world.specs.Runs.{Opened, Made, events_of, events, heard_after, heard}
 use Rattle.rt_world.specs.Headline.{KeepsFewest, ShowsAll, IsTurned, IsUpToDate, changes_told, Headline}
-use Rattle.rt_world.specs.inside.Sound.{cover_of, IsSound}
+use Rattle.rt_world.specs.Sound.{cover_of, IsSound}
 use Rattle.rt_world.proofs.Listeners.{same_number, has_number, has_number-there, has_number-renewed, not_bound, view_before-there, view_before-none}
 use Rattle.rt_world.proofs.ShowLaws.{left_or_more, first_seen, step_up_to_date, told-absent}
 use Rattle.rt_world.proofs.HeardLaws.{fold-append, heard-opened, heard-step, done_connected}

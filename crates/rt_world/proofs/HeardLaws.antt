@@ -28,7 +28,7 @@ use Rattle.rt_world.specs.Steps.{asked_by, is_cancelled, listeners_after, forms_
 use Rattle.rt_world.specs.Messages.{unrevoked, stopped_by, listens, unlistens, request_message, request_sent, messages_online, messages_of, next}
 use Rattle.rt_world.specs.Answers.{step_by}
 use Rattle.rt_world.specs.Runs.{Event, Opened, Made, events_before, heard_after, is_done}
-use Rattle.rt_world.specs.inside.Sound.{cover_of, IsSound}
+use Rattle.rt_world.specs.Sound.{cover_of, IsSound}
 use Rattle.rt_world.proofs.Listeners.{same_number, other_number}
 use Rattle.rt_world.proofs.ShowLaws.{filter_true}
 

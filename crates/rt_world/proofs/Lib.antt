@@ -4,10 +4,13 @@ pub mod CoveringLaws
 pub mod DeltaLaws
 pub mod HeadlineLaws
 pub mod HeardLaws
+pub mod KeptLaws
 pub mod LimitLaws
 pub mod Listeners
+pub mod LostLaws
 pub mod MessageLaws
 pub mod NamedLaws
+pub mod NoteLaws
 pub mod Numbers
 pub mod PlainLaws
 pub mod PushLaws

@@ -12,7 +12,7 @@ use Rattle.rt_world.specs.Steps.{is_cancelled, listeners_after, requests_after, 
 use Rattle.rt_world.specs.Messages.{next}
 use Rattle.rt_world.specs.Refusals.{conditions, refusal, is_stale, needs_tag}
 use Rattle.rt_world.specs.Answers.{step, step_by, world_after}
-use Rattle.rt_world.specs.inside.Sound.{IsSound}
+use Rattle.rt_world.specs.Sound.{IsSound}
 use Rattle.rt_world.specs.Limited.{IsWithin, IsAllowed}
 use Rattle.rt_world.specs.laws.World.{NumbersStayWithin}
 use Rattle.rt_world.proofs.Listeners.{or_false_left, or_false_right}

@@ -14,7 +14,7 @@ use Rattle.rt_world.specs.Views.{is_known, view_of}
 use Rattle.rt_world.specs.World.{Listener, registered}
 use Rattle.rt_world.specs.Steps.{renewed}
 use Rattle.rt_world.specs.Answers.{view_before}
-use Rattle.rt_world.specs.inside.Sound.{Rises}
+use Rattle.rt_world.specs.Sound.{Rises}
 
 -- ---- numbers
 
@@ -101,6 +101,9 @@ number-renewed b ws l = elim (l.is_primed || is_known b ws l.query) as (λ k. (c
 
 pub query-renewed : (b : Brought) (ws : List Write) (l : Listener) → (renewed b ws l).query ≡ l.query
 query-renewed b ws l = elim (l.is_primed || is_known b ws l.query) as (λ k. (cond k (primed_view b ws l) l).query ≡ l.query) [ true ↦ refl | false ↦ refl ]
+
+pub seat-renewed : (b : Brought) (ws : List Write) (l : Listener) → (renewed b ws l).seat ≡ l.seat
+seat-renewed b ws l = elim (l.is_primed || is_known b ws l.query) as (λ k. (cond k (primed_view b ws l) l).seat ≡ l.seat) [ true ↦ refl | false ↦ refl ]
 
 pub has_number-renewed : (b : Brought) (ws : List Write) (n : ℕ) (ls : List Listener) → has_number n (map (renewed b ws) ls) ≡ has_number n ls
 has_number-renewed b ws n [] = refl

@@ -10,7 +10,7 @@ use Rattle.rt_world.specs.Messages.{listens, request_message, messages_of, outgo
 use Rattle.rt_world.specs.Refusals.{refusal, is_stale}
 use Rattle.rt_world.specs.Answers.{step, step_by, world_after}
 use Rattle.rt_world.specs.Runs.{Event, Opened, Made, Ended, events_before, events_of, events, made_after, is_opened}
-use Rattle.rt_world.specs.inside.Sound.{IsSound}
+use Rattle.rt_world.specs.Sound.{IsSound}
 use Rattle.rt_world.specs.laws.World.{MessagesAreHeard, SendsAll, ConnectedSendsAll}
 use Rattle.rt_world.proofs.HeardLaws.{kept-same}
 use Rattle.rt_world.proofs.SoundLaws.{sound_empty, sound_next, sound_run}

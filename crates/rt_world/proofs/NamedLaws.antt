@@ -28,8 +28,9 @@ use Rattle.rt_world.specs.Messages.{next}
 use Rattle.rt_world.specs.Refusals.{refusal, is_stale}
 use Rattle.rt_world.specs.Answers.{step, step_by, world_after}
 use Rattle.rt_world.specs.Touched.{entries_by, named_by, children_named, is_named, is_covered, seen, children_at, IsInBoth}
-use Rattle.rt_world.specs.inside.Called.{IsCalled}
-use Rattle.rt_world.specs.inside.Sound.{IsSound}
+use Rattle.rt_world.specs.Called.{IsCalled}
+use Rattle.rt_world.specs.Sound.{IsSound}
+use Rattle.rt_world.specs.laws.Steps.{UnmetStays}
 use Rattle.rt_world.specs.laws.World.{OnlyNamedChange, LeafNamesAll, LeafReadsNamed, TouchedIsSeen, OthersKeepViews}
 use Rattle.rt_world.proofs.CalledLaws.{called_pushed, called_world}
 use Rattle.rt_world.proofs.CountLaws.{no_more_children}
@@ -325,3 +326,9 @@ pub others_keep_views : OthersKeepViews
 others_keep_views limits before s =
     let w = world_after (empty_world limits) before in
     view_by_step w s (refusal w s) (is_stale w s) refl (sound_run before (empty_world limits) (sound_empty limits)) (called_world limits before)
+
+-- it is renewed to itself
+pub unmet_stays : UnmetStays
+unmet_stays w s h g f l old new u =
+    let r = form_stays (listeners_after w s) l new in
+    renewed_same w (brought_after w s) (pending (requests_after w s)) l h old (view_next w s l.query h g f r u) (known_next w s l.query h g f r u)

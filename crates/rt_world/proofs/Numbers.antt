@@ -2,7 +2,7 @@
 use Rattle.std.proofs.Common.{◌≡◌, ◌==◌, List, sym, ap, ◌∙◌, Option, Some, None}
 use Rattle.std.specs.List.{find, Contains}
 use Rattle.rt_world.specs.World.{Listener}
-use Rattle.rt_world.specs.inside.Sound.{Rises}
+use Rattle.rt_world.specs.Sound.{Rises}
 use Rattle.rt_world.proofs.Listeners.{find-number}
 
 some_same : {X : Type 0} (d x y : X) → Some x ≡ Some y → x ≡ y

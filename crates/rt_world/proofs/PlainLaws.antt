@@ -34,7 +34,7 @@ use Rattle.rt_world.specs.Refusals.{refusal, is_stale, stands_too_deep, is_no_me
 use Rattle.rt_world.specs.Answers.{step, step_by}
 use Rattle.rt_world.specs.Plain.{IsPlainStep}
 use Rattle.rt_world.specs.Plain.{brought_by}
-use Rattle.rt_world.specs.inside.Sound.{IsSound}
+use Rattle.rt_world.specs.Sound.{IsSound}
 use Rattle.rt_world.specs.Plain.{IsPlain}
 use Rattle.rt_world.specs.Plain.{IsPushOn}
 use Rattle.rt_world.proofs.ShowLaws.{first_seen}
@@ -120,7 +120,7 @@ recover_stays fs kept b e h =
 -- ---- pushes
 
 -- all entries of a map keep what the new one has
-put_all : (P : Path × PathTree → Type 0) (p : Path) (t : PathTree) (rs : List (Path × PathTree)) → P (p, t) → All P rs → All P (map_of.put path_cmp p t rs)
+pub put_all : (P : Path × PathTree → Type 0) (p : Path) (t : PathTree) (rs : List (Path × PathTree)) → P (p, t) → All P rs → All P (map_of.put path_cmp p t rs)
 put_all P p t [] e h = All-cons P (p, t) [] e h
 put_all P p t (r ∷ rs) e h =
     let head = All-head P r rs h in
@@ -172,7 +172,7 @@ pub record IsPlainly (kept : List Query) (b : Brought) : Type 0 where
   pub reached : All (λ (r : Path × PathTree). reaches kept r.0 ≡ true) b.regions
   pub shallow : All IsShallow b.regions
 
-reached_by : (kept : List Query) (q : Query) (p : Path) → Contains kept q → is_filtered q ≡ false → is_at_or_above q.path p ≡ true → reaches kept p ≡ true
+pub reached_by : (kept : List Query) (q : Query) (p : Path) → Contains kept q → is_filtered q ≡ false → is_at_or_above q.path p ≡ true → reaches kept p ≡ true
 reached_by kept q p m e under =
     list_any_at (λ k. not (is_filtered k) && is_at_or_above k.path p) kept m.0 q m.1
     (ap (λ (k : Query). not (is_filtered k) && is_at_or_above k.path p) m.2 ∙ (λ i. not (e i) && under i))
@@ -227,14 +227,14 @@ pub record Brings (w : World) (s : Step) : Type 0 where
   pub brought : brought_after w s ≡ pushed w s
   pub plainly : IsPlainly (forms_kept (kept_after w s)) (pushed w s)
 
-plainly_of : (w : World) → IsPlain w → IsPlainly (forms_kept w.kept) w.brought
+pub plainly_of : (w : World) → IsPlain w → IsPlainly (forms_kept w.kept) w.brought
 plainly_of w p = record { windows = p.windows; reached = p.reached; shallow = p.shallow }
 
 bring : (w : World) (s : Step) → IsPlainly (forms_kept (kept_after w s)) (pushed w s) → Brings w s
 bring w s p = record { brought = recover_stays (forms_after w s) (forms_kept (kept_after w s)) (pushed w s) p.windows p.reached; plainly = p }
 
 -- a step that registers and ends no listener, and brings this
-brings_still : (w : World) (s : Step) → IsSound w → listeners_after w s ≡ w.listeners → IsPlainly (forms_kept w.kept) (pushed w s) → Brings w s
+pub brings_still : (w : World) (s : Step) → IsSound w → listeners_after w s ≡ w.listeners → IsPlainly (forms_kept w.kept) (pushed w s) → Brings w s
 brings_still w s h e p = bring w s (subst (λ kept. IsPlainly (forms_kept kept) (pushed w s)) (sym (kept-same w s h e)) p)
 
 -- a push on the listen of a tag

@@ -23,7 +23,7 @@ use Rattle.rt_cache.proofs.Keeping.{is_among, find-for_each}
 use Rattle.rt_cache.proofs.Listing.{find-listed}
 use Rattle.rt_cache.proofs.RunLaws.{plain_base}
 use Rattle.rt_cache.proofs.Stays.{push_stays}
-use Rattle.rt_world.specs.inside.Called.{IsCalled}
+use Rattle.rt_world.specs.Called.{IsCalled}
 
 -- ---- regions, by the law of calls
 

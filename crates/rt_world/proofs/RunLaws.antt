@@ -7,7 +7,7 @@ use Rattle.rt_world.specs.declared.step.Step.{Step}
 use Rattle.rt_world.specs.World.{World, empty_world, pending}
 use Rattle.rt_world.specs.Refusals.{refusal, is_stale}
 use Rattle.rt_world.specs.Answers.{step, answers, world_after}
-use Rattle.rt_world.specs.inside.Sound.{IsSound}
+use Rattle.rt_world.specs.Sound.{IsSound}
 use Rattle.rt_world.specs.Plain.{IsPlain, IsPlainStep, fold_both, writes_by, brought_by}
 use Rattle.rt_world.specs.laws.World.{IsWritten, IsBrought}
 use Rattle.rt_world.proofs.SoundLaws.{sound_empty, sound_step, sound_run}

@@ -21,7 +21,7 @@ use Rattle.rt_world.specs.Steps.{settled_by, is_cancelled, listeners_after, brou
 use Rattle.rt_world.specs.Messages.{next}
 use Rattle.rt_world.specs.Answers.{step_by, Answer, settled_note, settled_notes, cancelled_notes, batch_notes, batch_note, batch_from, view_before, done_report, stale_report}
 use Rattle.rt_world.specs.Headline.{view_by, changes_in, changes_told, IsUpToDate}
-use Rattle.rt_world.specs.inside.Sound.{Rises, IsSound}
+use Rattle.rt_world.specs.Sound.{Rises, IsSound}
 use Rattle.rt_cover.specs.laws.CoverLaws.{Contains-from_filter}
 use Rattle.rt_query.specs.laws.Select.{select-distinct}
 use Rattle.rt_view.proofs.TurnLaws.{turns, turns_not, changes-same}
@@ -90,9 +90,9 @@ after_below w s h = elim (left_or_more w s) [
 ]
 
 -- a listener as it stands before it is renewed: it has the view that its number had, and none where it is not primed
-record IsCarried (w : World) (l : Listener) : Type 0 where
-  before : view_before w.listeners l.number ≡ l.view
-  unprimed : l.is_primed ≡ false → l.view ≡ None
+pub record IsCarried (w : World) (l : Listener) : Type 0 where
+  pub before : view_before w.listeners l.number ≡ l.view
+  pub unprimed : l.is_primed ≡ false → l.view ≡ None
 
 carried_old : (w : World) → IsSound w → (l : Listener) → Contains w.listeners l → IsCarried w l
 carried_old w h l m = record {
@@ -105,7 +105,7 @@ carried_new w h seat query l zero lt e =
     subst (IsCarried w) e (record { before = view_before-none w.listeners w.next_listener (not_bound w.next_listener w.listeners h.below); unprimed = λ _. refl })
 carried_new w h seat query l (suc k) lt e = absurd (omega arith)
 
-carried_after : (w : World) (s : Step) → IsSound w → (l : Listener) → Contains (listeners_after w s) l → IsCarried w l
+pub carried_after : (w : World) (s : Step) → IsSound w → (l : Listener) → Contains (listeners_after w s) l → IsCarried w l
 carried_after w s h l m = elim (left_or_more w s) [
   | inl e ↦ carried_old w h l (Contains-from_filter e.test w.listeners l (subst (λ ls. Contains ls l) e.left m))
   | inr e ↦ elim (Contains-append_cases w.listeners (first_seen w e.seat e.query ∷ []) l (subst (λ ls. Contains ls l) e.more m)) [
@@ -298,7 +298,7 @@ done_primed w s =
     All-map (λ (l : Listener). is_known b ws l.query ≡ true → l.is_primed ≡ true) (renewed b ws) (listeners_after w s) (λ k d lt. primed_renewed b ws (slice_index_or (listeners_after w s) k d))
 
 -- no changes are due from a view to itself
-still_due : (w : World) (l : Listener) (p : Bool) → l.view ≡ view_by p w l.query → batch_from l.view l ≡ []
+pub still_due : (w : World) (l : Listener) (p : Bool) → l.view ≡ view_by p w l.query → batch_from l.view l ≡ []
 still_due w l true e =
     ap (λ v. option_map_or (λ new. changes l.query.index v new) v []) e
     ∙ changes-same l.query.index (view_of w.brought (pending w.requests) l.query)

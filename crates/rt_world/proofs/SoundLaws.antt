@@ -22,7 +22,7 @@ use Rattle.rt_world.specs.Steps.{requests_with, requests_after, unseated, listen
 use Rattle.rt_world.specs.Messages.{next}
 use Rattle.rt_world.specs.Refusals.{refusal, is_stale}
 use Rattle.rt_world.specs.Answers.{step, step_by, world_after}
-use Rattle.rt_world.specs.inside.Sound.{Rises, cover_of, IsSound}
+use Rattle.rt_world.specs.Sound.{Rises, cover_of, IsSound}
 use Rattle.rt_world.proofs.Listeners.{below-renewed, registered-renewed}
 use Rattle.rt_world.proofs.ShowLaws.{after_rises, after_below, renewed_rises, done_up_to_date, done_primed}
 

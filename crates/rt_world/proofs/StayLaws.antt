@@ -30,8 +30,8 @@ use Rattle.rt_world.specs.Refusals.{refusal, is_stale}
 use Rattle.rt_world.specs.Answers.{step_by, world_after}
 use Rattle.rt_world.specs.Headline.{view_by}
 use Rattle.rt_world.specs.Touched.{IsInBoth}
-use Rattle.rt_world.specs.inside.Called.{IsCalled}
-use Rattle.rt_world.specs.inside.Sound.{IsSound}
+use Rattle.rt_world.specs.Called.{IsCalled}
+use Rattle.rt_world.specs.Sound.{IsSound}
 use Rattle.rt_world.specs.laws.World.{changes_listeners, StayAsTheyWere, CoverChangesNoView}
 use Rattle.rt_world.proofs.CalledLaws.{kept_apart, called_world}
 use Rattle.rt_world.proofs.Listeners.{number-renewed, primed_view}

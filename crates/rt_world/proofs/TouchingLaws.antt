@@ -20,7 +20,7 @@ use Rattle.rt_world.specs.Steps.{requests_after}
 use Rattle.rt_world.specs.Touched.{entries_by}
 use Rattle.rt_cover.specs.laws.Pairs.{AllPairs-first, AllPairs-rest}
 use Rattle.rt_world.proofs.Listeners.{same_number, other_number, or_false_left, or_false_right}
-use Rattle.rt_world.specs.inside.Sound.{IsSound}
+use Rattle.rt_world.specs.Sound.{IsSound}
 use Rattle.rt_world.proofs.WrittenLaws.{pending-unseated}
 
 -- ---- entries that bear on a path

@@ -1,21 +1,23 @@
--- What a reader must believe stands here; laws/ holds the laws and examples that the prover computes,
--- inside/ what only the proofs need.
+-- What a reader must believe stands here; laws/ holds the laws and examples that the prover computes.
 -- In reading order: World (listeners, requests, what is brought), Views (what a listener shows),
 -- Steps (what a step leaves), Messages (what it sends, and the world after it), Refusals (when it is
 -- refused, and when it is stale), Answers (what it answers), Runs (what the server hears), Headline
 -- (what any steps lead to), Plain (the same of what is written and brought), Touched (which children
 -- of a view a step can change), Covering (the cover of a world), Limited (what keeps within the
--- limits).
+-- limits), Sound and Called (what holds of a world between steps), Codes (numbers and words of
+-- refusals).
 pub mod Answers
+pub mod Called
+pub mod Codes
 pub mod Covering
 pub mod Headline
-pub mod inside
 pub mod laws
 pub mod Limited
 pub mod Messages
 pub mod Plain
 pub mod Refusals
 pub mod Runs
+pub mod Sound
 pub mod Steps
 pub mod Touched
 pub mod Views

@@ -1,11 +1,19 @@
 -- What a world between steps keeps of its limits, and what is so of a step that is not refused.
 use Rattle.std.specs.Prelude.{◌≡◌, ◌+◌, ◌≤◌, false, length}
+use Rattle.rt_world.specs.declared.limits.Limits.{Limits}
+use Rattle.rt_world.specs.declared.limits.TheConstants.{MAX_LISTENERS, MAX_REQUESTS, MAX_NUMBER}
 use Rattle.rt_world.specs.declared.step.Step.{Step}
 use Rattle.rt_world.specs.World.{World}
 use Rattle.rt_world.specs.Refusals.{is_unknown_listener, has_too_many_listeners}
 use Rattle.rt_world.specs.Refusals.{has_too_many_requests, has_overlap, is_empty_update}
 use Rattle.rt_world.specs.Refusals.{is_too_deep, is_bad_push, is_already_connected}
 use Rattle.rt_world.specs.Refusals.{is_not_connected, has_too_many_revoked}
+
+-- no limit is above the most that a core takes
+pub record AreLimits (limits : Limits) : Type 0 where
+  pub listeners : limits.listeners ≤ MAX_LISTENERS
+  pub requests : limits.requests ≤ MAX_REQUESTS
+  pub last_number : limits.last_number ≤ MAX_NUMBER
 
 -- no more listeners and unsettled requests than the limits say, and no number above the last one
 pub record IsWithin (w : World) : Type 0 where

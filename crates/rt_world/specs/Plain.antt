@@ -31,6 +31,21 @@ IsPlainStep Step.Connected = Unit {0}
 IsPlainStep Step.Disconnected = ⊥
 IsPlainStep (Step.CloseSeat seat) = ⊥
 
+-- the step registers no listener of a filtered query
+abbrev pub RegistersPlain : Step → Type 0
+RegistersPlain (Step.Listen seat query) = is_filtered query ≡ false
+RegistersPlain (Step.Unlisten seat listener) = Unit {0}
+RegistersPlain (Step.Write seat action) = Unit {0}
+RegistersPlain (Step.OnDisconnect seat ending) = Unit {0}
+RegistersPlain (Step.Data tag path tree) = Unit {0}
+RegistersPlain (Step.DataMerge tag entries) = Unit {0}
+RegistersPlain (Step.Accepted id) = Unit {0}
+RegistersPlain (Step.Refused id why) = Unit {0}
+RegistersPlain (Step.Revoked tag why) = Unit {0}
+RegistersPlain Step.Connected = Unit {0}
+RegistersPlain Step.Disconnected = Unit {0}
+RegistersPlain (Step.CloseSeat seat) = Unit {0}
+
 -- the first where the step is done, else the second
 abbrev pub if_done : {X : Type 0} → Outcome → X → X → X
 if_done Done x y = x

@@ -33,6 +33,14 @@ pub record Listener : Type 0 where
   pub is_primed : Bool
   pub view : Option Shown
 
+-- the most that a core takes
+abbrev pub full_limits : Limits
+full_limits = record {
+  listeners = MAX_LISTENERS;
+  requests = MAX_REQUESTS;
+  last_number = MAX_NUMBER;
+}
+
 -- a 0 counts as 1, and more than the largest number as that
 abbrev pub limits_from : Limits → Limits
 limits_from limits = record {

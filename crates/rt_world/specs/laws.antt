@@ -1,4 +1,5 @@
 pub mod Children
 pub mod Examples
 pub mod Script
+pub mod Steps
 pub mod World

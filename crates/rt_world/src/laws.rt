@@ -4,6 +4,12 @@ ghost use Rattle.rt_world.specs.laws.World.{CoverChangesNoView, OnlyNamedChange,
 ghost use Rattle.rt_world.specs.laws.World.{LeafReadsNamed, TouchedIsSeen, OthersKeepViews};
 ghost use Rattle.rt_world.specs.laws.World.{MessagesAreHeard, ConnectedSendsAll, NumbersStayWithin};
 ghost use Rattle.rt_world.specs.laws.World.{IsWritten, IsBrought};
+ghost use Rattle.rt_world.specs.laws.Steps.{WorldsAreSound, WorldsAreCalled, StaysSound};
+ghost use Rattle.rt_world.specs.laws.Steps.{ListensStay, UnmetStays, RenewedIsOne};
+ghost use Rattle.rt_world.specs.laws.Steps.{PushIsBrought, ListenBringsNothing, StaysPlain};
+ghost use Rattle.rt_world.specs.laws.Steps.{WriteIsPending, EndingIsNotPending};
+ghost use Rattle.rt_world.specs.laws.Steps.{SettledIsNotPending, UnseatedIsPending};
+ghost use Rattle.rt_world.specs.laws.Steps.{SettledOnceTold, BatchesAreNotes, StillIsQuiet};
 
 /// After any steps the fewest listens are kept, and each listener's view is its query over what they
 /// brought, overlaid by the pending writes, and turns by what is told of it.
@@ -50,4 +56,42 @@ pub fn limit_law()
 pub fn plain_law()
     ensures written { IsWritten }
     ensures brought { IsBrought }
+{}
+
+/// What holds of each world that steps lead to, and after each step.
+pub fn sound_law()
+    ensures worlds { WorldsAreSound }
+    ensures called { WorldsAreCalled }
+    ensures next { StaysSound }
+{}
+
+/// What a step leaves as it is: the listens where the listeners stay, a listener whose path no entry
+/// of the step overlaps, and of each other its number, seat and query.
+pub fn stay_law()
+    ensures listens { ListensStay }
+    ensures unmet { UnmetStays }
+    ensures renewed { RenewedIsOne }
+{}
+
+/// What plain listens brought is changed by a push alone where no listener ends; a step that registers
+/// no filtered query keeps all listens plain.
+pub fn brought_law()
+    ensures pushed { PushIsBrought }
+    ensures listen { ListenBringsNothing }
+    ensures plain { StaysPlain }
+{}
+
+/// The pending writes of changed requests.
+pub fn pending_law()
+    ensures write { WriteIsPending }
+    ensures ending { EndingIsNotPending }
+    ensures settled { SettledIsNotPending }
+    ensures unseated { UnseatedIsPending }
+{}
+
+/// The notes of a step, request by request and listener by listener.
+pub fn note_law()
+    ensures settled { SettledOnceTold }
+    ensures batches { BatchesAreNotes }
+    ensures still { StillIsQuiet }
 {}

@@ -1,9 +1,13 @@
 //! The world of the core: all steps, what each answers, leaves and sends, and what follows from that
 //! for every list of steps.
 //!
-//! This is where the core of `rt_sync` is going: definitions, laws and worked rows, and no code that
-//! runs. What runs today takes fewer steps and one listener, and has definitions of its own, in
-//! `rt_sync`; they go once the core takes all steps.
+//! This is where the core of `rt_sync` is going: definitions, laws and worked rows, and the types of
+//! steps, reports and limits; no code that makes a step. What runs today takes fewer steps and one
+//! listener, and has definitions of its own, in `rt_sync`; they go once the core takes all steps.
+//!
+//! A law is a function without code; whoever calls it has its clauses as facts. `headline_law`,
+//! `cover_law`, `named_law`, `message_law`, `limit_law` and `plain_law` say what follows of any steps,
+//! the others what one step leaves, for whoever keeps a world.
 #![tactic(auto)]
 
 mod error;
@@ -15,7 +19,10 @@ mod request;
 mod step;
 
 pub use error::CoreError;
-pub use laws::{cover_law, headline_law, limit_law, message_law, named_law, plain_law};
+pub use laws::{
+    brought_law, cover_law, headline_law, limit_law, message_law, named_law, note_law, pending_law,
+    plain_law, sound_law, stay_law,
+};
 pub use limits::{Limits, MAX_LISTENERS, MAX_NUMBER, MAX_REQUESTS};
 pub use report::{Body, Note, Notes, Outcome, Report};
 pub use request::Request;

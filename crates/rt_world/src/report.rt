@@ -1,4 +1,6 @@
 // What a step answers.
+ghost use Rattle.std.specs.Prelude.{◌≡◌};
+
 use rt_view::Batch;
 use rt_wire::Reason;
 use std::marker::Model;
@@ -41,6 +43,29 @@ impl Model for Notes {
     ghost Value = { List Note };
 
     ghost view = { λ a. a.items.items };
+}
+
+impl Notes {
+    /// The notes of the list, as they are.
+    pub fn of(items: Vec<Note>) -> Notes
+        ensures { result ≡ items.items }
+    {
+        Notes { items }
+    }
+
+    /// The notes, in order.
+    pub fn as_slice(&self) -> &[Note]
+        ensures { result.now ≡ self.now }
+    {
+        self.items.as_slice()
+    }
+
+    /// The list of the notes.
+    pub fn into_vec(self) -> Vec<Note>
+        ensures { result.items ≡ self }
+    {
+        self.items
+    }
 }
 
 /// What a step answers: its outcome, the number of the new listener or request, and what the seats

@@ -1,2 +1,5 @@
 pub mod Examples
 pub mod Overlay
+pub mod OverlayLaws
+pub mod ShallowLaws
+pub mod TouchLaws

@@ -20,5 +20,5 @@ mod write;
 
 pub use entries::{Entries, is_shallow};
 pub use error::WriteError;
-pub use laws::{depth_law, overlay_law, touch_law};
+pub use laws::{depth_law, overlay_law, shallow_law, touch_law};
 pub use pending::Pending;

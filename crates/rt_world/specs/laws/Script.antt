@@ -11,7 +11,6 @@ use Rattle.rt_query.specs.Queries.{Query}
 use Rattle.rt_query.specs.Select.{Shown}
 use Rattle.rt_cover.specs.declared.kept.Kept.{Kept}
 use Rattle.rt_view.specs.declared.change.Change.{Change}
-use Rattle.rt_world.specs.declared.limits.TheConstants.{MAX_LISTENERS, MAX_REQUESTS, MAX_NUMBER}
 use Rattle.rt_world.specs.declared.error.CoreError.{CoreError}
 use Rattle.rt_wire.specs.declared.client.ClientMessage.{ClientMessage}
 use Rattle.rt_world.specs.declared.report.Body.{Body}
@@ -19,7 +18,7 @@ use Rattle.rt_world.specs.declared.report.Body.TheVariants.{Batch}
 use Rattle.rt_world.specs.declared.report.Note.{Note}
 use Rattle.rt_world.specs.declared.report.Outcome.TheVariants.{Done}
 use Rattle.rt_world.specs.declared.step.Step.{Step}
-use Rattle.rt_world.specs.World.{World, cover, empty_world}
+use Rattle.rt_world.specs.World.{World, cover, empty_world, full_limits}
 use Rattle.rt_world.specs.Answers.{step, Answer, stale_report}
 
 -- a step, or a look at the messages to be sent, which takes them, at the cover, or at a listener's
@@ -50,11 +49,7 @@ shows w (ShowView n ∷ rest) = Viewed (view_in w n) ∷ shows w rest
 
 -- a core with the largest limits
 abbrev pub fresh : World
-fresh = empty_world (record {
-  listeners = MAX_LISTENERS;
-  requests = MAX_REQUESTS;
-  last_number = MAX_NUMBER;
-})
+fresh = empty_world full_limits
 
 -- ---- short spellings
 

@@ -1,7 +1,8 @@
 -- Laws of the overlay.
 use Rattle.std.specs.Prelude.{◌≡◌, ◌≤◌, true, false, List, [], ◌∷◌, ◌++◌, length}
+use Rattle.std.specs.List.{All}
 use Rattle.rt_tree.specs.declared.limits.TheConstants.{MAX_LEVELS}
-use Rattle.rt_tree.specs.PathTree.{Key, Path, PathTree, sub, child}
+use Rattle.rt_tree.specs.PathTree.{Key, Path, PathTree, sub, put, child}
 use Rattle.rt_writes.specs.Writes.{Write, IsShallow, overlay, touches, sets_whole}
 
 -- each part of an overlaid tree is the overlay of the part
@@ -33,3 +34,17 @@ abbrev pub PartIsShallow : Type 0
 PartIsShallow =
     (p q : Path) (t : PathTree)
     → length (p ++ q) ≤ MAX_LEVELS → IsShallow (p, t) → IsShallow (p ++ q, sub t q)
+
+-- a tree put below one at p makes no leaf stand under more than 32 keys where neither tree has one
+abbrev pub PutIsShallow : Type 0
+PutIsShallow =
+    (p q : Path) (t u : PathTree)
+    → IsShallow (p, t) → IsShallow (p ++ q, u) → IsShallow (p, put t q u)
+
+-- an overlay of a tree at p has no leaf under more than 32 keys where the tree and the entries have
+-- none
+abbrev pub OverlayIsShallow : Type 0
+OverlayIsShallow =
+    (p : Path) (t : PathTree) (writes : List Write)
+    → length p ≤ MAX_LEVELS → IsShallow (p, t) → All (λ w. All IsShallow w.entries) writes
+    → IsShallow (p, overlay p t writes)

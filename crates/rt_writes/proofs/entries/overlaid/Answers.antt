@@ -1,7 +1,8 @@
-use Rattle.std.proofs.Common.{◌+◌, ◌≤◌, sym, arith, length}
+use Rattle.std.proofs.Common.{sym, arith}
 use Rattle.rt_tree.specs.PathTree.{length-strip, sub, put}
 use Rattle.rt_writes.specs.Writes.{IsShallow}
-use Rattle.rt_writes.proofs.Shallow.{shallow-part, shallow-below, if_ok}
+use Rattle.rt_writes.specs.laws.ShallowLaws.{shallow-part, shallow-below}
+use Rattle.rt_writes.proofs.Shallow.{if_ok}
 use Rattle.rt_writes.proofs.entries.overlaid.Goals as goal
 
 pub returns-in-Some-clause-shallow : goal.returns-in-Some-clause-shallow

@@ -1,6 +1,6 @@
 use Rattle.std.proofs.Common.{◌++◌}
 use Rattle.rt_tree.specs.PathTree.{strip-append}
-use Rattle.rt_writes.proofs.Shallow.{shallow-part}
+use Rattle.rt_writes.specs.laws.ShallowLaws.{shallow-part}
 use Rattle.rt_writes.proofs.laws.depth_law.Goals as goal
 
 pub returns : goal.returns

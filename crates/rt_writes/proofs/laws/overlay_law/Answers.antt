@@ -1,5 +1,5 @@
 use Rattle.std.specs.Prelude.{[], ◌∷◌}
-use Rattle.rt_writes.proofs.OverlayLaws.{fold-overlaid_part}
+use Rattle.rt_writes.specs.laws.OverlayLaws.{fold-overlaid_part}
 use Rattle.rt_writes.specs.Writes.{assignments}
 use Rattle.rt_writes.proofs.laws.overlay_law.Goals as goal
 

@@ -1,5 +1,5 @@
 use Rattle.rt_writes.specs.Writes.{assignments}
-use Rattle.rt_writes.proofs.TouchLaws.{fold-untouched, fold-whole}
+use Rattle.rt_writes.specs.laws.TouchLaws.{fold-untouched, fold-whole}
 use Rattle.rt_writes.proofs.laws.touch_law.Goals as goal
 
 pub returns-clause-elsewhere : goal.returns-clause-elsewhere

@@ -1,0 +1,148 @@
+-- Laws of one step of a world that holds what holds between steps, for whoever keeps such a world.
+use Rattle.std.specs.Prelude.{◌≡◌, ◌<◌, ◌≤◌, ◌==◌, ℕ, false, not, List, [], ◌∷◌, ◌++◌, map}
+use Rattle.std.specs.Prelude.{length, Option, None}
+use Rattle.std.specs.List.{filter, filter_map, find, list_any, All, AllPairs, Contains}
+use Rattle.std.specs.Option.{option_and_then, option_to_list}
+use Rattle.rt_tree.specs.declared.limits.TheConstants.{MAX_KEYS}
+use Rattle.rt_tree.specs.Assignments.{do_overlap}
+use Rattle.rt_query.specs.Queries.{Query, is_filtered}
+use Rattle.rt_writes.specs.Writes.{Write, without}
+use Rattle.rt_cache.specs.Brought.{Brought}
+use Rattle.rt_wire.specs.declared.request.Action.{Action}
+use Rattle.rt_wire.specs.declared.request.Asked.TheVariants.{Now, AtDisconnect}
+use Rattle.rt_wire.specs.declared.request.Ending.{Ending}
+use Rattle.rt_world.specs.declared.limits.Limits.{Limits}
+use Rattle.rt_world.specs.declared.report.Note.{Note}
+use Rattle.rt_world.specs.declared.request.Request.{Request}
+use Rattle.rt_world.specs.declared.step.Step.{Step}
+use Rattle.rt_world.specs.World.{Reason, Listener, World, empty_world, entries_of, pending}
+use Rattle.rt_world.specs.Steps.{listeners_after, requests_after, kept_after, started_by, pushed}
+use Rattle.rt_world.specs.Steps.{brought_after, renewed, unseated}
+use Rattle.rt_world.specs.Messages.{stopped_by, next}
+use Rattle.rt_world.specs.Refusals.{refusal}
+use Rattle.rt_world.specs.Answers.{batch_from, batch_note, batch_notes, settled_note, world_after}
+use Rattle.rt_world.specs.Plain.{IsPlain, RegistersPlain}
+use Rattle.rt_world.specs.Touched.{entries_by}
+use Rattle.rt_world.specs.Called.{IsCalled}
+use Rattle.rt_world.specs.Sound.{IsSound}
+use Rattle.rt_world.specs.laws.World.{changes_listeners}
+
+-- ---- what holds between steps
+
+-- a world that steps lead to is sound
+abbrev pub WorldsAreSound : Type 0
+WorldsAreSound =
+    (limits : Limits) (steps : List Step) → IsSound (world_after (empty_world limits) steps)
+
+-- and what is brought there is what calls of a cache leave
+abbrev pub WorldsAreCalled : Type 0
+WorldsAreCalled =
+    (limits : Limits) (steps : List Step)
+    → IsCalled (world_after (empty_world limits) steps).brought
+
+-- a step that is done keeps a world sound
+abbrev pub StaysSound : Type 0
+StaysSound = (w : World) (s : Step) → IsSound w → IsSound (next w s)
+
+-- ---- what a step leaves as it is
+
+-- a step starts and stops no listen
+pub record KeepsListens (w : World) (s : Step) : Type 0 where
+  pub kept : kept_after w s ≡ w.kept
+  pub started : started_by w s ≡ []
+  pub stopped : stopped_by w s ≡ []
+
+-- so it is where the listeners stay
+abbrev pub ListensStay : Type 0
+ListensStay =
+    (w : World) (s : Step) → IsSound w → listeners_after w s ≡ w.listeners → KeepsListens w s
+
+-- a listener whose path no entry of the step overlaps, renewed after the step
+abbrev pub UnmetStays : Type 0
+UnmetStays =
+    (w : World) (s : Step) → IsSound w → IsCalled w.brought → refusal w s ≡ None
+    → (l : Listener) → Contains w.listeners l → Contains (listeners_after w s) l
+    → list_any (λ a. do_overlap a.0 l.query.path) (entries_by w s) ≡ false
+    → renewed (brought_after w s) (pending (requests_after w s)) l ≡ l
+
+-- a listener that is renewed is one of that number, seat and query
+abbrev pub RenewedIsOne : Type 0
+RenewedIsOne =
+    (brought : Brought) (writes : List Write) (l : Listener)
+    → let m = renewed brought writes l in
+    (m.number ≡ l.number) × (m.seat ≡ l.seat) × (m.query ≡ l.query)
+
+-- ---- what plain listens brought
+
+-- where a step ends no listener its change of cover leaves what plain listens brought
+abbrev pub PushIsBrought : Type 0
+PushIsBrought =
+    (w : World) (s : Step) → IsSound w → IsPlain w → RegistersPlain s → refusal w s ≡ None
+    → changes_listeners s ≡ false → brought_after w s ≡ pushed w s
+
+-- and where it registers one
+abbrev pub ListenBringsNothing : Type 0
+ListenBringsNothing =
+    (w : World) (seat : ℕ) (query : Query) → IsSound w → IsPlain w → is_filtered query ≡ false
+    → refusal w (Step.Listen seat query) ≡ None
+    → brought_after w (Step.Listen seat query) ≡ w.brought
+
+-- a step that registers no filtered query keeps a world of plain listens
+abbrev pub StaysPlain : Type 0
+StaysPlain =
+    (w : World) (s : Step) → IsSound w → IsPlain w → RegistersPlain s → refusal w s ≡ None
+    → All (λ (l : Listener). length l.query.path ≤ MAX_KEYS) w.listeners
+    → IsPlain (next w s)
+
+-- ---- pending writes
+
+-- a request to write is pending, as the last
+abbrev pub WriteIsPending : Type 0
+WriteIsPending =
+    (rs : List Request) (id : ℕ) (seat : Option ℕ) (action : Action)
+    → pending (rs ++ record { id = id; seat = seat; asked = Now action } ∷ [])
+    ≡ pending rs ++ record { id = id; entries = entries_of action } ∷ []
+
+-- one for the end of the connection is not
+abbrev pub EndingIsNotPending : Type 0
+EndingIsNotPending =
+    (rs : List Request) (id : ℕ) (seat : Option ℕ) (ending : Ending)
+    → pending (rs ++ record { id = id; seat = seat; asked = AtDisconnect ending } ∷ [])
+    ≡ pending rs
+
+-- nor is a settled one
+abbrev pub SettledIsNotPending : Type 0
+SettledIsNotPending =
+    (rs : List Request) (id : ℕ)
+    → pending (filter (λ r. not (r.id == id)) rs) ≡ without id (pending rs)
+
+-- that of a closed seat stays
+abbrev pub UnseatedIsPending : Type 0
+UnseatedIsPending = (rs : List Request) (seat : ℕ) → pending (map (unseated seat) rs) ≡ pending rs
+
+-- ---- notes
+
+-- of a settlement the seat of the one request of that number is told
+abbrev pub SettledOnceTold : Type 0
+SettledOnceTold =
+    (d : ℕ × Option Reason) (rs : List Request) → AllPairs (λ (r s : Request). r.id < s.id) rs
+    → filter_map (settled_note d) rs
+    ≡ option_to_list (option_and_then (settled_note d) (find (λ r. r.id == d.0) rs))
+
+-- the note of a listener's change of view in a step
+abbrev pub note_of : World → Step → Listener → Option Note
+note_of w s l =
+    let m = renewed (brought_after w s) (pending (requests_after w s)) l in
+    batch_note m (batch_from l.view m)
+
+-- the batches of a step are those of its listeners, each from the view that it has
+abbrev pub BatchesAreNotes : Type 0
+BatchesAreNotes =
+    (w : World) (s : Step) → IsSound w
+    → batch_notes w s ≡ filter_map (note_of w s) (listeners_after w s)
+
+-- a listener that stays as it is is told nothing
+abbrev pub StillIsQuiet : Type 0
+StillIsQuiet =
+    (w : World) (l : Listener) → IsSound w → Contains w.listeners l
+    → batch_note l (batch_from l.view l) ≡ None
