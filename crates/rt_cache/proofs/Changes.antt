@@ -4,6 +4,7 @@ use lib.Dec.{T}
 use Rattle.std.specs.declared.result.Result.{Result}
 use Rattle.std.specs.declared.result.Result.TheVariants.{Ok, Err}
 use Rattle.std.specs.List.{filter, flat_map}
+use Rattle.std.proofs.lemmas.List.Elements.{filter_agree}
 use Rattle.std.specs.FinMap as map_of
 use Rattle.std.specs.FinMap.Entries.{is_sorted-put, is_sorted-where_key}
 use Rattle.rt_tree.specs.PathTree.{path_cmp, paths_total}
@@ -12,8 +13,13 @@ use Rattle.rt_query.specs.Queries.{Query}
 use Rattle.rt_cache.specs.Brought.{Brought}
 use Rattle.rt_cache.specs.Canonical.{IsCanonical}
 use Rattle.rt_cache.specs.Recover.{reaches, parts_of, with_regions, regions_kept, window_kept, do_plains_overlap, recover}
-use Rattle.rt_cache.specs.inside.Held.{for_each}
+use Rattle.rt_cache.specs.declared.region.Region.{Region}
+use Rattle.rt_cache.specs.declared.spans.Span.{Span}
+use Rattle.rt_cache.specs.inside.Held.{for_each, pairs_of}
+use Rattle.rt_cache.specs.inside.Spans.{without, AreLost}
 use Rattle.rt_cache.proofs.Cuts.{moved_overlap, left_apart}
+use Rattle.rt_cache.proofs.InPlace.{pairs_of-filter_by}
+use Rattle.rt_cache.proofs.InSpans.{staying}
 use Rattle.rt_cache.proofs.Keeping.{kept_filtered}
 use Rattle.rt_cache.proofs.Listing.{listed_sorted}
 use Rattle.rt_cache.proofs.Stays.{Regions}
@@ -46,3 +52,15 @@ changed_stays (Err x) registered kept old new e ok err h = subst IsCanonical (sy
 -- what a call that is done left
 pub of_ok : {A E X : Type 0} (r : Result A E) (x y z : X) → IsOk r → x ≡ cond (is_ok r) y z → x ≡ y
 of_ok r x y z o e = e ∙ ap (λ b. cond b y z) o
+
+twice : (b : Bool) → not (not b) ≡ b
+twice true = refl
+twice false = refl
+
+-- what is left without the regions that are lost
+pub stays_lost : (kept : List Query) (rs : List Region) (lost : List Span) → AreLost kept rs lost
+    → pairs_of (without lost rs) ≡ filter (λ r. reaches kept r.0) (pairs_of rs)
+stays_lost kept rs lost h =
+    ap pairs_of (staying (λ (r : Region). not (reaches kept r.path)) rs 0 lost h.0 (λ k d le lt. h.1 k d lt)
+    ∙ filter_agree (λ (r : Region). not (not (reaches kept r.path))) (λ (r : Region). reaches kept r.path) (λ r. twice (reaches kept r.path)) rs)
+    ∙ pairs_of-filter_by (λ p. reaches kept p) rs

@@ -1,9 +1,9 @@
 -- What is left of regions: no part is at or above another.
-use Rattle.std.proofs.Common.{◌≡◌, ℕ, zero, suc, ◌<◌, arith, length, get_or, Bool, true, false, cond, not, ◌||◌, ◌&&◌, List, [], ◌∷◌, ◌++◌, append_assoc, append-nil, map, refl, sym, ap, subst, ◌∙◌, Option, Some, None, is_some}
+use Rattle.std.proofs.Common.{◌≡◌, ℕ, zero, suc, ◌<◌, arith, length, get_or, Bool, true, false, cond, not, ◌||◌, List, [], ◌∷◌, ◌++◌, append-nil, refl, sym, ap, subst, ◌∙◌, Option, Some, None, is_some}
 use mathlib.Core.Bool.{true≢false}
 use Rattle.std.specs.declared.cmp.Ordering.TheVariants.{Less, Equal, Greater}
 use Rattle.std.specs.Option.{option_map, option_or}
-use Rattle.std.specs.List.{filter, filter_map, flat_map, cons_option, list_any}
+use Rattle.std.specs.List.{filter, flat_map, cons_option, list_any}
 use Rattle.std.specs.FinMap as map_of
 use Rattle.std.specs.FinMap.Entries.{by_order}
 use Rattle.rt_tree.specs.PathTree.{Path, PathTree, path_cmp, exact_paths, strip, strip-some, strip-more, strip-append, path_eq, path_eq-is, sub, null}
@@ -15,7 +15,7 @@ use Rattle.rt_cache.specs.declared.region.Region.{Region}
 use Rattle.rt_cache.specs.inside.Held.{pair_of, pairs_of}
 use Rattle.rt_cache.proofs.Places.{or_left, or_right, or_false, comparable, none_above, first_not}
 use Rattle.rt_cache.proofs.Strips.{some_of}
-use Rattle.rt_cache.proofs.Stays.{Regions, overlaps, overlaps-filter, overlap-filter, overlaps-insert, overlap-insert, do_overlap-symm}
+use Rattle.rt_cache.proofs.Stays.{Regions, overlaps, overlaps-filter, overlap-filter, do_overlap-symm}
 
 -- ---- two lists of regions
 

@@ -1,6 +1,6 @@
 -- The region at or above a path, found by halving: of regions in order, none at or above another, it can only be the last that is
 -- not behind the path.
-use Rattle.std.proofs.Common.{◌≡◌, ℕ, zero, suc, ◌<◌, ◌≤◌, ◌+◌, arith, length, get_or, Bool, true, false, cond, not, ◌||◌, ◌&&◌}
+use Rattle.std.proofs.Common.{◌≡◌, ℕ, zero, suc, ◌<◌, ◌≤◌, ◌+◌, arith, length, get_or, Bool, true, false, cond, not, ◌&&◌}
 use Rattle.std.proofs.Common.{List, [], ◌∷◌, refl, sym, ap, subst, ◌∙◌, None, is_some}
 use mathlib.Core.Bool.{true≢false}
 use lib.Dec.{T}
@@ -29,19 +29,19 @@ holds : (b : Bool) → T b → b ≡ true
 holds true h = refl
 holds false h = absurd h
 
-less : (o : Ordering) → is_lt o ≡ true → o ≡ Less
+pub less : (o : Ordering) → is_lt o ≡ true → o ≡ Less
 less Less e = refl
 less Equal e = absurd (true≢false (sym e))
 less Greater e = absurd (true≢false (sym e))
 
-before-trans : (x y z : Path) → is_lt (path_cmp x y) ≡ true → is_lt (path_cmp y z) ≡ true
+pub before-trans : (x y z : Path) → is_lt (path_cmp x y) ≡ true → is_lt (path_cmp y z) ≡ true
     → is_lt (path_cmp x z) ≡ true
 before-trans x y z a b = ap is_lt (paths_total.trans x y z (less _ a) (less _ b))
 
 -- ---- paths
 
 -- what is at or above a path is not behind it
-above_first : (r p : Path) → is_at_or_above r p ≡ true → is_lt (path_cmp p r) ≡ false
+pub above_first : (r p : Path) → is_at_or_above r p ≡ true → is_lt (path_cmp p r) ≡ false
 above_first [] [] e = refl
 above_first [] (j ∷ p) e = refl
 above_first (k ∷ r) [] e = absurd (true≢false (sym e))
@@ -56,7 +56,7 @@ above_first (k ∷ r) (j ∷ p) e =
     ] refl e
 
 -- what stands between a path and one under it is under it too
-between : (r s p : Path) → is_at_or_above r p ≡ true → is_lt (path_cmp r s) ≡ true
+pub between : (r s p : Path) → is_at_or_above r p ≡ true → is_lt (path_cmp r s) ≡ true
     → is_lt (path_cmp p s) ≡ false → is_at_or_above r s ≡ true
 between [] s p a b c = refl
 between (k ∷ r) s [] a b c = absurd (true≢false (sym a))

@@ -3,6 +3,7 @@ pub mod Changes
 pub mod Cuts
 pub mod Halves
 pub mod InPlace
+pub mod InSpans
 pub mod Keeping
 pub mod Listing
 pub mod Places
@@ -12,4 +13,5 @@ pub mod RunLaws
 pub mod Sharing
 pub mod Stays
 pub mod Strips
+pub mod Under
 pub mod WindowPushes

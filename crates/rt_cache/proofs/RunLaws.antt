@@ -4,7 +4,7 @@ use mathlib.Core.Bool.{true≢false}
 use Rattle.std.specs.Prelude.{⊤}
 use Rattle.std.specs.declared.cmp.Ordering.TheVariants.{Less, Equal, Greater}
 use Rattle.std.specs.Ordering.{is_eq}
-use Rattle.std.specs.List.{All, filter, filter_map, flat_map, cons_option, list_any, fold}
+use Rattle.std.specs.List.{All, filter, flat_map, cons_option, list_any, fold}
 use Rattle.std.specs.Option.{option_map, option_map_or, option_or}
 use Rattle.std.specs.FinMap as map_of
 use Rattle.std.specs.FinMap.Entries.{by_order}
@@ -13,9 +13,9 @@ use Rattle.rt_tree.specs.PathTree.{Path, PathTree, path_cmp, path_eq-is, strip, 
 use Rattle.rt_tree.specs.Parts.{sub_root, sub-sub, sub-put_under, sub-put_above, sub-put_other}
 use Rattle.rt_tree.specs.Assignments.{Assignment, is_at_or_above, do_overlap, have_overlap}
 use Rattle.rt_query.specs.Queries.{Query, plain, is_filtered}
-use Rattle.rt_cache.specs.Brought.{Window, Brought, Base, nothing_brought, region_part, region_put, windows_pushed, window_of, push_plain, push, base}
+use Rattle.rt_cache.specs.Brought.{Window, Brought, nothing_brought, region_part, region_put, windows_pushed, window_of, push_plain}
 use Rattle.rt_cache.specs.Canonical.{IsCanonical}
-use Rattle.rt_cache.specs.Recover.{reaches, part_for, parts_of, with_regions, regions_kept, recover}
+use Rattle.rt_cache.specs.Recover.{reaches, parts_of, with_regions}
 use Rattle.rt_cache.specs.Runs.{IsAllowed, after, after_all}
 use Rattle.rt_cache.specs.laws.Runs.{with_push, pushed, known_after, is_known, PlainBaseIsWhatWasPushed}
 use Rattle.rt_cache.specs.declared.run.Call.{Call}

@@ -1,3 +1,4 @@
 -- What only the representation needs.
 pub mod Held
 pub mod Shared
+pub mod Spans

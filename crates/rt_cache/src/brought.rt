@@ -93,8 +93,9 @@ impl Brought {
     ///
     /// Finds the region by halving, where keys that the path shares with all regions that are left
     /// are not compared again, or the window by going over their queries, and then costs by the
-    /// path and the tree that is put. A push that begins a region passes the paths of all regions
-    /// and windows, and moves the regions behind it. No other tree is walked.
+    /// path and the tree that is put. A push that begins a region finds those that it takes in by
+    /// halving, drops them, moves the words of the regions behind it, and passes the queries of all
+    /// windows. No other tree is walked.
     ///
     /// An `Err` is want of memory, and changes nothing.
     pub fn put(&mut self, query: &Query, path: &Path, tree: &Tree) -> Result<bool, AllocError>
@@ -175,9 +176,12 @@ impl Brought {
     /// it stay. A registered filtered form whose path a region held, and none holds now, gets the
     /// children there as a window that is whole. Windows of other forms go.
     ///
-    /// Passes the paths of all regions, each with the listens kept, and the queries of all windows
-    /// with the registered ones. Copies only the parts and the windows that lost regions leave; a
-    /// tree that stays is moved, and neither copied nor walked.
+    /// Finds the regions that stay by halving, once for each plain listen kept: of these it reads the
+    /// paths that halving meets, and no tree. It passes each region that is lost with the listens
+    /// kept, the registered filtered forms with the listens kept and the parts, and the windows with
+    /// the registered forms; it copies only the parts and the windows that lost regions leave. For
+    /// each row of lost regions, and for each part, the words of the regions behind are moved; where
+    /// none is lost, no region is touched.
     ///
     /// An `Err` is want of memory, and changes nothing: all that is made is made before the first
     /// change.

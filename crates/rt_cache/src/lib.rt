@@ -17,6 +17,7 @@ mod recover;
 mod region;
 mod regions;
 mod run;
+mod spans;
 mod stores;
 mod window;
 mod windows;

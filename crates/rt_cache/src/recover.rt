@@ -1,7 +1,8 @@
 // What stays when the listens kept change.
-ghost use Rattle.std.specs.Prelude.{◌≡◌, ◌+◌, ◌≤◌, ◌++◌, T, vec_len, vec_capacity, ◌&&◌, not};
-ghost use Rattle.std.specs.Prelude.{false, is_some, IfOk, OnOk, OnErr};
-ghost use Rattle.std.specs.List.{filter, flat_map, list_any};
+ghost use Rattle.std.specs.Prelude.{◌≡◌, ℕ, ◌+◌, ◌<◌, ◌≤◌, ◌++◌, T, vec_len, vec_capacity, ◌&&◌, not};
+ghost use Rattle.std.specs.Prelude.{false, is_some, length, slice_index_or, slice_range, IfOk};
+ghost use Rattle.std.specs.Prelude.{OnOk, OnErr};
+ghost use Rattle.std.specs.List.{filter, flat_map, list_any, All};
 ghost use Rattle.std.specs.Option.{option_map};
 ghost use Rattle.std.specs.FinMap as map_of;
 ghost use Rattle.rt_tree.specs.PathTree.{path_cmp};
@@ -12,9 +13,14 @@ ghost use Rattle.rt_cache.specs.Brought.{region_part};
 ghost use Rattle.rt_cache.specs.Recover.{reaches, part_for, parts_of, with_regions, regions_kept};
 ghost use Rattle.rt_cache.specs.Recover.{window_left, do_plains_overlap, recover};
 ghost use Rattle.rt_cache.specs.inside.Held.{pair_of, pairs_of, entry_of, entries_of, for_each, held};
+ghost use Rattle.rt_cache.specs.inside.Spans.{have_place, AreInOrder, without, AreLost};
+ghost use Rattle.rt_cache.specs.declared.region.Region.{Region};
 
 use crate::region::Region;
-use crate::regions::{insert, is_any_above, part_at, place_above, region_of};
+use crate::regions::{
+    insert, is_any_above, part_at, place_above, region_of, remove_span, span_under,
+};
+use crate::spans::{Span, places_between};
 use crate::stores::store_of_children;
 use crate::window::Window;
 use crate::windows::place_of_window;
@@ -63,32 +69,87 @@ fn push_parts(
     Ok(())
 }
 
+// Where the regions stand that the plain listens reach, by the listens.
+fn spans_kept(alloc: Global, regions: &[Region], kept: &[Query]) -> Result<Vec<Span>, AllocError>
+    requires sorted { T (map_of.is_sorted path_cmp (pairs_of regions.now)) }
+    ensures within { IfOk result (λ spans. All (λ s. (s.start ≤ s.end)
+        × (s.end ≤ length regions.now)) spans.items) }
+    ensures places { IfOk result (λ spans. (k : ℕ) (d : Region) → k < length regions.now
+        → have_place spans.items k ≡ reaches kept.now (slice_index_or regions.now k d).path) }
+{
+    let mut spans = Vec::new(alloc);
+    for query in kept {
+        if !query.is_filtered() {
+            spans.push(span_under(regions, query.path()))?;
+        }
+    }
+    Ok(spans)
+}
+
+// Where the regions stand that are lost: between those that the plain listens reach.
+fn spans_lost(alloc: Global, regions: &[Region], kept: &[Query]) -> Result<Vec<Span>, AllocError>
+    requires sorted { T (map_of.is_sorted path_cmp (pairs_of regions.now)) }
+    ensures { IfOk result (λ spans. AreLost kept.now regions.now spans.items) }
+{
+    let mut spans = spans_kept(alloc, regions, kept)?;
+    spans.sort_unstable_by_key(|span| span.start);
+    places_between(alloc, &spans, regions.len())
+}
+
+// The parts of the regions at the plain listens under them, behind the others.
+fn push_all_parts(
+    alloc: Global,
+    parts: &mut Vec<Region>,
+    regions: &[Region],
+    kept: &[Query],
+) -> Result<(), AllocError>
+    ensures { OnOk result (pairs_of parts.new.items
+        ≡ pairs_of parts.old.items ++ flat_map (parts_of kept.now) (pairs_of regions.now)) }
+{
+    for region in regions {
+        push_parts(alloc, parts, region, kept)?;
+    }
+    Ok(())
+}
+
+// The regions of the span.
+fn regions_in<'a>(regions: &'a [Region], span: &Span) -> &'a [Region]
+    requires ordered { span.now.start ≤ span.now.end }
+    requires within { span.now.end ≤ length regions.now }
+    ensures { result.now ≡ slice_range regions.now span.now.start span.now.end }
+{
+    &regions[span.start..span.end]
+}
+
 // The parts that stay of the regions that are lost.
 pub(crate) fn parts_left(
     alloc: Global,
     regions: &[Region],
+    lost: &[Span],
     kept: &[Query],
 ) -> Result<Vec<Region>, AllocError>
+    requires lost { AreLost kept.now regions.now lost.now }
     ensures { IfOk result (λ parts. pairs_of parts.items
         ≡ flat_map (parts_of kept.now) (filter (λ r. not (reaches kept.now r.0))
         (pairs_of regions.now))) }
 {
     let mut parts = Vec::new(alloc);
-    for region in regions {
-        if !reaches(kept, &region.path) {
-            push_parts(alloc, &mut parts, region, kept)?;
-        }
+    for span in lost {
+        push_all_parts(alloc, &mut parts, regions_in(regions, span), kept)?;
     }
     Ok(parts)
 }
 
-// The regions that a plain listen reaches.
-fn retain_reached(regions: &mut Vec<Region>, kept: &[Query])
-    ensures left { regions.new.items ≡ filter (λ r. reaches kept.now r.path) regions.old.items }
+// The regions without those of the spans, of which the last are taken out first.
+fn remove_spans(regions: &mut Vec<Region>, mut spans: Vec<Span>)
+    requires order { AreInOrder 0 spans.items (length regions.old.items) }
+    ensures left { regions.new.items ≡ without spans.items regions.old.items }
     ensures len { vec_len regions.new ≤ vec_len regions.old }
     ensures room { vec_capacity regions.new ≡ vec_capacity regions.old }
 {
-    regions.retain(|region| reaches(kept, &region.path));
+    while let Some(span) = spans.pop() {
+        remove_span(regions, span);
+    }
 }
 
 // Regions, each in its place, for which there is room.
@@ -217,11 +278,12 @@ pub(crate) fn change_cover(
         ≡ held regions.old.items windows.old.items) }
 {
     let alloc = *regions.allocator();
-    let parts = parts_left(alloc, regions, kept)?;
+    let lost = spans_lost(alloc, regions, kept)?;
+    let parts = parts_left(alloc, regions, &lost, kept)?;
     let mut all = windows_left(alloc, regions, &parts, registered, kept)?;
     all.reserve(windows.len())?;
     regions.reserve(parts.len())?;
-    retain_reached(regions, kept);
+    remove_spans(regions, lost);
     insert_all(regions, parts);
     retain_registered(windows, &all, registered);
     let _in_reserved_room = all.append(windows);

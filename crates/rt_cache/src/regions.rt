@@ -3,7 +3,7 @@ ghost use Rattle.std.specs.Prelude.{◌≡◌, ℕ, suc, ◌+◌, ◌<◌, ◌�
 ghost use Rattle.std.specs.Prelude.{slice_index_or, filter};
 ghost use Rattle.std.specs.Prelude.{vec_len, vec_capacity, IfOk, IfSome, IfNone, OnOk, OnErr, Some};
 ghost use Rattle.std.specs.Prelude.{None, is_some};
-ghost use Rattle.std.specs.List.{list_any};
+ghost use Rattle.std.specs.List.{list_any, remove_range};
 ghost use Rattle.std.specs.Option.{option_map};
 ghost use Rattle.std.specs.Ordering.{is_lt};
 ghost use Rattle.std.specs.FinMap as map_of;
@@ -11,10 +11,12 @@ ghost use Rattle.rt_tree.specs.PathTree.{levels, path_cmp, path_eq, strip, sub, 
 ghost use Rattle.rt_tree.specs.Assignments.{is_at_or_above, have_overlap};
 ghost use Rattle.rt_cache.specs.Brought.{region_part, region_put};
 ghost use Rattle.rt_cache.specs.inside.Held.{pair_of, pairs_of};
+ghost use Rattle.rt_cache.specs.inside.Spans.{has_place};
 ghost use Rattle.rt_cache.specs.declared.region.Region.{Region};
 
 use crate::paths::{meet, rest_of};
 use crate::region::Region;
+use crate::spans::Span;
 use crate::stores::{self, store_of};
 use rt_tree::{Key, MAX_LEVELS, Path, Tree};
 use std::alloc::{AllocError, Global};
@@ -145,14 +147,66 @@ pub(crate) fn insert(regions: &mut Vec<Region>, region: Region)
     let _in_reserved_room = regions.insert(place, region);
 }
 
+// Where the first region stands that is not in front of the path.
+fn first_under(regions: &[Region], path: &Path) -> usize
+    requires sorted { T (map_of.is_sorted path_cmp (pairs_of regions.now)) }
+    ensures within { result ≤ length regions.now }
+    ensures front { (k : ℕ) (d : Region) → k < result
+        → is_at_or_above path.now (slice_index_or regions.now k d).path ≡ false }
+    ensures behind { (k : ℕ) (d : Region) → result ≤ k → k < length regions.now
+        → is_lt (path_cmp (slice_index_or regions.now k d).path path.now) ≡ false }
+{
+    let count = place_of(regions, path);
+    if count == 0 {
+        return 0;
+    }
+    let last = count - 1;
+    if path.is_prefix_of(&regions[last].path) {
+        last
+    } else {
+        count
+    }
+}
+
+// Where the regions at or under the path stand, by halving: one behind another, from the first that
+// is not in front of the path.
+pub(crate) fn span_under(regions: &[Region], path: &Path) -> Span
+    requires sorted { T (map_of.is_sorted path_cmp (pairs_of regions.now)) }
+    ensures ordered { result.start ≤ result.end }
+    ensures within { result.end ≤ length regions.now }
+    ensures exact { (k : ℕ) (d : Region) → k < length regions.now
+        → is_at_or_above path.now (slice_index_or regions.now k d).path ≡ has_place k result }
+{
+    let start = first_under(regions, path);
+    let (_, behind) = regions.split_at(start);
+    let count = behind.partition_point(|region| path.is_prefix_of(&region.path));
+    Span {
+        start,
+        end: start + count,
+    }
+}
+
+// The regions that are not in the span.
+pub(crate) fn remove_span(regions: &mut Vec<Region>, span: Span)
+    requires ordered { span.start ≤ span.end }
+    requires within { span.end ≤ length regions.old.items }
+    ensures left { regions.new.items ≡ remove_range regions.old.items span.start span.end }
+    ensures len { vec_len regions.new ≤ vec_len regions.old }
+    ensures room { vec_capacity regions.new ≡ vec_capacity regions.old }
+{
+    drop(regions.drain(span.start..span.end));
+}
+
 // The regions that are not at or under the path.
 fn remove_under(regions: &mut Vec<Region>, path: &Path)
+    requires sorted { T (map_of.is_sorted path_cmp (pairs_of regions.old.items)) }
     ensures left { regions.new.items
         ≡ filter (λ r. not (is_at_or_above path.now r.path)) regions.old.items }
     ensures len { vec_len regions.new ≤ vec_len regions.old }
     ensures room { vec_capacity regions.new ≡ vec_capacity regions.old }
 {
-    regions.retain(|region| !path.is_prefix_of(&region.path));
+    let span = span_under(regions, path);
+    remove_span(regions, span);
 }
 
 // A region of a copy of the tree.

@@ -1,6 +1,6 @@
 -- What any pushes and changes of cover leave for a plain query, told by the calls alone: no word of
 -- regions.
-use Rattle.std.specs.Prelude.{◌≡◌, Bool, true, false, ◌&&◌, ◌||◌, if◌then◌else◌, List, Option, Some}
+use Rattle.std.specs.Prelude.{◌≡◌, Bool, true, false, ◌&&◌, ◌||◌, if◌then◌else◌, List, Some}
 use Rattle.std.specs.Prelude.{None}
 use Rattle.std.specs.List.{All, fold}
 use Rattle.rt_tree.specs.PathTree.{Path, PathTree, null, sub, put}

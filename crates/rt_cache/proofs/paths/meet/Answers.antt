@@ -1,7 +1,7 @@
-use Rattle.std.proofs.Common.{rules, ◌≡◌, ◌∙◌, ◌<◌, ◌≤◌, ◌+◌, nat_lt, ℕ, suc, ap, sym, subst, arith, length, get_or, true, false, refl}
+use Rattle.std.proofs.Common.{rules, ◌≡◌, ◌∙◌, ◌<◌, ◌≤◌, ◌+◌, nat_lt, ℕ, suc, ap, sym, subst, arith, length, get_or, true, refl}
 use Rattle.std.specs.declared.cmp.Ordering.TheVariants.{Less, Equal, Greater}
 use Rattle.std.specs.Ordering.{is_lt}
-use Rattle.rt_tree.specs.PathTree.{Key, Path, path_cmp, key_cmp}
+use Rattle.rt_tree.specs.PathTree.{Key, Path, key_cmp}
 use Rattle.rt_cache.specs.inside.Shared.{do_share}
 use Rattle.rt_cache.proofs.Sharing.{share_more, decided, ended}
 use Rattle.rt_cache.proofs.paths.meet.Goals as goal

@@ -1,4 +1,4 @@
-use Rattle.std.proofs.Common.{◌≡◌, ◌-◌, ◌≤◌, true, length}
+use Rattle.std.proofs.Common.{◌≡◌, ◌-◌, true, length}
 use Rattle.rt_cache.specs.inside.Shared.{do_share}
 use Rattle.rt_cache.proofs.paths.meet.Given as goal
 

@@ -1,4 +1,4 @@
-use Rattle.std.proofs.Common.{rules, ◌≡◌, ◌∙◌, ◌++◌, ap, sym, subst, arith, not, List, IsOk}
+use Rattle.std.proofs.Common.{rules, ◌≡◌, ◌∙◌, ◌++◌, ap, sym, subst, arith, length, not, List, IsOk}
 use Rattle.std.specs.List.{filter, flat_map}
 use lib.Dec.{T}
 use Rattle.std.specs.FinMap as map_of
@@ -6,38 +6,47 @@ use Rattle.std.specs.FinMap.Entries.{is_sorted-where_key}
 use Rattle.rt_tree.specs.PathTree.{path_cmp}
 use Rattle.rt_tree.specs.Assignments.{have_overlap}
 use Rattle.rt_cache.specs.Recover.{reaches, parts_of, with_regions, regions_kept, window_left, in_query_order}
+use Rattle.rt_cache.specs.declared.region.Region.{Region}
 use Rattle.rt_cache.specs.declared.window.Window.{Window}
 use Rattle.rt_cache.specs.inside.Held.{pairs_of, entries_of, for_each}
-use Rattle.rt_cache.proofs.Changes.{of_ok}
+use Rattle.rt_cache.specs.inside.Spans.{AreInOrder, without, AreLost}
+use Rattle.rt_cache.proofs.Changes.{of_ok, stays_lost}
 use Rattle.rt_cache.proofs.Cuts.{left_apart}
-use Rattle.rt_cache.proofs.InPlace.{pairs_of-filter_by}
 use Rattle.rt_cache.proofs.Keeping.{stays, kept_listed}
 use Rattle.rt_cache.proofs.Stays.{Regions}
 use Rattle.rt_cache.proofs.recover.change_cover.Goals as goal
 
+pub remove_spans-requires : goal.remove_spans-requires
+remove_spans-requires c =
+    let lost : AreLost c.args.kept.now c.args.regions.now.items c.in_ok-lost.lost.items = search rules in
+    record { order = subst (λ (rs : List Region). AreInOrder 0 c.in_ok-lost.lost.items (length rs)) (sym c.reserve-2.ensures.items) lost.0 }
+
 pub insert_all-requires-clause-sorted : goal.insert_all-requires-clause-sorted
 insert_all-requires-clause-sorted c =
     let old : Regions = pairs_of c.args.regions.now.items in
-    let stay : pairs_of c.retain_reached.new.regions.items ≡ filter (λ r. reaches c.args.kept.now r.0) old =
-    ap pairs_of c.retain_reached.ensures.left ∙ pairs_of-filter_by (λ p. reaches c.args.kept.now p) c.reserve-2.new.self.items
-    ∙ ap (λ rs. filter (λ r. reaches c.args.kept.now r.0) (pairs_of rs)) c.reserve-2.ensures.items in
+    let lost : AreLost c.args.kept.now c.args.regions.now.items c.in_ok-lost.lost.items = search rules in
+    let stay : pairs_of c.remove_spans.new.regions.items ≡ filter (λ r. reaches c.args.kept.now r.0) old =
+    ap pairs_of (c.remove_spans.ensures.left ∙ ap (without c.in_ok-lost.lost.items) c.reserve-2.ensures.items)
+    ∙ stays_lost c.args.kept.now c.args.regions.now.items c.in_ok-lost.lost.items lost in
     subst (λ rs. T (map_of.is_sorted path_cmp rs)) (sym stay) (is_sorted-where_key path_cmp (λ p. reaches c.args.kept.now p) old c.requires.sorted)
 
 pub insert_all-requires-clause-apart : goal.insert_all-requires-clause-apart
 insert_all-requires-clause-apart c =
     let old : Regions = pairs_of c.args.regions.now.items in
-    let stay : pairs_of c.retain_reached.new.regions.items ≡ filter (λ r. reaches c.args.kept.now r.0) old =
-    ap pairs_of c.retain_reached.ensures.left ∙ pairs_of-filter_by (λ p. reaches c.args.kept.now p) c.reserve-2.new.self.items
-    ∙ ap (λ rs. filter (λ r. reaches c.args.kept.now r.0) (pairs_of rs)) c.reserve-2.ensures.items in
+    let lost : AreLost c.args.kept.now c.args.regions.now.items c.in_ok-lost.lost.items = search rules in
+    let stay : pairs_of c.remove_spans.new.regions.items ≡ filter (λ r. reaches c.args.kept.now r.0) old =
+    ap pairs_of (c.remove_spans.ensures.left ∙ ap (without c.in_ok-lost.lost.items) c.reserve-2.ensures.items)
+    ∙ stays_lost c.args.kept.now c.args.regions.now.items c.in_ok-lost.lost.items lost in
     let parts : pairs_of c.in_ok-parts.parts.items ≡ flat_map (parts_of c.args.kept.now) (filter (λ r. not (reaches c.args.kept.now r.0)) old) = search rules in
     (λ i. have_overlap (stay i ++ parts i)) ∙ left_apart c.args.kept.now old c.requires.kept c.requires.apart
 
 pub returns-clause-ok : goal.returns-clause-ok
 returns-clause-ok c =
     let old : Regions = pairs_of c.args.regions.now.items in
-    let stay : pairs_of c.retain_reached.new.regions.items ≡ filter (λ r. reaches c.args.kept.now r.0) old =
-    ap pairs_of c.retain_reached.ensures.left ∙ pairs_of-filter_by (λ p. reaches c.args.kept.now p) c.reserve-2.new.self.items
-    ∙ ap (λ rs. filter (λ r. reaches c.args.kept.now r.0) (pairs_of rs)) c.reserve-2.ensures.items in
+    let lost : AreLost c.args.kept.now c.args.regions.now.items c.in_ok-lost.lost.items = search rules in
+    let stay : pairs_of c.remove_spans.new.regions.items ≡ filter (λ r. reaches c.args.kept.now r.0) old =
+    ap pairs_of (c.remove_spans.ensures.left ∙ ap (without c.in_ok-lost.lost.items) c.reserve-2.ensures.items)
+    ∙ stays_lost c.args.kept.now c.args.regions.now.items c.in_ok-lost.lost.items lost in
     let parts : pairs_of c.in_ok-parts.parts.items ≡ flat_map (parts_of c.args.kept.now) (filter (λ r. not (reaches c.args.kept.now r.0)) old) = search rules in
     let regions : pairs_of c.insert_all.new.regions.items ≡ regions_kept c.args.kept.now old = c.insert_all.ensures ∙ (λ i. with_regions (stay i) (parts i)) in
     let done : IsOk c.append-in_reserved_room.result =
@@ -46,7 +55,7 @@ returns-clause-ok c =
     of_ok c.append-in_reserved_room.result _ _ _ done c.append-in_reserved_room.ensures.items in
     let retained : c.retain_registered.new.windows.items ≡ filter (λ w. stays c.args.registered.now (entries_of c.in_ok-all.all.items) w.query) c.args.windows.now.items =
     c.retain_registered.ensures.left
-    ∙ ap (λ (es : List Window). filter (λ (w : Window). stays c.args.registered.now (entries_of es) w.query) c.args.windows.now.items) (c.deref-4.ensures.value ∙ c.reserve.ensures.items) in
+    ∙ ap (λ (es : List Window). filter (λ (w : Window). stays c.args.registered.now (entries_of es) w.query) c.args.windows.now.items) (c.deref-6.ensures.value ∙ c.reserve.ensures.items) in
     let left : entries_of c.in_ok-all.all.items ≡ for_each (window_left old (regions_kept c.args.kept.now old)) c.args.registered.now = search rules in
     let windows = ap (λ ws. in_query_order (entries_of ws)) (appended ∙ (λ i. c.reserve.ensures.items i ++ retained i))
     ∙ kept_listed old (regions_kept c.args.kept.now old) c.args.registered.now c.in_ok-all.all.items c.args.windows.now.items left in

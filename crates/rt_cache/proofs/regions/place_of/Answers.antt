@@ -1,5 +1,4 @@
-use Rattle.std.proofs.Common.{rules, ◌≡◌, ◌<◌, ◌≤◌, ◌+◌, ◌-◌, ◌/◌, ℕ, arith}
-use Rattle.rt_cache.specs.declared.region.Region.{Region}
+use Rattle.std.proofs.Common.{rules, ◌<◌, ◌≤◌, ◌+◌, ◌-◌, ◌/◌, ℕ}
 use Rattle.rt_cache.proofs.Sharing.{share_middle}
 use Rattle.rt_cache.proofs.regions.place_of.Goals as goal
 

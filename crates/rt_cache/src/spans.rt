@@ -1,0 +1,50 @@
+// Places of a list that follow one another.
+ghost use Rattle.std.specs.Prelude.{◌≡◌, ℕ, ◌<◌, ◌≤◌, ◌&&◌, ◌||◌, not, max, nat_le, nat_lt, IfOk};
+ghost use Rattle.std.specs.Prelude.{OnOk};
+ghost use Rattle.std.specs.List.{All};
+ghost use Rattle.std.specs.List.Sorted.{IsNonDecreasingBy};
+ghost use Rattle.rt_cache.specs.inside.Spans.{have_place, AreInOrder};
+
+use std::alloc::{AllocError, Global};
+
+// From the first place up to the one in front of the end.
+#[derive(Clone, Copy)]
+pub(crate) struct Span {
+    pub(crate) start: usize,
+    pub(crate) end: usize,
+}
+
+// The places from the first up to the end, if there are any, as a span behind the others.
+fn push_places(spans: &mut Vec<Span>, start: usize, end: usize) -> Result<(), AllocError>
+    ensures order { OnOk result (AreInOrder 0 spans.old.items start
+        → AreInOrder 0 spans.new.items (max start end)) }
+    ensures places { OnOk result ((k : ℕ) → have_place spans.new.items k
+        ≡ (have_place spans.old.items k || (nat_le start k && nat_lt k end))) }
+{
+    if start < end {
+        spans.push(Span { start, end })?;
+    }
+    Ok(())
+}
+
+// The places in front of the end that are in none of the spans, which stand by their starts.
+pub(crate) fn places_between(
+    alloc: Global,
+    spans: &[Span],
+    end: usize,
+) -> Result<Vec<Span>, AllocError>
+    requires rising { IsNonDecreasingBy (λ s. s.start) spans.now }
+    requires within { All (λ s. (s.start ≤ s.end) × (s.end ≤ end)) spans.now }
+    ensures order { IfOk result (λ gaps. AreInOrder 0 gaps.items end) }
+    ensures places { IfOk result (λ gaps. (k : ℕ) → k < end
+        → have_place gaps.items k ≡ not (have_place spans.now k)) }
+{
+    let mut gaps = Vec::new(alloc);
+    let mut place = 0;
+    for span in spans {
+        push_places(&mut gaps, place, span.start)?;
+        place = place.max(span.end);
+    }
+    push_places(&mut gaps, place, end)?;
+    Ok(gaps)
+}
