@@ -1,10 +1,10 @@
 -- Messages of the client that are written are read back.
-use Rattle.std.proofs.Common.{◌≡◌, ℕ, ◌≤◌, max, true, false, Bool, List, [], ◌∷◌, ◌++◌, Option, Some, None, Ok, Err, refl, sym, ap, ◌∙◌, arith}
+use Rattle.std.proofs.Common.{◌≡◌, ℕ, ◌≤◌, true, false, Bool, List, [], ◌∷◌, ◌++◌, Option, Some, None, Ok, Err, refl, sym, ap, ◌∙◌, arith}
 use Rattle.std.specs.Prelude.{codes, if◌then◌else◌}
 use Rattle.std.specs.Prelude.{Result}
 use Rattle.std.specs.List.{AllByRecursion}
 use Rattle.std.specs.Option.{option_map_or}
-use Rattle.serde_json.specs.Data.{Data, object, no_members, depth, items_depth, members_depth}
+use Rattle.serde_json.specs.Data.{Data, depth, items_depth, members_depth}
 use Rattle.serde_json.specs.Read.{read, max_depth}
 use Rattle.rt_tree.specs.Allowed.{shallow_of}
 use Rattle.rt_tree.specs.Leaf.{truth, number, text}
@@ -33,13 +33,13 @@ use Rattle.rt_wire.specs.declared.request.Asked.TheVariants.{Now, AtDisconnect}
 use Rattle.rt_wire.specs.declared.client.ClientMessage.{ClientMessage}
 use Rattle.rt_wire.specs.declared.client.ClientMessage.TheVariants.{Listen, Unlisten, Ask}
 use Rattle.rt_wire.specs.Fields.{with, made, in_range, path_of_text, tree_of}
-use Rattle.rt_wire.specs.EntryFields.{entries_of, trees_of}
+use Rattle.rt_wire.specs.EntryFields.{trees_of}
 use Rattle.rt_wire.specs.QueryFields.{query_of}
-use Rattle.rt_wire.specs.Client.{client_message_in, query_at, put_in, merge_in}
-use Rattle.rt_wire.specs.FieldData.{Field, kind, number_field, path_field, with_entry, members_of, object_of}
-use Rattle.rt_wire.specs.QueryData.{index_data, mark_data, place_items, cut_data, limit_data, field_if, query_data, query_field}
-use Rattle.rt_wire.specs.ClientData.{listen_data, action_data, client_data}
-use Rattle.rt_wire.specs.ReadBack.{IsNumber, IsReadable, AreEntries, IsListened, IsReadableAction, IsClientMessage, IsSameAction, IsClientSame, IsClientText}
+use Rattle.rt_wire.specs.Client.{client_message_in, put_in, merge_in}
+use Rattle.rt_wire.specs.FieldData.{Field, kind, number_field, path_field, members_of, object_of}
+use Rattle.rt_wire.specs.QueryData.{index_data, mark_data, place_items, cut_data, limit_data, field_if, query_data}
+use Rattle.rt_wire.specs.ClientData.{action_data, client_data}
+use Rattle.rt_wire.specs.ReadBack.{IsNumber, IsReadable, AreEntries, IsListened, IsReadableAction, IsClientMessage, IsClientSame, IsClientText}
 use Rattle.rt_wire.specs.inside.Standing.{IsStanding}
 use Rattle.rt_wire.specs.inside.StandingClient.{IsStandingListen, IsStandingAction, IsStandingRequest}
 use Rattle.rt_wire.proofs.FieldsBack.{number_back, path_back, tree_back}

@@ -7,12 +7,10 @@ use Rattle.serde_json.specs.Data.{Data}
 use Rattle.serde_json.specs.Data as json
 use Rattle.serde_json.specs.Find.{get, as_i64, of_integer}
 use Rattle.rt_tree.specs.Key.{IsKey}
-use Rattle.rt_tree.specs.Leaf.{truth, number, text, IsWhole, IsInRange}
+use Rattle.rt_tree.specs.Leaf.{truth, number, text, IsWhole}
 use Rattle.rt_tree.specs.Path.{path_text}
 use Rattle.rt_tree.specs.PathTree.{Path}
 use Rattle.rt_tree.specs.declared.limits.TheConstants.{MAX_TEXT_BYTES}
-use Rattle.rt_tree.specs.PathTree as tree
-use Rattle.rt_tree.specs.Reading.{number_fault}
 use Rattle.rt_order.specs.declared.index.Index.{Index}
 use Rattle.rt_order.specs.declared.index.Index.TheVariants.{Key, Child, Value}
 use Rattle.rt_order.specs.declared.cut.Mark.{Mark}

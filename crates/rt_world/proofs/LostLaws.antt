@@ -8,7 +8,7 @@ use Rattle.std.proofs.lemmas.List.Elements.{All-nil, All-cons, All-head, All-tai
 use Rattle.rt_tree.specs.PathTree.{Path, PathTree, path_cmp, strip, sub, children_alone}
 use Rattle.rt_query.specs.Queries.{Query, is_filtered}
 use Rattle.rt_writes.specs.Writes.{IsShallow}
-use Rattle.rt_writes.proofs.Shallow.{shallow-part}
+use Rattle.rt_writes.specs.laws.ShallowLaws.{shallow-part}
 use Rattle.rt_cache.specs.Brought.{Window, Brought, region_part}
 use Rattle.rt_cache.specs.Recover.{reaches, parts_of, with_regions, regions_kept, window_kept, windows_kept, in_query_order, recover}
 use Rattle.rt_cover.specs.Cover.{forms}

@@ -4,17 +4,16 @@ use mathlib.Core.Bool.{true≢false}
 use Rattle.std.specs.List.{filter, filter_map, cons_option, flat_map, fold, list_any, Contains}
 use Rattle.std.specs.Option.{option_and_then, option_map_or}
 use Rattle.std.proofs.lemmas.List.Folds.{list_any-append}
-use Rattle.rt_tree.specs.PathTree.{Key, Path, PathTree, put, key_eq, key_eq-is, key_eq-symm, first_key, leaf_at, leaf_at-sub, leaf_at-put, same_tree, null, is_null, is_null-null, leaf_of, leaf_of_root, strip, strip-some, strip-append, strip-both, child, with_children}
+use Rattle.rt_tree.specs.PathTree.{Key, Path, PathTree, of_leaf, leaf_at-null, leaf_at-of_leaf, put, key_eq, key_eq-is, key_eq-symm, first_key, leaf_at, leaf_at-sub, leaf_at-put, same_tree, null, is_null, is_null-null, leaf_of, leaf_of_root, strip, strip-some, strip-append, strip-both, child, with_children}
 use Rattle.rt_tree.specs.Leaf.{LeafValue}
 use Rattle.rt_tree.specs.Parts.{sub_root, child-put, child-put_other, child-with_children}
 use Rattle.rt_tree.specs.Children.{children_of}
 use Rattle.rt_tree.specs.Assignments.{Assignment, is_at_or_above, do_overlap}
-use Rattle.rt_tree.proofs.Trees.{sub-of_leaf}
 use Rattle.rt_query.specs.Queries.{Query, is_filtered}
 use Rattle.rt_query.specs.Select.{select}
 use Rattle.rt_query.specs.Supply.{form}
 use Rattle.rt_writes.specs.Writes.{Write, assignments, overlay, sets_whole}
-use Rattle.rt_writes.proofs.OverlayLaws.{fold-overlaid_part}
+use Rattle.rt_writes.specs.laws.OverlayLaws.{fold-overlaid_part}
 use Rattle.rt_cache.specs.Brought.{Brought, base, push}
 use Rattle.rt_cache.specs.declared.base.Base.{Base}
 use Rattle.rt_cover.specs.Cover.{distinct}
@@ -227,9 +226,12 @@ only_named_change limits before s =
 under_leaf : (t : PathTree) (k : Key) → is_some (leaf_of t) ≡ true → child t k ≡ null
 under_leaf t k e = at (leaf_of t) refl
   where
+    below : (l : LeafValue) → child (of_leaf l) k ≡ null
+    below l = same_tree (child (of_leaf l) k) null (λ q. leaf_at-sub (of_leaf l) (k ∷ []) q ∙ leaf_at-of_leaf l (k ∷ q) ∙ sym (leaf_at-null q))
+
     at : (o : Option LeafValue) → leaf_of t ≡ o → child t k ≡ null
     at None f = absurd (true≢false (sym e ∙ ap is_some f))
-    at (Some l) f = ap (λ u. child u k) (leaf_of_root t l f) ∙ sub-of_leaf l k []
+    at (Some l) f = ap (λ u. child u k) (leaf_of_root t l f) ∙ below l
 
 pub leaf_names_all : LeafNamesAll
 leaf_names_all limits before s l m both c leaf k u =

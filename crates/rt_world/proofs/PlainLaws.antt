@@ -14,7 +14,7 @@ use Rattle.rt_query.specs.Queries.{Query, plain, is_filtered}
 use Rattle.rt_query.specs.Supply.{form, does_supply}
 use Rattle.rt_query.specs.laws.QueryEq.{query_eq_tells}
 use Rattle.rt_writes.specs.Writes.{IsShallow}
-use Rattle.rt_writes.proofs.Shallow.{shallow-below}
+use Rattle.rt_writes.specs.laws.ShallowLaws.{shallow-below}
 use Rattle.rt_cache.specs.Brought.{Window, Brought, region_part, region_put, push_plain, push, windows_pushed, is_without_window}
 use Rattle.rt_cache.specs.Recover.{reaches, parts_of, with_regions, regions_kept, window_kept, windows_kept, in_query_order, recover}
 use Rattle.rt_cover.specs.Cover.{Tagged, Registered, Supplies, forms, needed}

@@ -14,7 +14,6 @@ use Rattle.rt_query.specs.Queries.{Query, is_filtered}
 use Rattle.rt_query.specs.QueryEq.{query_eq}
 use Rattle.rt_query.specs.Supply.{form}
 use Rattle.rt_query.specs.laws.QueryEq.{query_eq_tells}
-use Rattle.rt_writes.proofs.PartLaws.{none_of_not}
 use Rattle.rt_cache.specs.Brought.{Window, Brought, base, region_part, window_of, region_put, push_plain, window_pushed, windows_pushed, push}
 use Rattle.rt_cache.specs.declared.base.Base.{Base}
 use Rattle.rt_cache.specs.QueryOrder.{query_cmp}
@@ -26,6 +25,10 @@ use Rattle.rt_world.proofs.RecoverLaws.{whole}
 use Rattle.rt_world.proofs.StayLaws.{path_of_form}
 
 -- ---- apart paths
+
+none_of_not : {X : Type 0} (o : Option X) → is_some o ≡ false → o ≡ None
+none_of_not None e = refl
+none_of_not (Some x) e = absurd (true≢false e)
 
 pub record AreApart (p q : Path) : Type 0 where
   pub down : strip p q ≡ None

@@ -12,7 +12,7 @@ use Rattle.rt_query.specs.Queries.{Query, plain, is_filtered}
 use Rattle.rt_query.specs.Select.{Shown, rows_of, select}
 use Rattle.rt_query.specs.Supply.{form}
 use Rattle.rt_writes.specs.Writes.{Write, assignments, overlay, sets_whole}
-use Rattle.rt_writes.proofs.OverlayLaws.{fold-overlaid_part}
+use Rattle.rt_writes.specs.laws.OverlayLaws.{fold-overlaid_part}
 use Rattle.rt_cache.specs.Brought.{Window, Brought, base, region_part, window_of}
 use Rattle.rt_cache.specs.declared.base.Base.{Base}
 use Rattle.rt_cache.specs.Recover.{reaches, regions_kept, recover}

@@ -10,7 +10,7 @@ use Rattle.rt_tree.specs.PathTree.{Path, PathTree}
 use Rattle.rt_tree.specs.Assignments.{Assignment, is_at_or_above, do_overlap}
 use Rattle.rt_writes.specs.Writes.{Write, assignments, overlaid, overlay, sets_whole}
 use Rattle.rt_writes.specs.Writes as writes
-use Rattle.rt_writes.proofs.TouchLaws.{fold-untouched}
+use Rattle.rt_writes.specs.laws.TouchLaws.{fold-untouched}
 use Rattle.rt_wire.specs.declared.request.Asked.{Asked}
 use Rattle.rt_wire.specs.declared.request.Asked.TheVariants.{Now, AtDisconnect}
 use Rattle.rt_world.specs.declared.request.Request.{Request}

@@ -5,6 +5,7 @@ ghost use Rattle.rt_world.specs.laws.World.{LeafReadsNamed, TouchedIsSeen, Other
 ghost use Rattle.rt_world.specs.laws.World.{MessagesAreHeard, ConnectedSendsAll, NumbersStayWithin};
 ghost use Rattle.rt_world.specs.laws.World.{IsWritten, IsBrought};
 ghost use Rattle.rt_world.specs.laws.Steps.{WorldsAreSound, WorldsAreCalled, StaysSound};
+ghost use Rattle.rt_world.specs.laws.Steps.{NotRefusedIsAllowed};
 ghost use Rattle.rt_world.specs.laws.Steps.{ListensStay, UnmetStays, RenewedIsOne};
 ghost use Rattle.rt_world.specs.laws.Steps.{PushIsBrought, ListenBringsNothing, StaysPlain};
 ghost use Rattle.rt_world.specs.laws.Steps.{WriteIsPending, EndingIsNotPending};
@@ -63,6 +64,11 @@ pub fn sound_law()
     ensures worlds { WorldsAreSound }
     ensures called { WorldsAreCalled }
     ensures next { StaysSound }
+{}
+
+/// Of a step that is not refused no condition holds that a refusal has.
+pub fn refusal_law()
+    ensures { NotRefusedIsAllowed }
 {}
 
 /// What a step leaves as it is: the listens where the listeners stay, a listener whose path no entry

@@ -1,5 +1,5 @@
 -- What holds of each message of the client, since the types of its parts keep it.
-use Rattle.std.specs.Prelude.{◌≡◌, ℕ, ◌≤◌, true, IfSome}
+use Rattle.std.specs.Prelude.{◌≡◌, ◌≤◌, true, IfSome}
 use Rattle.std.specs.List.{AllByRecursion}
 use Rattle.rt_tree.specs.Key.{IsKey}
 use Rattle.rt_tree.specs.Leaf.{IsInRange}

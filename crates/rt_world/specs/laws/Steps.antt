@@ -24,6 +24,7 @@ use Rattle.rt_world.specs.Answers.{batch_from, batch_note, batch_notes, settled_
 use Rattle.rt_world.specs.Plain.{IsPlain, RegistersPlain}
 use Rattle.rt_world.specs.Touched.{entries_by}
 use Rattle.rt_world.specs.Called.{IsCalled}
+use Rattle.rt_world.specs.Limited.{IsAllowed}
 use Rattle.rt_world.specs.Sound.{IsSound}
 use Rattle.rt_world.specs.laws.World.{changes_listeners}
 
@@ -43,6 +44,10 @@ WorldsAreCalled =
 -- a step that is done keeps a world sound
 abbrev pub StaysSound : Type 0
 StaysSound = (w : World) (s : Step) → IsSound w → IsSound (next w s)
+
+-- of a step that is not refused no refusal's condition holds
+abbrev pub NotRefusedIsAllowed : Type 0
+NotRefusedIsAllowed = (w : World) (s : Step) → refusal w s ≡ None → IsAllowed w s
 
 -- ---- what a step leaves as it is
 
