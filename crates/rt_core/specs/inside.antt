@@ -1,2 +1,3 @@
-pub mod StateView
+pub mod Due
 pub mod Parts
+pub mod StateView

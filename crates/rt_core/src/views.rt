@@ -11,12 +11,13 @@ ghost use Rattle.rt_world.specs.Views.{base_tree, is_known, seen_over};
 ghost use Rattle.rt_world.specs.Steps.{renewed};
 ghost use Rattle.rt_world.specs.Answers.{batch_note};
 ghost use Rattle.rt_core.specs.inside.StateView.{IsHeld, listener_of, listeners_of, shown_in};
-ghost use Rattle.rt_core.specs.inside.Parts.{all_told, seeing, told};
+ghost use Rattle.rt_core.specs.inside.Parts.{all_told, do_meet, renewed_met, seeing, told};
+ghost use Rattle.rt_core.specs.inside.Parts.{told_met};
 
 use crate::held::Held;
 use rt_cache::{Base, Brought};
 use rt_query::Query;
-use rt_tree::Tree;
+use rt_tree::{Path, Tree};
 use rt_view::{Batch, ChangeList, View};
 use rt_world::{Body, Note};
 use rt_writes::Pending;
@@ -102,7 +103,7 @@ fn tell(notes: &mut Vec<Note>, listener: &Held, changes: ChangeList) -> Result<(
 
 // Takes the view from scratch, where the listener has one or something is known for it, and tells
 // its seat what changes.
-fn renew(
+pub(crate) fn renew(
     alloc: Global,
     listener: &mut Held,
     brought: &Brought,
@@ -126,10 +127,42 @@ fn renew(
     tell(notes, listener, changes)
 }
 
+// Whether one of the entries sits at, above or below the path.
+fn do_meet(entries: &[(Path, Tree)], path: &Path) -> bool
+    ensures { result ≡ do_meet entries.now path.now }
+{
+    entries.iter().any(|entry| entry.0.is_prefix_of(path) || path.is_prefix_of(&entry.0))
+}
+
+// The same, where an entry meets the listener's path; else its view isn't looked at.
+fn renew_if_met(
+    alloc: Global,
+    listener: &mut Held,
+    entries: &[(Path, Tree)],
+    brought: &Brought,
+    pending: &Pending,
+    notes: &mut Vec<Note>,
+) -> Result<(), AllocError>
+    requires held { IsHeld listener.old }
+    requires regions_alone { brought.now.windows ≡ [] }
+    requires shallow { All IsShallow brought.now.regions }
+    ensures view { OnOk result (listener_of listener.new
+        ≡ renewed_met entries.now brought.now pending.now (listener_of listener.old)) }
+    ensures held { OnOk result (IsHeld listener.new) }
+    ensures notes { OnOk result (notes.new.items ≡ notes.old.items ++ option_to_list
+        (told_met entries.now brought.now pending.now (listener_of listener.old))) }
+{
+    if !do_meet(entries, listener.query.path()) {
+        return Ok(());
+    }
+    renew(alloc, listener, brought, pending, notes)
+}
+
 // The same of all listeners.
-pub(crate) fn renew_all(
+pub(crate) fn renew_met(
     alloc: Global,
     listeners: &mut [Held],
+    entries: &[(Path, Tree)],
     brought: &Brought,
     pending: &Pending,
     notes: &mut Vec<Note>,
@@ -138,13 +171,13 @@ pub(crate) fn renew_all(
     requires regions_alone { brought.now.windows ≡ [] }
     requires shallow { All IsShallow brought.now.regions }
     ensures views { OnOk result (listeners_of listeners.new
-        ≡ map (renewed brought.now pending.now) (listeners_of listeners.old)) }
+        ≡ map (renewed_met entries.now brought.now pending.now) (listeners_of listeners.old)) }
     ensures held { OnOk result (All IsHeld listeners.new) }
     ensures notes { OnOk result (notes.new.items ≡ notes.old.items
-        ++ all_told brought.now pending.now (listeners_of listeners.old)) }
+        ++ all_told entries.now brought.now pending.now (listeners_of listeners.old)) }
 {
     for listener in listeners.iter_mut() {
-        renew(alloc, listener, brought, pending, notes)?;
+        renew_if_met(alloc, listener, entries, brought, pending, notes)?;
     }
     Ok(())
 }

@@ -1,0 +1,20 @@
+use Rattle.std.proofs.Common.{◌≡◌, ap, sym, subst, Some, rules}
+use Rattle.std.specs.Option.{IfSome}
+use Rattle.rt_world.specs.World.{World}
+use Rattle.rt_world.specs.Answers.{Answer, step}
+use Rattle.rt_core.specs.inside.Due.{IsGood}
+use Rattle.rt_core.proofs.GoodWorlds.{good_step}
+use Rattle.rt_core.proofs.Core.apply.Goals as goal
+
+pub after-requires-clause-good : goal.after-requires-clause-good
+after-requires-clause-good c =
+    let there : c.self.inside.state ≡ Some c.in-Some.state = search rules in
+    subst (λ o. IfSome o IsGood) there c.self.invariant
+
+pub invariant_of-self-2 : goal.invariant_of-self-2
+invariant_of-self-2 c =
+    let old = c.in-Some.state in
+    let there : c.self.inside.state ≡ Some old = search rules in
+    let good : IsGood old = subst (λ o. IfSome o IsGood) there c.self.invariant in
+    let after : c.in_ok-state.state ≡ (step old c.args.step).0 = ap (λ (m : World × Answer). m.0) c.in_ok-state.ensures.ok in
+    subst IsGood (sym after) (good_step old c.args.step c.requires good)

@@ -1,0 +1,40 @@
+-- When a step is made, and what is owed then.
+use Rattle.std.specs.Prelude.{◌≡◌, Bool, false, List, Option, None}
+use Rattle.std.specs.List.{find}
+use Rattle.std.specs.Option.{option_map}
+use Rattle.rt_world.specs.declared.error.CoreError.{CoreError}
+use Rattle.rt_world.specs.declared.limits.Limits.{Limits}
+use Rattle.rt_world.specs.declared.step.Step.{Step}
+use Rattle.rt_world.specs.World.{World, empty_world}
+use Rattle.rt_world.specs.Messages.{next}
+use Rattle.rt_world.specs.Refusals.{refusal, is_stale}
+use Rattle.rt_world.specs.Answers.{done_report, world_after}
+use Rattle.rt_world.specs.Plain.{IsPlain}
+use Rattle.rt_core.specs.declared.told.Told.{Told}
+
+-- steps lead to the world from an empty one
+pub record IsLed (w : World) : Type 0 where
+  pub limits : Limits
+  pub steps : List Step
+  pub to : world_after (empty_world limits) steps ≡ w
+
+-- so they do, and all listens are plain
+pub record IsGood (w : World) : Type 0 where
+  pub led : IsLed w
+  pub plain : IsPlain w
+
+-- the step is neither refused nor stale
+pub record IsDue (w : World) (s : Step) : Type 0 where
+  pub good : IsGood w
+  pub not_refused : refusal w s ≡ None
+  pub not_stale : is_stale w s ≡ false
+
+-- the world after the step, with what the report says
+pub record IsNext (w : World) (s : Step) (made : World × Told) : Type 0 where
+  pub world : made.0 ≡ next w s
+  pub given : made.1.given ≡ (done_report w s).given
+  pub notes : made.1.notes.items ≡ (done_report w s).notes
+
+-- the first refusal whose condition holds
+abbrev pub first_of : List (Bool × CoreError) → Option CoreError
+first_of conditions = option_map (λ c. c.1) (find (λ c. c.0) conditions)

@@ -1,0 +1,73 @@
+// One step, and its answer.
+ghost use Rattle.std.specs.Prelude.{◌≡◌, None, Ok, IfOk, OnErr};
+ghost use Rattle.rt_world.specs.declared.report.Outcome.TheVariants.{Done};
+
+use crate::state::State;
+use crate::told::Told;
+use rt_world::{CoreError, Notes, Outcome, Report, Step};
+use std::alloc::AllocError;
+
+// The report of what a step tells that is done.
+fn done_report(told: Told) -> Report
+    ensures { result ≡ record { outcome = Done; given = told.given; notes = told.notes.items } }
+{
+    Report {
+        outcome: Outcome::Done,
+        given: told.given,
+        notes: Notes::of(told.notes),
+    }
+}
+
+impl State {
+    ghost use Rattle.rt_world.specs.Refusals.{refusal};
+    ghost use Rattle.rt_world.specs.Answers.{step as the_step};
+    ghost use Rattle.rt_core.specs.Core.{IsTaken};
+    ghost use Rattle.rt_core.specs.inside.Due.{IsGood, IsDue, IsNext};
+
+    // The step, which is neither refused nor stale.
+    fn next(self, step: Step) -> Result<(State, Told), AllocError>
+        requires taken { IsTaken step }
+        requires due { IsDue self step }
+        ensures { IfOk result (λ made. IsNext self step made) }
+    {
+        match step {
+            Step::Write { seat, action } => self.write(seat, action),
+            Step::OnDisconnect { seat, ending } => self.ask_at_disconnect(seat, ending),
+            Step::Connected => self.connect(),
+            Step::Disconnected => Ok(self.disconnect()),
+            Step::Listen { .. }
+            | Step::Unlisten { .. }
+            | Step::Data { .. }
+            | Step::DataMerge { .. }
+            | Step::Accepted { .. }
+            | Step::Refused { .. }
+            | Step::Revoked { .. }
+            | Step::CloseSeat { .. } => unreachable!(),
+        }
+    }
+
+    // The step, and its report; no step that is taken so far can be stale.
+    fn make(self, step: Step) -> Result<(State, Report), AllocError>
+        requires taken { IsTaken step }
+        requires good { IsGood self }
+        requires not_refused { refusal self step ≡ None }
+        ensures { IfOk result (λ made. the_step self step ≡ (made.0, Ok made.1)) }
+    {
+        let (state, told) = self.next(step)?;
+        Ok((state, done_report(told)))
+    }
+
+    // The step, and its answer.
+    pub(crate) fn after(self, step: Step) -> Result<(State, Result<Report, CoreError>), AllocError>
+        requires taken { IsTaken step }
+        requires good { IsGood self }
+        ensures ok { IfOk result (λ made. made ≡ the_step self step) }
+        ensures not_refused { OnErr result (refusal self step ≡ None) }
+    {
+        if let Some(error) = self.refusal(&step) {
+            return Ok((self, Err(error)));
+        }
+        let (state, report) = self.make(step)?;
+        Ok((state, Ok(report)))
+    }
+}

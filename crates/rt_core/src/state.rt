@@ -1,0 +1,69 @@
+// What a core holds.
+ghost use Rattle.std.specs.Prelude.{◌≡◌};
+
+use crate::held::Held;
+use rt_cache::Brought;
+use rt_cover::Cover;
+use rt_world::{ClientMessage, Limits, Request};
+use rt_writes::Pending;
+use std::alloc::Global;
+use std::collections::VecDeque;
+use std::marker::Model;
+
+// Listeners and unsettled requests by number, the pending writes of these requests, what the listens
+// brought, the listens kept, the messages to be sent, and the numbers given last.
+#[derive(Drop)]
+pub(crate) struct State {
+    pub(crate) limits: Limits,
+    pub(crate) listeners: Vec<Held>,
+    pub(crate) requests: Vec<Request>,
+    pub(crate) pending: Pending,
+    pub(crate) brought: Brought,
+    pub(crate) cover: Cover,
+    pub(crate) is_connected: bool,
+    pub(crate) outgoing: VecDeque<ClientMessage>,
+    pub(crate) given_listeners: u64,
+    pub(crate) given_requests: u64,
+}
+
+impl Model for State {
+    ghost use Rattle.rt_world.specs.World.{World};
+    ghost use Rattle.rt_core.specs.inside.StateView.{world_of, IsTied};
+
+    ghost Value = { World };
+
+    ghost view = { λ a. world_of a.limits a.listeners.items a.requests.items a.brought a.cover
+        a.is_connected a.outgoing.items a.given_listeners a.given_requests };
+
+    ghost invariant = { λ a. IsTied a.listeners.items a.pending a.cover
+        (world_of a.limits a.listeners.items a.requests.items a.brought a.cover
+        a.is_connected a.outgoing.items a.given_listeners a.given_requests) };
+}
+
+impl State {
+    ghost use Rattle.rt_world.specs.World.{empty_world};
+
+    // No listener, no request, no connection.
+    pub(crate) fn new(alloc: Global, limits: Limits) -> State
+        ensures { result ≡ empty_world limits }
+    {
+        let last_tag = limits.last_number;
+        State {
+            limits,
+            listeners: Vec::new(alloc),
+            requests: Vec::new(alloc),
+            pending: Pending::new(alloc),
+            brought: Brought::new(alloc),
+            cover: Cover::new(alloc, last_tag),
+            is_connected: false,
+            outgoing: VecDeque::new(alloc),
+            given_listeners: 0,
+            given_requests: 0,
+        }
+    }
+
+    // The allocator of its lists.
+    pub(crate) fn alloc(&self) -> Global {
+        *self.requests.allocator()
+    }
+}

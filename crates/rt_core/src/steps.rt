@@ -1,0 +1,3 @@
+// The steps: what each leaves, one file a kind of step.
+mod asking;
+mod connection;

@@ -1,0 +1,174 @@
+// A seat asks the server for something: a write, or what is to be done when the connection ends.
+ghost use Rattle.std.specs.Prelude.{◌≡◌, ◌<◌, ◌++◌, ◌∷◌, [], map, OnOk, IfOk};
+ghost use Rattle.std.specs.List.{All};
+ghost use Rattle.rt_writes.specs.Writes.{IsShallow};
+ghost use Rattle.rt_world.specs.World.{entries_of};
+ghost use Rattle.rt_core.specs.inside.Parts.{all_told, renewed_met};
+ghost use Rattle.rt_core.specs.inside.StateView.{IsHeld, listeners_of};
+
+use crate::held::Held;
+use crate::sending::send_asked;
+use crate::state::State;
+use crate::told::Told;
+use crate::views::renew_met;
+use rt_cache::Brought;
+use rt_world::{Action, Asked, Ending, Note, Request, Step};
+use rt_writes::{Entries, Pending};
+use std::alloc::{AllocError, Global};
+
+// The paths and trees that the action sets, shared with it.
+fn entries_of(alloc: Global, action: &Action) -> Result<Entries, AllocError>
+    ensures { IfOk result (λ entries. entries ≡ entries_of action.now) }
+{
+    match action {
+        Action::Put { path, tree } => {
+            let mut items = Vec::new(alloc);
+            items.push((path.copy()?, tree.copy(alloc)?))?;
+            Ok(Entries::of(items))
+        }
+        Action::Merge { entries } => entries.copy(),
+    }
+}
+
+// The write is pending. Only memory can refuse: what its entries may be was looked at.
+fn add(pending: &mut Pending, id: u64, entries: &Entries) -> Result<(), AllocError>
+    requires above { All (λ w. w.id < id) pending.old }
+    requires shallow { All IsShallow entries.now }
+    ensures { OnOk result (pending.new
+        ≡ pending.old ++ record { id = id; entries = entries.now } ∷ []) }
+{
+    match pending.add(id, entries.copy()?.into_vec()) {
+        Ok(()) => Ok(()),
+        Err(_) => Err(AllocError),
+    }
+}
+
+// The write is pending, and shows at once; what the seats are told of that.
+fn show_write(
+    alloc: Global,
+    listeners: &mut Vec<Held>,
+    brought: &Brought,
+    pending: &mut Pending,
+    id: u64,
+    action: &Action,
+) -> Result<Vec<Note>, AllocError>
+    requires held { All IsHeld listeners.old.items }
+    requires regions_alone { brought.now.windows ≡ [] }
+    requires regions_shallow { All IsShallow brought.now.regions }
+    requires above { All (λ w. w.id < id) pending.old }
+    requires shallow { All IsShallow (entries_of action.now) }
+    ensures pending { OnOk result (pending.new
+        ≡ pending.old ++ record { id = id; entries = entries_of action.now } ∷ []) }
+    ensures held { OnOk result (All IsHeld listeners.new.items) }
+    ensures views { OnOk result (listeners_of listeners.new.items
+        ≡ map (renewed_met (entries_of action.now) brought.now pending.new)
+        (listeners_of listeners.old.items)) }
+    ensures notes { IfOk result (λ notes. notes.items
+        ≡ all_told (entries_of action.now) brought.now pending.new
+        (listeners_of listeners.old.items)) }
+{
+    let entries = entries_of(alloc, action)?;
+    add(pending, id, &entries)?;
+    let mut notes = Vec::new(alloc);
+    renew_met(
+        alloc,
+        listeners,
+        entries.as_slice(),
+        brought,
+        pending,
+        &mut notes,
+    )?;
+    Ok(notes)
+}
+
+impl State {
+    ghost use Rattle.rt_wire.specs.declared.request.Asked.TheVariants as Asked;
+    ghost use Rattle.rt_world.specs.declared.step.Step.TheVariants as Step;
+    ghost use Rattle.rt_world.specs.Refusals.{has_too_many_requests};
+    ghost use Rattle.rt_core.specs.inside.Due.{IsDue, IsNext};
+
+    // Whether the limit of unsettled requests is reached, or the last number.
+    pub(crate) fn has_too_many_requests(&self, step: &Step) -> bool
+        ensures { result ≡ has_too_many_requests self.now step.now }
+    {
+        match step {
+            Step::Write { .. } | Step::OnDisconnect { .. } => {
+                self.requests.len() as u64 >= u64::from(self.limits.requests)
+                    || self.given_requests >= self.limits.last_number
+            }
+            Step::Listen { .. }
+            | Step::Unlisten { .. }
+            | Step::Data { .. }
+            | Step::DataMerge { .. }
+            | Step::Accepted { .. }
+            | Step::Refused { .. }
+            | Step::Revoked { .. }
+            | Step::Connected
+            | Step::Disconnected
+            | Step::CloseSeat { .. } => false,
+        }
+    }
+
+    // A seat writes: the write shows at once, and is asked for.
+    pub(crate) fn write(self, seat: u64, action: Action) -> Result<(State, Told), AllocError>
+        requires { IsDue self (Step.Write seat action) }
+        ensures { IfOk result (λ made. IsNext self (Step.Write seat action) made) }
+    {
+        let alloc = self.alloc();
+        let mut state = self;
+        let id = state.given_requests + 1;
+        let notes = show_write(
+            alloc,
+            &mut state.listeners,
+            &state.brought,
+            &mut state.pending,
+            id,
+            &action,
+        )?;
+        let asked = Asked::Now(action);
+        send_asked(alloc, &mut state.outgoing, state.is_connected, id, &asked)?;
+        state.requests.push(Request {
+            id,
+            seat: Some(seat),
+            asked,
+        })?;
+        state.given_requests = id;
+        Ok((
+            state,
+            Told {
+                given: Some(id),
+                notes,
+            },
+        ))
+    }
+
+    // A seat asks for what is to be done when the connection ends; nothing shows.
+    pub(crate) fn ask_at_disconnect(
+        self,
+        seat: u64,
+        ending: Ending,
+    ) -> Result<(State, Told), AllocError>
+        requires { IsDue self (Step.OnDisconnect seat ending) }
+        ensures { IfOk result (λ made. IsNext self (Step.OnDisconnect seat ending) made) }
+    {
+        let alloc = self.alloc();
+        let mut state = self;
+        let id = state.given_requests + 1;
+        let asked = Asked::AtDisconnect(ending);
+        send_asked(alloc, &mut state.outgoing, state.is_connected, id, &asked)?;
+        state.requests.push(Request {
+            id,
+            seat: Some(seat),
+            asked,
+        })?;
+        state.given_requests = id;
+        let notes = Vec::new(alloc);
+        Ok((
+            state,
+            Told {
+                given: Some(id),
+                notes,
+            },
+        ))
+    }
+}

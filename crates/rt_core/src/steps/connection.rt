@@ -1,0 +1,54 @@
+// Connections begin and end.
+ghost use Rattle.std.specs.Prelude.{◌≡◌, IfOk};
+ghost use Rattle.rt_cover.specs.State.{shown};
+
+use crate::sending::{send_listens, send_requests};
+use crate::state::State;
+use crate::told::Told;
+use rt_cover::{Cover, Kept};
+use std::alloc::AllocError;
+use std::collections::VecDeque;
+
+// The kept listens, by tag.
+fn kept_listens(cover: &Cover) -> Result<Vec<Kept>, AllocError>
+    ensures { IfOk result (λ kept. kept.items ≡ shown cover.now) }
+{
+    match cover.open() {
+        Ok(list) => Ok(list.into_vec()),
+        Err(_) => Err(AllocError),
+    }
+}
+
+impl State {
+    ghost use Rattle.rt_world.specs.declared.step.Step.TheVariants as Step;
+    ghost use Rattle.rt_core.specs.inside.Due.{IsDue, IsNext};
+
+    // A connection is opened: all kept listens are to be sent, and then all unsettled requests.
+    pub(crate) fn connect(self) -> Result<(State, Told), AllocError>
+        requires { IsDue self Step.Connected }
+        ensures { IfOk result (λ made. IsNext self Step.Connected made) }
+    {
+        let alloc = self.alloc();
+        let mut state = self;
+        let mut outgoing = VecDeque::new(alloc);
+        send_listens(&mut outgoing, kept_listens(&state.cover)?)?;
+        send_requests(alloc, &mut outgoing, &state.requests)?;
+        state.outgoing = outgoing;
+        state.is_connected = true;
+        let notes = Vec::new(alloc);
+        Ok((state, Told { given: None, notes }))
+    }
+
+    // The connection ends: what was to be sent is dropped.
+    pub(crate) fn disconnect(self) -> (State, Told)
+        requires { IsDue self Step.Disconnected }
+        ensures { IsNext self Step.Disconnected result }
+    {
+        let alloc = self.alloc();
+        let mut state = self;
+        state.outgoing.clear();
+        state.is_connected = false;
+        let notes = Vec::new(alloc);
+        (state, Told { given: None, notes })
+    }
+}
