@@ -1,40 +1,31 @@
 -- What holds of a core's world, before any step and after each.
-use Rattle.std.proofs.Common.{◌≡◌, ◌++◌, ◌∷◌, [], List, refl, sym, ap, subst, ◌∙◌, arith, Option, Some, None, Err, false}
-use Rattle.std.specs.List.{fold}
+use Rattle.std.proofs.Common.{◌≡◌, [], refl, sym, subst, arith, Option, Some, None, Err}
 use Rattle.rt_world.specs.declared.error.CoreError.{CoreError}
 use Rattle.rt_world.specs.declared.limits.Limits.{Limits}
 use Rattle.rt_world.specs.declared.step.Step.{Step}
 use Rattle.rt_world.specs.World.{World, empty_world}
 use Rattle.rt_world.specs.Messages.{next}
+use Rattle.rt_world.specs.Called.{IsCalled}
 use Rattle.rt_world.specs.Plain.{IsPlain}
 use Rattle.rt_world.specs.Refusals.{refusal, is_stale}
-use Rattle.rt_world.specs.Answers.{Answer, step, step_by, world_after}
+use Rattle.rt_world.specs.Answers.{Answer, step, step_by}
+use Rattle.rt_world.proofs.CalledLaws.{called_world}
+use Rattle.rt_world.proofs.SoundLaws.{sound_empty, sound_next}
 use Rattle.rt_core.specs.Core.{IsTaken}
-use Rattle.rt_core.specs.inside.Due.{IsLed, IsGood, IsDue}
+use Rattle.rt_core.specs.inside.Due.{IsGood, IsDue}
 use Rattle.rt_core.proofs.RefusalLaws.{fresh_taken}
-use Rattle.rt_core.proofs.StepLaws.{made, plain_stays}
-
-fold_more : {A B : Type 0} (f : B → A → B) (b : B) (xs : List A) (x : A) → fold f b (xs ++ x ∷ []) ≡ f (fold f b xs) x
-fold_more f b [] x = refl
-fold_more f b (y ∷ xs) x = fold_more f (f b y) xs x
+use Rattle.rt_core.proofs.StepLaws.{made, brought_stays, plain_stays}
 
 pub good_empty : (limits : Limits) → IsGood (empty_world limits)
 good_empty limits = record {
-  led = record { limits = limits; steps = []; to = refl };
+  sound = sound_empty limits;
+  called = called_world limits [];
   plain = record {
     unfiltered = λ k d lt. absurd (omega arith);
     windows = refl;
     reached = λ k d lt. absurd (omega arith);
     shallow = λ k d lt. absurd (omega arith);
   };
-}
-
--- one more step leads on
-led_more : (w : World) (s : Step) → IsLed w → IsLed (step w s).0
-led_more w s led = record {
-  limits = led.limits;
-  steps = led.steps ++ s ∷ [];
-  to = fold_more (λ (v : World) (x : Step). (step v x).0) (empty_world led.limits) led.steps s ∙ ap (λ v. (step v s).0) led.to;
 }
 
 plain_next : (w : World) (s : Step) → IsTaken s → IsDue w s → IsPlain (next w s)
@@ -51,15 +42,37 @@ plain_next w (Step.Refused id why) t d = absurd t
 plain_next w (Step.Revoked tag why) t d = absurd t
 plain_next w (Step.CloseSeat seat) t d = absurd t
 
+-- what is brought stays
+still_brought : (w : World) (s : Step) → IsTaken s → IsDue w s → w.brought ≡ (next w s).brought
+still_brought w (Step.Write seat action) t d = sym (brought_stays w (Step.Write seat action) d refl refl)
+still_brought w (Step.OnDisconnect seat ending) t d = sym (brought_stays w (Step.OnDisconnect seat ending) d refl refl)
+still_brought w Step.Connected t d = sym (brought_stays w Step.Connected d refl refl)
+still_brought w Step.Disconnected t d = sym (brought_stays w Step.Disconnected d refl refl)
+still_brought w (Step.Listen seat query) t d = absurd t
+still_brought w (Step.Unlisten seat listener) t d = absurd t
+still_brought w (Step.Data tag path tree) t d = absurd t
+still_brought w (Step.DataMerge tag entries) t d = absurd t
+still_brought w (Step.Accepted id) t d = absurd t
+still_brought w (Step.Refused id why) t d = absurd t
+still_brought w (Step.Revoked tag why) t d = absurd t
+still_brought w (Step.CloseSeat seat) t d = absurd t
+
 -- a refused step changes nothing
 pub refused_step : (w : World) (s : Step) (e : CoreError) → refusal w s ≡ Some e → step w s ≡ (w, Err e)
 refused_step w s e r = λ i. step_by (r i) (is_stale w s) w s
 
+good_next : (w : World) (s : Step) → IsTaken s → IsDue w s → IsGood (next w s)
+good_next w s t d = record {
+  sound = sound_next w s d.good.sound;
+  called = subst IsCalled (still_brought w s t d) d.good.called;
+  plain = plain_next w s t d;
+}
+
 pub good_step : (w : World) (s : Step) → IsTaken s → IsGood w → IsGood (step w s).0
-good_step w s t g = record { led = led_more w s g.led; plain = at (refusal w s) refl }
+good_step w s t g = at (refusal w s) refl
   where
-    at : (o : Option CoreError) → refusal w s ≡ o → IsPlain (step w s).0
-    at (Some e) r = subst (λ (x : World × Answer). IsPlain x.0) (sym (refused_step w s e r)) g.plain
+    at : (o : Option CoreError) → refusal w s ≡ o → IsGood (step w s).0
+    at (Some e) r = subst (λ (x : World × Answer). IsGood x.0) (sym (refused_step w s e r)) g
     at None r =
         let d : IsDue w s = record { good = g; not_refused = r; not_stale = fresh_taken w s t } in
-        subst (λ (x : World × Answer). IsPlain x.0) (sym (made w s d)) (plain_next w s t d)
+        subst (λ (x : World × Answer). IsGood x.0) (sym (made w s d)) (good_next w s t d)

@@ -1,38 +1,30 @@
 -- What the code of a step makes is the next world, and its parts agree.
-use Rattle.std.proofs.Common.{◌≡◌, ℕ, ◌+◌, ◌<◌, Bool, true, false, cond, not, List, [], ◌∷◌, ◌++◌, map, length, refl, sym, ap, subst, ◌∙◌, append-nil, Option, Some, None}
-use Rattle.std.specs.Prelude.{◌==◌}
-use Rattle.std.specs.List.{All, Contains, filter, filter_map, find, fold}
-use Rattle.std.specs.Option.{option_map_or, option_to_list}
-use Rattle.std.proofs.lemmas.List.Elements.{All-cons}
+use Rattle.std.proofs.Common.{◌≡◌, ℕ, ◌+◌, Bool, true, false, cond, List, [], ◌∷◌, ◌++◌, map, refl, sym, ap, subst, ◌∙◌, append-nil, Option, Some, None}
+use Rattle.std.specs.List.{All}
 use Rattle.rt_query.specs.Supply.{form}
 use Rattle.rt_tree.specs.Assignments.{Assignment}
-use Rattle.rt_writes.specs.Writes as writes
-use Rattle.rt_writes.specs.Writes.{Write, without}
-use Rattle.rt_cache.specs.Brought.{Brought, push}
+use Rattle.rt_writes.specs.Writes.{Write}
+use Rattle.rt_cache.specs.Brought.{Brought}
 use Rattle.rt_cover.specs.Cover.{Registered, Tagged}
 use Rattle.rt_cover.specs.State.{Cover, shown, shown_with}
 use Rattle.rt_wire.specs.declared.client.ClientMessage.{ClientMessage}
 use Rattle.rt_wire.specs.declared.request.Action.{Action}
-use Rattle.rt_wire.specs.declared.request.Asked.{Asked}
 use Rattle.rt_wire.specs.declared.request.Asked.TheVariants.{Now, AtDisconnect}
 use Rattle.rt_wire.specs.declared.request.Ending.{Ending}
 use Rattle.rt_world.specs.declared.limits.Limits.{Limits}
-use Rattle.rt_world.specs.declared.report.Note.{Note}
 use Rattle.rt_world.specs.declared.request.Request.{Request}
 use Rattle.rt_world.specs.declared.step.Step.{Step}
-use Rattle.rt_world.specs.World.{Reason, World, Listener, registered, pending, entries_of, listen_of}
-use Rattle.rt_world.specs.Steps.{requests_after, pushed, brought_after, renewed}
-use Rattle.rt_world.specs.Messages.{listens, request_message, messages_of, next}
-use Rattle.rt_world.specs.Answers.{batch_notes, done_report, settled_note}
+use Rattle.rt_world.specs.World.{World, Listener, registered, pending, entries_of}
+use Rattle.rt_world.specs.Steps.{requests_after, brought_after, renewed}
+use Rattle.rt_world.specs.Messages.{listens, request_message, messages_of}
 use Rattle.rt_world.proofs.Listeners.{number-renewed, query-renewed}
-use Rattle.rt_world.proofs.PlainLaws.{brings}
-use Rattle.rt_world.proofs.WrittenLaws.{pending-more, pending-write, pending-without}
+use Rattle.rt_world.proofs.WrittenLaws.{pending-more, pending-write}
 use Rattle.rt_core.specs.declared.held.Held.{Held}
 use Rattle.rt_core.specs.declared.told.Told.{Told}
 use Rattle.rt_core.specs.inside.Due.{IsDue, IsNext}
 use Rattle.rt_core.specs.inside.Parts.{asking, do_meet, listens_shown, renewed_met, all_told}
 use Rattle.rt_core.specs.inside.StateView.{IsHeld, IsTied, listeners_of, world_of}
-use Rattle.rt_core.proofs.StepLaws.{sound_of, online, brought_stays, next_is, told_is}
+use Rattle.rt_core.proofs.StepLaws.{online, brought_stays, next_is, told_is}
 
 -- ---- the parts agree
 

@@ -1,5 +1,5 @@
 -- The refusals of the steps that a core takes.
-use Rattle.std.proofs.Common.{◌≡◌, Bool, true, false, ◌∷◌, [], refl, Option, None}
+use Rattle.std.proofs.Common.{◌≡◌, Bool, true, false, ◌∷◌, [], refl, Option}
 use Rattle.std.specs.Option.{option_or}
 use Rattle.rt_world.specs.declared.error.CoreError.{CoreError}
 use Rattle.rt_world.specs.declared.error.CoreError.TheVariants.{UnknownListener, TooManyListeners, TooManyRequests, Overlap, EmptyUpdate, TooDeep, BadPush, AlreadyConnected, NotConnected}

@@ -1,11 +1,11 @@
 -- What a step leaves of a world that steps led to.
-use Rattle.std.proofs.Common.{◌≡◌, ℕ, zero, suc, ◌+◌, ◌<◌, ◌==◌, Bool, true, false, cond, not, List, [], ◌∷◌, ◌++◌, map, length, refl, sym, ap, subst, ◌∙◌, arith, slice_index_or, Option, Some, None, Ok}
+use Rattle.std.proofs.Common.{◌≡◌, suc, ◌+◌, ◌==◌, Bool, true, false, cond, not, List, [], ◌∷◌, ◌++◌, map, length, refl, sym, ap, subst, ◌∙◌, arith, slice_index_or, Option, None, Ok}
 use Rattle.std.specs.List.{All, Contains, filter, filter_map, cons_option, list_any}
 use Rattle.std.specs.Cmp.{nat_eq_equiv}
 use Rattle.std.specs.Option.{option_map_or}
 use Rattle.std.proofs.lemmas.List.Elements.{All-contains, All-map}
 use Rattle.std.proofs.lemmas.List.Folds.{list_any_at}
-use Rattle.rt_query.specs.Queries.{Query, is_filtered}
+use Rattle.rt_query.specs.Queries.{is_filtered}
 use Rattle.rt_query.specs.laws.Select.{select-distinct}
 use Rattle.rt_view.proofs.TurnLaws.{changes-same}
 use Rattle.rt_view.specs.Changes.{changes}
@@ -13,27 +13,24 @@ use Rattle.rt_cache.specs.Brought.{Brought, base}
 use Rattle.rt_cache.specs.Recover.{reaches, recover}
 use Rattle.rt_cover.specs.Cover.{Tagged}
 use Rattle.rt_cover.specs.State.{beyond}
-use Rattle.rt_cover.specs.laws.KeepLaws.{Contains-map}
 use Rattle.rt_wire.specs.declared.client.ClientMessage.{ClientMessage}
 use Rattle.rt_writes.specs.Writes.{Write, IsShallow}
 use Rattle.rt_tree.specs.PathTree.{Path, PathTree}
-use Rattle.rt_world.specs.declared.report.Note.{Note}
 use Rattle.rt_world.specs.declared.step.Step.{Step}
-use Rattle.rt_world.specs.World.{World, Listener, empty_world, pending}
+use Rattle.rt_world.specs.World.{World, Listener, pending}
 use Rattle.rt_world.specs.Views.{view_of, seen_over}
-use Rattle.rt_world.specs.Steps.{asked_by, listeners_after, requests_after, forms_after, kept_after, started_by, pushed, brought_after, renewed, renewed_after, is_connected_after, listener_given, request_given, counted}
+use Rattle.rt_world.specs.Steps.{listeners_after, requests_after, forms_after, kept_after, started_by, pushed, brought_after, renewed, renewed_after, is_connected_after, listener_given, request_given, counted}
 use Rattle.rt_world.specs.Messages.{unrevoked, stopped_by, listens, unlistens, request_sent, messages_online, messages_of, outgoing_before, next}
-use Rattle.rt_world.specs.Answers.{Answer, step, step_by, batch_from, batch_note, view_before, batch_notes, done_report, world_after}
+use Rattle.rt_world.specs.Answers.{step, step_by, batch_from, batch_note, view_before, batch_notes, done_report}
 use Rattle.rt_world.specs.Headline.{view_by}
-use Rattle.rt_world.specs.Touched.{entries_by, IsInBoth}
+use Rattle.rt_world.specs.Touched.{entries_by}
 use Rattle.rt_world.specs.Plain.{IsPlain}
 use Rattle.rt_world.specs.Sound.{IsSound}
 use Rattle.rt_world.proofs.HeardLaws.{kept-same, started-same}
 use Rattle.rt_world.proofs.Listeners.{number-renewed, query-renewed, view_before-there}
-use Rattle.rt_world.proofs.NamedLaws.{others_keep_views}
+use Rattle.rt_world.proofs.NamedLaws.{unmet_stays}
 use Rattle.rt_world.proofs.PlainLaws.{recover_stays}
-use Rattle.rt_world.proofs.SoundLaws.{sound_empty, sound_run}
-use Rattle.rt_core.specs.inside.Due.{IsLed, IsDue}
+use Rattle.rt_core.specs.inside.Due.{IsDue}
 use Rattle.rt_core.specs.inside.Parts.{told, do_meet, renewed_met, told_met, all_told}
 
 -- ---- lists
@@ -73,12 +70,6 @@ beyond-self kept =
 
 -- ---- worlds
 
-pub sound_of : (w : World) → IsLed w → IsSound w
-sound_of w led = subst IsSound led.to (sound_run led.steps (empty_world led.limits) (sound_empty led.limits))
-
-others : (w : World) (s : Step) → IsLed w → (l m : Listener) → IsInBoth w (step w s).0 l m → do_meet (entries_by w s) l.query.path ≡ false → m ≡ l
-others w s led = subst (λ v. (l m : Listener) → IsInBoth v (step v s).0 l m → do_meet (entries_by v s) l.query.path ≡ false → m ≡ l) led.to (others_keep_views led.limits led.steps s)
-
 -- a listener whose view stays is told nothing
 still : (w : World) (l : Listener) → l.view ≡ view_by l.is_primed w l.query → batch_from l.view l ≡ []
 still w l e = ap (λ v. option_map_or (λ new. changes l.query.index v new) v []) e ∙ at l.is_primed
@@ -91,7 +82,7 @@ still w l e = ap (λ v. option_map_or (λ new. changes l.query.index v new) v []
 
 module _ (w : World) (s : Step) (d : IsDue w s) where
   pub sound : IsSound w
-  sound = sound_of w d.good.led
+  sound = d.good.sound
 
   pub made : step w s ≡ (next w s, Ok (done_report w s))
   made = λ i. step_by (d.not_refused i) (d.not_stale i) w s
@@ -104,10 +95,7 @@ module _ (w : World) (s : Step) (d : IsDue w s) where
 
   -- a listener whose path no entry meets stays as it is
   pub stays : (l : Listener) → Contains w.listeners l → Contains (listeners_after w s) l → do_meet (entries_by w s) l.query.path ≡ false → renewed (brought_after w s) (pending (requests_after w s)) l ≡ l
-  stays l m n e =
-      let f : Listener → Listener = renewed (brought_after w s) (pending (requests_after w s)) in
-      let after : Contains (step w s).0.listeners (f l) = subst (λ (x : World × Answer). Contains x.0.listeners (f l)) (sym made) (Contains-map f (listeners_after w s) n.0 l n.1 n.2) in
-      others w s d.good.led l (f l) (record { before = m; after = after; number = number-renewed (brought_after w s) (pending (requests_after w s)) l }) e
+  stays l m n e = unmet_stays w s d.good.sound d.good.called d.not_refused l m n e
 
   -- and is told nothing
   pub stays_told : (l : Listener) → Contains w.listeners l → renewed (brought_after w s) (pending (requests_after w s)) l ≡ l → told (brought_after w s) (pending (requests_after w s)) l ≡ None

@@ -1,7 +1,7 @@
 -- What a write that is due may be asked.
-use Rattle.std.proofs.Common.{◌≡◌, ℕ, ◌+◌, ◌<◌, ◌≤◌, Bool, true, false, List, [], ◌∷◌, length, arith, ltb-false, subst, Option, None}
+use Rattle.std.proofs.Common.{◌≡◌, ℕ, ◌+◌, ◌<◌, false, List, [], ◌∷◌, length, arith, ltb-false}
 use Rattle.std.specs.List.{All, list_any}
-use Rattle.std.proofs.lemmas.List.Elements.{All-cons, All-head, All-tail, All-nil}
+use Rattle.std.proofs.lemmas.List.Elements.{All-cons, All-head, All-tail}
 use Rattle.rt_tree.specs.Assignments.{Assignment}
 use Rattle.rt_tree.specs.PathTree.{levels}
 use Rattle.rt_writes.specs.Writes.{Write, IsShallow}

@@ -3,24 +3,20 @@ use Rattle.std.specs.Prelude.{◌≡◌, Bool, false, List, Option, None}
 use Rattle.std.specs.List.{find}
 use Rattle.std.specs.Option.{option_map}
 use Rattle.rt_world.specs.declared.error.CoreError.{CoreError}
-use Rattle.rt_world.specs.declared.limits.Limits.{Limits}
 use Rattle.rt_world.specs.declared.step.Step.{Step}
-use Rattle.rt_world.specs.World.{World, empty_world}
+use Rattle.rt_world.specs.World.{World}
 use Rattle.rt_world.specs.Messages.{next}
 use Rattle.rt_world.specs.Refusals.{refusal, is_stale}
-use Rattle.rt_world.specs.Answers.{done_report, world_after}
+use Rattle.rt_world.specs.Answers.{done_report}
+use Rattle.rt_world.specs.Called.{IsCalled}
 use Rattle.rt_world.specs.Plain.{IsPlain}
+use Rattle.rt_world.specs.Sound.{IsSound}
 use Rattle.rt_core.specs.declared.told.Told.{Told}
 
--- steps lead to the world from an empty one
-pub record IsLed (w : World) : Type 0 where
-  pub limits : Limits
-  pub steps : List Step
-  pub to : world_after (empty_world limits) steps ≡ w
-
--- so they do, and all listens are plain
+-- what holds between steps, and all listens are plain
 pub record IsGood (w : World) : Type 0 where
-  pub led : IsLed w
+  pub sound : IsSound w
+  pub called : IsCalled w.brought
   pub plain : IsPlain w
 
 -- the step is neither refused nor stale

@@ -1,4 +1,4 @@
-use Rattle.std.proofs.Common.{◌≡◌, ◌∙◌, Some, None, sym, ap}
+use Rattle.std.proofs.Common.{◌∙◌, sym, ap}
 use Rattle.std.specs.Option.{option_or}
 use Rattle.rt_core.proofs.RefusalLaws.{connection_first, refusal_taken}
 use Rattle.rt_core.proofs.state.State.refusal.Goals as goal
