@@ -1,4 +1,5 @@
 pub mod Calls
+pub mod Halving
 pub mod Handing
 pub mod Places
 pub mod Rising

@@ -16,7 +16,7 @@ pub place_last : (test : ℕ → Bool) (ns : List ℕ) → ((k d : ℕ) → k < 
 place_last test [] h = refl
 place_last test (n ∷ ns) h = sym (position_or_len_is test (n ∷ ns) (length (n ∷ ns)) n (omega arith) (λ k lt. h k n lt) (λ lt. absurd (omega arith)))
 
-next : (p : ℕ) → suc p ≡ 1 + p
+pub next : (p : ℕ) → suc p ≡ 1 + p
 next p = omega arith
 
 -- a request is put in its place, unless it stands there

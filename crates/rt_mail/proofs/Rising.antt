@@ -17,31 +17,31 @@ use Rattle.rt_mail.proofs.Places.{numbers, numbers-without, numbers-played}
 
 -- ---- numbers
 
-same_number : (m n : ℕ) → (m == n) ≡ true → m ≡ n
+pub same_number : (m n : ℕ) → (m == n) ≡ true → m ≡ n
 same_number m n e = eqb→eq m n (subst (λ b. T b) (sym e) tt)
 
 apart : (m n : ℕ) → (m == n) ≡ false → m ≡ n → ⊥
 apart m n e same = true≢false (sym (nat_eq_equiv.refl n) ∙ ap (λ x. x == n) (sym same) ∙ e)
 
-other_number : (m n : ℕ) → (m ≡ n → ⊥) → (m == n) ≡ false
+pub other_number : (m n : ℕ) → (m ≡ n → ⊥) → (m == n) ≡ false
 other_number m n h = elim (m == n) as (λ b. (m == n) ≡ b → b ≡ false) [
   | true ↦ λ e. absurd (h (same_number m n e))
   | false ↦ λ e. refl
 ] refl
 
-at_most : (m n : ℕ) → nat_le m n ≡ true → m ≤ n
+pub at_most : (m n : ℕ) → nat_le m n ≡ true → m ≤ n
 at_most m n e = grind (arith, nat_tests)
 
-beyond : (m n : ℕ) → nat_le m n ≡ false → n < m
+pub beyond : (m n : ℕ) → nat_le m n ≡ false → n < m
 beyond m n e = grind (arith, nat_tests)
 
 -- at most, and another one
-below_other : (m n : ℕ) → nat_le m n ≡ true → (n == m) ≡ false → m < n
+pub below_other : (m n : ℕ) → nat_le m n ≡ true → (n == m) ≡ false → m < n
 below_other m n e o = let h = apart n m o in let l = at_most m n e in grind (arith, h, l)
 
 -- ---- rising
 
-above_lower : (m n : ℕ) (ns : List ℕ) → m < n → AreAbove n ns → AreAbove m ns
+pub above_lower : (m n : ℕ) (ns : List ℕ) → m < n → AreAbove n ns → AreAbove m ns
 above_lower m n [] lt h = tt
 above_lower m n (k ∷ ns) lt h = (omega (arith, lt, h.0), above_lower m n ns lt h.1)
 
@@ -51,7 +51,7 @@ above_filter p m (k ∷ ns) h =
     let rest = above_filter p m ns h.1 in
     elim (p k) as (λ b. AreAbove m (cond b (k ∷ filter p ns) (filter p ns))) [ true ↦ (h.0, rest) | false ↦ rest ]
 
-rise_filter : (p : ℕ → Bool) (ns : List ℕ) → Rise ns → Rise (filter p ns)
+pub rise_filter : (p : ℕ → Bool) (ns : List ℕ) → Rise ns → Rise (filter p ns)
 rise_filter p [] h = tt
 rise_filter p (k ∷ ns) h =
     let rest = rise_filter p ns h.1 in
@@ -67,7 +67,7 @@ above_with m n (k ∷ ns) lt h =
       | false ↦ (h.0, rest)
     ]
 
-rise_with : (n : ℕ) (ns : List ℕ) → Rise ns → Rise (with_request n ns)
+pub rise_with : (n : ℕ) (ns : List ℕ) → Rise ns → Rise (with_request n ns)
 rise_with n [] h = (tt, tt)
 rise_with n (k ∷ ns) h =
     let rest = rise_with n ns h.1 in
@@ -79,7 +79,7 @@ rise_with n (k ∷ ns) h =
       | false ↦ λ e. (above_with k n ns (beyond n k e) h.0, rest)
     ] refl
 
-numbers-with : (n : ℕ) (ls : List (ℕ × Children)) → numbers (with_listener n ls) ≡ with_request n (numbers ls)
+pub numbers-with : (n : ℕ) (ls : List (ℕ × Children)) → numbers (with_listener n ls) ≡ with_request n (numbers ls)
 numbers-with n [] = refl
 numbers-with n (l ∷ ls) =
     let rest = numbers-with n ls in
@@ -93,7 +93,7 @@ numbers-with n (l ∷ ls) =
 abbrev Known-rises : Known → Type 0
 Known-rises m = Rise (numbers m.listeners) × Rise m.requests
 
-rise_without : (n : ℕ) (ls : List (ℕ × Children)) → Rise (numbers ls) → Rise (numbers (without_listener n ls))
+pub rise_without : (n : ℕ) (ls : List (ℕ × Children)) → Rise (numbers ls) → Rise (numbers (without_listener n ls))
 rise_without n ls h = subst Rise (sym (numbers-without n ls)) (rise_filter (λ r. not (r == n)) (numbers ls) h)
 
 taken_rises : (m : Known) (i : Item) → Known-rises m → Known-rises (taken m i)

@@ -78,7 +78,3 @@ abbrev pub Refuses : Line → Ring → MailError → Line → Ring → Type 0
 Refuses old old_ring Failed new new_ring =
     (old.mirror ≡ None) × (new ≡ old) × (new_ring ≡ old_ring)
 Refuses old old_ring NoMemory new new_ring = (n : ℕ) × GivesUp n old old_ring new new_ring
-
--- all that is known once the waiting items are taken too
-abbrev pub foreseen : Line → Option Known
-foreseen lane = option_map (λ m. known_of m lane.waiting) lane.mirror

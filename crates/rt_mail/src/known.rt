@@ -1,11 +1,12 @@
 // What is known of a seat by the items that were taken.
-ghost use Rattle.std.specs.Prelude.{◌≡◌, ◌≤◌, IfOk, OnOk, length, map};
+ghost use Rattle.std.specs.Prelude.{◌≡◌, ◌≤◌, ◌<◌, ℕ, IfOk, OnOk, length, map, slice_set, slice_index_or};
 ghost use Rattle.std.specs.List.{find, insert, position_or_len};
 ghost use Rattle.std.specs.Option.{option_map};
 ghost use Rattle.std.specs.Prelude.{nat_le, ◌==◌, []};
 ghost use Rattle.rt_view.specs.Changes.{replay};
-ghost use Rattle.rt_mail.specs.inside.Places.{does_stand};
-ghost use Rattle.rt_mail.specs.Mailbox.{with_request, without_request, without_listener, played};
+ghost use Rattle.rt_mail.specs.inside.Places.{does_stand, after_changes, numbers_of};
+ghost use Rattle.rt_mail.specs.laws.Replays.{Rise};
+ghost use Rattle.rt_mail.specs.Mailbox.{Children, with_request, without_request, without_listener};
 
 use crate::item::Item;
 use crate::receipt::Receipt;
@@ -45,28 +46,22 @@ impl Heard {
         }
     }
 
-    // The children after the changes, where they are this listener's.
-    fn play(&mut self, alloc: Global, listener: u64, changes: &[Change]) -> Result<(), AllocError>
-        ensures { OnOk result (self.new ≡ played listener changes.now self.old) }
+    // The children after the changes.
+    fn play(&mut self, alloc: Global, changes: &[Change]) -> Result<(), AllocError>
+        ensures { OnOk result (self.new ≡ after_changes changes.now self.old) }
     {
-        if self.listener == listener {
-            apply_changes(alloc, &mut self.children, changes)?;
-        }
+        apply_changes(alloc, &mut self.children, changes)?;
         Ok(())
     }
 }
 
-// The first place at which no lesser number stands.
+// The first place at which no lesser number stands, by halving.
 fn place_of(numbers: &[u64], number: u64) -> usize
+    requires { Rise numbers.now }
     ensures first { result ≡ position_or_len (nat_le number) numbers.now }
     ensures within { result ≤ length numbers.now }
 {
-    for (place, other) in numbers.iter().enumerate() {
-        if *other >= number {
-            return place;
-        }
-    }
-    numbers.len()
+    numbers.partition_point(|other| *other < number)
 }
 
 // Whether the number stands at the place.
@@ -79,8 +74,9 @@ fn stands_at(numbers: &[u64], place: usize, number: u64) -> bool
     }
 }
 
-// The number among the others, which stand in order; it may be there.
+// The number among the others; it may be there.
 fn insert(numbers: &mut Vec<u64>, number: u64) -> Result<(), AllocError>
+    requires { Rise numbers.old.items }
     ensures { OnOk result (numbers.new.items ≡ with_request number numbers.old.items) }
 {
     let place = place_of(numbers.as_slice(), number);
@@ -97,32 +93,38 @@ fn remove(numbers: &mut Vec<u64>, number: u64)
     numbers.retain(|other| *other != number);
 }
 
-// Each listener after the changes of one.
-fn play_each(
+// The listeners after the changes of the one at the place.
+fn play_at(
     alloc: Global,
     heard: &mut Vec<Heard>,
-    listener: u64,
+    place: usize,
     changes: &[Change],
 ) -> Result<(), AllocError>
-    ensures { OnOk result (heard.new.items ≡ map (played listener changes.now) heard.old.items) }
+    requires { place < length heard.old.items }
+    ensures { OnOk result ((one : ℕ × Children) → heard.new.items ≡ slice_set heard.old.items place
+        (after_changes changes.now (slice_index_or heard.old.items place one))) }
 {
-    for one in heard.iter_mut() {
-        one.play(alloc, listener, changes)?;
-    }
+    heard[place].play(alloc, changes)?;
     Ok(())
 }
 
-// The children of a listener.
-fn children_of(heard: &[Heard], listener: u64) -> Option<&BTreeMap<Key, Tree>>
+// The children of a listener, of which the numbers are beside.
+fn children_of<'a>(
+    numbers: &[u64],
+    heard: &'a [Heard],
+    listener: u64,
+) -> Option<&'a BTreeMap<Key, Tree>>
+    requires rise { Rise numbers.now }
+    requires beside { numbers.now ≡ numbers_of heard.now }
     ensures { option_map (λ c. c.now.entries) result
         ≡ option_map (λ l. l.1) (find (λ l. l.0 == listener) heard.now) }
 {
-    for one in heard {
-        if one.listener == listener {
-            return Some(&one.children);
-        }
+    let place = place_of(numbers, listener);
+    if !stands_at(numbers, place, listener) {
+        return None;
     }
-    None
+    let one = &heard[place];
+    Some(&one.children)
 }
 
 // A listener without children at the place.
@@ -156,17 +158,17 @@ pub(crate) struct Known {
 
 impl Model for Known {
     ghost use Rattle.rt_mail.specs.Mailbox.{Known};
-    ghost use Rattle.std.specs.Prelude.{◌≡◌, map};
+    ghost use Rattle.rt_mail.specs.inside.Places.{AreInOrder};
 
     ghost Value = { Known };
 
     ghost view = { λ a. record { listeners = a.heard.items; requests = a.requests.items } };
 
-    ghost invariant = { λ a. a.numbers.items ≡ map (λ l. l.0) a.heard.items };
+    ghost invariant = { λ a. AreInOrder a.heard.items a.numbers.items a.requests.items };
 }
 
 impl Known {
-    ghost use Rattle.rt_mail.specs.Mailbox.{nothing_known, with_listener, signed, taken, children_of};
+    ghost use Rattle.rt_mail.specs.Mailbox.{nothing_known, with_listener, played, signed, taken, children_of};
 
     // Nothing is known.
     pub(crate) fn new(alloc: Global) -> Known
@@ -197,7 +199,7 @@ impl Known {
     pub(crate) fn children(&self, listener: u64) -> Option<&BTreeMap<Key, Tree>>
         ensures { option_map (λ c. c.now.entries) result ≡ children_of self.now listener }
     {
-        children_of(self.heard.as_slice(), listener)
+        children_of(self.numbers.as_slice(), self.heard.as_slice(), listener)
     }
 
     // A new listener, if it is none.
@@ -251,12 +253,11 @@ impl Known {
     {
         let alloc = *self.numbers.allocator();
         let mut known = self;
-        play_each(
-            alloc,
-            &mut known.heard,
-            batch.listener,
-            batch.changes.as_slice(),
-        )?;
+        let place = place_of(known.numbers.as_slice(), batch.listener);
+        if !stands_at(known.numbers.as_slice(), place, batch.listener) {
+            return Ok(known);
+        }
+        play_at(alloc, &mut known.heard, place, batch.changes.as_slice())?;
         Ok(known)
     }
 
