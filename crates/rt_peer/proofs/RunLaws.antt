@@ -1,29 +1,27 @@
 -- What any calls leave in the tree.
-use Rattle.std.proofs.Common.{◌≡◌, ℕ, ◌==◌, ◌&&◌, Bool, true, false, cond, ◌||◌, List, [], ◌∷◌, ◌++◌}
+use Rattle.std.proofs.Common.{◌≡◌, ℕ, ◌==◌, ◌&&◌, Bool, true, false, ◌||◌, List, [], ◌∷◌, ◌++◌}
 use Rattle.std.proofs.Common.{Option, Some, None, codes, refl, sym, ap, ◌∙◌, map, if◌then◌else◌}
 use Rattle.std.proofs.Common.{arith}
-use Rattle.std.specs.List.{filter, flat_map, fold, list_any}
+use Rattle.std.specs.List.{filter, flat_map, list_any}
 use Rattle.std.proofs.lemmas.Bool.Decides.{nat_tests}
 use Rattle.std.proofs.lemmas.List.Folds.{list_any-append}
 use Rattle.rt_tree.specs.PathTree.{PathTree, put}
 use Rattle.rt_tree.specs.Assignments.{Assignment, is_at_or_above}
 use Rattle.rt_query.specs.Queries.{is_filtered}
-use Rattle.rt_wire.specs.declared.request.Asked.{Asked}
 use Rattle.rt_wire.specs.declared.request.Asked.TheVariants.{Now, AtDisconnect}
 use Rattle.rt_wire.specs.declared.request.Ending.TheVariants.{Run, Cancel}
 use Rattle.rt_wire.specs.declared.client.ClientMessage.{ClientMessage}
 use Rattle.rt_wire.specs.declared.client.ClientMessage.TheVariants.{Listen, Unlisten, Ask}
-use Rattle.rt_wire.specs.declared.server.ServerMessage.{ServerMessage}
 use Rattle.rt_wire.specs.declared.server.ServerMessage.TheVariants.{Data, Accepted, Refused, Revoked}
 use Rattle.rt_peer.specs.declared.sent.Sent.{Sent}
 use Rattle.rt_peer.specs.Peers as peers
 use Rattle.rt_peer.specs.Peers.{Peer, Deferred, is_known, is_denied}
-use Rattle.rt_peer.specs.Pushes.{written, tree_after, seen, is_changed, push_of, pushes, parts_below}
+use Rattle.rt_peer.specs.Pushes.{written, tree_after, seen, is_changed, push_of, parts_below}
 use Rattle.rt_peer.specs.Pushes.{parts_message}
-use Rattle.rt_peer.specs.Calls.{Outcome, one, answered, listened, kept, asked, actions_of, entries_of}
+use Rattle.rt_peer.specs.Calls.{Outcome, one, answered, kept, actions_of, entries_of}
 use Rattle.rt_peer.specs.Calls.{disconnected, refusal, unless_refused, wrote, deferred, dropped}
 use Rattle.rt_peer.specs.Runs.{Call, Connect, Message, Disconnect, outcome, after_all, is_refused}
-use Rattle.rt_peer.specs.Runs.{says_no, writes, writes_all, written_by, message_writes}
+use Rattle.rt_peer.specs.Runs.{says_no, writes, writes_all, message_writes}
 
 -- ---- writes one after another
 

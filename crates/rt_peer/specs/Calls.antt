@@ -1,5 +1,5 @@
 -- What each call of a peer leaves, and what it sends.
-use Rattle.std.specs.Prelude.{ℕ, Bool, true, false, not, ◌==◌, ◌&&◌, ◌||◌, if◌then◌else◌, List, [], ◌∷◌, ◌++◌, map}
+use Rattle.std.specs.Prelude.{ℕ, Bool, true, false, not, ◌==◌, ◌||◌, if◌then◌else◌, List, [], ◌∷◌, ◌++◌, map}
 use Rattle.std.specs.Prelude.{Option, Some, None, codes, nat_lt}
 use Rattle.std.specs.List.{filter, list_any}
 use Rattle.rt_tree.specs.PathTree.{Path}
@@ -17,7 +17,7 @@ use Rattle.rt_wire.specs.declared.server.ServerMessage.TheVariants.{Data, Accept
 use Rattle.rt_peer.specs.declared.error.PeerError.{PeerError}
 use Rattle.rt_peer.specs.declared.error.PeerError.TheVariants.{Failed, UnknownConnection}
 use Rattle.rt_peer.specs.declared.sent.Sent.{Sent}
-use Rattle.rt_peer.specs.Peers.{Listen, Deferred, Peer, in_place, is_known, least_free, is_denied}
+use Rattle.rt_peer.specs.Peers.{Deferred, Peer, in_place, is_known, least_free, is_denied}
 use Rattle.rt_peer.specs.Peers.{stands_too_deep, is_before, runs_before, is_at}
 use Rattle.rt_peer.specs.Pushes.{written, seen, pushes, tree_after, pushes_after}
 

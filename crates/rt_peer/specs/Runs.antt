@@ -1,5 +1,5 @@
 -- Runs of calls: what a peer is after any list of them, and what it sends on the way.
-use Rattle.std.specs.Prelude.{ℕ, Bool, true, false, not, ◌==◌, ◌&&◌, if◌then◌else◌, List, [], ◌∷◌}
+use Rattle.std.specs.Prelude.{ℕ, Bool, false, ◌==◌, ◌&&◌, if◌then◌else◌, List, [], ◌∷◌}
 use Rattle.std.specs.Prelude.{◌++◌}
 use Rattle.std.specs.List.{flat_map, fold, list_any}
 use Rattle.rt_tree.specs.Assignments.{Assignment}

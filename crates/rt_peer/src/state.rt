@@ -1,16 +1,15 @@
 // What a peer holds.
-ghost use Rattle.std.specs.Prelude.{◌≡◌, ◌==◌, ◌++◌, ◌<◌, ◌≤◌, ℕ, true, false, not, codes, IfOk, OnOk};
-ghost use Rattle.std.specs.Prelude.{None};
-ghost use Rattle.std.specs.List.{All, filter, list_any};
+ghost use Rattle.std.specs.Prelude.{◌≡◌, ◌++◌, ◌<◌, ◌≤◌, ℕ, true, false, IfOk, OnOk};
+ghost use Rattle.std.specs.List.{All, list_any};
 ghost use Rattle.std.specs.Option.{option_copied};
 ghost use Rattle.rt_writes.specs.Writes.{IsShallow};
 ghost use Rattle.rt_wire.specs.declared.server.ServerMessage.TheVariants as ServerMessage;
-ghost use Rattle.rt_peer.specs.Peers.{is_at, is_denied, is_known, least_free, new_peer};
+ghost use Rattle.rt_peer.specs.Peers.{is_denied, is_known, least_free, new_peer};
 ghost use Rattle.rt_peer.specs.Peers.{stands_too_deep};
 ghost use Rattle.rt_peer.specs.Pushes.{pushes, pushes_after, tree_after, written};
-ghost use Rattle.rt_peer.specs.Calls.{answered, asked as outcome, cancelled, connected, deferred, disconnected};
-ghost use Rattle.rt_peer.specs.Calls.{actions_of, ended, entries_of, is_bad, kept, listened, one};
-ghost use Rattle.rt_peer.specs.Calls.{refusal, unless_refused, unlistened, wrote};
+ghost use Rattle.rt_peer.specs.Calls.{actions_of, answered, asked as outcome, cancelled, connected};
+ghost use Rattle.rt_peer.specs.Calls.{deferred, disconnected, ended, entries_of, is_bad, kept, listened};
+ghost use Rattle.rt_peer.specs.Calls.{one, refusal, unlistened, wrote};
 ghost use Rattle.rt_wire.specs.declared.request.Asked.TheVariants as Asked;
 ghost use Rattle.rt_wire.specs.declared.request.Ending.TheVariants as Ending;
 

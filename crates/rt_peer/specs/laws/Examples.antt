@@ -1,5 +1,5 @@
 -- Outside examples, which the prover computes: what two connections of a peer do and are sent.
-use Rattle.std.specs.Prelude.{◌≡◌, ◌≢◌, ℕ, List, [], ◌∷◌, ◌++◌, take, pos, Some, None, codes}
+use Rattle.std.specs.Prelude.{◌≡◌, ◌≢◌, ℕ, List, [], ◌∷◌, take, pos, Some, None, codes}
 use Rattle.rt_tree.specs.Leaf.{number}
 use Rattle.rt_tree.specs.Path.{path_keys}
 use Rattle.rt_tree.specs.PathTree.{Path, PathTree, leaf_at, null, of_leaf, object}

@@ -1,7 +1,7 @@
-use Rattle.std.proofs.Common.{◌≡◌, ℕ, List, nat_lt, false, sym, ap, subst, ◌∙◌, arith}
+use Rattle.std.proofs.Common.{◌≡◌, ℕ, List, nat_lt, sym, ap, subst, ◌∙◌}
 use Rattle.rt_peer.specs.Peers.{in_place, is_known, least_free}
 use Rattle.rt_peer.specs.inside.Rising.{RisesFrom}
-use Rattle.rt_peer.proofs.Numbers.{free_from, free_from-fold, IsLeastFree, least_free_from, rises-in_place}
+use Rattle.rt_peer.proofs.Numbers.{free_from-fold, IsLeastFree, least_free_from, rises-in_place}
 use Rattle.rt_peer.proofs.connections.Connections.add.Goals as goal
 
 -- what is known of the number
