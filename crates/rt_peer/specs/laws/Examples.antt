@@ -1,0 +1,99 @@
+-- Outside examples, which the prover computes: what two connections of a peer do and are sent.
+use Rattle.std.specs.Prelude.{◌≡◌, ◌≢◌, ℕ, List, [], ◌∷◌, take, pos, Some, None, codes}
+use Rattle.rt_tree.specs.Leaf.{number}
+use Rattle.rt_tree.specs.Path.{path_keys}
+use Rattle.rt_tree.specs.PathTree.{Path, PathTree, leaf_at, null, of_leaf, object}
+use Rattle.rt_query.specs.Queries.{plain}
+use Rattle.rt_wire.specs.declared.request.Action.TheVariants.{Put}
+use Rattle.rt_wire.specs.declared.request.Ending.TheVariants.{Run}
+use Rattle.rt_wire.specs.declared.request.Asked.TheVariants.{Now, AtDisconnect}
+use Rattle.rt_wire.specs.declared.client.ClientMessage.TheVariants.{Listen, Ask}
+use Rattle.rt_wire.specs.declared.server.ServerMessage.{ServerMessage}
+use Rattle.rt_wire.specs.declared.server.ServerMessage.TheVariants.{Data, Accepted, Refused, Revoked}
+use Rattle.rt_peer.specs.declared.sent.Sent.{Sent}
+use Rattle.rt_peer.specs.Peers.{Peer, new_peer}
+use Rattle.rt_peer.specs.Runs.{Call, Connect, Message, Disconnect, after_all, sent_all}
+
+-- ---- short spellings
+
+abbrev pub num : ℕ → PathTree
+num n = of_leaf (number (pos n))
+
+-- an object of one child
+abbrev pub only : List ℕ → PathTree → PathTree
+only k t = object ((k, t) ∷ [])
+
+abbrev pub at : List ℕ → Path
+at p = path_keys p
+
+abbrev pub to : ℕ → ServerMessage → Sent
+to n message = record { to = n; message = message }
+
+-- ---- a peer with a denied path, one connection that listens and one that writes
+
+abbrev pub begun : Peer
+begun = new_peer (only (codes "a") (only (codes "x") (num 1))) (at (codes "/s") ∷ [])
+
+abbrev pub row : List Call
+row =
+    Connect ∷ Connect
+    ∷ Message 1 (Listen 1 (plain (at (codes "/a"))))
+    ∷ Message 2 (Listen 1 (plain (at (codes "/s"))))
+    ∷ Message 2 (Ask 1 (AtDisconnect (Run (Put (at (codes "/a/y")) (num 2)))))
+    ∷ Message 2 (Ask 2 (Now (Put (at (codes "/a/x")) null)))
+    ∷ Message 2 (Ask 3 (Now (Put (at (codes "/")) (num 1))))
+    ∷ Disconnect 2
+    ∷ []
+
+-- the denied path is revoked and not written; the listener is told what is written, before the writer
+-- has its answer, and what is done when the writer is gone
+abbrev pub RowIsSent : Type 0
+RowIsSent =
+    sent_all begun row
+    ≡ to 1 (Data 1 (at (codes "/a")) (only (codes "x") (num 1)))
+    ∷ to 2 (Revoked 1 (codes "denied"))
+    ∷ to 2 (Accepted 1)
+    ∷ to 1 (Data 1 (at (codes "/a/x")) null)
+    ∷ to 2 (Accepted 2)
+    ∷ to 2 (Refused 3 (codes "denied"))
+    ∷ to 1 (Data 1 (at (codes "/a/y")) (num 2))
+    ∷ []
+
+abbrev pub RowLeaves : Type 0
+RowLeaves =
+    ((after_all begun row).tree ≡ only (codes "a") (only (codes "y") (num 2)))
+    × ((after_all begun row).connections ≡ 1 ∷ [])
+
+-- ---- what does not happen
+
+-- nothing is sent, or what was accepted is not done: the write, and the action at the end
+abbrev pub RowDoesSomething : Type 0
+RowDoesSomething =
+    (sent_all begun row ≢ [])
+    × (leaf_at (after_all begun row).tree (at (codes "/a/x")) ≢ Some (number (pos 1)))
+    × (leaf_at (after_all begun row).tree (at (codes "/a/y")) ≢ None)
+
+-- the refused write is made, or the action is run before the connection ends
+abbrev pub RowDoesNoMore : Type 0
+RowDoesNoMore =
+    (leaf_at (after_all begun row).tree (at (codes "/")) ≢ Some (number (pos 1)))
+    × (leaf_at (after_all begun (take 7 row)).tree (at (codes "/a/y")) ≢ Some (number (pos 2)))
+
+-- the right thing told to the wrong one
+abbrev pub WriterIsNotTold : Type 0
+WriterIsNotTold =
+    sent_all begun (Connect ∷ Connect ∷ Message 1 (Listen 1 (plain (at (codes "/a"))))
+    ∷ Message 2 (Ask 1 (Now (Put (at (codes "/a/x")) (num 2)))) ∷ [])
+    ≢ to 1 (Data 1 (at (codes "/a")) (only (codes "x") (num 1)))
+    ∷ to 2 (Data 1 (at (codes "/a/x")) (num 2))
+    ∷ to 2 (Accepted 1)
+    ∷ []
+
+-- a connection that has ended is told nothing, and its number is given again
+abbrev pub NumberIsFreeAgain : Type 0
+NumberIsFreeAgain =
+    let calls = Connect ∷ Message 1 (Listen 1 (plain (at (codes "/a")))) ∷ Connect ∷ Disconnect 1
+    ∷ Message 2 (Ask 1 (Now (Put (at (codes "/a/x")) (num 2)))) ∷ Connect ∷ [] in
+    (sent_all begun calls
+    ≡ to 1 (Data 1 (at (codes "/a")) (only (codes "x") (num 1))) ∷ to 2 (Accepted 1) ∷ [])
+    × ((after_all begun calls).connections ≡ 1 ∷ 2 ∷ [])

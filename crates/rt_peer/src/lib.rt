@@ -1,0 +1,30 @@
+//! The peer: a small server of one tree, for tests and demonstrations of the client.
+//!
+//! ```text
+//! let mut peer = Peer::new(Tree::null(), Vec::new(alloc));
+//! let connection = peer.connect()?;                    // 1
+//! let message = ClientMessage::read(alloc, "{\"k\":\"listen\",\"path\":\"/a\",\"tag\":1}")?;
+//! peer.message(connection, message)?                   // to 1: data of tag 1 at /a
+//! peer.disconnect(connection)?                         // what its actions change, to the others
+//! ```
+//!
+//! A contract sees a peer as what it holds (`specs/Peers.antt`), none once it has lacked memory.
+#![tactic(auto)]
+
+mod connections;
+mod deferred;
+mod error;
+mod examples;
+mod laws;
+mod listen;
+mod peer;
+mod pushes;
+mod sent;
+mod shown;
+mod state;
+
+pub use error::PeerError;
+pub use examples::{run_examples, sent_examples};
+pub use laws::run_law;
+pub use peer::Peer;
+pub use sent::Sent;

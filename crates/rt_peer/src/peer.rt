@@ -1,0 +1,174 @@
+// The peer.
+ghost use Rattle.std.specs.Prelude.{◌≡◌, ◌<◌, ◌≤◌, ◌⊎◌, ◌↔◌, ℕ, true, false, IfOk, IfErr, IfSome};
+ghost use Rattle.std.specs.Prelude.{OnErr, Some, None, Ok, Err};
+ghost use Rattle.std.specs.Result.{result_err};
+ghost use Rattle.rt_peer.specs.Peers.{is_known, least_free, new_peer};
+ghost use Rattle.rt_peer.specs.Calls.{answered, connected, disconnected, fault};
+
+use crate::error::PeerError;
+use crate::sent::Sent;
+use crate::state::State;
+use rt_tree::{Path, Tree};
+use rt_wire::ClientMessage;
+use std::marker::Model;
+
+/// A server of one tree: it keeps the listens of its connections, takes their writes, and tells each
+/// listen what changes.
+///
+/// A contract sees what it holds; none once it has lacked memory.
+#[derive(Drop)]
+pub struct Peer {
+    state: State,
+    has_failed: bool,
+}
+
+impl Model for Peer {
+    ghost use Rattle.std.specs.Prelude.{Option, Some, None, if◌then◌else◌};
+    ghost use Rattle.rt_peer.specs.Peers.{Peer};
+
+    ghost Value = { Option Peer };
+
+    ghost view = { λ a. if a.has_failed then None else Some a.state };
+}
+
+impl Peer {
+    /// A peer of the tree, with no connection. A path is denied where one of the denied ones is a
+    /// prefix of it, or it is a prefix of one of them: it can't be listened to, nor written.
+    ///
+    /// Takes no memory.
+    pub fn new(tree: Tree, denied: Vec<Path>) -> Peer
+        ensures { result ≡ Some (new_peer tree denied.items) }
+    {
+        Peer {
+            state: State::new(tree, denied),
+            has_failed: false,
+        }
+    }
+
+    /// The tree as it is. Of a peer that has lacked memory it may hold a part of a write.
+    pub fn tree(&self) -> &Tree
+        ensures { IfSome self.now (λ p. result.now ≡ p.tree) }
+    {
+        self.state.tree()
+    }
+
+    /// Begins a connection, with the least number from 1 that no known connection has.
+    ///
+    /// # Errors
+    ///
+    /// `Failed` where the peer has lacked memory before; else `NoMemory`, and `Failed` from then on.
+    pub fn connect(&mut self) -> Result<u64, PeerError>
+        ensures number { IfOk result (λ n. IfSome self.old (λ p. n ≡ least_free p.connections)) }
+        ensures fresh { IfOk result
+            (λ n. IfSome self.old (λ p. is_known p.connections n ≡ false)) }
+        ensures least { IfOk result (λ m. IfSome self.old
+            (λ p. (n : ℕ) → 1 ≤ n → n < m → is_known p.connections n ≡ true)) }
+        ensures connected { IfOk result (λ _. IfSome self.old (λ p. self.new ≡ Some (connected p))) }
+        ensures failed { (result ≡ Err PeerError.Failed) ↔ (self.old ≡ None) }
+        ensures fault { IfErr result (λ e. (e ≡ PeerError.Failed) ⊎ (e ≡ PeerError.NoMemory)) }
+        ensures gives_up { OnErr result (self.new ≡ None) }
+    {
+        if self.has_failed {
+            return Err(PeerError::Failed);
+        }
+        match self.state.connect() {
+            Ok(number) => Ok(number),
+            Err(_) => {
+                self.has_failed = true;
+                Err(PeerError::NoMemory)
+            }
+        }
+    }
+
+    // Whether a call on the connection is refused before memory is looked for.
+    fn check(&self, connection: u64) -> Result<(), PeerError>
+        ensures { result_err result ≡ fault self.now connection }
+    {
+        if self.has_failed {
+            return Err(PeerError::Failed);
+        }
+        if !self.state.knows(connection) {
+            return Err(PeerError::UnknownConnection);
+        }
+        Ok(())
+    }
+
+    // Takes a message of the connection.
+    fn answer(&mut self, connection: u64, message: &ClientMessage) -> Result<Vec<Sent>, PeerError>
+        ensures answered { IfOk result (λ sent. IfSome self.old
+            (λ p. sent.items ≡ (answered p connection message.now).1)) }
+        ensures kept { IfOk result (λ _. IfSome self.old
+            (λ p. self.new ≡ Some (answered p connection message.now).0)) }
+        ensures refused { IfSome (fault self.old connection)
+            (λ e. (result ≡ Err e) × (self.new ≡ self.old)) }
+        ensures fault { IfErr result (λ e. (fault self.old connection ≡ Some e)
+            ⊎ (e ≡ PeerError.NoMemory)) }
+        ensures gives_up { result ≡ Err PeerError.NoMemory → self.new ≡ None }
+    {
+        self.check(connection)?;
+        match self.state.message(connection, message) {
+            Ok(sent) => Ok(sent),
+            Err(_) => {
+                self.has_failed = true;
+                Err(PeerError::NoMemory)
+            }
+        }
+    }
+
+    /// Takes a message of the connection, and gives what is to be sent, in order.
+    ///
+    /// A listen is sent what it shows, or revoked as denied. A write is put into the tree, told to each
+    /// listen that then shows something else, the writer's own among them, and answered. What is to be
+    /// done at the end of the connection is kept. A request is refused as bad where its entries overlap
+    /// or stand too deep, and as denied where one of its paths is denied.
+    ///
+    /// # Errors
+    ///
+    /// `Failed` where the peer has lacked memory before; then `UnknownConnection`, which changes
+    /// nothing; else `NoMemory`, and `Failed` from then on.
+    pub fn message(
+        &mut self,
+        connection: u64,
+        message: ClientMessage,
+    ) -> Result<Vec<Sent>, PeerError>
+        ensures answered { IfOk result (λ sent. IfSome self.old
+            (λ p. sent.items ≡ (answered p connection message).1)) }
+        ensures kept { IfOk result (λ _. IfSome self.old
+            (λ p. self.new ≡ Some (answered p connection message).0)) }
+        ensures refused { IfSome (fault self.old connection)
+            (λ e. (result ≡ Err e) × (self.new ≡ self.old)) }
+        ensures fault { IfErr result (λ e. (fault self.old connection ≡ Some e)
+            ⊎ (e ≡ PeerError.NoMemory)) }
+        ensures gives_up { result ≡ Err PeerError.NoMemory → self.new ≡ None }
+    {
+        self.answer(connection, &message)
+    }
+
+    /// Ends the connection: its listens are dropped, and what it asked for at its end is run, each
+    /// told to the other listens as a write is. Gives what is to be sent, in order. The number is then
+    /// free.
+    ///
+    /// # Errors
+    ///
+    /// As [`Peer::message`].
+    pub fn disconnect(&mut self, connection: u64) -> Result<Vec<Sent>, PeerError>
+        ensures sent { IfOk result (λ sent. IfSome self.old
+            (λ p. sent.items ≡ (disconnected p connection).1)) }
+        ensures kept { IfOk result (λ _. IfSome self.old
+            (λ p. self.new ≡ Some (disconnected p connection).0)) }
+        ensures refused { IfSome (fault self.old connection)
+            (λ e. (result ≡ Err e) × (self.new ≡ self.old)) }
+        ensures fault { IfErr result (λ e. (fault self.old connection ≡ Some e)
+            ⊎ (e ≡ PeerError.NoMemory)) }
+        ensures gives_up { result ≡ Err PeerError.NoMemory → self.new ≡ None }
+    {
+        self.check(connection)?;
+        match self.state.disconnect(connection) {
+            Ok(sent) => Ok(sent),
+            Err(_) => {
+                self.has_failed = true;
+                Err(PeerError::NoMemory)
+            }
+        }
+    }
+}

@@ -1,0 +1,388 @@
+// What a peer holds.
+ghost use Rattle.std.specs.Prelude.{◌≡◌, ◌++◌, ◌<◌, ◌≤◌, ℕ, true, false, IfOk, OnOk};
+ghost use Rattle.std.specs.List.{All, list_any};
+ghost use Rattle.std.specs.Option.{option_copied};
+ghost use Rattle.rt_writes.specs.Writes.{IsShallow};
+ghost use Rattle.rt_wire.specs.declared.server.ServerMessage.TheVariants as ServerMessage;
+ghost use Rattle.rt_peer.specs.Peers.{is_denied, is_known, least_free, new_peer};
+ghost use Rattle.rt_peer.specs.Peers.{stands_too_deep};
+ghost use Rattle.rt_peer.specs.Pushes.{pushes, pushes_after, tree_after, written};
+ghost use Rattle.rt_peer.specs.Calls.{actions_of, answered, asked as outcome, cancelled, connected};
+ghost use Rattle.rt_peer.specs.Calls.{deferred, disconnected, ended, entries_of, is_bad, kept, listened};
+ghost use Rattle.rt_peer.specs.Calls.{one, refusal, unlistened, wrote};
+ghost use Rattle.rt_wire.specs.declared.request.Asked.TheVariants as Asked;
+ghost use Rattle.rt_wire.specs.declared.request.Ending.TheVariants as Ending;
+
+use crate::connections::Connections;
+use crate::deferred::{Deferred, parted, with_action, without_entries_below};
+use crate::listen::{Listen, remove_listen, remove_listens_of, with_listen};
+use crate::pushes::push_all;
+use crate::sent::Sent;
+use crate::shown::{put_all, seen};
+use rt_query::Query;
+use rt_tree::{MAX_LEVELS, Path, Tree};
+use rt_wire::{Action, Asked, ClientMessage, Ending, Reason, ServerMessage};
+use rt_writes::Entries;
+use std::alloc::{AllocError, Global};
+use std::marker::Model;
+use std::mem;
+
+// The tree, the denied paths, the known connections, their listens by connection and tag, and what is
+// to be done when they end, by connection and number.
+#[derive(Drop)]
+pub(crate) struct State {
+    tree: Tree,
+    denied: Vec<Path>,
+    connections: Connections,
+    listens: Vec<Listen>,
+    actions: Vec<Deferred>,
+}
+
+impl Model for State {
+    ghost use Rattle.rt_peer.specs.Peers.{Peer};
+
+    ghost Value = { Peer };
+
+    ghost view = { λ a. record {
+      tree = a.tree;
+      denied = a.denied.items;
+      connections = a.connections;
+      listens = a.listens.items;
+      actions = a.actions.items;
+    } };
+}
+
+impl State {
+    pub(crate) fn new(tree: Tree, denied: Vec<Path>) -> State
+        ensures { result ≡ new_peer tree denied.items }
+    {
+        let alloc = *denied.allocator();
+        State {
+            tree,
+            denied,
+            connections: Connections::new(alloc),
+            listens: Vec::new(alloc),
+            actions: Vec::new(alloc),
+        }
+    }
+
+    // The allocator of its lists.
+    fn alloc(&self) -> Global {
+        *self.denied.allocator()
+    }
+
+    pub(crate) fn tree(&self) -> &Tree
+        ensures { result.now ≡ self.now.tree }
+    {
+        &self.tree
+    }
+
+    pub(crate) fn knows(&self, connection: u64) -> bool
+        ensures { result ≡ is_known self.now.connections connection }
+    {
+        self.connections.contains(connection)
+    }
+
+    // A new connection, with the least free number.
+    pub(crate) fn connect(&mut self) -> Result<u64, AllocError>
+        ensures number { IfOk result (λ n. n ≡ least_free self.old.connections) }
+        ensures fresh { IfOk result (λ n. is_known self.old.connections n ≡ false) }
+        ensures least { IfOk result (λ m. (n : ℕ) → 1 ≤ n → n < m
+            → is_known self.old.connections n ≡ true) }
+        ensures connected { OnOk result (self.new ≡ connected self.old) }
+    {
+        self.connections.add()
+    }
+
+    fn is_denied(&self, path: &Path) -> bool
+        ensures { result ≡ is_denied self.now.denied path.now }
+    {
+        self.denied.iter().any(|denied| denied.is_prefix_of(path) || path.is_prefix_of(denied))
+    }
+
+    fn is_any_denied(&self, entries: &[(Path, Tree)]) -> bool
+        ensures { result ≡ list_any (λ a. is_denied self.now.denied a.0) entries.now }
+    {
+        entries.iter().any(|entry| self.is_denied(&entry.0))
+    }
+
+    // Why a request with these entries is refused, if it is.
+    fn refusal(&self, entries: &Entries) -> Option<&'static str>
+        ensures { option_copied result ≡ refusal self.now.denied entries.now }
+    {
+        if is_bad(entries) {
+            Some("bad")
+        } else if self.is_any_denied(entries.as_slice()) {
+            Some("denied")
+        } else {
+            None
+        }
+    }
+
+    // Keeps a listen, in the place of an older one with its tag.
+    fn keep(&mut self, connection: u64, tag: u64, query: &Query) -> Result<(), AllocError>
+        ensures { OnOk result (self.new ≡ kept self.old connection tag query.now) }
+    {
+        let alloc = self.alloc();
+        let query = query.copy()?;
+        self.unlisten(connection, tag);
+        let listens = mem::replace(&mut self.listens, Vec::new(alloc));
+        let listen = Listen {
+            connection,
+            tag,
+            query,
+        };
+        self.listens = with_listen(alloc, listens, listen)?;
+        Ok(())
+    }
+
+    // A listen begins, or is revoked.
+    fn listen(&mut self, connection: u64, tag: u64, query: &Query) -> Result<Vec<Sent>, AllocError>
+        ensures peer { OnOk result (self.new ≡ (listened self.old connection tag query.now).0) }
+        ensures sent { IfOk result
+            (λ sent. sent.items ≡ (listened self.old connection tag query.now).1) }
+    {
+        let alloc = self.alloc();
+        if self.is_denied(query.path()) {
+            return revoke(alloc, connection, tag, "denied");
+        }
+        self.keep(connection, tag, query)?;
+        let path = query.path().copy()?;
+        let tree = seen(alloc, query, &self.tree)?;
+        one(alloc, connection, ServerMessage::Data { tag, path, tree })
+    }
+
+    // A listen ends, if there is one with that tag.
+    fn unlisten(&mut self, connection: u64, tag: u64)
+        ensures { self.new ≡ (unlistened self.old connection tag).0 }
+    {
+        remove_listen(&mut self.listens, connection, tag);
+    }
+
+    // Puts the entries into the tree, and adds what the listens are sent.
+    fn run(&mut self, sent: &mut Vec<Sent>, entries: &[(Path, Tree)]) -> Result<(), AllocError>
+        requires { All IsShallow entries.now }
+        ensures peer { OnOk result
+            (self.new ≡ record self.old { tree = written self.old.tree entries.now }) }
+        ensures sent { OnOk result (sent.new.items ≡ sent.old.items
+            ++ pushes self.old.tree (written self.old.tree entries.now) entries.now self.old.listens) }
+    {
+        let alloc = self.alloc();
+        let before = self.tree.copy(alloc)?;
+        put_all(alloc, &mut self.tree, entries)?;
+        push_all(alloc, sent, &before, &self.tree, entries, &self.listens)
+    }
+
+    // A write that is not refused.
+    fn accept(
+        &mut self,
+        connection: u64,
+        id: u64,
+        entries: &[(Path, Tree)],
+    ) -> Result<Vec<Sent>, AllocError>
+        requires { All IsShallow entries.now }
+        ensures peer { OnOk result (self.new ≡ (wrote self.old connection id entries.now).0) }
+        ensures sent { IfOk result
+            (λ sent. sent.items ≡ (wrote self.old connection id entries.now).1) }
+    {
+        let mut sent = Vec::new(self.alloc());
+        self.run(&mut sent, entries)?;
+        sent.push(Sent {
+            to: connection,
+            message: ServerMessage::Accepted { id },
+        })?;
+        Ok(sent)
+    }
+
+    // An action that is not refused.
+    fn defer(&mut self, connection: u64, id: u64, entries: Entries) -> Result<Vec<Sent>, AllocError>
+        requires { All IsShallow entries }
+        ensures peer { OnOk result (self.new ≡ (deferred self.old connection id entries).0) }
+        ensures sent { IfOk result (λ sent. sent.items ≡ (deferred self.old connection id entries).1) }
+    {
+        let alloc = self.alloc();
+        let actions = mem::replace(&mut self.actions, Vec::new(alloc));
+        let action = Deferred::new(connection, id, entries);
+        self.actions = with_action(alloc, actions, action)?;
+        one(alloc, connection, ServerMessage::Accepted { id })
+    }
+
+    // What is to be done at and below the path is dropped.
+    fn cancel(&mut self, connection: u64, id: u64, path: &Path) -> Result<Vec<Sent>, AllocError>
+        ensures peer { OnOk result (self.new ≡ (cancelled self.old connection id path.now).0) }
+        ensures sent { IfOk result (λ sent. sent.items ≡ (cancelled self.old connection id path.now).1) }
+    {
+        let alloc = self.alloc();
+        if self.is_denied(path) {
+            return refuse(alloc, connection, id, "denied");
+        }
+        let actions = mem::replace(&mut self.actions, Vec::new(alloc));
+        self.actions = without_entries_below(alloc, actions, connection, path)?;
+        one(alloc, connection, ServerMessage::Accepted { id })
+    }
+
+    // Does what a request asks for, or refuses it.
+    fn ask(&mut self, connection: u64, id: u64, asked: &Asked) -> Result<Vec<Sent>, AllocError>
+        ensures peer { OnOk result (self.new ≡ (outcome self.old connection id asked.now).0) }
+        ensures sent { IfOk result
+            (λ sent. sent.items ≡ (outcome self.old connection id asked.now).1) }
+    {
+        match asked {
+            Asked::Now(action) => self.write(connection, id, action),
+            Asked::AtDisconnect(Ending::Run(action)) => self.run_later(connection, id, action),
+            Asked::AtDisconnect(Ending::Cancel(path)) => self.cancel(connection, id, path),
+        }
+    }
+
+    // Makes a write, or refuses it.
+    fn write(&mut self, connection: u64, id: u64, action: &Action) -> Result<Vec<Sent>, AllocError>
+        ensures peer { OnOk result
+            (self.new ≡ (outcome self.old connection id (Asked.Now action.now)).0) }
+        ensures sent { IfOk result
+            (λ sent. sent.items ≡ (outcome self.old connection id (Asked.Now action.now)).1) }
+    {
+        let alloc = self.alloc();
+        let entries = entries_of(alloc, action)?;
+        match self.refusal(&entries) {
+            Some(why) => refuse(alloc, connection, id, why),
+            None => self.accept(connection, id, entries.as_slice()),
+        }
+    }
+
+    // Keeps an action, or refuses it.
+    fn run_later(
+        &mut self,
+        connection: u64,
+        id: u64,
+        action: &Action,
+    ) -> Result<Vec<Sent>, AllocError>
+        ensures peer { OnOk result (self.new
+            ≡ (outcome self.old connection id (Asked.AtDisconnect (Ending.Run action.now))).0) }
+        ensures sent { IfOk result (λ sent. sent.items
+            ≡ (outcome self.old connection id (Asked.AtDisconnect (Ending.Run action.now))).1) }
+    {
+        let alloc = self.alloc();
+        let entries = entries_of(alloc, action)?;
+        match self.refusal(&entries) {
+            Some(why) => refuse(alloc, connection, id, why),
+            None => self.defer(connection, id, entries),
+        }
+    }
+
+    // Answers a message.
+    pub(crate) fn message(
+        &mut self,
+        connection: u64,
+        message: &ClientMessage,
+    ) -> Result<Vec<Sent>, AllocError>
+        ensures peer { OnOk result (self.new ≡ (answered self.old connection message.now).0) }
+        ensures sent { IfOk result (λ sent. sent.items ≡ (answered self.old connection message.now).1) }
+    {
+        match message {
+            ClientMessage::Listen { tag, query } => self.listen(connection, *tag, query),
+            ClientMessage::Unlisten { tag } => {
+                self.unlisten(connection, *tag);
+                Ok(Vec::new(self.alloc()))
+            }
+            ClientMessage::Ask { id, asked } => self.ask(connection, *id, asked),
+        }
+    }
+
+    // Runs the actions, in order, and adds what the listens are sent.
+    fn run_all(&mut self, sent: &mut Vec<Sent>, actions: &[Deferred]) -> Result<(), AllocError>
+        ensures peer { OnOk result
+            (self.new ≡ record self.old { tree = tree_after self.old.tree actions.now }) }
+        ensures sent { OnOk result (sent.new.items
+            ≡ sent.old.items ++ pushes_after self.old.listens self.old.tree actions.now) }
+    {
+        for action in actions {
+            self.run(sent, action.entries().as_slice())?;
+        }
+        Ok(())
+    }
+
+    // Forgets a connection and its listens, and gives its actions.
+    fn forget(&mut self, connection: u64) -> Result<Vec<Deferred>, AllocError>
+        ensures peer { OnOk result (self.new ≡ ended self.old connection) }
+        ensures actions { IfOk result (λ own. own.items ≡ actions_of self.old connection) }
+    {
+        let alloc = self.alloc();
+        self.connections.remove(connection);
+        remove_listens_of(&mut self.listens, connection);
+        let actions = mem::replace(&mut self.actions, Vec::new(alloc));
+        let (own, others) = parted(alloc, actions, connection)?;
+        self.actions = others;
+        Ok(own)
+    }
+
+    // Ends a connection, and runs its actions.
+    pub(crate) fn disconnect(&mut self, connection: u64) -> Result<Vec<Sent>, AllocError>
+        ensures peer { OnOk result (self.new ≡ (disconnected self.old connection).0) }
+        ensures sent { IfOk result (λ sent. sent.items ≡ (disconnected self.old connection).1) }
+    {
+        let own = self.forget(connection)?;
+        let mut sent = Vec::new(self.alloc());
+        self.run_all(&mut sent, &own)?;
+        Ok(sent)
+    }
+}
+
+// The entries of an action.
+fn entries_of(alloc: Global, action: &Action) -> Result<Entries, AllocError>
+    ensures { IfOk result (λ entries. entries ≡ entries_of action.now) }
+{
+    match action {
+        Action::Put { path, tree } => {
+            let mut items = Vec::new(alloc);
+            items.push((path.copy()?, tree.copy(alloc)?))?;
+            Ok(Entries::of(items))
+        }
+        Action::Merge { entries } => entries.copy(),
+    }
+}
+
+// Whether a leaf of an entry would stand under too many keys.
+fn stand_too_deep(entries: &[(Path, Tree)]) -> bool
+    ensures { result ≡ list_any stands_too_deep entries.now }
+{
+    entries.iter().any(|entry| MAX_LEVELS < entry.0.keys().len() + entry.1.levels())
+}
+
+// Whether the entries overlap or stand too deep.
+fn is_bad(entries: &Entries) -> bool
+    ensures { result ≡ is_bad entries.now }
+{
+    entries.have_overlap() || stand_too_deep(entries.as_slice())
+}
+
+// A reason of these words.
+fn reason(alloc: Global, why: &str) -> Result<Reason, AllocError>
+    ensures { IfOk result (λ reason. reason ≡ why.now) }
+{
+    Ok(Reason::of(String::from_str(alloc, why)?))
+}
+
+// One message for one connection.
+fn one(alloc: Global, to: u64, message: ServerMessage) -> Result<Vec<Sent>, AllocError>
+    ensures { IfOk result (λ sent. sent.items ≡ one to message) }
+{
+    let mut sent = Vec::new(alloc);
+    sent.push(Sent { to, message })?;
+    Ok(sent)
+}
+
+// A listen is revoked.
+fn revoke(alloc: Global, to: u64, tag: u64, why: &str) -> Result<Vec<Sent>, AllocError>
+    ensures { IfOk result (λ sent. sent.items ≡ one to (ServerMessage.Revoked tag why.now)) }
+{
+    let why = reason(alloc, why)?;
+    one(alloc, to, ServerMessage::Revoked { tag, why })
+}
+
+// A request is refused.
+fn refuse(alloc: Global, to: u64, id: u64, why: &str) -> Result<Vec<Sent>, AllocError>
+    ensures { IfOk result (λ sent. sent.items ≡ one to (ServerMessage.Refused id why.now)) }
+{
+    let why = reason(alloc, why)?;
+    one(alloc, to, ServerMessage::Refused { id, why })
+}
