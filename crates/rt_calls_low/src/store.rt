@@ -136,19 +136,21 @@ fn set_tree(
     let nodes = nodes(store, alloc)?;
     let before = known(store, alloc, nodes.as_slice())?;
     let answer = store.set(alloc, path, tree);
-    if answer.is_err() && !is_known(store, alloc, nodes.as_slice(), before.as_str()) {
+    if answer.is_err() && has_changed(store, alloc, nodes.as_slice(), before.as_str())? {
         said.say("has changed ");
     }
     tell_set(alloc, answer, said)
 }
 
-// Whether of nodes just that is known. One call has lacked memory before, if any, so this one has
-// it.
-fn is_known(store: &Store, alloc: Global, nodes: &[Node], before: &str) -> bool {
-    match known(store, alloc, nodes) {
-        Ok(text) => text.as_str() == before,
-        Err(_) => false,
-    }
+// Whether something else is known of nodes than before.
+fn has_changed(
+    store: &Store,
+    alloc: Global,
+    nodes: &[Node],
+    before: &str,
+) -> Result<bool, AllocError> {
+    let text = known(store, alloc, nodes)?;
+    Ok(text.as_str() != before)
 }
 
 fn tell_set(alloc: Global, answer: Result<(), StoreError>, said: &mut Said) -> Result<(), Fault> {
