@@ -38,8 +38,7 @@ fn part_of(alloc: Global, tree: &Tree, path: &Path) -> Result<Tree, AllocError>
     }
 }
 
-// The child of the part at the path; null where there is none. Costs by the path, the siblings in
-// front on it, and that child.
+// The child of the part at the path; null where there is none. Costs by the path and that child.
 pub(crate) fn child_at(
     alloc: Global,
     store: &Store,
