@@ -1,13 +1,13 @@
 -- Where a number stands among numbers that rise, and what stands there.
 use Rattle.std.proofs.Common.{◌≡◌, ℕ, zero, suc, ◌+◌, ◌<◌, ◌≤◌, true, false, cond, not, nat_le, ◌==◌, List, [], ◌∷◌, map, length, set, refl, sym, ap, subst, ◌∙◌, arith, get_or, Some, None, ltb}
 use mathlib.Core.Bool.{true≢false}
-use Rattle.std.specs.List.{find, insert}
+use Rattle.std.specs.List.{find, insert, remove}
 use Rattle.std.specs.List.Sorted.{IsNonDecreasingBy, IsPartitionedBy, IsPartitionPoint}
 use Rattle.std.proofs.lemmas.Bool.Decides.{nat_tests}
 use Rattle.std.proofs.lemmas.List.Sorted.{IsPartitionedBy-ltb}
 use Rattle.std.proofs.lemmas.List.Sums.{position_or_len_is}
 use Rattle.rt_view.specs.declared.change.Change.{Change}
-use Rattle.rt_mail.specs.Mailbox.{Children, played}
+use Rattle.rt_mail.specs.Mailbox.{Children, played, without_listener, without_request}
 use Rattle.rt_mail.specs.inside.Places.{does_stand, after_changes}
 use Rattle.rt_mail.specs.laws.Replays.{AreAbove, Rise}
 use Rattle.rt_mail.proofs.Places.{numbers, place, next, with_request-place}
@@ -131,4 +131,76 @@ find-there n (l ∷ ls) d e =
           ap (λ b. cond b (Some l) (find (λ x. x.0 == n) ls)) (other_number l.0 n (λ s. omega (arith, s, lt)))
           ∙ find-there n ls d (ap (λ q. does_stand (l.0 ∷ numbers ls) q n) (next p) ∙ f)
           ∙ ap (λ q. Some (get_or (l ∷ ls) q d)) (next p)
+    ] refl e
+
+-- ---- the others
+
+-- a number below all of these is none of them
+none_gone : (n : ℕ) (ns : List ℕ) → AreAbove n ns → without_request n ns ≡ ns
+none_gone n [] h = refl
+none_gone n (m ∷ ns) h =
+    let lt = h.0 in
+    ap (λ b. cond (not b) (m ∷ without_request n ns) (without_request n ns)) (other_number m n (λ e. omega (arith, e, lt)))
+    ∙ ap (λ z. m ∷ z) (none_gone n ns h.1)
+
+pub without-not_there : (n : ℕ) (ns : List ℕ) → Rise ns → does_stand ns (place n ns) n ≡ false → ns ≡ without_request n ns
+without-not_there n [] h e = refl
+without-not_there n (m ∷ ns) h e =
+    let p = place n ns in
+    elim (nat_le n m) as (λ b. nat_le n m ≡ b → does_stand (m ∷ ns) (cond (not b) (1 + p) 0) n ≡ false → m ∷ ns ≡ without_request n (m ∷ ns)) [
+      | true ↦ λ t f. sym (none_gone n (m ∷ ns) (let lt = below_other n m t f in (lt, above_lower n m ns lt h.0)))
+      | false ↦ λ t f.
+          let lt = beyond n m t in
+          ap (λ z. m ∷ z) (without-not_there n ns h.1 (ap (λ q. does_stand (m ∷ ns) q n) (next p) ∙ f))
+          ∙ sym (ap (λ b. cond (not b) (m ∷ without_request n ns) (without_request n ns)) (other_number m n (λ s. omega (arith, s, lt))))
+    ] refl e
+
+pub without-there : (n : ℕ) (ns : List ℕ) → Rise ns → does_stand ns (place n ns) n ≡ true → remove ns (place n ns) ≡ without_request n ns
+without-there n [] h e = absurd (true≢false (sym e))
+without-there n (m ∷ ns) h e =
+    let p = place n ns in
+    elim (nat_le n m) as (λ b. nat_le n m ≡ b → does_stand (m ∷ ns) (cond (not b) (1 + p) 0) n ≡ true → remove (m ∷ ns) (cond (not b) (1 + p) 0) ≡ without_request n (m ∷ ns)) [
+      | true ↦ λ t f.
+          sym (ap (λ b. cond (not b) (m ∷ without_request n ns) (without_request n ns)) f
+          ∙ none_gone n ns (subst (λ x. AreAbove x ns) (same_number m n f) h.0))
+      | false ↦ λ t f.
+          let lt = beyond n m t in
+          ap (λ q. remove (m ∷ ns) q) (sym (next p))
+          ∙ ap (λ z. m ∷ z) (without-there n ns h.1 (ap (λ q. does_stand (m ∷ ns) q n) (next p) ∙ f))
+          ∙ sym (ap (λ b. cond (not b) (m ∷ without_request n ns) (without_request n ns)) (other_number m n (λ s. omega (arith, s, lt))))
+    ] refl e
+
+-- and so of listeners
+none_left : (n : ℕ) (ls : List (ℕ × Children)) → AreAbove n (numbers ls) → without_listener n ls ≡ ls
+none_left n [] h = refl
+none_left n (l ∷ ls) h =
+    let lt = h.0 in
+    ap (λ b. cond (not b) (l ∷ without_listener n ls) (without_listener n ls)) (other_number l.0 n (λ e. omega (arith, e, lt)))
+    ∙ ap (λ z. l ∷ z) (none_left n ls h.1)
+
+pub left-not_there : (n : ℕ) (ls : List (ℕ × Children)) → Rise (numbers ls) → does_stand (numbers ls) (place n (numbers ls)) n ≡ false → ls ≡ without_listener n ls
+left-not_there n [] h e = refl
+left-not_there n (l ∷ ls) h e =
+    let p = place n (numbers ls) in
+    elim (nat_le n l.0) as (λ b. nat_le n l.0 ≡ b → does_stand (l.0 ∷ numbers ls) (cond (not b) (1 + p) 0) n ≡ false → l ∷ ls ≡ without_listener n (l ∷ ls)) [
+      | true ↦ λ t f. sym (none_left n (l ∷ ls) (let lt = below_other n l.0 t f in (lt, above_lower n l.0 (numbers ls) lt h.0)))
+      | false ↦ λ t f.
+          let lt = beyond n l.0 t in
+          ap (λ z. l ∷ z) (left-not_there n ls h.1 (ap (λ q. does_stand (l.0 ∷ numbers ls) q n) (next p) ∙ f))
+          ∙ sym (ap (λ b. cond (not b) (l ∷ without_listener n ls) (without_listener n ls)) (other_number l.0 n (λ s. omega (arith, s, lt))))
+    ] refl e
+
+pub left-there : (n : ℕ) (ls : List (ℕ × Children)) → Rise (numbers ls) → does_stand (numbers ls) (place n (numbers ls)) n ≡ true → remove ls (place n (numbers ls)) ≡ without_listener n ls
+left-there n [] h e = absurd (true≢false (sym e))
+left-there n (l ∷ ls) h e =
+    let p = place n (numbers ls) in
+    elim (nat_le n l.0) as (λ b. nat_le n l.0 ≡ b → does_stand (l.0 ∷ numbers ls) (cond (not b) (1 + p) 0) n ≡ true → remove (l ∷ ls) (cond (not b) (1 + p) 0) ≡ without_listener n (l ∷ ls)) [
+      | true ↦ λ t f.
+          sym (ap (λ b. cond (not b) (l ∷ without_listener n ls) (without_listener n ls)) f
+          ∙ none_left n ls (subst (λ x. AreAbove x (numbers ls)) (same_number l.0 n f) h.0))
+      | false ↦ λ t f.
+          let lt = beyond n l.0 t in
+          ap (λ q. remove (l ∷ ls) q) (sym (next p))
+          ∙ ap (λ z. l ∷ z) (left-there n ls h.1 (ap (λ q. does_stand (l.0 ∷ numbers ls) q n) (next p) ∙ f))
+          ∙ sym (ap (λ b. cond (not b) (l ∷ without_listener n ls) (without_listener n ls)) (other_number l.0 n (λ s. omega (arith, s, lt))))
     ] refl e

@@ -1,6 +1,6 @@
 // What is known of a seat by the items that were taken.
 ghost use Rattle.std.specs.Prelude.{◌≡◌, ◌≤◌, ◌<◌, ℕ, IfOk, OnOk, length, map, slice_set, slice_index_or};
-ghost use Rattle.std.specs.List.{find, insert, position_or_len};
+ghost use Rattle.std.specs.List.{find, insert, position_or_len, remove as without_at};
 ghost use Rattle.std.specs.Option.{option_map};
 ghost use Rattle.std.specs.Prelude.{nat_le, ◌==◌, []};
 ghost use Rattle.rt_view.specs.Changes.{replay};
@@ -86,11 +86,15 @@ fn insert(numbers: &mut Vec<u64>, number: u64) -> Result<(), AllocError>
     Ok(())
 }
 
-// The numbers without that one.
+// The numbers without that one, which may not be there.
 fn remove(numbers: &mut Vec<u64>, number: u64)
+    requires { Rise numbers.old.items }
     ensures { numbers.new.items ≡ without_request number numbers.old.items }
 {
-    numbers.retain(|other| *other != number);
+    let place = place_of(numbers.as_slice(), number);
+    if stands_at(numbers.as_slice(), place, number) {
+        let _is_number = numbers.remove(place);
+    }
 }
 
 // The listeners after the changes of the one at the place.
@@ -141,11 +145,12 @@ fn insert_heard(
     Ok(())
 }
 
-// The other listeners.
-fn remove_heard(heard: &mut Vec<Heard>, listener: u64)
-    ensures { heard.new.items ≡ without_listener listener heard.old.items }
+// The listeners but for the one at the place.
+fn remove_at(heard: &mut Vec<Heard>, place: usize)
+    requires { place < length heard.old.items }
+    ensures { heard.new.items ≡ without_at heard.old.items place }
 {
-    heard.retain(|one| one.listener != listener);
+    drop(heard.remove(place));
 }
 
 // The listeners by number, and their numbers beside them; the unsettled requests by number.
@@ -222,8 +227,12 @@ impl Known {
         ensures { result ≡ record self { listeners = without_listener listener self.listeners } }
     {
         let mut known = self;
-        remove(&mut known.numbers, listener);
-        remove_heard(&mut known.heard, listener);
+        let numbers = known.numbers.as_slice();
+        let place = place_of(numbers, listener);
+        if stands_at(numbers, place, listener) {
+            let _is_listener = known.numbers.remove(place);
+            remove_at(&mut known.heard, place);
+        }
         known
     }
 
