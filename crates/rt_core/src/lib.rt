@@ -11,7 +11,6 @@ ghost use Rattle.rt_world.specs.World.{empty_world, limits_from};
 ghost use Rattle.rt_core.specs.Core.{Applies, IsTaken};
 
 mod applying;
-mod copies;
 mod held;
 mod refusal;
 mod refusals;

@@ -3,7 +3,6 @@ ghost use Rattle.std.specs.Prelude.{◌≡◌, ◌++◌, map, OnOk};
 ghost use Rattle.rt_world.specs.Messages.{request_message};
 ghost use Rattle.rt_core.specs.inside.Parts.{asking, changing, listens_shown, unlistens_of};
 
-use crate::copies::copy_asked;
 use rt_cover::{Delta, Kept};
 use rt_wire::Asked;
 use rt_world::{ClientMessage, Request};
@@ -64,7 +63,7 @@ pub(crate) fn send_asked(
         (outgoing.new.items ≡ outgoing.old.items ++ asking is_connected id asked.now) }
 {
     if is_connected {
-        let asked = copy_asked(alloc, asked)?;
+        let asked = asked.copy(alloc)?;
         outgoing.push_back(ClientMessage::Ask { id, asked })?;
     }
     Ok(())
