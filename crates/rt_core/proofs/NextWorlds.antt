@@ -22,7 +22,8 @@ use Rattle.rt_world.proofs.WrittenLaws.{pending-more, pending-write}
 use Rattle.rt_core.specs.declared.held.Held.{Held}
 use Rattle.rt_core.specs.declared.told.Told.{Told}
 use Rattle.rt_core.specs.inside.Due.{IsDue, IsNext}
-use Rattle.rt_core.specs.inside.Parts.{asking, do_meet, listens_shown, renewed_met, all_told}
+use Rattle.rt_world.specs.Met.{do_meet, renewed_met, all_told}
+use Rattle.rt_core.specs.inside.Parts.{asking, listens_shown}
 use Rattle.rt_core.specs.inside.StateView.{IsHeld, IsTied, listeners_of, world_of}
 use Rattle.rt_core.proofs.StepLaws.{online, brought_stays, next_is, told_is}
 

@@ -31,7 +31,7 @@ use Rattle.rt_world.proofs.Listeners.{number-renewed, query-renewed, view_before
 use Rattle.rt_world.proofs.NamedLaws.{unmet_stays}
 use Rattle.rt_world.proofs.PlainLaws.{recover_stays}
 use Rattle.rt_core.specs.inside.Due.{IsDue}
-use Rattle.rt_core.specs.inside.Parts.{told, do_meet, renewed_met, told_met, all_told}
+use Rattle.rt_world.specs.Met.{told, do_meet, renewed_met, told_met, all_told}
 
 -- ---- lists
 

@@ -16,7 +16,7 @@ use Rattle.rt_world.specs.World.{Listener}
 use Rattle.rt_world.specs.Views.{base_tree, is_base_whole, is_child_known, is_known, seen_over}
 use Rattle.rt_world.specs.Steps.{renewed}
 use Rattle.rt_world.specs.Answers.{batch_note, batch_from}
-use Rattle.rt_core.specs.inside.Parts.{seeing, told}
+use Rattle.rt_world.specs.Met.{seeing, told}
 
 -- ---- what is brought stands no deeper than trees do
 

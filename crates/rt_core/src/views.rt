@@ -11,8 +11,8 @@ ghost use Rattle.rt_world.specs.Views.{base_tree, is_known, seen_over};
 ghost use Rattle.rt_world.specs.Steps.{renewed};
 ghost use Rattle.rt_world.specs.Answers.{batch_note};
 ghost use Rattle.rt_core.specs.inside.StateView.{IsHeld, listener_of, listeners_of, shown_in};
-ghost use Rattle.rt_core.specs.inside.Parts.{all_told, do_meet, renewed_met, seeing, told};
-ghost use Rattle.rt_core.specs.inside.Parts.{told_met};
+ghost use Rattle.rt_world.specs.Met.{all_told, do_meet, renewed_met, seeing, told};
+ghost use Rattle.rt_world.specs.Met.{told_met};
 
 use crate::held::Held;
 use rt_cache::{Base, Brought};

@@ -3,9 +3,9 @@
 -- Steps (what a step leaves), Messages (what it sends, and the world after it), Refusals (when it is
 -- refused, and when it is stale), Answers (what it answers), Runs (what the server hears), Headline
 -- (what any steps lead to), Plain (the same of what is written and brought), Touched (which children
--- of a view a step can change), Covering (the cover of a world), Limited (what keeps within the
--- limits), Sound and Called (what holds of a world between steps), Codes (numbers and words of
--- refusals).
+-- of a view a step can change), Met (which listeners a step has to look at), Covering (the cover of a
+-- world), Limited (what keeps within the limits), Sound and Called (what holds of a world between
+-- steps), Codes (numbers and words of refusals).
 pub mod Answers
 pub mod Called
 pub mod Codes
@@ -14,6 +14,7 @@ pub mod Headline
 pub mod laws
 pub mod Limited
 pub mod Messages
+pub mod Met
 pub mod Plain
 pub mod Refusals
 pub mod Runs

@@ -3,7 +3,7 @@ ghost use Rattle.std.specs.Prelude.{◌≡◌, ◌<◌, ◌++◌, ◌∷◌, [],
 ghost use Rattle.std.specs.List.{All};
 ghost use Rattle.rt_writes.specs.Writes.{IsShallow};
 ghost use Rattle.rt_world.specs.World.{entries_of};
-ghost use Rattle.rt_core.specs.inside.Parts.{all_told, renewed_met};
+ghost use Rattle.rt_world.specs.Met.{all_told, renewed_met};
 ghost use Rattle.rt_core.specs.inside.StateView.{IsHeld, listeners_of};
 
 use crate::held::Held;

@@ -4,7 +4,7 @@ use Rattle.rt_world.specs.declared.report.Note.{Note}
 use Rattle.rt_world.specs.World.{Listener}
 use Rattle.rt_core.specs.declared.held.Held.{Held}
 use Rattle.rt_core.specs.inside.StateView.{IsHeld, listener_of, listeners_of}
-use Rattle.rt_core.specs.inside.Parts.{all_told, renewed_met, told_met}
+use Rattle.rt_world.specs.Met.{all_told, renewed_met, told_met}
 use Rattle.rt_core.proofs.Loops.{step_set, step_gather, all_set}
 use Rattle.rt_core.proofs.views.renew_met.Goals as goal
 

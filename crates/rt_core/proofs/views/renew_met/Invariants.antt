@@ -1,7 +1,7 @@
 use Rattle.std.proofs.Common.{◌≡◌, ◌++◌, map, take, drop}
 use Rattle.std.specs.List.{All}
 use Rattle.rt_core.specs.inside.StateView.{IsHeld, listeners_of}
-use Rattle.rt_core.specs.inside.Parts.{all_told, renewed_met}
+use Rattle.rt_world.specs.Met.{all_told, renewed_met}
 use Rattle.rt_core.proofs.views.renew_met.Given as goal
 
 -- those so far are renewed where they are met, and their seats told
