@@ -8,6 +8,7 @@ pub mod KeptLaws
 pub mod LimitLaws
 pub mod Listeners
 pub mod LostLaws
+pub mod MadeLaws
 pub mod MessageLaws
 pub mod NamedLaws
 pub mod NoteLaws
@@ -19,5 +20,6 @@ pub mod RunLaws
 pub mod ShowLaws
 pub mod SoundLaws
 pub mod StayLaws
+pub mod StillLaws
 pub mod TouchingLaws
 pub mod WrittenLaws

@@ -177,7 +177,7 @@ reached_by kept q p m e under =
     list_any_at (λ k. not (is_filtered k) && is_at_or_above k.path p) kept m.0 q m.1
     (ap (λ (k : Query). not (is_filtered k) && is_at_or_above k.path p) m.2 ∙ (λ i. not (e i) && under i))
 
-plainly_pushed : (kept : List Query) (q : Query) → Contains kept q → is_filtered q ≡ false → (entries : List Assignment) → All (IsPushOn q) entries → (b : Brought) → IsPlainly kept b → IsPlainly kept (fold push_plain b entries)
+pub plainly_pushed : (kept : List Query) (q : Query) → Contains kept q → is_filtered q ≡ false → (entries : List Assignment) → All (IsPushOn q) entries → (b : Brought) → IsPlainly kept b → IsPlainly kept (fold push_plain b entries)
 plainly_pushed kept q m e [] h b p = p
 plainly_pushed kept q m e (a ∷ entries) h b p =
     let on = All-head (IsPushOn q) a entries h in

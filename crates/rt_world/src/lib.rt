@@ -14,6 +14,7 @@ mod error;
 pub mod examples;
 mod laws;
 mod limits;
+mod made;
 mod report;
 mod request;
 mod step;
@@ -24,6 +25,7 @@ pub use laws::{
     plain_law, refusal_law, sound_law, stay_law,
 };
 pub use limits::{Limits, MAX_LISTENERS, MAX_NUMBER, MAX_REQUESTS};
+pub use made::{push_law, pushed_law, settled_law, still_law};
 pub use report::{Body, Note, Notes, Outcome, Report};
 pub use request::Request;
 pub use rt_wire::{Action, Asked, ClientMessage, Ending, Reason};

@@ -1,0 +1,157 @@
+-- What each kind of step leaves and tells, part by part, as a core makes it.
+use Rattle.std.specs.Prelude.{◌≡◌, ℕ, ◌+◌, Bool, true, false, not, List, [], ◌∷◌, ◌++◌, map, ◌==◌}
+use Rattle.std.specs.Prelude.{Option, Some, None, is_some}
+use Rattle.std.specs.List.{filter, find, fold, All}
+use Rattle.std.specs.Option.{option_and_then, option_to_list}
+use Rattle.rt_tree.specs.PathTree.{Path, PathTree}
+use Rattle.rt_tree.specs.Assignments.{Assignment}
+use Rattle.rt_query.specs.Queries.{Query, is_filtered}
+use Rattle.rt_writes.specs.Writes.{IsShallow, without}
+use Rattle.rt_cache.specs.Brought.{Brought, push}
+use Rattle.rt_world.specs.declared.report.Note.{Note}
+use Rattle.rt_world.specs.declared.step.Step.{Step}
+use Rattle.rt_world.specs.World.{Reason, World, pending, listen_of}
+use Rattle.rt_world.specs.Steps.{requests_after, pushed}
+use Rattle.rt_world.specs.Messages.{request_sent, messages_online, next}
+use Rattle.rt_world.specs.Refusals.{refusal, is_stale}
+use Rattle.rt_world.specs.Answers.{settled_note, batch_notes, done_report}
+use Rattle.rt_world.specs.Touched.{entries_settled, entries_by}
+use Rattle.rt_world.specs.Met.{renewed_met, all_told}
+use Rattle.rt_world.specs.Plain.{IsPlain, IsPushOn}
+use Rattle.rt_world.specs.Called.{IsCalled}
+use Rattle.rt_world.specs.Sound.{IsSound}
+use Rattle.rt_world.specs.laws.World.{changes_listeners}
+
+-- ---- a step that is made
+
+-- what holds of a world between steps, and the step is neither refused nor stale
+pub record IsMade (w : World) (s : Step) : Type 0 where
+  pub sound : IsSound w
+  pub called : IsCalled w.brought
+  pub not_refused : refusal w s ≡ None
+  pub not_stale : is_stale w s ≡ false
+
+-- the step leaves this world, and tells this
+pub record Leaves (w : World) (s : Step) (v : World) (said : List Note) : Type 0 where
+  pub world : next w s ≡ v
+  pub notes : (done_report w s).notes ≡ said
+
+-- ---- where no listener begins or ends
+
+-- the listeners that an entry meets are renewed and told, over what is pushed and is pending then;
+-- the listens stay, and of messages the request's alone is sent
+pub record LeavesListens (w : World) (s : Step) : Type 0 where
+  pub listeners : (next w s).listeners
+      ≡ map (renewed_met (entries_by w s) (pushed w s) (pending (requests_after w s))) w.listeners
+  pub brought : (next w s).brought ≡ pushed w s
+  pub kept : (next w s).kept ≡ w.kept
+  pub next_tag : (next w s).next_tag ≡ w.next_tag
+  pub messages : messages_online w s ≡ request_sent w s
+  pub notes : batch_notes w s
+      ≡ all_told (entries_by w s) (pushed w s) (pending (requests_after w s)) w.listeners
+
+-- so it is in plain listens, whatever the step
+abbrev pub StillLeavesListens : Type 0
+StillLeavesListens =
+    (w : World) (s : Step) → IsMade w s → IsPlain w → changes_listeners s ≡ false
+    → LeavesListens w s
+
+-- ---- settlements
+
+-- the world without the request of that number, where its write's entries meet the views
+abbrev pub settled_world : World → ℕ → World
+settled_world w id =
+    let writes = without id (pending w.requests) in
+    record w {
+      listeners = map (renewed_met (entries_settled w id) w.brought writes) w.listeners;
+      requests = filter (λ r. not (r.id == id)) w.requests;
+    }
+
+-- the seat of the request is told, if it is open, and then the listeners
+abbrev pub settled_told : World → ℕ → Option Reason → List Note
+settled_told w id why =
+    let writes = without id (pending w.requests) in
+    option_to_list (option_and_then (settled_note (id, why)) (find (λ r. r.id == id) w.requests))
+    ++ all_told (entries_settled w id) w.brought writes w.listeners
+
+-- an accepted request
+abbrev pub AcceptedIsMade : Type 0
+AcceptedIsMade =
+    (w : World) (id : ℕ) → let s = Step.Accepted id in
+    IsMade w s → IsPlain w → Leaves w s (settled_world w id) (settled_told w id None)
+
+-- a refused one
+abbrev pub RefusedIsMade : Type 0
+RefusedIsMade =
+    (w : World) (id : ℕ) (why : Reason) → let s = Step.Refused id why in
+    IsMade w s → IsPlain w → Leaves w s (settled_world w id) (settled_told w id (Some why))
+
+-- ---- pushes
+
+-- the world once the entries are pushed on the listen of the query
+abbrev pub pushed_world : World → Query → List Assignment → World
+pushed_world w q entries =
+    let brought = fold (push q) w.brought entries in
+    record w {
+      listeners = map (renewed_met entries brought (pending w.requests)) w.listeners;
+      brought = brought;
+    }
+
+-- what the listeners are told then
+abbrev pub pushed_told : World → Query → List Assignment → List Note
+pushed_told w q entries =
+    all_told entries (fold (push q) w.brought entries) (pending w.requests) w.listeners
+
+-- a push of one tree
+abbrev pub DataIsMade : Type 0
+DataIsMade =
+    (w : World) (tag : ℕ) (path : Path) (tree : PathTree) → let s = Step.Data tag path tree in
+    IsMade w s → IsPlain w → (q : Query) → listen_of w tag ≡ Some q
+    → let entries = (path, tree) ∷ [] in
+    Leaves w s (pushed_world w q entries) (pushed_told w q entries)
+
+-- of several
+abbrev pub MergeIsMade : Type 0
+MergeIsMade =
+    (w : World) (tag : ℕ) (entries : List Assignment) → let s = Step.DataMerge tag entries in
+    IsMade w s → IsPlain w → (q : Query) → listen_of w tag ≡ Some q
+    → Leaves w s (pushed_world w q entries) (pushed_told w q entries)
+
+-- the entries may be pushed on the listen of the query, and leave regions alone, none of them too deep
+pub record MayPush (w : World) (q : Query) (pushes : List Assignment) : Type 0 where
+  pub plain : is_filtered q ≡ false
+  pub entries : All (IsPushOn q) pushes
+  pub windows : (fold (push q) w.brought pushes).windows ≡ []
+  pub shallow : All IsShallow (fold (push q) w.brought pushes).regions
+
+-- so may those of a push of one tree that is not refused
+abbrev pub DataMayPush : Type 0
+DataMayPush =
+    (w : World) (tag : ℕ) (path : Path) (tree : PathTree) → IsSound w → IsPlain w
+    → refusal w (Step.Data tag path tree) ≡ None
+    → (q : Query) → listen_of w tag ≡ Some q → MayPush w q ((path, tree) ∷ [])
+
+-- and of several
+abbrev pub MergeMayPush : Type 0
+MergeMayPush =
+    (w : World) (tag : ℕ) (entries : List Assignment) → IsSound w → IsPlain w
+    → refusal w (Step.DataMerge tag entries) ≡ None
+    → (q : Query) → listen_of w tag ≡ Some q → MayPush w q entries
+
+-- a listen that is kept is not filtered
+abbrev pub ListensArePlain : Type 0
+ListensArePlain =
+    (w : World) (tag : ℕ) (q : Query) → IsSound w → IsPlain w → listen_of w tag ≡ Some q
+    → is_filtered q ≡ false
+
+-- so a push that is not refused is stale just where its tag is not kept
+abbrev pub DataIsStale : Type 0
+DataIsStale =
+    (w : World) (tag : ℕ) (path : Path) (tree : PathTree) → IsSound w → IsPlain w
+    → is_stale w (Step.Data tag path tree) ≡ not (is_some (listen_of w tag))
+
+abbrev pub MergeIsStale : Type 0
+MergeIsStale =
+    (w : World) (tag : ℕ) (entries : List Assignment) → IsSound w → IsPlain w
+    → refusal w (Step.DataMerge tag entries) ≡ None
+    → is_stale w (Step.DataMerge tag entries) ≡ not (is_some (listen_of w tag))
