@@ -161,7 +161,7 @@ called_pushed w Step.Connected h free = h
 called_pushed w Step.Disconnected h free = h
 called_pushed w (Step.CloseSeat seat) h free = h
 
-called_next : (w : World) (s : Step) → IsSound w → IsCalled w.brought → refusal w s ≡ None → IsCalled (next w s).brought
+pub called_next : (w : World) (s : Step) → IsSound w → IsCalled w.brought → refusal w s ≡ None → IsCalled (next w s).brought
 called_next w s sound h free =
     called_more (pushed w s) (Recover (forms_after w s) (forms_kept (kept_after w s)) ∷ []) (called_pushed w s h free)
     (All-cons IsAllowed (Recover (forms_after w s) (forms_kept (kept_after w s))) [] (kept_apart w s sound) (All-nil IsAllowed))

@@ -120,7 +120,7 @@ unchanged w s h e =
     let kept = kept-same w s h e in
     λ i. record { listeners = rs i; kept = kept i; next_tag = tag i; last_tag = w.limits.last_number }
 
-follows : (w : World) (s : Step) → IsSound w → cover_in (next w s) ≡ cover_after w s
+pub follows : (w : World) (s : Step) → IsSound w → cover_in (next w s) ≡ cover_after w s
 follows w (Step.Listen seat query) h = by_listeners w (Step.Listen seat query) _ (map-append (λ (l : Listener). (l.number, form l.query)) w.listeners _ ∙ one_more w (form query) h)
 follows w (Step.Unlisten seat listener) h = by_listeners w (Step.Unlisten seat listener) _ (unlistened w listener)
 follows w (Step.Revoked tag why) h = by_listeners w (Step.Revoked tag why) _ (revoked_left w tag)

@@ -168,13 +168,15 @@ turned_all w steps h k d lt =
 
 -- ---- the headline
 
--- the headline holds of any steps, from any world that steps lead to
+-- the headline holds of any steps, from a sound world
+pub headline_sound : (w : World) (steps : List Step) → IsSound w → Headline w steps
+headline_sound w steps h = record {
+  listens_kept = keeps w steps h;
+  views_shown = shows_all steps w h;
+  views_turned = turned_all w steps h;
+}
+
+-- and so from any world that steps lead to
 pub headline : (limits : Limits) (before steps : List Step) → Headline (world_after (empty_world limits) before) steps
 headline limits before steps =
-    let w = world_after (empty_world limits) before in
-    let h = sound_run before (empty_world limits) (sound_empty limits) in
-    record {
-      listens_kept = keeps w steps h;
-      views_shown = shows_all steps w h;
-      views_turned = turned_all w steps h;
-    }
+    headline_sound (world_after (empty_world limits) before) steps (sound_run before (empty_world limits) (sound_empty limits))

@@ -1,9 +1,11 @@
+pub mod AskedLaws
 pub mod CalledLaws
 pub mod CountLaws
 pub mod CoveringLaws
 pub mod DeltaLaws
 pub mod HeadlineLaws
 pub mod HeardLaws
+pub mod HoldsLaws
 pub mod KeptLaws
 pub mod LimitLaws
 pub mod Listeners

@@ -57,7 +57,7 @@ shorter p (x ∷ xs) = elim (p x) as (λ b. length (cond b (x ∷ filter p xs) (
 
 -- ---- each limit
 
-record Counts (w : World) (s : Step) : Type 0 where
+pub record Counts (w : World) (s : Step) : Type 0 where
   listeners : length (listeners_after w s) ≤ w.limits.listeners
   requests : length (requests_after w s) ≤ w.limits.requests
   next_listener : counted w.next_listener (listener_given w s) ≤ w.limits.last_number + 1
@@ -74,7 +74,7 @@ tag w s e = ltb-false (w.limits.last_number + 1) (w.next_tag + length (started_b
 one_more : {X : Type 0} (xs : List X) (x : X) (most : ℕ) → nat_le most (length xs) ≡ false → length (xs ++ x ∷ []) ≤ most
 one_more xs x most e = let room = leb-false most (length xs) e in omega (arith, room, length-append xs (x ∷ []))
 
-counts : (w : World) (s : Step) → IsSound w → IsWithin w → IsAllowed w s → Counts w s
+pub counts : (w : World) (s : Step) → IsSound w → IsWithin w → IsAllowed w s → Counts w s
 counts w (Step.Listen seat query) h i a =
     let front = or_false_left (nat_le w.limits.listeners (length w.listeners) || nat_lt w.limits.last_number w.next_listener) _ a.listeners in
     let number = ltb-false w.limits.last_number w.next_listener (or_false_right (nat_le w.limits.listeners (length w.listeners)) _ front) in
@@ -149,7 +149,7 @@ counts w Step.Disconnected h i a =
 
 -- ---- worlds
 
-within_next : (w : World) (s : Step) → Counts w s → IsWithin (next w s)
+pub within_next : (w : World) (s : Step) → Counts w s → IsWithin (next w s)
 within_next w s c = record {
   listeners = omega (arith, length_of_map (renewed (brought_after w s) (pending (requests_after w s))) (listeners_after w s), c.listeners);
   requests = c.requests;

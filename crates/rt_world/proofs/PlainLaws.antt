@@ -192,7 +192,7 @@ plainly_pushed kept q m e (a ∷ entries) h b p =
 not_deep : (a : Assignment) → stands_too_deep a ≡ false → IsShallow a
 not_deep a e = ltb-false 33 (length a.0 + levels a.1) e
 
-none_deep : (entries : List Assignment) → list_any stands_too_deep entries ≡ false → All IsShallow entries
+pub none_deep : (entries : List Assignment) → list_any stands_too_deep entries ≡ false → All IsShallow entries
 none_deep [] e = λ k d lt. absurd (omega arith)
 none_deep (a ∷ entries) e =
     All-cons IsShallow a entries (not_deep a (or_false_left (stands_too_deep a) (list_any stands_too_deep entries) e))
@@ -285,7 +285,7 @@ reached_still w s h pl stay p r =
     both false b e = absurd (true≢false (sym e))
 
 -- a listener more
-Contains-more : {X : Type 0} (xs ys : List X) (x : X) → Contains xs x → Contains (xs ++ ys) x
+pub Contains-more : {X : Type 0} (xs ys : List X) (x : X) → Contains xs x → Contains (xs ++ ys) x
 Contains-more {X = X} xs ys x m = at xs m.0 m.1 m.2
   where
     at : (zs : List X) (k : ℕ) → k < length zs → slice_index_or zs k x ≡ x → Contains (zs ++ ys) x

@@ -201,7 +201,7 @@ cover_alone w (Step.Refused id why) e = absurd (true≢false (sym e))
 cover_alone w Step.Connected e = absurd (true≢false (sym e))
 cover_alone w Step.Disconnected e = absurd (true≢false (sym e))
 
-stays_same : (w : World) (s : Step) → IsSound w → IsCalled w.brought → changes_listeners s ≡ true → (l : Listener) → Contains w.listeners l → Contains (listeners_after w s) l
+pub stays_same : (w : World) (s : Step) → IsSound w → IsCalled w.brought → changes_listeners s ≡ true → (l : Listener) → Contains w.listeners l → Contains (listeners_after w s) l
     → renewed (brought_after w s) (pending (requests_after w s)) l ≡ l
 stays_same w s h called c l old new =
     let a = cover_alone w s c in

@@ -1,5 +1,6 @@
 pub mod Children
 pub mod Examples
+pub mod Holds
 pub mod Made
 pub mod Script
 pub mod Steps

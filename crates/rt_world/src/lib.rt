@@ -25,7 +25,10 @@ pub use laws::{
     plain_law, refusal_law, sound_law, stay_law,
 };
 pub use limits::{Limits, MAX_LISTENERS, MAX_NUMBER, MAX_REQUESTS};
-pub use made::{push_law, pushed_law, settled_law, still_law};
+pub use made::{
+    asked_law, connection_law, following_law, holding_law, push_law, pushed_law, settled_law,
+    steady_law, still_law,
+};
 pub use report::{Body, Note, Notes, Outcome, Report};
 pub use request::Request;
 pub use rt_wire::{Action, Asked, ClientMessage, Ending, Reason};

@@ -1,18 +1,24 @@
 -- What each kind of step leaves and tells, part by part, as a core makes it.
-use Rattle.std.specs.Prelude.{◌≡◌, ℕ, ◌+◌, Bool, true, false, not, List, [], ◌∷◌, ◌++◌, map, ◌==◌}
-use Rattle.std.specs.Prelude.{Option, Some, None, is_some}
+use Rattle.std.specs.Prelude.{◌≡◌, ◌<◌, ℕ, ◌+◌, Bool, true, false, not, if◌then◌else◌, List, [], ◌∷◌}
+use Rattle.std.specs.Prelude.{◌++◌, map, ◌==◌, Option, Some, None, is_some}
 use Rattle.std.specs.List.{filter, find, fold, All}
 use Rattle.std.specs.Option.{option_and_then, option_to_list}
 use Rattle.rt_tree.specs.PathTree.{Path, PathTree}
 use Rattle.rt_tree.specs.Assignments.{Assignment}
 use Rattle.rt_query.specs.Queries.{Query, is_filtered}
-use Rattle.rt_writes.specs.Writes.{IsShallow, without}
+use Rattle.rt_writes.specs.Writes.{Write, IsShallow, without}
 use Rattle.rt_cache.specs.Brought.{Brought, push}
+use Rattle.rt_wire.specs.declared.client.ClientMessage.{ClientMessage}
+use Rattle.rt_wire.specs.declared.request.Action.{Action}
+use Rattle.rt_wire.specs.declared.request.Asked.{Asked}
+use Rattle.rt_wire.specs.declared.request.Asked.TheVariants.{Now, AtDisconnect}
+use Rattle.rt_wire.specs.declared.request.Ending.{Ending}
 use Rattle.rt_world.specs.declared.report.Note.{Note}
 use Rattle.rt_world.specs.declared.step.Step.{Step}
-use Rattle.rt_world.specs.World.{Reason, World, pending, listen_of}
+use Rattle.rt_world.specs.World.{Reason, World, entries_of, pending, listen_of}
 use Rattle.rt_world.specs.Steps.{requests_after, pushed}
-use Rattle.rt_world.specs.Messages.{request_sent, messages_online, next}
+use Rattle.rt_world.specs.Messages.{listens, request_message, request_sent}
+use Rattle.rt_world.specs.Messages.{messages_online, next}
 use Rattle.rt_world.specs.Refusals.{refusal, is_stale}
 use Rattle.rt_world.specs.Answers.{settled_note, batch_notes, done_report}
 use Rattle.rt_world.specs.Touched.{entries_settled, entries_by}
@@ -155,3 +161,69 @@ MergeIsStale =
     (w : World) (tag : ℕ) (entries : List Assignment) → IsSound w → IsPlain w
     → refusal w (Step.DataMerge tag entries) ≡ None
     → is_stale w (Step.DataMerge tag entries) ≡ not (is_some (listen_of w tag))
+
+-- ---- requests and the connection
+
+-- the message of a request, while there is a connection
+abbrev pub asking : Bool → ℕ → Asked → List ClientMessage
+asking is_connected id asked = if is_connected then ClientMessage.Ask id asked ∷ [] else []
+
+-- the world once the seat has asked for this, and what is sent of it
+abbrev pub asked_world : World → ℕ → Asked → World
+asked_world w seat asked =
+    record w {
+      requests =
+          w.requests ++ record { id = w.next_request; seat = Some seat; asked = asked } ∷ [];
+      outgoing = w.outgoing ++ asking w.is_connected w.next_request asked;
+      next_request = w.next_request + 1;
+    }
+
+-- the pending writes with that of the next number
+abbrev pub writes_with : World → Action → List Write
+writes_with w action =
+    pending w.requests ++ record { id = w.next_request; entries = entries_of action } ∷ []
+
+-- a write shows in the views that its entries meet
+abbrev pub WriteIsMade : Type 0
+WriteIsMade =
+    (w : World) (seat : ℕ) (action : Action) → let s = Step.Write seat action in
+    IsMade w s → IsPlain w
+    → Leaves w s (record (asked_world w seat (Now action)) {
+      listeners =
+          map (renewed_met (entries_of action) w.brought (writes_with w action)) w.listeners;
+    }) (all_told (entries_of action) w.brought (writes_with w action) w.listeners)
+
+-- what is asked for the end of the connection shows nowhere
+abbrev pub EndingIsMade : Type 0
+EndingIsMade =
+    (w : World) (seat : ℕ) (ending : Ending) → let s = Step.OnDisconnect seat ending in
+    IsMade w s → IsPlain w → Leaves w s (asked_world w seat (AtDisconnect ending)) []
+
+-- a connection that opens sends the listens that are kept, and then the unsettled requests
+abbrev pub ConnectedIsMade : Type 0
+ConnectedIsMade =
+    (w : World) → let s = Step.Connected in
+    IsMade w s → IsPlain w
+    → Leaves w s (record w {
+      is_connected = true;
+      outgoing = listens w.kept ++ map request_message w.requests;
+    }) []
+
+-- one that ends drops what is to be sent
+abbrev pub DisconnectedIsMade : Type 0
+DisconnectedIsMade =
+    (w : World) → let s = Step.Disconnected in
+    IsMade w s → IsPlain w → Leaves w s (record w { is_connected = false; outgoing = [] }) []
+
+-- ---- what a write may be asked
+
+-- the entries of a write that is not refused are no deeper than trees are
+abbrev pub WritesAreShallow : Type 0
+WritesAreShallow =
+    (w : World) (seat : ℕ) (action : Action) → refusal w (Step.Write seat action) ≡ None
+    → All IsShallow (entries_of action)
+
+-- the next number is above those of all pending writes
+abbrev pub NextIsAbovePending : Type 0
+NextIsAbovePending =
+    (w : World) → IsSound w → All (λ (x : Write). x.id < w.next_request) (pending w.requests)

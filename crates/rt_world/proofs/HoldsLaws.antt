@@ -1,0 +1,64 @@
+-- What holds between steps stays so.
+use Rattle.std.proofs.Common.{◌≡◌, ◌≤◌, List, length, refl, sym, subst, arith, slice_index_or, not, ◌==◌, []}
+use Rattle.std.specs.List.{All}
+use Rattle.std.proofs.lemmas.List.Elements.{All-map, All-filter, All-push}
+use Rattle.rt_query.specs.Queries.{Query}
+use Rattle.rt_world.specs.declared.step.Step.{Step}
+use Rattle.rt_world.specs.World.{World, Listener, pending}
+use Rattle.rt_world.specs.Steps.{is_cancelled, listeners_after, requests_after, brought_after, renewed}
+use Rattle.rt_world.specs.laws.Holds.{AreShort, RegistersShort, EmptyIsSteady, StaysSteady, StaysShort, EmptyIsWithin, StaysWithin}
+use Rattle.rt_world.proofs.CalledLaws.{called_world, called_next}
+use Rattle.rt_world.proofs.LimitLaws.{allowed, counts, within_next}
+use Rattle.rt_world.proofs.Listeners.{query-renewed}
+use Rattle.rt_world.proofs.LostLaws.{stays_plain}
+use Rattle.rt_world.proofs.SoundLaws.{sound_empty, sound_next}
+
+-- ---- paths
+
+short_after : (w : World) (s : Step) → AreShort w.listeners → RegistersShort s → AreShort (listeners_after w s)
+short_after w (Step.Listen seat query) h u = All-push (λ (l : Listener). length l.query.path ≤ 32) w.listeners _ h u
+short_after w (Step.Unlisten seat listener) h u = All-filter (λ (l : Listener). not (l.number == listener)) (λ (l : Listener). length l.query.path ≤ 32) w.listeners h
+short_after w (Step.Revoked tag why) h u = All-filter (λ (l : Listener). not (is_cancelled w tag l)) (λ (l : Listener). length l.query.path ≤ 32) w.listeners h
+short_after w (Step.CloseSeat seat) h u = All-filter (λ (l : Listener). not (l.seat == seat)) (λ (l : Listener). length l.query.path ≤ 32) w.listeners h
+short_after w (Step.Write seat action) h u = h
+short_after w (Step.OnDisconnect seat ending) h u = h
+short_after w (Step.Data tag path tree) h u = h
+short_after w (Step.DataMerge tag entries) h u = h
+short_after w (Step.Accepted id) h u = h
+short_after w (Step.Refused id why) h u = h
+short_after w Step.Connected h u = h
+short_after w Step.Disconnected h u = h
+
+pub stays_short : StaysShort
+stays_short w s h u =
+    All-map (λ (l : Listener). length l.query.path ≤ 32) (renewed (brought_after w s) (pending (requests_after w s))) (listeners_after w s)
+    (λ k d lt. subst (λ (q : Query). length q.path ≤ 32) (sym (query-renewed (brought_after w s) (pending (requests_after w s)) (slice_index_or (listeners_after w s) k d))) (short_after w s h u k d lt))
+
+-- ---- worlds
+
+pub empty_is_steady : EmptyIsSteady
+empty_is_steady limits = record {
+  sound = sound_empty limits;
+  called = called_world limits [];
+  plain = record {
+    unfiltered = λ k d lt. absurd (omega arith);
+    windows = refl;
+    reached = λ k d lt. absurd (omega arith);
+    shallow = λ k d lt. absurd (omega arith);
+  };
+  short = λ k d lt. absurd (omega arith);
+}
+
+pub stays_steady : StaysSteady
+stays_steady w s h plain short free = record {
+  sound = sound_next w s h.sound;
+  called = called_next w s h.sound h.called free;
+  plain = stays_plain w s h.sound h.plain plain free h.short;
+  short = stays_short w s h.short short;
+}
+
+pub empty_is_within : EmptyIsWithin
+empty_is_within limits = record { listeners = omega arith; requests = omega arith; next_listener = omega arith; next_request = omega arith; next_tag = omega arith }
+
+pub stays_within : StaysWithin
+stays_within w s h i free = within_next w s (counts w s h i (allowed w s free))
