@@ -8,6 +8,7 @@ pub mod HeardLaws
 pub mod HoldsLaws
 pub mod KeptLaws
 pub mod LimitLaws
+pub mod ListenedLaws
 pub mod Listeners
 pub mod LostLaws
 pub mod MadeLaws
@@ -18,6 +19,7 @@ pub mod Numbers
 pub mod PlainLaws
 pub mod PushLaws
 pub mod RecoverLaws
+pub mod RefusedLaws
 pub mod RunLaws
 pub mod ShowLaws
 pub mod SoundLaws

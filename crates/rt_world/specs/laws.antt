@@ -1,7 +1,9 @@
 pub mod Children
 pub mod Examples
 pub mod Holds
+pub mod Listened
 pub mod Made
+pub mod Refused
 pub mod Script
 pub mod Steps
 pub mod World

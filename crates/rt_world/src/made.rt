@@ -5,6 +5,13 @@ ghost use Rattle.rt_world.specs.laws.Made.{ListensArePlain, DataIsStale, MergeIs
 ghost use Rattle.rt_world.specs.laws.Made.{WriteIsMade, EndingIsMade, ConnectedIsMade};
 ghost use Rattle.rt_world.specs.laws.Made.{DisconnectedIsMade, WritesAreShallow};
 ghost use Rattle.rt_world.specs.laws.Made.{NextIsAbovePending};
+ghost use Rattle.rt_world.specs.laws.Listened.{ListenIsMade, UnlistenIsMade, CloseSeatIsMade};
+ghost use Rattle.rt_world.specs.laws.Listened.{RevokedIsMade, ListenMayAdd, UnlistenMayRemove};
+ghost use Rattle.rt_world.specs.laws.Listened.{CloseSeatMayRemove, RevokedMayRevoke};
+ghost use Rattle.rt_world.specs.laws.Refused.{RefusedIsNothing, StaleIsNothing, OtherIsMade};
+ghost use Rattle.rt_world.specs.laws.Refused.{RefusalIsOfKind, OwnIsNotStale, AcceptedIsStale};
+ghost use Rattle.rt_world.specs.laws.Refused.{RefusedIsStale, RevokedIsStale, ListenNeedsTag};
+ghost use Rattle.rt_world.specs.laws.Refused.{UnlistenNeedsTag, CloseSeatNeedsTag, RevokedNeedsTag};
 ghost use Rattle.rt_world.specs.laws.Holds.{EmptyIsSteady, StaysSteady, StaysCalled, StaysShort};
 ghost use Rattle.rt_world.specs.laws.Holds.{EmptyIsWithin, StaysWithin, HeadlineOfSound};
 ghost use Rattle.rt_world.specs.laws.Holds.{CoverFollows, DeltaFollows};
@@ -54,6 +61,15 @@ pub fn connection_law()
     ensures disconnected { DisconnectedIsMade }
 {}
 
+/// A new listener is told alone; those that stay when others end are as they were. The listens change
+/// as `rt_cover` says.
+pub fn listened_law()
+    ensures listen { ListenIsMade }
+    ensures unlisten { UnlistenIsMade }
+    ensures close { CloseSeatIsMade }
+    ensures revoked { RevokedIsMade }
+{}
+
 /// What holds between steps in plain listens holds before any step, and after each.
 pub fn steady_law()
     ensures empty { EmptyIsSteady }
@@ -74,4 +90,36 @@ pub fn holding_law()
 pub fn following_law()
     ensures cover { CoverFollows }
     ensures told { DeltaFollows }
+{}
+
+/// Where a step is not refused, `rt_cover` refuses its change neither.
+pub fn covered_law()
+    ensures listen { ListenMayAdd }
+    ensures unlisten { UnlistenMayRemove }
+    ensures close { CloseSeatMayRemove }
+    ensures revoked { RevokedMayRevoke }
+{}
+
+/// What a step answers: refused or stale it leaves the world as it was, else it is made.
+pub fn answer_law()
+    ensures refused { RefusedIsNothing }
+    ensures stale { StaleIsNothing }
+    ensures made { OtherIsMade }
+{}
+
+/// Which refusals a step can have, and when it is stale.
+pub fn kind_law()
+    ensures refusal { RefusalIsOfKind }
+    ensures own { OwnIsNotStale }
+    ensures accepted { AcceptedIsStale }
+    ensures refused { RefusedIsStale }
+    ensures revoked { RevokedIsStale }
+{}
+
+/// A step needs a tag above the last one just where its change of the cover lacks one.
+pub fn tag_law()
+    ensures listen { ListenNeedsTag }
+    ensures unlisten { UnlistenNeedsTag }
+    ensures close { CloseSeatNeedsTag }
+    ensures revoked { RevokedNeedsTag }
 {}

@@ -1,0 +1,173 @@
+-- Steps that register or end listeners, in the words of rt_cover's changes.
+use Rattle.std.proofs.Common.{◌≡◌, ℕ, ◌+◌, Bool, true, false, cond, not, ◌==◌, List, [], ◌∷◌, ◌++◌, map, length, refl, sym, ap, subst, ◌∙◌, arith, suc, append-nil, Option, Some, None}
+use Rattle.std.specs.List.{filter, filter_map, cons_option, fold, Contains}
+use Rattle.std.specs.Option.{option_to_list}
+use Rattle.std.proofs.lemmas.List.Elements.{filter_map-append}
+use Rattle.rt_query.specs.Queries.{Query}
+use Rattle.rt_query.specs.Supply.{form}
+use Rattle.rt_writes.specs.Writes.{Write}
+use Rattle.rt_cache.specs.Brought.{Brought}
+use Rattle.rt_cache.specs.Recover.{recover}
+use Rattle.rt_cover.specs.declared.delta.Delta.{Delta}
+use Rattle.rt_cover.specs.Cover.{Registered, Tagged, forms}
+use Rattle.rt_cover.specs.Runs.{Change, Add, Remove, Revoke, told as told_of_change}
+use Rattle.rt_cover.specs.State.{Cover, shown_with, with_listeners, difference, removed, revoked, without_tag, left_after, without_listeners}
+use Rattle.rt_cover.specs.laws.CoverLaws.{Contains-from_filter}
+use Rattle.rt_wire.specs.declared.client.ClientMessage.{ClientMessage}
+use Rattle.rt_world.specs.declared.report.Body.TheVariants.{Cancelled}
+use Rattle.rt_world.specs.declared.report.Note.{Note}
+use Rattle.rt_world.specs.declared.step.Step.{Step}
+use Rattle.rt_world.specs.World.{World, Listener, registered, pending}
+use Rattle.rt_world.specs.Steps.{is_cancelled, unseated, listeners_after, requests_after, kept_after, started_by, pushed, brought_after, renewed, renewed_after}
+use Rattle.rt_world.specs.Messages.{stopped_by, listens, unlistens, request_sent, messages_online, next}
+use Rattle.rt_world.specs.Answers.{batch_from, batch_note, batch_notes}
+use Rattle.rt_world.specs.Met.{told}
+use Rattle.rt_world.specs.Covering.{cover_in, numbers_of, cover_after, change_by, delta_by}
+use Rattle.rt_world.specs.laws.World.{changes_listeners}
+use Rattle.rt_world.specs.laws.Steps.{note_of}
+use Rattle.rt_world.specs.laws.Made.{IsMade}
+use Rattle.rt_world.specs.laws.Listened.{changing, new_listener, cover_with, ListenIsMade, UnlistenIsMade, CloseSeatIsMade, RevokedIsMade}
+use Rattle.rt_world.proofs.CoveringLaws.{follows, revoked_left, unlistened, closed}
+use Rattle.rt_world.proofs.DeltaLaws.{delta}
+use Rattle.rt_world.proofs.HeardLaws.{map-append}
+use Rattle.rt_world.proofs.Listeners.{registered-renewed}
+use Rattle.rt_world.proofs.LostLaws.{listen_brings_nothing}
+use Rattle.rt_world.proofs.NoteLaws.{batches_are_notes, still_is_quiet}
+use Rattle.rt_world.proofs.PlainLaws.{Contains-more}
+use Rattle.rt_world.proofs.StayLaws.{stays_same}
+
+-- ---- lists
+
+map_id : {X : Type 0} (f : X → X) (xs : List X) → ((x : X) → Contains xs x → f x ≡ x) → map f xs ≡ xs
+map_id f [] h = refl
+map_id f (x ∷ xs) h =
+    let head = h x (0, omega arith, refl) in
+    let tail = map_id f xs (λ y m. h y (suc m.0, omega (arith, m.1), m.2)) in
+    λ i. head i ∷ tail i
+
+gather_none : {X Y : Type 0} (f : X → Option Y) (xs : List X) → ((x : X) → Contains xs x → f x ≡ None) → filter_map f xs ≡ []
+gather_none f [] h = refl
+gather_none f (x ∷ xs) h =
+    let head = h x (0, omega arith, refl) in
+    let tail = gather_none f xs (λ y m. h y (suc m.0, omega (arith, m.1), m.2)) in
+    λ i. cons_option (head i) (tail i)
+
+one_gathered : {X : Type 0} (o : Option X) → cons_option o [] ≡ option_to_list o
+one_gathered (Some x) = refl
+one_gathered None = refl
+
+-- ---- messages
+
+listens_shown : (rs : List Registered) (ks : List Tagged) → map (λ k. ClientMessage.Listen k.tag k.query) (map (shown_with rs) ks) ≡ listens ks
+listens_shown rs [] = refl
+listens_shown rs (k ∷ ks) = ap (λ z. ClientMessage.Listen k.tag k.form ∷ z) (listens_shown rs ks)
+
+unlistens_tags : (ks : List Tagged) → map (λ tag. ClientMessage.Unlisten tag) (map (λ (k : Tagged). k.tag) ks) ≡ unlistens ks
+unlistens_tags [] = refl
+unlistens_tags (k ∷ ks) = ap (λ z. ClientMessage.Unlisten k.tag ∷ z) (unlistens_tags ks)
+
+-- a step that asks for nothing sends what its change of the cover tells
+sends : (w : World) (s : Step) → request_sent w s ≡ [] → (d : Delta) → d ≡ delta_by w s → cond w.is_connected (messages_online w s) [] ≡ changing w.is_connected d
+sends w s none d e =
+    ap (λ ms. cond w.is_connected ms [])
+    ((λ i. (listens (started_by w s) ++ unlistens (stopped_by w s)) ++ none i)
+    ∙ append-nil (listens (started_by w s) ++ unlistens (stopped_by w s))
+    ∙ (λ i. sym (listens_shown (registered (listeners_after w s)) (started_by w s)) i ++ sym (unlistens_tags (stopped_by w s)) i))
+    ∙ ap (changing w.is_connected) (sym e)
+
+-- ---- listeners that stay
+
+module _ (w : World) (s : Step) (d : IsMade w s) (c : changes_listeners s ≡ true) where
+  -- a listener that stays is told nothing
+  quiet : (l : Listener) → Contains w.listeners l → Contains (listeners_after w s) l → note_of w s l ≡ None
+  quiet l old new = ap (λ x. batch_note x (batch_from l.view x)) (stays_same w s d.sound d.called c l old new) ∙ still_is_quiet w l d.sound old
+
+  module _ (test : Listener → Bool) (left : listeners_after w s ≡ filter test w.listeners) where
+    old : (l : Listener) → Contains (listeners_after w s) l → Contains w.listeners l
+    old l m = Contains-from_filter test w.listeners l (subst (λ (ls : List Listener). Contains ls l) left m)
+
+    pub left_renewed : renewed_after w s ≡ filter test w.listeners
+    left_renewed = map_id (renewed (brought_after w s) (pending (requests_after w s))) (listeners_after w s) (λ l m. stays_same w s d.sound d.called c l (old l m) m) ∙ left
+
+    pub left_quiet : batch_notes w s ≡ []
+    left_quiet = batches_are_notes w s d.sound ∙ gather_none (note_of w s) (listeners_after w s) (λ l m. quiet l (old l m) m)
+
+    -- what is brought, said by the cover after the step
+    pub left_brought : pushed w s ≡ w.brought → (ls : List Registered) → registered (listeners_after w s) ≡ ls → (k : Cover) → cover_in (next w s) ≡ k → k.listeners ≡ ls
+        → brought_after w s ≡ recover (forms k.listeners) (map (λ (x : Tagged). x.form) k.kept) w.brought
+    left_brought p ls e k f g =
+        (λ i. recover (forms ((e ∙ sym g) i)) (map (λ (x : Tagged). x.form) (f i).kept) (p i))
+
+-- ---- one listener ends
+
+pub unlisten_is_made : UnlistenIsMade
+unlisten_is_made w seat listener d =
+    let s : Step = Step.Unlisten seat listener in
+    let c : Cover = removed (cover_in w) (listener ∷ []) in
+    let test : Listener → Bool = λ l. not (l.number == listener) in
+    let f : cover_in (next w s) ≡ c = follows w s d.sound in
+    let ls = left_renewed w s d refl test refl in
+    let b = left_brought w s d refl test refl refl (without_listeners (registered w.listeners) (listener ∷ [])) (unlistened w listener) c f refl in
+    let ms = sends w s refl (difference (cover_in w) c) (delta w s d.sound (Remove (listener ∷ [])) refl) in
+    record {
+      world = (λ i. record w { listeners = ls i; brought = b i; kept = (f i).kept; outgoing = w.outgoing ++ ms i; next_tag = (f i).next_tag });
+      notes = left_quiet w s d refl test refl;
+    }
+
+-- ---- those of a seat
+
+pub close_seat_is_made : CloseSeatIsMade
+close_seat_is_made w seat d =
+    let s : Step = Step.CloseSeat seat in
+    let c : Cover = removed (cover_in w) (numbers_of w seat) in
+    let test : Listener → Bool = λ l. not (l.seat == seat) in
+    let f : cover_in (next w s) ≡ c = follows w s d.sound in
+    let ls = left_renewed w s d refl test refl in
+    let b = left_brought w s d refl test refl refl (without_listeners (registered w.listeners) (numbers_of w seat)) (closed w seat d.sound) c f refl in
+    let ms = sends w s refl (difference (cover_in w) c) (delta w s d.sound (Remove (numbers_of w seat)) refl) in
+    record {
+      world = (λ i. record w { listeners = ls i; requests = map (unseated seat) w.requests; brought = b i; kept = (f i).kept; outgoing = w.outgoing ++ ms i; next_tag = (f i).next_tag });
+      notes = left_quiet w s d refl test refl;
+    }
+
+-- ---- those of a listen
+
+pub revoked_is_made : RevokedIsMade
+revoked_is_made w tag why d =
+    let s : Step = Step.Revoked tag why in
+    let c : Cover = revoked (cover_in w) tag in
+    let test : Listener → Bool = λ l. not (is_cancelled w tag l) in
+    let f : cover_in (next w s) ≡ c = follows w s d.sound in
+    let ls = left_renewed w s d refl test refl in
+    let b = left_brought w s d refl test refl refl (left_after (cover_in w) tag) (revoked_left w tag) c f refl in
+    let ms = sends w s refl (without_tag tag (difference (cover_in w) c)) (delta w s d.sound (Revoke tag) refl) in
+    let ended : List Note = map (λ (l : Listener). record { seat = l.seat; body = Cancelled l.number why }) (filter (is_cancelled w tag) w.listeners) in
+    record {
+      world = (λ i. record w { listeners = ls i; brought = b i; kept = (f i).kept; outgoing = w.outgoing ++ ms i; next_tag = (f i).next_tag });
+      notes = ap (λ ns. ended ++ ns) (left_quiet w s d refl test refl) ∙ append-nil ended;
+    }
+
+-- ---- a new listener
+
+pub listen_is_made : ListenIsMade
+listen_is_made w seat query d p u =
+    let s : Step = Step.Listen seat query in
+    let new : Listener = new_listener w seat query in
+    let c : Cover = cover_with w query in
+    let ws : List Write = pending w.requests in
+    let f : cover_in (next w s) ≡ c = follows w s d.sound in
+    let b : brought_after w s ≡ w.brought = listen_brings_nothing w seat query d.sound p u d.not_refused in
+    let there : (l : Listener) → Contains w.listeners l → Contains (listeners_after w s) l = λ l m. Contains-more w.listeners (new ∷ []) l m in
+    let ls : renewed_after w s ≡ w.listeners ++ renewed w.brought ws new ∷ [] =
+    map-append (renewed (brought_after w s) ws) w.listeners (new ∷ [])
+    ∙ (λ i. map_id (renewed (brought_after w s) ws) w.listeners (λ l m. stays_same w s d.sound d.called refl l m (there l m)) i ++ renewed (b i) ws new ∷ []) in
+    let ms = sends w s refl (difference (cover_in w) c) (delta w s d.sound (Add w.next_listener query) refl) in
+    let said : batch_notes w s ≡ option_to_list (told w.brought ws new) =
+    batches_are_notes w s d.sound
+    ∙ filter_map-append (note_of w s) w.listeners (new ∷ [])
+    ∙ (λ i. gather_none (note_of w s) w.listeners (λ l m. quiet w s d refl l m (there l m)) i ++ cons_option (told (b i) ws new) [])
+    ∙ one_gathered (told w.brought ws new) in
+    record {
+      world = (λ i. record w { listeners = ls i; brought = b i; kept = (f i).kept; outgoing = w.outgoing ++ ms i; next_listener = w.next_listener + 1; next_tag = (f i).next_tag });
+      notes = said;
+    }

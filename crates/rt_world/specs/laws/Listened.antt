@@ -1,0 +1,133 @@
+-- What a step leaves and tells that registers or ends listeners, in the words of rt_cover's changes.
+use Rattle.std.specs.Prelude.{◌≡◌, ℕ, ◌+◌, Bool, true, false, not, if◌then◌else◌, List, [], ◌∷◌, ◌++◌}
+use Rattle.std.specs.Prelude.{map, ◌==◌, None}
+use Rattle.std.specs.List.{filter}
+use Rattle.std.specs.Option.{option_to_list}
+use Rattle.rt_query.specs.Queries.{Query, is_filtered}
+use Rattle.rt_cache.specs.Recover.{recover}
+use Rattle.rt_cover.specs.declared.delta.Delta.{Delta}
+use Rattle.rt_cover.specs.Cover.{Registered, forms}
+use Rattle.rt_cover.specs.State.{Cover, is_registered, with_listener, lacks_tag, difference, added}
+use Rattle.rt_cover.specs.State.{removed, revoked, without_tag, add_fault, remove_fault, revoke_fault}
+use Rattle.rt_wire.specs.declared.client.ClientMessage.{ClientMessage}
+use Rattle.rt_world.specs.declared.report.Body.TheVariants.{Cancelled}
+use Rattle.rt_world.specs.declared.report.Note.{Note}
+use Rattle.rt_world.specs.declared.step.Step.{Step}
+use Rattle.rt_world.specs.World.{Reason, Listener, World, registered, pending}
+use Rattle.rt_world.specs.Steps.{is_cancelled, unseated, renewed}
+use Rattle.rt_world.specs.Refusals.{refusal, is_stale}
+use Rattle.rt_world.specs.Met.{told}
+use Rattle.rt_world.specs.Covering.{cover_in, numbers_of}
+use Rattle.rt_world.specs.Plain.{IsPlain}
+use Rattle.rt_world.specs.Sound.{IsSound}
+use Rattle.rt_world.specs.laws.Made.{IsMade, Leaves}
+
+-- the messages of a change of the listens kept, while there is a connection
+abbrev pub changing : Bool → Delta → List ClientMessage
+changing is_connected delta =
+    if is_connected
+    then map (λ k. ClientMessage.Listen k.tag k.query) delta.started
+    ++ map (λ tag. ClientMessage.Unlisten tag) delta.stopped
+    else []
+
+-- ---- a new listener
+
+-- it gets the next number, and is not primed
+abbrev pub new_listener : World → ℕ → Query → Listener
+new_listener w seat query =
+    record {
+      number = w.next_listener;
+      seat = seat;
+      query = query;
+      is_primed = false;
+      view = None;
+    }
+
+-- the cover with it
+abbrev pub cover_with : World → Query → Cover
+cover_with w query = added (cover_in w) w.next_listener query
+
+-- it alone is renewed, and told; what is brought stays, in plain listens
+abbrev pub ListenIsMade : Type 0
+ListenIsMade =
+    (w : World) (seat : ℕ) (query : Query) → let s = Step.Listen seat query in
+    IsMade w s → IsPlain w → is_filtered query ≡ false
+    → let new = new_listener w seat query in
+    let c = cover_with w query in
+    Leaves w s (record w {
+      listeners = w.listeners ++ renewed w.brought (pending w.requests) new ∷ [];
+      kept = c.kept;
+      outgoing = w.outgoing ++ changing w.is_connected (difference (cover_in w) c);
+      next_listener = w.next_listener + 1;
+      next_tag = c.next_tag;
+    }) (option_to_list (told w.brought (pending w.requests) new))
+
+-- its number is registered for none, and no tag is lacking for it
+pub record MayAdd (w : World) (query : Query) : Type 0 where
+  pub new : is_registered (registered w.listeners) w.next_listener ≡ false
+  pub fault : add_fault (cover_in w) w.next_listener query ≡ None
+
+-- so it is where it is not refused
+abbrev pub ListenMayAdd : Type 0
+ListenMayAdd =
+    (w : World) (seat : ℕ) (query : Query) → IsSound w → refusal w (Step.Listen seat query) ≡ None
+    → MayAdd w query
+
+-- ---- listeners that end
+
+-- the world with the listeners that stay, as they were, over the cover without the others; what no
+-- listen reaches any more is lost
+abbrev pub left_world : World → (Listener → Bool) → Cover → Delta → World
+left_world w stays c delta =
+    record w {
+      listeners = filter stays w.listeners;
+      brought = recover (forms c.listeners) (map (λ k. k.form) c.kept) w.brought;
+      kept = c.kept;
+      outgoing = w.outgoing ++ changing w.is_connected delta;
+      next_tag = c.next_tag;
+    }
+
+-- one listener ends
+abbrev pub UnlistenIsMade : Type 0
+UnlistenIsMade =
+    (w : World) (seat listener : ℕ) → let s = Step.Unlisten seat listener in
+    IsMade w s
+    → let c = removed (cover_in w) (listener ∷ []) in
+    Leaves w s (left_world w (λ l. not (l.number == listener)) c (difference (cover_in w) c)) []
+
+-- those of a seat do, and its requests stay, without a seat
+abbrev pub CloseSeatIsMade : Type 0
+CloseSeatIsMade =
+    (w : World) (seat : ℕ) → let s = Step.CloseSeat seat in
+    IsMade w s
+    → let c = removed (cover_in w) (numbers_of w seat) in
+    Leaves w s (record (left_world w (λ l. not (l.seat == seat)) c (difference (cover_in w) c)) {
+      requests = map (unseated seat) w.requests;
+    }) []
+
+-- those of a listen do, and are told
+abbrev pub RevokedIsMade : Type 0
+RevokedIsMade =
+    (w : World) (tag : ℕ) (why : Reason) → let s = Step.Revoked tag why in
+    IsMade w s
+    → let c = revoked (cover_in w) tag in
+    let delta = without_tag tag (difference (cover_in w) c) in
+    Leaves w s (left_world w (λ l. not (is_cancelled w tag l)) c delta)
+    (map (λ l. record { seat = l.seat; body = Cancelled l.number why })
+    (filter (is_cancelled w tag) w.listeners))
+
+-- where the end of listeners is not refused, rt_cover refuses it neither
+abbrev pub UnlistenMayRemove : Type 0
+UnlistenMayRemove =
+    (w : World) (seat listener : ℕ) → refusal w (Step.Unlisten seat listener) ≡ None
+    → remove_fault (cover_in w) (listener ∷ []) ≡ None
+
+abbrev pub CloseSeatMayRemove : Type 0
+CloseSeatMayRemove =
+    (w : World) (seat : ℕ) → IsSound w → refusal w (Step.CloseSeat seat) ≡ None
+    → remove_fault (cover_in w) (numbers_of w seat) ≡ None
+
+abbrev pub RevokedMayRevoke : Type 0
+RevokedMayRevoke =
+    (w : World) (tag : ℕ) (why : Reason) → refusal w (Step.Revoked tag why) ≡ None
+    → is_stale w (Step.Revoked tag why) ≡ false → revoke_fault (cover_in w) tag ≡ None
