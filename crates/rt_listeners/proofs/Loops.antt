@@ -65,3 +65,11 @@ rising_same number xs ys e h = λ i j d below within.
     let long : length ys ≡ length xs = sym (length-map ys number) ∙ ap length e ∙ length-map xs number in
     let rise : number (get_or xs i d) < number (get_or xs j d) = h i j d below (omega (arith, long, within)) in
     omega (arith, same i, same j, rise)
+
+-- what is gathered of one more element
+pub gather_more : {X Z : Type 0} (t : X → Option Z) (xs : List X) (i : ℕ) (d : X) → i < length xs
+    → filter_map t (take (suc i) xs) ≡ filter_map t (take i xs) ++ option_to_list (t (get_or xs i d))
+gather_more t [] i d lt = absurd (omega arith)
+gather_more t (x ∷ xs) zero d lt = one_more (t x)
+gather_more t (x ∷ xs) (suc i) d lt =
+    ap (cons_option (t x)) (gather_more t xs i d (omega arith)) ∙ cons_append (t x) (filter_map t (take i xs)) (option_to_list (t (get_or xs i d)))

@@ -10,8 +10,13 @@
 //! ```
 #![tactic(auto)]
 
+mod adding;
+mod asking;
+mod ending;
+mod error;
 mod held;
 mod listeners;
 mod views;
 
+pub use error::ShownError;
 pub use listeners::Listeners;

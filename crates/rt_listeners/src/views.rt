@@ -1,5 +1,6 @@
 // The view of a listener, and what its seat is told.
 ghost use Rattle.std.specs.Prelude.{◌≡◌, ◌++◌, ◌||◌, [], map, false, not, IfOk, OnOk};
+ghost use Rattle.std.specs.Prelude.{None, Some};
 ghost use Rattle.std.specs.List.{All};
 ghost use Rattle.std.specs.Option.{option_to_list};
 ghost use Rattle.rt_query.specs.Queries.{is_filtered};
@@ -11,7 +12,8 @@ ghost use Rattle.rt_world.specs.Views.{base_tree, is_known, seen_over};
 ghost use Rattle.rt_world.specs.Steps.{renewed};
 ghost use Rattle.rt_world.specs.Answers.{batch_note};
 ghost use Rattle.rt_listeners.specs.inside.HeldView.{IsHeld, AreHeld, listener_of, listeners_of};
-ghost use Rattle.rt_listeners.specs.inside.HeldView.{shown_in, own_count, own_counts};
+ghost use Rattle.rt_listeners.specs.inside.HeldView.{counts_of, own_count, own_counts, shown_in};
+ghost use Rattle.rt_listeners.specs.Listeners.{first_counts, first_of};
 ghost use Rattle.rt_world.specs.Met.{all_told, do_meet, renewed_met, seeing, told};
 ghost use Rattle.rt_world.specs.Met.{told_met};
 
@@ -69,6 +71,8 @@ fn show(alloc: Global, listener: &mut Held, seen: Tree) -> Result<ChangeList, Al
     ensures view { OnOk result (listener_of listener.new ≡ seeing seen (listener_of listener.old)) }
     ensures held { OnOk result (IsHeld listener.new) }
     ensures number { listener.new.number ≡ listener.old.number }
+    ensures first { OnOk result (listener.old.view ≡ None
+        → counts_of listener.new ≡ Some (first_of seen)) }
     ensures changes { IfOk result (λ list. list
         ≡ changes listener.old.query.index (shown_in listener.old.view)
         (select listener.old.query seen)) }
@@ -119,6 +123,8 @@ pub(crate) fn renew(
         ≡ renewed brought.now pending.now (listener_of listener.old)) }
     ensures held { OnOk result (IsHeld listener.new) }
     ensures number { listener.new.number ≡ listener.old.number }
+    ensures first { OnOk result (listener.old.view ≡ None
+        → counts_of listener.new ≡ first_counts brought.now pending.now listener.old.query) }
     ensures notes { OnOk result (notes.new.items ≡ notes.old.items
         ++ option_to_list (told brought.now pending.now (listener_of listener.old))) }
 {

@@ -1,14 +1,17 @@
 -- What is held of the listeners, as the world has them.
 use Rattle.std.specs.Prelude.{◌≡◌, ℕ, ◌<◌, Bool, false, if◌then◌else◌, List, map}
-use Rattle.std.specs.Prelude.{Option, Some, None, is_some}
+use Rattle.std.specs.Prelude.{Option, Some, None, is_some, ◌==◌}
 use Rattle.std.specs.List.{All, AllPairs, filter_map}
 use Rattle.std.specs.Option.{option_map}
 use Rattle.rt_query.specs.Queries.{Query, is_filtered}
+use Rattle.rt_query.specs.QueryEq.{query_eq}
 use Rattle.rt_query.specs.Select.{Shown}
+use Rattle.rt_query.specs.Supply.{form}
 use Rattle.rt_view.specs.Views.{View, shown_of}
-use Rattle.rt_world.specs.World.{Listener}
+use Rattle.rt_world.specs.declared.report.Note.{Note}
+use Rattle.rt_world.specs.World.{Listener, Reason}
 use Rattle.rt_listeners.specs.declared.held.Held.{Held}
-use Rattle.rt_listeners.specs.Listeners.{Counts, Listeners}
+use Rattle.rt_listeners.specs.Listeners.{cancelled_note, Counts, Listeners}
 
 -- what a view shows
 abbrev pub shown_in : Option View → Option Shown
@@ -43,6 +46,15 @@ own_count test l = if test (listener_of l) then Some (l.number, counts_of l) els
 -- the counts of the listeners that pass
 abbrev pub own_counts : (Listener → Bool) → List Held → List (ℕ × Option Counts)
 own_counts test held = filter_map (own_count test) held
+
+-- the listener's number, if it is the seat's
+abbrev pub own_number : ℕ → Held → Option ℕ
+own_number seat l = if l.seat == seat then Some l.number else None
+
+-- the note of a listener that ends with its form
+abbrev pub ended_note : Query → Reason → Listener → Option Note
+ended_note listened why l =
+    if query_eq (form l.query) listened then Some (cancelled_note why l) else None
 
 -- a view is of the listener's query, and has not failed
 abbrev pub IsViewOf : Query → Option View → Type 0
