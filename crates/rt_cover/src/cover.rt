@@ -254,10 +254,10 @@ impl Cover {
     }
 
     /// The same of the listeners of a choice, so that [`Cover::remove`] of just their numbers would
-    /// answer `NoTag`: for whoever ends many listeners, and asks before making a list of them.
+    /// answer `NoTag`: for whoever ends many listeners and has no list of their numbers yet.
     ///
-    /// Costs what [`Cover::lacks_tag_to_remove`] does, and asks the choice for each listener that
-    /// either of two compared ones is.
+    /// Costs what [`Cover::lacks_tag_to_remove`] does; the choice is asked of a listener once for each
+    /// one that it is compared with.
     pub fn lacks_tag_to_remove_chosen<C: Choice>(&self, choice: &C) -> bool
         ensures exact { result
             ≡ lacks_tag self.now (without_chosen (C.chosen choice.now) self.now.listeners) }
