@@ -1,12 +1,14 @@
 -- The refusals of changes, by whether a tag is lacking.
-use Rattle.std.proofs.Common.{◌≡◌, ◌≢◌, ℕ, Bool, true, false, cond, List, Option, Some, None, is_some, sym, ap, ◌∙◌, arith}
+use Rattle.std.proofs.Common.{◌≡◌, ◌≢◌, ℕ, ◌==◌, Bool, true, false, cond, not, List, Option, Some, None, is_some, sym, ap, ◌∙◌, arith}
 use mathlib.Core.Bool.{true≢false}
+use Rattle.std.specs.List.{list_any}
 use Rattle.std.specs.Option.{option_map_or}
 use Rattle.rt_cover.specs.declared.error.CoverError.{CoverError}
 use Rattle.rt_cover.specs.declared.error.CoverError.TheVariants.{UnknownListener, UnknownTag, NoTag}
 use Rattle.rt_cover.specs.Errors.{code_of}
 use Rattle.rt_cover.specs.Cover.{Registered, Tagged}
-use Rattle.rt_cover.specs.State.{Cover, lacks_tag, fault_of, has_unknown, remove_fault, revoke_fault, without_listeners, left_after, listen_at}
+use Rattle.rt_cover.specs.State.{Cover, lacks_tag, fault_of, has_unknown, AreChosen, remove_fault, revoke_fault, without_listeners, without_chosen, left_after, listen_at}
+use Rattle.rt_cover.specs.laws.Pairs.{filter_agreeing}
 
 -- ---- a change to some listeners
 
@@ -32,6 +34,15 @@ remove_known c numbers e = ap (λ b. cond b (Some UnknownListener) (fault_of c (
 pub remove_unknown : (c : Cover) (numbers : List ℕ) → has_unknown c numbers ≡ true → remove_fault c numbers ≢ Some NoTag
 remove_unknown c numbers e is =
     absurd (omega (arith, ap number (sym (ap (λ b. cond b (Some UnknownListener) (fault_of c (without_listeners c.listeners numbers))) e) ∙ is)))
+
+-- of the chosen listeners, by whether their end lacks a tag
+pub remove_chosen : (c : Cover) (chosen : ℕ → Bool) (numbers : List ℕ) (lacks : Bool) → AreChosen c chosen numbers
+    → lacks ≡ lacks_tag c (without_chosen chosen c.listeners) → remove_fault c numbers ≡ cond lacks (Some NoTag) None
+remove_chosen c chosen numbers lacks h e =
+    remove_known c numbers h.registered
+    ∙ ap (fault_of c) (filter_agreeing (λ (l : Registered). not (list_any (λ n. n == l.0) numbers)) (λ (l : Registered). not (chosen l.0)) c.listeners
+    (λ k d lt. ap not (h.each k d lt)))
+    ∙ ap (λ b. cond b (Some NoTag) None) (sym e)
 
 -- ---- a revocation
 

@@ -9,10 +9,9 @@ use Rattle.std.proofs.lemmas.List.Sums.{length-filter, count_by-le-length}
 use Rattle.rt_query.specs.Queries.{Query}
 use Rattle.rt_query.specs.QueryEq.{query_eq}
 use Rattle.rt_query.specs.Supply.{does_supply}
-use Rattle.rt_cover.specs.declared.ending.Ending.{Ending}
 use Rattle.rt_cover.specs.Cover.{Registered, Tagged, forms, is_kept, needed}
 use Rattle.rt_cover.specs.State.{Cover, needed_forms, started_for, lacks_tag}
-use Rattle.rt_cover.specs.inside.Endings.{ends, left, comes_before, starts}
+use Rattle.rt_cover.specs.inside.Endings.{left, comes_before, starts}
 use Rattle.rt_cover.specs.inside.Sound.{IsSound}
 use Rattle.rt_cover.specs.laws.CoverLaws.{is_covered}
 use Rattle.rt_cover.specs.laws.FormLaws.{same_tests}
@@ -167,18 +166,18 @@ replaced ls l =
     either false false true = refl
     either false false false = refl
 
-pub count_started : (e : Ending) (kept : List Tagged) (ls : List Registered) → AllPairs (λ (l m : Registered). l.0 < m.0) ls
-    → length (new_forms kept (needed (forms (left e ls)))) ≡ length (filter (starts e kept ls) ls)
-count_started e kept ls rise =
+pub count_started : (ends : Registered → Bool) (kept : List Tagged) (ls : List Registered) → AllPairs (λ (l m : Registered). l.0 < m.0) ls
+    → length (new_forms kept (needed (forms (left ends ls)))) ≡ length (filter (starts ends kept ls) ls)
+count_started ends kept ls rise =
     ap length (filter_both (λ f. not (is_kept kept f)) (λ f. not (is_covered (forms here) f)) p (λ f. refl) (forms here))
     ∙ count_firsts p here (AllPairs-filter (λ (l m : Registered). l.0 < m.0) stay ls rise)
-    ∙ ap length (filter_both (λ (l : Registered). p l.1 && not (is_seen here l)) stay (starts e kept ls) each ls)
+    ∙ ap length (filter_both (λ (l : Registered). p l.1 && not (is_seen here l)) stay (starts ends kept ls) each ls)
   where
     stay : Registered → Bool
-    stay l = not (ends e l)
+    stay l = not (ends l)
 
     here : List Registered
-    here = left e ls
+    here = left ends ls
 
     p : Query → Bool
     p f = not (is_covered (forms here) f) && not (is_kept kept f)
@@ -190,7 +189,7 @@ count_started e kept ls rise =
     mixed true false false d = refl
     mixed false b c d = refl
 
-    each : (l : Registered) → (stay l && (p l.1 && not (is_seen here l))) ≡ starts e kept ls l
+    each : (l : Registered) → (stay l && (p l.1 && not (is_seen here l))) ≡ starts ends kept ls l
     each l = mixed (stay l) (is_covered (forms here) l.1) (is_kept kept l.1) (is_seen here l)
         ∙ ap (λ b. stay l && (not (is_kept kept l.1) && not b))
         (sym (list_any_filtered stay (λ (m : Registered). comes_before m l) ls ∙ replaced here l))
@@ -201,30 +200,30 @@ started_count c ls = sym (length_of_map (λ (k : Tagged). k.form) (started_for c
     ∙ ap length (forms-started c.next_tag (new_forms c.kept (needed_forms ls)))
 
 -- whether a tag is lacking, by the room that is left
-pub lacks_by_room : (c : Cover) (given room : ℕ) (e : Ending) → IsSound c → c.next_tag ≡ given + 1 → room + given ≡ c.last_tag
-    → nat_lt room (count_by (starts e c.kept c.listeners) c.listeners) ≡ lacks_tag c (left e c.listeners)
-lacks_by_room c given room e s next is =
-    same_tests (nat_lt room n) (lacks_tag c (left e c.listeners))
-    (λ h. lt_true (c.last_tag + 1) (c.next_tag + length (started_for c (left e c.listeners)))
+pub lacks_by_room : (c : Cover) (given room : ℕ) (ends : Registered → Bool) → IsSound c → c.next_tag ≡ given + 1 → room + given ≡ c.last_tag
+    → nat_lt room (count_by (starts ends c.kept c.listeners) c.listeners) ≡ lacks_tag c (left ends c.listeners)
+lacks_by_room c given room ends s next is =
+    same_tests (nat_lt room n) (lacks_tag c (left ends c.listeners))
+    (λ h. lt_true (c.last_tag + 1) (c.next_tag + length (started_for c (left ends c.listeners)))
     (omega (arith, ltb-true room n h, next, is, count)))
     (λ h. lt_true room n (omega (
       arith,
-      ltb-true (c.last_tag + 1) (c.next_tag + length (started_for c (left e c.listeners))) h,
+      ltb-true (c.last_tag + 1) (c.next_tag + length (started_for c (left ends c.listeners))) h,
       next,
       is,
       count,
     )))
   where
     n : ℕ
-    n = count_by (starts e c.kept c.listeners) c.listeners
+    n = count_by (starts ends c.kept c.listeners) c.listeners
 
-    count : length (started_for c (left e c.listeners)) ≡ n
-    count = started_count c (left e c.listeners) ∙ count_started e c.kept c.listeners s.listeners
-        ∙ length-filter (starts e c.kept c.listeners) c.listeners
+    count : length (started_for c (left ends c.listeners)) ≡ n
+    count = started_count c (left ends c.listeners) ∙ count_started ends c.kept c.listeners s.listeners
+        ∙ length-filter (starts ends c.kept c.listeners) c.listeners
 
 -- no more start than there are listeners
-pub none_lacks : (c : Cover) (given room : ℕ) (e : Ending) → IsSound c → c.next_tag ≡ given + 1 → room + given ≡ c.last_tag
-    → length c.listeners ≤ room → lacks_tag c (left e c.listeners) ≡ false
-none_lacks c given room e s next is few = sym (lacks_by_room c given room e s next is)
-    ∙ lt_false room (count_by (starts e c.kept c.listeners) c.listeners)
-    (omega (arith, few, count_by-le-length (starts e c.kept c.listeners) c.listeners))
+pub none_lacks : (c : Cover) (given room : ℕ) (ends : Registered → Bool) → IsSound c → c.next_tag ≡ given + 1 → room + given ≡ c.last_tag
+    → length c.listeners ≤ room → lacks_tag c (left ends c.listeners) ≡ false
+none_lacks c given room ends s next is few = sym (lacks_by_room c given room ends s next is)
+    ∙ lt_false room (count_by (starts ends c.kept c.listeners) c.listeners)
+    (omega (arith, few, count_by-le-length (starts ends c.kept c.listeners) c.listeners))

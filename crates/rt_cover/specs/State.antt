@@ -1,8 +1,8 @@
 -- The cover: the registered listeners, the listens kept for them, and what a change of the
 -- listeners leaves and tells.
-use Rattle.std.specs.Prelude.{◌≡◌, ◌⊎◌, ℕ, ◌+◌, Bool, not, ◌==◌, nat_lt, if◌then◌else◌}
+use Rattle.std.specs.Prelude.{◌≡◌, ◌⊎◌, ℕ, ◌+◌, Bool, false, not, ◌==◌, nat_lt, if◌then◌else◌}
 use Rattle.std.specs.Prelude.{List, [], ◌∷◌, ◌++◌, map, length, Option, Some, None}
-use Rattle.std.specs.List.{filter, find, list_any}
+use Rattle.std.specs.List.{filter, find, list_any, All}
 use Rattle.std.specs.Option.{option_map, option_map_or}
 use Rattle.rt_query.specs.Queries.{Query}
 use Rattle.rt_query.specs.QueryEq.{query_eq}
@@ -42,6 +42,10 @@ with_listener listeners number f =
 -- the listeners without those of these numbers
 abbrev pub without_listeners : List Registered → List ℕ → List Registered
 without_listeners listeners numbers = filter (λ l. not (list_any (λ n. n == l.0) numbers)) listeners
+
+-- the listeners without those whose numbers are chosen
+abbrev pub without_chosen : (ℕ → Bool) → List Registered → List Registered
+without_chosen chosen listeners = filter (λ l. not (chosen l.0)) listeners
 
 -- the listeners without those of a form
 abbrev pub without_form : List Registered → Query → List Registered
@@ -144,6 +148,11 @@ add_fault c number query = fault_of c (with_listener c.listeners number (form qu
 -- whether one of the numbers is not registered
 abbrev pub has_unknown : Cover → List ℕ → Bool
 has_unknown c numbers = list_any (λ n. not (is_registered c.listeners n)) numbers
+
+-- the numbers are those of the chosen listeners, and of no other
+pub record AreChosen (c : Cover) (chosen : ℕ → Bool) (numbers : List ℕ) : Type 0 where
+  pub registered : has_unknown c numbers ≡ false
+  pub each : All (λ (l : Registered). list_any (λ n. n == l.0) numbers ≡ chosen l.0) c.listeners
 
 -- the refusal of a removal
 abbrev pub remove_fault : Cover → List ℕ → Option CoverError

@@ -1,11 +1,13 @@
 // The cover.
 ghost use Rattle.std.specs.Prelude.{◌≡◌, ◌<◌, ◌+◌, ◌⊎◌, false, true, not, map, length, IfOk, IfErr};
-ghost use Rattle.std.specs.Prelude.{OnOk, OnErr, IfSome, IfNone, is_some, ℕ};
+ghost use Rattle.std.specs.Prelude.{OnOk, OnErr, IfSome, IfNone, is_some, ℕ, List};
+ghost use Rattle.std.specs.Prelude.{if◌then◌else◌};
 ghost use Rattle.std.specs.List.{filter, list_any, All, AllPairs};
 ghost use Rattle.std.specs.Option.{option_copied, option_map, option_map_or};
 
+use crate::choice::Choice;
 use crate::delta::{Delta, Revoked};
-use crate::ending::Ending;
+use crate::ending::{Ending, OfChoice, OfForm, OfNumbers};
 use crate::error::CoverError;
 use crate::forms::{forms, needed};
 use crate::kept::{Kept, KeptList};
@@ -59,13 +61,13 @@ impl Cover {
     ghost use Rattle.rt_cover.specs.Cover.{forms, kept_for};
     ghost use Rattle.rt_cover.specs.Apart.{do_plains_overlap};
     ghost use Rattle.rt_cover.specs.State.{empty_cover, is_registered, needed_forms, started_for};
-    ghost use Rattle.rt_cover.specs.State.{with_listener, without_listeners};
+    ghost use Rattle.rt_cover.specs.State.{with_listener, without_listeners, without_chosen};
     ghost use Rattle.rt_cover.specs.State.{shown_with, shown, listen_at, supplier};
     ghost use Rattle.rt_cover.specs.State.{with_listeners, lacks_tag, difference};
     ghost use Rattle.rt_cover.specs.State.{added, removed, revoked};
     ghost use Rattle.rt_cover.specs.State.{left_after, ended_by, without_tag};
     ghost use Rattle.rt_cover.specs.State.{fault_of, add_fault, remove_fault, revoke_fault};
-    ghost use Rattle.rt_cover.specs.State.{has_unknown, FailsBy};
+    ghost use Rattle.rt_cover.specs.State.{has_unknown, AreChosen, FailsBy};
     ghost use Rattle.rt_cover.specs.Shown.{AreFewest, IsCertified, IsLeastSupplier, IsTold};
     ghost use Rattle.rt_cover.specs.inside.Endings.{left};
     ghost use Rattle.rt_cover.specs.inside.Sound.{IsSound};
@@ -229,8 +231,8 @@ impl Cover {
 
     // Whether a change that ends these listeners would need a tag above the last one. No more listens
     // start than there are listeners.
-    fn lacks_tag_to_end(&self, ending: &Ending<'_>) -> bool
-        ensures { result ≡ lacks_tag self.now (left ending.now self.now.listeners) }
+    fn lacks_tag_to_end<E: Ending>(&self, ending: &E) -> bool
+        ensures { result ≡ lacks_tag self.now (left (E.ended ending.now) self.now.listeners) }
     {
         let room = self.last_tag - self.given;
         if self.listeners.len() as u64 <= room {
@@ -248,7 +250,23 @@ impl Cover {
         ensures { result
             ≡ lacks_tag self.now (without_listeners self.now.listeners listeners.now) }
     {
-        self.lacks_tag_to_end(&Ending::Numbers(listeners))
+        self.lacks_tag_to_end(&OfNumbers { numbers: listeners })
+    }
+
+    /// The same of the listeners of a choice, so that [`Cover::remove`] of just their numbers would
+    /// answer `NoTag`: for whoever ends many listeners and has no list of their numbers yet.
+    ///
+    /// Costs what [`Cover::lacks_tag_to_remove`] does; the choice is asked of a listener once for each
+    /// one that it is compared with.
+    pub fn lacks_tag_to_remove_chosen<C: Choice>(&self, choice: &C) -> bool
+        ensures exact { result
+            ≡ lacks_tag self.now (without_chosen (C.chosen choice.now) self.now.listeners) }
+        ensures removal { (numbers : List ℕ)
+            → AreChosen self.now (C.chosen choice.now) numbers
+            → remove_fault self.now numbers
+            ≡ (if result then Some CoverError.NoTag else None) }
+    {
+        self.lacks_tag_to_end(&OfChoice { choice })
     }
 
     /// Whether a revocation of the tag would need a tag above the last one, so that
@@ -260,7 +278,7 @@ impl Cover {
             (listen_at self.now tag) false }
     {
         match listen::listen_at(&self.kept, tag) {
-            Some(listen) => self.lacks_tag_to_end(&Ending::Form(&listen.form)),
+            Some(listen) => self.lacks_tag_to_end(&OfForm { form: &listen.form }),
             None => false,
         }
     }

@@ -1,25 +1,60 @@
 // The listeners that a change ends.
-ghost use Rattle.std.specs.Prelude.{◌≡◌};
-ghost use Rattle.rt_cover.specs.inside.Endings.{ends};
+ghost use Rattle.std.specs.Prelude.{◌≡◌, ◌==◌, Bool};
+ghost use Rattle.std.specs.List.{list_any};
+ghost use Rattle.rt_query.specs.QueryEq.{query_eq};
+ghost use Rattle.rt_cover.specs.Cover.{Registered};
 
+use crate::choice::Choice;
 use crate::listener::Listener;
 use rt_query::Query;
 
-// Those of some numbers, or those of a form.
-#[derive(Clone, Copy)]
-pub(crate) enum Ending<'a> {
-    Numbers(&'a [u64]),
-    Form(&'a Query),
+// Tells which listeners end.
+pub(crate) trait Ending {
+    ghost ended: { Self → Registered → Bool };
+
+    // Whether the listener ends.
+    fn ends(&self, listener: &Listener) -> bool
+        ensures { result ≡ ended self.now listener.now };
 }
 
-impl Ending<'_> {
-    // Whether it ends the listener.
-    pub(crate) fn ends(&self, listener: &Listener) -> bool
-        ensures { result ≡ ends self.now listener.now }
-    {
-        match self {
-            Ending::Numbers(numbers) => numbers.contains(&listener.number),
-            Ending::Form(form) => listener.form == **form,
-        }
+// Those of these numbers end.
+#[derive(Drop)]
+pub(crate) struct OfNumbers<'a> {
+    pub(crate) numbers: &'a [u64],
+}
+
+impl Ending for OfNumbers<'_> {
+    ghost ended = { λ a l. list_any (λ n. n == l.0) a.numbers.now };
+
+    fn ends(&self, listener: &Listener) -> bool {
+        self.numbers.contains(&listener.number)
+    }
+}
+
+// Those of the form end.
+#[derive(Drop)]
+pub(crate) struct OfForm<'a> {
+    pub(crate) form: &'a Query,
+}
+
+impl Ending for OfForm<'_> {
+    ghost ended = { λ a l. query_eq l.1 a.form.now };
+
+    fn ends(&self, listener: &Listener) -> bool {
+        listener.form == *self.form
+    }
+}
+
+// Those of the choice end.
+#[derive(Drop)]
+pub(crate) struct OfChoice<'a, C> {
+    pub(crate) choice: &'a C,
+}
+
+impl<C: Choice> Ending for OfChoice<'_, C> {
+    ghost ended = { λ a l. C.chosen a.choice.now l.0 };
+
+    fn ends(&self, listener: &Listener) -> bool {
+        self.choice.has(listener.number)
     }
 }

@@ -11,6 +11,7 @@
 //! ```
 #![tactic(auto)]
 
+mod choice;
 mod cover;
 mod delta;
 mod ending;
@@ -26,6 +27,7 @@ mod plan;
 mod starting;
 mod supply;
 
+pub use choice::Choice;
 pub use cover::Cover;
 pub use delta::{Delta, Revoked};
 pub use error::CoverError;

@@ -21,16 +21,21 @@ fn comes_before(other: &Listener, listener: &Listener) -> bool
 }
 
 // Whether that holds of one of those that do not end.
-fn is_replaced(listeners: &[Listener], ending: &Ending<'_>, listener: &Listener) -> bool
-    ensures { result ≡ is_replaced ending.now listeners.now listener.now }
+fn is_replaced<E: Ending>(listeners: &[Listener], ending: &E, listener: &Listener) -> bool
+    ensures { result ≡ is_replaced (E.ended ending.now) listeners.now listener.now }
 {
     listeners.iter().any(|other| !ending.ends(other) && comes_before(other, listener))
 }
 
 // Whether a listen starts for the listener: it does not end, none replaces it, and no listen of its
 // form is kept.
-fn starts(listeners: &[Listener], kept: &[Listen], ending: &Ending<'_>, listener: &Listener) -> bool
-    ensures { result ≡ starts ending.now kept.now listeners.now listener.now }
+fn starts<E: Ending>(
+    listeners: &[Listener],
+    kept: &[Listen],
+    ending: &E,
+    listener: &Listener,
+) -> bool
+    ensures { result ≡ starts (E.ended ending.now) kept.now listeners.now listener.now }
 {
     !ending.ends(listener)
         && !is_kept(kept, &listener.form)
@@ -38,14 +43,14 @@ fn starts(listeners: &[Listener], kept: &[Listen], ending: &Ending<'_>, listener
 }
 
 // Whether more listens start than there is room for.
-pub(crate) fn exceeds(
+pub(crate) fn exceeds<E: Ending>(
     listeners: &[Listener],
     kept: &[Listen],
-    ending: &Ending<'_>,
+    ending: &E,
     room: u64,
 ) -> bool
-    ensures { result
-        ≡ nat_lt room (count_by (starts ending.now kept.now listeners.now) listeners.now) }
+    ensures { result ≡ nat_lt room
+        (count_by (starts (E.ended ending.now) kept.now listeners.now) listeners.now) }
 {
     let mut left = room;
     for listener in listeners {

@@ -4,5 +4,5 @@ use Rattle.rt_cover.specs.inside.Endings.{starts}
 use Rattle.rt_cover.proofs.starting.exceeds.Given as goal
 
 abbrev pub invariant-loop-listener : goal.invariant-loop-listener
-invariant-loop-listener l =
-    l.left + count_by (starts l.ending l.kept l.listeners) (take l.listener-index l.listeners) ≡ l.room
+invariant-loop-listener g l =
+    l.left + count_by (starts (g.E.Ending.ended l.ending) l.kept l.listeners) (take l.listener-index l.listeners) ≡ l.room

@@ -7,7 +7,7 @@ use Rattle.rt_cover.proofs.StartLaws.{lacks_by_room, none_lacks}
 use Rattle.rt_cover.proofs.cover.Cover.lacks_tag_to_end.Goals as goal
 
 pub returns-then-len-room : goal.returns-then-len-room
-returns-then-len-room c =
+returns-then-len-room g c =
     let old : Cover = c.args.self.now in
     let sound : IsSound old = subst IsSound c.self.view_is c.self.invariant in
     let next : old.next_tag ≡ c.self.inside.given + 1 = (λ i. (sym c.self.view_is i).next_tag) in
@@ -16,10 +16,10 @@ returns-then-len-room c =
     let same : length old.listeners ≡ length c.self.inside.listeners.items = (λ i. length (sym c.self.view_is i).listeners) in
     let count : c.len.result ≡ length c.self.inside.listeners.items = search rules in
     let few : length old.listeners ≤ c.self.inside.last_tag - c.self.inside.given = omega (arith, c.if-len-room.true, count, same) in
-    sym (none_lacks old c.self.inside.given (c.self.inside.last_tag - c.self.inside.given) c.args.ending.now sound next is few)
+    sym (none_lacks old c.self.inside.given (c.self.inside.last_tag - c.self.inside.given) (g.E.Ending.ended c.args.ending.now) sound next is few)
 
 pub returns : goal.returns
-returns c =
+returns g c =
     let old : Cover = c.args.self.now in
     let sound : IsSound old = subst IsSound c.self.view_is c.self.invariant in
     let next : old.next_tag ≡ c.self.inside.given + 1 = (λ i. (sym c.self.view_is i).next_tag) in
@@ -28,5 +28,5 @@ returns c =
     let ls : c.deref.result.now ≡ old.listeners = c.deref.ensures.value ∙ (λ i. (c.self.view_is i).listeners) in
     let kept : c.deref-2.result.now ≡ old.kept = c.deref-2.ensures.value ∙ (λ i. (c.self.view_is i).kept) in
     c.exceeds.ensures
-    ∙ (λ i. nat_lt (c.self.inside.last_tag - c.self.inside.given) (count_by (starts c.args.ending.now (kept i) (ls i)) (ls i)))
-    ∙ lacks_by_room old c.self.inside.given (c.self.inside.last_tag - c.self.inside.given) c.args.ending.now sound next is
+    ∙ (λ i. nat_lt (c.self.inside.last_tag - c.self.inside.given) (count_by (starts (g.E.Ending.ended c.args.ending.now) (kept i) (ls i)) (ls i)))
+    ∙ lacks_by_room old c.self.inside.given (c.self.inside.last_tag - c.self.inside.given) (g.E.Ending.ended c.args.ending.now) sound next is
