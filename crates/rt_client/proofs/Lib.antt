@@ -5,4 +5,5 @@ pub mod Mirrored
 pub mod Noted
 pub mod Numbers
 pub mod Reflects
+pub mod Slots
 pub mod Texts

@@ -13,9 +13,12 @@
 //! of their views, and its unsettled requests, by the law `mirror_law`.
 #![tactic(auto)]
 
+mod error;
 pub mod examples;
+mod lanes;
 mod laws;
 mod reflecting;
 
+pub use error::ClientError;
 pub use laws::{ids_are_keys, keys_rise, push_key_examples};
 pub use reflecting::{mirror_law, reflection_law};
