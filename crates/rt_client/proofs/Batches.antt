@@ -58,10 +58,10 @@ batches_played seat f (l ∷ ls) m =
           batches_played seat f ls m
           ∙ (λ i. record m { listeners = plays seat f ls (same i) })
       | c ∷ cs ↦ elim (g.seat == seat) as (λ b. known_of m (cons_option (cond b (Some (item.Batch (record { listener = g.number; changes = c ∷ cs }))) None) (told_to seat rest))
-      ≡ record m { listeners = plays seat f ls (cond b (map (played g.number (c ∷ cs)) m.listeners) m.listeners) }) [
-        | true ↦ batches_played seat f ls (record m { listeners = map (played g.number (c ∷ cs)) m.listeners })
-        | false ↦ batches_played seat f ls m
-      ]
+          ≡ record m { listeners = plays seat f ls (cond b (map (played g.number (c ∷ cs)) m.listeners) m.listeners) }) [
+            | true ↦ batches_played seat f ls (record m { listeners = map (played g.number (c ∷ cs)) m.listeners })
+            | false ↦ batches_played seat f ls m
+          ]
     ]
   where
     same : m.listeners ≡ cond ((f l).seat == seat) (map (played (f l).number []) m.listeners) m.listeners
@@ -102,10 +102,10 @@ turns_own seat f [] k l children one r lt e t = absurd (omega arith)
 turns_own seat f (m ∷ ls) zero l children one r lt e t =
     subst (λ (x : Listener). (x.seat == seat) ≡ true → turns_into seat f (m ∷ ls) (x.number, children) ≡ (x.number, replay (due f x) children)) e
     (λ own.
-      ap (λ b. turns_into seat f ls (cond b (played (f m).number (due f m) (m.number, children)) (m.number, children))) (ap (λ n. n == seat) (one m).1 ∙ own)
-      ∙ ap (λ n. turns_into seat f ls (played n (due f m) (m.number, children))) (one m).0
-      ∙ ap (λ b. turns_into seat f ls (cond b (m.number, replay (due f m) children) (m.number, children))) (nat_eq_equiv.refl m.number)
-      ∙ turns_other seat f ls (m.number, replay (due f m) children) one (not_above m.number ls r.0))
+    ap (λ b. turns_into seat f ls (cond b (played (f m).number (due f m) (m.number, children)) (m.number, children))) (ap (λ n. n == seat) (one m).1 ∙ own)
+    ∙ ap (λ n. turns_into seat f ls (played n (due f m) (m.number, children))) (one m).0
+    ∙ ap (λ b. turns_into seat f ls (cond b (m.number, replay (due f m) children) (m.number, children))) (nat_eq_equiv.refl m.number)
+    ∙ turns_other seat f ls (m.number, replay (due f m) children) one (not_above m.number ls r.0))
     t
 turns_own seat f (m ∷ ls) (suc k) l children one r lt e t =
     let below : m.number < l.number = subst (λ (x : Listener). m.number < x.number) e (r.0 k l (omega arith)) in

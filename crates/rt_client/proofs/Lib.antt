@@ -1,6 +1,7 @@
 pub mod Allowed
 pub mod Batches
 pub mod Filters
+pub mod Kept
 pub mod Mirrored
 pub mod Noted
 pub mod Numbers

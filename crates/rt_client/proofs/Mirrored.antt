@@ -70,7 +70,7 @@ closed_is_forgotten same w seat =
 
 -- ---- any steps
 
-sound_by : StaysSound → (o : Option CoreError) (b : Bool) (w : World) (s : Step) → IsSound w → IsSound (step_by o b w s).0
+pub sound_by : StaysSound → (o : Option CoreError) (b : Bool) (w : World) (s : Step) → IsSound w → IsSound (step_by o b w s).0
 sound_by stays (Some e) b w s h = h
 sound_by stays None true w s h = h
 sound_by stays None false w s h = stays w s h

@@ -129,7 +129,7 @@ revoke_known w seat tag why h =
 close_known : (w : World) (seat own : ℕ) → (own == seat) ≡ false → reflection w seat ≡ midway w (Step.CloseSeat own) seat
 close_known w seat own closed i = record {
   listeners = ap (map shown_by) (sym (filter-filter (λ (l : Listener). l.seat == seat) (λ (l : Listener). not (l.seat == own)) w.listeners
-  ∙ filter_same _ _ w.listeners (λ l. one_seat l.seat seat own (flip own seat closed)))) i;
+      ∙ filter_same _ _ w.listeners (λ l. one_seat l.seat seat own (flip own seat closed)))) i;
   requests = sym (ids-unseated own seat closed w.requests) i;
 }
 
@@ -226,7 +226,7 @@ batches_reflect once turn same notes w s seat h =
     ap (λ z. known_of (midway w s seat) (told_to seat z)) (notes w s h)
     ∙ batches_played seat (renewed b ws) ls (midway w s seat)
     ∙ (λ i. record (midway w s seat) {
-      listeners = batches_turn seat (renewed b ws) ls one (rises_after w s h) (All-weaker IsBlank _ (λ l k. turned once turn b ws l k) ls (blank_after w s h)) i
+      listeners = batches_turn seat (renewed b ws) ls one (rises_after w s h) (All-weaker IsBlank _ (λ l k. turned once turn b ws l k) ls (blank_after w s h)) i;
     })
 
 -- ---- one step

@@ -1,4 +1,5 @@
 -- Laws for callers, and what the prover computes of literals.
 pub mod Examples
+pub mod Keeping
 pub mod Reflecting
 pub mod Telling

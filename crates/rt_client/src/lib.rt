@@ -15,10 +15,12 @@
 
 mod error;
 pub mod examples;
+mod keeping;
 mod lanes;
 mod laws;
 mod reflecting;
 
 pub use error::ClientError;
+pub use keeping::keeping_law;
 pub use laws::{ids_are_keys, keys_rise, push_key_examples};
 pub use reflecting::{mirror_law, reflection_law};

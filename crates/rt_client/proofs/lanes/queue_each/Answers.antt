@@ -13,7 +13,7 @@ loop-note-preserved c =
     let mid = c.loop-note.lanes.items in
     let left : c.loop-note.note-iterator.rest.items ≡ c.in-Some.note ∷ c.next.new.self.rest.items = search rules in
     let last : IsChanged note.seat (option_map (with_waiting (item_of note.body)) (lane_of mid note.seat)) mid c.queue.new.lanes.items =
-      subst (λ i. IsChanged note.seat (option_map (with_waiting i) (lane_of mid note.seat)) mid c.queue.new.lanes.items) c.item_from.ensures c.in_ok-queue.ensures.queued in
+    subst (λ i. IsChanged note.seat (option_map (with_waiting i) (lane_of mid note.seat)) mid c.queue.new.lanes.items) c.item_from.ensures c.in_ok-queue.ensures.queued in
     goes_more c.args.notes.items c.loop-note.note-iterator.rest.items c.next.new.self.rest.items note c.args.lanes.now.items mid c.queue.new.lanes.items c.loop-note.invariant left last
 
 pub returns-in_err-queue-clause-stops : goal.returns-in_err-queue-clause-stops
