@@ -1,2 +1,10 @@
 pub mod Allowed
+pub mod Batches
+pub mod Filters
+pub mod Kept
+pub mod Mirrored
+pub mod Noted
+pub mod Numbers
+pub mod Reflects
+pub mod Slots
 pub mod Texts

@@ -1,5 +1,14 @@
 -- What a reader has to believe: the definitions that public contracts name. In reading order:
 --     PushKeys    push ids as keys
--- laws/ has ids in key order that the prover computes (Examples).
+--     Codes       the number and the word of each refusal
+--     Seats       what the core knows of a seat, and what a step tells it
+--     Lanes       the lanes of a client's seats
+--     Shared      what a client's lock keeps, and what a step makes of it
+-- laws/ has that what a seat is told keeps it up to date (Reflecting), that what the lock keeps is kept
+-- (Keeping), and what the prover computes of literals (Examples, Telling).
+pub mod Codes
+pub mod Lanes
 pub mod laws
 pub mod PushKeys
+pub mod Seats
+pub mod Shared

@@ -1,2 +1,5 @@
--- What the prover computes of some ids.
+-- Laws for callers, and what the prover computes of literals.
 pub mod Examples
+pub mod Keeping
+pub mod Reflecting
+pub mod Telling

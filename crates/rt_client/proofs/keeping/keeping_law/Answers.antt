@@ -1,0 +1,9 @@
+use Rattle.rt_client.proofs.Kept.{new_is_kept, step_keeps, handing_keeps}
+use Rattle.rt_client.proofs.keeping.keeping_law.Goals as goal
+
+pub returns : goal.returns
+returns c = record {
+  new = new_is_kept c.sound_law.ensures.worlds;
+  step = step_keeps c.sound_law.ensures.next c.reflection_law.ensures.step;
+  handing = handing_keeps;
+}

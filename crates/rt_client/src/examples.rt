@@ -1,0 +1,24 @@
+// Outside examples of what seats are told: trees compute here.
+#![tactic(auto, unfolding(rt_tree::specs::PathTree::null, rt_tree::specs::PathTree::of_leaf, rt_tree::specs::PathTree::is_null, rt_tree::specs::PathTree::leaf_at, rt_tree::specs::PathTree::sub, rt_tree::specs::PathTree::put, rt_tree::specs::PathTree::with_children, rt_tree::specs::PathTree::children_alone, rt_tree::specs::PathTree::levels, rt_tree::specs::Children::children_of, rt_tree::specs::TreeEq::tree_eq))]
+
+ghost use Rattle.rt_client.specs.laws.Telling.{FirstIsTold, SecondIsTold, FirstIsKnown};
+ghost use Rattle.rt_client.specs.laws.Telling.{SecondIsKnown, RefusedIsNotTold};
+ghost use Rattle.rt_client.specs.laws.Telling.{NotUntold, NotHalfTold, NotTheOthers, NotTooEarly};
+
+/// What two seats are told of one listener and one write, and what the core knows of them then.
+pub fn telling_examples()
+    ensures first { FirstIsTold }
+    ensures second { SecondIsTold }
+    ensures first_known { FirstIsKnown }
+    ensures second_known { SecondIsKnown }
+    ensures refused { RefusedIsNotTold }
+{}
+
+/// A seat is left behind where it is told nothing, where it is not told of a change, where it is told
+/// what another is, and where a batch or a settlement comes before the receipt that it is about.
+pub fn telling_refutations()
+    ensures untold { NotUntold }
+    ensures half { NotHalfTold }
+    ensures others { NotTheOthers }
+    ensures early { NotTooEarly }
+{}

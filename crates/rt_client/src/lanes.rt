@@ -1,0 +1,152 @@
+// The lanes of a client's seats.
+ghost use Rattle.std.specs.Prelude.{◌≡◌, OnOk, IfErr, Some, None};
+ghost use Rattle.std.specs.Option.{option_map, option_map_or};
+ghost use Rattle.rt_mail.specs.Lanes.{Line, why_not, with_waiting, Refuses};
+ghost use Rattle.rt_client.specs.Seats.{item_of};
+ghost use Rattle.rt_client.specs.Lanes.{lane_of, AreQueued, StopsAt, IsChanged};
+ghost use Rattle.rt_client.specs.Lanes.{settled, settled_ring, RefusesToSettle};
+
+use rt_mail::{Inbox, Item, Lane, MailError, Unqueued};
+use rt_world::{Body, Note, Notes};
+use std::marker::Model;
+
+// The lanes of a client's seats, that of the first seat first; none where the seat is closed.
+#[derive(Drop)]
+pub(crate) struct Lanes {
+    lanes: Vec<Option<Lane>>,
+}
+
+impl Model for Lanes {
+    ghost use Rattle.std.specs.Prelude.{List, Option};
+    ghost use Rattle.rt_mail.specs.Lanes.{Line};
+
+    ghost Value = { List (Option Line) };
+
+    ghost view = { λ a. a.lanes.items };
+}
+
+// What a note tells, as an item.
+fn item_from(body: Body) -> Item
+    ensures { result ≡ item_of body }
+{
+    match body {
+        Body::Settled { id, why } => Item::Settled { id, why },
+        Body::Cancelled { listener, why } => Item::Cancelled { listener, why },
+        Body::Batch(batch) => Item::Batch(batch),
+    }
+}
+
+// The item waits in the lane, if it is open; else it is dropped.
+fn queue_in(lane: &mut Option<Lane>, item: Item) -> Result<(), MailError>
+    ensures queued { OnOk result (lane.new ≡ option_map (with_waiting item) lane.old) }
+    ensures refused { IfErr result (λ e. (l : Line) × (lane.old ≡ Some l) × (e ≡ why_not l)) }
+    ensures unchanged { IfErr result (λ _. lane.new ≡ lane.old) }
+{
+    match lane {
+        Some(lane) => match lane.queue(item) {
+            Ok(()) => Ok(()),
+            Err(Unqueued { item, why }) => {
+                drop(item);
+                Err(why)
+            }
+        },
+        None => {
+            drop(item);
+            Ok(())
+        }
+    }
+}
+
+// The item waits in the seat's lane, if that is open.
+fn queue(lanes: &mut Vec<Option<Lane>>, seat: u64, item: Item) -> Result<(), MailError>
+    ensures queued { OnOk result (IsChanged seat (option_map (with_waiting item) (lane_of lanes.old.items seat))
+        lanes.old.items lanes.new.items) }
+    ensures refused { IfErr result (λ e. (l : Line) × (lane_of lanes.old.items seat ≡ Some l)
+        × (e ≡ why_not l)) }
+    ensures unchanged { IfErr result (λ _. lanes.new.items ≡ lanes.old.items) }
+{
+    if seat == 0 || (seat - 1) as usize >= lanes.len() {
+        drop(item);
+        return Ok(());
+    }
+    queue_in(&mut lanes[(seat - 1) as usize], item)
+}
+
+// Each note waits in its seat's lane, in order.
+fn queue_each(lanes: &mut Vec<Option<Lane>>, notes: Vec<Note>) -> Result<(), MailError>
+    ensures queued { OnOk result (AreQueued notes.items lanes.old.items lanes.new.items) }
+    ensures stops { IfErr result (λ e. StopsAt notes.items lanes.old.items e lanes.new.items) }
+{
+    for note in notes {
+        queue(lanes, note.seat, item_from(note.body))?;
+    }
+    Ok(())
+}
+
+// The lane hands over what the ring has room for, if it is open.
+fn settle_in(lane: &mut Option<Lane>, inbox: &mut Inbox) -> Result<(), MailError>
+    ensures lane { OnOk result (lane.new ≡ option_map (settled inbox.old) lane.old) }
+    ensures ring { OnOk result (inbox.new ≡ option_map_or (settled_ring inbox.old) lane.old inbox.old) }
+    ensures refused { IfErr result (λ e. (l m : Line) × (lane.old ≡ Some l) × (lane.new ≡ Some m)
+        × Refuses l inbox.old e m inbox.new) }
+{
+    match lane {
+        Some(lane) => lane.flush(inbox),
+        None => Ok(()),
+    }
+}
+
+// The seat's lane hands over what its ring has room for, if it is open.
+fn settle_at(lanes: &mut Vec<Option<Lane>>, seat: u64, inbox: &mut Inbox) -> Result<(), MailError>
+    ensures lane { OnOk result (IsChanged seat (option_map (settled inbox.old) (lane_of lanes.old.items seat))
+        lanes.old.items lanes.new.items) }
+    ensures ring { OnOk result (inbox.new
+        ≡ option_map_or (settled_ring inbox.old) (lane_of lanes.old.items seat) inbox.old) }
+    ensures refused { IfErr result (λ e. RefusesToSettle seat lanes.old.items inbox.old e
+        lanes.new.items inbox.new) }
+{
+    if seat == 0 || (seat - 1) as usize >= lanes.len() {
+        return Ok(());
+    }
+    settle_in(&mut lanes[(seat - 1) as usize], inbox)
+}
+
+// Drops the seat's lane, if it is open.
+fn close_at(lanes: &mut Vec<Option<Lane>>, seat: u64)
+    ensures { IsChanged seat None lanes.old.items lanes.new.items }
+{
+    if seat == 0 {
+        return;
+    }
+    let place = (seat - 1) as usize;
+    if place < lanes.len() {
+        lanes[place] = None;
+    }
+}
+
+impl Lanes {
+    // Each note waits in its seat's lane, in order; the notes of closed seats are dropped.
+    pub(crate) fn queue_all(&mut self, notes: Notes) -> Result<(), MailError>
+        ensures queued { OnOk result (AreQueued notes self.old self.new) }
+        ensures stops { IfErr result (λ e. StopsAt notes self.old e self.new) }
+    {
+        queue_each(&mut self.lanes, notes.into_vec())
+    }
+    // The seat's lane goes, and what waits in it; no other lane changes.
+    pub(crate) fn close(&mut self, seat: u64)
+        ensures { IsChanged seat None self.old self.new }
+    {
+        close_at(&mut self.lanes, seat)
+    }
+
+    // The seat's lane hands over what its ring has room for; without a lane nothing changes.
+    pub(crate) fn settle(&mut self, seat: u64, inbox: &mut Inbox) -> Result<(), MailError>
+        ensures lane { OnOk result (IsChanged seat (option_map (settled inbox.old) (lane_of self.old seat))
+            self.old self.new) }
+        ensures ring { OnOk result (inbox.new
+            ≡ option_map_or (settled_ring inbox.old) (lane_of self.old seat) inbox.old) }
+        ensures refused { IfErr result (λ e. RefusesToSettle seat self.old inbox.old e self.new inbox.new) }
+    {
+        settle_at(&mut self.lanes, seat, inbox)
+    }
+}
