@@ -1,0 +1,2 @@
+pub mod FormView
+pub mod Memory
