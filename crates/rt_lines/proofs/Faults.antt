@@ -1,13 +1,12 @@
 -- Calls that refuse by a fault.
 use Rattle.std.proofs.Common.{◌≡◌, ◌⊎◌, inl, inr, Option, Some, None, Result, Ok, Err, IfSome, ℕ, List, refl, ap, ◌∙◌}
 use Rattle.rt_tree.specs.declared.error.TreeError.{TreeError}
-use Rattle.rt_tree.specs.declared.error.TreeError.TheVariants as tree
 use Rattle.rt_query.specs.declared.error.QueryError.{QueryError}
 use Rattle.rt_query.specs.declared.error.QueryError.TheVariants as query
 use Rattle.rt_query.specs.Drafts.{Draft}
 use Rattle.rt_lines.specs.declared.error.LineError.{LineError}
 use Rattle.rt_lines.specs.declared.error.LineError.TheVariants.{NoMemory, Refused}
-use Rattle.rt_lines.specs.declared.error.Refusal.TheVariants.{Tree, Query}
+use Rattle.rt_lines.specs.declared.error.Refusal.TheVariants.{Query}
 use Rattle.rt_lines.specs.Reading.{unless, and_then, mark_in}
 use Rattle.rt_lines.specs.Drafts.{allowed, bound_of, called}
 use Rattle.rt_lines.specs.Calls as call

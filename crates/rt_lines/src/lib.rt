@@ -10,12 +10,17 @@
 #![tactic(auto)]
 
 mod call;
+mod change;
 mod draft;
 mod error;
 mod form;
 mod line;
 mod reading;
+mod report;
+mod show;
 mod word;
 
 pub use error::{LineError, Refusal};
 pub use line::{Line, step_of};
+pub use report::{write_bad_line, write_refusal, write_report};
+pub use show::{write_cover, write_messages, write_view};
