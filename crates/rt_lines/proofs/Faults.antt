@@ -14,7 +14,7 @@ use Rattle.rt_lines.specs.declared.call.BoundCall.{BoundCall}
 use Rattle.rt_query.specs.Calls.{bound_refusal, bounded_by}
 use Rattle.rt_order.specs.declared.cut.Mark.{Mark}
 use Rattle.serde_json.specs.Data.{Data}
-use Rattle.rt_lines.specs.inside.Memory.{of_query}
+use Rattle.rt_lines.specs.Refusals.{of_query}
 
 -- what would be refused is not answered
 pub unless_ok : {A : Type 0} (o : Option TreeError) (x y : A) → IfSome o (λ e. Ok x ≡ Err e) → x ≡ y → unless o y ≡ Ok x

@@ -1,7 +1,6 @@
 // Why a line is not read, or not done.
 ghost use Rattle.std.specs.Prelude.{◌≡◌};
-ghost use Rattle.rt_lines.specs.Refusals.{code_of, layer_of, name_of};
-ghost use Rattle.rt_lines.specs.inside.Memory.{of_query};
+ghost use Rattle.rt_lines.specs.Refusals.{code_of, layer_of, name_of, of_query};
 ghost use Rattle.rt_lines.specs.declared.error.LineError.TheVariants.{NoMemory};
 
 use rt_query::QueryError;

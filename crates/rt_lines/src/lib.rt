@@ -13,6 +13,7 @@ mod call;
 mod change;
 mod draft;
 mod error;
+pub mod examples;
 mod form;
 mod line;
 mod reading;
