@@ -1,0 +1,4 @@
+mod Bytes
+mod Faults
+mod Lists
+mod Parts

@@ -1,0 +1,186 @@
+-- Which JSON value has the form of a line of a script: a name, and the words behind it.
+use Rattle.std.specs.Prelude.{ℕ, List, [], ◌∷◌, bytes_eq, codes, if◌then◌else◌, Option, Some, None}
+use Rattle.std.specs.Prelude.{option_map, option_and_then}
+use Rattle.serde_json.specs.Data.{Data as Json, Members}
+use Rattle.serde_json.specs.Find.{as_object, as_str}
+use Rattle.rt_lines.specs.Calls.{Call, calls_in}
+use Rattle.rt_lines.specs.Words.{named_in, seat_in, whole}
+
+-- what a write sets: a value at a path, several values at their paths, or nothing at a path
+pub data Written : Type 0 where
+  Set : List ℕ → Json → Written
+  Update : Members → Written
+  Remove : List ℕ → Written
+
+-- a line of one of the forms: numbers, texts, calls and JSON data, as they stand there
+pub data Form : Type 0 where
+  Listen : ℕ → List ℕ → List Call → Form
+  Unlisten : ℕ → ℕ → Form
+  Write : ℕ → Written → Form
+  OnDisconnect : ℕ → Written → Form
+  CancelDisconnect : ℕ → List ℕ → Form
+  Close : ℕ → Form
+  Data : ℕ → List ℕ → Json → Form
+  Merge : ℕ → Members → Form
+  Accepted : ℕ → Form
+  Refused : ℕ → List ℕ → Form
+  Revoked : ℕ → List ℕ → Form
+  Server : List ℕ → Form
+  Connected : Form
+  Disconnected : Form
+  Out : Form
+  Cover : Form
+  View : ℕ → Form
+
+-- ---- what a write sets
+
+-- `path,value`
+abbrev pub set_words : List Json → Option Written
+set_words (path ∷ value ∷ []) = option_map (λ p. Set p value) (as_str path)
+set_words _ = None
+
+-- `{path:value,..}`
+abbrev pub update_words : List Json → Option Written
+update_words (entries ∷ []) = option_map Update (as_object entries)
+update_words _ = None
+
+-- `path`
+abbrev pub remove_words : List Json → Option Written
+remove_words (path ∷ []) = option_map Remove (as_str path)
+remove_words _ = None
+
+-- what a set, an update or a remove sets
+abbrev pub written_in : List ℕ → List Json → Option Written
+written_in name words =
+    if bytes_eq name (codes "set") then set_words words
+    else if bytes_eq name (codes "update") then update_words words
+    else if bytes_eq name (codes "remove") then remove_words words
+    else None
+
+-- ---- the words behind the name, form by form: what a seat asks for
+
+-- `["listen",seat,path,[call,..]]`
+abbrev pub listen_form : List Json → Option Form
+listen_form (seat ∷ path ∷ calls ∷ []) =
+    option_and_then (λ n. option_and_then (λ p. option_map (Listen n p) (calls_in calls))
+    (as_str path)) (seat_in seat)
+listen_form _ = None
+
+-- `["unlisten",seat,listener]`
+abbrev pub unlisten_form : List Json → Option Form
+unlisten_form (seat ∷ listener ∷ []) =
+    option_and_then (λ n. option_map (Unlisten n) (whole listener)) (seat_in seat)
+unlisten_form _ = None
+
+-- `["set",seat,path,value]`, `["update",seat,{path:value,..}]`, `["remove",seat,path]`
+abbrev pub write_form : List ℕ → List Json → Option Form
+write_form name [] = None
+write_form name (seat ∷ words) =
+    option_and_then (λ n. option_map (Write n) (written_in name words)) (seat_in seat)
+
+-- `["onDisconnect",seat,"cancel",path]`
+abbrev pub cancel_form : ℕ → List Json → Option Form
+cancel_form seat (path ∷ []) = option_map (CancelDisconnect seat) (as_str path)
+cancel_form seat _ = None
+
+-- what is asked for the end of the connection: to cancel, or a write
+abbrev pub ending_form : ℕ → List ℕ → List Json → Option Form
+ending_form seat what words =
+    if bytes_eq what (codes "cancel") then cancel_form seat words
+    else option_map (OnDisconnect seat) (written_in what words)
+
+-- `["onDisconnect",seat,"set",path,value]` and the like
+abbrev pub on_disconnect_form : List Json → Option Form
+on_disconnect_form (seat ∷ what ∷ words) =
+    option_and_then (λ n. option_and_then (λ w. ending_form n w words) (as_str what)) (seat_in seat)
+on_disconnect_form _ = None
+
+-- `["close",seat]`
+abbrev pub close_form : List Json → Option Form
+close_form (seat ∷ []) = option_map Close (seat_in seat)
+close_form _ = None
+
+-- ---- what the server sends
+
+-- `["data",tag,path,value]`
+abbrev pub data_form : List Json → Option Form
+data_form (tag ∷ path ∷ value ∷ []) =
+    option_and_then (λ n. option_map (λ p. Data n p value) (as_str path)) (whole tag)
+data_form _ = None
+
+-- `["merge",tag,{path:value,..}]`
+abbrev pub merge_form : List Json → Option Form
+merge_form (tag ∷ entries ∷ []) =
+    option_and_then (λ n. option_map (Merge n) (as_object entries)) (whole tag)
+merge_form _ = None
+
+-- `["ok",id]`
+abbrev pub ok_form : List Json → Option Form
+ok_form (id ∷ []) = option_map Accepted (whole id)
+ok_form _ = None
+
+-- `["no",id,why]`
+abbrev pub no_form : List Json → Option Form
+no_form (id ∷ why ∷ []) = option_and_then (λ n. option_map (Refused n) (as_str why)) (whole id)
+no_form _ = None
+
+-- `["revoke",tag,why]`
+abbrev pub revoke_form : List Json → Option Form
+revoke_form (tag ∷ why ∷ []) = option_and_then (λ n. option_map (Revoked n) (as_str why)) (whole tag)
+revoke_form _ = None
+
+-- `["server",text]`
+abbrev pub server_form : List Json → Option Form
+server_form (text ∷ []) = option_map Server (as_str text)
+server_form _ = None
+
+-- ---- the connection, and looks at the core
+
+-- `["connected"]`, `["disconnected"]`, `["out"]`, `["cover"]`
+abbrev pub lone_form : Form → List Json → Option Form
+lone_form form [] = Some form
+lone_form form _ = None
+
+-- `["view",listener]`
+abbrev pub view_form : List Json → Option Form
+view_form (listener ∷ []) = option_map View (whole listener)
+view_form _ = None
+
+-- ---- a line of that name
+
+abbrev pub server_named : List ℕ → List Json → Option Form
+server_named name words =
+    if bytes_eq name (codes "data") then data_form words
+    else if bytes_eq name (codes "merge") then merge_form words
+    else if bytes_eq name (codes "ok") then ok_form words
+    else if bytes_eq name (codes "no") then no_form words
+    else if bytes_eq name (codes "revoke") then revoke_form words
+    else if bytes_eq name (codes "server") then server_form words
+    else None
+
+abbrev pub lone_named : List ℕ → List Json → Option Form
+lone_named name words =
+    if bytes_eq name (codes "connected") then lone_form Connected words
+    else if bytes_eq name (codes "disconnected") then lone_form Disconnected words
+    else if bytes_eq name (codes "out") then lone_form Out words
+    else if bytes_eq name (codes "cover") then lone_form Cover words
+    else if bytes_eq name (codes "view") then view_form words
+    else server_named name words
+
+abbrev pub seat_named : List ℕ → List Json → Option Form
+seat_named name words =
+    if bytes_eq name (codes "unlisten") then unlisten_form words
+    else if bytes_eq name (codes "set") then write_form name words
+    else if bytes_eq name (codes "update") then write_form name words
+    else if bytes_eq name (codes "remove") then write_form name words
+    else if bytes_eq name (codes "onDisconnect") then on_disconnect_form words
+    else if bytes_eq name (codes "close") then close_form words
+    else lone_named name words
+
+abbrev pub form_named : List ℕ → List Json → Option Form
+form_named name words =
+    if bytes_eq name (codes "listen") then listen_form words else seat_named name words
+
+-- the form that a JSON value has, if it has one
+abbrev pub form_in : Json → Option Form
+form_in d = named_in form_named d

@@ -1,0 +1,2 @@
+-- What the prover computes of some lines.
+pub mod Examples

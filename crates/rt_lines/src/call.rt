@@ -1,0 +1,178 @@
+// The calls that a listen makes on its query.
+ghost use Rattle.std.specs.Prelude.{◌≡◌, ◌⊎◌, IfOk, IfErr, Some, None, option_map, option_and_then};
+ghost use Rattle.serde_json.specs.View.{view as data_of};
+ghost use Rattle.rt_lines.specs.Calls.{bound_call, bound_named, call_in, calls_in, calls_of};
+ghost use Rattle.rt_lines.specs.Calls.{child_call};
+ghost use Rattle.rt_lines.specs.Calls.{limit_call, lone_call, named_call, scalar};
+ghost use Rattle.rt_lines.specs.Calls as calls;
+ghost use Rattle.rt_lines.specs.inside.FormView.{as_call, as_calls, views};
+
+use crate::error::LineError;
+use crate::word::{count_of, parts_of};
+use serde_json::Value;
+use std::alloc::Global;
+
+/// Which bound a call sets.
+#[derive(Clone, Copy, Debug, PartialEq, Eq)]
+pub(crate) enum BoundCall {
+    StartAt,
+    StartAfter,
+    EndAt,
+    EndBefore,
+    EqualTo,
+}
+
+/// A call of one of the forms, its words as they stand there.
+#[derive(Clone, Copy)]
+pub(crate) enum Call<'a> {
+    /// `["orderByKey"]`
+    OrderByKey,
+    /// `["orderByValue"]`
+    OrderByValue,
+    /// `["orderByChild",path]`
+    OrderByChild {
+        path: &'a str,
+    },
+    /// `["limitToFirst",n]`
+    LimitToFirst {
+        n: u32,
+    },
+    /// `["limitToLast",n]`
+    LimitToLast {
+        n: u32,
+    },
+    /// `["startAt",value]`, `["startAt",value,key]` and the like
+    Bound {
+        bound: BoundCall,
+        value: &'a Value,
+        key: Option<&'a str>,
+    },
+}
+
+// A call without words.
+fn lone<'a>(call: Call<'a>, words: &[Value]) -> Option<Call<'a>>
+    ensures { option_map as_call result ≡ lone_call (as_call call.entry) (views words.now) }
+{
+    if words.is_empty() { Some(call) } else { None }
+}
+
+fn child(words: &[Value]) -> Option<Call<'_>>
+    ensures { option_map as_call result ≡ child_call (views words.now) }
+{
+    let [path] = words else {
+        return None;
+    };
+    Some(Call::OrderByChild {
+        path: path.as_str()?,
+    })
+}
+
+fn first(words: &[Value]) -> Option<Call<'_>>
+    ensures { option_map as_call result ≡ limit_call calls.LimitToFirst (views words.now) }
+{
+    let [n] = words else {
+        return None;
+    };
+    Some(Call::LimitToFirst { n: count_of(n)? })
+}
+
+fn last(words: &[Value]) -> Option<Call<'_>>
+    ensures { option_map as_call result ≡ limit_call calls.LimitToLast (views words.now) }
+{
+    let [n] = words else {
+        return None;
+    };
+    Some(Call::LimitToLast { n: count_of(n)? })
+}
+
+// A value that may be in a cut: null, a truth value, a number or a text.
+fn scalar_of(value: &Value) -> Option<&Value>
+    ensures { option_map (λ v. data_of v.now) result ≡ scalar (data_of value.now) }
+{
+    match value {
+        Value::Null | Value::Bool(_) | Value::Number(_) | Value::String(_) => Some(value),
+        Value::Array(_) | Value::Object(_) => None,
+    }
+}
+
+fn bound(bound: BoundCall, words: &[Value]) -> Option<Call<'_>>
+    ensures { option_map as_call result ≡ bound_call bound (views words.now) }
+{
+    match words {
+        [value] => Some(Call::Bound {
+            bound,
+            value: scalar_of(value)?,
+            key: None,
+        }),
+        [value, key] => Some(Call::Bound {
+            bound,
+            value: scalar_of(value)?,
+            key: Some(key.as_str()?),
+        }),
+        _ => None,
+    }
+}
+
+// The bound of that name.
+fn bound_of_name(name: &str) -> Option<BoundCall>
+    ensures { result ≡ bound_named name.now }
+{
+    match name {
+        "startAt" => Some(BoundCall::StartAt),
+        "startAfter" => Some(BoundCall::StartAfter),
+        "endAt" => Some(BoundCall::EndAt),
+        "endBefore" => Some(BoundCall::EndBefore),
+        "equalTo" => Some(BoundCall::EqualTo),
+        _ => None,
+    }
+}
+
+// A call of that name.
+fn named<'a>(name: &str, words: &'a [Value]) -> Option<Call<'a>>
+    ensures { option_map as_call result ≡ named_call name.now (views words.entry.now) }
+{
+    match name {
+        "orderByKey" => lone(Call::OrderByKey, words),
+        "orderByValue" => lone(Call::OrderByValue, words),
+        "orderByChild" => child(words),
+        "limitToFirst" => first(words),
+        "limitToLast" => last(words),
+        _ => bound(bound_of_name(name)?, words),
+    }
+}
+
+// The call that a JSON value is, or none where it has none of the forms.
+fn call_of(value: &Value) -> Option<Call<'_>>
+    ensures { option_map as_call result ≡ call_in (data_of value.now) }
+{
+    let (name, words) = parts_of(value)?;
+    named(name, words)
+}
+
+// The calls that JSON values are, each of one of the forms.
+fn calls_of<'a>(alloc: Global, values: &'a [Value]) -> Result<Vec<Call<'a>>, LineError>
+    ensures ok { IfOk result (λ found. calls_of (views values.entry.now)
+        ≡ Some (as_calls found.items)) }
+    ensures err { IfErr result (λ e. (e ≡ LineError.Bad) × (calls_of (views values.entry.now) ≡ None)
+        ⊎ (e ≡ LineError.NoMemory)) }
+{
+    let mut found = Vec::new(alloc);
+    for value in values {
+        found.push(call_of(value).ok_or(LineError::Bad)?)?;
+    }
+    Ok(found)
+}
+
+/// The calls of an array.
+#[tactic(auto, using(crate::proofs::Lists::calls_in_array))]
+pub(crate) fn calls_in(alloc: Global, value: &Value) -> Result<Vec<Call<'_>>, LineError>
+    ensures ok { IfOk result (λ found. calls_in (data_of value.entry.now)
+        ≡ Some (as_calls found.items)) }
+    ensures err { IfErr result (λ e. (e ≡ LineError.Bad) × (calls_in (data_of value.entry.now) ≡ None)
+        ⊎ (e ≡ LineError.NoMemory)) }
+{
+    match value.as_array() {
+        Some(values) => calls_of(alloc, values.as_slice()),
+        None => Err(LineError::Bad),
+    }
+}
