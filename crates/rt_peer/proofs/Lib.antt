@@ -1,3 +1,5 @@
 pub mod Numbers
+pub mod OrderLaws
 pub mod PartLaws
+pub mod Places
 pub mod RunLaws

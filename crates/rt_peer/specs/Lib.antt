@@ -4,8 +4,9 @@
 --     Calls       what each call leaves, and what it sends
 --     Runs        runs of calls, and what they write
 --     Errors      the number and the name of each refusal
--- laws/ has what is stated for callers: what any calls leave in the tree (Runs), and runs that the
--- prover computes (Examples). inside/ has what only the representation keeps.
+-- laws/ has what is stated for callers: what any calls leave in the tree (Runs), the orders that what
+-- is held stands in (Orders), and runs that the prover computes (Examples). inside/ has what only the
+-- representation keeps.
 pub mod Calls
 pub mod Errors
 pub mod Peers

@@ -3,6 +3,8 @@
 
 ghost use Rattle.rt_peer.specs.laws.Examples.{RowIsSent, RowLeaves, RowDoesSomething};
 ghost use Rattle.rt_peer.specs.laws.Examples.{RowDoesNoMore, WriterIsNotTold, NumberIsFreeAgain};
+ghost use Rattle.rt_peer.specs.laws.Orders.{ActionsMayTie, BusyIsSorted, NoListenIsLeft};
+ghost use Rattle.rt_peer.specs.laws.Orders.{NumbersMayHaveGaps};
 
 /// What two connections are sent, one that listens and one that writes.
 pub fn sent_examples()
@@ -16,4 +18,12 @@ pub fn run_examples()
     ensures leaves { RowLeaves }
     ensures something { RowDoesSomething }
     ensures no_more { RowDoesNoMore }
+{}
+
+/// In which order listens and actions stand, and what does not hold of it.
+pub fn order_examples()
+    ensures sorted { BusyIsSorted }
+    ensures left { NoListenIsLeft }
+    ensures tie { ActionsMayTie }
+    ensures gaps { NumbersMayHaveGaps }
 {}

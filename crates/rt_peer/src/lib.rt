@@ -24,7 +24,7 @@ mod shown;
 mod state;
 
 pub use error::PeerError;
-pub use examples::{run_examples, sent_examples};
-pub use laws::run_law;
+pub use examples::{order_examples, run_examples, sent_examples};
+pub use laws::{connections_law, orders_law, run_law};
 pub use peer::Peer;
 pub use sent::Sent;
