@@ -14,7 +14,7 @@ ghost use Rattle.rt_world.specs.laws.Refused.{RefusedIsStale, RevokedIsStale, Li
 ghost use Rattle.rt_world.specs.laws.Refused.{UnlistenNeedsTag, CloseSeatNeedsTag, RevokedNeedsTag};
 ghost use Rattle.rt_world.specs.laws.Holds.{EmptyIsSteady, StaysSteady, StaysCalled, StaysShort};
 ghost use Rattle.rt_world.specs.laws.Holds.{EmptyIsWithin, StaysWithin, HeadlineOfSound};
-ghost use Rattle.rt_world.specs.laws.Holds.{CoverFollows, DeltaFollows};
+ghost use Rattle.rt_world.specs.laws.Holds.{CoverFollows, DeltaFollows, WorldsAreSteady};
 
 /// What any step leaves that registers and ends no listener, in plain listens.
 pub fn still_law()
@@ -74,6 +74,7 @@ pub fn listened_law()
 pub fn steady_law()
     ensures empty { EmptyIsSteady }
     ensures next { StaysSteady }
+    ensures worlds { WorldsAreSteady }
 {}
 
 /// The same of each part on its own, whatever the listens; and the headline, from any sound world.

@@ -8,6 +8,7 @@ use Rattle.rt_world.specs.declared.step.Step.{Step}
 use Rattle.rt_world.specs.World.{World, Listener, empty_world}
 use Rattle.rt_world.specs.Messages.{next}
 use Rattle.rt_world.specs.Refusals.{refusal}
+use Rattle.rt_world.specs.Answers.{world_after}
 use Rattle.rt_world.specs.Covering.{cover_in, cover_after, change_by, delta_by}
 use Rattle.rt_world.specs.Headline.{Headline}
 use Rattle.rt_world.specs.Plain.{IsPlain, RegistersPlain}
@@ -54,6 +55,12 @@ abbrev pub StaysSteady : Type 0
 StaysSteady =
     (w : World) (s : Step) → IsSteady w → RegistersPlain s → RegistersShort s → refusal w s ≡ None
     → IsSteady (next w s)
+
+-- so in each world that steps lead to
+abbrev pub WorldsAreSteady : Type 0
+WorldsAreSteady =
+    (limits : Limits) (steps : List Step) → All RegistersPlain steps → All RegistersShort steps
+    → IsSteady (world_after (empty_world limits) steps)
 
 -- ---- each on its own, whatever the listens
 
