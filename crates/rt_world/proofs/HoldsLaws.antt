@@ -1,5 +1,5 @@
 -- What holds between steps stays so.
-use Rattle.std.proofs.Common.{◌≡◌, ◌≤◌, List, length, refl, sym, subst, arith, slice_index_or, not, ◌==◌, [], ◌∷◌, Bool, true, false, Option, Some, None}
+use Rattle.std.proofs.Common.{◌≡◌, ◌≤◌, List, length, refl, sym, subst, arith, slice_index_or, not, ◌==◌, [], ◌∷◌, Bool, true, false, Option, Some, None, ◌∙◌}
 use Rattle.std.specs.List.{All}
 use Rattle.std.proofs.lemmas.List.Elements.{All-head, All-tail, All-map, All-filter, All-push}
 use Rattle.rt_query.specs.Queries.{Query}
@@ -9,8 +9,9 @@ use Rattle.rt_world.specs.World.{World, Listener, empty_world, pending}
 use Rattle.rt_world.specs.Steps.{is_cancelled, listeners_after, requests_after, brought_after, renewed}
 use Rattle.rt_world.specs.Refusals.{refusal, is_stale}
 use Rattle.rt_world.specs.Answers.{step, step_by, world_after}
+use Rattle.rt_world.specs.Headline.{view_by}
 use Rattle.rt_world.specs.Plain.{RegistersPlain}
-use Rattle.rt_world.specs.laws.Holds.{AreShort, RegistersShort, IsSteady, EmptyIsSteady, StaysSteady, WorldsAreSteady, StaysShort, EmptyIsWithin, StaysWithin}
+use Rattle.rt_world.specs.laws.Holds.{sending, TakenIsSound, TakenIsSteady, AreShort, RegistersShort, IsSteady, EmptyIsSteady, StaysSteady, WorldsAreSteady, StaysShort, EmptyIsWithin, StaysWithin}
 use Rattle.rt_world.proofs.CalledLaws.{called_world, called_next}
 use Rattle.rt_world.proofs.LimitLaws.{allowed, counts, within_next}
 use Rattle.rt_world.proofs.Listeners.{query-renewed}
@@ -80,3 +81,28 @@ empty_is_within limits = record { listeners = omega arith; requests = omega arit
 
 pub stays_within : StaysWithin
 stays_within w s h i free = within_next w s (counts w s h i (allowed w s free))
+
+-- ---- messages that are taken out
+
+pub taken_is_sound : TakenIsSound
+taken_is_sound w messages h = record {
+  rises = h.rises;
+  below = h.below;
+  views = λ k d lt. let l = slice_index_or w.listeners k d in h.views k d lt ∙ same l.is_primed l.query;
+  primed = h.primed;
+  requests = h.requests;
+  unsettled = h.unsettled;
+  listens = h.listens;
+}
+  where
+    same : (b : Bool) (q : Query) → view_by b w q ≡ view_by b (sending w messages) q
+    same true q = refl
+    same false q = refl
+
+pub taken_is_steady : TakenIsSteady
+taken_is_steady w messages h = record {
+  sound = taken_is_sound w messages h.sound;
+  called = h.called;
+  plain = record { unfiltered = (h.plain).unfiltered; windows = (h.plain).windows; reached = (h.plain).reached; shallow = (h.plain).shallow };
+  short = h.short;
+}

@@ -3,6 +3,7 @@ use Rattle.std.specs.Prelude.{◌≡◌, ◌≤◌, length, List, Some, None}
 use Rattle.std.specs.List.{All}
 use Rattle.rt_tree.specs.declared.limits.TheConstants.{MAX_KEYS}
 use Rattle.rt_cover.specs.Runs.{Change, told}
+use Rattle.rt_wire.specs.declared.client.ClientMessage.{ClientMessage}
 use Rattle.rt_world.specs.declared.limits.Limits.{Limits}
 use Rattle.rt_world.specs.declared.step.Step.{Step}
 use Rattle.rt_world.specs.World.{World, Listener, empty_world}
@@ -81,6 +82,21 @@ EmptyIsWithin = (limits : Limits) → IsWithin (empty_world limits)
 abbrev pub StaysWithin : Type 0
 StaysWithin =
     (w : World) (s : Step) → IsSound w → IsWithin w → refusal w s ≡ None → IsWithin (next w s)
+
+-- ---- messages that are taken out
+
+-- the world with other messages to be sent
+abbrev pub sending : World → List ClientMessage → World
+sending w messages = record w { outgoing = messages }
+
+-- it is as sound
+abbrev pub TakenIsSound : Type 0
+TakenIsSound = (w : World) (messages : List ClientMessage) → IsSound w → IsSound (sending w messages)
+
+-- and as steady
+abbrev pub TakenIsSteady : Type 0
+TakenIsSteady =
+    (w : World) (messages : List ClientMessage) → IsSteady w → IsSteady (sending w messages)
 
 -- ---- the headline
 
