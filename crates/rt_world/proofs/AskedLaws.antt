@@ -1,25 +1,23 @@
 -- Requests and the connection, as a core makes them.
-use Rattle.std.proofs.Common.{◌≡◌, ℕ, ◌<◌, Bool, true, false, cond, List, [], ◌∷◌, ◌++◌, map, refl, sym, ap, ◌∙◌, append-nil, arith, Some}
+use Rattle.std.proofs.Common.{◌≡◌, ℕ, ◌<◌, true, false, cond, List, [], ◌∷◌, ◌++◌, refl, ◌∙◌, arith, Some}
 use Rattle.std.specs.List.{All, list_any}
 use Rattle.std.proofs.lemmas.List.Elements.{All-cons, All-head, All-tail}
 use Rattle.rt_writes.specs.Writes.{Write}
 use Rattle.rt_wire.specs.declared.client.ClientMessage.{ClientMessage}
-use Rattle.rt_wire.specs.declared.request.Action.{Action}
 use Rattle.rt_wire.specs.declared.request.Asked.{Asked}
 use Rattle.rt_wire.specs.declared.request.Asked.TheVariants.{Now, AtDisconnect}
-use Rattle.rt_wire.specs.declared.request.Ending.{Ending}
 use Rattle.rt_world.specs.declared.request.Request.{Request}
 use Rattle.rt_world.specs.declared.step.Step.{Step}
-use Rattle.rt_world.specs.World.{World, pending, entries_of}
-use Rattle.rt_world.specs.Steps.{requests_after, is_connected_after, counted, request_given}
-use Rattle.rt_world.specs.Messages.{messages_of, messages_online, outgoing_before}
+use Rattle.rt_world.specs.World.{pending, entries_of}
+use Rattle.rt_world.specs.Steps.{requests_after, counted, request_given}
+use Rattle.rt_world.specs.Messages.{messages_of, outgoing_before}
 use Rattle.rt_world.specs.Refusals.{stands_too_deep}
 use Rattle.rt_world.specs.laws.Made.{asking, writes_with, WriteIsMade, EndingIsMade, ConnectedIsMade, DisconnectedIsMade, WritesAreShallow, NextIsAbovePending}
 use Rattle.rt_world.proofs.LimitLaws.{allowed}
 use Rattle.rt_world.proofs.Listeners.{or_false_left}
 use Rattle.rt_world.proofs.PlainLaws.{none_deep}
 use Rattle.rt_world.proofs.StillLaws.{still_leaves_listens, next_is, told_is, map_unmet, told_unmet}
-use Rattle.rt_world.proofs.WrittenLaws.{pending-more, pending-write}
+use Rattle.rt_world.proofs.WrittenLaws.{pending-write}
 
 -- ---- requests
 

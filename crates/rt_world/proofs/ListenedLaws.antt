@@ -1,28 +1,25 @@
 -- Steps that register or end listeners, in the words of rt_cover's changes.
-use Rattle.std.proofs.Common.{◌≡◌, ℕ, ◌+◌, Bool, true, false, cond, not, ◌==◌, List, [], ◌∷◌, ◌++◌, map, length, refl, sym, ap, subst, ◌∙◌, arith, suc, append-nil, Option, Some, None}
-use Rattle.std.specs.List.{filter, filter_map, cons_option, fold, Contains}
+use Rattle.std.proofs.Common.{◌≡◌, ◌+◌, Bool, true, cond, not, ◌==◌, List, [], ◌∷◌, ◌++◌, map, refl, sym, ap, subst, ◌∙◌, arith, suc, append-nil, Option, Some, None}
+use Rattle.std.specs.List.{filter, filter_map, cons_option, Contains}
 use Rattle.std.specs.Option.{option_to_list}
 use Rattle.std.proofs.lemmas.List.Elements.{filter_map-append}
-use Rattle.rt_query.specs.Queries.{Query}
-use Rattle.rt_query.specs.Supply.{form}
 use Rattle.rt_writes.specs.Writes.{Write}
-use Rattle.rt_cache.specs.Brought.{Brought}
 use Rattle.rt_cache.specs.Recover.{recover}
 use Rattle.rt_cover.specs.declared.delta.Delta.{Delta}
 use Rattle.rt_cover.specs.Cover.{Registered, Tagged, forms}
-use Rattle.rt_cover.specs.Runs.{Change, Add, Remove, Revoke, told as told_of_change}
-use Rattle.rt_cover.specs.State.{Cover, shown_with, with_listeners, difference, removed, revoked, without_tag, left_after, without_listeners}
+use Rattle.rt_cover.specs.Runs.{Add, Remove, Revoke}
+use Rattle.rt_cover.specs.State.{Cover, shown_with, difference, removed, revoked, without_tag, left_after, without_listeners}
 use Rattle.rt_cover.specs.laws.CoverLaws.{Contains-from_filter}
 use Rattle.rt_wire.specs.declared.client.ClientMessage.{ClientMessage}
 use Rattle.rt_world.specs.declared.report.Body.TheVariants.{Cancelled}
 use Rattle.rt_world.specs.declared.report.Note.{Note}
 use Rattle.rt_world.specs.declared.step.Step.{Step}
 use Rattle.rt_world.specs.World.{World, Listener, registered, pending}
-use Rattle.rt_world.specs.Steps.{is_cancelled, unseated, listeners_after, requests_after, kept_after, started_by, pushed, brought_after, renewed, renewed_after}
+use Rattle.rt_world.specs.Steps.{is_cancelled, unseated, listeners_after, requests_after, started_by, pushed, brought_after, renewed, renewed_after}
 use Rattle.rt_world.specs.Messages.{stopped_by, listens, unlistens, request_sent, messages_online, next}
 use Rattle.rt_world.specs.Answers.{batch_from, batch_note, batch_notes}
 use Rattle.rt_world.specs.Met.{told}
-use Rattle.rt_world.specs.Covering.{cover_in, numbers_of, cover_after, change_by, delta_by}
+use Rattle.rt_world.specs.Covering.{cover_in, numbers_of, delta_by}
 use Rattle.rt_world.specs.laws.World.{changes_listeners}
 use Rattle.rt_world.specs.laws.Steps.{note_of}
 use Rattle.rt_world.specs.laws.Made.{IsMade}
@@ -30,7 +27,6 @@ use Rattle.rt_world.specs.laws.Listened.{changing, new_listener, cover_with, Lis
 use Rattle.rt_world.proofs.CoveringLaws.{follows, revoked_left, unlistened, closed}
 use Rattle.rt_world.proofs.DeltaLaws.{delta}
 use Rattle.rt_world.proofs.HeardLaws.{map-append}
-use Rattle.rt_world.proofs.Listeners.{registered-renewed}
 use Rattle.rt_world.proofs.LostLaws.{listen_brings_nothing}
 use Rattle.rt_world.proofs.NoteLaws.{batches_are_notes, still_is_quiet}
 use Rattle.rt_world.proofs.PlainLaws.{Contains-more}

@@ -1,25 +1,23 @@
 -- Settlements and pushes, as a core makes them.
-use Rattle.std.proofs.Common.{◌≡◌, ℕ, Bool, true, false, cond, not, ◌&&◌, ◌||◌, ◌==◌, List, [], ◌∷◌, ◌++◌, map, refl, sym, ap, subst, ◌∙◌, Option, Some, None, is_some, append-nil}
+use Rattle.std.proofs.Common.{◌≡◌, ℕ, Bool, true, false, not, ◌&&◌, ◌||◌, List, [], ◌∷◌, ◌++◌, refl, sym, ap, subst, ◌∙◌, Option, Some, None, is_some, append-nil}
 use mathlib.Core.Bool.{true≢false}
-use Rattle.std.specs.List.{filter, find, fold, list_any, list_all, All}
-use Rattle.std.specs.Option.{option_map_or, option_and_then, option_to_list}
-use Rattle.rt_tree.specs.PathTree.{Path, PathTree, path_eq}
+use Rattle.std.specs.List.{fold, list_any, list_all}
+use Rattle.std.specs.Option.{option_map_or}
+use Rattle.rt_tree.specs.PathTree.{path_eq}
 use Rattle.rt_tree.specs.Assignments.{Assignment}
 use Rattle.rt_query.specs.Queries.{Query, is_filtered}
 use Rattle.rt_writes.specs.Writes.{Write, without}
 use Rattle.rt_cache.specs.Brought.{Brought, push, window_of, is_without_window}
 use Rattle.rt_world.specs.declared.report.Note.{Note}
 use Rattle.rt_world.specs.declared.step.Step.{Step}
-use Rattle.rt_world.specs.World.{Reason, World, pending, listen_of}
+use Rattle.rt_world.specs.World.{World, pending, listen_of}
 use Rattle.rt_world.specs.Steps.{requests_after, pushed}
 use Rattle.rt_world.specs.Messages.{messages_online}
-use Rattle.rt_world.specs.Refusals.{refusal, is_stale, is_no_merge, is_within_listen, stands_too_deep}
+use Rattle.rt_world.specs.Refusals.{is_no_merge, is_within_listen, stands_too_deep}
 use Rattle.rt_world.specs.Answers.{settled_notes, batch_notes}
-use Rattle.rt_world.specs.Touched.{entries_settled}
-use Rattle.rt_world.specs.Met.{renewed_met, all_told}
 use Rattle.rt_world.specs.Plain.{IsPlain}
 use Rattle.rt_world.specs.Sound.{IsSound}
-use Rattle.rt_world.specs.laws.Made.{IsMade, AcceptedIsMade, RefusedIsMade, DataIsMade, MergeIsMade, MayPush, DataMayPush, MergeMayPush, ListensArePlain, DataIsStale, MergeIsStale}
+use Rattle.rt_world.specs.laws.Made.{AcceptedIsMade, RefusedIsMade, DataIsMade, MergeIsMade, MayPush, DataMayPush, MergeMayPush, ListensArePlain, DataIsStale, MergeIsStale}
 use Rattle.rt_world.proofs.LimitLaws.{allowed}
 use Rattle.rt_world.proofs.NoteLaws.{settled_once_told}
 use Rattle.rt_world.proofs.PlainLaws.{forms_kept, kept_of, unfiltered_kept, plainly_of, plainly_pushed, pushes_on, push_is_plain, IsPlainly}

@@ -1,5 +1,5 @@
 -- Refusals by kind of step, and those of the cover.
-use Rattle.std.proofs.Common.{◌≡◌, ℕ, Bool, true, false, cond, not, ◌&&◌, ◌||◌, ◌==◌, List, [], ◌∷◌, map, refl, sym, ap, ◌∙◌, arith, suc, Option, Some, None, is_some, nat_le, nat_lt}
+use Rattle.std.proofs.Common.{◌≡◌, ℕ, Bool, true, false, cond, not, ◌&&◌, ◌||◌, ◌==◌, List, [], ◌∷◌, map, refl, sym, ap, ◌∙◌, arith, suc, Option, Some, None, is_some}
 use mathlib.Core.Bool.{true≢false}
 use Rattle.std.specs.List.{filter, find, list_any, Contains}
 use Rattle.std.specs.Option.{option_map, option_map_or}
@@ -11,8 +11,7 @@ use Rattle.rt_cover.specs.declared.error.CoverError.TheVariants.{NoTag, UnknownL
 use Rattle.rt_cover.specs.laws.CoverLaws.{Contains-from_filter}
 use Rattle.rt_world.specs.declared.step.Step.{Step}
 use Rattle.rt_world.specs.World.{World, Listener, registered}
-use Rattle.rt_world.specs.Steps.{listeners_after}
-use Rattle.rt_world.specs.Refusals.{needs_tag, refusal, is_stale}
+use Rattle.rt_world.specs.Refusals.{needs_tag, is_stale}
 use Rattle.rt_world.specs.Answers.{step_by}
 use Rattle.rt_world.specs.Covering.{cover_in, numbers_of}
 use Rattle.rt_world.specs.laws.Listened.{ListenMayAdd, UnlistenMayRemove, CloseSeatMayRemove, RevokedMayRevoke}

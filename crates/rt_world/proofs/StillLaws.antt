@@ -1,19 +1,18 @@
 -- What a step leaves where no listener begins or ends.
-use Rattle.std.proofs.Common.{◌≡◌, ◌+◌, Bool, true, false, cond, List, [], ◌∷◌, ◌++◌, map, length, refl, sym, ap, subst, ◌∙◌, arith, suc, append-nil, Option, None}
+use Rattle.std.proofs.Common.{◌≡◌, Bool, true, false, cond, List, [], ◌∷◌, ◌++◌, map, length, refl, sym, ap, subst, ◌∙◌, arith, suc, append-nil, Option, None}
 use mathlib.Core.Bool.{true≢false}
 use Rattle.std.specs.List.{Contains, filter_map, cons_option}
 use Rattle.rt_writes.specs.Writes.{Write}
 use Rattle.rt_cache.specs.Brought.{Brought}
 use Rattle.rt_wire.specs.declared.client.ClientMessage.{ClientMessage}
-use Rattle.rt_world.specs.declared.report.Note.{Note}
 use Rattle.rt_world.specs.declared.step.Step.{Step}
 use Rattle.rt_world.specs.World.{World, Listener, pending}
 use Rattle.rt_world.specs.Steps.{listeners_after, requests_after, started_by, pushed, brought_after, renewed, renewed_after, is_connected_after, listener_given, request_given, counted}
-use Rattle.rt_world.specs.Messages.{listens, unlistens, request_sent, messages_online, messages_of, outgoing_before, next}
+use Rattle.rt_world.specs.Messages.{listens, unlistens, request_sent, messages_of, outgoing_before, next}
 use Rattle.rt_world.specs.Answers.{batch_from, batch_note, batch_notes}
 use Rattle.rt_world.specs.Touched.{entries_by}
 use Rattle.rt_world.specs.Met.{told, do_meet, renewed_met, told_met, all_told}
-use Rattle.rt_world.specs.Plain.{IsPlain, RegistersPlain}
+use Rattle.rt_world.specs.Plain.{RegistersPlain}
 use Rattle.rt_world.specs.laws.World.{changes_listeners}
 use Rattle.rt_world.specs.laws.Steps.{note_of}
 use Rattle.rt_world.specs.laws.Made.{IsMade, LeavesListens, StillLeavesListens}

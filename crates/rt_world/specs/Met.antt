@@ -1,5 +1,5 @@
 -- Which listeners a step has to look at: those whose paths an entry of it meets.
-use Rattle.std.specs.Prelude.{Bool, true, if◌then◌else◌, List, map, Option, Some, None}
+use Rattle.std.specs.Prelude.{Bool, true, if◌then◌else◌, List, Option, Some, None}
 use Rattle.std.specs.List.{filter_map, list_any}
 use Rattle.rt_query.specs.Select.{select}
 use Rattle.rt_tree.specs.PathTree.{Path, PathTree}

@@ -1,4 +1,5 @@
 pub mod Children
+pub mod Due
 pub mod Examples
 pub mod Holds
 pub mod Listened

@@ -3,6 +3,7 @@
 
 ghost use Rattle.rt_world.specs.laws.Children.{OneIsNamed, BelowIsSeen, AboveNamesNone};
 ghost use Rattle.rt_world.specs.laws.Children.{NamedOnce, SettledNames, LeafIsBack, LostWouldShow};
+ghost use Rattle.rt_world.specs.laws.Due.{SeatsAreDue, ServersAreDue, ConnectionsAreDue};
 ghost use Rattle.rt_world.specs.laws.Examples.{PushOfNull, ParentTakesOverListen};
 ghost use Rattle.rt_world.specs.laws.Examples.{WindowUnderPlainListen, WindowKeptWhole};
 ghost use Rattle.rt_world.specs.laws.Examples.{LimitWithRemovals, DeepWriteUnknownChild};
@@ -136,4 +137,12 @@ pub fn leaf_is_back()
 /// A view outlives the listen that brought it, since its data stay.
 pub fn cover_goes()
     ensures { LostWouldShow }
+{}
+
+/// A step of each kind is neither refused nor stale in a real world, so that the laws of steps that are
+/// made say something of each.
+pub fn steps_are_due()
+    ensures seats { SeatsAreDue }
+    ensures servers { ServersAreDue }
+    ensures connections { ConnectionsAreDue }
 {}

@@ -27,7 +27,7 @@ pub use laws::{
 pub use limits::{Limits, MAX_LISTENERS, MAX_NUMBER, MAX_REQUESTS};
 pub use made::{
     answer_law, asked_law, connection_law, covered_law, following_law, holding_law, kind_law,
-    listened_law, push_law, pushed_law, settled_law, steady_law, still_law, tag_law,
+    listened_law, push_law, pushed_law, sending_law, settled_law, steady_law, still_law, tag_law,
 };
 pub use report::{Body, Note, Notes, Outcome, Report};
 pub use request::Request;

@@ -14,7 +14,8 @@ ghost use Rattle.rt_world.specs.laws.Refused.{RefusedIsStale, RevokedIsStale, Li
 ghost use Rattle.rt_world.specs.laws.Refused.{UnlistenNeedsTag, CloseSeatNeedsTag, RevokedNeedsTag};
 ghost use Rattle.rt_world.specs.laws.Holds.{EmptyIsSteady, StaysSteady, StaysCalled, StaysShort};
 ghost use Rattle.rt_world.specs.laws.Holds.{EmptyIsWithin, StaysWithin, HeadlineOfSound};
-ghost use Rattle.rt_world.specs.laws.Holds.{CoverFollows, DeltaFollows};
+ghost use Rattle.rt_world.specs.laws.Holds.{CoverFollows, DeltaFollows, WorldsAreSteady};
+ghost use Rattle.rt_world.specs.laws.Holds.{TakenIsSound, TakenIsSteady};
 
 /// What any step leaves that registers and ends no listener, in plain listens.
 pub fn still_law()
@@ -74,6 +75,7 @@ pub fn listened_law()
 pub fn steady_law()
     ensures empty { EmptyIsSteady }
     ensures next { StaysSteady }
+    ensures worlds { WorldsAreSteady }
 {}
 
 /// The same of each part on its own, whatever the listens; and the headline, from any sound world.
@@ -122,4 +124,10 @@ pub fn tag_law()
     ensures unlisten { UnlistenNeedsTag }
     ensures close { CloseSeatNeedsTag }
     ensures revoked { RevokedNeedsTag }
+{}
+
+/// A world whose messages to be sent are others is as sound, and as steady.
+pub fn sending_law()
+    ensures sound { TakenIsSound }
+    ensures steady { TakenIsSteady }
 {}

@@ -3,11 +3,13 @@ use Rattle.std.specs.Prelude.{◌≡◌, ◌≤◌, length, List, Some, None}
 use Rattle.std.specs.List.{All}
 use Rattle.rt_tree.specs.declared.limits.TheConstants.{MAX_KEYS}
 use Rattle.rt_cover.specs.Runs.{Change, told}
+use Rattle.rt_wire.specs.declared.client.ClientMessage.{ClientMessage}
 use Rattle.rt_world.specs.declared.limits.Limits.{Limits}
 use Rattle.rt_world.specs.declared.step.Step.{Step}
 use Rattle.rt_world.specs.World.{World, Listener, empty_world}
 use Rattle.rt_world.specs.Messages.{next}
 use Rattle.rt_world.specs.Refusals.{refusal}
+use Rattle.rt_world.specs.Answers.{world_after}
 use Rattle.rt_world.specs.Covering.{cover_in, cover_after, change_by, delta_by}
 use Rattle.rt_world.specs.Headline.{Headline}
 use Rattle.rt_world.specs.Plain.{IsPlain, RegistersPlain}
@@ -55,6 +57,12 @@ StaysSteady =
     (w : World) (s : Step) → IsSteady w → RegistersPlain s → RegistersShort s → refusal w s ≡ None
     → IsSteady (next w s)
 
+-- so in each world that steps lead to
+abbrev pub WorldsAreSteady : Type 0
+WorldsAreSteady =
+    (limits : Limits) (steps : List Step) → All RegistersPlain steps → All RegistersShort steps
+    → IsSteady (world_after (empty_world limits) steps)
+
 -- ---- each on its own, whatever the listens
 
 -- what is brought is what calls of a cache leave
@@ -74,6 +82,21 @@ EmptyIsWithin = (limits : Limits) → IsWithin (empty_world limits)
 abbrev pub StaysWithin : Type 0
 StaysWithin =
     (w : World) (s : Step) → IsSound w → IsWithin w → refusal w s ≡ None → IsWithin (next w s)
+
+-- ---- messages that are taken out
+
+-- the world with other messages to be sent
+abbrev pub sending : World → List ClientMessage → World
+sending w messages = record w { outgoing = messages }
+
+-- it is as sound
+abbrev pub TakenIsSound : Type 0
+TakenIsSound = (w : World) (messages : List ClientMessage) → IsSound w → IsSound (sending w messages)
+
+-- and as steady
+abbrev pub TakenIsSteady : Type 0
+TakenIsSteady =
+    (w : World) (messages : List ClientMessage) → IsSteady w → IsSteady (sending w messages)
 
 -- ---- the headline
 

@@ -1,17 +1,16 @@
 -- What a step leaves and tells that registers or ends listeners, in the words of rt_cover's changes.
-use Rattle.std.specs.Prelude.{◌≡◌, ℕ, ◌+◌, Bool, true, false, not, if◌then◌else◌, List, [], ◌∷◌, ◌++◌}
+use Rattle.std.specs.Prelude.{◌≡◌, ℕ, ◌+◌, Bool, false, not, if◌then◌else◌, List, [], ◌∷◌, ◌++◌}
 use Rattle.std.specs.Prelude.{map, ◌==◌, None}
 use Rattle.std.specs.List.{filter}
 use Rattle.std.specs.Option.{option_to_list}
 use Rattle.rt_query.specs.Queries.{Query, is_filtered}
 use Rattle.rt_cache.specs.Recover.{recover}
 use Rattle.rt_cover.specs.declared.delta.Delta.{Delta}
-use Rattle.rt_cover.specs.Cover.{Registered, forms}
-use Rattle.rt_cover.specs.State.{Cover, is_registered, with_listener, lacks_tag, difference, added}
+use Rattle.rt_cover.specs.Cover.{forms}
+use Rattle.rt_cover.specs.State.{Cover, is_registered, difference, added}
 use Rattle.rt_cover.specs.State.{removed, revoked, without_tag, add_fault, remove_fault, revoke_fault}
 use Rattle.rt_wire.specs.declared.client.ClientMessage.{ClientMessage}
 use Rattle.rt_world.specs.declared.report.Body.TheVariants.{Cancelled}
-use Rattle.rt_world.specs.declared.report.Note.{Note}
 use Rattle.rt_world.specs.declared.step.Step.{Step}
 use Rattle.rt_world.specs.World.{Reason, Listener, World, registered, pending}
 use Rattle.rt_world.specs.Steps.{is_cancelled, unseated, renewed}

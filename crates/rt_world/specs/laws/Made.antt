@@ -7,7 +7,7 @@ use Rattle.rt_tree.specs.PathTree.{Path, PathTree}
 use Rattle.rt_tree.specs.Assignments.{Assignment}
 use Rattle.rt_query.specs.Queries.{Query, is_filtered}
 use Rattle.rt_writes.specs.Writes.{Write, IsShallow, without}
-use Rattle.rt_cache.specs.Brought.{Brought, push}
+use Rattle.rt_cache.specs.Brought.{push}
 use Rattle.rt_wire.specs.declared.client.ClientMessage.{ClientMessage}
 use Rattle.rt_wire.specs.declared.request.Action.{Action}
 use Rattle.rt_wire.specs.declared.request.Asked.{Asked}
