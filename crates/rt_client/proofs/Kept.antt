@@ -53,7 +53,7 @@ foreseen_signed seat (Some r) items lane =
 lane_told : StepReflects → (w : World) (s : Step) (seat : ℕ) (answer : Answer) (v : World) (old : Option Line) (lane : Line)
     → (does_close seat s ≡ false → known_of (reflection w seat) (told_by seat w s answer) ≡ reflection v seat)
     → ((l : Line) → old ≡ Some l → foreseen l ≡ Some (reflection w seat))
-    → ((e : CoreError) → answer ≡ Err e → reflection v seat ≡ reflection w seat)
+    → (does_refuse : (e : CoreError) → answer ≡ Err e → reflection v seat ≡ reflection w seat)
     → lane_after seat w s answer old ≡ Some lane → foreseen lane ≡ Some (reflection v seat)
 lane_told one w s seat (Err e) v old lane goes told same is = told lane is ∙ ap Some (sym (same e refl))
 lane_told one w s seat (Ok report) v None lane goes told same is =
