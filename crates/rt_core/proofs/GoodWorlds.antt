@@ -1,5 +1,5 @@
 -- What holds of a core's world, before any step and after each.
-use Rattle.std.proofs.Common.{◌≡◌, [], refl, sym, subst, arith, Option, Some, None, Err}
+use Rattle.std.proofs.Common.{◌≡◌, Bool, true, false, [], refl, sym, subst, arith, Option, Some, None, Ok, Err}
 use Rattle.rt_world.specs.declared.error.CoreError.{CoreError}
 use Rattle.rt_world.specs.declared.limits.Limits.{Limits}
 use Rattle.rt_world.specs.declared.step.Step.{Step}
@@ -8,13 +8,13 @@ use Rattle.rt_world.specs.Messages.{next}
 use Rattle.rt_world.specs.Called.{IsCalled}
 use Rattle.rt_world.specs.Plain.{IsPlain}
 use Rattle.rt_world.specs.Refusals.{refusal, is_stale}
-use Rattle.rt_world.specs.Answers.{Answer, step, step_by}
+use Rattle.rt_world.specs.Answers.{Answer, stale_report, step, step_by}
 use Rattle.rt_world.proofs.CalledLaws.{called_world}
 use Rattle.rt_world.proofs.SoundLaws.{sound_empty, sound_next}
 use Rattle.rt_core.specs.Core.{IsTaken}
 use Rattle.rt_core.specs.inside.Due.{IsGood, IsDue}
-use Rattle.rt_core.proofs.RefusalLaws.{fresh_taken}
 use Rattle.rt_core.proofs.StepLaws.{made, brought_stays, plain_stays}
+use Rattle.rt_core.proofs.TagLaws.{tags_next}
 
 pub good_empty : (limits : Limits) → IsGood (empty_world limits)
 good_empty limits = record {
@@ -26,6 +26,7 @@ good_empty limits = record {
     reached = λ k d lt. absurd (omega arith);
     shallow = λ k d lt. absurd (omega arith);
   };
+  tags = omega arith;
 }
 
 plain_next : (w : World) (s : Step) → IsTaken s → IsDue w s → IsPlain (next w s)
@@ -66,13 +67,19 @@ good_next w s t d = record {
   sound = sound_next w s d.good.sound;
   called = subst IsCalled (still_brought w s t d) d.good.called;
   plain = plain_next w s t d;
+  tags = tags_next w s d.good d.not_refused;
 }
 
+-- nor does a stale one
+pub stale_step : (w : World) (s : Step) → refusal w s ≡ None → is_stale w s ≡ true → step w s ≡ (w, Ok stale_report)
+stale_step w s r e = λ i. step_by (r i) (e i) w s
+
 pub good_step : (w : World) (s : Step) → IsTaken s → IsGood w → IsGood (step w s).0
-good_step w s t g = at (refusal w s) refl
+good_step w s t g = at (refusal w s) (is_stale w s) refl refl
   where
-    at : (o : Option CoreError) → refusal w s ≡ o → IsGood (step w s).0
-    at (Some e) r = subst (λ (x : World × Answer). IsGood x.0) (sym (refused_step w s e r)) g
-    at None r =
-        let d : IsDue w s = record { good = g; not_refused = r; not_stale = fresh_taken w s t } in
+    at : (o : Option CoreError) (b : Bool) → refusal w s ≡ o → is_stale w s ≡ b → IsGood (step w s).0
+    at (Some e) b r f = subst (λ (x : World × Answer). IsGood x.0) (sym (refused_step w s e r)) g
+    at None true r f = subst (λ (x : World × Answer). IsGood x.0) (sym (stale_step w s r f)) g
+    at None false r f =
+        let d : IsDue w s = record { good = g; not_refused = r; not_stale = f } in
         subst (λ (x : World × Answer). IsGood x.0) (sym (made w s d)) (good_next w s t d)

@@ -4,5 +4,6 @@ pub mod NextWorlds
 pub mod Places
 pub mod RefusalLaws
 pub mod StepLaws
+pub mod TagLaws
 pub mod ViewLaws
 pub mod Writes

@@ -1,5 +1,5 @@
 -- When a step is made, and what is owed then.
-use Rattle.std.specs.Prelude.{◌≡◌, Bool, false, List, Option, None}
+use Rattle.std.specs.Prelude.{◌≡◌, ◌+◌, ◌≤◌, Bool, false, List, Option, None}
 use Rattle.std.specs.List.{find}
 use Rattle.std.specs.Option.{option_map}
 use Rattle.rt_world.specs.declared.error.CoreError.{CoreError}
@@ -13,11 +13,27 @@ use Rattle.rt_world.specs.Plain.{IsPlain}
 use Rattle.rt_world.specs.Sound.{IsSound}
 use Rattle.rt_core.specs.declared.told.Told.{Told}
 
--- what holds between steps, and all listens are plain
+-- what holds between steps, and all listens are plain; the next tag is at most one above the last
 pub record IsGood (w : World) : Type 0 where
   pub sound : IsSound w
   pub called : IsCalled w.brought
   pub plain : IsPlain w
+  pub tags : w.next_tag ≤ w.limits.last_number + 1
+
+-- the steps whose refusals are looked at so far: the end of a seat is to come
+abbrev pub IsWeighed : Step → Type 0
+IsWeighed (Step.Listen seat query) = Unit {0}
+IsWeighed (Step.Unlisten seat listener) = Unit {0}
+IsWeighed (Step.Write seat action) = Unit {0}
+IsWeighed (Step.OnDisconnect seat ending) = Unit {0}
+IsWeighed (Step.Data tag path tree) = Unit {0}
+IsWeighed (Step.DataMerge tag entries) = Unit {0}
+IsWeighed (Step.Accepted id) = Unit {0}
+IsWeighed (Step.Refused id why) = Unit {0}
+IsWeighed (Step.Revoked tag why) = Unit {0}
+IsWeighed Step.Connected = Unit {0}
+IsWeighed Step.Disconnected = Unit {0}
+IsWeighed (Step.CloseSeat seat) = ⊥
 
 -- the step is neither refused nor stale
 pub record IsDue (w : World) (s : Step) : Type 0 where
