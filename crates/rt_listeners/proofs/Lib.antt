@@ -1,0 +1,4 @@
+pub mod HeldLaws
+pub mod Loops
+pub mod Places
+pub mod ViewLaws
