@@ -24,25 +24,8 @@ use Rattle.rt_world.proofs.HeardLaws.{map-append, started-same}
 use Rattle.rt_world.proofs.LimitLaws.{allowed}
 use Rattle.rt_world.proofs.Listeners.{not_bound, or_false_right}
 use Rattle.rt_world.proofs.ShowLaws.{filter_true}
-use Rattle.rt_core.specs.declared.held.Held.{Held}
 use Rattle.rt_core.specs.inside.Due.{IsGood}
-use Rattle.rt_core.specs.inside.StateView.{IsTied, listener_of, listeners_of}
-
--- ---- listeners by number
-
-above : (n : ℕ) (held : List Held) → All (λ (m : Listener). n < m.number) (listeners_of held) → All (λ (m : Held). n < m.number) held
-above n [] h = λ k d lt. absurd (omega arith)
-above n (l ∷ held) h =
-    All-cons (λ (m : Held). n < m.number) l held (All-head (λ (m : Listener). n < m.number) (listener_of l) (listeners_of held) h)
-    (above n held (All-tail (λ (m : Listener). n < m.number) (listener_of l) (listeners_of held) h))
-
-pub by_number : (held : List Held) → Rises (listeners_of held) → AllPairs (λ (l m : Held). l.number < m.number) held
-by_number [] h = λ i j d lt within. absurd (omega arith)
-by_number (l ∷ held) h = AllPairs-cons (λ (l m : Held). l.number < m.number) l held (above l.number held h.0) (by_number held h.1)
-
-pub any_listener : (seat number : ℕ) (held : List Held) → list_any (λ (l : Listener). l.number == number && l.seat == seat) (listeners_of held) ≡ list_any (λ (l : Held). l.number == number && l.seat == seat) held
-any_listener seat number [] = refl
-any_listener seat number (l ∷ held) = ap (λ b. (l.number == number && l.seat == seat) || b) (any_listener seat number held)
+use Rattle.rt_core.specs.inside.StateView.{IsTied}
 
 -- the next number is no listener's
 pub new_number : (w : World) → IsSound w → is_registered (registered w.listeners) w.next_listener ≡ false
@@ -55,8 +38,8 @@ new_number w h = same w.listeners ∙ not_bound w.next_listener w.listeners h.be
 -- ---- tags
 
 -- the parts agree, so the cover is the world's
-pub cover_tied : (held : List Held) (writes : List Write) (cover : Cover) (w : World) → IsTied held writes cover w → w.kept ≡ cover.kept → w.next_tag ≡ cover.next_tag → cover ≡ cover_in w
-cover_tied held writes cover w t kept next = λ i. record { listeners = t.listened i; kept = sym kept i; next_tag = sym next i; last_tag = t.last_tag i }
+pub cover_tied : (writes : List Write) (cover : Cover) (w : World) → IsTied writes cover w → w.kept ≡ cover.kept → w.next_tag ≡ cover.next_tag → cover ≡ cover_in w
+cover_tied writes cover w t kept next = λ i. record { listeners = t.listened i; kept = sym kept i; next_tag = sym next i; last_tag = t.last_tag i }
 
 pub add_needs : (w : World) (seat : ℕ) (query : Query) → IsSound w → lacks_tag (cover_in w) (with_listener (registered w.listeners) w.next_listener (form query)) ≡ needs_tag w (Step.Listen seat query)
 add_needs w seat query h =

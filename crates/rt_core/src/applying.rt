@@ -47,12 +47,12 @@ impl State {
             Step::OnDisconnect { seat, ending } => self.ask_at_disconnect(seat, ending),
             Step::Connected => self.connect(),
             Step::Disconnected => Ok(self.disconnect()),
+            Step::Data { tag, path, tree } => self.take_data(tag, path, tree),
+            Step::DataMerge { tag, entries } => self.take_merge(tag, entries.into_vec()),
+            Step::Accepted { id } => self.settle(id, None),
+            Step::Refused { id, why } => self.settle(id, Some(why)),
             Step::Listen { .. }
             | Step::Unlisten { .. }
-            | Step::Data { .. }
-            | Step::DataMerge { .. }
-            | Step::Accepted { .. }
-            | Step::Refused { .. }
             | Step::Revoked { .. }
             | Step::CloseSeat { .. } => unreachable!(),
         }

@@ -10,7 +10,6 @@ ghost use Rattle.rt_world.specs.Refusals.{is_bad_push, is_unknown_listener, is_w
 ghost use Rattle.rt_world.specs.Refusals.{needs_tag};
 ghost use Rattle.rt_core.specs.inside.Due.{IsGood, IsWeighed};
 
-use crate::held::is_seats;
 use crate::refusals::is_no_merge;
 use crate::state::State;
 use rt_query::Query;
@@ -46,11 +45,10 @@ impl State {
 
     // Whether the listener that is to end is not the seat's.
     pub(crate) fn is_unknown_listener(&self, step: &Step) -> bool
-        requires { IsGood self.now }
         ensures { result ≡ is_unknown_listener self.now step.now }
     {
         match step {
-            Step::Unlisten { seat, listener } => !is_seats(&self.listeners, *seat, *listener),
+            Step::Unlisten { seat, listener } => !self.listeners.is_seats(*seat, *listener),
             Step::Listen { .. }
             | Step::Write { .. }
             | Step::OnDisconnect { .. }

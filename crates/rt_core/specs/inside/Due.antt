@@ -1,10 +1,10 @@
 -- When a step is made, and what is owed then.
-use Rattle.std.specs.Prelude.{◌≡◌, ◌+◌, ◌≤◌, Bool, false, List, Option, None}
+use Rattle.std.specs.Prelude.{◌≡◌, ℕ, ◌+◌, ◌≤◌, Bool, false, List, Option, Some, None}
 use Rattle.std.specs.List.{find}
 use Rattle.std.specs.Option.{option_map}
 use Rattle.rt_world.specs.declared.error.CoreError.{CoreError}
 use Rattle.rt_world.specs.declared.step.Step.{Step}
-use Rattle.rt_world.specs.World.{World}
+use Rattle.rt_world.specs.World.{Reason, World}
 use Rattle.rt_world.specs.Messages.{next}
 use Rattle.rt_world.specs.Refusals.{refusal, is_stale}
 use Rattle.rt_world.specs.Answers.{done_report}
@@ -46,6 +46,11 @@ pub record IsNext (w : World) (s : Step) (made : World × Told) : Type 0 where
   pub world : made.0 ≡ next w s
   pub given : made.1.given ≡ (done_report w s).given
   pub notes : made.1.notes.items ≡ (done_report w s).notes
+
+-- the step that settles a request: it is accepted, or refused for a reason
+abbrev pub settling : ℕ → Option Reason → Step
+settling id None = Step.Accepted id
+settling id (Some why) = Step.Refused id why
 
 -- the first refusal whose condition holds
 abbrev pub first_of : List (Bool × CoreError) → Option CoreError
