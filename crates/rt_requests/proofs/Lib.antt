@@ -1,0 +1,4 @@
+pub mod Loops
+pub mod Pendings
+pub mod Places
+pub mod Rises

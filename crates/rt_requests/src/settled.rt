@@ -1,0 +1,10 @@
+// What is left of a request that is settled.
+use rt_writes::Entries;
+
+/// What is left of a request that is settled: its seat, unless that has gone, and the entries that its
+/// write set, none for what was asked for the end of the connection.
+#[derive(Drop)]
+pub struct Settled {
+    pub seat: Option<u64>,
+    pub entries: Entries,
+}
