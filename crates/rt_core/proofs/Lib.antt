@@ -1,8 +1,8 @@
+pub mod AppliedAll
 pub mod GoodWorlds
-pub mod Loops
 pub mod NextWorlds
 pub mod Places
 pub mod RefusalLaws
 pub mod StepLaws
-pub mod ViewLaws
+pub mod TagLaws
 pub mod Writes

@@ -1,9 +1,11 @@
 -- What the code of a step makes is the next world, and its parts agree.
-use Rattle.std.proofs.Common.{◌≡◌, ℕ, ◌+◌, Bool, true, false, cond, List, [], ◌∷◌, ◌++◌, map, refl, sym, ap, subst, ◌∙◌, append-nil, Option, Some, None}
-use Rattle.std.specs.List.{All}
+use Rattle.std.proofs.Common.{◌≡◌, ℕ, ◌+◌, ◌<◌, Bool, true, false, cond, not, List, [], ◌∷◌, ◌++◌, map, refl, sym, ap, subst, ◌∙◌, append-nil, Option, Some, None}
+use Rattle.std.specs.Prelude.{◌==◌, unwrap_or}
+use Rattle.std.specs.List.{All, AllPairs, filter, filter_map, find}
+use Rattle.std.specs.Option.{option_and_then, option_map, option_or, option_to_list}
 use Rattle.rt_query.specs.Supply.{form}
 use Rattle.rt_tree.specs.Assignments.{Assignment}
-use Rattle.rt_writes.specs.Writes.{Write}
+use Rattle.rt_writes.specs.Writes.{Write, entries_of as writes_entries, without}
 use Rattle.rt_cache.specs.Brought.{Brought}
 use Rattle.rt_cover.specs.Cover.{Registered, Tagged}
 use Rattle.rt_cover.specs.State.{Cover, shown, shown_with}
@@ -14,17 +16,22 @@ use Rattle.rt_wire.specs.declared.request.Ending.{Ending}
 use Rattle.rt_world.specs.declared.limits.Limits.{Limits}
 use Rattle.rt_world.specs.declared.request.Request.{Request}
 use Rattle.rt_world.specs.declared.step.Step.{Step}
-use Rattle.rt_world.specs.World.{World, Listener, registered, pending, entries_of}
-use Rattle.rt_world.specs.Steps.{requests_after, brought_after, renewed}
-use Rattle.rt_world.specs.Messages.{listens, request_message, messages_of}
+use Rattle.rt_world.specs.declared.report.Body.TheVariants.{Settled}
+use Rattle.rt_world.specs.declared.report.Note.{Note}
+use Rattle.rt_world.specs.World.{Reason, World, Listener, registered, pending, entries_of}
+use Rattle.rt_world.specs.Steps.{listeners_after, requests_after, pushed, brought_after, renewed, is_connected_after, listener_given, request_given, counted}
+use Rattle.rt_world.specs.Messages.{unrevoked, listens, request_message, request_sent, messages_online, messages_of, outgoing_before}
+use Rattle.rt_world.specs.Answers.{settled_note, settled_notes, cancelled_notes}
+use Rattle.rt_world.specs.Touched.{entries_by, entries_settled}
+use Rattle.rt_world.proofs.LostLaws.{push_is_brought}
+use Rattle.rt_world.proofs.NoteLaws.{settled_once_told}
 use Rattle.rt_world.proofs.Listeners.{number-renewed, query-renewed}
-use Rattle.rt_world.proofs.WrittenLaws.{pending-more, pending-write}
-use Rattle.rt_core.specs.declared.held.Held.{Held}
+use Rattle.rt_world.proofs.WrittenLaws.{pending-more, pending-without, pending-write}
 use Rattle.rt_core.specs.declared.told.Told.{Told}
-use Rattle.rt_core.specs.inside.Due.{IsDue, IsNext}
+use Rattle.rt_core.specs.inside.Due.{IsDue, IsNext, settling}
 use Rattle.rt_world.specs.Met.{do_meet, renewed_met, all_told}
 use Rattle.rt_core.specs.inside.Parts.{asking, listens_shown}
-use Rattle.rt_core.specs.inside.StateView.{IsHeld, IsTied, listeners_of, world_of}
+use Rattle.rt_core.specs.inside.StateView.{IsTied, world_of}
 use Rattle.rt_core.proofs.StepLaws.{online, brought_stays, next_is, told_is}
 
 -- ---- the parts agree
@@ -70,35 +77,142 @@ pub listens_same : (ls : List Registered) (kept : List Tagged) → listens_shown
 listens_same ls [] = refl
 listens_same ls (k ∷ kept) = ap (λ z. ClientMessage.Listen k.tag k.form ∷ z) (listens_same ls kept)
 
-module _ (limits : Limits) (held : List Held) (requests : List Request) (b : Brought) (cover : Cover) (c : Bool) (out : List ClientMessage) (gl gr : ℕ) (writes : List Write) where
+-- what a settlement leaves as it is, and what it takes out
+pub record Settles (w : World) (s : Step) (id : ℕ) (why : Option Reason) : Type 0 where
+  pub listeners : listeners_after w s ≡ w.listeners
+  pub requests : requests_after w s ≡ filter (λ (r : Request). not (r.id == id)) w.requests
+  pub entries : entries_by w s ≡ entries_settled w id
+  pub pushed : pushed w s ≡ w.brought
+  pub unrevoked : unrevoked s [] ≡ []
+  pub sent : request_sent w s ≡ []
+  pub messages : messages_of w s ≡ cond w.is_connected (messages_online w s) []
+  pub outgoing : outgoing_before w s ≡ w.outgoing
+  pub connected : is_connected_after w s ≡ w.is_connected
+  pub listener : listener_given w s ≡ None
+  pub request : request_given w s ≡ None
+  pub settled : settled_notes w s ≡ filter_map (settled_note (id, why)) w.requests
+  pub cancelled : cancelled_notes w s ≡ []
+
+pub settles : (w : World) (id : ℕ) (why : Option Reason) → Settles w (settling id why) id why
+settles w id None = record { listeners = refl; requests = refl; entries = refl; pushed = refl; unrevoked = refl; sent = refl; messages = refl; outgoing = refl; connected = refl; listener = refl; request = refl; settled = refl; cancelled = refl }
+settles w id (Some why) = record { listeners = refl; requests = refl; entries = refl; pushed = refl; unrevoked = refl; sent = refl; messages = refl; outgoing = refl; connected = refl; listener = refl; request = refl; settled = refl; cancelled = refl }
+
+-- nothing is sent in either case
+no_messages : (c : Bool) → ◌≡◌ {A = List ClientMessage} (cond c [] []) []
+no_messages true = refl
+no_messages false = refl
+
+-- the one that is found has the number
+found_number : (id : ℕ) (rs : List Request) (r : Request) → find (λ (x : Request). x.id == id) rs ≡ Some r → (r.id == id) ≡ true
+found_number id [] r e = cc
+found_number id (x ∷ rs) r e = elim (x.id == id) as (λ b. (x.id == id) ≡ b → cond b (Some x) (find (λ (y : Request). y.id == id) rs) ≡ Some r → (r.id == id) ≡ true) [
+  | true ↦ λ t f. let same : x ≡ r = cc in ap (λ (y : Request). y.id == id) (sym same) ∙ t
+  | false ↦ λ t f. found_number id rs r f
+] refl e
+
+-- the seat of a settled request is told
+pub settled_told : (id : ℕ) (why : Option Reason) (rs : List Request) → AllPairs (λ (r s : Request). r.id < s.id) rs
+    → option_to_list (option_map (λ seat. record { seat = seat; body = Settled id why }) (option_and_then (λ (r : Request). r.seat) (find (λ (r : Request). r.id == id) rs)))
+    ≡ filter_map (settled_note (id, why)) rs
+settled_told id why rs rise = ap option_to_list (at (find (λ (r : Request). r.id == id) rs) refl) ∙ sym (settled_once_told (id, why) rs rise)
+  where
+    told_if : Request → Bool → Option Note
+    told_if r b = cond b (option_map (λ seat. record { seat = seat; body = Settled id why }) r.seat) None
+
+    at : (o : Option Request) → find (λ (r : Request). r.id == id) rs ≡ o
+        → ◌≡◌ {A = Option Note} (option_map (λ seat. record { seat = seat; body = Settled id why }) (option_and_then (λ (r : Request). r.seat) o)) (option_and_then (settled_note (id, why)) o)
+    at None e = refl
+    at (Some r) e = sym (ap (told_if r) (found_number id rs r e))
+
+module _ (limits : Limits) (ls : List Listener) (requests : List Request) (b : Brought) (cover : Cover) (c : Bool) (out : List ClientMessage) (gl gr : ℕ) (writes : List Write) where
   abbrev pub w : World
-  w = world_of limits held requests b cover c out gl gr
+  w = world_of limits ls requests b cover c out gl gr
 
   -- what is so of such a world is so of an equal one
   pub along : (self : World) → w ≡ self → (s : Step) (made : World × Told) → (IsDue w s → IsNext w s made) → IsDue self s → IsNext self s made
   along self is s made f d = subst (λ v. IsNext v s made) is (f (subst (λ v. IsDue v s) (sym is) d))
 
-  pub tied_after : IsTied held writes cover w → (entries : List Assignment) (b' b'' : Brought) (held' : List Held) (requests' : List Request) (writes' : List Write) (c' : Bool) (out' : List ClientMessage) (gr' : ℕ)
-      → All IsHeld held' → listeners_of held' ≡ map (renewed_met entries b'' writes') (listeners_of held) → writes' ≡ pending requests'
-      → IsTied held' writes' cover (world_of limits held' requests' b' cover c' out' gl gr')
-  tied_after t entries b' b'' held' requests' writes' c' out' gr' all is written = record {
-    held = all;
+  pub tied_after : IsTied writes cover w → (entries : List Assignment) (b' b'' : Brought) (ls' : List Listener) (requests' : List Request) (writes' : List Write) (c' : Bool) (out' : List ClientMessage) (gr' : ℕ)
+      → ls' ≡ map (renewed_met entries b'' writes') ls → writes' ≡ pending requests'
+      → IsTied writes' cover (world_of limits ls' requests' b' cover c' out' gl gr')
+  tied_after t entries b' b'' ls' requests' writes' c' out' gr' is written = record {
     written = written;
-    listened = t.listened ∙ sym (ap registered is ∙ registered_met entries b'' writes' (listeners_of held));
+    listened = t.listened ∙ sym (ap registered is ∙ registered_met entries b'' writes' ls);
     last_tag = t.last_tag;
   }
 
+  -- ---- a step that begins and ends no listener
+
+  pub still_made : (s : Step) → IsDue w s → listeners_after w s ≡ w.listeners
+      → (entries : List Assignment) → entries ≡ entries_by w s
+      → (b' : Brought) → brought_after w s ≡ b'
+      → (requests' : List Request) → requests' ≡ requests_after w s
+      → (writes' : List Write) → writes' ≡ pending requests'
+      → (ls' : List Listener) → ls' ≡ map (renewed_met entries b' writes') ls
+      → (out' : List ClientMessage) → out' ≡ outgoing_before w s ++ messages_of w s
+      → c ≡ is_connected_after w s → listener_given w s ≡ None → request_given w s ≡ None
+      → (told : Told) → told.given ≡ None → told.notes.items ≡ settled_notes w s ++ cancelled_notes w s ++ all_told entries b' writes' ls
+      → IsNext w s (world_of limits ls' requests' b' cover c out' gl gr, told)
+  still_made s d e entries ee b' eb requests' re writes' we ls' he out' oe ce lg rg told given notes =
+      let ew : pending (requests_after w s) ≡ writes' = sym (we ∙ ap pending re) in
+      record {
+        world = (λ i. record w {
+          listeners = (he ∙ ap (λ x. map (renewed_met x b' writes') ls) ee) i;
+          requests = re i;
+          brought = b';
+          is_connected = ce i;
+          outgoing = oe i;
+          next_listener = counted (gl + 1) (sym lg i);
+          next_request = counted (gr + 1) (sym rg i);
+        }) ∙ next_is w s d e b' writes' (messages_of w s) eb ew refl;
+        given = given ∙ (λ i. option_or (sym lg i) (sym rg i));
+        notes = notes ∙ (λ i. settled_notes w s ++ cancelled_notes w s ++ (ap (λ x. all_told x b' writes' ls) ee ∙ told_is w s d e b' writes' eb ew) i);
+      }
+
+  pub settle_made : IsTied writes cover w → (id : ℕ) (why : Option Reason) → IsDue w (settling id why)
+      → (entries : List Assignment) → entries ≡ unwrap_or (writes_entries id writes) []
+      → (writes' : List Write) → writes' ≡ without id writes
+      → (requests' : List Request) → requests' ≡ filter (λ (r : Request). not (r.id == id)) requests
+      → (ls' : List Listener) → ls' ≡ map (renewed_met entries b writes') ls
+      → (told : Told) → told.given ≡ None
+      → told.notes.items ≡ option_to_list (option_map (λ seat. record { seat = seat; body = Settled id why }) (option_and_then (λ (r : Request). r.seat) (find (λ (r : Request). r.id == id) requests))) ++ all_told entries b writes' ls
+      → IsNext w (settling id why) (world_of limits ls' requests' b cover c out gl gr, told)
+  settle_made t id why d entries ee writes' we requests' re ls' he told given notes =
+      let s : Step = settling id why in
+      let f : Settles w s id why = settles w id why in
+      let quiet : messages_of w s ≡ [] = f.messages ∙ ap (λ ms. cond c ms []) (online w s d f.listeners f.unrevoked ∙ f.sent) ∙ no_messages c in
+      still_made s d f.listeners entries (ee ∙ ap (λ ws. unwrap_or (writes_entries id ws) []) t.written ∙ sym f.entries)
+      b (brought_stays w s d f.listeners f.pushed) requests' (re ∙ sym f.requests)
+      writes' (we ∙ ap (without id) t.written ∙ sym (ap pending re ∙ pending-without id requests))
+      ls' he out (sym (append-nil out) ∙ (λ i. sym f.outgoing i ++ sym quiet i)) (sym f.connected) f.listener f.request told given
+      (notes ∙ ap (λ z. z ++ all_told entries b writes' ls)
+      (settled_told id why requests d.good.sound.requests ∙ sym f.settled ∙ sym (append-nil (settled_notes w s)) ∙ ap (λ z. settled_notes w s ++ z) (sym f.cancelled)))
+
+  pub merge_brought : (tag : ℕ) (entries : List Assignment) → IsDue w (Step.DataMerge tag entries) → brought_after w (Step.DataMerge tag entries) ≡ pushed w (Step.DataMerge tag entries)
+  merge_brought tag entries d = push_is_brought w (Step.DataMerge tag entries) d.good.sound d.good.plain tt d.not_refused refl
+
+  pub merge_made : IsTied writes cover w → (tag : ℕ) (entries : List Assignment) → IsDue w (Step.DataMerge tag entries)
+      → (b' : Brought) → b' ≡ pushed w (Step.DataMerge tag entries)
+      → (ls' : List Listener) → ls' ≡ map (renewed_met entries b' writes) ls
+      → (told : Told) → told.given ≡ None → told.notes.items ≡ all_told entries b' writes ls
+      → IsNext w (Step.DataMerge tag entries) (world_of limits ls' requests b' cover c out gl gr, told)
+  merge_made t tag entries d b' be ls' he told given notes =
+      let s : Step = Step.DataMerge tag entries in
+      let quiet : messages_of w s ≡ [] = ap (λ ms. cond c ms []) (online w s d refl refl) ∙ no_messages c in
+      still_made s d refl entries refl b' (merge_brought tag entries d ∙ sym be) requests refl writes t.written ls' he
+      out (sym (append-nil out) ∙ (λ i. out ++ sym quiet i)) refl refl refl told given notes
+
   -- ---- a write
 
-  pub write_made : IsTied held writes cover w → (seat : ℕ) (action : Action) → IsDue w (Step.Write seat action)
+  pub write_made : IsTied writes cover w → (seat : ℕ) (action : Action) → IsDue w (Step.Write seat action)
       → (entries : List Assignment) → entries ≡ entries_of action
       → (writes' : List Write) → writes' ≡ writes ++ record { id = gr + 1; entries = entries } ∷ []
-      → (held' : List Held) → listeners_of held' ≡ map (renewed_met entries b writes') (listeners_of held)
+      → (ls' : List Listener) → ls' ≡ map (renewed_met entries b writes') ls
       → (out' : List ClientMessage) → out' ≡ out ++ asking c (gr + 1) (Now action)
       → (requests' : List Request) → requests' ≡ requests ++ record { id = gr + 1; seat = Some seat; asked = Now action } ∷ []
-      → (told : Told) → told.given ≡ Some (gr + 1) → told.notes.items ≡ all_told entries b writes' (listeners_of held)
-      → IsNext w (Step.Write seat action) (world_of limits held' requests' b cover c out' gl (gr + 1), told)
-  write_made t seat action d entries e writes' we held' he out' oe requests' re told given notes =
+      → (told : Told) → told.given ≡ Some (gr + 1) → told.notes.items ≡ all_told entries b writes' ls
+      → IsNext w (Step.Write seat action) (world_of limits ls' requests' b cover c out' gl (gr + 1), told)
+  write_made t seat action d entries e writes' we ls' he out' oe requests' re told given notes =
       let s : Step = Step.Write seat action in
       let eb : brought_after w s ≡ b = brought_stays w s d refl refl in
       let ew : pending (requests_after w s) ≡ writes' =
@@ -106,52 +220,52 @@ module _ (limits : Limits) (held : List Held) (requests : List Request) (b : Bro
       let em : messages_of w s ≡ asking c (gr + 1) (Now action) = ap (λ ms. cond c ms []) (online w s d refl refl) in
       record {
         world = (λ i. record w {
-          listeners = (he ∙ ap (λ x. map (renewed_met x b writes') (listeners_of held)) e) i;
+          listeners = (he ∙ ap (λ x. map (renewed_met x b writes') ls) e) i;
           requests = re i;
           outgoing = oe i;
           next_request = gr + 1 + 1;
         }) ∙ next_is w s d refl b writes' (asking c (gr + 1) (Now action)) eb ew em;
         given = given;
-        notes = notes ∙ ap (λ x. all_told x b writes' (listeners_of held)) e ∙ told_is w s d refl b writes' eb ew;
+        notes = notes ∙ ap (λ x. all_told x b writes' ls) e ∙ told_is w s d refl b writes' eb ew;
       }
 
   -- ---- a step that shows nothing
 
   pub connect_made : IsDue w Step.Connected → (out' : List ClientMessage) → out' ≡ listens_shown (shown cover) ++ map request_message requests
-      → (told : Told) → told.given ≡ None → told.notes.items ≡ [] → IsNext w Step.Connected (world_of limits held requests b cover true out' gl gr, told)
+      → (told : Told) → told.given ≡ None → told.notes.items ≡ [] → IsNext w Step.Connected (world_of limits ls requests b cover true out' gl gr, told)
   connect_made d out' oe told given notes =
       let s : Step = Step.Connected in
       let eb : brought_after w s ≡ b = brought_stays w s d refl refl in
       record {
         world = (λ i. record w {
-          listeners = sym (map_unmet b (pending requests) (listeners_of held)) i;
+          listeners = sym (map_unmet b (pending requests) ls) i;
           is_connected = true;
           outgoing = (oe ∙ ap (λ ms. ms ++ map request_message requests) (listens_same cover.listeners cover.kept)) i;
         }) ∙ next_is w s d refl b (pending requests) (messages_of w s) eb refl refl;
         given = given;
-        notes = notes ∙ sym (told_unmet b (pending requests) (listeners_of held)) ∙ told_is w s d refl b (pending requests) eb refl;
+        notes = notes ∙ sym (told_unmet b (pending requests) ls) ∙ told_is w s d refl b (pending requests) eb refl;
       }
 
   pub disconnect_made : IsDue w Step.Disconnected → (out' : List ClientMessage) → out' ≡ []
-      → (told : Told) → told.given ≡ None → told.notes.items ≡ [] → IsNext w Step.Disconnected (world_of limits held requests b cover false out' gl gr, told)
+      → (told : Told) → told.given ≡ None → told.notes.items ≡ [] → IsNext w Step.Disconnected (world_of limits ls requests b cover false out' gl gr, told)
   disconnect_made d out' oe told given notes =
       let s : Step = Step.Disconnected in
       let eb : brought_after w s ≡ b = brought_stays w s d refl refl in
       record {
         world = (λ i. record w {
-          listeners = sym (map_unmet b (pending requests) (listeners_of held)) i;
+          listeners = sym (map_unmet b (pending requests) ls) i;
           is_connected = false;
           outgoing = oe i;
         }) ∙ next_is w s d refl b (pending requests) (messages_of w s) eb refl refl;
         given = given;
-        notes = notes ∙ sym (told_unmet b (pending requests) (listeners_of held)) ∙ told_is w s d refl b (pending requests) eb refl;
+        notes = notes ∙ sym (told_unmet b (pending requests) ls) ∙ told_is w s d refl b (pending requests) eb refl;
       }
 
   pub ask_made : (seat : ℕ) (ending : Ending) → IsDue w (Step.OnDisconnect seat ending)
       → (out' : List ClientMessage) → out' ≡ out ++ asking c (gr + 1) (AtDisconnect ending)
       → (requests' : List Request) → requests' ≡ requests ++ record { id = gr + 1; seat = Some seat; asked = AtDisconnect ending } ∷ []
       → (told : Told) → told.given ≡ Some (gr + 1) → told.notes.items ≡ []
-      → IsNext w (Step.OnDisconnect seat ending) (world_of limits held requests' b cover c out' gl (gr + 1), told)
+      → IsNext w (Step.OnDisconnect seat ending) (world_of limits ls requests' b cover c out' gl (gr + 1), told)
   ask_made seat ending d out' oe requests' re told given notes =
       let s : Step = Step.OnDisconnect seat ending in
       let eb : brought_after w s ≡ b = brought_stays w s d refl refl in
@@ -159,11 +273,11 @@ module _ (limits : Limits) (held : List Held) (requests : List Request) (b : Bro
       let ws : List Write = pending (requests_after w s) in
       record {
         world = (λ i. record w {
-          listeners = sym (map_unmet b ws (listeners_of held)) i;
+          listeners = sym (map_unmet b ws ls) i;
           requests = re i;
           outgoing = oe i;
           next_request = gr + 1 + 1;
         }) ∙ next_is w s d refl b ws (asking c (gr + 1) (AtDisconnect ending)) eb refl em;
         given = given;
-        notes = notes ∙ sym (told_unmet b ws (listeners_of held)) ∙ told_is w s d refl b ws eb refl;
+        notes = notes ∙ sym (told_unmet b ws ls) ∙ told_is w s d refl b ws eb refl;
       }

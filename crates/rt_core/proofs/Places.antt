@@ -1,6 +1,6 @@
 -- Where a number stands in a list by number.
 use Rattle.std.proofs.Common.{◌≡◌, ℕ, zero, suc, ◌<◌, ◌≤◌, Bool, true, false, cond, not, ◌&&◌, ◌||◌, nat_lt, List, [], ◌∷◌, length, get_or, refl, sym, ap, ◌∙◌, arith, Option, Some, None, eqb-true}
-use Rattle.std.specs.Prelude.{◌==◌}
+use Rattle.std.specs.Prelude.{◌==◌, is_some}
 use Rattle.std.specs.List.{AllPairs, filter, find, list_any, position, position_or_len, remove, slice_get}
 use Rattle.std.specs.Cmp.{nat_eq_equiv}
 use Rattle.std.proofs.lemmas.Bool.{ltb-false, ltb-true, lt-ltb, le-ltb}
@@ -130,6 +130,21 @@ found_at test xs i d e =
     at_some : (b : Bool) (m i : ℕ) → cond b (Some m) None ≡ Some i → m ≡ i
     at_some true m i e = cc
     at_some false m i e = cc
+
+-- one is found where one passes
+any_find : {X : Type 0} (p : X → Bool) (xs : List X) → is_some (find p xs) ≡ list_any p xs
+any_find p [] = refl
+any_find p (x ∷ xs) = elim (p x) as (λ b. is_some (cond b (Some x) (find p xs)) ≡ (b || list_any p xs)) [
+  | true ↦ refl
+  | false ↦ any_find p xs
+]
+
+pub position_any : {X : Type 0} (p : X → Bool) (xs : List X) (i : ℕ) → position p xs ≡ Some i → list_any p xs ≡ true
+position_any p [] i e = cc
+position_any p (x ∷ xs) i e = sym (any_find p (x ∷ xs)) ∙ ap is_some (found_at p (x ∷ xs) i x e)
+
+pub position_none : {X : Type 0} (p : X → Bool) (xs : List X) → position p xs ≡ None → list_any p xs ≡ false
+position_none p xs e = sym (any_find p xs) ∙ ap is_some (filter_none_found p xs e).0
 
 -- by number, the others are those of other numbers
 module _ {X : Type 0} (number : X → ℕ) where

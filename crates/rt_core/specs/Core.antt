@@ -1,22 +1,25 @@
 -- What a core answers to steps, and what it becomes: a world, or none once it has lacked memory.
-use Rattle.std.specs.Prelude.{◌≡◌, false, ◌⊎◌, Option, Some, None, Err}
+use Rattle.std.specs.Prelude.{◌≡◌, false, ◌⊎◌, List, [], ◌∷◌, drop, Option, Some, None, Result, Ok, Err}
+use Rattle.rt_cover.specs.declared.kept.Kept.{Kept}
+use Rattle.rt_wire.specs.declared.client.ClientMessage.{ClientMessage}
+use Rattle.rt_world.specs.declared.error.CoreError.{CoreError}
 use Rattle.rt_world.specs.declared.error.CoreError.TheVariants.{Failed, NoMemory}
 use Rattle.rt_world.specs.declared.step.Step.{Step}
-use Rattle.rt_world.specs.World.{World}
+use Rattle.rt_world.specs.World.{World, cover}
 use Rattle.rt_world.specs.Refusals.{refusal, is_stale}
-use Rattle.rt_world.specs.Answers.{Answer, step}
+use Rattle.rt_world.specs.Answers.{Answer, answers, step, world_after}
 
--- the steps that a core takes so far: what a seat asks for, and the connection; listeners and what
--- the server sends are to come
+-- the steps that a core takes so far: what a seat asks for, what the server pushes and settles, and
+-- the connection; those that begin or end listeners are to come
 abbrev pub IsTaken : Step → Type 0
 IsTaken (Step.Listen seat query) = ⊥
 IsTaken (Step.Unlisten seat listener) = ⊥
 IsTaken (Step.Write seat action) = Unit {0}
 IsTaken (Step.OnDisconnect seat ending) = Unit {0}
-IsTaken (Step.Data tag path tree) = ⊥
-IsTaken (Step.DataMerge tag entries) = ⊥
-IsTaken (Step.Accepted id) = ⊥
-IsTaken (Step.Refused id why) = ⊥
+IsTaken (Step.Data tag path tree) = Unit {0}
+IsTaken (Step.DataMerge tag entries) = Unit {0}
+IsTaken (Step.Accepted id) = Unit {0}
+IsTaken (Step.Refused id why) = Unit {0}
 IsTaken (Step.Revoked tag why) = ⊥
 IsTaken Step.Connected = Unit {0}
 IsTaken Step.Disconnected = Unit {0}
@@ -39,3 +42,37 @@ pub record MakesStep (w : World) (s : Step) (answer : Answer) (new : Option Worl
 abbrev pub Applies : Option World → Step → Answer → Option World → Type 0
 Applies None s answer new = (answer ≡ Err Failed) × (new ≡ None)
 Applies (Some w) s answer new = MakesStep w s answer new ⊎ LacksMemory w s answer new
+
+-- each step is answered in order
+abbrev pub AppliesAll : Option World → List Step → List Answer → Option World → Type 0
+AppliesAll old [] [] new = new ≡ old
+AppliesAll old (s ∷ steps) (a ∷ told) new =
+    (between : Option World) × Applies old s a between × AppliesAll between steps told new
+AppliesAll old [] (a ∷ told) new = ⊥
+AppliesAll old (s ∷ steps) [] new = ⊥
+
+-- the world's steps are made and answered, one after another
+pub record MakesAll (w : World) (steps : List Step) (told : List Answer) (v : World) : Type 0 where
+  pub answers : told ≡ answers w steps
+  pub world : v ≡ world_after w steps
+
+-- what a core answers of its kept listens: they are the world's, by tag; it may lack memory for them,
+-- and one that has failed says so
+abbrev pub Covers : Option World → Result (List Kept) CoreError → Type 0
+Covers None answer = answer ≡ Err Failed
+Covers (Some w) answer = (answer ≡ Ok (cover w)) ⊎ (answer ≡ Err NoMemory)
+
+-- the first of the messages
+abbrev pub first_message : List ClientMessage → Option ClientMessage
+first_message [] = None
+first_message (m ∷ rest) = Some m
+
+-- the world without the first message that is to be sent
+abbrev pub without_first : World → World
+without_first w = record w { outgoing = drop 1 w.outgoing }
+
+-- what is taken out is the first message that is to be sent, if there is one; a core that has failed
+-- has none
+abbrev pub TakesOut : Option World → Option ClientMessage → Option World → Type 0
+TakesOut None message new = (message ≡ None) × (new ≡ None)
+TakesOut (Some w) message new = (message ≡ first_message w.outgoing) × (new ≡ Some (without_first w))

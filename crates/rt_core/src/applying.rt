@@ -1,11 +1,12 @@
 // One step, and its answer.
-ghost use Rattle.std.specs.Prelude.{◌≡◌, None, Ok, IfOk, OnErr};
+ghost use Rattle.std.specs.Prelude.{◌≡◌, false, None, Ok, IfOk, OnErr};
 ghost use Rattle.rt_world.specs.declared.report.Outcome.TheVariants.{Done};
+ghost use Rattle.rt_world.specs.Answers.{stale_report};
 
 use crate::state::State;
 use crate::told::Told;
 use rt_world::{CoreError, Notes, Outcome, Report, Step};
-use std::alloc::AllocError;
+use std::alloc::{AllocError, Global};
 
 // The report of what a step tells that is done.
 fn done_report(told: Told) -> Report
@@ -18,8 +19,19 @@ fn done_report(told: Told) -> Report
     }
 }
 
+// The report of a step that is stale.
+fn stale_report(alloc: Global) -> Report
+    ensures { result ≡ stale_report }
+{
+    Report {
+        outcome: Outcome::Stale,
+        given: None,
+        notes: Notes::of(Vec::new(alloc)),
+    }
+}
+
 impl State {
-    ghost use Rattle.rt_world.specs.Refusals.{refusal};
+    ghost use Rattle.rt_world.specs.Refusals.{refusal, is_stale};
     ghost use Rattle.rt_world.specs.Answers.{step as the_step};
     ghost use Rattle.rt_core.specs.Core.{IsTaken};
     ghost use Rattle.rt_core.specs.inside.Due.{IsGood, IsDue, IsNext};
@@ -35,24 +47,29 @@ impl State {
             Step::OnDisconnect { seat, ending } => self.ask_at_disconnect(seat, ending),
             Step::Connected => self.connect(),
             Step::Disconnected => Ok(self.disconnect()),
+            Step::Data { tag, path, tree } => self.take_data(tag, path, tree),
+            Step::DataMerge { tag, entries } => self.take_merge(tag, entries.into_vec()),
+            Step::Accepted { id } => self.settle(id, None),
+            Step::Refused { id, why } => self.settle(id, Some(why)),
             Step::Listen { .. }
             | Step::Unlisten { .. }
-            | Step::Data { .. }
-            | Step::DataMerge { .. }
-            | Step::Accepted { .. }
-            | Step::Refused { .. }
             | Step::Revoked { .. }
             | Step::CloseSeat { .. } => unreachable!(),
         }
     }
 
-    // The step, and its report; no step that is taken so far can be stale.
+    // The step, and its report, where it is not refused.
     fn make(self, step: Step) -> Result<(State, Report), AllocError>
         requires taken { IsTaken step }
         requires good { IsGood self }
         requires not_refused { refusal self step ≡ None }
-        ensures { IfOk result (λ made. the_step self step ≡ (made.0, Ok made.1)) }
+        ensures made { IfOk result (λ made. the_step self step ≡ (made.0, Ok made.1)) }
+        ensures not_stale { OnErr result (is_stale self step ≡ false) }
     {
+        if self.is_stale(&step) {
+            let report = stale_report(self.alloc());
+            return Ok((self, report));
+        }
         let (state, told) = self.next(step)?;
         Ok((state, done_report(told)))
     }
@@ -63,6 +80,7 @@ impl State {
         requires good { IsGood self }
         ensures ok { IfOk result (λ made. made ≡ the_step self step) }
         ensures not_refused { OnErr result (refusal self step ≡ None) }
+        ensures not_stale { OnErr result (is_stale self step ≡ false) }
     {
         if let Some(error) = self.refusal(&step) {
             return Ok((self, Err(error)));

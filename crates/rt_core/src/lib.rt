@@ -1,27 +1,36 @@
 //! The core over its parts: listeners, pending writes, what the listens brought, and the listens kept.
 //!
-//! This is where the core of `rt_sync` is going. A [`Core`] takes what a seat asks for and the
-//! connection, and answers as the world of `rt_world` does; listeners and what the server sends are
-//! to come. Parts of their steps stand here too: the listeners and the requests by number, the view
-//! of a listener of a plain query and what its seat is told.
+//! This is where the core of `rt_sync` is going. A [`Core`] takes what a seat asks for, what the
+//! server pushes and settles, and the connection, and answers as the world of `rt_world` does; steps
+//! that begin or end listeners are to come, of which the refusals stand here too.
+//!
+//! ```text
+//! let mut core = Core::new(alloc, Limits::full());
+//! let answers = run(alloc, &mut core, steps)?;       // each step's report, or why it is refused
+//! while let Some(message) = core.take_outgoing() { .. }
+//! ```
 #![tactic(auto)]
 
 ghost use Rattle.std.specs.Prelude.{◌≡◌, Some};
 ghost use Rattle.rt_world.specs.World.{empty_world, limits_from};
-ghost use Rattle.rt_core.specs.Core.{Applies, IsTaken};
+ghost use Rattle.rt_core.specs.Core.{Applies, Covers, IsTaken, TakesOut};
 
 mod applying;
-mod held;
 mod refusal;
 mod refusals;
+mod registering;
 mod requests;
+mod runs;
 mod sending;
+mod showing;
+mod stale;
 mod state;
 mod steps;
 mod told;
-mod views;
 
-use rt_world::{CoreError, Limits, Report, Step};
+use rt_cover::KeptList;
+use rt_world::{ClientMessage, CoreError, Limits, Report, Step};
+pub use runs::{Answers, run};
 use state::State;
 use std::alloc::Global;
 use std::marker::Model;
@@ -72,5 +81,30 @@ impl Core {
         let (state, answer) = state.after(step)?;
         self.state = Some(state);
         answer
+    }
+
+    /// The kept listens, by tag, each with the least-numbered listener of its form.
+    ///
+    /// # Errors
+    ///
+    /// Failed, and NoMemory where there is no memory for the list: the core goes on then.
+    pub fn cover(&self) -> Result<KeptList, CoreError>
+        ensures { Covers self.now result }
+    {
+        match &self.state {
+            Some(state) => state.cover(),
+            None => Err(CoreError::Failed),
+        }
+    }
+
+    /// Takes out the first message that is to be sent; none where nothing is to be sent, or the core
+    /// has failed.
+    pub fn take_outgoing(&mut self) -> Option<ClientMessage>
+        ensures { TakesOut self.old result self.new }
+    {
+        match &mut self.state {
+            Some(state) => state.take_outgoing(),
+            None => None,
+        }
     }
 }

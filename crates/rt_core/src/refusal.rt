@@ -1,6 +1,6 @@
 // The order in which refusals are looked at. None takes memory.
 ghost use Rattle.std.specs.Prelude.{◌≡◌, ◌∷◌, []};
-ghost use Rattle.rt_core.specs.inside.Due.{first_of};
+ghost use Rattle.rt_core.specs.inside.Due.{IsGood, IsWeighed, first_of};
 
 use crate::refusals::{has_overlap, is_empty_update, is_too_deep, needs_connection};
 use crate::state::State;
@@ -10,8 +10,28 @@ impl State {
     ghost use Rattle.rt_world.specs.declared.error.CoreError.TheVariants as CoreError;
     ghost use Rattle.rt_world.specs.Refusals.{has_overlap, is_already_connected, is_empty_update};
     ghost use Rattle.rt_world.specs.Refusals.{is_not_connected, is_too_deep, refusal};
-    ghost use Rattle.rt_world.specs.Refusals.{has_too_many_requests};
-    ghost use Rattle.rt_core.specs.Core.{IsTaken};
+    ghost use Rattle.rt_world.specs.Refusals.{has_too_many_listeners, has_too_many_requests};
+    ghost use Rattle.rt_world.specs.Refusals.{has_too_many_revoked, is_bad_push};
+    ghost use Rattle.rt_world.specs.Refusals.{is_unknown_listener};
+
+    // The refusals of a change of listeners.
+    fn listener_refusal(&self, step: &Step) -> Option<CoreError>
+        requires good { IsGood self.now }
+        requires weighed { IsWeighed step.now }
+        ensures { result ≡ first_of ((
+          is_unknown_listener self.now step.now,
+          CoreError.UnknownListener,
+        )
+            ∷ (has_too_many_listeners self.now step.now, CoreError.TooManyListeners) ∷ []) }
+    {
+        if self.is_unknown_listener(step) {
+            return Some(CoreError::UnknownListener);
+        }
+        if self.has_too_many_listeners(step) {
+            return Some(CoreError::TooManyListeners);
+        }
+        None
+    }
 
     // The refusals of what a seat asks for.
     fn asking_refusal(&self, step: &Step) -> Option<CoreError>
@@ -58,31 +78,44 @@ impl State {
         }
     }
 
-    // The refusals that depend on the connection.
+    // The refusals of a push, those that depend on the connection, and that of a revocation.
     fn connection_refusal(&self, step: &Step) -> Option<CoreError>
+        requires good { IsGood self.now }
         ensures { result ≡ first_of ((
-          is_already_connected self.now step.now,
-          CoreError.AlreadyConnected,
+          is_bad_push self.now step.now,
+          CoreError.BadPush,
         )
-            ∷ (is_not_connected self.now step.now, CoreError.NotConnected) ∷ []) }
+            ∷ (is_already_connected self.now step.now, CoreError.AlreadyConnected)
+            ∷ (is_not_connected self.now step.now, CoreError.NotConnected)
+            ∷ (has_too_many_revoked self.now step.now, CoreError.TooManyListeners) ∷ []) }
     {
+        if self.is_bad_push(step) {
+            return Some(CoreError::BadPush);
+        }
         if self.is_already_connected(step) {
             return Some(CoreError::AlreadyConnected);
         }
         if needs_connection(step) && !self.is_connected {
             return Some(CoreError::NotConnected);
         }
+        if self.has_too_many_revoked(step) {
+            return Some(CoreError::TooManyListeners);
+        }
         None
     }
 
     // The first refusal whose condition holds.
     pub(crate) fn refusal(&self, step: &Step) -> Option<CoreError>
-        requires { IsTaken step.now }
+        requires good { IsGood self.now }
+        requires weighed { IsWeighed step.now }
         ensures { result ≡ refusal self.now step.now }
     {
-        match self.asking_refusal(step) {
-            Some(error) => Some(error),
-            None => self.connection_refusal(step),
+        if let Some(error) = self.listener_refusal(step) {
+            return Some(error);
         }
+        if let Some(error) = self.asking_refusal(step) {
+            return Some(error);
+        }
+        self.connection_refusal(step)
     }
 }

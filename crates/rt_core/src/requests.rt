@@ -53,3 +53,14 @@ pub(crate) fn take(requests: &mut Vec<Request>, id: u64) -> Option<Request>
         None => None,
     }
 }
+
+// Whether the request of that number is unsettled.
+pub(crate) fn is_unsettled(requests: &[Request], id: u64) -> bool
+    requires { AllPairs (λ r s. r.id < s.id) requests.now }
+    ensures { result ≡ list_any (λ r. r.id == id) requests.now }
+{
+    match place_of(requests, id) {
+        Some(_) => true,
+        None => false,
+    }
+}

@@ -1,9 +1,9 @@
 // What a core holds.
 ghost use Rattle.std.specs.Prelude.{◌≡◌};
 
-use crate::held::Held;
 use rt_cache::Brought;
 use rt_cover::Cover;
+use rt_listeners::Listeners;
 use rt_world::{ClientMessage, Limits, Request};
 use rt_writes::Pending;
 use std::alloc::Global;
@@ -15,7 +15,7 @@ use std::marker::Model;
 #[derive(Drop)]
 pub(crate) struct State {
     pub(crate) limits: Limits,
-    pub(crate) listeners: Vec<Held>,
+    pub(crate) listeners: Listeners,
     pub(crate) requests: Vec<Request>,
     pub(crate) pending: Pending,
     pub(crate) brought: Brought,
@@ -32,11 +32,11 @@ impl Model for State {
 
     ghost Value = { World };
 
-    ghost view = { λ a. world_of a.limits a.listeners.items a.requests.items a.brought a.cover
-        a.is_connected a.outgoing.items a.given_listeners a.given_requests };
+    ghost view = { λ a. world_of a.limits a.listeners.listeners a.requests.items a.brought
+        a.cover a.is_connected a.outgoing.items a.given_listeners a.given_requests };
 
-    ghost invariant = { λ a. IsTied a.listeners.items a.pending a.cover
-        (world_of a.limits a.listeners.items a.requests.items a.brought a.cover
+    ghost invariant = { λ a. IsTied a.pending a.cover
+        (world_of a.limits a.listeners.listeners a.requests.items a.brought a.cover
         a.is_connected a.outgoing.items a.given_listeners a.given_requests) };
 }
 
@@ -50,7 +50,7 @@ impl State {
         let last_tag = limits.last_number;
         State {
             limits,
-            listeners: Vec::new(alloc),
+            listeners: Listeners::new(alloc),
             requests: Vec::new(alloc),
             pending: Pending::new(alloc),
             brought: Brought::new(alloc),

@@ -1,3 +1,5 @@
 // The steps: what each leaves, one file a kind of step.
 mod asking;
 mod connection;
+mod pushing;
+mod settling;

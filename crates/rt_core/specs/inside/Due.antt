@@ -1,10 +1,10 @@
 -- When a step is made, and what is owed then.
-use Rattle.std.specs.Prelude.{◌≡◌, Bool, false, List, Option, None}
+use Rattle.std.specs.Prelude.{◌≡◌, ℕ, ◌+◌, ◌≤◌, Bool, false, List, Option, Some, None}
 use Rattle.std.specs.List.{find}
 use Rattle.std.specs.Option.{option_map}
 use Rattle.rt_world.specs.declared.error.CoreError.{CoreError}
 use Rattle.rt_world.specs.declared.step.Step.{Step}
-use Rattle.rt_world.specs.World.{World}
+use Rattle.rt_world.specs.World.{Reason, World}
 use Rattle.rt_world.specs.Messages.{next}
 use Rattle.rt_world.specs.Refusals.{refusal, is_stale}
 use Rattle.rt_world.specs.Answers.{done_report}
@@ -13,11 +13,27 @@ use Rattle.rt_world.specs.Plain.{IsPlain}
 use Rattle.rt_world.specs.Sound.{IsSound}
 use Rattle.rt_core.specs.declared.told.Told.{Told}
 
--- what holds between steps, and all listens are plain
+-- what holds between steps, and all listens are plain; the next tag is at most one above the last
 pub record IsGood (w : World) : Type 0 where
   pub sound : IsSound w
   pub called : IsCalled w.brought
   pub plain : IsPlain w
+  pub tags : w.next_tag ≤ w.limits.last_number + 1
+
+-- the steps whose refusals are looked at so far: the end of a seat is to come
+abbrev pub IsWeighed : Step → Type 0
+IsWeighed (Step.Listen seat query) = Unit {0}
+IsWeighed (Step.Unlisten seat listener) = Unit {0}
+IsWeighed (Step.Write seat action) = Unit {0}
+IsWeighed (Step.OnDisconnect seat ending) = Unit {0}
+IsWeighed (Step.Data tag path tree) = Unit {0}
+IsWeighed (Step.DataMerge tag entries) = Unit {0}
+IsWeighed (Step.Accepted id) = Unit {0}
+IsWeighed (Step.Refused id why) = Unit {0}
+IsWeighed (Step.Revoked tag why) = Unit {0}
+IsWeighed Step.Connected = Unit {0}
+IsWeighed Step.Disconnected = Unit {0}
+IsWeighed (Step.CloseSeat seat) = ⊥
 
 -- the step is neither refused nor stale
 pub record IsDue (w : World) (s : Step) : Type 0 where
@@ -30,6 +46,11 @@ pub record IsNext (w : World) (s : Step) (made : World × Told) : Type 0 where
   pub world : made.0 ≡ next w s
   pub given : made.1.given ≡ (done_report w s).given
   pub notes : made.1.notes.items ≡ (done_report w s).notes
+
+-- the step that settles a request: it is accepted, or refused for a reason
+abbrev pub settling : ℕ → Option Reason → Step
+settling id None = Step.Accepted id
+settling id (Some why) = Step.Refused id why
 
 -- the first refusal whose condition holds
 abbrev pub first_of : List (Bool × CoreError) → Option CoreError

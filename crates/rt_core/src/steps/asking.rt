@@ -4,14 +4,12 @@ ghost use Rattle.std.specs.List.{All};
 ghost use Rattle.rt_writes.specs.Writes.{IsShallow};
 ghost use Rattle.rt_world.specs.World.{entries_of};
 ghost use Rattle.rt_world.specs.Met.{all_told, renewed_met};
-ghost use Rattle.rt_core.specs.inside.StateView.{IsHeld, listeners_of};
 
-use crate::held::Held;
 use crate::sending::send_asked;
 use crate::state::State;
 use crate::told::Told;
-use crate::views::renew_met;
 use rt_cache::Brought;
+use rt_listeners::Listeners;
 use rt_world::{Action, Asked, Ending, Note, Request, Step};
 use rt_writes::{Entries, Pending};
 use std::alloc::{AllocError, Global};
@@ -46,38 +44,29 @@ fn add(pending: &mut Pending, id: u64, entries: &Entries) -> Result<(), AllocErr
 // The write is pending, and shows at once; what the seats are told of that.
 fn show_write(
     alloc: Global,
-    listeners: &mut Vec<Held>,
+    listeners: &mut Listeners,
     brought: &Brought,
     pending: &mut Pending,
     id: u64,
     action: &Action,
 ) -> Result<Vec<Note>, AllocError>
-    requires held { All IsHeld listeners.old.items }
     requires regions_alone { brought.now.windows ≡ [] }
     requires regions_shallow { All IsShallow brought.now.regions }
     requires above { All (λ w. w.id < id) pending.old }
     requires shallow { All IsShallow (entries_of action.now) }
     ensures pending { OnOk result (pending.new
         ≡ pending.old ++ record { id = id; entries = entries_of action.now } ∷ []) }
-    ensures held { OnOk result (All IsHeld listeners.new.items) }
-    ensures views { OnOk result (listeners_of listeners.new.items
+    ensures views { OnOk result (listeners.new.listeners
         ≡ map (renewed_met (entries_of action.now) brought.now pending.new)
-        (listeners_of listeners.old.items)) }
+        listeners.old.listeners) }
     ensures notes { IfOk result (λ notes. notes.items
         ≡ all_told (entries_of action.now) brought.now pending.new
-        (listeners_of listeners.old.items)) }
+        listeners.old.listeners) }
 {
     let entries = entries_of(alloc, action)?;
     add(pending, id, &entries)?;
     let mut notes = Vec::new(alloc);
-    renew_met(
-        alloc,
-        listeners,
-        entries.as_slice(),
-        brought,
-        pending,
-        &mut notes,
-    )?;
+    listeners.renew_met(entries.as_slice(), brought, pending, &mut notes)?;
     Ok(notes)
 }
 

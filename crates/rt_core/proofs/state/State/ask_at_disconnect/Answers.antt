@@ -11,7 +11,6 @@ invariant_of-state c =
     let state = c.state.inside in
     let more : c.push.new.self.items ≡ state.requests.items ++ record { id = state.given_requests + 1; seat = Some c.args.seat; asked = AtDisconnect c.args.ending } ∷ [] = search rules in
     record {
-      held = c.state.invariant.held;
       written = c.state.invariant.written ∙ sym (ap pending more ∙ pending_asked state.requests.items (state.given_requests + 1) (Some c.args.seat) c.args.ending);
       listened = c.state.invariant.listened;
       last_tag = c.state.invariant.last_tag;
@@ -22,7 +21,7 @@ returns c =
     let state = c.state.inside in
     let more : c.push.new.self.items ≡ state.requests.items ++ record { id = state.given_requests + 1; seat = Some c.args.seat; asked = AtDisconnect c.args.ending } ∷ [] = search rules in
     let sent : c.send_asked.new.outgoing.items ≡ state.outgoing.items ++ asking state.is_connected (state.given_requests + 1) (AtDisconnect c.args.ending) = search rules in
-    along state.limits state.listeners.items state.requests.items state.brought state.cover state.is_connected state.outgoing.items state.given_listeners state.given_requests state.pending
+    along state.limits state.listeners.listeners state.requests.items state.brought state.cover state.is_connected state.outgoing.items state.given_listeners state.given_requests state.pending
     c.args.self c.state.view_is (Step.OnDisconnect c.args.seat c.args.ending) _ (λ d.
-    ask_made state.limits state.listeners.items state.requests.items state.brought state.cover state.is_connected state.outgoing.items state.given_listeners state.given_requests state.pending
+    ask_made state.limits state.listeners.listeners state.requests.items state.brought state.cover state.is_connected state.outgoing.items state.given_listeners state.given_requests state.pending
     c.args.seat c.args.ending d c.send_asked.new.outgoing.items sent c.push.new.self.items more _ refl c.new-notes.ensures.items) c.requires

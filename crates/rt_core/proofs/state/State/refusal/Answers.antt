@@ -1,13 +1,27 @@
-use Rattle.std.proofs.Common.{◌∙◌, sym, ap}
+use Rattle.std.proofs.Common.{◌≡◌, ◌∙◌, sym, ap, Some, None}
 use Rattle.std.specs.Option.{option_or}
-use Rattle.rt_core.proofs.RefusalLaws.{connection_first, refusal_taken}
+use Rattle.rt_core.specs.inside.Due.{first_of}
+use Rattle.rt_core.proofs.RefusalLaws.{asking, connecting, listening, refusal_parts}
 use Rattle.rt_core.proofs.state.State.refusal.Goals as goal
 
 pub returns-in-Some : goal.returns-in-Some
 returns-in-Some c =
-    ap (λ o. option_or o (connection_first c.args.self.now c.args.step.now)) (sym c.in-Some.is ∙ c.asking_refusal.ensures) ∙ sym (refusal_taken c.args.self.now c.args.step.now c.requires)
+    let w = c.args.self.now in
+    let s = c.args.step.now in
+    ap (λ o. option_or o (option_or (first_of (asking w s)) (first_of (connecting w s)))) (sym c.in-Some.is ∙ c.listener_refusal.ensures) ∙ sym (refusal_parts w s)
 
-pub returns-in-None : goal.returns-in-None
-returns-in-None c =
-    c.connection_refusal.ensures
-    ∙ ap (λ o. option_or o (connection_first c.args.self.now c.args.step.now)) (sym c.in-None.is ∙ c.asking_refusal.ensures) ∙ sym (refusal_taken c.args.self.now c.args.step.now c.requires)
+pub returns-in-Some-asking_refusal : goal.returns-in-Some-asking_refusal
+returns-in-Some-asking_refusal c =
+    let w = c.args.self.now in
+    let s = c.args.step.now in
+    let first : first_of (listening w s) ≡ None = sym c.listener_refusal.ensures ∙ c.in_default.is in
+    let second : first_of (asking w s) ≡ Some c.in-Some-asking_refusal.error = sym c.asking_refusal.ensures ∙ c.in-Some-asking_refusal.is in
+    sym (refusal_parts w s ∙ (λ i. option_or (first i) (option_or (second i) (first_of (connecting w s)))))
+
+pub returns : goal.returns
+returns c =
+    let w = c.args.self.now in
+    let s = c.args.step.now in
+    let first : first_of (listening w s) ≡ None = sym c.listener_refusal.ensures ∙ c.in_default.is in
+    let second : first_of (asking w s) ≡ None = sym c.asking_refusal.ensures ∙ c.in_default-asking_refusal.is in
+    c.connection_refusal.ensures ∙ sym (refusal_parts w s ∙ (λ i. option_or (first i) (option_or (second i) (first_of (connecting w s)))))

@@ -10,9 +10,6 @@ use Rattle.rt_core.proofs.NextWorlds.{along, write_made, pending_written, tied_a
 use Rattle.rt_core.proofs.Writes.{above_pending, shallow_write}
 use Rattle.rt_core.proofs.state.State.write.Goals as goal
 
-pub show_write-requires-clause-held : goal.show_write-requires-clause-held
-show_write-requires-clause-held c = c.state.invariant.held
-
 pub show_write-requires-clause-above : goal.show_write-requires-clause-above
 show_write-requires-clause-above c =
     let d = subst (λ (w : World). IsDue w (Step.Write c.args.seat c.args.action)) (sym c.state.view_is) c.requires in
@@ -31,9 +28,9 @@ pub invariant_of-state : goal.invariant_of-state
 invariant_of-state c =
     let state = c.state.inside in
     let more : c.push.new.self.items ≡ state.requests.items ++ record { id = state.given_requests + 1; seat = Some c.args.seat; asked = Now c.args.action } ∷ [] = search rules in
-    tied_after state.limits state.listeners.items state.requests.items state.brought state.cover state.is_connected state.outgoing.items state.given_listeners state.given_requests state.pending
-    c.state.invariant (entries_of c.args.action) state.brought state.brought c.show_write.new.listeners.items c.push.new.self.items c.show_write.new.pending state.is_connected c.send_asked.new.outgoing.items (state.given_requests + 1)
-    c.in_ok-notes.ensures.held c.in_ok-notes.ensures.views
+    tied_after state.limits state.listeners.listeners state.requests.items state.brought state.cover state.is_connected state.outgoing.items state.given_listeners state.given_requests state.pending
+    c.state.invariant (entries_of c.args.action) state.brought state.brought c.show_write.new.listeners.listeners c.push.new.self.items c.show_write.new.pending state.is_connected c.send_asked.new.outgoing.items (state.given_requests + 1)
+    c.in_ok-notes.ensures.views
     (c.in_ok-notes.ensures.pending ∙ ap (λ ws. ws ++ record { id = state.given_requests + 1; entries = entries_of c.args.action } ∷ []) c.state.invariant.written ∙ sym (ap pending more ∙ pending_written state.requests.items (state.given_requests + 1) (Some c.args.seat) c.args.action))
 
 pub returns : goal.returns
@@ -41,8 +38,8 @@ returns c =
     let state = c.state.inside in
     let more : c.push.new.self.items ≡ state.requests.items ++ record { id = state.given_requests + 1; seat = Some c.args.seat; asked = Now c.args.action } ∷ [] = search rules in
     let sent : c.send_asked.new.outgoing.items ≡ state.outgoing.items ++ asking state.is_connected (state.given_requests + 1) (Now c.args.action) = search rules in
-    along state.limits state.listeners.items state.requests.items state.brought state.cover state.is_connected state.outgoing.items state.given_listeners state.given_requests state.pending
+    along state.limits state.listeners.listeners state.requests.items state.brought state.cover state.is_connected state.outgoing.items state.given_listeners state.given_requests state.pending
     c.args.self c.state.view_is (Step.Write c.args.seat c.args.action) _ (λ d.
-    write_made state.limits state.listeners.items state.requests.items state.brought state.cover state.is_connected state.outgoing.items state.given_listeners state.given_requests state.pending
-    c.state.invariant c.args.seat c.args.action d (entries_of c.args.action) refl c.show_write.new.pending c.in_ok-notes.ensures.pending c.show_write.new.listeners.items c.in_ok-notes.ensures.views
+    write_made state.limits state.listeners.listeners state.requests.items state.brought state.cover state.is_connected state.outgoing.items state.given_listeners state.given_requests state.pending
+    c.state.invariant c.args.seat c.args.action d (entries_of c.args.action) refl c.show_write.new.pending c.in_ok-notes.ensures.pending c.show_write.new.listeners.listeners c.in_ok-notes.ensures.views
     c.send_asked.new.outgoing.items sent c.push.new.self.items more _ refl c.in_ok-notes.ensures.notes) c.requires

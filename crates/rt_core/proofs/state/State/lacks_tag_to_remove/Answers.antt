@@ -1,0 +1,15 @@
+use Rattle.std.proofs.Common.{◌≡◌, false, refl, sym, ap, ◌∙◌, [], ◌∷◌}
+use Rattle.std.specs.Option.{option_map_or}
+use Rattle.rt_query.specs.Supply.{form}
+use Rattle.rt_cover.specs.State.{Cover, is_registered, lacks_tag, left_after, listen_at, with_listener, without_listeners}
+use Rattle.rt_world.specs.Covering.{cover_in}
+use Rattle.rt_core.proofs.TagLaws.{cover_tied, remove_needs}
+use Rattle.rt_core.proofs.state.State.lacks_tag_to_remove.Goals as goal
+
+pub returns : goal.returns
+returns c = λ seat.
+    let w = c.args.self.now in
+    let same : c.self.inside.cover ≡ cover_in w = cover_tied _ c.self.inside.cover _ c.self.invariant refl refl ∙ ap cover_in c.self.view_is in
+    c.lacks_tag_to_remove.ensures
+    ∙ ap (λ (v : Cover). lacks_tag v (without_listeners v.listeners (c.args.listener ∷ []))) same
+    ∙ remove_needs w seat c.args.listener

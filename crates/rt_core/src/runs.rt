@@ -1,0 +1,54 @@
+// Many steps, one after another.
+ghost use Rattle.std.specs.Prelude.{◌≡◌, [], Some, IfOk, IsOk, OnErr};
+ghost use Rattle.std.specs.List.{All};
+ghost use Rattle.rt_world.specs.World.{World};
+ghost use Rattle.rt_core.specs.Core.{AppliesAll, IsTaken, MakesAll};
+
+use crate::Core;
+use rt_world::{CoreError, Report, Step};
+use std::alloc::{AllocError, Global};
+use std::marker::Model;
+
+/// The answers to steps, in order.
+#[derive(Drop)]
+pub struct Answers {
+    items: Vec<Result<Report, CoreError>>,
+}
+
+impl Model for Answers {
+    ghost use Rattle.std.specs.Prelude.{List};
+    ghost use Rattle.rt_world.specs.Answers.{Answer};
+
+    ghost Value = { List Answer };
+
+    ghost view = { λ a. a.items.items };
+}
+
+impl Answers {
+    /// The answers, in order.
+    pub fn as_slice(&self) -> &[Result<Report, CoreError>]
+        ensures { result.now ≡ self.now }
+    {
+        self.items.as_slice()
+    }
+}
+
+/// Makes the steps, one after another, and answers each in order.
+///
+/// # Errors
+///
+/// Only the list of answers can be refused, and then no step is made.
+pub fn run(alloc: Global, core: &mut Core, steps: Vec<Step>) -> Result<Answers, AllocError>
+    requires { All IsTaken steps.items }
+    ensures unchanged { OnErr result (core.new ≡ core.old) }
+    ensures nothing { steps.items ≡ [] → IsOk result }
+    ensures answered { IfOk result (λ answers. AppliesAll core.old steps.items answers core.new) }
+    ensures made { IfOk result (λ answers. (w v : World) → core.old ≡ Some w → core.new ≡ Some v
+        → MakesAll w steps.items answers v) }
+{
+    let mut items = Vec::with_capacity(alloc, steps.len())?;
+    for step in steps {
+        items.push_reserved(core.apply(step));
+    }
+    Ok(Answers { items })
+}

@@ -1,0 +1,30 @@
+// What a core shows of itself.
+ghost use Rattle.std.specs.Prelude.{◌≡◌, ◌⊎◌, Ok, Err};
+ghost use Rattle.rt_world.specs.World.{cover};
+ghost use Rattle.rt_core.specs.Core.{first_message, without_first};
+
+use crate::state::State;
+use rt_cover::KeptList;
+use rt_world::{ClientMessage, CoreError};
+
+impl State {
+    ghost use Rattle.rt_world.specs.declared.error.CoreError.TheVariants as CoreError;
+
+    // The kept listens, by tag.
+    pub(crate) fn cover(&self) -> Result<KeptList, CoreError>
+        ensures { (result ≡ Ok (cover self.now)) ⊎ (result ≡ Err CoreError.NoMemory) }
+    {
+        match self.cover.open() {
+            Ok(list) => Ok(list),
+            Err(_) => Err(CoreError::NoMemory),
+        }
+    }
+
+    // Takes the first message out.
+    pub(crate) fn take_outgoing(&mut self) -> Option<ClientMessage>
+        ensures message { result ≡ first_message self.old.outgoing }
+        ensures rest { self.new ≡ without_first self.old }
+    {
+        self.outgoing.pop_front()
+    }
+}
