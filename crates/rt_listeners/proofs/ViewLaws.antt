@@ -7,7 +7,7 @@ use Rattle.rt_tree.specs.laws.PathTree.{levels-null}
 use Rattle.rt_query.specs.Queries.{Query, is_filtered}
 use Rattle.rt_query.specs.Supply.{form}
 use Rattle.rt_writes.specs.Writes.{Write, IsShallow, overlay}
-use Rattle.rt_writes.proofs.Shallow.{shallow-part}
+use Rattle.rt_writes.specs.laws.ShallowLaws.{shallow-part}
 use Rattle.rt_cache.specs.declared.base.Base.{Base}
 use Rattle.rt_cache.specs.Brought.{Brought, base, region_part, window_of}
 use Rattle.rt_view.specs.Changes.{changes}
