@@ -1,11 +1,12 @@
 -- What the code of a step makes is the next world, and its parts agree.
-use Rattle.std.proofs.Common.{◌≡◌, ℕ, ◌+◌, ◌<◌, Bool, true, false, cond, not, List, [], ◌∷◌, ◌++◌, map, refl, sym, ap, subst, ◌∙◌, append-nil, Option, Some, None}
-use Rattle.std.specs.Prelude.{◌==◌, unwrap_or}
-use Rattle.std.specs.List.{All, AllPairs, filter, filter_map, find}
-use Rattle.std.specs.Option.{option_and_then, option_map, option_or, option_to_list}
+use Rattle.std.proofs.Common.{◌≡◌, ℕ, ◌+◌, ◌<◌, Bool, true, false, cond, not, ◌||◌, List, [], ◌∷◌, ◌++◌, map, refl, sym, ap, subst, ◌∙◌, append-nil, Option, Some, None}
+use Rattle.std.specs.Prelude.{◌==◌, is_some}
+use Rattle.rt_requests.specs.declared.settled.Settled.{Settled as Left}
+use Rattle.std.specs.List.{AllPairs, filter, filter_map, find, list_any}
+use Rattle.std.specs.Option.{option_and_then, option_map, option_map_or, option_or, option_to_list}
 use Rattle.rt_query.specs.Supply.{form}
 use Rattle.rt_tree.specs.Assignments.{Assignment}
-use Rattle.rt_writes.specs.Writes.{Write, entries_of as writes_entries, without}
+use Rattle.rt_writes.specs.Writes.{Write}
 use Rattle.rt_cache.specs.Brought.{Brought}
 use Rattle.rt_cover.specs.Cover.{Registered, Tagged}
 use Rattle.rt_cover.specs.State.{Cover, shown, shown_with}
@@ -21,12 +22,13 @@ use Rattle.rt_world.specs.declared.report.Note.{Note}
 use Rattle.rt_world.specs.World.{Reason, World, Listener, registered, pending, entries_of}
 use Rattle.rt_world.specs.Steps.{listeners_after, requests_after, pushed, brought_after, renewed, is_connected_after, listener_given, request_given, counted}
 use Rattle.rt_world.specs.Messages.{unrevoked, listens, request_message, request_sent, messages_online, messages_of, outgoing_before}
+use Rattle.rt_requests.specs.Settling.{settled}
+use Rattle.rt_world.specs.Refusals.{is_stale}
 use Rattle.rt_world.specs.Answers.{settled_note, settled_notes, cancelled_notes}
 use Rattle.rt_world.specs.Touched.{entries_by, entries_settled}
 use Rattle.rt_world.proofs.LostLaws.{push_is_brought}
 use Rattle.rt_world.proofs.NoteLaws.{settled_once_told}
 use Rattle.rt_world.proofs.Listeners.{number-renewed, query-renewed}
-use Rattle.rt_world.proofs.WrittenLaws.{pending-more, pending-without, pending-write}
 use Rattle.rt_core.specs.declared.told.Told.{Told}
 use Rattle.rt_core.specs.inside.Due.{IsDue, IsNext, settling}
 use Rattle.rt_world.specs.Met.{do_meet, renewed_met, all_told}
@@ -54,14 +56,6 @@ registered_one entries b ws l = at (do_meet entries l.query.path)
 pub registered_met : (entries : List Assignment) (b : Brought) (ws : List Write) (ls : List Listener) → registered (map (renewed_met entries b ws) ls) ≡ registered ls
 registered_met entries b ws [] = refl
 registered_met entries b ws (l ∷ ls) = λ i. registered_one entries b ws l i ∷ registered_met entries b ws ls i
-
--- ---- pending writes
-
-pub pending_written : (rs : List Request) (id : ℕ) (seat : Option ℕ) (action : Action) → pending (rs ++ record { id = id; seat = seat; asked = Now action } ∷ []) ≡ pending rs ++ record { id = id; entries = entries_of action } ∷ []
-pending_written rs id seat action = pending-write rs id seat action
-
-pub pending_asked : (rs : List Request) (id : ℕ) (seat : Option ℕ) (ending : Ending) → pending (rs ++ record { id = id; seat = seat; asked = AtDisconnect ending } ∷ []) ≡ pending rs
-pending_asked rs id seat ending = pending-more rs (record { id = id; seat = seat; asked = AtDisconnect ending }) ∙ append-nil (pending rs)
 
 -- where there are no entries all listeners stay, and are told nothing
 pub map_unmet : (b : Brought) (ws : List Write) (ls : List Listener) → map (renewed_met [] b ws) ls ≡ ls
@@ -110,6 +104,32 @@ found_number id (x ∷ rs) r e = elim (x.id == id) as (λ b. (x.id == id) ≡ b 
   | false ↦ λ t f. found_number id rs r f
 ] refl e
 
+-- what is left of a request that is unsettled
+pub seat_left : (o : Option Request) (entries : List Assignment) → option_and_then (λ (x : Left). x.seat) (option_map (λ (r : Request). record { seat = r.seat; entries = entries }) o) ≡ option_and_then (λ (r : Request). r.seat) o
+seat_left None entries = refl
+seat_left (Some r) entries = refl
+
+entries_left : (o : Option Request) (entries : List Assignment) → is_some o ≡ true → option_map_or (λ (x : Left). x.entries) (option_map (λ (r : Request). record { seat = r.seat; entries = entries }) o) [] ≡ entries
+entries_left None entries e = cc
+entries_left (Some r) entries e = refl
+
+any_find : (id : ℕ) (rs : List Request) → is_some (find (λ (r : Request). r.id == id) rs) ≡ list_any (λ (r : Request). r.id == id) rs
+any_find id [] = refl
+any_find id (r ∷ rs) = elim (r.id == id) as (λ b. is_some (cond b (Some r) (find (λ (x : Request). x.id == id) rs)) ≡ (b || list_any (λ (x : Request). x.id == id) rs)) [
+  | true ↦ refl
+  | false ↦ any_find id rs
+]
+
+is_there : (b : Bool) → ((false || not b) || false) ≡ false → b ≡ true
+is_there true e = refl
+is_there false e = cc
+
+-- its entries, where the settlement is not stale
+pub settled_entries : (w : World) (id : ℕ) (why : Option Reason) → is_stale w (settling id why) ≡ false
+    → option_map_or (λ (x : Left). x.entries) (settled id w.requests) [] ≡ entries_settled w id
+settled_entries w id None e = entries_left (find (λ (r : Request). r.id == id) w.requests) (entries_settled w id) (any_find id w.requests ∙ is_there (list_any (λ (r : Request). r.id == id) w.requests) e)
+settled_entries w id (Some why) e = entries_left (find (λ (r : Request). r.id == id) w.requests) (entries_settled w id) (any_find id w.requests ∙ is_there (list_any (λ (r : Request). r.id == id) w.requests) e)
+
 -- the seat of a settled request is told
 pub settled_told : (id : ℕ) (why : Option Reason) (rs : List Request) → AllPairs (λ (r s : Request). r.id < s.id) rs
     → option_to_list (option_map (λ seat. record { seat = seat; body = Settled id why }) (option_and_then (λ (r : Request). r.seat) (find (λ (r : Request). r.id == id) rs)))
@@ -124,7 +144,7 @@ settled_told id why rs rise = ap option_to_list (at (find (λ (r : Request). r.i
     at None e = refl
     at (Some r) e = sym (ap (told_if r) (found_number id rs r e))
 
-module _ (limits : Limits) (ls : List Listener) (requests : List Request) (b : Brought) (cover : Cover) (c : Bool) (out : List ClientMessage) (gl gr : ℕ) (writes : List Write) where
+module _ (limits : Limits) (ls : List Listener) (requests : List Request) (b : Brought) (cover : Cover) (c : Bool) (out : List ClientMessage) (gl gr : ℕ) where
   abbrev pub w : World
   w = world_of limits ls requests b cover c out gl gr
 
@@ -132,102 +152,88 @@ module _ (limits : Limits) (ls : List Listener) (requests : List Request) (b : B
   pub along : (self : World) → w ≡ self → (s : Step) (made : World × Told) → (IsDue w s → IsNext w s made) → IsDue self s → IsNext self s made
   along self is s made f d = subst (λ v. IsNext v s made) is (f (subst (λ v. IsDue v s) (sym is) d))
 
-  pub tied_after : IsTied writes cover w → (entries : List Assignment) (b' b'' : Brought) (ls' : List Listener) (requests' : List Request) (writes' : List Write) (c' : Bool) (out' : List ClientMessage) (gr' : ℕ)
-      → ls' ≡ map (renewed_met entries b'' writes') ls → writes' ≡ pending requests'
-      → IsTied writes' cover (world_of limits ls' requests' b' cover c' out' gl gr')
-  tied_after t entries b' b'' ls' requests' writes' c' out' gr' is written = record {
-    written = written;
-    listened = t.listened ∙ sym (ap registered is ∙ registered_met entries b'' writes' ls);
+  -- the cover stays the world's where the listeners are renewed
+  pub tied_after : IsTied cover w → (entries : List Assignment) (b' b'' : Brought) (writes : List Write) (ls' : List Listener) (requests' : List Request) (c' : Bool) (out' : List ClientMessage) (gr' : ℕ)
+      → ls' ≡ map (renewed_met entries b'' writes) ls → IsTied cover (world_of limits ls' requests' b' cover c' out' gl gr')
+  tied_after t entries b' b'' writes ls' requests' c' out' gr' is = record {
+    listened = t.listened ∙ sym (ap registered is ∙ registered_met entries b'' writes ls);
     last_tag = t.last_tag;
   }
 
   -- ---- a step that begins and ends no listener
 
-  pub still_made : (s : Step) → IsDue w s → listeners_after w s ≡ w.listeners
+  pub still_made : (s : Step) → IsDue w s → listeners_after w s ≡ w.listeners → listener_given w s ≡ None
       → (entries : List Assignment) → entries ≡ entries_by w s
       → (b' : Brought) → brought_after w s ≡ b'
       → (requests' : List Request) → requests' ≡ requests_after w s
-      → (writes' : List Write) → writes' ≡ pending requests'
-      → (ls' : List Listener) → ls' ≡ map (renewed_met entries b' writes') ls
+      → (ls' : List Listener) → ls' ≡ map (renewed_met entries b' (pending requests')) ls
       → (out' : List ClientMessage) → out' ≡ outgoing_before w s ++ messages_of w s
-      → c ≡ is_connected_after w s → listener_given w s ≡ None → request_given w s ≡ None
-      → (told : Told) → told.given ≡ None → told.notes.items ≡ settled_notes w s ++ cancelled_notes w s ++ all_told entries b' writes' ls
-      → IsNext w s (world_of limits ls' requests' b' cover c out' gl gr, told)
-  still_made s d e entries ee b' eb requests' re writes' we ls' he out' oe ce lg rg told given notes =
-      let ew : pending (requests_after w s) ≡ writes' = sym (we ∙ ap pending re) in
+      → c ≡ is_connected_after w s
+      → (gr' : ℕ) → gr' + 1 ≡ counted w.next_request (request_given w s)
+      → (told : Told) → told.given ≡ request_given w s → told.notes.items ≡ settled_notes w s ++ cancelled_notes w s ++ all_told entries b' (pending requests') ls
+      → IsNext w s (world_of limits ls' requests' b' cover c out' gl gr', told)
+  still_made s d e lg entries ee b' eb requests' re ls' he out' oe ce gr' ge told given notes =
+      let ew : pending (requests_after w s) ≡ pending requests' = sym (ap pending re) in
       record {
         world = (λ i. record w {
-          listeners = (he ∙ ap (λ x. map (renewed_met x b' writes') ls) ee) i;
+          listeners = (he ∙ ap (λ x. map (renewed_met x b' (pending requests')) ls) ee) i;
           requests = re i;
           brought = b';
           is_connected = ce i;
           outgoing = oe i;
           next_listener = counted (gl + 1) (sym lg i);
-          next_request = counted (gr + 1) (sym rg i);
-        }) ∙ next_is w s d e b' writes' (messages_of w s) eb ew refl;
-        given = given ∙ (λ i. option_or (sym lg i) (sym rg i));
-        notes = notes ∙ (λ i. settled_notes w s ++ cancelled_notes w s ++ (ap (λ x. all_told x b' writes' ls) ee ∙ told_is w s d e b' writes' eb ew) i);
+          next_request = ge i;
+        }) ∙ next_is w s d e b' (pending requests') (messages_of w s) eb ew refl;
+        given = given ∙ (λ i. option_or (sym lg i) (request_given w s));
+        notes = notes ∙ (λ i. settled_notes w s ++ cancelled_notes w s ++ (ap (λ x. all_told x b' (pending requests') ls) ee ∙ told_is w s d e b' (pending requests') eb ew) i);
       }
 
-  pub settle_made : IsTied writes cover w → (id : ℕ) (why : Option Reason) → IsDue w (settling id why)
-      → (entries : List Assignment) → entries ≡ unwrap_or (writes_entries id writes) []
-      → (writes' : List Write) → writes' ≡ without id writes
+  pub settle_made : (id : ℕ) (why : Option Reason) → IsDue w (settling id why)
+      → (entries : List Assignment) → entries ≡ entries_settled w id
       → (requests' : List Request) → requests' ≡ filter (λ (r : Request). not (r.id == id)) requests
-      → (ls' : List Listener) → ls' ≡ map (renewed_met entries b writes') ls
+      → (ls' : List Listener) → ls' ≡ map (renewed_met entries b (pending requests')) ls
       → (told : Told) → told.given ≡ None
-      → told.notes.items ≡ option_to_list (option_map (λ seat. record { seat = seat; body = Settled id why }) (option_and_then (λ (r : Request). r.seat) (find (λ (r : Request). r.id == id) requests))) ++ all_told entries b writes' ls
+      → told.notes.items ≡ option_to_list (option_map (λ seat. record { seat = seat; body = Settled id why }) (option_and_then (λ (r : Request). r.seat) (find (λ (r : Request). r.id == id) requests))) ++ all_told entries b (pending requests') ls
       → IsNext w (settling id why) (world_of limits ls' requests' b cover c out gl gr, told)
-  settle_made t id why d entries ee writes' we requests' re ls' he told given notes =
+  settle_made id why d entries ee requests' re ls' he told given notes =
       let s : Step = settling id why in
       let f : Settles w s id why = settles w id why in
       let quiet : messages_of w s ≡ [] = f.messages ∙ ap (λ ms. cond c ms []) (online w s d f.listeners f.unrevoked ∙ f.sent) ∙ no_messages c in
-      still_made s d f.listeners entries (ee ∙ ap (λ ws. unwrap_or (writes_entries id ws) []) t.written ∙ sym f.entries)
+      still_made s d f.listeners f.listener entries (ee ∙ sym f.entries)
       b (brought_stays w s d f.listeners f.pushed) requests' (re ∙ sym f.requests)
-      writes' (we ∙ ap (without id) t.written ∙ sym (ap pending re ∙ pending-without id requests))
-      ls' he out (sym (append-nil out) ∙ (λ i. sym f.outgoing i ++ sym quiet i)) (sym f.connected) f.listener f.request told given
-      (notes ∙ ap (λ z. z ++ all_told entries b writes' ls)
+      ls' he out (sym (append-nil out) ∙ (λ i. sym f.outgoing i ++ sym quiet i)) (sym f.connected)
+      gr (ap (counted (gr + 1)) (sym f.request)) told (given ∙ sym f.request)
+      (notes ∙ ap (λ z. z ++ all_told entries b (pending requests') ls)
       (settled_told id why requests d.good.sound.requests ∙ sym f.settled ∙ sym (append-nil (settled_notes w s)) ∙ ap (λ z. settled_notes w s ++ z) (sym f.cancelled)))
 
   pub merge_brought : (tag : ℕ) (entries : List Assignment) → IsDue w (Step.DataMerge tag entries) → brought_after w (Step.DataMerge tag entries) ≡ pushed w (Step.DataMerge tag entries)
   merge_brought tag entries d = push_is_brought w (Step.DataMerge tag entries) d.good.sound d.good.plain tt d.not_refused refl
 
-  pub merge_made : IsTied writes cover w → (tag : ℕ) (entries : List Assignment) → IsDue w (Step.DataMerge tag entries)
+  pub merge_made : (tag : ℕ) (entries : List Assignment) → IsDue w (Step.DataMerge tag entries)
       → (b' : Brought) → b' ≡ pushed w (Step.DataMerge tag entries)
-      → (ls' : List Listener) → ls' ≡ map (renewed_met entries b' writes) ls
-      → (told : Told) → told.given ≡ None → told.notes.items ≡ all_told entries b' writes ls
+      → (ls' : List Listener) → ls' ≡ map (renewed_met entries b' (pending requests)) ls
+      → (told : Told) → told.given ≡ None → told.notes.items ≡ all_told entries b' (pending requests) ls
       → IsNext w (Step.DataMerge tag entries) (world_of limits ls' requests b' cover c out gl gr, told)
-  merge_made t tag entries d b' be ls' he told given notes =
+  merge_made tag entries d b' be ls' he told given notes =
       let s : Step = Step.DataMerge tag entries in
       let quiet : messages_of w s ≡ [] = ap (λ ms. cond c ms []) (online w s d refl refl) ∙ no_messages c in
-      still_made s d refl entries refl b' (merge_brought tag entries d ∙ sym be) requests refl writes t.written ls' he
-      out (sym (append-nil out) ∙ (λ i. out ++ sym quiet i)) refl refl refl told given notes
+      still_made s d refl refl entries refl b' (merge_brought tag entries d ∙ sym be) requests refl ls' he
+      out (sym (append-nil out) ∙ (λ i. out ++ sym quiet i)) refl gr refl told given notes
 
   -- ---- a write
 
-  pub write_made : IsTied writes cover w → (seat : ℕ) (action : Action) → IsDue w (Step.Write seat action)
+  pub write_made : (seat : ℕ) (action : Action) → IsDue w (Step.Write seat action)
       → (entries : List Assignment) → entries ≡ entries_of action
-      → (writes' : List Write) → writes' ≡ writes ++ record { id = gr + 1; entries = entries } ∷ []
-      → (ls' : List Listener) → ls' ≡ map (renewed_met entries b writes') ls
-      → (out' : List ClientMessage) → out' ≡ out ++ asking c (gr + 1) (Now action)
       → (requests' : List Request) → requests' ≡ requests ++ record { id = gr + 1; seat = Some seat; asked = Now action } ∷ []
-      → (told : Told) → told.given ≡ Some (gr + 1) → told.notes.items ≡ all_told entries b writes' ls
+      → (ls' : List Listener) → ls' ≡ map (renewed_met entries b (pending requests')) ls
+      → (out' : List ClientMessage) → out' ≡ out ++ asking c (gr + 1) (Now action)
+      → (told : Told) → told.given ≡ Some (gr + 1) → told.notes.items ≡ all_told entries b (pending requests') ls
       → IsNext w (Step.Write seat action) (world_of limits ls' requests' b cover c out' gl (gr + 1), told)
-  write_made t seat action d entries e writes' we ls' he out' oe requests' re told given notes =
+  write_made seat action d entries ee requests' re ls' he out' oe told given notes =
       let s : Step = Step.Write seat action in
-      let eb : brought_after w s ≡ b = brought_stays w s d refl refl in
-      let ew : pending (requests_after w s) ≡ writes' =
-      pending-write requests (gr + 1) (Some seat) action ∙ (λ i. sym t.written i ++ record { id = gr + 1; entries = sym e i } ∷ []) ∙ sym we in
       let em : messages_of w s ≡ asking c (gr + 1) (Now action) = ap (λ ms. cond c ms []) (online w s d refl refl) in
-      record {
-        world = (λ i. record w {
-          listeners = (he ∙ ap (λ x. map (renewed_met x b writes') ls) e) i;
-          requests = re i;
-          outgoing = oe i;
-          next_request = gr + 1 + 1;
-        }) ∙ next_is w s d refl b writes' (asking c (gr + 1) (Now action)) eb ew em;
-        given = given;
-        notes = notes ∙ ap (λ x. all_told x b writes' ls) e ∙ told_is w s d refl b writes' eb ew;
-      }
+      still_made s d refl refl entries ee b (brought_stays w s d refl refl) requests' re ls' he
+      out' (oe ∙ ap (λ ms. out ++ ms) (sym em)) refl (gr + 1) refl told given notes
 
   -- ---- a step that shows nothing
 

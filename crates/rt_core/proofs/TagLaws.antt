@@ -9,7 +9,6 @@ use Rattle.std.proofs.lemmas.List.Kept.{AllPairs-cons}
 use Rattle.rt_query.specs.Queries.{Query}
 use Rattle.rt_query.specs.QueryEq.{query_eq}
 use Rattle.rt_query.specs.Supply.{form}
-use Rattle.rt_writes.specs.Writes.{Write}
 use Rattle.rt_cover.specs.Cover.{Tagged}
 use Rattle.rt_cover.specs.State.{Cover, is_registered, lacks_tag, left_after, listen_at, with_listener, without_listeners}
 use Rattle.rt_world.specs.declared.step.Step.{Step}
@@ -38,8 +37,8 @@ new_number w h = same w.listeners ∙ not_bound w.next_listener w.listeners h.be
 -- ---- tags
 
 -- the parts agree, so the cover is the world's
-pub cover_tied : (writes : List Write) (cover : Cover) (w : World) → IsTied writes cover w → w.kept ≡ cover.kept → w.next_tag ≡ cover.next_tag → cover ≡ cover_in w
-cover_tied writes cover w t kept next = λ i. record { listeners = t.listened i; kept = sym kept i; next_tag = sym next i; last_tag = t.last_tag i }
+pub cover_tied : (cover : Cover) (w : World) → IsTied cover w → w.kept ≡ cover.kept → w.next_tag ≡ cover.next_tag → cover ≡ cover_in w
+cover_tied cover w t kept next = λ i. record { listeners = t.listened i; kept = sym kept i; next_tag = sym next i; last_tag = t.last_tag i }
 
 pub add_needs : (w : World) (seat : ℕ) (query : Query) → IsSound w → lacks_tag (cover_in w) (with_listener (registered w.listeners) w.next_listener (form query)) ≡ needs_tag w (Step.Listen seat query)
 add_needs w seat query h =

@@ -19,7 +19,6 @@ mod applying;
 mod refusal;
 mod refusals;
 mod registering;
-mod requests;
 mod runs;
 mod sending;
 mod showing;

@@ -3,7 +3,6 @@ ghost use Rattle.std.specs.Prelude.{◌≡◌, None};
 ghost use Rattle.rt_world.specs.Refusals.{is_stale, refusal};
 ghost use Rattle.rt_core.specs.inside.Due.{IsGood};
 
-use crate::requests::is_unsettled;
 use crate::state::State;
 use rt_world::Step;
 
@@ -19,8 +18,8 @@ impl State {
             Step::Data { tag, .. } => !self.is_kept(*tag),
             Step::DataMerge { tag, .. } => !self.is_kept(*tag),
             Step::Revoked { tag, .. } => !self.is_kept(*tag),
-            Step::Accepted { id } => !is_unsettled(&self.requests, *id),
-            Step::Refused { id, .. } => !is_unsettled(&self.requests, *id),
+            Step::Accepted { id } => !self.requests.is_unsettled(*id),
+            Step::Refused { id, .. } => !self.requests.is_unsettled(*id),
             Step::Listen { .. }
             | Step::Unlisten { .. }
             | Step::Write { .. }

@@ -4,20 +4,18 @@ ghost use Rattle.std.specs.Prelude.{◌≡◌};
 use rt_cache::Brought;
 use rt_cover::Cover;
 use rt_listeners::Listeners;
-use rt_world::{ClientMessage, Limits, Request};
-use rt_writes::Pending;
+use rt_requests::Requests;
+use rt_world::{ClientMessage, Limits};
 use std::alloc::Global;
 use std::collections::VecDeque;
 use std::marker::Model;
 
-// Listeners and unsettled requests by number, the pending writes of these requests, what the listens
-// brought, the listens kept, the messages to be sent, and the numbers given last.
+// Listeners and unsettled requests by number, what the listens brought, the listens kept, the messages to be sent, and the numbers given last.
 #[derive(Drop)]
 pub(crate) struct State {
     pub(crate) limits: Limits,
     pub(crate) listeners: Listeners,
-    pub(crate) requests: Vec<Request>,
-    pub(crate) pending: Pending,
+    pub(crate) requests: Requests,
     pub(crate) brought: Brought,
     pub(crate) cover: Cover,
     pub(crate) is_connected: bool,
@@ -32,11 +30,11 @@ impl Model for State {
 
     ghost Value = { World };
 
-    ghost view = { λ a. world_of a.limits a.listeners.listeners a.requests.items a.brought
+    ghost view = { λ a. world_of a.limits a.listeners.listeners a.requests a.brought
         a.cover a.is_connected a.outgoing.items a.given_listeners a.given_requests };
 
-    ghost invariant = { λ a. IsTied a.pending a.cover
-        (world_of a.limits a.listeners.listeners a.requests.items a.brought a.cover
+    ghost invariant = { λ a. IsTied a.cover
+        (world_of a.limits a.listeners.listeners a.requests a.brought a.cover
         a.is_connected a.outgoing.items a.given_listeners a.given_requests) };
 }
 
@@ -51,8 +49,7 @@ impl State {
         State {
             limits,
             listeners: Listeners::new(alloc),
-            requests: Vec::new(alloc),
-            pending: Pending::new(alloc),
+            requests: Requests::new(alloc),
             brought: Brought::new(alloc),
             cover: Cover::new(alloc, last_tag),
             is_connected: false,
@@ -64,6 +61,6 @@ impl State {
 
     // The allocator of its lists.
     pub(crate) fn alloc(&self) -> Global {
-        *self.requests.allocator()
+        *self.outgoing.allocator()
     }
 }

@@ -1,17 +1,12 @@
 // A seat asks the server for something: a write, or what is to be done when the connection ends.
-ghost use Rattle.std.specs.Prelude.{◌≡◌, ◌<◌, ◌++◌, ◌∷◌, [], map, OnOk, IfOk};
-ghost use Rattle.std.specs.List.{All};
-ghost use Rattle.rt_writes.specs.Writes.{IsShallow};
+ghost use Rattle.std.specs.Prelude.{◌≡◌, IfOk};
 ghost use Rattle.rt_world.specs.World.{entries_of};
-ghost use Rattle.rt_world.specs.Met.{all_told, renewed_met};
 
 use crate::sending::send_asked;
 use crate::state::State;
 use crate::told::Told;
-use rt_cache::Brought;
-use rt_listeners::Listeners;
-use rt_world::{Action, Asked, Ending, Note, Request, Step};
-use rt_writes::{Entries, Pending};
+use rt_world::{Action, Asked, Ending, Step};
+use rt_writes::Entries;
 use std::alloc::{AllocError, Global};
 
 // The paths and trees that the action sets, shared with it.
@@ -26,48 +21,6 @@ fn entries_of(alloc: Global, action: &Action) -> Result<Entries, AllocError>
         }
         Action::Merge { entries } => entries.copy(),
     }
-}
-
-// The write is pending. Only memory can refuse: what its entries may be was looked at.
-fn add(pending: &mut Pending, id: u64, entries: &Entries) -> Result<(), AllocError>
-    requires above { All (λ w. w.id < id) pending.old }
-    requires shallow { All IsShallow entries.now }
-    ensures { OnOk result (pending.new
-        ≡ pending.old ++ record { id = id; entries = entries.now } ∷ []) }
-{
-    match pending.add(id, entries.copy()?.into_vec()) {
-        Ok(()) => Ok(()),
-        Err(_) => Err(AllocError),
-    }
-}
-
-// The write is pending, and shows at once; what the seats are told of that.
-fn show_write(
-    alloc: Global,
-    listeners: &mut Listeners,
-    brought: &Brought,
-    pending: &mut Pending,
-    id: u64,
-    action: &Action,
-) -> Result<Vec<Note>, AllocError>
-    requires regions_alone { brought.now.windows ≡ [] }
-    requires regions_shallow { All IsShallow brought.now.regions }
-    requires above { All (λ w. w.id < id) pending.old }
-    requires shallow { All IsShallow (entries_of action.now) }
-    ensures pending { OnOk result (pending.new
-        ≡ pending.old ++ record { id = id; entries = entries_of action.now } ∷ []) }
-    ensures views { OnOk result (listeners.new.listeners
-        ≡ map (renewed_met (entries_of action.now) brought.now pending.new)
-        listeners.old.listeners) }
-    ensures notes { IfOk result (λ notes. notes.items
-        ≡ all_told (entries_of action.now) brought.now pending.new
-        listeners.old.listeners) }
-{
-    let entries = entries_of(alloc, action)?;
-    add(pending, id, &entries)?;
-    let mut notes = Vec::new(alloc);
-    listeners.renew_met(entries.as_slice(), brought, pending, &mut notes)?;
-    Ok(notes)
 }
 
 impl State {
@@ -106,21 +59,13 @@ impl State {
         let alloc = self.alloc();
         let mut state = self;
         let id = state.given_requests + 1;
-        let notes = show_write(
-            alloc,
-            &mut state.listeners,
-            &state.brought,
-            &mut state.pending,
-            id,
-            &action,
-        )?;
+        let entries = entries_of(alloc, &action)?;
         let asked = Asked::Now(action);
         send_asked(alloc, &mut state.outgoing, state.is_connected, id, &asked)?;
-        state.requests.push(Request {
-            id,
-            seat: Some(seat),
-            asked,
-        })?;
+        state.requests.add(id, seat, asked)?;
+        let mut notes = Vec::new(alloc);
+        let pending = state.requests.pending();
+        state.listeners.renew_met(entries.as_slice(), &state.brought, pending, &mut notes)?;
         state.given_requests = id;
         Ok((
             state,
@@ -145,11 +90,7 @@ impl State {
         let id = state.given_requests + 1;
         let asked = Asked::AtDisconnect(ending);
         send_asked(alloc, &mut state.outgoing, state.is_connected, id, &asked)?;
-        state.requests.push(Request {
-            id,
-            seat: Some(seat),
-            asked,
-        })?;
+        state.requests.add(id, seat, asked)?;
         state.given_requests = id;
         let notes = Vec::new(alloc);
         Ok((

@@ -6,5 +6,5 @@ use Rattle.rt_core.proofs.state.State.disconnect.Goals as goal
 pub returns : goal.returns
 returns c =
     let state = c.state.inside in
-    along state.limits state.listeners.listeners state.requests.items state.brought state.cover state.is_connected state.outgoing.items state.given_listeners state.given_requests state.pending
-    c.args.self c.state.view_is Step.Disconnected _ (λ d. disconnect_made state.limits state.listeners.listeners state.requests.items state.brought state.cover state.is_connected state.outgoing.items state.given_listeners state.given_requests state.pending d c.clear.new.self.items c.clear.ensures.items _ refl c.new-notes.ensures.items) c.requires
+    along state.limits state.listeners.listeners state.requests state.brought state.cover state.is_connected state.outgoing.items state.given_listeners state.given_requests
+    c.args.self c.state.view_is Step.Disconnected _ (λ d. disconnect_made state.limits state.listeners.listeners state.requests state.brought state.cover state.is_connected state.outgoing.items state.given_listeners state.given_requests d c.clear.new.self.items c.clear.ensures.items _ refl c.new-notes.ensures.items) c.requires

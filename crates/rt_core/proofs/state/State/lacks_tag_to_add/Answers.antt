@@ -9,7 +9,7 @@ use Rattle.rt_core.proofs.state.State.lacks_tag_to_add.Goals as goal
 pub returns : goal.returns
 returns c = λ seat.
     let w = c.args.self.now in
-    let same : c.self.inside.cover ≡ cover_in w = cover_tied _ c.self.inside.cover _ c.self.invariant refl refl ∙ ap cover_in c.self.view_is in
+    let same : c.self.inside.cover ≡ cover_in w = cover_tied c.self.inside.cover _ c.self.invariant refl refl ∙ ap cover_in c.self.view_is in
     c.lacks_tag_to_add.ensures w.next_listener (ap (λ (v : Cover). is_registered v.listeners w.next_listener) same ∙ new_number w c.requires.sound)
     ∙ ap (λ (v : Cover). lacks_tag v (with_listener v.listeners w.next_listener (form c.args.query.now))) same
     ∙ add_needs w seat c.args.query.now c.requires.sound

@@ -9,7 +9,7 @@ use Rattle.rt_core.proofs.state.State.lacks_tag_to_remove.Goals as goal
 pub returns : goal.returns
 returns c = λ seat.
     let w = c.args.self.now in
-    let same : c.self.inside.cover ≡ cover_in w = cover_tied _ c.self.inside.cover _ c.self.invariant refl refl ∙ ap cover_in c.self.view_is in
+    let same : c.self.inside.cover ≡ cover_in w = cover_tied c.self.inside.cover _ c.self.invariant refl refl ∙ ap cover_in c.self.view_is in
     c.lacks_tag_to_remove.ensures
     ∙ ap (λ (v : Cover). lacks_tag v (without_listeners v.listeners (c.args.listener ∷ []))) same
     ∙ remove_needs w seat c.args.listener

@@ -1,45 +1,50 @@
-use Rattle.std.proofs.Common.{◌≡◌, ◌<◌, ◌++◌, ◌∷◌, [], ◌+◌, ◌∙◌, Some, sym, ap, subst, refl, rules}
-use Rattle.std.specs.List.{All}
-use Rattle.rt_writes.specs.Writes.{Write}
+use Rattle.std.proofs.Common.{◌≡◌, ◌++◌, [], map, sym, ap, subst, ◌∙◌, ◌+◌, refl, rules}
 use Rattle.rt_wire.specs.declared.request.Asked.TheVariants.{Now}
 use Rattle.rt_world.specs.declared.step.Step.{Step}
 use Rattle.rt_world.specs.World.{World, entries_of, pending}
+use Rattle.rt_world.specs.Met.{all_told, renewed_met}
+use Rattle.rt_world.proofs.LimitLaws.{allowed}
+use Rattle.rt_world.proofs.Listeners.{or_false_left}
 use Rattle.rt_core.specs.inside.Due.{IsDue}
 use Rattle.rt_core.specs.inside.Parts.{asking}
-use Rattle.rt_core.proofs.NextWorlds.{along, write_made, pending_written, tied_after}
-use Rattle.rt_core.proofs.Writes.{above_pending, shallow_write}
+use Rattle.rt_core.proofs.NextWorlds.{along, tied_after, write_made}
 use Rattle.rt_core.proofs.state.State.write.Goals as goal
 
-pub show_write-requires-clause-above : goal.show_write-requires-clause-above
-show_write-requires-clause-above c =
-    let d = subst (λ (w : World). IsDue w (Step.Write c.args.seat c.args.action)) (sym c.state.view_is) c.requires in
-    subst (λ ws. All (λ (x : Write). x.id < c.state.inside.given_requests + 1) ws) (sym c.state.invariant.written) (above_pending _ _ d)
+pub add-requires-clause-above : goal.add-requires-clause-above
+add-requires-clause-above c = (subst (λ (v : World). IsDue v (Step.Write c.args.seat c.args.action)) (sym c.state.view_is) c.requires).good.sound.unsettled
 
-pub show_write-requires-clause-shallow : goal.show_write-requires-clause-shallow
-show_write-requires-clause-shallow c = shallow_write c.args.self c.args.seat c.args.action c.requires
+pub add-requires-clause-apart : goal.add-requires-clause-apart
+add-requires-clause-apart c = (allowed c.args.self (Step.Write c.args.seat c.args.action) c.requires.not_refused).overlap
 
-pub show_write-requires-clause-regions_alone : goal.show_write-requires-clause-regions_alone
-show_write-requires-clause-regions_alone c = (subst (λ (w : World). IsDue w (Step.Write c.args.seat c.args.action)) (sym c.state.view_is) c.requires).good.plain.windows
+pub add-requires-clause-some : goal.add-requires-clause-some
+add-requires-clause-some c = (allowed c.args.self (Step.Write c.args.seat c.args.action) c.requires.not_refused).empty
 
-pub show_write-requires-clause-regions_shallow : goal.show_write-requires-clause-regions_shallow
-show_write-requires-clause-regions_shallow c = (subst (λ (w : World). IsDue w (Step.Write c.args.seat c.args.action)) (sym c.state.view_is) c.requires).good.plain.shallow
+pub add-requires-clause-shallow : goal.add-requires-clause-shallow
+add-requires-clause-shallow c = or_false_left _ _ (allowed c.args.self (Step.Write c.args.seat c.args.action) c.requires.not_refused).deep
+
+pub renew_met-requires-clause-regions_alone : goal.renew_met-requires-clause-regions_alone
+renew_met-requires-clause-regions_alone c = (subst (λ (v : World). IsDue v (Step.Write c.args.seat c.args.action)) (sym c.state.view_is) c.requires).good.plain.windows
+
+pub renew_met-requires-clause-shallow : goal.renew_met-requires-clause-shallow
+renew_met-requires-clause-shallow c = (subst (λ (v : World). IsDue v (Step.Write c.args.seat c.args.action)) (sym c.state.view_is) c.requires).good.plain.shallow
 
 pub invariant_of-state : goal.invariant_of-state
 invariant_of-state c =
     let state = c.state.inside in
-    let more : c.push.new.self.items ≡ state.requests.items ++ record { id = state.given_requests + 1; seat = Some c.args.seat; asked = Now c.args.action } ∷ [] = search rules in
-    tied_after state.limits state.listeners.listeners state.requests.items state.brought state.cover state.is_connected state.outgoing.items state.given_listeners state.given_requests state.pending
-    c.state.invariant (entries_of c.args.action) state.brought state.brought c.show_write.new.listeners.listeners c.push.new.self.items c.show_write.new.pending state.is_connected c.send_asked.new.outgoing.items (state.given_requests + 1)
-    c.in_ok-notes.ensures.views
-    (c.in_ok-notes.ensures.pending ∙ ap (λ ws. ws ++ record { id = state.given_requests + 1; entries = entries_of c.args.action } ∷ []) c.state.invariant.written ∙ sym (ap pending more ∙ pending_written state.requests.items (state.given_requests + 1) (Some c.args.seat) c.args.action))
+    tied_after state.limits state.listeners.listeners state.requests state.brought state.cover state.is_connected state.outgoing.items state.given_listeners state.given_requests
+    c.state.invariant c.as_slice.result.now state.brought state.brought c.pending-pending.result.now c.renew_met.new.self.listeners c.add.new.self state.is_connected c.send_asked.new.outgoing.items (state.given_requests + 1)
+    c.in_ok-renew_met.ensures.views
 
 pub returns : goal.returns
 returns c =
     let state = c.state.inside in
-    let more : c.push.new.self.items ≡ state.requests.items ++ record { id = state.given_requests + 1; seat = Some c.args.seat; asked = Now c.args.action } ∷ [] = search rules in
+    let pend : c.pending-pending.result.now ≡ pending c.add.new.self = c.pending-pending.ensures in
+    let entries = c.as_slice.result.now in
     let sent : c.send_asked.new.outgoing.items ≡ state.outgoing.items ++ asking state.is_connected (state.given_requests + 1) (Now c.args.action) = search rules in
-    along state.limits state.listeners.listeners state.requests.items state.brought state.cover state.is_connected state.outgoing.items state.given_listeners state.given_requests state.pending
+    along state.limits state.listeners.listeners state.requests state.brought state.cover state.is_connected state.outgoing.items state.given_listeners state.given_requests
     c.args.self c.state.view_is (Step.Write c.args.seat c.args.action) _ (λ d.
-    write_made state.limits state.listeners.listeners state.requests.items state.brought state.cover state.is_connected state.outgoing.items state.given_listeners state.given_requests state.pending
-    c.state.invariant c.args.seat c.args.action d (entries_of c.args.action) refl c.show_write.new.pending c.in_ok-notes.ensures.pending c.show_write.new.listeners.listeners c.in_ok-notes.ensures.views
-    c.send_asked.new.outgoing.items sent c.push.new.self.items more _ refl c.in_ok-notes.ensures.notes) c.requires
+    write_made state.limits state.listeners.listeners state.requests state.brought state.cover state.is_connected state.outgoing.items state.given_listeners state.given_requests
+    c.args.seat c.args.action d entries (c.as_slice.ensures ∙ c.in_ok-entries.ensures) c.add.new.self c.in_ok-add.ensures.added c.renew_met.new.self.listeners
+    (c.in_ok-renew_met.ensures.views ∙ ap (λ ws. map (renewed_met entries state.brought ws) state.listeners.listeners) pend)
+    c.send_asked.new.outgoing.items sent _ refl
+    (c.in_ok-renew_met.ensures.notes ∙ (λ i. c.new-notes.ensures.items i ++ all_told entries state.brought (pend i) state.listeners.listeners))) c.requires
