@@ -65,7 +65,9 @@ impl State {
         state.requests.add(id, seat, asked)?;
         let mut notes = Vec::new(alloc);
         let pending = state.requests.pending();
-        state.listeners.renew_met(entries.as_slice(), &state.brought, pending, &mut notes)?;
+        state
+            .listeners
+            .renew_met(entries.as_slice(), &state.brought, pending, &mut notes)?;
         state.given_requests = id;
         Ok((
             state,

@@ -16,11 +16,7 @@ use rt_tree::{Path, Tree};
 use std::alloc::{AllocError, Global};
 
 // Takes in these entries, which are pushed on the listen of the query.
-fn put_all(
-    brought: &mut Brought,
-    query: &Query,
-    entries: &[(Path, Tree)],
-) -> Result<(), AllocError>
+fn put_all(brought: &mut Brought, query: &Query, entries: &[(Path, Tree)]) -> Result<(), AllocError>
     requires { All (IsPushOn query.now) entries.now }
     ensures { OnOk result (brought.new ≡ fold (push query.now) brought.old entries.now) }
 {
@@ -76,7 +72,9 @@ impl State {
         put_on(&mut state.brought, &state.cover, tag, &entries)?;
         let mut notes = Vec::new(alloc);
         let pending = state.requests.pending();
-        state.listeners.renew_met(&entries, &state.brought, pending, &mut notes)?;
+        state
+            .listeners
+            .renew_met(&entries, &state.brought, pending, &mut notes)?;
         Ok((state, Told { given: None, notes }))
     }
 

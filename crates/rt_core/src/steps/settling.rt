@@ -48,11 +48,7 @@ impl State {
 
     // A request is accepted, or refused for a reason: what it wrote is pending no more, and its seat
     // is told first.
-    pub(crate) fn settle(
-        self,
-        id: u64,
-        why: Option<Reason>,
-    ) -> Result<(State, Told), AllocError>
+    pub(crate) fn settle(self, id: u64, why: Option<Reason>) -> Result<(State, Told), AllocError>
         requires { IsDue self (settling id why) }
         ensures { IfOk result (λ made. IsNext self (settling id why) made) }
     {
@@ -64,7 +60,9 @@ impl State {
         tell_settled(&mut notes, settled.seat, id, why)?;
         let pending = state.requests.pending();
         let entries = settled.entries.as_slice();
-        state.listeners.renew_met(entries, &state.brought, pending, &mut notes)?;
+        state
+            .listeners
+            .renew_met(entries, &state.brought, pending, &mut notes)?;
         Ok((state, Told { given: None, notes }))
     }
 }
