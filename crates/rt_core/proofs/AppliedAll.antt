@@ -2,7 +2,7 @@
 use Rattle.std.proofs.Common.{◌≡◌, inl, inr, List, [], ◌∷◌, ◌++◌, refl, sym, ap, subst, append_assoc, Option, Some, None}
 use Rattle.rt_world.specs.declared.step.Step.{Step}
 use Rattle.rt_world.specs.World.{World}
-use Rattle.rt_world.specs.Answers.{Answer, answers, step, world_after}
+use Rattle.rt_world.specs.Answers.{Answer, step}
 use Rattle.rt_core.specs.Core.{Applies, AppliesAll, MakesAll}
 
 -- what later answers make of the core now, all answers make of the core before

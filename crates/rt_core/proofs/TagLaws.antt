@@ -1,11 +1,9 @@
 -- Which changes of listeners lack a tag.
-use Rattle.std.proofs.Common.{◌≡◌, ℕ, ◌+◌, ◌<◌, ◌≤◌, Bool, true, false, ◌&&◌, ◌||◌, not, nat_le, nat_lt, List, [], ◌∷◌, map, length, refl, sym, ap, ◌∙◌, arith, ltb-false, Option, Some, None}
+use Rattle.std.proofs.Common.{◌≡◌, ℕ, ◌+◌, ◌≤◌, false, ◌||◌, not, nat_le, nat_lt, List, [], ◌∷◌, length, refl, sym, ap, ◌∙◌, arith, ltb-false, Option, Some, None}
 use Rattle.std.specs.Prelude.{◌==◌}
-use Rattle.std.specs.List.{All, AllPairs, filter, find, list_any}
+use Rattle.std.specs.List.{filter, find, list_any}
 use Rattle.std.specs.Option.{option_map, option_map_or}
 use Rattle.std.proofs.lemmas.Bool.{le-ltb}
-use Rattle.std.proofs.lemmas.List.Elements.{All-cons, All-head, All-tail}
-use Rattle.std.proofs.lemmas.List.Kept.{AllPairs-cons}
 use Rattle.rt_query.specs.Queries.{Query}
 use Rattle.rt_query.specs.QueryEq.{query_eq}
 use Rattle.rt_query.specs.Supply.{form}
@@ -17,7 +15,7 @@ use Rattle.rt_world.specs.Steps.{listeners_after, started_by}
 use Rattle.rt_world.specs.Messages.{next}
 use Rattle.rt_world.specs.Refusals.{needs_tag, refusal}
 use Rattle.rt_world.specs.Covering.{cover_in}
-use Rattle.rt_world.specs.Sound.{IsSound, Rises}
+use Rattle.rt_world.specs.Sound.{IsSound}
 use Rattle.rt_world.proofs.CoveringLaws.{one_more, revoked_left, unlistened}
 use Rattle.rt_world.proofs.HeardLaws.{map-append, started-same}
 use Rattle.rt_world.proofs.LimitLaws.{allowed}

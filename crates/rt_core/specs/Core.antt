@@ -1,5 +1,6 @@
 -- What a core answers to steps, and what it becomes: a world, or none once it has lacked memory.
 use Rattle.std.specs.Prelude.{◌≡◌, false, ◌⊎◌, List, [], ◌∷◌, drop, Option, Some, None, Result, Ok, Err}
+use Rattle.rt_query.specs.Queries.{is_filtered}
 use Rattle.rt_cover.specs.declared.kept.Kept.{Kept}
 use Rattle.rt_wire.specs.declared.client.ClientMessage.{ClientMessage}
 use Rattle.rt_world.specs.declared.error.CoreError.{CoreError}
@@ -9,11 +10,11 @@ use Rattle.rt_world.specs.World.{World, cover}
 use Rattle.rt_world.specs.Refusals.{refusal, is_stale}
 use Rattle.rt_world.specs.Answers.{Answer, answers, step, world_after}
 
--- the steps that a core takes so far: what a seat asks for, what the server pushes and settles, and
--- the connection; those that begin or end listeners are to come
+-- the steps that a core takes so far: what a seat asks for, but for its end, with unfiltered queries
+-- alone; what the server pushes and settles; and the connection. Revocations are to come
 abbrev pub IsTaken : Step → Type 0
-IsTaken (Step.Listen seat query) = ⊥
-IsTaken (Step.Unlisten seat listener) = ⊥
+IsTaken (Step.Listen seat query) = is_filtered query ≡ false
+IsTaken (Step.Unlisten seat listener) = Unit {0}
 IsTaken (Step.Write seat action) = Unit {0}
 IsTaken (Step.OnDisconnect seat ending) = Unit {0}
 IsTaken (Step.Data tag path tree) = Unit {0}

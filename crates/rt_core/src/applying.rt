@@ -2,11 +2,34 @@
 ghost use Rattle.std.specs.Prelude.{◌≡◌, false, None, Ok, IfOk, OnErr};
 ghost use Rattle.rt_world.specs.declared.report.Outcome.TheVariants.{Done};
 ghost use Rattle.rt_world.specs.Answers.{stale_report};
+ghost use Rattle.rt_world.specs.laws.Holds.{RegistersShort};
 
 use crate::state::State;
 use crate::told::Told;
 use rt_world::{CoreError, Notes, Outcome, Report, Step};
 use std::alloc::{AllocError, Global};
+
+// For the prover: no path that a step registers has more than 32 keys.
+pub(crate) fn registers_short(step: &Step)
+    ensures { RegistersShort step.now }
+{
+    match step {
+        Step::Listen { query, .. } => {
+            let _is_path = query.path().keys();
+        }
+        Step::Unlisten { .. }
+        | Step::Write { .. }
+        | Step::OnDisconnect { .. }
+        | Step::Data { .. }
+        | Step::DataMerge { .. }
+        | Step::Accepted { .. }
+        | Step::Refused { .. }
+        | Step::Revoked { .. }
+        | Step::Connected
+        | Step::Disconnected
+        | Step::CloseSeat { .. } => {}
+    }
+}
 
 // The report of what a step tells that is done.
 fn done_report(told: Told) -> Report
@@ -51,10 +74,9 @@ impl State {
             Step::DataMerge { tag, entries } => self.take_merge(tag, entries.into_vec()),
             Step::Accepted { id } => self.settle(id, None),
             Step::Refused { id, why } => self.settle(id, Some(why)),
-            Step::Listen { .. }
-            | Step::Unlisten { .. }
-            | Step::Revoked { .. }
-            | Step::CloseSeat { .. } => unreachable!(),
+            Step::Listen { seat, query } => self.listen(seat, query),
+            Step::Unlisten { seat, listener } => self.unlisten(seat, listener),
+            Step::Revoked { .. } | Step::CloseSeat { .. } => unreachable!(),
         }
     }
 

@@ -1,8 +1,8 @@
 //! The core over its parts: listeners, pending writes, what the listens brought, and the listens kept.
 //!
-//! This is where the core of `rt_sync` is going. A [`Core`] takes what a seat asks for, what the
-//! server pushes and settles, and the connection, and answers as the world of `rt_world` does; steps
-//! that begin or end listeners are to come, of which the refusals stand here too.
+//! This is where the core of `rt_sync` is going. A [`Core`] takes listeners of unfiltered queries, what
+//! a seat asks for, what the server pushes and settles, and the connection, and answers as the world of
+//! `rt_world` does; the end of a seat and revocations are to come.
 //!
 //! ```text
 //! let mut core = Core::new(alloc, Limits::full());
@@ -27,8 +27,9 @@ mod state;
 mod steps;
 mod told;
 
+use applying::registers_short;
 use rt_cover::KeptList;
-use rt_world::{ClientMessage, CoreError, Limits, Report, Step};
+use rt_world::{ClientMessage, CoreError, Limits, Report, Step, steady_law};
 pub use runs::{Answers, run};
 use state::State;
 use std::alloc::Global;
@@ -77,6 +78,9 @@ impl Core {
         let Some(state) = self.state.take() else {
             return Err(CoreError::Failed);
         };
+        // State what holds between steps, and that the step registers no path too long for it.
+        steady_law();
+        registers_short(&step);
         let (state, answer) = state.after(step)?;
         self.state = Some(state);
         answer

@@ -11,13 +11,16 @@ use Rattle.rt_world.specs.Answers.{done_report}
 use Rattle.rt_world.specs.Called.{IsCalled}
 use Rattle.rt_world.specs.Plain.{IsPlain}
 use Rattle.rt_world.specs.Sound.{IsSound}
+use Rattle.rt_world.specs.laws.Holds.{AreShort}
 use Rattle.rt_core.specs.declared.told.Told.{Told}
 
--- what holds between steps, and all listens are plain; the next tag is at most one above the last
+-- what holds between steps, and all listens are plain, of paths that are no longer than trees are
+-- deep; the next tag is at most one above the last
 pub record IsGood (w : World) : Type 0 where
   pub sound : IsSound w
   pub called : IsCalled w.brought
   pub plain : IsPlain w
+  pub short : AreShort w.listeners
   pub tags : w.next_tag ≤ w.limits.last_number + 1
 
 -- the steps whose refusals are looked at so far: the end of a seat is to come

@@ -17,4 +17,4 @@ invariant_of-self-2 c =
     let there : c.self.inside.state ≡ Some old = search rules in
     let good : IsGood old = subst (λ o. IfSome o IsGood) there c.self.invariant in
     let after : c.in_ok-state.state ≡ (step old c.args.step).0 = ap (λ (m : World × Answer). m.0) c.in_ok-state.ensures.ok in
-    subst IsGood (sym after) (good_step old c.args.step c.requires good)
+    subst IsGood (sym after) (good_step c.steady_law.ensures.next old c.args.step c.requires c.registers_short.ensures good)

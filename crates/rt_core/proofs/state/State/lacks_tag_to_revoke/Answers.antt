@@ -1,7 +1,6 @@
-use Rattle.std.proofs.Common.{◌≡◌, false, refl, sym, ap, ◌∙◌, [], ◌∷◌}
+use Rattle.std.proofs.Common.{◌≡◌, false, refl, ap, ◌∙◌}
 use Rattle.std.specs.Option.{option_map_or}
-use Rattle.rt_query.specs.Supply.{form}
-use Rattle.rt_cover.specs.State.{Cover, is_registered, lacks_tag, left_after, listen_at, with_listener, without_listeners}
+use Rattle.rt_cover.specs.State.{Cover, lacks_tag, left_after, listen_at}
 use Rattle.rt_world.specs.Covering.{cover_in}
 use Rattle.rt_core.proofs.TagLaws.{cover_tied, revoke_needs}
 use Rattle.rt_core.proofs.state.State.lacks_tag_to_revoke.Goals as goal

@@ -1,7 +1,7 @@
-use Rattle.std.proofs.Common.{◌≡◌, ◌++◌, [], map, sym, ap, subst, ◌∙◌, ◌+◌, refl, rules}
+use Rattle.std.proofs.Common.{◌≡◌, ◌++◌, map, sym, ap, subst, ◌∙◌, ◌+◌, refl, rules}
 use Rattle.rt_wire.specs.declared.request.Asked.TheVariants.{Now}
 use Rattle.rt_world.specs.declared.step.Step.{Step}
-use Rattle.rt_world.specs.World.{World, entries_of, pending}
+use Rattle.rt_world.specs.World.{World, pending}
 use Rattle.rt_world.specs.Met.{all_told, renewed_met}
 use Rattle.rt_world.proofs.LimitLaws.{allowed}
 use Rattle.rt_world.proofs.Listeners.{or_false_left}

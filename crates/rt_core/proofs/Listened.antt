@@ -1,0 +1,95 @@
+-- What the code of a step makes that registers or ends listeners is the next world, and its parts agree.
+use Rattle.std.proofs.Common.{◌≡◌, ℕ, ◌+◌, Bool, false, not, List, [], ◌∷◌, ◌++◌, map, refl, sym, ap, ◌∙◌, Some, None}
+use Rattle.std.specs.Prelude.{◌==◌}
+use Rattle.std.specs.List.{filter}
+use Rattle.std.specs.Option.{option_to_list}
+use Rattle.rt_query.specs.Queries.{Query, is_filtered}
+use Rattle.rt_cache.specs.Brought.{Brought}
+use Rattle.rt_cache.specs.Recover.{recover}
+use Rattle.rt_cover.specs.declared.delta.Delta.{Delta}
+use Rattle.rt_cover.specs.Cover.{forms}
+use Rattle.rt_cover.specs.State.{Cover, added, difference, removed}
+use Rattle.rt_wire.specs.declared.client.ClientMessage.{ClientMessage}
+use Rattle.rt_listeners.specs.Listeners.{new_listener}
+use Rattle.rt_world.specs.declared.limits.Limits.{Limits}
+use Rattle.rt_world.specs.declared.request.Request.{Request}
+use Rattle.rt_world.specs.declared.step.Step.{Step}
+use Rattle.rt_world.specs.World.{World, Listener, registered, pending}
+use Rattle.rt_world.specs.Steps.{renewed}
+use Rattle.rt_world.specs.Messages.{next}
+use Rattle.rt_world.specs.Met.{told}
+use Rattle.rt_world.specs.Covering.{cover_in, cover_after}
+use Rattle.rt_world.specs.Sound.{IsSound}
+use Rattle.rt_world.specs.laws.Made.{IsMade}
+use Rattle.rt_world.specs.laws.Listened.{ListenIsMade, UnlistenIsMade}
+use Rattle.rt_world.specs.laws.Holds.{CoverFollows}
+use Rattle.rt_core.specs.declared.told.Told.{Told}
+use Rattle.rt_core.specs.inside.Due.{IsDue, IsNext}
+use Rattle.rt_core.specs.inside.Parts.{changing}
+use Rattle.rt_core.specs.inside.StateView.{IsTied, world_of}
+use Rattle.rt_core.proofs.TagLaws.{cover_tied}
+
+-- the cover that takes the step's change is that of the world after it
+pub tied_next : CoverFollows → (v : World) (s : Step) → IsSound v → (cover' : Cover) (w' : World) → cover' ≡ cover_after v s → w' ≡ next v s → IsTied cover' w'
+tied_next law v s h cover' w' ce we =
+    let same : cover' ≡ cover_in (next v s) = ce ∙ sym (law v s h) in
+    record {
+      listened = ap (λ (x : Cover). x.listeners) same ∙ ap (λ (x : World). registered x.listeners) (sym we);
+      last_tag = ap (λ (x : Cover). x.last_tag) same ∙ ap (λ (x : World). x.limits.last_number) (sym we);
+    }
+
+made_of : (v : World) (s : Step) → IsDue v s → IsMade v s
+made_of v s d = record { sound = d.good.sound; called = d.good.called; not_refused = d.not_refused; not_stale = d.not_stale }
+
+module _ (limits : Limits) (ls : List Listener) (requests : List Request) (b : Brought) (cover : Cover) (c : Bool) (out : List ClientMessage) (gl gr : ℕ) where
+  abbrev w : World
+  w = world_of limits ls requests b cover c out gl gr
+
+  -- the cover with the new listener
+  pub added_is : IsTied cover w → (seat : ℕ) (query : Query) → added cover (gl + 1) query ≡ cover_after w (Step.Listen seat query)
+  added_is t seat query = ap (λ (x : Cover). added x (gl + 1) query) (cover_tied cover w t refl refl)
+
+  pub listen_made : ListenIsMade → IsTied cover w → (seat : ℕ) (query : Query) → IsDue w (Step.Listen seat query) → is_filtered query ≡ false
+      → (cover' : Cover) → cover' ≡ added cover (gl + 1) query
+      → (ls' : List Listener) → ls' ≡ ls ++ renewed b (pending requests) (new_listener (gl + 1) seat query) ∷ []
+      → (delta : Delta) → delta ≡ difference cover (added cover (gl + 1) query)
+      → (out' : List ClientMessage) → out' ≡ out ++ changing c delta
+      → (said : Told) → said.given ≡ Some (gl + 1) → said.notes.items ≡ option_to_list (told b (pending requests) (new_listener (gl + 1) seat query))
+      → IsNext w (Step.Listen seat query) (world_of limits ls' requests b cover' c out' (gl + 1) gr, said)
+  listen_made law t seat query d plain cover' ce ls' le delta de out' oe said given notes =
+      let leaves = law w seat query (made_of w (Step.Listen seat query) d) d.good.plain plain in
+      let whole : cover ≡ cover_in w = cover_tied cover w t refl refl in
+      let covers : cover' ≡ added (cover_in w) (gl + 1) query = ce ∙ ap (λ (x : Cover). added x (gl + 1) query) whole in
+      let sent : out' ≡ out ++ changing c (difference (cover_in w) (added (cover_in w) (gl + 1) query)) =
+      oe ∙ ap (λ x. out ++ changing c x) (de ∙ ap (λ (x : Cover). difference x (added x (gl + 1) query)) whole) in
+      record {
+        world = (λ i. world_of limits (le i) requests b (covers i) c (sent i) (gl + 1) gr) ∙ sym leaves.world;
+        given = given;
+        notes = notes ∙ sym leaves.notes;
+      }
+
+  -- the cover without the listener
+  pub removed_is : IsTied cover w → (seat listener : ℕ) → removed cover (listener ∷ []) ≡ cover_after w (Step.Unlisten seat listener)
+  removed_is t seat listener = ap (λ (x : Cover). removed x (listener ∷ [])) (cover_tied cover w t refl refl)
+
+  pub unlisten_made : UnlistenIsMade → IsTied cover w → (seat listener : ℕ) → IsDue w (Step.Unlisten seat listener)
+      → (cover' : Cover) → cover' ≡ removed cover (listener ∷ [])
+      → (ls' : List Listener) → ls' ≡ filter (λ (l : Listener). not (l.number == listener)) ls
+      → (b' : Brought) → b' ≡ recover (forms cover'.listeners) (map (λ k. k.form) cover'.kept) b
+      → (delta : Delta) → delta ≡ difference cover (removed cover (listener ∷ []))
+      → (out' : List ClientMessage) → out' ≡ out ++ changing c delta
+      → (said : Told) → said.given ≡ None → said.notes.items ≡ []
+      → IsNext w (Step.Unlisten seat listener) (world_of limits ls' requests b' cover' c out' gl gr, said)
+  unlisten_made law t seat listener d cover' ce ls' le b' be delta de out' oe said given notes =
+      let leaves = law w seat listener (made_of w (Step.Unlisten seat listener) d) in
+      let whole : cover ≡ cover_in w = cover_tied cover w t refl refl in
+      let covers : cover' ≡ removed (cover_in w) (listener ∷ []) = ce ∙ ap (λ (x : Cover). removed x (listener ∷ [])) whole in
+      let sent : out' ≡ out ++ changing c (difference (cover_in w) (removed (cover_in w) (listener ∷ []))) =
+      oe ∙ ap (λ x. out ++ changing c x) (de ∙ ap (λ (x : Cover). difference x (removed x (listener ∷ []))) whole) in
+      let brings : b' ≡ recover (forms (removed (cover_in w) (listener ∷ [])).listeners) (map (λ k. k.form) (removed (cover_in w) (listener ∷ [])).kept) b =
+      be ∙ ap (λ (x : Cover). recover (forms x.listeners) (map (λ k. k.form) x.kept) b) covers in
+      record {
+        world = (λ i. world_of limits (le i) requests (brings i) (covers i) c (sent i) gl gr) ∙ sym leaves.world;
+        given = given;
+        notes = notes ∙ sym leaves.notes;
+      }

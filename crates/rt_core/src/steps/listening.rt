@@ -1,0 +1,113 @@
+// Listeners begin and end.
+ghost use Rattle.std.specs.Prelude.{◌≡◌, ◌∷◌, [], false, map, None, IfOk, OnOk};
+ghost use Rattle.rt_query.specs.Queries.{is_filtered};
+ghost use Rattle.rt_cache.specs.Recover.{recover};
+ghost use Rattle.rt_cover.specs.Cover.{forms};
+ghost use Rattle.rt_cover.specs.State.{added, add_fault, difference, is_registered, remove_fault};
+ghost use Rattle.rt_cover.specs.State.{removed};
+
+use crate::sending::send_change;
+use crate::state::State;
+use crate::told::Told;
+use rt_cache::Brought;
+use rt_cover::{Cover, Delta};
+use rt_query::Query;
+use rt_world::{covered_law, following_law, listened_law};
+use std::alloc::AllocError;
+
+// A listener is covered. Only memory can refuse: whether a tag is lacking was looked at.
+fn cover_new(cover: &mut Cover, number: u64, query: Query) -> Result<Delta, AllocError>
+    requires new { is_registered cover.old.listeners number ≡ false }
+    requires fault { add_fault cover.old number query ≡ None }
+    ensures cover { OnOk result (cover.new ≡ added cover.old number query) }
+    ensures delta { IfOk result (λ delta. delta
+        ≡ difference cover.old (added cover.old number query)) }
+{
+    match cover.add(number, query) {
+        Ok(delta) => Ok(delta),
+        Err(_) => Err(AllocError),
+    }
+}
+
+// These listeners are covered no more. Only memory can refuse.
+fn uncover(cover: &mut Cover, numbers: &[u64]) -> Result<Delta, AllocError>
+    requires { remove_fault cover.old numbers.now ≡ None }
+    ensures cover { OnOk result (cover.new ≡ removed cover.old numbers.now) }
+    ensures delta { IfOk result (λ delta. delta
+        ≡ difference cover.old (removed cover.old numbers.now)) }
+{
+    match cover.remove(numbers) {
+        Ok(delta) => Ok(delta),
+        Err(_) => Err(AllocError),
+    }
+}
+
+// What no kept listen reaches any more is lost.
+fn lose(brought: &mut Brought, cover: &Cover) -> Result<(), AllocError>
+    ensures { OnOk result (brought.new
+        ≡ recover (forms cover.now.listeners) (map (λ k. k.form) cover.now.kept) brought.old) }
+{
+    let Ok(registered) = cover.forms() else {
+        return Err(AllocError);
+    };
+    let Ok(kept) = cover.kept_forms() else {
+        return Err(AllocError);
+    };
+    brought.recover(&registered, &kept)
+}
+
+impl State {
+    ghost use Rattle.rt_world.specs.declared.step.Step.TheVariants as Step;
+    ghost use Rattle.rt_core.specs.inside.Due.{IsDue, IsNext};
+
+    // A seat registers a listener: it has the next number, and is told at once where something is
+    // known for its query.
+    pub(crate) fn listen(self, seat: u64, query: Query) -> Result<(State, Told), AllocError>
+        requires due { IsDue self (Step.Listen seat query) }
+        requires plain { is_filtered query ≡ false }
+        ensures { IfOk result (λ made. IsNext self (Step.Listen seat query) made) }
+    {
+        // State what such a step leaves, and that the cover takes it.
+        listened_law();
+        covered_law();
+        following_law();
+        let alloc = self.alloc();
+        let mut state = self;
+        let number = state.given_listeners + 1;
+        let covered = query.copy()?;
+        let delta = cover_new(&mut state.cover, number, covered)?;
+        let mut notes = Vec::new(alloc);
+        let pending = state.requests.pending();
+        state
+            .listeners
+            .add(number, seat, query, &state.brought, pending, &mut notes)?;
+        send_change(&mut state.outgoing, state.is_connected, delta)?;
+        state.given_listeners = number;
+        Ok((
+            state,
+            Told {
+                given: Some(number),
+                notes,
+            },
+        ))
+    }
+
+    // A seat ends a listener of its own: nobody is told.
+    pub(crate) fn unlisten(self, seat: u64, listener: u64) -> Result<(State, Told), AllocError>
+        requires { IsDue self (Step.Unlisten seat listener) }
+        ensures { IfOk result (λ made. IsNext self (Step.Unlisten seat listener) made) }
+    {
+        // State what such a step leaves, and that the cover takes it.
+        listened_law();
+        covered_law();
+        following_law();
+        let alloc = self.alloc();
+        let mut state = self;
+        let delta = uncover(&mut state.cover, &[listener])?;
+        lose(&mut state.brought, &state.cover)?;
+        state.listeners.remove(listener);
+        send_change(&mut state.outgoing, state.is_connected, delta)?;
+        let notes = Vec::new(alloc);
+        Ok((state, Told { given: None, notes }))
+    }
+}
