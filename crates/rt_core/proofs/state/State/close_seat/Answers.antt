@@ -1,14 +1,23 @@
 use Rattle.std.proofs.Common.{◌≡◌, None, ◌∙◌, ap, sym, subst, refl, rules}
-use Rattle.rt_cover.specs.State.{difference, removed}
+use Rattle.rt_cover.specs.State.{remove_fault}
 use Rattle.rt_world.specs.declared.step.Step.{Step}
 use Rattle.rt_world.specs.World.{World}
-use Rattle.rt_world.specs.Covering.{numbers_of}
+use Rattle.rt_world.specs.Covering.{cover_in, numbers_of}
 use Rattle.rt_core.specs.declared.told.Told.{Told}
 use Rattle.rt_core.specs.inside.Due.{IsDue, IsNext}
 use Rattle.rt_core.specs.inside.StateView.{world_of}
 use Rattle.rt_core.proofs.Listened.{close_made, closed_is, tied_next}
 use Rattle.rt_core.proofs.NextWorlds.{along}
+use Rattle.rt_core.proofs.TagLaws.{cover_tied}
 use Rattle.rt_core.proofs.state.State.close_seat.Goals as goal
+
+pub uncover-requires : goal.uncover-requires
+uncover-requires c =
+    let state = c.state.inside in
+    let cover : state.cover ≡ cover_in c.args.self = cover_tied state.cover _ c.state.invariant refl refl ∙ ap cover_in c.state.view_is in
+    let same : c.deref.result.now ≡ c.in_ok-numbers.numbers.items = search rules in
+    let numbers : c.deref.result.now ≡ numbers_of c.args.self c.args.seat = same ∙ c.in_ok-numbers.ensures ∙ ap (λ (v : World). numbers_of v c.args.seat) c.state.view_is in
+    (λ i. remove_fault (cover i) (numbers i)) ∙ c.covered_law.ensures.close c.args.self c.args.seat c.requires.good.sound c.requires.not_refused
 
 pub returns : goal.returns
 returns c =
