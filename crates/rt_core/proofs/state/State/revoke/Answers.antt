@@ -1,16 +1,25 @@
-use Rattle.std.proofs.Common.{◌++◌, None, ◌∙◌, ap, map, sym, subst, refl}
+use Rattle.std.proofs.Common.{◌≡◌, ◌++◌, None, ◌∙◌, ap, map, sym, subst, refl}
 use Rattle.std.specs.List.{filter}
 use Rattle.rt_query.specs.QueryEq.{query_eq}
 use Rattle.rt_query.specs.Supply.{form}
+use Rattle.rt_cover.specs.State.{Cover, revoke_fault}
 use Rattle.rt_listeners.specs.Listeners.{cancelled_note}
 use Rattle.rt_world.specs.declared.step.Step.{Step}
 use Rattle.rt_world.specs.World.{Listener, World}
+use Rattle.rt_world.specs.Covering.{cover_in}
 use Rattle.rt_core.specs.declared.told.Told.{Told}
 use Rattle.rt_core.specs.inside.Due.{IsDue, IsNext}
 use Rattle.rt_core.specs.inside.StateView.{world_of}
 use Rattle.rt_core.proofs.Listened.{revoke_made, revoked_is, tied_next}
 use Rattle.rt_core.proofs.NextWorlds.{along}
+use Rattle.rt_core.proofs.TagLaws.{cover_tied}
 use Rattle.rt_core.proofs.state.State.revoke.Goals as goal
+
+pub uncover_revoked-requires : goal.uncover_revoked-requires
+uncover_revoked-requires c =
+    let cover : c.state.inside.cover ≡ cover_in c.args.self = cover_tied c.state.inside.cover _ c.state.invariant refl refl ∙ ap cover_in c.state.view_is in
+    ap (λ (v : Cover). revoke_fault v c.args.tag) cover
+    ∙ c.covered_law.ensures.revoked c.args.self c.args.tag c.args.why c.requires.not_refused c.requires.not_stale
 
 pub returns : goal.returns
 returns c =

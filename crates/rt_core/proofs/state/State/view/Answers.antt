@@ -15,7 +15,7 @@ returns-in-Ok c =
 pub returns-in-Err-NoListener : goal.returns-in-Err-NoListener
 returns-in-Err-NoListener c =
     let seen = ap (λ (v : World). find (λ (l : Listener). l.number == c.args.listener) v.listeners) c.self.view_is in
-    inl (view_lost _ (sym seen ∙ c.shown.ensures.unknown.0 c.in-Err-NoListener.is))
+    inl (view_lost _ (sym seen ∙ c.shown.ensures.unknown.0 (c.in-Err-NoListener.is ∙ ap Err c.in-Err-NoListener.field-0-is)))
 
 pub returns-in-Err-NoMemory : goal.returns-in-Err-NoMemory
 returns-in-Err-NoMemory c =
