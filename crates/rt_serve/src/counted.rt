@@ -6,24 +6,27 @@ use std::io::{ErrorKind, Read, Write};
 /// failed.
 pub const MAX_MESSAGE_BYTES: usize = 134_217_728;
 
-// A stream, and how many bytes may still be read of it for the message that is awaited.
+// A stream of which at most so many bytes are read for one message, and how many are left for the one
+// that is awaited.
 #[derive(Debug, Drop)]
 pub(crate) struct Counted<S> {
     stream: S,
+    most: usize,
     left: usize,
 }
 
 impl<S> Counted<S> {
-    pub(crate) fn new(stream: S) -> Counted<S> {
+    pub(crate) fn new(stream: S, most: usize) -> Counted<S> {
         Counted {
             stream,
-            left: MAX_MESSAGE_BYTES,
+            most,
+            left: most,
         }
     }
 
     // The next message is awaited from here on.
     pub(crate) fn await_message(&mut self) {
-        self.left = MAX_MESSAGE_BYTES;
+        self.left = self.most;
     }
 }
 

@@ -16,6 +16,8 @@ mod error;
 mod laws;
 mod serve;
 mod socket;
+#[cfg(test)]
+mod tests;
 
 pub use counted::MAX_MESSAGE_BYTES;
 pub use error::ServeError;

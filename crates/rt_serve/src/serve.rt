@@ -6,6 +6,7 @@ ghost use Rattle.rt_peer.specs.Calls.{connected, fault};
 ghost use Rattle.rt_peer.specs.Runs.{after_all};
 ghost use Rattle.rt_serve.specs.Sessions.{call_of, HasServed, HasTaken};
 
+use crate::counted::MAX_MESSAGE_BYTES;
 use crate::error::ServeError;
 use crate::socket::{Heard, Socket, accepted, hear, send_all};
 use rt_peer::{Peer, PeerError};
@@ -147,7 +148,7 @@ pub fn serve_stream<S: Read + Write + Drop>(
     ensures lost { peer.old ≡ None → peer.new ≡ None }
     ensures memory { IfErr result (λ e. IfSome peer.old (λ _. e ≡ ServeError.NoMemory)) }
 {
-    match accepted(alloc, stream)? {
+    match accepted(alloc, stream, MAX_MESSAGE_BYTES)? {
         Some(socket) => serve_socket(alloc, peer, socket),
         None => Ok(()),
     }

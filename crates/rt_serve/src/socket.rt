@@ -1,7 +1,7 @@
 // A server's socket: its handshake, its messages, and what is sent to it.
 ghost use Rattle.std.specs.Prelude.{◌≡◌, IfErr};
 
-use crate::counted::{Counted, MAX_MESSAGE_BYTES};
+use crate::counted::Counted;
 use crate::error::ServeError;
 use rt_peer::Sent;
 use rt_wire::ServerMessage;
@@ -22,23 +22,21 @@ pub(crate) enum Heard {
     Ended,
 }
 
-// Where a message may be as long as the bytes that are read for it.
-fn limits() -> WebSocketConfig {
-    WebSocketConfig::default()
-        .max_message_size(Some(MAX_MESSAGE_BYTES))
-        .max_frame_size(Some(MAX_MESSAGE_BYTES))
-}
-
-// The socket of a stream, where the handshake comes about.
+// The socket of a stream, where the handshake comes about. At most so many bytes are read for one
+// message, which may be as long.
 pub(crate) fn accepted<S: Read + Write + Drop>(
     alloc: Global,
     stream: S,
+    most: usize,
 ) -> Result<Option<Socket<S>>, ServeError>
     ensures { IfErr result (λ e. e ≡ ServeError.NoMemory) }
 {
-    match tungstenite::accept(alloc, Counted::new(stream)) {
+    match tungstenite::accept(alloc, Counted::new(stream, most)) {
         Ok(mut socket) => {
-            socket.set_config(limits());
+            let limits = WebSocketConfig::default()
+                .max_message_size(Some(most))
+                .max_frame_size(Some(most));
+            socket.set_config(limits);
             Ok(Some(socket))
         }
         Err(HandshakeError::Failure(Error::OutOfMemory)) => Err(ServeError::NoMemory),
