@@ -49,7 +49,7 @@ const KEPT: &[u8] = b"\x81\x11{\"id\":2,\"k\":\"ok\"}";
 // A client's frame of fewer than 126 bytes, masked by zeros.
 fn frame(out: &mut Vec<u8>, first: u8, words: &str) -> Result<(), Fail> {
     out.push(first)?;
-    out.push(0x80 | words.len() as u8)?;
+    out.push(0x80 | u8::try_from(words.len())?)?;
     out.extend_from_slice(&[0, 0, 0, 0])?;
     out.extend_from_slice(words.as_bytes())?;
     Ok(())
