@@ -223,16 +223,16 @@ fn failing_reads(rt: HostRuntime) -> Result<(), Fail> {
     Ok(())
 }
 
-// A write fails behind each of the bytes: what was sent before is what is sent to others, and the
-// connection is ended; a request is taken before its answer is sent.
+// A write fails behind each of the bytes: those before are sent, a request is taken before it is
+// answered, and the connection is ended.
 #[test]
 fn failing_writes(rt: HostRuntime) -> Result<(), Fail> {
     let alloc = rt.alloc();
     let frames = frames_of(alloc, &SESSION)?;
     let mut peer = peer_of(alloc, "null")?;
     let whole = served(alloc, &mut peer, HEAD.chain(frames.as_slice()), usize::MAX)?;
-    let asked = whole.len() - KEPT.len();
-    let written = asked - WRITTEN.len();
+    let asked = whole.len().saturating_sub(KEPT.len());
+    let written = asked.saturating_sub(WRITTEN.len());
     for count in 0..=whole.len() {
         let mut peer = peer_of(alloc, "null")?;
         let out = served(alloc, &mut peer, HEAD.chain(frames.as_slice()), count)?;
