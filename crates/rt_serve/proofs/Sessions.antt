@@ -3,7 +3,7 @@ use Rattle.std.proofs.Common.{◌≡◌, ℕ, ◌+◌, ◌<◌, ◌≤◌, ◌==
 use Rattle.std.proofs.Common.{List, [], ◌∷◌, ◌++◌, length, Option, Some, None, Ok, Err, Result, codes}
 use Rattle.std.proofs.Common.{inl, inr, refl, sym, ap, subst, ◌∙◌, arith, if◌then◌else◌, zero, suc}
 use Rattle.std.specs.Prelude.{IfSome, OnOk, OnErr, ◌⊎◌, ◌↔◌}
-use Rattle.std.specs.List.{All, AllPairs, filter, flat_map, list_any}
+use Rattle.std.specs.List.{All, AllPairs, filter, list_any}
 use Rattle.std.proofs.lemmas.Bool.Decides.{nat_tests}
 use Rattle.std.proofs.lemmas.List.{length-append}
 use Rattle.std.proofs.lemmas.List.Elements.{All-head, All-tail, filter-append}
@@ -24,7 +24,7 @@ use Rattle.rt_peer.specs.Peers.{Peer, in_place, is_known, least_free, is_denied}
 use Rattle.rt_peer.specs.Pushes.{seen}
 use Rattle.rt_peer.specs.Calls.{Outcome, one, connected, kept, answered, disconnected, entries_of, fault}
 use Rattle.rt_peer.specs.Calls.{refusal, unless_refused, wrote, deferred, dropped, asked}
-use Rattle.rt_peer.specs.Runs.{Call, Connect, Message, Disconnect, outcome, after_all}
+use Rattle.rt_peer.specs.Runs.{Call, Message, Disconnect, outcome, after_all}
 use Rattle.rt_serve.specs.Sessions.{call_of, taken, session, HasTaken, HasServed}
 
 -- ---- a message changes no connection
