@@ -1,7 +1,6 @@
 -- What a line does to a core, and what it prints.
 use Rattle.std.specs.Prelude.{◌≡◌, ◌⊎◌, ℕ, Bool, true, false, not, if◌then◌else◌, List, [], ◌∷◌, drop}
 use Rattle.std.specs.Prelude.{Option, Some, None, Result, Ok, Err}
-use Rattle.std.specs.Option.{option_map}
 use Rattle.rt_query.specs.Queries.{is_filtered}
 use Rattle.rt_query.specs.Select.{Shown}
 use Rattle.rt_wire.specs.declared.client.ClientMessage.{ClientMessage}
@@ -90,11 +89,13 @@ waiting (Some w) = w.outgoing
 
 -- the core without the first n of them
 abbrev pub without : ℕ → Option World → Option World
-without n core = option_map (λ w. record w { outgoing = drop n w.outgoing }) core
+without n None = None
+without n (Some w) = Some (record w { outgoing = drop n w.outgoing })
 
 -- the core without any of them
 abbrev pub without_messages : Option World → Option World
-without_messages core = option_map (λ w. record w { outgoing = [] }) core
+without_messages None = None
+without_messages (Some w) = Some (record w { outgoing = [] })
 
 -- ---- lines
 

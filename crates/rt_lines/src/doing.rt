@@ -1,11 +1,10 @@
 // What a line does to a core, and what it prints.
-ghost use Rattle.std.specs.Prelude.{◌≡◌, ◌++◌, [], true, string_bytes, IfOk, IsOk, OnOk, OnErr};
-ghost use Rattle.rt_core.specs.Core.{IsTaken};
+ghost use Rattle.std.specs.Prelude.{◌≡◌, ◌≢◌, ◌++◌, [], string_bytes, IfOk, IsOk, OnOk, OnErr};
 ghost use Rattle.rt_lines.specs.Doing.{AskedLacks, LineLacks, asked_done, bytes_done};
 ghost use Rattle.rt_lines.specs.Doing.{has_form, is_good, is_taken, kept_text, line_done, listener_text};
 ghost use Rattle.rt_lines.specs.Doing.{step_done, waiting, without, without_messages};
 ghost use Rattle.rt_lines.specs.Lines.{line_of_bytes};
-ghost use Rattle.rt_lines.specs.Printing.{messages_text};
+ghost use Rattle.rt_lines.specs.Printing.{messages_text, refusal_text};
 ghost use Rattle.rt_lines.specs.inside.Appending.{Appends};
 
 use crate::error::{LineError, Refusal};
@@ -19,8 +18,7 @@ use std::alloc::{AllocError, Global};
 
 // Whether a core takes the step so far.
 fn is_taken(step: &Step) -> bool
-    ensures bool { result ≡ is_taken step.now }
-    ensures taken { result ≡ true → IsTaken step.now }
+    ensures { result ≡ is_taken step.now }
 {
     match step {
         Step::Listen { query, .. } => !query.is_filtered(),
@@ -35,6 +33,17 @@ fn is_taken(step: &Step) -> bool
         | Step::Connected
         | Step::Disconnected
         | Step::CloseSeat { .. } => true,
+    }
+}
+
+// Prints why a core refuses. Want of memory, which ends a run, is not printed.
+fn refuse(out: &mut String, error: CoreError) -> Result<(), AllocError>
+    ensures { OnOk result ((error ≢ CoreError.NoMemory)
+        × Appends out.old out.new (refusal_text (Refusal.Core error))) }
+{
+    match error {
+        CoreError::NoMemory => Err(AllocError),
+        refusal => write_refusal(out, Refusal::Core(refusal)),
     }
 }
 
@@ -54,8 +63,7 @@ fn make_step(
     }
     match core.apply(step) {
         Ok(report) => write_report(out, alloc, &report),
-        Err(CoreError::NoMemory) => Err(AllocError),
-        Err(error) => write_refusal(out, Refusal::Core(error)),
+        Err(error) => refuse(out, error),
     }
 }
 
@@ -88,8 +96,7 @@ fn show_cover(out: &mut String, alloc: Global, core: &Core) -> Result<(), AllocE
 {
     match core.cover() {
         Ok(cover) => write_cover(out, alloc, cover.as_slice()),
-        Err(CoreError::NoMemory) => Err(AllocError),
-        Err(error) => write_refusal(out, Refusal::Core(error)),
+        Err(error) => refuse(out, error),
     }
 }
 
@@ -104,8 +111,7 @@ fn show_view(
 {
     match core.view(listener) {
         Ok(view) => write_view(out, alloc, view.as_ref()),
-        Err(CoreError::NoMemory) => Err(AllocError),
-        Err(error) => write_refusal(out, Refusal::Core(error)),
+        Err(error) => refuse(out, error),
     }
 }
 
@@ -181,9 +187,9 @@ pub fn do_line(
     ensures silent { OnErr result (string_bytes text.new ≡ string_bytes text.old) }
     ensures lacking { OnErr result (LineLacks line core.old core.new) }
 {
-    let mut out = String::new(alloc);
-    print_line(&mut out, alloc, core, line)?;
-    text.push_str(out.as_str())
+    let mut told = String::new(alloc);
+    print_line(&mut told, alloc, core, line)?;
+    text.push_str(told.as_str())
 }
 
 /// Does what the line of that number asks for, by its bytes, without the line feed at their end, and
@@ -219,8 +225,8 @@ pub fn do_bytes(
     if bytes.is_empty() {
         return Ok(true);
     }
-    let mut out = String::new(alloc);
-    let good = print_bytes(&mut out, alloc, core, number, bytes)?;
-    text.push_str(out.as_str())?;
+    let mut printed = String::new(alloc);
+    let good = print_bytes(&mut printed, alloc, core, number, bytes)?;
+    text.push_str(printed.as_str())?;
     Ok(good)
 }
