@@ -1,5 +1,5 @@
 -- What is done and printed by what a core answers.
-use Rattle.std.proofs.Common.{◌≡◌, ◌≢◌, ◌⊎◌, inl, inr, OnErr, ℕ, List, [], ◌∷◌, length, Bool, true, false, not, Option, Some, None, Result, Ok, Err, refl, ap, sym, ◌∙◌}
+use Rattle.std.proofs.Common.{◌≡◌, ◌≢◌, ◌⊎◌, inl, inr, OnOk, OnErr, subst, ℕ, List, [], ◌∷◌, length, Bool, true, false, not, Option, Some, None, Result, Ok, Err, refl, ap, sym, ◌∙◌}
 use Rattle.std.specs.Prelude.{◌==◌}
 use Rattle.rt_query.specs.Select.{Shown}
 use Rattle.rt_cover.specs.declared.kept.Kept.{Kept}
@@ -28,29 +28,10 @@ on_err (Err e) h = h
 
 -- ---- steps
 
-not_true : (b : Bool) → not b ≡ true → b ≡ false
-not_true true e = cc
-not_true false e = refl
-
--- a step that is taken
-pub taken : (s : Step) → is_taken s ≡ true → IsTaken s
-taken (step.Listen seat query) e = not_true _ e
-taken (step.Unlisten seat listener) e = tt
-taken (step.Write seat action) e = tt
-taken (step.OnDisconnect seat ending) e = tt
-taken (step.Data tag path tree) e = tt
-taken (step.DataMerge tag entries) e = tt
-taken (step.Accepted id) e = tt
-taken (step.Refused id why) e = tt
-taken (step.Revoked tag why) e = tt
-taken step.Connected e = tt
-taken step.Disconnected e = tt
-taken (step.CloseSeat seat) e = tt
-
-pub step_done-taken : (s : Step) (core : Option World) → is_taken s ≡ true → step_done s core ≡ step_made s core
+step_done-taken : (s : Step) (core : Option World) → is_taken s ≡ true → step_done s core ≡ step_made s core
 step_done-taken s core e = rw e refl
 
-pub step_done-refused : (s : Step) (core : Option World) → is_taken s ≡ false → step_done s core ≡ only_prints (refusal_text NotTakenYet) core
+step_done-refused : (s : Step) (core : Option World) → is_taken s ≡ false → step_done s core ≡ only_prints (refusal_text NotTakenYet) core
 step_done-refused s core e = rw e refl
 
 -- a core that answers, and does not lack memory, has made the step
@@ -59,26 +40,20 @@ made_by s None new answer (told, failed) had = let D : Answer → Option World �
 made_by s (Some w) new answer (inl made) had = let D : Answer → Option World → Done = λ a c. record { core = c; printed = answer_text a } in ap (λ a. D a (Some (world.step w s).0)) (sym made.told) ∙ ap (λ c. D answer c) (sym made.world)
 made_by s (Some w) new answer (inr lacks) had = absurd (had lacks.told)
 
-pub done_by : (s : Step) (old new : Option World) (answer : Answer) → is_taken s ≡ true → Applies old s answer new → answer ≢ Err core_error.NoMemory → step_done s old ≡ record { core = new; printed = answer_text answer }
+done_by : (s : Step) (old new : Option World) (answer : Answer) → is_taken s ≡ true → Applies old s answer new → answer ≢ Err core_error.NoMemory → step_done s old ≡ record { core = new; printed = answer_text answer }
 done_by s old new answer is applies had = step_done-taken s old is ∙ made_by s old new answer applies had
 
--- a step is made and can't be told, or memory lacked
-pub step_lacks : (s : Step) (old new : Option World) (answer : Answer) → is_taken s ≡ true → Applies old s answer new → LineLacks (line.Step s) old new
-step_lacks s None new answer is (told, failed) = inl (failed ∙ ap (λ (d : Done). d.core) (sym (step_done-taken s None is)))
-step_lacks s (Some w) new answer is (inl made) = inl (made.world ∙ ap (λ (d : Done). d.core) (sym (step_done-taken s (Some w) is)))
-step_lacks s (Some w) new answer is (inr lacks) = inr (is, record { told = refl; failed = lacks.failed; not_refused = lacks.not_refused; not_stale = lacks.not_stale })
+-- a step is refused, and its refusal is told
+pub refused_by : {A E : Type 0} (r : Result A E) (s : Step) (old new : Option World) (e : CoreError) (P : List ℕ → Type 0) → is_taken s ≡ true → Applies old s (Err e) new
+    → OnOk r (e ≢ core_error.NoMemory) → OnOk r (P (refusal_text (Core e))) → OnOk r (P (step_done s old).printed)
+refused_by (Ok x) s old new e P is applies had h = subst (λ (d : Done). P d.printed) (sym (done_by s old new (Err e) is applies (λ f. had (cc f)))) h
+refused_by (Err x) s old new e P is applies had h = tt
+
+-- a step that is not taken is refused
+pub refused_untaken : {A E : Type 0} (r : Result A E) (s : Step) (core : Option World) (P : List ℕ → Type 0) → is_taken s ≡ false → OnOk r (P (refusal_text NotTakenYet)) → OnOk r (P (step_done s core).printed)
+refused_untaken r s core P is h = subst (λ (d : Done). OnOk r (P d.printed)) (sym (step_done-refused s core is)) h
 
 -- ---- looks
-
-pub covers_ok : (core : Option World) (kept : List Kept) → Covers core (Ok kept) → cover_text kept ≡ kept_text core
-covers_ok None kept e = cc
-covers_ok (Some w) kept (inl e) = let same : kept ≡ _ = cc in ap cover_text same
-covers_ok (Some w) kept (inr e) = cc
-
-pub covers_err : (core : Option World) (e : CoreError) → Covers core (Err e) → e ≢ core_error.NoMemory → refusal_text (Core e) ≡ kept_text core
-covers_err None e h had = let same : e ≡ core_error.Failed = cc in ap (λ x. refusal_text (Core x)) same
-covers_err (Some w) e (inl h) had = cc
-covers_err (Some w) e (inr h) had = let same : e ≡ core_error.NoMemory = cc in absurd (had same)
 
 -- what is shown of a listener, unless memory lacks
 shows_by : (core : Option World) (number : ℕ) (answer : Result (Option Shown) CoreError) → Views core number answer → answer ≢ Err core_error.NoMemory → shown_or_refusal answer ≡ listener_text number core
@@ -88,9 +63,6 @@ shows_by (Some w) number answer (inr (e, has)) had = absurd (had e)
 
 pub views_ok : (core : Option World) (number : ℕ) (shown : Option Shown) → Views core number (Ok shown) → view_text shown ≡ listener_text number core
 views_ok core number shown h = shows_by core number (Ok shown) h (λ e. cc)
-
-pub views_err : (core : Option World) (number : ℕ) (e : CoreError) → Views core number (Err e) → e ≢ core_error.NoMemory → refusal_text (Core e) ≡ listener_text number core
-views_err core number e h had = shows_by core number (Err e) h (λ f. had (cc f))
 
 -- ---- lines
 
@@ -110,16 +82,3 @@ asked_untold number (Ok l) old new h = inr (line_untold l old new h)
 asked_untold number (Err Bad) old new h = h
 asked_untold number (Err (Refused r)) old new h = h
 asked_untold number (Err NoMemory) old new h = h
-
-pub asked_lacks : (l : Line) (asked : Result Line LineError) (old new : Option World) → asked ≡ Ok l → LineLacks l old new → AskedLacks asked old new
-asked_lacks l asked old new e h = rw e (inr h)
-
--- ---- bytes
-
-pub is_good-asked : (bytes : List ℕ) → (length bytes == 0) ≡ false → is_good bytes ≡ has_form (line_of_bytes bytes)
-is_good-asked [] e = cc
-is_good-asked (b ∷ bytes) e = refl
-
-pub bytes_done-asked : (number : ℕ) (bytes : List ℕ) (core : Option World) → (length bytes == 0) ≡ false → bytes_done number bytes core ≡ asked_done number (line_of_bytes bytes) core
-bytes_done-asked number [] core e = cc
-bytes_done-asked number (b ∷ bytes) core e = refl

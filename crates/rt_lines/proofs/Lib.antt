@@ -1,4 +1,6 @@
 mod Bytes
+mod Doings
+mod Waiting
 mod Faults
 mod Lists
 mod Parts

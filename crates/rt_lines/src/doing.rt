@@ -38,8 +38,8 @@ fn is_taken(step: &Step) -> bool
 
 // Prints why a core refuses. Want of memory, which ends a run, is not printed.
 fn refuse(out: &mut String, error: CoreError) -> Result<(), AllocError>
-    ensures { OnOk result ((error ≢ CoreError.NoMemory)
-        × Appends out.old out.new (refusal_text (Refusal.Core error))) }
+    ensures printed { OnOk result (Appends out.old out.new (refusal_text (Refusal.Core error))) }
+    ensures memory { OnOk result (error ≢ CoreError.NoMemory) }
 {
     match error {
         CoreError::NoMemory => Err(AllocError),
@@ -59,6 +59,7 @@ fn make_step(
     ensures lacking { OnErr result (LineLacks (Line.Step step) core.old core.new) }
 {
     if !is_taken(&step) {
+        drop(step);
         return write_refusal(out, Refusal::NotTakenYet);
     }
     match core.apply(step) {
