@@ -5,3 +5,4 @@ pub mod NextWorlds
 pub mod RefusalLaws
 pub mod StepLaws
 pub mod TagLaws
+pub mod ViewLaws

@@ -2,26 +2,28 @@
 use Rattle.std.proofs.Common.{◌≡◌, ℕ, ◌+◌, Bool, false, not, List, [], ◌∷◌, ◌++◌, map, refl, sym, ap, ◌∙◌, Some, None}
 use Rattle.std.specs.Prelude.{◌==◌}
 use Rattle.std.specs.List.{filter}
-use Rattle.std.specs.Option.{option_to_list}
+use Rattle.std.specs.Option.{option_map, option_map_or, option_to_list}
 use Rattle.rt_query.specs.Queries.{Query, is_filtered}
+use Rattle.rt_query.specs.QueryEq.{query_eq}
+use Rattle.rt_query.specs.Supply.{form}
 use Rattle.rt_cache.specs.Brought.{Brought}
 use Rattle.rt_cache.specs.Recover.{recover}
 use Rattle.rt_cover.specs.declared.delta.Delta.{Delta}
-use Rattle.rt_cover.specs.Cover.{forms}
-use Rattle.rt_cover.specs.State.{Cover, added, difference, removed}
+use Rattle.rt_cover.specs.Cover.{Tagged, forms}
+use Rattle.rt_cover.specs.State.{Cover, added, difference, listen_at, removed, revoked, without_tag}
 use Rattle.rt_wire.specs.declared.client.ClientMessage.{ClientMessage}
-use Rattle.rt_listeners.specs.Listeners.{new_listener}
+use Rattle.rt_listeners.specs.Listeners.{cancelled_note, new_listener}
 use Rattle.rt_world.specs.declared.limits.Limits.{Limits}
 use Rattle.rt_world.specs.declared.request.Request.{Request}
 use Rattle.rt_world.specs.declared.step.Step.{Step}
-use Rattle.rt_world.specs.World.{World, Listener, registered, pending}
-use Rattle.rt_world.specs.Steps.{renewed}
+use Rattle.rt_world.specs.World.{Reason, World, Listener, registered, pending, listen_of}
+use Rattle.rt_world.specs.Steps.{renewed, unseated}
 use Rattle.rt_world.specs.Messages.{next}
 use Rattle.rt_world.specs.Met.{told}
-use Rattle.rt_world.specs.Covering.{cover_in, cover_after}
+use Rattle.rt_world.specs.Covering.{cover_in, cover_after, numbers_of}
 use Rattle.rt_world.specs.Sound.{IsSound}
 use Rattle.rt_world.specs.laws.Made.{IsMade}
-use Rattle.rt_world.specs.laws.Listened.{ListenIsMade, UnlistenIsMade}
+use Rattle.rt_world.specs.laws.Listened.{CloseSeatIsMade, ListenIsMade, RevokedIsMade, UnlistenIsMade}
 use Rattle.rt_world.specs.laws.Holds.{CoverFollows}
 use Rattle.rt_core.specs.declared.told.Told.{Told}
 use Rattle.rt_core.specs.inside.Due.{IsDue, IsNext}
@@ -92,4 +94,62 @@ module _ (limits : Limits) (ls : List Listener) (requests : List Request) (b : B
         world = (λ i. world_of limits (le i) requests (brings i) (covers i) c (sent i) gl gr) ∙ sym leaves.world;
         given = given;
         notes = notes ∙ sym leaves.notes;
+      }
+
+  -- the cover without the listeners of the seat
+  pub closed_is : IsTied cover w → (seat : ℕ) (numbers : List ℕ) → numbers ≡ numbers_of w seat → removed cover numbers ≡ cover_after w (Step.CloseSeat seat)
+  closed_is t seat numbers e = λ i. removed (cover_tied cover w t refl refl i) (e i)
+
+  pub close_made : CloseSeatIsMade → IsTied cover w → (seat : ℕ) → IsDue w (Step.CloseSeat seat)
+      → (numbers : List ℕ) → numbers ≡ numbers_of w seat
+      → (cover' : Cover) → cover' ≡ removed cover numbers
+      → (ls' : List Listener) → ls' ≡ filter (λ (l : Listener). not (l.seat == seat)) ls
+      → (requests' : List Request) → requests' ≡ map (unseated seat) requests
+      → (b' : Brought) → b' ≡ recover (forms cover'.listeners) (map (λ k. k.form) cover'.kept) b
+      → (delta : Delta) → delta ≡ difference cover (removed cover numbers)
+      → (out' : List ClientMessage) → out' ≡ out ++ changing c delta
+      → (said : Told) → said.given ≡ None → said.notes.items ≡ []
+      → IsNext w (Step.CloseSeat seat) (world_of limits ls' requests' b' cover' c out' gl gr, said)
+  close_made law t seat d numbers ne cover' ce ls' le requests' re b' be delta de out' oe said given notes =
+      let leaves = law w seat (made_of w (Step.CloseSeat seat) d) in
+      let whole : cover ≡ cover_in w = cover_tied cover w t refl refl in
+      let covers : cover' ≡ removed (cover_in w) (numbers_of w seat) = ce ∙ (λ i. removed (whole i) (ne i)) in
+      let sent : out' ≡ out ++ changing c (difference (cover_in w) (removed (cover_in w) (numbers_of w seat))) =
+      oe ∙ ap (λ x. out ++ changing c x) (de ∙ (λ i. difference (whole i) (removed (whole i) (ne i)))) in
+      let brings : b' ≡ recover (forms (removed (cover_in w) (numbers_of w seat)).listeners) (map (λ k. k.form) (removed (cover_in w) (numbers_of w seat)).kept) b =
+      be ∙ ap (λ (x : Cover). recover (forms x.listeners) (map (λ k. k.form) x.kept) b) covers in
+      record {
+        world = (λ i. world_of limits (le i) (re i) (brings i) (covers i) c (sent i) gl gr) ∙ sym leaves.world;
+        given = given;
+        notes = notes ∙ sym leaves.notes;
+      }
+
+  -- the cover without the listeners of the listen
+  pub revoked_is : IsTied cover w → (tag : ℕ) (why : Reason) → revoked cover tag ≡ cover_after w (Step.Revoked tag why)
+  revoked_is t tag why = ap (λ (x : Cover). revoked x tag) (cover_tied cover w t refl refl)
+
+  pub revoke_made : RevokedIsMade → IsTied cover w → (tag : ℕ) (why : Reason) → IsDue w (Step.Revoked tag why)
+      → (listened : Query) → option_map (λ (k : Tagged). k.form) (listen_at cover tag) ≡ Some listened
+      → (cover' : Cover) → cover' ≡ revoked cover tag
+      → (ls' : List Listener) → ls' ≡ filter (λ (l : Listener). not (query_eq (form l.query) listened)) ls
+      → (b' : Brought) → b' ≡ recover (forms cover'.listeners) (map (λ k. k.form) cover'.kept) b
+      → (delta : Delta) → delta ≡ without_tag tag (difference cover (revoked cover tag))
+      → (out' : List ClientMessage) → out' ≡ out ++ changing c delta
+      → (said : Told) → said.given ≡ None → said.notes.items ≡ map (cancelled_note why) (filter (λ (l : Listener). query_eq (form l.query) listened) ls)
+      → IsNext w (Step.Revoked tag why) (world_of limits ls' requests b' cover' c out' gl gr, said)
+  revoke_made law t tag why d listened fe cover' ce ls' le b' be delta de out' oe said given notes =
+      let leaves = law w tag why (made_of w (Step.Revoked tag why) d) in
+      let whole : cover ≡ cover_in w = cover_tied cover w t refl refl in
+      let ended : Some listened ≡ listen_of w tag = sym fe in
+      let covers : cover' ≡ revoked (cover_in w) tag = ce ∙ ap (λ (x : Cover). revoked x tag) whole in
+      let stay : ls' ≡ filter (λ (l : Listener). not (option_map_or (query_eq (form l.query)) (listen_of w tag) false)) ls =
+      le ∙ (λ i. filter (λ (l : Listener). not (option_map_or (query_eq (form l.query)) (ended i) false)) ls) in
+      let sent : out' ≡ out ++ changing c (without_tag tag (difference (cover_in w) (revoked (cover_in w) tag))) =
+      oe ∙ ap (λ x. out ++ changing c x) (de ∙ ap (λ (x : Cover). without_tag tag (difference x (revoked x tag))) whole) in
+      let brings : b' ≡ recover (forms (revoked (cover_in w) tag).listeners) (map (λ k. k.form) (revoked (cover_in w) tag).kept) b =
+      be ∙ ap (λ (x : Cover). recover (forms x.listeners) (map (λ k. k.form) x.kept) b) covers in
+      record {
+        world = (λ i. world_of limits (stay i) requests (brings i) (covers i) c (sent i) gl gr) ∙ sym leaves.world;
+        given = given;
+        notes = notes ∙ (λ i. map (cancelled_note why) (filter (λ (l : Listener). option_map_or (query_eq (form l.query)) (ended i) false) ls)) ∙ sym leaves.notes;
       }

@@ -1,5 +1,5 @@
 -- Which changes of listeners lack a tag.
-use Rattle.std.proofs.Common.{◌≡◌, ℕ, ◌+◌, ◌≤◌, false, ◌||◌, not, nat_le, nat_lt, List, [], ◌∷◌, length, refl, sym, ap, ◌∙◌, arith, ltb-false, Option, Some, None}
+use Rattle.std.proofs.Common.{◌≡◌, ℕ, ◌+◌, ◌≤◌, Bool, true, false, cond, ◌&&◌, ◌||◌, not, map, nat_le, nat_lt, List, [], ◌∷◌, length, refl, sym, ap, ◌∙◌, arith, ltb-false, Option, Some, None}
 use Rattle.std.specs.Prelude.{◌==◌}
 use Rattle.std.specs.List.{filter, find, list_any}
 use Rattle.std.specs.Option.{option_map, option_map_or}
@@ -8,7 +8,7 @@ use Rattle.rt_query.specs.Queries.{Query}
 use Rattle.rt_query.specs.QueryEq.{query_eq}
 use Rattle.rt_query.specs.Supply.{form}
 use Rattle.rt_cover.specs.Cover.{Tagged}
-use Rattle.rt_cover.specs.State.{Cover, is_registered, lacks_tag, left_after, listen_at, with_listener, without_listeners}
+use Rattle.rt_cover.specs.State.{Cover, is_registered, lacks_tag, left_after, listen_at, with_listener, without_chosen, without_listeners}
 use Rattle.rt_world.specs.declared.step.Step.{Step}
 use Rattle.rt_world.specs.World.{Reason, World, Listener, registered}
 use Rattle.rt_world.specs.Steps.{listeners_after, started_by}
@@ -16,7 +16,7 @@ use Rattle.rt_world.specs.Messages.{next}
 use Rattle.rt_world.specs.Refusals.{needs_tag, refusal}
 use Rattle.rt_world.specs.Covering.{cover_in}
 use Rattle.rt_world.specs.Sound.{IsSound}
-use Rattle.rt_world.proofs.CoveringLaws.{one_more, revoked_left, unlistened}
+use Rattle.rt_world.proofs.CoveringLaws.{closed, one_more, revoked_left, unlistened}
 use Rattle.rt_world.proofs.HeardLaws.{map-append, started-same}
 use Rattle.rt_world.proofs.LimitLaws.{allowed}
 use Rattle.rt_world.proofs.Listeners.{not_bound, or_false_right}
@@ -44,6 +44,26 @@ add_needs w seat query h =
 
 pub remove_needs : (w : World) (seat listener : ℕ) → lacks_tag (cover_in w) (without_listeners (registered w.listeners) (listener ∷ [])) ≡ needs_tag w (Step.Unlisten seat listener)
 remove_needs w seat listener = ap (lacks_tag (cover_in w)) (sym (unlistened w listener))
+
+-- the numbers of a seat's listeners are those of which it has a listener
+own_chosen : (seat n : ℕ) (ls : List Listener) → list_any (λ (l : Listener). l.number == n && l.seat == seat) ls ≡ list_any (λ m. m == n) (map (λ (l : Listener). l.number) (filter (λ (l : Listener). l.seat == seat) ls))
+own_chosen seat n [] = refl
+own_chosen seat n (l ∷ ls) = elim (l.seat == seat) as (λ b. ((l.number == n && b) || list_any (λ (x : Listener). x.number == n && x.seat == seat) ls) ≡ list_any (λ m. m == n) (map (λ (x : Listener). x.number) (cond b (l ∷ filter (λ (x : Listener). x.seat == seat) ls) (filter (λ (x : Listener). x.seat == seat) ls)))) [
+  | true ↦ λ i. and_true (l.number == n) i || own_chosen seat n ls i
+  | false ↦ λ i. and_false (l.number == n) i || own_chosen seat n ls i
+]
+  where
+    and_true : (b : Bool) → (b && true) ≡ b
+    and_true true = refl
+    and_true false = refl
+
+    and_false : (b : Bool) → (b && false) ≡ false
+    and_false true = refl
+    and_false false = refl
+
+pub close_needs : (w : World) (seat : ℕ) → IsSound w → lacks_tag (cover_in w) (without_chosen (λ n. list_any (λ (l : Listener). l.number == n && l.seat == seat) w.listeners) (registered w.listeners)) ≡ needs_tag w (Step.CloseSeat seat)
+close_needs w seat h =
+    ap (lacks_tag (cover_in w)) ((λ i. without_chosen (λ n. own_chosen seat n w.listeners i) (registered w.listeners)) ∙ sym (closed w seat h))
 
 pub revoke_needs : (w : World) (tag : ℕ) (why : Reason) → IsGood w → option_map_or (λ _. lacks_tag (cover_in w) (left_after (cover_in w) tag)) (listen_at (cover_in w) tag) false ≡ needs_tag w (Step.Revoked tag why)
 revoke_needs w tag why g = at (find (λ (k : Tagged). k.tag == tag) w.kept) refl

@@ -1,17 +1,20 @@
 -- What a core answers to steps, and what it becomes: a world, or none once it has lacked memory.
-use Rattle.std.specs.Prelude.{◌≡◌, false, ◌⊎◌, List, [], ◌∷◌, drop, Option, Some, None, Result, Ok, Err}
+use Rattle.std.specs.Prelude.{◌≡◌, ◌==◌, ℕ, true, false, ◌⊎◌, List, [], ◌∷◌, drop}
+use Rattle.std.specs.Prelude.{Option, Some, None, Result, Ok, Err, is_some}
+use Rattle.std.specs.List.{find}
+use Rattle.std.specs.Option.{option_map_or}
 use Rattle.rt_query.specs.Queries.{is_filtered}
+use Rattle.rt_query.specs.Select.{Shown}
 use Rattle.rt_cover.specs.declared.kept.Kept.{Kept}
 use Rattle.rt_wire.specs.declared.client.ClientMessage.{ClientMessage}
 use Rattle.rt_world.specs.declared.error.CoreError.{CoreError}
-use Rattle.rt_world.specs.declared.error.CoreError.TheVariants.{Failed, NoMemory}
+use Rattle.rt_world.specs.declared.error.CoreError.TheVariants.{Failed, NoMemory, UnknownListener}
 use Rattle.rt_world.specs.declared.step.Step.{Step}
 use Rattle.rt_world.specs.World.{World, cover}
 use Rattle.rt_world.specs.Refusals.{refusal, is_stale}
 use Rattle.rt_world.specs.Answers.{Answer, answers, step, world_after}
 
--- the steps that a core takes so far: what a seat asks for, but for its end, with unfiltered queries
--- alone; what the server pushes and settles; and the connection. Revocations are to come
+-- the steps that a core takes so far: all, with unfiltered queries alone
 abbrev pub IsTaken : Step → Type 0
 IsTaken (Step.Listen seat query) = is_filtered query ≡ false
 IsTaken (Step.Unlisten seat listener) = Unit {0}
@@ -21,10 +24,10 @@ IsTaken (Step.Data tag path tree) = Unit {0}
 IsTaken (Step.DataMerge tag entries) = Unit {0}
 IsTaken (Step.Accepted id) = Unit {0}
 IsTaken (Step.Refused id why) = Unit {0}
-IsTaken (Step.Revoked tag why) = ⊥
+IsTaken (Step.Revoked tag why) = Unit {0}
 IsTaken Step.Connected = Unit {0}
 IsTaken Step.Disconnected = Unit {0}
-IsTaken (Step.CloseSeat seat) = ⊥
+IsTaken (Step.CloseSeat seat) = Unit {0}
 
 -- for want of memory a step is not made; it is neither refused nor stale then
 pub record LacksMemory (w : World) (s : Step) (answer : Answer) (new : Option World) : Type 0 where
@@ -62,6 +65,23 @@ pub record MakesAll (w : World) (steps : List Step) (told : List Answer) (v : Wo
 abbrev pub Covers : Option World → Result (List Kept) CoreError → Type 0
 Covers None answer = answer ≡ Err Failed
 Covers (Some w) answer = (answer ≡ Ok (cover w)) ⊎ (answer ≡ Err NoMemory)
+
+-- the view of the listener of that number, if it is registered; none where it is not primed
+abbrev pub view_in : World → ℕ → Result (Option Shown) CoreError
+view_in w number =
+    option_map_or
+    (λ l. Ok l.view) (find (λ l. l.number == number) w.listeners) (Err UnknownListener)
+
+-- a listener of that number is registered
+abbrev pub HasListener : World → ℕ → Type 0
+HasListener w number = is_some (find (λ l. l.number == number) w.listeners) ≡ true
+
+-- what a core answers of a listener's view: it is the world's; for one that is registered it may lack
+-- memory, and a core that has failed says so
+abbrev pub Views : Option World → ℕ → Result (Option Shown) CoreError → Type 0
+Views None number answer = answer ≡ Err Failed
+Views (Some w) number answer =
+    (answer ≡ view_in w number) ⊎ ((answer ≡ Err NoMemory) × HasListener w number)
 
 -- the first of the messages
 abbrev pub first_message : List ClientMessage → Option ClientMessage

@@ -76,7 +76,8 @@ impl State {
             Step::Refused { id, why } => self.settle(id, Some(why)),
             Step::Listen { seat, query } => self.listen(seat, query),
             Step::Unlisten { seat, listener } => self.unlisten(seat, listener),
-            Step::Revoked { .. } | Step::CloseSeat { .. } => unreachable!(),
+            Step::Revoked { tag, why } => self.revoke(tag, why),
+            Step::CloseSeat { seat } => self.close_seat(seat),
         }
     }
 

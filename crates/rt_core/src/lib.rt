@@ -1,19 +1,19 @@
 //! The core over its parts: listeners, pending writes, what the listens brought, and the listens kept.
 //!
-//! This is where the core of `rt_sync` is going. A [`Core`] takes listeners of unfiltered queries, what
-//! a seat asks for, what the server pushes and settles, and the connection, and answers as the world of
-//! `rt_world` does; the end of a seat and revocations are to come.
+//! This is where the core of `rt_sync` is going. A [`Core`] takes every step, but for a listener of a
+//! filtered query, and answers as the world of `rt_world` does.
 //!
 //! ```text
 //! let mut core = Core::new(alloc, Limits::full());
 //! let answers = run(alloc, &mut core, steps)?;       // each step's report, or why it is refused
 //! while let Some(message) = core.take_outgoing() { .. }
+//! let shown = core.view(listener)?;                  // none while nothing is known of its path
 //! ```
 #![tactic(auto)]
 
 ghost use Rattle.std.specs.Prelude.{◌≡◌, Some};
 ghost use Rattle.rt_world.specs.World.{empty_world, limits_from};
-ghost use Rattle.rt_core.specs.Core.{Applies, Covers, IsTaken, TakesOut};
+ghost use Rattle.rt_core.specs.Core.{Applies, Covers, IsTaken, TakesOut, Views};
 
 mod applying;
 mod refusal;
@@ -29,6 +29,7 @@ mod told;
 
 use applying::registers_short;
 use rt_cover::KeptList;
+use rt_query::Shown;
 use rt_world::{ClientMessage, CoreError, Limits, Report, Step, steady_law};
 pub use runs::{Answers, run};
 use state::State;
@@ -96,6 +97,22 @@ impl Core {
     {
         match &self.state {
             Some(state) => state.cover(),
+            None => Err(CoreError::Failed),
+        }
+    }
+
+    /// What the listener of that number shows; none where nothing is known of its path yet. The trees
+    /// are shared, and it costs by the rows.
+    ///
+    /// # Errors
+    ///
+    /// Failed, UnknownListener where no listener has that number, and NoMemory where there is no
+    /// memory for the rows: the core goes on then.
+    pub fn view(&self, listener: u64) -> Result<Option<Shown>, CoreError>
+        ensures { Views self.now listener result }
+    {
+        match &self.state {
+            Some(state) => state.view(listener),
             None => Err(CoreError::Failed),
         }
     }

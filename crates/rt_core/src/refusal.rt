@@ -1,6 +1,6 @@
 // The order in which refusals are looked at. None takes memory.
 ghost use Rattle.std.specs.Prelude.{◌≡◌, ◌∷◌, []};
-ghost use Rattle.rt_core.specs.inside.Due.{IsGood, IsWeighed, first_of};
+ghost use Rattle.rt_core.specs.inside.Due.{IsGood, first_of};
 
 use crate::refusals::{has_overlap, is_empty_update, is_too_deep, needs_connection};
 use crate::state::State;
@@ -16,8 +16,7 @@ impl State {
 
     // The refusals of a change of listeners.
     fn listener_refusal(&self, step: &Step) -> Option<CoreError>
-        requires good { IsGood self.now }
-        requires weighed { IsWeighed step.now }
+        requires { IsGood self.now }
         ensures { result ≡ first_of ((
           is_unknown_listener self.now step.now,
           CoreError.UnknownListener,
@@ -80,7 +79,7 @@ impl State {
 
     // The refusals of a push, those that depend on the connection, and that of a revocation.
     fn connection_refusal(&self, step: &Step) -> Option<CoreError>
-        requires good { IsGood self.now }
+        requires { IsGood self.now }
         ensures { result ≡ first_of ((
           is_bad_push self.now step.now,
           CoreError.BadPush,
@@ -106,8 +105,7 @@ impl State {
 
     // The first refusal whose condition holds.
     pub(crate) fn refusal(&self, step: &Step) -> Option<CoreError>
-        requires good { IsGood self.now }
-        requires weighed { IsWeighed step.now }
+        requires { IsGood self.now }
         ensures { result ≡ refusal self.now step.now }
     {
         if let Some(error) = self.listener_refusal(step) {

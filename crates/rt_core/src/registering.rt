@@ -1,17 +1,19 @@
 // The refusals that need the listeners and the listens kept. None takes memory.
-ghost use Rattle.std.specs.Prelude.{◌≡◌, ◌∷◌, ◌||◌, [], ℕ, length, nat_le, nat_lt, not};
+ghost use Rattle.std.specs.Prelude.{◌≡◌, ◌==◌, ◌∷◌, ◌&&◌, ◌||◌, [], ℕ, length, nat_le, nat_lt, not};
 ghost use Rattle.std.specs.Prelude.{is_some};
-ghost use Rattle.std.specs.List.{list_all};
+ghost use Rattle.std.specs.List.{list_all, list_any};
 ghost use Rattle.std.specs.Option.{option_copied};
 ghost use Rattle.rt_tree.specs.Assignments.{is_at_or_above};
 ghost use Rattle.rt_world.specs.World.{Reason, listen_of};
 ghost use Rattle.rt_world.specs.Refusals.{has_too_many_listeners, has_too_many_revoked};
 ghost use Rattle.rt_world.specs.Refusals.{is_bad_push, is_unknown_listener, is_within_listen};
 ghost use Rattle.rt_world.specs.Refusals.{needs_tag};
-ghost use Rattle.rt_core.specs.inside.Due.{IsGood, IsWeighed};
+ghost use Rattle.rt_core.specs.inside.Due.{IsGood};
 
 use crate::refusals::is_no_merge;
 use crate::state::State;
+use rt_cover::Choice;
+use rt_listeners::Listeners;
 use rt_query::Query;
 use rt_tree::{Path, Tree};
 use rt_world::Step;
@@ -21,6 +23,22 @@ fn are_under(entries: &[(Path, Tree)], path: &Path) -> bool
     ensures { result ≡ list_all (λ a. is_at_or_above path.now a.0) entries.now }
 {
     entries.iter().all(|entry| path.is_prefix_of(&entry.0))
+}
+
+// The listeners of a seat.
+#[derive(Drop)]
+struct OfSeat<'a> {
+    listeners: &'a Listeners,
+    seat: u64,
+}
+
+impl Choice for OfSeat<'_> {
+    ghost chosen = { λ a number. list_any (λ l. l.number == number && l.seat == a.seat)
+        a.listeners.now.listeners };
+
+    fn has(&self, listener: u64) -> bool {
+        self.listeners.is_seats(self.seat, listener)
+    }
 }
 
 impl State {
@@ -78,6 +96,17 @@ impl State {
         self.cover.lacks_tag_to_remove(&[listener])
     }
 
+    // Whether the end of all listeners of the seat would.
+    fn lacks_tag_to_close(&self, seat: u64) -> bool
+        requires { IsGood self.now }
+        ensures { result ≡ needs_tag self.now (Step.CloseSeat seat) }
+    {
+        self.cover.lacks_tag_to_remove_chosen(&OfSeat {
+            listeners: &self.listeners,
+            seat,
+        })
+    }
+
     // Whether the end of the listen would.
     fn lacks_tag_to_revoke(&self, tag: u64) -> bool
         requires { IsGood self.now }
@@ -97,14 +126,13 @@ impl State {
 
     // Whether the listeners are too many, or a number or a tag above the last one is needed.
     pub(crate) fn has_too_many_listeners(&self, step: &Step) -> bool
-        requires good { IsGood self.now }
-        requires weighed { IsWeighed step.now }
+        requires { IsGood self.now }
         ensures { result ≡ has_too_many_listeners self.now step.now }
     {
         match step {
             Step::Listen { query, .. } => self.is_full() || self.lacks_tag_to_add(query),
             Step::Unlisten { listener, .. } => self.lacks_tag_to_remove(*listener),
-            Step::CloseSeat { .. } => unreachable!(),
+            Step::CloseSeat { seat } => self.lacks_tag_to_close(*seat),
             Step::Write { .. }
             | Step::OnDisconnect { .. }
             | Step::Data { .. }

@@ -1,10 +1,12 @@
 // What a core shows of itself.
 ghost use Rattle.std.specs.Prelude.{◌≡◌, ◌⊎◌, Ok, Err};
 ghost use Rattle.rt_world.specs.World.{cover};
-ghost use Rattle.rt_core.specs.Core.{first_message, without_first};
+ghost use Rattle.rt_core.specs.Core.{HasListener, first_message, view_in, without_first};
 
 use crate::state::State;
 use rt_cover::KeptList;
+use rt_listeners::ShownError;
+use rt_query::Shown;
 use rt_world::{ClientMessage, CoreError};
 
 impl State {
@@ -17,6 +19,18 @@ impl State {
         match self.cover.open() {
             Ok(list) => Ok(list),
             Err(_) => Err(CoreError::NoMemory),
+        }
+    }
+
+    // What the listener of that number shows.
+    pub(crate) fn view(&self, listener: u64) -> Result<Option<Shown>, CoreError>
+        ensures { (result ≡ view_in self.now listener)
+            ⊎ ((result ≡ Err CoreError.NoMemory) × HasListener self.now listener) }
+    {
+        match self.listeners.shown(listener) {
+            Ok(shown) => Ok(shown),
+            Err(ShownError::NoListener) => Err(CoreError::UnknownListener),
+            Err(ShownError::NoMemory) => Err(CoreError::NoMemory),
         }
     }
 

@@ -1,6 +1,8 @@
 // The steps: what each leaves, one file a kind of step.
 mod asking;
+mod closing;
 mod connection;
 mod listening;
 mod pushing;
+mod revoking;
 mod settling;

@@ -23,21 +23,6 @@ pub record IsGood (w : World) : Type 0 where
   pub short : AreShort w.listeners
   pub tags : w.next_tag ≤ w.limits.last_number + 1
 
--- the steps whose refusals are looked at so far: the end of a seat is to come
-abbrev pub IsWeighed : Step → Type 0
-IsWeighed (Step.Listen seat query) = Unit {0}
-IsWeighed (Step.Unlisten seat listener) = Unit {0}
-IsWeighed (Step.Write seat action) = Unit {0}
-IsWeighed (Step.OnDisconnect seat ending) = Unit {0}
-IsWeighed (Step.Data tag path tree) = Unit {0}
-IsWeighed (Step.DataMerge tag entries) = Unit {0}
-IsWeighed (Step.Accepted id) = Unit {0}
-IsWeighed (Step.Refused id why) = Unit {0}
-IsWeighed (Step.Revoked tag why) = Unit {0}
-IsWeighed Step.Connected = Unit {0}
-IsWeighed Step.Disconnected = Unit {0}
-IsWeighed (Step.CloseSeat seat) = ⊥
-
 -- the step is neither refused nor stale
 pub record IsDue (w : World) (s : Step) : Type 0 where
   pub good : IsGood w

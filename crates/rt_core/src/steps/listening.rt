@@ -30,7 +30,7 @@ fn cover_new(cover: &mut Cover, number: u64, query: Query) -> Result<Delta, Allo
 }
 
 // These listeners are covered no more. Only memory can refuse.
-fn uncover(cover: &mut Cover, numbers: &[u64]) -> Result<Delta, AllocError>
+pub(crate) fn uncover(cover: &mut Cover, numbers: &[u64]) -> Result<Delta, AllocError>
     requires { remove_fault cover.old numbers.now ≡ None }
     ensures cover { OnOk result (cover.new ≡ removed cover.old numbers.now) }
     ensures delta { IfOk result (λ delta. delta
@@ -43,7 +43,7 @@ fn uncover(cover: &mut Cover, numbers: &[u64]) -> Result<Delta, AllocError>
 }
 
 // What no kept listen reaches any more is lost.
-fn lose(brought: &mut Brought, cover: &Cover) -> Result<(), AllocError>
+pub(crate) fn lose(brought: &mut Brought, cover: &Cover) -> Result<(), AllocError>
     ensures { OnOk result (brought.new
         ≡ recover (forms cover.now.listeners) (map (λ k. k.form) cover.now.kept) brought.old) }
 {
