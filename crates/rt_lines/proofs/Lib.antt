@@ -1,8 +1,6 @@
 mod Bytes
 mod Doings
-mod Waiting
-mod Doings
-mod Waiting
 mod Faults
 mod Lists
 mod Parts
+mod Waiting
