@@ -1,11 +1,14 @@
 // Many steps, one after another.
 ghost use Rattle.std.specs.Prelude.{◌≡◌, [], Some, IfOk, IsOk, OnErr};
 ghost use Rattle.std.specs.List.{All};
+ghost use Rattle.std.specs.Option.{IfSome};
 ghost use Rattle.rt_world.specs.World.{World};
+ghost use Rattle.rt_world.specs.Headline.{Headline};
 ghost use Rattle.rt_core.specs.Core.{AppliesAll, IsTaken, MakesAll};
+ghost use Rattle.rt_core.specs.inside.Due.{IsGood};
 
 use crate::Core;
-use rt_world::{CoreError, Report, Step};
+use rt_world::{CoreError, Report, Step, holding_law};
 use std::alloc::{AllocError, Global};
 use std::marker::Model;
 
@@ -33,7 +36,18 @@ impl Answers {
     }
 }
 
-/// Makes the steps, one after another, and answers each in order.
+impl Core {
+    // For the prover: what holds of a core between steps.
+    fn holds(&self)
+        ensures { IfSome self.now IsGood }
+    {
+        let _has_failed = self.state.is_none();
+    }
+}
+
+/// Makes the steps, one after another, and answers each in order. Where none lacked memory, the
+/// fewest listens are kept at each of them, and each listener's view is its query over what they
+/// brought, overlaid by the pending writes, and turns from the one before by what it is told.
 ///
 /// # Errors
 ///
@@ -45,7 +59,12 @@ pub fn run(alloc: Global, core: &mut Core, steps: Vec<Step>) -> Result<Answers, 
     ensures answered { IfOk result (λ answers. AppliesAll core.old steps.items answers core.new) }
     ensures made { IfOk result (λ answers. (w v : World) → core.old ≡ Some w → core.new ≡ Some v
         → MakesAll w steps.items answers v) }
+    ensures headline { IfOk result (λ answers. (w v : World) → core.old ≡ Some w
+        → core.new ≡ Some v → Headline w steps.items answers v) }
 {
+    // State what any steps lead to from a core between steps.
+    core.holds();
+    holding_law();
     let mut items = Vec::with_capacity(alloc, steps.len())?;
     for step in steps {
         items.push_reserved(core.apply(step));

@@ -17,11 +17,12 @@ use Rattle.rt_world.specs.Messages.{listens, request_message}
 use Rattle.rt_world.specs.Refusals.{refusal, is_stale}
 use Rattle.rt_world.specs.Answers.{Answer, step, step_by, answers, world_after, view_before}
 use Rattle.rt_world.specs.Runs.{Opened, Made, events_of, events, heard_after, heard}
-use Rattle.rt_world.specs.Headline.{KeepsFewest, ShowsAll, IsTurned, IsUpToDate, changes_told, Headline}
+use Rattle.rt_world.specs.Headline.{AreKept, IsKept, IsShown, IsUpToDate, changes_told, Leads, Headline}
 use Rattle.rt_world.specs.Sound.{cover_of, IsSound}
 use Rattle.rt_world.proofs.Listeners.{same_number, has_number, has_number-there, has_number-renewed, not_bound, view_before-there, view_before-none}
 use Rattle.rt_world.proofs.ShowLaws.{left_or_more, first_seen, step_up_to_date, told-absent}
 use Rattle.rt_world.proofs.HeardLaws.{fold-append, heard-opened, heard-step, done_connected}
+use Rattle.rt_world.proofs.MovesLaws.{moves}
 use Rattle.rt_world.proofs.SoundLaws.{sound_empty, sound_step, sound_run}
 
 -- ---- the listens kept
@@ -40,21 +41,11 @@ opened v e =
     ∙ ap (fold heard_after v.kept) (append-nil (Opened ∷ map Made (listens v.kept ++ map request_message v.requests)))
     ∙ heard-opened v v.kept
 
-keeps : (w : World) (steps : List Step) → IsSound w → KeepsFewest w steps (world_after w steps)
-keeps w steps h =
-    let new = world_after w steps in
-    let g = sound_run steps w h in
-    record {
-      kept = record { online = λ e. heard_all steps w w.kept h (λ _. refl) e; offline = λ e. opened new e };
-      fewest = shown_are_fewest (cover_of new) g.listens;
-      certified = shown_are_certified (cover_of new) g.listens;
-    }
+is_kept : (w : World) (steps : List Step) → IsSound w → IsKept w steps (world_after w steps)
+is_kept w steps h = record { online = λ e. heard_all steps w w.kept h (λ _. refl) e; offline = λ e. opened (world_after w steps) e }
 
--- ---- the views, step by step
-
-shows_all : (steps : List Step) (w : World) → IsSound w → ShowsAll w steps
-shows_all [] w h = tt
-shows_all (s ∷ rest) w h = (step_up_to_date w s (refusal w s) (is_stale w s) h, shows_all rest (step w s).0 (sound_step w s (refusal w s) (is_stale w s) h))
+are_kept : (w : World) → IsSound w → AreKept w
+are_kept w h = record { fewest = shown_are_fewest (cover_of w) h.listens; certified = shown_are_certified (cover_of w) h.listens }
 
 -- ---- the views, over a run
 
@@ -156,27 +147,41 @@ turned_run (s ∷ rest) w n h there =
     (turned_by w s (refusal w s) (is_stale w s) n h (open_at_start rest v n there))
     (turned_run rest v n (sound_step w s (refusal w s) (is_stale w s) h) there)
 
-turned_all : (w : World) (steps : List Step) → IsSound w → All (IsTurned w steps) (world_after w steps).listeners
+shown_all : (w : World) (steps : List Step) → IsSound w → All (IsShown w (answers w steps) (world_after w steps)) (world_after w steps).listeners
 unfolding IsOpen
-turned_all w steps h k d lt =
+shown_all w steps h k d lt =
     let v = world_after w steps in
     let l = slice_index_or v.listeners k d in
     let m = Contains-get_or v.listeners k d lt in
     let g = sound_run steps w h in
-    subst (Turns (view_before w.listeners l.number) (flat_map (changes_told l.number) (answers w steps))) (view_before-there v.listeners l g.rises m)
-    (turned_run steps w l.number h (inl (has_number-there v.listeners m.0 l m.1 m.2)))
+    record {
+      view = g.views k d lt;
+      turned = subst (Turns (view_before w.listeners l.number) (flat_map (changes_told l.number) (answers w steps))) (view_before-there v.listeners l g.rises m)
+          (turned_run steps w l.number h (inl (has_number-there v.listeners m.0 l m.1 m.2)));
+    }
 
 -- ---- the headline
 
+-- one step after another leads to the world after them
+leads_on : (steps : List Step) (w : World) → IsSound w → Leads w steps (answers w steps) (world_after w steps)
+leads_on [] w h = refl
+leads_on (s ∷ rest) w h =
+    ((step w s).0, moves w s (are_kept (step w s).0 (after w s h)) h, leads_on rest (step w s).0 (after w s h))
+  where
+    after : (w : World) (s : Step) → IsSound w → IsSound (step w s).0
+    after w s h = sound_step w s (refusal w s) (is_stale w s) h
+
 -- the headline holds of any steps, from a sound world
-pub headline_sound : (w : World) (steps : List Step) → IsSound w → Headline w steps
+pub headline_sound : (w : World) (steps : List Step) → IsSound w → Headline w steps (answers w steps) (world_after w steps)
 headline_sound w steps h = record {
-  listens_kept = keeps w steps h;
-  views_shown = shows_all steps w h;
-  views_turned = turned_all w steps h;
+  leads = leads_on steps w h;
+  heard = is_kept w steps h;
+  kept = are_kept (world_after w steps) (sound_run steps w h);
+  shown = shown_all w steps h;
 }
 
 -- and so from any world that steps lead to
-pub headline : (limits : Limits) (before steps : List Step) → Headline (world_after (empty_world limits) before) steps
+pub headline : (limits : Limits) (before steps : List Step)
+    → let w = world_after (empty_world limits) before in Headline w steps (answers w steps) (world_after w steps)
 headline limits before steps =
     headline_sound (world_after (empty_world limits) before) steps (sound_run before (empty_world limits) (sound_empty limits))

@@ -13,6 +13,7 @@ pub mod Listeners
 pub mod LostLaws
 pub mod MadeLaws
 pub mod MessageLaws
+pub mod MovesLaws
 pub mod NamedLaws
 pub mod NoteLaws
 pub mod Numbers
@@ -22,6 +23,7 @@ pub mod RecoverLaws
 pub mod RefusedLaws
 pub mod RunLaws
 pub mod ShowLaws
+pub mod Seen
 pub mod SoundLaws
 pub mod StayLaws
 pub mod StillLaws

@@ -1,19 +1,32 @@
--- The fewest listens, and the views over what they brought: what any steps lead to.
-use Rattle.std.specs.Prelude.{◌≡◌, ℕ, Bool, true, false, IsTrue, IsFalse, List, [], ◌∷◌, ◌==◌}
-use Rattle.std.specs.Prelude.{Option, Some, None, Ok, Err}
-use Rattle.std.specs.List.{filter, flat_map, All}
+-- The fewest listens, and the views over what they brought: what any steps lead to, said of the
+-- worlds before and after, the steps and the answers.
+use Rattle.std.specs.Prelude.{◌≡◌, ℕ, ◌+◌, Bool, true, false, IsTrue, IsFalse, if◌then◌else◌, ◌||◌}
+use Rattle.std.specs.Prelude.{List, [], ◌∷◌, ◌++◌, map, length, ◌==◌, Option, Some, None, Ok, Err}
+use Rattle.std.specs.List.{filter, filter_map, find, flat_map, fold, All}
+use Rattle.std.specs.Option.{option_map_or, option_or}
 use Rattle.rt_query.specs.Queries.{Query}
 use Rattle.rt_query.specs.Select.{Shown}
+use Rattle.rt_cache.specs.Recover.{recover}
+use Rattle.rt_cover.specs.Cover.{Tagged, forms}
 use Rattle.rt_cover.specs.Shown.{AreFewest, IsCertified}
 use Rattle.rt_view.specs.declared.change.Change.{Change}
 use Rattle.rt_view.specs.Changes.{Turns}
+use Rattle.rt_wire.specs.declared.client.ClientMessage.{ClientMessage}
 use Rattle.rt_world.specs.declared.report.Body.{Body}
 use Rattle.rt_world.specs.declared.report.Body.TheVariants.{Settled, Cancelled, Batch}
+use Rattle.rt_world.specs.declared.report.Note.{Note}
+use Rattle.rt_world.specs.declared.report.Outcome.TheVariants.{Done}
 use Rattle.rt_world.specs.declared.step.Step.{Step}
 use Rattle.rt_world.specs.World.{World, Listener, registered, pending, cover}
-use Rattle.rt_world.specs.Views.{view_of}
-use Rattle.rt_world.specs.Answers.{Answer, step, answers, world_after, batch_from, view_before}
-use Rattle.rt_world.specs.Runs.{heard}
+use Rattle.rt_world.specs.Views.{is_known, view_of}
+use Rattle.rt_world.specs.Steps.{listeners_after, requests_after, pushed, is_connected_after}
+use Rattle.rt_world.specs.Steps.{started_by, listener_given, request_given, counted}
+use Rattle.rt_world.specs.Messages.{listens, unlistens, request_message, request_sent}
+use Rattle.rt_world.specs.Messages.{outgoing_before}
+use Rattle.rt_world.specs.Refusals.{refusal, is_stale}
+use Rattle.rt_world.specs.Answers.{Answer, stale_report, settled_notes, cancelled_notes, batch_note}
+use Rattle.rt_world.specs.Answers.{batch_from, view_before}
+use Rattle.rt_world.specs.Runs.{Made, is_done, events_before, heard_after, heard}
 
 -- ---- the listens kept
 
@@ -24,10 +37,9 @@ pub record IsKept (old : World) (steps : List Step) (new : World) : Type 0 where
 
 -- these are the fewest registered forms that supply every listener, each shown with the
 -- least-numbered listener of its form, which no other supplies
-pub record KeepsFewest (old : World) (steps : List Step) (new : World) : Type 0 where
-  pub kept : IsKept old steps new
-  pub fewest : AreFewest (registered new.listeners) (cover new)
-  pub certified : All (IsCertified (registered new.listeners)) (cover new)
+pub record AreKept (w : World) : Type 0 where
+  pub fewest : AreFewest (registered w.listeners) (cover w)
+  pub certified : All (IsCertified (registered w.listeners)) (cover w)
 
 -- ---- the views
 
@@ -55,23 +67,118 @@ pub record IsUpToDate (old : World) (answer : Answer) (new : World) (l : Listene
   pub batch : changes_told l.number answer ≡ batch_from (view_before old.listeners l.number) l
   pub turned : Turns (view_before old.listeners l.number) (changes_told l.number answer) l.view
 
--- at each step of a run, each listener is up to date
-abbrev pub ShowsAll : World → List Step → Type 0
-ShowsAll w [] = Unit {0}
-ShowsAll w (s ∷ rest) =
-    All (IsUpToDate w (step w s).1 (step w s).0) (step w s).0.listeners × ShowsAll (step w s).0 rest
+-- whether a listener of that number is there, and primed
+abbrev pub primed_before : List Listener → ℕ → Bool
+primed_before listeners number =
+    option_map_or (λ l. l.is_primed) (find (λ l. l.number == number) listeners) false
 
--- all that a listener was told in a run, played one after another, turns its view before the run
--- into the one after it
-abbrev pub IsTurned : World → List Step → Listener → Type 0
-IsTurned w steps l =
-    Turns (view_before w.listeners l.number) (flat_map (changes_told l.number) (answers w steps)) l.view
+-- a listener is primed once it was, or something is known for it
+abbrev pub primed_in : World → World → Listener → Bool
+primed_in old new l =
+    primed_before old.listeners l.number || is_known new.brought (pending new.requests) l.query
+
+-- ---- one step
+
+-- a listener without what it was shown
+abbrev pub unseen : Listener → Listener
+unseen l = record l { is_primed = false; view = None }
+
+-- those who are told of their changes: each listener whose view is another now, by number
+abbrev pub changed_notes : World → World → List Note
+changed_notes old new =
+    filter_map (λ l. batch_note l (batch_from (view_before old.listeners l.number) l)) new.listeners
+
+-- what a step is answered that is neither refused nor stale: the number that it gives; who is told
+-- of a settlement, of a listener's end, and of changes
+abbrev pub done_answer : World → Step → World → Answer
+done_answer old s new =
+    Ok (record {
+      outcome = Done;
+      given = option_or (listener_given old s) (request_given old s);
+      notes = settled_notes old s ++ cancelled_notes old s ++ changed_notes old new;
+    })
+
+-- the answer: the first refusal whose condition holds, else that it is stale, else that it is done
+abbrev pub answer_due : World → Step → World → Answer
+answer_due old s new =
+    option_map_or Err (refusal old s)
+    (if is_stale old s then Ok stale_report else done_answer old s new)
+
+-- the requests that a step asks the server for: one that opens a connection for all that are
+-- unsettled
+abbrev pub asks_due : World → Step → World → List ClientMessage
+asks_due old s new =
+    if new.is_connected
+    then (if old.is_connected then request_sent old s else map request_message new.requests)
+    else []
+
+-- of a step that is done: it begins and ends listens, and then asks; a server that hears this keeps
+-- what the core keeps; without a connection nothing is sent
+pub record Sends (old : World) (s : Step) (new : World) : Type 0 where
+  pub begun : List Tagged
+  pub ended : List Tagged
+  pub outgoing : new.outgoing
+      ≡ outgoing_before old s ++ (listens begun ++ unlistens ended ++ asks_due old s new)
+  pub heard : IsTrue new.is_connected → fold heard_after old.kept
+      (events_before s ++ map Made (listens begun ++ unlistens ended ++ asks_due old s new))
+      ≡ new.kept
+  pub silent : IsFalse new.is_connected → (begun ≡ []) × (ended ≡ [])
+
+-- what a step leaves that is done: its listeners and requests, what is brought once its push is
+-- taken and what no listen reaches is lost, the connection, and the next numbers
+pub record Makes (old : World) (s : Step) (new : World) : Type 0 where
+  pub limits : new.limits ≡ old.limits
+  pub listeners : map unseen new.listeners ≡ map unseen (listeners_after old s)
+  pub requests : new.requests ≡ requests_after old s
+  pub brought : new.brought
+      ≡ recover (forms (registered new.listeners)) (map (λ k. k.form) new.kept) (pushed old s)
+  pub connected : new.is_connected ≡ is_connected_after old s
+  pub sends : Sends old s new
+  pub next_listener : new.next_listener ≡ counted old.next_listener (listener_given old s)
+  pub next_request : new.next_request ≡ counted old.next_request (request_given old s)
+  pub next_tag : new.next_tag ≡ old.next_tag + length (started_by old s)
+
+-- one that is done makes this, and another leaves all as it is
+abbrev pub MakesOrLeaves : Bool → World → Step → World → Type 0
+MakesOrLeaves true old s new = Makes old s new
+MakesOrLeaves false old s new = new ≡ old
+
+-- a step from one world to the next: its answer; what it makes; the fewest listens are kept; those
+-- are primed for which something is known; each listener's view is its query over what is brought,
+-- overlaid by the pending writes, and turns from its view before by what it is told
+pub record Moves (old : World) (s : Step) (answer : Answer) (new : World) : Type 0 where
+  pub answered : answer ≡ answer_due old s new
+  pub made : MakesOrLeaves (is_done old s) old s new
+  pub kept : AreKept new
+  pub primed : All (λ l. l.is_primed ≡ primed_in old new l) new.listeners
+  pub shown : All (IsUpToDate old answer new) new.listeners
+
+-- ---- many steps
+
+-- one step after another leads from world to world
+abbrev pub Leads : World → List Step → List Answer → World → Type 0
+Leads old [] [] new = new ≡ old
+Leads old (s ∷ steps) (a ∷ told) new =
+    (between : World) × Moves old s a between × Leads between steps told new
+Leads old [] (a ∷ told) new = ⊥
+Leads old (s ∷ steps) [] new = ⊥
+
+-- after steps a listener's view is that of what is brought; all that it was told, played one after
+-- another, turns its view before them into this one
+pub record IsShown (old : World) (told : List Answer) (new : World) (l : Listener) : Type 0 where
+  pub view : l.view ≡ view_by l.is_primed new l.query
+  pub turned :
+      Turns (view_before old.listeners l.number) (flat_map (changes_told l.number) told) l.view
 
 -- ---- the headline
 
--- after any steps the fewest listens are kept; at each step each view is its query over what they
--- brought and turns by its changes, and so over all of them
-pub record Headline (w : World) (steps : List Step) : Type 0 where
-  pub listens_kept : KeepsFewest w steps (world_after w steps)
-  pub views_shown : ShowsAll w steps
-  pub views_turned : All (IsTurned w steps) (world_after w steps).listeners
+-- the steps lead from world to world as their answers say; in the end the server keeps the listens
+-- that the core keeps, and these are the fewest that supply every listener; each listener's view is
+-- its query over what they brought, overlaid by the pending writes, and turned into it from its view
+-- before by all that it was told
+pub record Headline (old : World) (steps : List Step) (told : List Answer) (new : World)
+    : Type 0 where
+  pub leads : Leads old steps told new
+  pub heard : IsKept old steps new
+  pub kept : AreKept new
+  pub shown : All (IsShown old told new) new.listeners

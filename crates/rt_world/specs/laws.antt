@@ -1,6 +1,7 @@
 pub mod Children
 pub mod Due
 pub mod Examples
+pub mod False
 pub mod Holds
 pub mod Listened
 pub mod Made

@@ -12,6 +12,7 @@
 
 mod error;
 pub mod examples;
+pub mod falses;
 mod laws;
 mod limits;
 mod made;

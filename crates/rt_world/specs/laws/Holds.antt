@@ -9,7 +9,7 @@ use Rattle.rt_world.specs.declared.step.Step.{Step}
 use Rattle.rt_world.specs.World.{World, Listener, empty_world}
 use Rattle.rt_world.specs.Messages.{next}
 use Rattle.rt_world.specs.Refusals.{refusal}
-use Rattle.rt_world.specs.Answers.{world_after}
+use Rattle.rt_world.specs.Answers.{answers, world_after}
 use Rattle.rt_world.specs.Covering.{cover_in, cover_after, change_by, delta_by}
 use Rattle.rt_world.specs.Headline.{Headline}
 use Rattle.rt_world.specs.Plain.{IsPlain, RegistersPlain}
@@ -102,7 +102,8 @@ TakenIsSteady =
 
 -- it holds of any steps, from a sound world
 abbrev pub HeadlineOfSound : Type 0
-HeadlineOfSound = (w : World) (steps : List Step) → IsSound w → Headline w steps
+HeadlineOfSound = (w : World) (steps : List Step) → IsSound w
+    → Headline w steps (answers w steps) (world_after w steps)
 
 -- ---- covers
 

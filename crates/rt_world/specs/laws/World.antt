@@ -27,7 +27,8 @@ use Rattle.rt_world.specs.Touched.{children_at, IsInBoth}
 abbrev pub HeadlineHolds : Type 0
 HeadlineHolds =
     (limits : Limits) (before steps : List Step)
-    → Headline (world_after (empty_world limits) before) steps
+    → let w = world_after (empty_world limits) before in
+    Headline w steps (answers w steps) (world_after w steps)
 
 -- ---- listens
 

@@ -1,11 +1,14 @@
 use Rattle.std.proofs.Common.{◌≡◌, ◌≤◌, ◌+◌, List, [], ◌∷◌, length, ap, sym, subst, refl, append-nil, arith, Option, ◌∙◌}
+use Rattle.std.specs.Option.{IfSome}
 use Rattle.std.specs.Vec.{vec_capacity, vec_len}
 use Rattle.std.specs.Vec.Iter.{into_iter_items}
 use Rattle.std.proofs.lemmas.List.Elements.{All-rest}
 use Rattle.rt_world.specs.declared.step.Step.{Step}
 use Rattle.rt_world.specs.World.{World}
 use Rattle.rt_world.specs.Answers.{Answer}
+use Rattle.rt_world.specs.Headline.{Headline}
 use Rattle.rt_core.specs.Core.{AppliesAll, IsTaken}
+use Rattle.rt_core.specs.inside.Due.{IsGood}
 use Rattle.rt_core.proofs.AppliedAll.{Continues, continues_more, makes_all}
 use Rattle.rt_core.proofs.runs.run.Goals as goal
 
@@ -45,3 +48,11 @@ returns-clause-made c w v e f =
     (sym c.loop-step.invariant.3 ∙ c.in-None.ensures.steps.0) in
     makes_all c.args.steps.items c.loop-step.items.items w v
     (subst (λ (x : Option World × Option World). AppliesAll x.0 c.args.steps.items c.loop-step.items.items x.1) (λ i. (e i, f i)) applied)
+
+-- of a good world
+pub returns-clause-headline : goal.returns-clause-headline
+returns-clause-headline c w v e f =
+    let m = returns-clause-made c w v e f in
+    let good : IsGood w = subst (λ o. IfSome o IsGood) e c.holds.ensures in
+    subst (λ (x : List Answer × World). Headline w c.args.steps.items x.0 x.1) (λ i. (sym m.answers i, sym m.world i))
+    (c.holding_law.ensures.headline w c.args.steps.items good.sound)

@@ -1,0 +1,199 @@
+-- Each step moves from its world to the next.
+use Rattle.std.proofs.Common.{◌≡◌, ℕ, zero, suc, ◌<◌, Bool, true, false, cond, not, ◌&&◌, ◌||◌, inl, inr, List, [], ◌∷◌, ◌++◌, map, refl, sym, ap, subst, ◌∙◌, append-nil, arith, slice_index_or, Option, Some, None, Ok, Err}
+use mathlib.Core.Bool.{true≢false}
+use Rattle.std.specs.Prelude.{is_none}
+use Rattle.std.specs.List.{fold, All, Contains}
+use Rattle.std.specs.Option.{option_map, option_map_or}
+use Rattle.std.proofs.lemmas.List.Elements.{All-contains, All-map, Contains-append_cases, Contains-get_or}
+use Rattle.rt_query.specs.Queries.{Query}
+use Rattle.rt_writes.specs.Writes.{Write}
+use Rattle.rt_cache.specs.Brought.{Brought}
+use Rattle.rt_cache.specs.Recover.{recover}
+use Rattle.rt_cover.specs.Cover.{Tagged, forms}
+use Rattle.rt_cover.specs.laws.CoverLaws.{Contains-from_filter}
+use Rattle.rt_world.specs.declared.error.CoreError.{CoreError}
+use Rattle.rt_world.specs.declared.error.CoreError.TheVariants.{AlreadyConnected}
+use Rattle.rt_world.specs.declared.step.Step.{Step}
+use Rattle.rt_world.specs.Views.{is_known}
+use Rattle.rt_world.specs.World.{World, Listener, pending}
+use Rattle.rt_world.specs.Steps.{listeners_after, requests_after, brought_after, kept_after, started_by, pushed, renewed, is_connected_after}
+use Rattle.rt_world.specs.Messages.{listens, unlistens, request_message, request_sent, stopped_by, messages_online, messages_of, outgoing_before, next}
+use Rattle.rt_world.specs.Refusals.{refusal, is_stale}
+use Rattle.rt_world.specs.Answers.{step, step_by, stale_report}
+use Rattle.rt_world.specs.Runs.{Made, events_before, heard_after}
+use Rattle.rt_world.specs.Headline.{AreKept, primed_before, primed_in, unseen, done_answer, asks_due, Sends, Makes, MakesOrLeaves, Moves}
+use Rattle.rt_world.specs.Sound.{IsSound}
+use Rattle.rt_world.proofs.Listeners.{find-number, find-no_number, not_bound, number-renewed, primed_view, query-renewed, registered-renewed}
+use Rattle.rt_world.proofs.ShowLaws.{first_seen, left_or_more, step_up_to_date}
+use Rattle.rt_world.proofs.HeardLaws.{heard-done}
+
+-- ---- primed marks
+
+primed_there : (w : World) → IsSound w → (l : Listener) → Contains w.listeners l → primed_before w.listeners l.number ≡ l.is_primed
+primed_there w h l m = ap (λ o. option_map_or (λ (x : Listener). x.is_primed) o false) (find-number w.listeners l h.rises m)
+
+primed_new : (w : World) → IsSound w → (seat : ℕ) (query : Query) (l : Listener) (k : ℕ) → k < 1 → slice_index_or (first_seen w seat query ∷ []) k l ≡ l
+    → primed_before w.listeners l.number ≡ l.is_primed
+primed_new w h seat query l zero lt e =
+    subst (λ (x : Listener). primed_before w.listeners x.number ≡ x.is_primed) e
+    (ap (λ o. option_map_or (λ (x : Listener). x.is_primed) o false) (find-no_number w.listeners w.next_listener (not_bound w.next_listener w.listeners h.below)))
+primed_new w h seat query l (suc k) lt e = absurd (omega arith)
+
+-- a listener of the step has the mark that its number had
+primed_carried : (w : World) (s : Step) → IsSound w → (l : Listener) → Contains (listeners_after w s) l → primed_before w.listeners l.number ≡ l.is_primed
+primed_carried w s h l m = elim (left_or_more w s) [
+  | inl e ↦ primed_there w h l (Contains-from_filter e.test w.listeners l (subst (λ ls. Contains ls l) e.left m))
+  | inr e ↦ elim (Contains-append_cases w.listeners (first_seen w e.seat e.query ∷ []) l (subst (λ ls. Contains ls l) e.more m)) [
+    | inl old ↦ primed_there w h l old
+    | inr new ↦ primed_new w h e.seat e.query l new.0 new.1 new.2
+  ]
+]
+
+primed_renewed : (b : Brought) (ws : List Write) (l : Listener) → (renewed b ws l).is_primed ≡ (l.is_primed || is_known b ws l.query)
+primed_renewed b ws l =
+    elim (l.is_primed || is_known b ws l.query) as (λ k. (l.is_primed || is_known b ws l.query) ≡ k → (cond k (primed_view b ws l) l).is_primed ≡ k) [
+      | true ↦ λ e. refl
+      | false ↦ λ e. unprimed l.is_primed (is_known b ws l.query) e
+    ] refl
+  where
+    unprimed : (p k : Bool) → (p || k) ≡ false → p ≡ false
+    unprimed true k e = e
+    unprimed false k e = refl
+
+primed_done : (w : World) (s : Step) → IsSound w → All (λ l. l.is_primed ≡ primed_in w (next w s) l) (next w s).listeners
+primed_done w s h =
+    let b = brought_after w s in
+    let ws = pending (requests_after w s) in
+    All-map (λ (l : Listener). l.is_primed ≡ primed_in w (next w s) l) (renewed b ws) (listeners_after w s) (λ k d lt.
+    let l = slice_index_or (listeners_after w s) k d in
+    let before = primed_carried w s h l (Contains-get_or (listeners_after w s) k d lt) in
+    primed_renewed b ws l
+    ∙ (λ i. sym before i || is_known b ws l.query)
+    ∙ (λ i. primed_before w.listeners (sym (number-renewed b ws l) i) || is_known b ws (sym (query-renewed b ws l) i)))
+
+primed_same : (w : World) → IsSound w → All (λ l. l.is_primed ≡ primed_in w w l) w.listeners
+primed_same w h k d lt =
+    let l = slice_index_or w.listeners k d in
+    let m = Contains-get_or w.listeners k d lt in
+    let known = is_known w.brought (pending w.requests) l.query in
+    either l.is_primed known (All-contains (λ (x : Listener). is_known w.brought (pending w.requests) x.query ≡ true → x.is_primed ≡ true) w.listeners l h.primed m)
+    ∙ (λ i. sym (primed_there w h l m) i || known)
+  where
+    either : (p k : Bool) → (k ≡ true → p ≡ true) → p ≡ (p || k)
+    either true k f = refl
+    either false false f = refl
+    either false true f = f refl
+
+-- ---- messages
+
+sends_of : (w : World) (s : Step) → IsSound w → (begun ended : List Tagged)
+    → messages_of w s ≡ listens begun ++ unlistens ended ++ asks_due w s (next w s)
+    → (is_connected_after w s ≡ false → (begun ≡ []) × (ended ≡ []))
+    → Sends w s (next w s)
+sends_of w s h begun ended messages silent = record {
+  begun = begun;
+  ended = ended;
+  outgoing = ap (λ m. outgoing_before w s ++ m) messages;
+  heard = λ on. ap (λ m. fold heard_after w.kept (events_before s ++ map Made m)) (sym messages) ∙ heard-done w s w.kept h (λ _. refl) on;
+  silent = silent;
+}
+
+-- a step that leaves the connection as it is
+sends_going : (w : World) (s : Step) → IsSound w → is_connected_after w s ≡ w.is_connected
+    → messages_of w s ≡ cond w.is_connected (messages_online w s) [] → Sends w s (next w s)
+sends_going w s h same messages =
+    elim w.is_connected as (λ b. w.is_connected ≡ b → Sends w s (next w s)) [
+      | true ↦ λ e.
+          sends_of w s h (started_by w s) (stopped_by w s)
+          (messages ∙ ap (λ b. cond b (messages_online w s) []) e
+          ∙ (λ i. listens (started_by w s) ++ unlistens (stopped_by w s) ++ cond (sym (same ∙ e) i) (cond (sym e i) (request_sent w s) (map request_message (requests_after w s))) []))
+          (λ f. absurd (true≢false (sym (same ∙ e) ∙ f)))
+      | false ↦ λ e.
+          sends_of w s h [] []
+          (messages ∙ ap (λ b. cond b (messages_online w s) []) e
+          ∙ (λ i. cond (sym (same ∙ e) i) (cond w.is_connected (request_sent w s) (map request_message (requests_after w s))) []))
+          (λ f. (refl, refl))
+    ] refl
+
+-- one that opens a connection found none
+was_closed : (w : World) → refusal w Step.Connected ≡ None → w.is_connected ≡ false
+was_closed w r =
+    elim w.is_connected as (λ b. w.is_connected ≡ b → b ≡ false) [
+      | true ↦ λ e. absurd (some_none AlreadyConnected ((λ i. option_map (λ (x : Bool × CoreError). x.1) (cond (sym e i) (Some (sym e i, AlreadyConnected)) None)) ∙ r))
+      | false ↦ λ e. refl
+    ] refl
+  where
+    some_none : (x : CoreError) → ◌≡◌ {A = Option CoreError} (Some x) None → ⊥
+    some_none x e = cc
+
+sends : (w : World) (s : Step) → IsSound w → refusal w s ≡ None → Sends w s (next w s)
+sends w Step.Connected h r =
+    sends_of w Step.Connected h w.kept []
+    (λ i. sym (append-nil (listens w.kept)) i ++ cond (sym (was_closed w r) i) (request_sent w Step.Connected) (map request_message w.requests)) (λ f. absurd (true≢false f))
+sends w Step.Disconnected h r = sends_of w Step.Disconnected h [] [] refl (λ f. (refl, refl))
+sends w (Step.Listen seat query) h r = sends_going w (Step.Listen seat query) h refl refl
+sends w (Step.Unlisten seat listener) h r = sends_going w (Step.Unlisten seat listener) h refl refl
+sends w (Step.Write seat action) h r = sends_going w (Step.Write seat action) h refl refl
+sends w (Step.OnDisconnect seat ending) h r = sends_going w (Step.OnDisconnect seat ending) h refl refl
+sends w (Step.Data tag path tree) h r = sends_going w (Step.Data tag path tree) h refl refl
+sends w (Step.DataMerge tag entries) h r = sends_going w (Step.DataMerge tag entries) h refl refl
+sends w (Step.Accepted id) h r = sends_going w (Step.Accepted id) h refl refl
+sends w (Step.Refused id why) h r = sends_going w (Step.Refused id why) h refl refl
+sends w (Step.Revoked tag why) h r = sends_going w (Step.Revoked tag why) h refl refl
+sends w (Step.CloseSeat seat) h r = sends_going w (Step.CloseSeat seat) h refl refl
+
+-- ---- what is made
+
+unseen_renewed : (b : Brought) (ws : List Write) (ls : List Listener) → map unseen (map (renewed b ws) ls) ≡ map unseen ls
+unseen_renewed b ws [] = refl
+unseen_renewed b ws (l ∷ ls) = λ i. one i ∷ unseen_renewed b ws ls i
+  where
+    one : unseen (renewed b ws l) ≡ unseen l
+    one = elim (l.is_primed || is_known b ws l.query) as (λ k. unseen (cond k (primed_view b ws l) l) ≡ unseen l) [ true ↦ refl | false ↦ refl ]
+
+makes : (w : World) (s : Step) → IsSound w → refusal w s ≡ None → Makes w s (next w s)
+makes w s h r =
+    let b = brought_after w s in
+    let ws = pending (requests_after w s) in
+    record {
+      limits = refl;
+      listeners = unseen_renewed b ws (listeners_after w s);
+      requests = refl;
+      brought = ap (λ rs. recover (forms rs) (map (λ (k : Tagged). k.form) (kept_after w s)) (pushed w s)) (sym (registered-renewed b ws (listeners_after w s)));
+      connected = refl;
+      sends = sends w s h r;
+      next_listener = refl;
+      next_request = refl;
+      next_tag = refl;
+    }
+
+-- ---- one step
+
+-- the step, whichever it is
+moves_by : (w : World) (s : Step) (o : Option CoreError) (b : Bool) → refusal w s ≡ o → is_stale w s ≡ b → AreKept (step_by o b w s).0 → IsSound w
+    → Moves w s (step_by o b w s).1 (step_by o b w s).0
+moves_by w s (Some e) b r t kept h = record {
+  answered = λ i. option_map_or Err (sym r i) (cond (is_stale w s) (Ok stale_report) (done_answer w s w));
+  made = subst (λ d. MakesOrLeaves d w s w) (λ i. is_none (sym r i) && not (is_stale w s)) refl;
+  kept = kept;
+  primed = primed_same w h;
+  shown = step_up_to_date w s (Some e) b h;
+}
+moves_by w s None true r t kept h = record {
+  answered = λ i. option_map_or Err (sym r i) (cond (sym t i) (Ok stale_report) (done_answer w s w));
+  made = subst (λ d. MakesOrLeaves d w s w) (λ i. is_none (sym r i) && not (sym t i)) refl;
+  kept = kept;
+  primed = primed_same w h;
+  shown = step_up_to_date w s None true h;
+}
+moves_by w s None false r t kept h = record {
+  answered = λ i. option_map_or Err (sym r i) (cond (sym t i) (Ok stale_report) (done_answer w s (next w s)));
+  made = subst (λ d. MakesOrLeaves d w s (next w s)) (λ i. is_none (sym r i) && not (sym t i)) (makes w s h r);
+  kept = kept;
+  primed = primed_done w s h;
+  shown = step_up_to_date w s None false h;
+}
+
+-- a step of a sound world
+pub moves : (w : World) (s : Step) → AreKept (step w s).0 → IsSound w → Moves w s (step w s).1 (step w s).0
+moves w s kept h = moves_by w s (refusal w s) (is_stale w s) refl refl kept h

@@ -1,0 +1,35 @@
+use Rattle.std.proofs.Common.{◌==◌, sym, ap, arith}
+use mathlib.Core.Bool.{true≢false}
+use Rattle.rt_tree.specs.PathTree.{null, of_leaf, is_null, leaf_at, sub, put, with_children, children_alone, levels}
+use Rattle.rt_tree.specs.Children.{children_of}
+use Rattle.rt_tree.specs.TreeEq.{tree_eq}
+use Rattle.rt_cache.specs.Brought.{Brought}
+use Rattle.rt_world.specs.declared.step.Step.{Step}
+use Rattle.rt_world.specs.Answers.{Answer}
+use Rattle.rt_world.specs.Headline.{Makes}
+use Rattle.rt_world.specs.laws.Script.{num}
+use Rattle.rt_world.specs.laws.False.{a, listening, showing}
+use Rattle.rt_world.proofs.Seen.{is_nil, notes_of, seat_of, shows_eight, was_done}
+use Rattle.rt_world.proofs.falses.false_pushes.Goals as goal
+
+pub returns-clause-dropped : goal.returns-clause-dropped
+unfolding null of_leaf is_null leaf_at sub put with_children children_alone levels children_of tree_eq
+returns-clause-dropped c = λ m.
+    let made : Makes listening (Step.Data 1 a (num 7)) listening = m.made in
+    true≢false (ap (λ (b : Brought). is_nil b.regions) made.brought)
+
+pub returns-clause-stale : goal.returns-clause-stale
+unfolding null of_leaf is_null leaf_at sub put with_children children_alone levels children_of tree_eq
+returns-clause-stale c = λ m. true≢false (sym (ap was_done m.answered))
+
+pub returns-clause-nobody : goal.returns-clause-nobody
+unfolding null of_leaf is_null leaf_at sub put with_children children_alone levels children_of tree_eq
+returns-clause-nobody c = λ m. true≢false (ap (λ (x : Answer). is_nil (notes_of x)) m.answered)
+
+pub returns-clause-another : goal.returns-clause-another
+unfolding null of_leaf is_null leaf_at sub put with_children children_alone levels children_of tree_eq
+returns-clause-another c = λ m. true≢false (ap (λ (x : Answer). seat_of (notes_of x) == 2) m.answered)
+
+pub returns-clause-shown : goal.returns-clause-shown
+unfolding null of_leaf is_null leaf_at sub put with_children children_alone levels children_of tree_eq
+returns-clause-shown c = λ m. true≢false (ap shows_eight (m.shown 0 (showing 8) (omega arith)).view)

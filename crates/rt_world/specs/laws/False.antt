@@ -1,0 +1,145 @@
+-- Steps and runs as they must not be: the headline is met by none of these.
+use Rattle.std.specs.Prelude.{ℕ, true, List, [], ◌∷◌, Option, Some, None, Ok, Err, codes, pos}
+use Rattle.rt_tree.specs.Leaf.{number}
+use Rattle.rt_tree.specs.Path.{path_keys}
+use Rattle.rt_tree.specs.PathTree.{Path}
+use Rattle.rt_query.specs.Queries.{plain}
+use Rattle.rt_view.specs.declared.change.Change.TheVariants.{Value}
+use Rattle.rt_wire.specs.declared.request.Action.TheVariants.{Put}
+use Rattle.rt_world.specs.declared.error.CoreError.TheVariants.{TooManyListeners}
+use Rattle.rt_world.specs.declared.report.Body.TheVariants.{Settled, Cancelled}
+use Rattle.rt_world.specs.declared.report.Note.{Note}
+use Rattle.rt_world.specs.declared.report.Outcome.TheVariants.{Done}
+use Rattle.rt_world.specs.declared.step.Step.{Step}
+use Rattle.rt_world.specs.World.{World, Listener}
+use Rattle.rt_world.specs.Answers.{Answer, stale_report, step, world_after}
+use Rattle.rt_world.specs.Headline.{Moves, Headline}
+use Rattle.rt_world.specs.laws.Script.{fresh, num, told, batch, shown_leaf}
+
+-- no such step
+abbrev pub Never : World → Step → Answer → World → Type 0
+Never old s answer new = Moves old s answer new → ⊥
+
+abbrev pub done : Option ℕ → List Note → Answer
+done given notes = Ok (record { outcome = Done; given = given; notes = notes })
+
+abbrev pub a : Path
+a = path_keys (codes "/a")
+
+-- a connection; then seat 1 listens to /a; then 7 is pushed there; then the seat sets it to 8
+abbrev pub connected : World
+connected = world_after fresh (Step.Connected ∷ [])
+
+abbrev pub listening : World
+listening = world_after connected (Step.Listen 1 (plain a) ∷ [])
+
+abbrev pub seeing : World
+seeing = world_after listening (Step.Data 1 a (num 7) ∷ [])
+
+abbrev pub written : World
+written = world_after seeing (Step.Write 1 (Put a (num 8)) ∷ [])
+
+-- the listener, as it shows that number
+abbrev pub showing : ℕ → Listener
+showing n = record {
+  number = 1;
+  seat = 1;
+  query = plain a;
+  is_primed = true;
+  view = shown_leaf (number (pos n));
+}
+
+-- ---- listeners
+
+-- a listen is answered, and nobody listens
+abbrev pub ListenLeavesNothing : Type 0
+ListenLeavesNothing = Never fresh (Step.Listen 1 (plain a)) (done (Some 1) []) fresh
+
+-- a listen comes too late
+abbrev pub ListenIsStale : Type 0
+ListenIsStale = Never fresh (Step.Listen 1 (plain a)) (Ok stale_report) fresh
+
+-- the first listener is one too many
+abbrev pub ListenIsRefused : Type 0
+ListenIsRefused = Never fresh (Step.Listen 1 (plain a)) (Err TooManyListeners) fresh
+
+-- the server does not hear of a listen
+abbrev pub ListenIsNotSent : Type 0
+ListenIsNotSent =
+    Never connected (Step.Listen 1 (plain a)) (done (Some 1) []) (record listening { outgoing = [] })
+
+-- no listen is kept
+abbrev pub NoListenIsKept : Type 0
+NoListenIsKept =
+    Never connected (Step.Listen 1 (plain a)) (done (Some 1) []) (record listening { kept = [] })
+
+-- another seat is told of a listener's end
+abbrev pub EndIsToldToAnother : Type 0
+EndIsToldToAnother =
+    let s = Step.Revoked 1 (codes "denied") in
+    Never seeing s (done None (told 2 (Cancelled 1 (codes "denied")) ∷ [])) (step seeing s).0
+
+-- ---- pushes
+
+-- a push changes nothing
+abbrev pub PushIsDropped : Type 0
+PushIsDropped = Never listening (Step.Data 1 a (num 7)) (done None []) listening
+
+-- a push on a kept listen comes too late
+abbrev pub PushIsStale : Type 0
+PushIsStale = Never listening (Step.Data 1 a (num 7)) (Ok stale_report) listening
+
+-- nobody is told of a push
+abbrev pub PushIsNotTold : Type 0
+PushIsNotTold = Never listening (Step.Data 1 a (num 7)) (done None []) seeing
+
+-- another seat is told
+abbrev pub PushIsToldToAnother : Type 0
+PushIsToldToAnother =
+    Never listening (Step.Data 1 a (num 7)) (done None (told 2 (batch 1 (Value (num 7) ∷ [])) ∷ []))
+    seeing
+
+-- a push of 7 shows 8
+abbrev pub PushShowsAnother : Type 0
+PushShowsAnother =
+    Never listening (Step.Data 1 a (num 7)) (done None (told 1 (batch 1 (Value (num 8) ∷ [])) ∷ []))
+    (record seeing { listeners = showing 8 ∷ [] })
+
+-- ---- writes
+
+-- a write does not show
+abbrev pub WriteShowsNothing : Type 0
+WriteShowsNothing =
+    Never seeing (Step.Write 1 (Put a (num 8))) (done (Some 1) [])
+    (record written { listeners = seeing.listeners })
+
+-- a write is forgotten
+abbrev pub WriteIsForgotten : Type 0
+WriteIsForgotten =
+    Never seeing (Step.Write 1 (Put a (num 8)))
+    (done (Some 1) (told 1 (batch 1 (Value (num 8) ∷ [])) ∷ [])) (record written { requests = [] })
+
+-- a settled write stays pending
+abbrev pub SettledIsPending : Type 0
+SettledIsPending =
+    Never written (Step.Accepted 1) (done None (told 1 (Settled 1 None) ∷ [])) written
+
+-- a refused write still shows
+abbrev pub RefusedStillShows : Type 0
+RefusedStillShows =
+    let s = Step.Refused 1 (codes "denied") in
+    Never written s (done None (told 1 (Settled 1 (Some (codes "denied"))) ∷ []))
+    (record (step written s).0 { listeners = showing 8 ∷ [] })
+
+-- ---- runs
+
+-- a run does nothing, whatever it answers
+abbrev pub RunDoesNothing : Type 0
+RunDoesNothing =
+    (answers : List Answer) → Headline fresh (Step.Listen 1 (plain a) ∷ []) answers fresh → ⊥
+
+-- a run stops before its last step, wherever it ends
+abbrev pub RunStopsShort : Type 0
+RunStopsShort =
+    (answer : Answer) (new : World)
+    → Headline fresh (Step.Connected ∷ Step.Listen 1 (plain a) ∷ []) (answer ∷ []) new → ⊥

@@ -1,0 +1,43 @@
+// Steps and runs as they must not be, refuted: trees compute here.
+#![tactic(auto, unfolding(rt_tree::specs::PathTree::null, rt_tree::specs::PathTree::of_leaf, rt_tree::specs::PathTree::is_null, rt_tree::specs::PathTree::leaf_at, rt_tree::specs::PathTree::sub, rt_tree::specs::PathTree::put, rt_tree::specs::PathTree::with_children, rt_tree::specs::PathTree::children_alone, rt_tree::specs::PathTree::levels, rt_tree::specs::Children::children_of, rt_tree::specs::TreeEq::tree_eq))]
+
+ghost use Rattle.rt_world.specs.laws.False.{ListenLeavesNothing, ListenIsStale, ListenIsRefused};
+ghost use Rattle.rt_world.specs.laws.False.{ListenIsNotSent, NoListenIsKept, EndIsToldToAnother};
+ghost use Rattle.rt_world.specs.laws.False.{PushIsDropped, PushIsStale, PushIsNotTold};
+ghost use Rattle.rt_world.specs.laws.False.{PushIsToldToAnother, PushShowsAnother};
+ghost use Rattle.rt_world.specs.laws.False.{WriteShowsNothing, WriteIsForgotten, SettledIsPending};
+ghost use Rattle.rt_world.specs.laws.False.{RefusedStillShows, RunDoesNothing, RunStopsShort};
+
+/// A listen that leaves nothing, comes too late, is refused, is not sent or not kept; another seat
+/// that is told of an end.
+pub fn false_listens()
+    ensures nothing { ListenLeavesNothing }
+    ensures stale { ListenIsStale }
+    ensures refused { ListenIsRefused }
+    ensures sent { ListenIsNotSent }
+    ensures kept { NoListenIsKept }
+    ensures end { EndIsToldToAnother }
+{}
+
+/// A push that is dropped, comes too late, is told to nobody or to another, or shows something else.
+pub fn false_pushes()
+    ensures dropped { PushIsDropped }
+    ensures stale { PushIsStale }
+    ensures nobody { PushIsNotTold }
+    ensures another { PushIsToldToAnother }
+    ensures shown { PushShowsAnother }
+{}
+
+/// A write that does not show or is forgotten; one that is settled and stays, or is refused and shows.
+pub fn false_writes()
+    ensures shown { WriteShowsNothing }
+    ensures forgotten { WriteIsForgotten }
+    ensures settled { SettledIsPending }
+    ensures refused { RefusedStillShows }
+{}
+
+/// A run that does nothing, and one that stops short.
+pub fn false_runs()
+    ensures nothing { RunDoesNothing }
+    ensures short { RunStopsShort }
+{}
