@@ -1,7 +1,6 @@
-use Rattle.std.proofs.Common.{◌≡◌, Option, None, Err, inl, inr, refl, sym, ap, subst, ◌∙◌}
+use Rattle.std.proofs.Common.{Err, inl, inr, refl, sym, ap, ◌∙◌}
 use Rattle.std.specs.Prelude.{◌==◌}
 use Rattle.std.specs.List.{find}
-use Rattle.std.specs.Option.{option_map_or}
 use Rattle.rt_world.specs.Answers.{view_before}
 use Rattle.rt_world.specs.World.{Listener, World}
 use Rattle.rt_core.proofs.ViewLaws.{is_found, view_found, view_lost}
