@@ -1,24 +1,20 @@
 -- What is done and printed by what a core answers.
-use Rattle.std.proofs.Common.{◌≡◌, ◌≢◌, ◌⊎◌, inl, inr, OnOk, OnErr, subst, ℕ, List, [], ◌∷◌, length, Bool, true, false, not, Option, Some, None, Result, Ok, Err, refl, ap, sym, ◌∙◌}
-use Rattle.std.specs.Prelude.{◌==◌}
+use Rattle.std.proofs.Common.{◌≡◌, ◌≢◌, inl, inr, OnOk, OnErr, subst, ℕ, List, true, false, Option, Some, None, Result, Ok, Err, refl, ap, sym, ◌∙◌}
 use Rattle.rt_query.specs.Select.{Shown}
-use Rattle.rt_cover.specs.declared.kept.Kept.{Kept}
 use Rattle.rt_world.specs.declared.error.CoreError.{CoreError}
 use Rattle.rt_world.specs.declared.error.CoreError.TheVariants as core_error
 use Rattle.rt_world.specs.declared.step.Step.{Step}
-use Rattle.rt_world.specs.declared.step.Step.TheVariants as step
 use Rattle.rt_world.specs.World.{World}
 use Rattle.rt_world.specs.Answers.{Answer}
 use Rattle.rt_world.specs.Answers as world
-use Rattle.rt_core.specs.Core.{Applies, Covers, IsTaken, Views}
+use Rattle.rt_core.specs.Core.{Applies, Views}
 use Rattle.rt_lines.specs.declared.error.LineError.{LineError}
 use Rattle.rt_lines.specs.declared.error.LineError.TheVariants.{Bad, Refused, NoMemory}
 use Rattle.rt_lines.specs.declared.error.Refusal.TheVariants.{Core, NotTakenYet}
 use Rattle.rt_lines.specs.declared.line.Line.{Line}
 use Rattle.rt_lines.specs.declared.line.Line.TheVariants as line
-use Rattle.rt_lines.specs.Lines.{line_of_bytes}
-use Rattle.rt_lines.specs.Printing.{cover_text, refusal_text, view_text}
-use Rattle.rt_lines.specs.Doing.{AskedLacks, Done, LineLacks, answer_text, asked_done, bytes_done, has_form, is_good, is_taken, kept_text, line_done, listener_text, only_prints, shown_or_refusal, step_done, step_made}
+use Rattle.rt_lines.specs.Printing.{refusal_text, view_text}
+use Rattle.rt_lines.specs.Doing.{AskedLacks, Done, LineLacks, answer_text, asked_done, is_taken, line_done, listener_text, only_prints, shown_or_refusal, step_done, step_made}
 use Rattle.rt_lines.proofs.Waiting.{lacks_all}
 
 -- what holds on an error

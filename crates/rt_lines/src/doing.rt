@@ -48,12 +48,7 @@ fn refuse(out: &mut String, error: CoreError) -> Result<(), AllocError>
 }
 
 // Makes a step, and prints what the core answers.
-fn make_step(
-    out: &mut String,
-    alloc: Global,
-    core: &mut Core,
-    step: Step,
-) -> Result<(), AllocError>
+fn make_step(out: &mut String, alloc: Global, core: &mut Core, step: Step) -> Result<(), AllocError>
     ensures core { OnOk result (core.new ≡ (step_done step core.old).core) }
     ensures printed { OnOk result (Appends out.old out.new (step_done step core.old).printed) }
     ensures lacking { OnErr result (LineLacks (Line.Step step) core.old core.new) }
@@ -102,12 +97,7 @@ fn show_cover(out: &mut String, alloc: Global, core: &Core) -> Result<(), AllocE
 }
 
 // Prints what the listener of that number shows.
-fn show_view(
-    out: &mut String,
-    alloc: Global,
-    core: &Core,
-    listener: u64,
-) -> Result<(), AllocError>
+fn show_view(out: &mut String, alloc: Global, core: &Core, listener: u64) -> Result<(), AllocError>
     ensures { OnOk result (Appends out.old out.new (listener_text listener core.now)) }
 {
     match core.view(listener) {

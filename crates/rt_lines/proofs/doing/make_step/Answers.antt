@@ -1,5 +1,4 @@
 use Rattle.std.proofs.Common.{rules, ◌≡◌, true, false, List, ℕ, ◌∙◌, sym}
-use Rattle.rt_lines.specs.Doing.{is_taken}
 use Rattle.rt_lines.specs.inside.Appending.{Appends}
 use Rattle.rt_lines.proofs.Doings.{refused_by, refused_untaken}
 use Rattle.rt_lines.proofs.doing.make_step.Goals as goal

@@ -1,4 +1,4 @@
-use Rattle.std.proofs.Common.{ℕ, length}
+use Rattle.std.proofs.Common.{length}
 use Rattle.rt_lines.specs.Doing.{waiting}
 use Rattle.rt_lines.proofs.Waiting.{HasTaken}
 use Rattle.rt_lines.proofs.doing.take_messages.Given as goal
