@@ -1,11 +1,21 @@
 -- What lines print, which is written in pieces.
-use Rattle.std.proofs.Common.{◌≡◌, ℕ, List, [], ◌∷◌, ◌++◌, Bool, true, false, cond, Option, Some, None, string_bytes, refl, sym, ap, subst, ◌∙◌, append-nil, append_assoc}
+use Rattle.std.proofs.Common.{◌≡◌, ℕ, List, [], ◌∷◌, ◌++◌, Bool, true, false, cond, Option, Some, None, Result, Ok, Err, IfOk, OnOk, string_bytes, refl, sym, ap, subst, ◌∙◌, append-nil, append_assoc}
 use Rattle.std.specs.Io.KnownBytes.{Appends, Keeps}
 use Rattle.rt_world.specs.World.{World}
 use Rattle.rt_lines.specs.Doing.{bytes_done, is_good}
 use Rattle.rt_console.specs.declared.script.Script.{Script}
 use Rattle.rt_console.specs.Run.{Progress, Ran, after_line, after_lines, lines_of, one_more, start}
 use Rattle.rt_console.specs.inside.Pieces.{Runs, so_far}
+
+-- ---- answers
+
+pub on_ok : {A E : Type 0} (P Q : Type 0) (r : Result A E) → (P → Q) → OnOk r P → OnOk r Q
+on_ok P Q (Ok x) f h = f h
+on_ok P Q (Err e) f h = h
+
+pub if_ok_three : {A E : Type 0} (P Q : Type 0) (F G : A → Type 0) (r : Result A E) → ((x : A) → P → Q → F x → G x) → OnOk r P → OnOk r Q → IfOk r F → IfOk r G
+if_ok_three P Q F G (Ok x) f p q h = f x p q h
+if_ok_three P Q F G (Err e) f p q h = h
 
 -- ---- known bytes
 
