@@ -13,6 +13,10 @@ pub on_ok : {A E : Type 0} (P Q : Type 0) (r : Result A E) → (P → Q) → OnO
 on_ok P Q (Ok x) f h = f h
 on_ok P Q (Err e) f h = h
 
+pub on_ok_always : {A E : Type 0} (P : Type 0) (r : Result A E) → P → OnOk r P
+on_ok_always P (Ok x) h = h
+on_ok_always P (Err e) h = tt
+
 pub if_ok_three : {A E : Type 0} (P Q : Type 0) (F G : A → Type 0) (r : Result A E) → ((x : A) → P → Q → F x → G x) → OnOk r P → OnOk r Q → IfOk r F → IfOk r G
 if_ok_three P Q F G (Ok x) f p q h = f x p q h
 if_ok_three P Q F G (Err e) f p q h = h

@@ -7,7 +7,7 @@ use Rattle.rt_console.proofs.Written.{Runs-none}
 use Rattle.rt_console.proofs.script.Script.read_all.Goals as goal
 
 pub input-init : goal.input-init
-input-init g c = (search rules, refl, refl, search rules, omega arith, λ text e. (text, e, ([], refl, Runs-none _ _)))
+input-init g c = (search rules, refl, refl, search rules, omega arith, λ text e. (text, e, ([], refl, Runs-none (g.D.Drain.contents c.args.writer.now) c.args.self.now)))
 
 pub returns-then-count-eq0-clause-ran : goal.returns-then-count-eq0-clause-ran
 returns-then-count-eq0-clause-ran g c = λ text e.

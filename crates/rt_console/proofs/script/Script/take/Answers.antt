@@ -1,12 +1,12 @@
 use Rattle.std.proofs.Common.{rules, ◌≡◌, List, ℕ, [], ◌∷◌, ◌++◌, sym, refl, subst, ◌∙◌}
 use Rattle.rt_console.specs.Run.{lines_of}
 use Rattle.rt_console.specs.inside.Pieces.{Runs, resumed, so_far}
-use Rattle.rt_console.proofs.Runs.{Took-line}
-use Rattle.rt_console.proofs.Written.{Runs-none}
+use Rattle.rt_console.proofs.Runs.{Took-line, Took-rest}
+use Rattle.rt_console.proofs.Written.{Runs-none, Runs-written, on_ok}
 use Rattle.rt_console.proofs.script.Script.take.Goals as goal
 
 pub loop-end-init : goal.loop-end-init
-loop-end-init g c = (refl, ([], refl, Runs-none _ _))
+loop-end-init g c = (refl, ([], refl, Runs-none (g.D.Drain.contents c.args.writer.now) c.args.self.now))
 
 pub loop-end-preserved : goal.loop-end-preserved
 loop-end-preserved g c =
@@ -18,4 +18,10 @@ loop-end-preserved g c =
     )
 
 pub returns-clause-takes : goal.returns-clause-takes
-returns-clause-takes g c = ?
+returns-clause-takes g c =
+    let whole : List (List ℕ) = resumed c.args.self.now.line.items (lines_of c.args.bytes.now) in
+    let split : lines_of c.loop-end.rest.now ≡ c.loop-end.rest.now ∷ [] = search rules in
+    let kept : c.write_out.new.self.line.items ≡ c.loop-end.self.line.items ++ c.loop-end.rest.now = search rules in
+    on_ok _ _ c.write_out.result (λ written.
+    Took-rest whole _ _ _ (g.D.Drain.contents c.write_out.new.writer) c.loop-end.self c.write_out.new.self c.loop-end.rest.now c.loop-end.invariant.1 split kept (λ done runs.
+    Runs-written done _ _ _ _ c.loop-end.self c.write_out.new.self runs written c.write_out.ensures.nothing_waits c.write_out.ensures.core c.write_out.ensures.lines c.write_out.ensures.bad_lines)) c.write_out.ensures.written
