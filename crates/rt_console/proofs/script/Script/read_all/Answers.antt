@@ -1,6 +1,6 @@
-use Rattle.std.proofs.Common.{rules, ◌≡◌, ℕ, List, [], ◌∷◌, ◌++◌, take, arith, refl, ap, subst, ◌∙◌}
+use Rattle.std.proofs.Common.{rules, ◌≡◌, ℕ, List, [], ◌++◌, take, arith, refl, ap, subst, ◌∙◌}
 use Rattle.std.proofs.lemmas.Grind.{common_steps}
-use Rattle.rt_console.specs.inside.Pieces.{Runs, Takes, resumed, so_far}
+use Rattle.rt_console.specs.inside.Pieces.{Takes, resumed, so_far}
 use Rattle.rt_console.specs.Run.{lines_of}
 use Rattle.rt_console.proofs.Runs.{Took, Took-text, Took-end, consumed, at_end}
 use Rattle.rt_console.proofs.Written.{Runs-none}

@@ -1,6 +1,7 @@
-use Rattle.std.proofs.Common.{rules, ◌≡◌, List, ℕ, [], ◌∷◌, ◌++◌, sym, refl, subst, ◌∙◌}
-use Rattle.rt_console.specs.Run.{lines_of}
-use Rattle.rt_console.specs.inside.Pieces.{Runs, resumed, so_far}
+use Rattle.std.proofs.Common.{rules, ◌≡◌, List, ℕ, [], ◌∷◌, ◌++◌, refl, subst, ◌∙◌, Option, OnOk, string_bytes}
+use Rattle.std.specs.Io.KnownBytes.{Appends}
+use Rattle.rt_console.specs.Run.{Progress, lines_of}
+use Rattle.rt_console.specs.inside.Pieces.{Runs, Takes, resumed, so_far}
 use Rattle.rt_console.proofs.Runs.{Took-line, Took-rest}
 use Rattle.rt_console.proofs.Written.{Runs-none, Runs-written, on_ok}
 use Rattle.rt_console.proofs.script.Script.take.Goals as goal
@@ -22,6 +23,13 @@ returns-clause-takes g c =
     let whole : List (List ℕ) = resumed c.args.self.now.line.items (lines_of c.args.bytes.now) in
     let split : lines_of c.loop-end.rest.now ≡ c.loop-end.rest.now ∷ [] = search rules in
     let kept : c.write_out.new.self.line.items ≡ c.loop-end.self.line.items ++ c.loop-end.rest.now = search rules in
-    on_ok _ _ c.write_out.result (λ written.
-    Took-rest whole _ _ _ (g.D.Drain.contents c.write_out.new.writer) c.loop-end.self c.write_out.new.self c.loop-end.rest.now c.loop-end.invariant.1 split kept (λ done runs.
-    Runs-written done _ _ _ _ c.loop-end.self c.write_out.new.self runs written c.write_out.ensures.nothing_waits c.write_out.ensures.core c.write_out.ensures.lines c.write_out.ensures.bad_lines)) c.write_out.ensures.written
+    let old : Progress = so_far [] c.args.self.now in
+    let before : Option (List ℕ) = g.D.Drain.contents c.args.writer.now in
+    let now : Option (List ℕ) = g.D.Drain.contents c.loop-end.writer in
+    let after : Option (List ℕ) = g.D.Drain.contents c.write_out.new.writer in
+    let Written : Type 0 = Appends now after (string_bytes c.loop-end.self.printed) in
+    let Done : Type 0 = Takes c.args.self.now.line.items c.args.bytes.now old before c.write_out.new.self after in
+    let wrote : OnOk c.write_out.result Written = c.write_out.ensures.written in
+    on_ok Written Done c.write_out.result (λ written.
+    Took-rest whole old before now after c.loop-end.self c.write_out.new.self c.loop-end.rest.now c.loop-end.invariant.1 split kept (λ done runs.
+    Runs-written done old before now after c.loop-end.self c.write_out.new.self runs written c.write_out.ensures.nothing_waits c.write_out.ensures.core c.write_out.ensures.lines c.write_out.ensures.bad_lines)) wrote
