@@ -1,4 +1,2 @@
-mod FirstFaults
-mod LineBytes
-mod LineParts
 mod Runs
+mod Written

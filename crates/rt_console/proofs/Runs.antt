@@ -1,18 +1,15 @@
 -- Lines of a text, and runs over them.
-use Rattle.std.proofs.Common.{◌≡◌, Result, Ok, Err, IfOk, ℕ, suc, ◌+◌, ◌<◌, ◌≤◌, List, [], ◌∷◌, ◌++◌, length, take, drop, Bool, true, false, cond, not, nat_lt, Option, Some, None, is_some, option_and_then, arith, refl, sym, ap, subst, ◌∙◌, append-nil}
-use Rattle.std.specs.Prelude.{◌==◌, position, is_none}
+use Rattle.std.proofs.Common.{◌≡◌, ℕ, suc, ◌+◌, ◌<◌, ◌≤◌, List, [], ◌∷◌, ◌++◌, length, take, drop, Bool, true, false, cond, not, nat_lt, Option, Some, None, arith, refl, sym, ap, subst, ◌∙◌, append-nil}
+use Rattle.std.specs.Prelude.{◌==◌, position}
 use Rattle.std.specs.Io.KnownBytes.{Consumes, IsAtEnd}
 use Rattle.std.specs.List.{onto_first, position_or_len, prefix_len}
 use Rattle.std.proofs.lemmas.Bool.Decides.{nat_tests}
 use Rattle.std.proofs.lemmas.List.Quantifiers.{position-Some}
 use Rattle.std.proofs.lemmas.List.Splits.{slice_split_first}
-use Rattle.rt_console.specs.declared.task.Task.{Task}
-use Rattle.rt_tree.specs.declared.error.TreeError.{TreeError}
-use Rattle.rt_console.specs.Lines.{Line}
-use Rattle.rt_console.specs.Tasks.{words_fault, task_of}
-use Rattle.rt_console.specs.Prints.{State, Does, DoesUnless, DoesOrIsBad, EndsLine}
-use Rattle.rt_console.specs.Run.{After, AfterLine, AfterLines, Progress, is_bad, line_of_bytes, lines_of, step_of, step_of_line, step_unless, task_step}
-use Rattle.rt_console.specs.inside.Pieces.{Takes, resumed}
+use Rattle.rt_console.specs.declared.script.Script.{Script}
+use Rattle.rt_console.specs.Run.{Progress, lines_of}
+use Rattle.rt_console.specs.inside.Pieces.{Runs, Takes, resumed, so_far}
+use Rattle.rt_console.proofs.Written.{Runs-append}
 
 -- ---- pieces
 
@@ -47,72 +44,34 @@ lines_of-Some xs i e =
     let P : ℕ → Type 0 = λ n. lines_of xs ≡ take n xs ∷ lines_of (drop (n + 1) xs) in
     subst P is (slice_split_first is_feed xs 0 within)
 
--- ---- runs
-
-pub AfterLines-append : (ls ms : List (List ℕ)) (a b c : Progress) → AfterLines ls a b → AfterLines ms b c → AfterLines (ls ++ ms) a c
-AfterLines-append [] ms a b c e h = let P : Progress → Type 0 = λ x. AfterLines ms x c in subst P e h
-AfterLines-append (l ∷ ls) ms a b c (m, h, k) g = (m, h, AfterLines-append ls ms m b c k g)
-
-pub AfterLines-one : (l : List ℕ) (a b : Progress) → AfterLine l a b → AfterLines (l ∷ []) a b
-AfterLines-one l a b h = (b, h, refl)
-
--- ---- what a line does to the core
-
-task_after : (task : Task) (old new : State) → Does task old new → After (task_step task) old.core new.core
-task_after (Task.Step step) old new (answer, applies, printed, text) = (answer, applies)
-task_after (Task.View listener) old new (answer, views, printed, text) = ap (λ (s : State). s.core) text
-
-unless_after : (fault : Option TreeError) (line : Line) (old new : State) → DoesUnless fault line old new → After (step_unless fault line) old.core new.core
-unless_after None line old new h = task_after (task_of line) old new h
-unless_after (Some e) line old new h = ap (λ (s : State). s.core) h
-
-or_bad_after : (o : Option Line) (number : ℕ) (old new : State) → DoesOrIsBad o number old new → After (option_and_then step_of o) old.core new.core
-or_bad_after None number old new h = ap (λ (s : State). s.core) h
-or_bad_after (Some line) number old new h = unless_after (words_fault line) line old new h
-
-pub After-EndsLine : (bytes : List ℕ) (number : ℕ) (old new : State) → EndsLine bytes number old new → After (step_of_line bytes) old.core new.core
-After-EndsLine [] number old new h = ap (λ (s : State). s.core) h
-After-EndsLine (b ∷ bytes) number old new h = or_bad_after (line_of_bytes (b ∷ bytes)) number old new h
-
 -- ---- more and more of a text
 
 pub resumed-nil : (pieces : List (List ℕ)) → resumed [] pieces ≡ pieces
 resumed-nil [] = refl
 resumed-nil (p ∷ ps) = refl
 
--- of the lines of a whole text some are done, and the others are those of what is left, which goes on with a line
-abbrev pub Took : List (List ℕ) → Progress → List ℕ → List ℕ → Progress → Type 0
-Took whole old line text new = (done : List (List ℕ)) × (whole ≡ done ++ resumed line (lines_of text)) × AfterLines done old new
+-- of the lines of a whole text some are done, and the others are those of what is left, which goes on with the line that is being read
+abbrev pub Took : List (List ℕ) → Progress → Option (List ℕ) → Script → List ℕ → Option (List ℕ) → Type 0
+Took whole old contents script text new_contents =
+    (done : List (List ℕ)) × (whole ≡ done ++ resumed script.line.items (lines_of text)) × Runs done old contents script new_contents
 
 more_done : (done : List (List ℕ)) (l : List ℕ) (left : List (List ℕ)) → done ++ l ∷ left ≡ (done ++ l ∷ []) ++ left
 more_done [] l left = refl
 more_done (d ∷ done) l left = ap (λ ps. d ∷ ps) (more_done done l left)
 
-pub Took-line : (whole : List (List ℕ)) (old between new : Progress) (line text end behind : List ℕ) → Took whole old line text between → lines_of text ≡ end ∷ lines_of behind → AfterLine (line ++ end) between new → Took whole old [] behind new
-Took-line whole old between new line text end behind (done, e, h) split after =
+-- the line that is being read ends, and is done
+pub Took-line : (whole : List (List ℕ)) (old : Progress) (c0 c1 c2 : Option (List ℕ)) (s1 s2 : Script) (text end behind : List ℕ) → Took whole old c0 s1 text c1 → lines_of text ≡ end ∷ lines_of behind → Runs ((s1.line.items ++ end) ∷ []) (so_far [] s1) c1 s2 c2 → s2.line.items ≡ [] → Took whole old c0 s2 behind c2
+Took-line whole old c0 c1 c2 s1 s2 text end behind (done, e, runs) split ran begins =
+    let line : List ℕ = s1.line.items in
     let more : resumed line (lines_of text) ≡ (line ++ end) ∷ resumed [] (lines_of behind) = ap (resumed line) split ∙ ap (λ ps. (line ++ end) ∷ ps) (sym (resumed-nil (lines_of behind))) in
-    (done ++ (line ++ end) ∷ [], e ∙ ap (λ ps. done ++ ps) more ∙ more_done done (line ++ end) (resumed [] (lines_of behind)), AfterLines-append done ((line ++ end) ∷ []) old between new h (AfterLines-one (line ++ end) between new after))
+    let left : whole ≡ (done ++ (line ++ end) ∷ []) ++ resumed [] (lines_of behind) = e ∙ ap (λ ps. done ++ ps) more ∙ more_done done (line ++ end) (resumed [] (lines_of behind)) in
+    let P : List ℕ → Type 0 = λ l. whole ≡ (done ++ (line ++ end) ∷ []) ++ resumed l (lines_of behind) in
+    (done ++ (line ++ end) ∷ [], subst P (sym begins) left, Runs-append done ((line ++ end) ∷ []) old c0 c1 c2 s1 s2 runs ran)
 
-pub Took-rest : (whole : List (List ℕ)) (old new : Progress) (line text kept : List ℕ) → Took whole old line text new → lines_of text ≡ text ∷ [] → kept ≡ line ++ text → (done : List (List ℕ)) × (whole ≡ done ++ kept ∷ []) × AfterLines done old new
-Took-rest whole old new line text kept (done, e, h) split k = (done, e ∙ ap (λ ps. done ++ resumed line ps) split ∙ ap (λ l. done ++ l ∷ []) (sym k), h)
-
--- ---- which lines are bad
-
-none_some : (o : Option Line) → is_some o ≡ true → is_none o ≡ false
-none_some None e = cc
-none_some (Some l) e = refl
-
-none_none : (o : Option Line) → is_some o ≡ false → is_none o ≡ true
-none_none None e = refl
-none_none (Some l) e = cc
-
-pub is_bad-good : (bytes : List ℕ) → is_some (line_of_bytes bytes) ≡ true → is_bad bytes ≡ false
-is_bad-good [] e = refl
-is_bad-good (b ∷ bytes) e = none_some (line_of_bytes (b ∷ bytes)) e
-
-pub is_bad-bad : (bytes : List ℕ) → (length bytes == 0) ≡ false → is_some (line_of_bytes bytes) ≡ false → is_bad bytes ≡ true
-is_bad-bad [] some e = cc
-is_bad-bad (b ∷ bytes) some e = none_none (line_of_bytes (b ∷ bytes)) e
+-- no line ends in what is left, which is kept
+pub Took-rest : (whole : List (List ℕ)) (old : Progress) (c0 c1 c2 : Option (List ℕ)) (s1 s2 : Script) (text : List ℕ) → Took whole old c0 s1 text c1 → lines_of text ≡ text ∷ [] → s2.line.items ≡ s1.line.items ++ text → ((done : List (List ℕ)) → Runs done old c0 s1 c1 → Runs done old c0 s2 c2) → (done : List (List ℕ)) × (whole ≡ done ++ s2.line.items ∷ []) × Runs done old c0 s2 c2
+Took-rest whole old c0 c1 c2 s1 s2 text (done, e, runs) split kept writes =
+    (done, e ∙ ap (λ ps. done ++ resumed s1.line.items ps) split ∙ ap (λ l. done ++ l ∷ []) (sym kept), writes done runs)
 
 -- ---- a text, piece by piece
 
@@ -169,20 +128,20 @@ joined [] b c = refl
 joined (l ∷ a) b c = ap (λ ls. l ∷ ls) (joined a b c)
 
 -- a piece more is taken
-pub Took-text : (whole : List (List ℕ)) (old between new : Progress) (line kept piece more : List ℕ) → Took whole old line (piece ++ more) between → Takes line piece between kept new → Took whole old kept more new
-Took-text whole old between new line kept piece more (done, e, h) (ended, f, k) =
-    let r : (done : List (List ℕ)) × (kept : List ℕ) × (resumed line (lines_of piece) ≡ done ++ kept ∷ []) × (resumed line (lines_of (piece ++ more)) ≡ done ++ resumed kept (lines_of more)) = resumes line piece more in
-    let same : (ended ≡ r.0) × (kept ≡ r.1) = last_same ended r.0 kept r.1 (sym f ∙ r.2) in
-    let left : resumed line (lines_of (piece ++ more)) ≡ ended ++ resumed kept (lines_of more) =
+pub Took-text : (whole : List (List ℕ)) (old : Progress) (c0 c1 c2 : Option (List ℕ)) (s1 s2 : Script) (piece more : List ℕ) → Took whole old c0 s1 (piece ++ more) c1 → Takes s1.line.items piece (so_far [] s1) c1 s2 c2 → Took whole old c0 s2 more c2
+Took-text whole old c0 c1 c2 s1 s2 piece more (done, e, runs) (ended, f, k) =
+    let r : (done : List (List ℕ)) × (kept : List ℕ) × (resumed s1.line.items (lines_of piece) ≡ done ++ kept ∷ []) × (resumed s1.line.items (lines_of (piece ++ more)) ≡ done ++ resumed kept (lines_of more)) = resumes s1.line.items piece more in
+    let same : (ended ≡ r.0) × (s2.line.items ≡ r.1) = last_same ended r.0 s2.line.items r.1 (sym f ∙ r.2) in
+    let left : resumed s1.line.items (lines_of (piece ++ more)) ≡ ended ++ resumed s2.line.items (lines_of more) =
     r.3 ∙ ap (λ d. d ++ resumed r.1 (lines_of more)) (sym same.0) ∙ ap (λ l. ended ++ resumed l (lines_of more)) (sym same.1) in
-    (done ++ ended, e ∙ ap (λ ps. done ++ ps) left ∙ joined done ended (resumed kept (lines_of more)), AfterLines-append done ended old between new h k)
+    (done ++ ended, e ∙ ap (λ ps. done ++ ps) left ∙ joined done ended (resumed s2.line.items (lines_of more)), Runs-append done ended old c0 c1 c2 s1 s2 runs k)
 
 -- nothing is left but the line that is being read
-pub Took-end : (whole : List (List ℕ)) (old between new : Progress) (line : List ℕ) → Took whole old line [] between → AfterLine line between new → AfterLines whole old new
-Took-end whole old between new line (done, e, h) after =
-    let is : whole ≡ done ++ line ∷ [] = e ∙ ap (λ l. done ++ l ∷ []) (append-nil line) in
-    let P : List (List ℕ) → Type 0 = λ w. AfterLines w old new in
-    subst P (sym is) (AfterLines-append done (line ∷ []) old between new h (AfterLines-one line between new after))
+pub Took-end : (whole : List (List ℕ)) (old : Progress) (c0 c1 c2 : Option (List ℕ)) (s1 s2 : Script) → Took whole old c0 s1 [] c1 → Runs (s1.line.items ∷ []) (so_far [] s1) c1 s2 c2 → Runs whole old c0 s2 c2
+Took-end whole old c0 c1 c2 s1 s2 (done, e, runs) ran =
+    let is : whole ≡ done ++ s1.line.items ∷ [] = e ∙ ap (λ l. done ++ l ∷ []) (append-nil s1.line.items) in
+    let P : List (List ℕ) → Type 0 = λ w. Runs w old c0 s2 c2 in
+    subst P (sym is) (Runs-append done (s1.line.items ∷ []) old c0 c1 c2 s1 s2 runs ran)
 
 pub consumed : (old new : Option (List ℕ)) (left piece : List ℕ) → old ≡ Some left → Consumes old new piece → (rest : List ℕ) × (new ≡ Some rest) × (left ≡ piece ++ rest)
 consumed None new left piece e h = cc
@@ -192,7 +151,3 @@ consumed (Some xs) (Some ys) left piece e h = let same : xs ≡ left = cc in (ys
 pub at_end : (new : Option (List ℕ)) (rest : List ℕ) → new ≡ Some rest → IsAtEnd new → rest ≡ []
 at_end None rest e h = cc
 at_end (Some ys) rest e h = let same : ys ≡ rest = cc in sym same ∙ h
-
-pub if_ok_map : {A E : Type 0} (P Q : A → Type 0) (r : Result A E) → ((x : A) → P x → Q x) → IfOk r P → IfOk r Q
-if_ok_map P Q (Ok x) f h = f x h
-if_ok_map P Q (Err e) f h = h

@@ -1,4 +1,2 @@
-pub mod Appending
 pub mod Faults
-pub mod LineView
 pub mod Pieces

@@ -3,11 +3,8 @@
 
 mod arguments;
 mod error;
-mod line;
-mod print;
 mod script;
 mod stream;
-mod task;
 mod words;
 
 use error::ConsoleError;

@@ -1,30 +1,19 @@
 // A run of a script.
-ghost use Rattle.std.specs.Prelude.{◌≡◌, ◌+◌, ◌<◌, ◌≤◌, ◌^◌, ◌⊎◌, ◌++◌, ◌∷◌, [], ◌==◌, ℕ, List};
-ghost use Rattle.std.specs.Prelude.{Option, Some};
+ghost use Rattle.std.specs.Prelude.{◌≡◌, ◌+◌, ◌<◌, ◌≤◌, ◌^◌, ◌⊎◌, ◌∷◌, [], ◌==◌, ℕ, List};
+ghost use Rattle.std.specs.Prelude.{Option, Some, string_bytes};
 ghost use Rattle.std.specs.Prelude.{IfSome, IfOk, IfErr, OnOk, OnErr, IsErrOf, MatchOption};
-ghost use Rattle.std.specs.Prelude.{min, length, is_some, option_and_then, position, take};
-ghost use Rattle.std.specs.Io.KnownBytes.{Consumes, IsAtEnd};
-ghost use Rattle.serde_json.specs.View.{view as data_of};
-ghost use Rattle.rt_sync.specs.World.{World, empty_world, limits_from};
-ghost use Rattle.rt_sync.specs.Runs.{IsPlainStep};
-ghost use Rattle.rt_console.specs.Lines.{line_in};
-ghost use Rattle.rt_console.specs.Run.{After, AfterLine, AfterLines, most_input, progress, start};
-ghost use Rattle.rt_console.specs.Run.{line_of_bytes, lines_of, step_of, step_of_bytes};
-ghost use Rattle.rt_console.specs.Prints.{at, DoesIfLine, DoesLine, DoesStep, DoesView, EndsLine};
+ghost use Rattle.std.specs.Prelude.{length, position, take};
+ghost use Rattle.std.specs.Io.KnownBytes.{Appends, Consumes, IsAtEnd};
+ghost use Rattle.rt_console.specs.Run.{after_line, after_lines, lines_of, most_input, Ran, start};
 ghost use Rattle.rt_console.specs.inside.Faults.{counts, NoneFailed, Tells, WriteTells};
-ghost use Rattle.rt_console.specs.inside.LineView.{as_line};
-ghost use Rattle.rt_console.specs.inside.Pieces.{AfterOrNot, resumed, so_far, Takes};
+ghost use Rattle.rt_console.specs.inside.Pieces.{resumed, Runs, so_far, Takes};
 
 use crate::error::ConsoleError;
-use crate::line::Line;
 use crate::stream::{Drain, Source};
-use crate::task::Task;
-use crate::{line, print, task};
-use rt_sync::{Core, CoreError, Limits, Step};
-use rt_tree::TreeError;
-use serde_json::Value;
+use rt_core::Core;
+use rt_lines::do_bytes;
+use rt_world::Limits;
 use std::alloc::{AllocError, Global};
-use std::fmt::Write;
 
 /// The most bytes of input that a run takes.
 const MOST_INPUT: usize = 67_108_864;
@@ -43,83 +32,6 @@ struct Script {
     bad_lines: u64,
     // What was printed and is not written yet.
     printed: String,
-}
-
-// Makes a step, and prints what the core answers.
-fn make_step(core: &mut Core, alloc: Global, step: Step, out: &mut String) -> Result<(), AllocError>
-    requires { IsPlainStep step }
-    ensures ok { OnOk result (DoesStep step (at core.old out.old) (at core.new out.new)) }
-    ensures made { After (Some step) core.old core.new }
-{
-    match core.apply(step) {
-        Ok(report) => print::write_report(out, alloc, &report),
-        Err(CoreError::NoMemory) => Err(AllocError),
-        Err(error) => print::write_core_error(out, error),
-    }
-}
-
-// Prints the view of a listener.
-fn show_view(core: &Core, alloc: Global, listener: u64, out: &mut String) -> Result<(), AllocError>
-    ensures { OnOk result (DoesView listener (at core.now out.old) (at core.now out.new)) }
-{
-    match core.view(listener) {
-        Ok(view) => print::write_view(out, alloc, view.as_ref()),
-        Err(CoreError::NoMemory) => Err(AllocError),
-        Err(error) => print::write_core_error(out, error),
-    }
-}
-
-// The value that bytes are, or none where they are no JSON.
-fn value_of(alloc: Global, bytes: &[u8]) -> Result<Option<Value>, AllocError>
-    ensures { IfOk result (λ value.
-        option_and_then (λ v. line_in (data_of v)) value ≡ line_of_bytes bytes.now) }
-{
-    match Value::from_slice(alloc, bytes) {
-        Ok(value) => Ok(Some(value)),
-        Err(error) if error.is_memory() => Err(AllocError),
-        Err(_) => Ok(None),
-    }
-}
-
-// Does what a line asks for.
-fn do_line(
-    core: &mut Core,
-    alloc: Global,
-    line: Line<'_>,
-    out: &mut String,
-) -> Result<(), AllocError>
-    ensures ok { OnOk result (DoesLine (as_line line.entry) (at core.old out.old)
-        (at core.new out.new)) }
-    ensures failed { OnErr result (AfterOrNot (step_of (as_line line.entry)) core.old core.new) }
-{
-    match task::task_of(alloc, line) {
-        Ok(Task::Step(step)) => make_step(core, alloc, step, out),
-        Ok(Task::View(listener)) => show_view(core, alloc, listener, out),
-        Err(TreeError::NoMemory) => Err(AllocError),
-        Err(error) => print::write_tree_error(out, error),
-    }
-}
-
-// Does what bytes ask for, and answers whether they are a line.
-fn do_bytes(
-    core: &mut Core,
-    alloc: Global,
-    bytes: &[u8],
-    out: &mut String,
-) -> Result<bool, AllocError>
-    ensures line { IfOk result (λ is_line. is_line ≡ is_some (line_of_bytes bytes.now)) }
-    ensures ok { OnOk result
-        (DoesIfLine (line_of_bytes bytes.now) (at core.old out.old) (at core.new out.new)) }
-    ensures failed { OnErr result (AfterOrNot (step_of_bytes bytes.now) core.old core.new) }
-{
-    let Some(value) = value_of(alloc, bytes)? else {
-        return Ok(false);
-    };
-    let Some(line) = line::line_of(&value) else {
-        return Ok(false);
-    };
-    do_line(core, alloc, line, out)?;
-    Ok(true)
 }
 
 // The place of the first line feed.
@@ -171,7 +83,7 @@ fn read_some<S: Source>(reader: &mut S, chunk: &mut [u8]) -> Result<usize, Conso
 
 impl Script {
     fn new(alloc: Global) -> Script
-        ensures start { so_far result ≡ start }
+        ensures start { so_far [] result ≡ start }
         ensures line { result.line.items ≡ [] }
     {
         Script {
@@ -184,28 +96,25 @@ impl Script {
         }
     }
 
-    // The line that is being read ends: it is done, or passed over where it is empty.
+    // The line that is being read ends, and is done.
     fn end_line(&mut self) -> Result<(), AllocError>
-        ensures ok { OnOk result (EndsLine self.old.line.items self.new.lines
-            (at self.old.core self.old.printed) (at self.new.core self.new.printed)) }
-        ensures number { self.new.lines ≡ min (self.old.lines + 1) u64.MAX }
-        ensures after { OnOk result (AfterLine self.old.line.items (so_far self.old)
-            (so_far self.new)) }
+        ensures after { OnOk result
+            (so_far [] self.new ≡ after_line self.old.line.items (so_far [] self.old)) }
         ensures begins { OnOk result (self.new.line.items ≡ []) }
     {
         self.lines = self.lines.saturating_add(1);
-        if self.line.is_empty() {
-            return Ok(());
-        }
         let bytes = self.line.as_slice();
-        let is_line = do_bytes(&mut self.core, self.alloc, bytes, &mut self.printed)?;
+        let is_good = do_bytes(
+            self.alloc,
+            &mut self.core,
+            self.lines,
+            bytes,
+            &mut self.printed,
+        )?;
         self.line.clear();
-        if is_line {
-            return Ok(());
+        if !is_good {
+            self.bad_lines = self.bad_lines.saturating_add(1);
         }
-        self.bad_lines = self.bad_lines.saturating_add(1);
-        let number = self.lines;
-        writeln!(self.printed, "bad line {number}")?;
         Ok(())
     }
 
@@ -215,8 +124,12 @@ impl Script {
         ensures ok { OnOk result (D.failures writer.new ≡ D.failures writer.old) }
         ensures error { IfErr result (λ e. e ≡ ConsoleError.WriteFault) }
         ensures fault { OnErr result (D.failures writer.new ≡ D.failures writer.old + 1) }
+        ensures written { OnOk result (Appends (D.contents writer.old) (D.contents writer.new)
+            (string_bytes self.old.printed)) }
+        ensures nothing_waits { string_bytes self.new.printed ≡ [] }
         ensures core { self.new.core ≡ self.old.core }
         ensures line { self.new.line ≡ self.old.line }
+        ensures lines { self.new.lines ≡ self.old.lines }
         ensures bad_lines { self.new.bad_lines ≡ self.old.bad_lines }
     {
         if self.printed.is_empty() {
@@ -233,8 +146,8 @@ impl Script {
         ensures ok { OnOk result (D.failures writer.new ≡ D.failures writer.old) }
         ensures fault { IfErr result (λ e.
             WriteTells e (D.failures writer.old) (D.failures writer.new)) }
-        ensures after { OnOk result (AfterLine self.old.line.items (so_far self.old)
-            (so_far self.new)) }
+        ensures after { OnOk result (Runs (self.old.line.items ∷ [])
+            (so_far [] self.old) (D.contents writer.old) self.new (D.contents writer.new)) }
         ensures begins { OnOk result (self.new.line.items ≡ []) }
     {
         self.end_line()?;
@@ -250,8 +163,8 @@ impl Script {
         ensures ok { OnOk result (D.failures writer.new ≡ D.failures writer.old) }
         ensures fault { IfErr result (λ e.
             WriteTells e (D.failures writer.old) (D.failures writer.new)) }
-        ensures takes { OnOk result (Takes self.old.line.items bytes.now (so_far self.old)
-            self.new.line.items (so_far self.new)) }
+        ensures takes { OnOk result (Takes self.old.line.items bytes.now
+            (so_far [] self.old) (D.contents writer.old) self.new (D.contents writer.new)) }
     {
         let mut rest = bytes;
         while let Some((end, behind)) = split_line(rest) {
@@ -269,8 +182,9 @@ impl Script {
         ensures ok { OnOk result (D.failures writer.new ≡ D.failures writer.old) }
         ensures fault { IfErr result (λ e.
             WriteTells e (D.failures writer.old) (D.failures writer.new)) }
-        ensures after { OnOk result (AfterLine self.old.line.items (so_far self.old)
-            (so_far self.new)) }
+        ensures after { OnOk result (Runs (self.old.line.items ∷ [])
+            (so_far [] self.old) (D.contents writer.old) self.new (D.contents writer.new)) }
+        ensures nothing_waits { OnOk result (string_bytes self.new.printed ≡ []) }
     {
         self.end_line()?;
         self.write_out(writer)
@@ -287,8 +201,9 @@ impl Script {
         requires writes { D.failures writer.old + 1 < 2 ^ 64 }
         ensures end { OnOk result (IsAtEnd (S.remaining reader.new)) }
         ensures ran { OnOk result ((text : List ℕ) → S.remaining reader.old ≡ Some text
-            → AfterLines (resumed self.old.line.items (lines_of text))
-            (so_far self.old) (so_far self.new)) }
+            → Runs (resumed self.old.line.items (lines_of text))
+            (so_far [] self.old) (D.contents writer.old) self.new (D.contents writer.new)) }
+        ensures nothing_waits { OnOk result (string_bytes self.new.printed ≡ []) }
         ensures within { OnOk result (S.given reader.new ≤ S.given reader.old + most_input) }
         ensures fault { IfErr result (λ e. Tells e
             (counts (S.given reader.old) (S.failures reader.old) (D.failures writer.old))
@@ -323,9 +238,11 @@ impl Script {
         requires reads { S.failures reader.old + 1 < 2 ^ 64 }
         requires writes { D.failures writer.old + 1 < 2 ^ 64 }
         ensures end { OnOk result (IsAtEnd (S.remaining reader.new)) }
-        ensures ran { IfOk result (λ bad_lines. (text : List ℕ) → S.remaining reader.old ≡ Some text
-            → AfterLines (resumed self.old.line.items (lines_of text))
-            (so_far self.old) (progress self.new.core bad_lines)) }
+        ensures ran { OnOk result ((text : List ℕ) → S.remaining reader.old ≡ Some text
+            → Runs (resumed self.old.line.items (lines_of text))
+            (so_far [] self.old) (D.contents writer.old) self.new (D.contents writer.new)) }
+        ensures nothing_waits { OnOk result (string_bytes self.new.printed ≡ []) }
+        ensures bad_lines { IfOk result (λ n. n ≡ self.new.bad_lines) }
         ensures within { OnOk result (S.given reader.new ≤ S.given reader.old + most_input) }
         ensures no_failed_read { OnOk result (S.failures reader.new ≡ S.failures reader.old) }
         ensures no_failed_write { OnOk result (D.failures writer.new ≡ D.failures writer.old) }
@@ -367,7 +284,7 @@ pub fn run_script<S: Source, D: Drain>(
     requires writes { D.failures writer.old + 1 < 2 ^ 64 }
     ensures end { OnOk result (IsAtEnd (S.remaining reader.new)) }
     ensures ran { IfOk result (λ bad_lines. (text : List ℕ) → S.remaining reader.old ≡ Some text
-        → (core : Option World) × AfterLines (lines_of text) start (progress core bad_lines)) }
+        → Ran text bad_lines (D.contents writer.old) (D.contents writer.new)) }
     ensures within { OnOk result (S.given reader.new ≤ S.given reader.old + most_input) }
     ensures no_failed_read { OnOk result (S.failures reader.new ≡ S.failures reader.old) }
     ensures no_failed_write { OnOk result (D.failures writer.new ≡ D.failures writer.old) }

@@ -1,6 +1,6 @@
 // Readers and writers that count.
-ghost use Rattle.std.specs.Prelude.{◌≡◌, ◌+◌, ◌<◌, ◌≤◌, ◌^◌, ℕ, List, Option, length, IfOk};
-ghost use Rattle.std.specs.Io.KnownBytes.{ReadConsumes};
+ghost use Rattle.std.specs.Prelude.{◌≡◌, ◌+◌, ◌<◌, ◌≤◌, ◌^◌, ℕ, List, Option, length, IfOk, OnOk};
+ghost use Rattle.std.specs.Io.KnownBytes.{Appends, ReadConsumes};
 ghost use Rattle.rt_console.specs.Streams.{CountsBytes, CountsFailure};
 
 use std::io::{Read, Write};
@@ -36,10 +36,14 @@ pub trait Drain {
     // How many writes failed.
     ghost failures: { Self → ℕ };
 
+    // The bytes that it holds, where they are known.
+    ghost contents: { Self → Option (List ℕ) };
+
     /// Writes all of the slice, so that nothing of it waits in a buffer.
     fn write(&mut self, bytes: &[u8]) -> Result<(), Failed>
         requires { failures self.old + 1 < 2 ^ 64 }
-        ensures { CountsFailure result (failures self.old) (failures self.new) };
+        ensures failures { CountsFailure result (failures self.old) (failures self.new) }
+        ensures bytes { OnOk result (Appends (contents self.old) (contents self.new) bytes.now) };
 }
 
 /// A [`Source`] of a reader of std.
@@ -55,6 +59,7 @@ impl<R: Read + Drop> Reading<R> {
     pub fn new(reader: R) -> Reading<R>
         ensures given { ⟦<Reading<R> as Source>⟧.given result ≡ 0 }
         ensures failures { ⟦<Reading<R> as Source>⟧.failures result ≡ 0 }
+        ensures remaining { ⟦<Reading<R> as Source>⟧.remaining result ≡ R.remaining reader }
     {
         Reading {
             reader,
@@ -95,7 +100,8 @@ pub struct Writing<W: Write + Drop> {
 impl<W: Write + Drop> Writing<W> {
     /// Counts from 0.
     pub fn new(writer: W) -> Writing<W>
-        ensures { ⟦<Writing<W> as Drain>⟧.failures result ≡ 0 }
+        ensures failures { ⟦<Writing<W> as Drain>⟧.failures result ≡ 0 }
+        ensures contents { ⟦<Writing<W> as Drain>⟧.contents result ≡ W.contents writer }
     {
         Writing {
             writer,
@@ -105,13 +111,17 @@ impl<W: Write + Drop> Writing<W> {
 }
 
 // Writes all of the bytes, and waits for none of them.
-fn write_out<W: Write>(writer: &mut W, bytes: &[u8]) -> std::io::Result<()> {
+fn write_out<W: Write>(writer: &mut W, bytes: &[u8]) -> std::io::Result<()>
+    ensures { OnOk result (Appends (W.contents writer.old) (W.contents writer.new) bytes.now) }
+{
     writer.write_all(bytes)?;
     writer.flush()
 }
 
 impl<W: Write + Drop> Drain for Writing<W> {
     ghost failures = { λ s. s.failures };
+
+    ghost contents = { λ s. W.contents s.writer };
 
     fn write(&mut self, bytes: &[u8]) -> Result<(), Failed> {
         match write_out(&mut self.writer, bytes) {

@@ -20,13 +20,34 @@ const SCRIPT: &str = "\
 Reads lines from standard input, does what they ask of one client, and prints what each answers";
 
 const LINES: &str = "\
-Each line is a JSON array:
-  [\"connected\"]                    the connection to the server is open
-  [\"listen\",SEAT,PATH,[]]          a listener of a path; prints its number
-  [\"data\",TAG,PATH,VALUE]          the server sends a value, on the listen with that tag
-  [\"set\",SEAT,PATH,VALUE]          a write; prints its number
-  [\"view\",LISTENER]                prints what a listener shows
-A step prints 'done', 'done N' or 'stale', and then each listener's changes.
+Each line is a JSON array. The connection to the server opens and ends:
+  [\"connected\"], [\"disconnected\"]
+A seat listens, writes, asks for what the server is to do once the connection ends, and goes:
+  [\"listen\",SEAT,PATH,[CALL,..]]         a listener; prints its number
+  [\"unlisten\",SEAT,LISTENER]
+  [\"set\",SEAT,PATH,VALUE]                a request; prints its number, as the next six do
+  [\"update\",SEAT,{PATH:VALUE,..}]
+  [\"remove\",SEAT,PATH]
+  [\"onDisconnect\",SEAT,\"set\",PATH,VALUE]
+  [\"onDisconnect\",SEAT,\"update\",{PATH:VALUE,..}]
+  [\"onDisconnect\",SEAT,\"remove\",PATH]
+  [\"onDisconnect\",SEAT,\"cancel\",PATH]
+  [\"close\",SEAT]
+The server sends values on the listen with that tag, settles requests, and ends listens:
+  [\"data\",TAG,PATH,VALUE]
+  [\"merge\",TAG,{PATH:VALUE,..}]
+  [\"ok\",REQUEST]
+  [\"no\",REQUEST,REASON]
+  [\"revoke\",TAG,REASON]
+  [\"server\",TEXT]                        one of these five as the message that it sends
+Looks at the client:
+  [\"view\",LISTENER]                      what the listener shows
+  [\"cover\"]                              the listens that are kept
+  [\"out\"]                                the messages to be sent, which are taken
+CALL is [\"orderByKey\"], [\"orderByValue\"], [\"orderByChild\",PATH], [\"limitToFirst\",N],
+[\"limitToLast\",N], or startAt, startAfter, endAt, endBefore or equalTo with a value and perhaps a key.
+So far a listener with limits or bounds prints 'refused script 1 NotTakenYet'.
+A step prints 'done', 'done N' or 'stale', then what is settled and ended, then each listener's changes.
 A line that can't be made prints why: 'refused LAYER CODE NAME'.
 A line that is none of these prints 'bad line N', and the run goes on.
 Exit status: 0 done; 1 a fault, or a bad line was printed; 2 a bad command line.";

@@ -1,4 +1,6 @@
 mod Bytes
+mod Doings
 mod Faults
 mod Lists
 mod Parts
+mod Waiting

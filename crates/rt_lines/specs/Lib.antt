@@ -2,8 +2,10 @@
 -- In reading order: Words (numbers of a line, and its name), Calls (the calls of a query), Forms (which
 -- JSON data have the form of a line), Reading (paths, trees and entries, and what refuses them), Drafts
 -- (the query that calls make), Lines (what a line asks for), Refusals (layers, numbers and names of
--- refusals), Printing (what is printed). laws/ has lines and texts that the prover computes.
+-- refusals), Printing (what is printed), Doing (what a line does to a core, and which of it is printed).
+-- laws/ has lines and texts that the prover computes.
 pub mod Calls
+pub mod Doing
 pub mod Drafts
 pub mod Forms
 pub mod inside

@@ -1,2 +1,3 @@
 -- What the prover computes of some lines.
 pub mod Examples
+pub mod Scripts

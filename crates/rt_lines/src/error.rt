@@ -19,8 +19,10 @@ pub enum Refusal {
     Query(QueryError),
     /// A text of the server.
     Wire(WireError),
-    /// A step.
+    /// A step, or a look at the core.
     Core(CoreError),
+    /// A step that a core doesn't take yet: a listener of a filtered query.
+    NotTakenYet,
 }
 
 /// Why a line is not read.
@@ -47,6 +49,7 @@ impl Refusal {
             Refusal::Query(_) => "query",
             Refusal::Wire(_) => "wire",
             Refusal::Core(_) => "core",
+            Refusal::NotTakenYet => "script",
         }
     }
 
@@ -59,6 +62,7 @@ impl Refusal {
             Refusal::Query(error) => error.code(),
             Refusal::Wire(error) => error.code(),
             Refusal::Core(error) => error.code(),
+            Refusal::NotTakenYet => 1,
         }
     }
 
@@ -71,6 +75,7 @@ impl Refusal {
             Refusal::Query(error) => error.name(),
             Refusal::Wire(error) => error.name(),
             Refusal::Core(error) => error.name(),
+            Refusal::NotTakenYet => "NotTakenYet",
         }
     }
 }

@@ -1,7 +1,9 @@
-//! The lines of a script: which bytes are which line, what a line asks for, and what is printed for
-//! it. No core stands here: whoever has one makes the step of a line, and prints its answer.
+//! The lines of a script: which bytes are which line, what a line asks for, what it does to a core, and
+//! what is printed for it. Each of the three can be had by itself.
 //!
 //! ```text
+//! do_bytes(alloc, &mut core, 1, b"[\"set\",1,\"/a\",5]", &mut text)?;      // does it, and prints
+//!
 //! match Line::read(alloc, b"[\"set\",1,\"/a\",5]")? {
 //!     Line::Step(step) => ..,               // Write {seat: 1, action: Put {path: /a, tree: 5}}
 //!     Line::Out | Line::Cover | Line::View(_) => ..,
@@ -11,6 +13,7 @@
 
 mod call;
 mod change;
+mod doing;
 mod draft;
 mod error;
 pub mod examples;
@@ -21,6 +24,7 @@ mod report;
 mod show;
 mod word;
 
+pub use doing::{do_bytes, do_line};
 pub use error::{LineError, Refusal};
 pub use line::{Line, step_of};
 pub use report::{write_bad_line, write_refusal, write_report};

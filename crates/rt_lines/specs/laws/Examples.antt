@@ -1,5 +1,5 @@
 -- Lines that the prover computes: what they ask for, what they are refused as, and what is printed.
-use Rattle.std.specs.Prelude.{◌≡◌, ℕ, pos, true, List, [], ◌∷◌, ◌++◌, codes, Some, None, Result, Ok, Err}
+use Rattle.std.specs.Prelude.{◌≡◌, ℕ, pos, true, List, [], ◌++◌, codes, Some, None, Result, Ok, Err}
 use Rattle.std.specs.Option.{option_map_or}
 use Rattle.serde_json.specs.Read.{read}
 use Rattle.rt_tree.specs.Leaf.{number, truth}
@@ -19,7 +19,6 @@ use Rattle.rt_wire.specs.declared.request.Ending.TheVariants.{Run, Cancel}
 use Rattle.rt_world.specs.declared.error.CoreError.TheVariants as core
 use Rattle.rt_world.specs.declared.report.Body.TheVariants.{Settled, Cancelled}
 use Rattle.rt_world.specs.declared.report.Outcome.TheVariants.{Done, Stale}
-use Rattle.rt_world.specs.declared.step.Step.{Step}
 use Rattle.rt_world.specs.declared.step.Step.TheVariants as step
 use Rattle.rt_lines.specs.declared.error.LineError.{LineError}
 use Rattle.rt_lines.specs.declared.error.LineError.TheVariants.{Bad, Refused}

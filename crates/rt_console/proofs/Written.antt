@@ -1,0 +1,124 @@
+-- What lines print, which is written in pieces.
+use Rattle.std.proofs.Common.{◌≡◌, ℕ, List, [], ◌∷◌, ◌++◌, Bool, true, false, cond, Option, Some, None, Result, Ok, Err, IfOk, OnOk, string_bytes, refl, sym, ap, subst, ◌∙◌, append-nil, append_assoc}
+use Rattle.std.specs.Io.KnownBytes.{Appends, Keeps}
+use Rattle.rt_world.specs.World.{World}
+use Rattle.rt_lines.specs.Doing.{bytes_done, is_good}
+use Rattle.rt_console.specs.declared.script.Script.{Script}
+use Rattle.rt_console.specs.Run.{Progress, Ran, after_line, after_lines, lines_of, one_more, start}
+use Rattle.rt_console.specs.inside.Pieces.{Runs, so_far}
+
+-- ---- answers
+
+pub on_ok : {A E : Type 0} (P Q : Type 0) (r : Result A E) → (P → Q) → OnOk r P → OnOk r Q
+on_ok P Q (Ok x) f h = f h
+on_ok P Q (Err e) f h = h
+
+pub on_ok_always : {A E : Type 0} (P : Type 0) (r : Result A E) → P → OnOk r P
+on_ok_always P (Ok x) h = h
+on_ok_always P (Err e) h = tt
+
+pub if_ok_three : {A E : Type 0} (P Q : Type 0) (F G : A → Type 0) (r : Result A E) → ((x : A) → P → Q → F x → G x) → OnOk r P → OnOk r Q → IfOk r F → IfOk r G
+if_ok_three P Q F G (Ok x) f p q h = f x p q h
+if_ok_three P Q F G (Err e) f p q h = h
+
+-- ---- known bytes
+
+pub Appends-nil : (a : Option (List ℕ)) → Appends a a []
+Appends-nil None = tt
+Appends-nil (Some x) = sym (append-nil x)
+
+pub Appends-none : (a : Option (List ℕ)) (bs : List ℕ) → bs ≡ [] → Appends a a bs
+Appends-none None bs e = tt
+Appends-none (Some x) bs e = sym (append-nil x) ∙ ap (λ l. x ++ l) (sym e)
+
+pub Appends-trans : (a b c : Option (List ℕ)) (bs cs : List ℕ) → Appends a b bs → Appends b c cs → Appends a c (bs ++ cs)
+Appends-trans None b c bs cs p q = tt
+Appends-trans (Some x) None c bs cs p q = absurd p
+Appends-trans (Some x) (Some y) None bs cs p q = absurd q
+Appends-trans (Some x) (Some y) (Some z) bs cs p q = q ∙ ap (λ l. l ++ cs) p ∙ append_assoc x bs cs
+
+pub Appends-kept : (a b c : Option (List ℕ)) (bs : List ℕ) → Appends a b bs → Keeps b c → Appends a c bs
+Appends-kept None b c bs p q = tt
+Appends-kept (Some x) None c bs p q = absurd p
+Appends-kept (Some x) (Some y) None bs p q = absurd q
+Appends-kept (Some x) (Some y) (Some z) bs p q = q ∙ p
+
+-- ---- how far a run is
+
+abbrev progress : Option World → List ℕ → ℕ → ℕ → Progress
+progress core printed lines bad_lines =
+    record { core = core; printed = printed; lines = lines; bad_lines = bad_lines }
+
+same_progress : (a b : Option World) (s t : List ℕ) (m n k l : ℕ) → a ≡ b → s ≡ t → m ≡ n → k ≡ l → progress a s m k ≡ progress b t n l
+same_progress a b s t m n k l e f g h =
+    ap (λ x. progress x s m k) e ∙ ap (λ x. progress b x m k) f ∙ ap (λ x. progress b t x k) g ∙ ap (λ x. progress b t n x) h
+
+after_lines-append : (ls ms : List (List ℕ)) (p : Progress) → after_lines (ls ++ ms) p ≡ after_lines ms (after_lines ls p)
+after_lines-append [] ms p = refl
+after_lines-append (l ∷ ls) ms p = after_lines-append ls ms (after_line l p)
+
+-- with so much printed before
+abbrev behind : List ℕ → Progress → Progress
+behind text p = progress p.core (text ++ p.printed) p.lines p.bad_lines
+
+after_line-behind : (text line : List ℕ) (p : Progress) → after_line line (behind text p) ≡ behind text (after_line line p)
+after_line-behind text line p =
+    let new : Progress = after_line line p in
+    let more : List ℕ = (bytes_done (one_more p.lines) line p.core).printed in
+    ap (λ t. progress new.core t new.lines new.bad_lines) (append_assoc text p.printed more)
+
+after_lines-behind : (ls : List (List ℕ)) (text : List ℕ) (p : Progress) → after_lines ls (behind text p) ≡ behind text (after_lines ls p)
+after_lines-behind [] text p = refl
+after_lines-behind (l ∷ ls) text p = ap (after_lines ls) (after_line-behind text l p) ∙ after_lines-behind ls text (after_line l p)
+
+so_far-behind : (text written : List ℕ) (s : Script) → so_far (text ++ written) s ≡ behind text (so_far written s)
+so_far-behind text written s =
+    ap (λ t. progress s.core t s.lines s.bad_lines) (append_assoc text written (string_bytes s.printed))
+
+-- ---- runs
+
+-- nothing happens
+pub Runs-none : (c : Option (List ℕ)) (s : Script) → Runs [] (so_far [] s) c s c
+Runs-none c s = ([], Appends-nil c, refl)
+
+-- a line is done, and nothing is written
+pub Runs-line : (line : List ℕ) (c : Option (List ℕ)) (s1 s2 : Script) → so_far [] s2 ≡ after_line line (so_far [] s1) → Runs (line ∷ []) (so_far [] s1) c s2 c
+Runs-line line c s1 s2 e = ([], Appends-nil c, e)
+
+-- one run after another
+pub Runs-append : (ls ms : List (List ℕ)) (old : Progress) (c0 c1 c2 : Option (List ℕ)) (s1 s2 : Script) → Runs ls old c0 s1 c1 → Runs ms (so_far [] s1) c1 s2 c2 → Runs (ls ++ ms) old c0 s2 c2
+Runs-append ls ms old c0 c1 c2 s1 s2 (w, a, e) (v, b, f) = (
+  w ++ v,
+  Appends-trans c0 c1 c2 w v a b,
+  so_far-behind w v s2 ∙ ap (behind w) f ∙ sym (after_lines-behind ms w (so_far [] s1)) ∙ ap (after_lines ms) e ∙ sym (after_lines-append ls ms old),
+)
+
+-- what waits is written
+pub Runs-written : (ls : List (List ℕ)) (old : Progress) (c0 c1 c2 : Option (List ℕ)) (s1 s2 : Script) → Runs ls old c0 s1 c1 → Appends c1 c2 (string_bytes s1.printed) → string_bytes s2.printed ≡ [] → s2.core ≡ s1.core → s2.lines ≡ s1.lines → s2.bad_lines ≡ s1.bad_lines → Runs ls old c0 s2 c2
+Runs-written ls old c0 c1 c2 s1 s2 (w, a, e) b nothing core lines bad =
+    let more : List ℕ = w ++ string_bytes s1.printed in
+    let text : more ++ string_bytes s2.printed ≡ more = ap (λ t. more ++ t) nothing ∙ append-nil more in
+    (more, Appends-trans c0 c1 c2 w (string_bytes s1.printed) a b, same_progress s2.core s1.core _ _ s2.lines s1.lines s2.bad_lines s1.bad_lines core text lines bad ∙ e)
+
+-- the whole run, of which nothing waits
+pub Ran-whole : (text : List ℕ) (n : ℕ) (c0 c1 : Option (List ℕ)) (s : Script) → Runs (lines_of text) start c0 s c1 → string_bytes s.printed ≡ [] → n ≡ s.bad_lines → Ran text n c0 c1
+Ran-whole text n c0 c1 s (w, a, e) nothing counted =
+    let all : w ≡ (after_lines (lines_of text) start).printed = sym (append-nil w) ∙ ap (λ t. w ++ t) (sym nothing) ∙ ap (λ (p : Progress). p.printed) e in
+    let P : List ℕ → Type 0 = λ t. Appends c0 c1 t in
+    record { counted = counted ∙ ap (λ (p : Progress). p.bad_lines) e; written = subst P all a }
+
+-- ---- a line
+
+-- the line that was read is done
+pub line_done : (old new : Script) (bytes : List ℕ) (number : ℕ) → bytes ≡ old.line.items → number ≡ one_more old.lines → new.lines ≡ number → new.core ≡ (bytes_done number bytes old.core).core → string_bytes new.printed ≡ string_bytes old.printed ++ (bytes_done number bytes old.core).printed → new.bad_lines ≡ cond (is_good bytes) old.bad_lines (one_more old.bad_lines) → so_far [] new ≡ after_line old.line.items (so_far [] old)
+line_done old new bytes number same counted lines core printed bad =
+    let done : bytes_done number bytes old.core ≡ bytes_done (one_more old.lines) old.line.items old.core = ap (λ n. bytes_done n bytes old.core) counted ∙ ap (λ b. bytes_done (one_more old.lines) b old.core) same in
+    same_progress new.core _ (string_bytes new.printed) _ new.lines _ new.bad_lines _ (core ∙ ap (λ d. d.core) done) (printed ∙ ap (λ d. string_bytes old.printed ++ d.printed) done) (lines ∙ counted) (bad ∙ ap (λ b. cond (is_good b) old.bad_lines (one_more old.bad_lines)) same)
+
+pub counts-good : (good : Bool) (n m k : ℕ) → good ≡ true → n ≡ m → n ≡ cond good m k
+counts-good true n m k e f = f
+counts-good false n m k e f = cc
+
+pub counts-bad : (good : Bool) (n m k : ℕ) → good ≡ false → n ≡ k → n ≡ cond good m k
+counts-bad true n m k e f = cc
+counts-bad false n m k e f = f

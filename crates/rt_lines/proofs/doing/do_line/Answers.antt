@@ -1,0 +1,6 @@
+use Rattle.rt_lines.proofs.Doings.{line_untold, on_err}
+use Rattle.rt_lines.proofs.doing.do_line.Goals as goal
+
+pub returns-clause-lacking : goal.returns-clause-lacking
+returns-clause-lacking c =
+    on_err c.push_str.result (line_untold c.args.line c.args.core.now c.print_line.new.core c.in_ok-print_line.ensures.core)

@@ -1,0 +1,25 @@
+//! The peer behind a WebSocket: one stream is served from its handshake to its end.
+//!
+//! ```text
+//! let mut peer = Peer::new(Tree::null(), Vec::new(alloc));
+//! for stream in listener.incoming() {
+//!     serve_stream(alloc, &mut peer, stream?)?;        // a client comes, is served, and goes
+//! }
+//! ```
+//!
+//! Handshakes, frames and masks are `tungstenite`'s, and what messages mean is `rt_peer`'s. A contract
+//! sees the peer alone: what any texts leave of it (`specs/Sessions.antt`).
+#![tactic(auto)]
+
+mod counted;
+mod error;
+mod laws;
+mod serve;
+mod socket;
+#[cfg(test)]
+mod tests;
+
+pub use counted::MAX_MESSAGE_BYTES;
+pub use error::ServeError;
+pub use laws::session_law;
+pub use serve::{MAX_MESSAGES, serve_stream};
