@@ -1,7 +1,7 @@
 //! The core over its parts: listeners, pending writes, what the listens brought, and the listens kept.
 //!
-//! This is where the core of `rt_sync` is going. A [`Core`] takes every step, but for a listener of a
-//! filtered query, and answers as the world of `rt_world` does.
+//! A [`Core`] takes every step, but for a listener of a filtered query, and answers as the world of
+//! `rt_world` does. What any steps lead to is the headline of [`run`].
 //!
 //! ```text
 //! let mut core = Core::new(alloc, Limits::full());

@@ -1,9 +1,8 @@
 //! The world of the core: all steps, what each answers, leaves and sends, and what follows from that
 //! for every list of steps.
 //!
-//! This is where the core of `rt_sync` is going: definitions, laws and worked rows, and the types of
-//! steps, reports and limits; no code that makes a step. What runs today takes fewer steps and one
-//! listener, and has definitions of its own, in `rt_sync`; they go once the core takes all steps.
+//! Definitions, laws and worked rows, and the types of steps, reports and limits; no code that makes a
+//! step, which is `rt_core`'s.
 //!
 //! A law is a function without code; whoever calls it has its clauses as facts. `headline_law`,
 //! `cover_law`, `named_law`, `message_law`, `limit_law` and `plain_law` say what follows of any steps,
