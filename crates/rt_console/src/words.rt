@@ -46,7 +46,6 @@ Looks at the client:
   [\"out\"]                                the messages to be sent, which are taken
 CALL is [\"orderByKey\"], [\"orderByValue\"], [\"orderByChild\",PATH], [\"limitToFirst\",N],
 [\"limitToLast\",N], or startAt, startAfter, endAt, endBefore or equalTo with a value and perhaps a key.
-So far a listener with limits or bounds prints 'refused script 1 NotTakenYet'.
 A step prints 'done', 'done N' or 'stale', then what is settled and ended, then each listener's changes.
 A line that can't be made prints why: 'refused LAYER CODE NAME'.
 A line that is none of these prints 'bad line N', and the run goes on.

@@ -3,6 +3,5 @@ pub mod GoodWorlds
 pub mod Listened
 pub mod NextWorlds
 pub mod RefusalLaws
-pub mod StepLaws
 pub mod TagLaws
 pub mod ViewLaws

@@ -3,7 +3,7 @@ use Rattle.std.proofs.Common.{◌≡◌, ℕ, ◌+◌, Bool, false, not, List, [
 use Rattle.std.specs.Prelude.{◌==◌}
 use Rattle.std.specs.List.{filter}
 use Rattle.std.specs.Option.{option_map, option_map_or, option_to_list}
-use Rattle.rt_query.specs.Queries.{Query, is_filtered}
+use Rattle.rt_query.specs.Queries.{Query}
 use Rattle.rt_query.specs.QueryEq.{query_eq}
 use Rattle.rt_query.specs.Supply.{form}
 use Rattle.rt_cache.specs.Brought.{Brought}
@@ -22,13 +22,13 @@ use Rattle.rt_world.specs.Messages.{next}
 use Rattle.rt_world.specs.Met.{told}
 use Rattle.rt_world.specs.Covering.{cover_in, cover_after, numbers_of}
 use Rattle.rt_world.specs.Sound.{IsSound}
-use Rattle.rt_world.specs.laws.Made.{IsMade}
 use Rattle.rt_world.specs.laws.Listened.{CloseSeatIsMade, ListenIsMade, RevokedIsMade, UnlistenIsMade}
 use Rattle.rt_world.specs.laws.Holds.{CoverFollows}
 use Rattle.rt_core.specs.declared.told.Told.{Told}
 use Rattle.rt_core.specs.inside.Due.{IsDue, IsNext}
 use Rattle.rt_core.specs.inside.Parts.{changing}
 use Rattle.rt_core.specs.inside.StateView.{IsTied, world_of}
+use Rattle.rt_core.proofs.NextWorlds.{made_of}
 use Rattle.rt_core.proofs.TagLaws.{cover_tied}
 
 -- the cover that takes the step's change is that of the world after it
@@ -40,9 +40,6 @@ tied_next law v s h cover' w' ce we =
       last_tag = ap (λ (x : Cover). x.last_tag) same ∙ ap (λ (x : World). x.limits.last_number) (sym we);
     }
 
-made_of : (v : World) (s : Step) → IsDue v s → IsMade v s
-made_of v s d = record { sound = d.good.sound; called = d.good.called; not_refused = d.not_refused; not_stale = d.not_stale }
-
 module _ (limits : Limits) (ls : List Listener) (requests : List Request) (b : Brought) (cover : Cover) (c : Bool) (out : List ClientMessage) (gl gr : ℕ) where
   abbrev w : World
   w = world_of limits ls requests b cover c out gl gr
@@ -51,15 +48,15 @@ module _ (limits : Limits) (ls : List Listener) (requests : List Request) (b : B
   pub added_is : IsTied cover w → (seat : ℕ) (query : Query) → added cover (gl + 1) query ≡ cover_after w (Step.Listen seat query)
   added_is t seat query = ap (λ (x : Cover). added x (gl + 1) query) (cover_tied cover w t refl refl)
 
-  pub listen_made : ListenIsMade → IsTied cover w → (seat : ℕ) (query : Query) → IsDue w (Step.Listen seat query) → is_filtered query ≡ false
+  pub listen_made : ListenIsMade → IsTied cover w → (seat : ℕ) (query : Query) → IsDue w (Step.Listen seat query)
       → (cover' : Cover) → cover' ≡ added cover (gl + 1) query
       → (ls' : List Listener) → ls' ≡ ls ++ renewed b (pending requests) (new_listener (gl + 1) seat query) ∷ []
       → (delta : Delta) → delta ≡ difference cover (added cover (gl + 1) query)
       → (out' : List ClientMessage) → out' ≡ out ++ changing c delta
       → (said : Told) → said.given ≡ Some (gl + 1) → said.notes.items ≡ option_to_list (told b (pending requests) (new_listener (gl + 1) seat query))
       → IsNext w (Step.Listen seat query) (world_of limits ls' requests b cover' c out' (gl + 1) gr, said)
-  listen_made law t seat query d plain cover' ce ls' le delta de out' oe said given notes =
-      let leaves = law w seat query (made_of w (Step.Listen seat query) d) d.good.plain plain in
+  listen_made law t seat query d cover' ce ls' le delta de out' oe said given notes =
+      let leaves = law w seat query (made_of w (Step.Listen seat query) d) d.good.steady.reached in
       let whole : cover ≡ cover_in w = cover_tied cover w t refl refl in
       let covers : cover' ≡ added (cover_in w) (gl + 1) query = ce ∙ ap (λ (x : Cover). added x (gl + 1) query) whole in
       let sent : out' ≡ out ++ changing c (difference (cover_in w) (added (cover_in w) (gl + 1) query)) =

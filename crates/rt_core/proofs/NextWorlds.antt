@@ -1,15 +1,17 @@
--- What the code of a step makes is the next world, and its parts agree.
-use Rattle.std.proofs.Common.{◌≡◌, ℕ, ◌+◌, ◌<◌, Bool, true, false, cond, not, ◌||◌, List, [], ◌∷◌, ◌++◌, map, refl, sym, ap, subst, ◌∙◌, append-nil, Option, Some, None}
+-- What the code of a step makes that begins and ends no listener is the next world, and its parts agree.
+use Rattle.std.proofs.Common.{◌≡◌, ℕ, ◌+◌, ◌<◌, Bool, true, false, cond, not, ◌||◌, List, [], ◌∷◌, ◌++◌, map, refl, sym, ap, subst, ◌∙◌, Option, Some, None}
+use mathlib.Core.Bool.{true≢false}
 use Rattle.std.specs.Prelude.{◌==◌, is_some}
 use Rattle.rt_requests.specs.declared.settled.Settled.{Settled as Left}
-use Rattle.std.specs.List.{AllPairs, filter, filter_map, find, list_any}
-use Rattle.std.specs.Option.{option_and_then, option_map, option_map_or, option_or, option_to_list}
+use Rattle.std.specs.List.{filter, find, fold, list_all, list_any}
+use Rattle.std.specs.Option.{option_and_then, option_map, option_map_or, option_to_list}
+use Rattle.rt_query.specs.Queries.{Query}
 use Rattle.rt_query.specs.Supply.{form}
 use Rattle.rt_tree.specs.Assignments.{Assignment}
 use Rattle.rt_writes.specs.Writes.{Write}
-use Rattle.rt_cache.specs.Brought.{Brought}
+use Rattle.rt_cache.specs.Brought.{Brought, is_without_window, push}
 use Rattle.rt_cover.specs.Cover.{Registered, Tagged}
-use Rattle.rt_cover.specs.State.{Cover, shown, shown_with}
+use Rattle.rt_cover.specs.State.{Cover, listen_at, shown, shown_with}
 use Rattle.rt_wire.specs.declared.client.ClientMessage.{ClientMessage}
 use Rattle.rt_wire.specs.declared.request.Action.{Action}
 use Rattle.rt_wire.specs.declared.request.Asked.TheVariants.{Now, AtDisconnect}
@@ -19,22 +21,24 @@ use Rattle.rt_world.specs.declared.request.Request.{Request}
 use Rattle.rt_world.specs.declared.step.Step.{Step}
 use Rattle.rt_world.specs.declared.report.Body.TheVariants.{Settled}
 use Rattle.rt_world.specs.declared.report.Note.{Note}
-use Rattle.rt_world.specs.World.{Reason, World, Listener, registered, pending, entries_of}
-use Rattle.rt_world.specs.Steps.{listeners_after, requests_after, pushed, brought_after, renewed, is_connected_after, listener_given, request_given, counted}
-use Rattle.rt_world.specs.Messages.{unrevoked, listens, request_message, request_sent, messages_online, messages_of, outgoing_before}
+use Rattle.rt_world.specs.World.{Reason, World, Listener, registered, pending, entries_of, listen_of}
+use Rattle.rt_world.specs.Steps.{renewed}
+use Rattle.rt_world.specs.Messages.{listens, request_message}
 use Rattle.rt_requests.specs.Settling.{settled}
 use Rattle.rt_world.specs.Refusals.{is_stale}
-use Rattle.rt_world.specs.Answers.{settled_note, settled_notes, cancelled_notes}
-use Rattle.rt_world.specs.Touched.{entries_by, entries_settled}
-use Rattle.rt_world.proofs.LostLaws.{push_is_brought}
-use Rattle.rt_world.proofs.NoteLaws.{settled_once_told}
-use Rattle.rt_world.proofs.Listeners.{number-renewed, query-renewed}
+use Rattle.rt_world.specs.Answers.{settled_note, done_report}
+use Rattle.rt_world.specs.Touched.{entries_settled}
+use Rattle.rt_world.specs.Met.{do_meet, renewed_met, all_told}
+use Rattle.rt_world.specs.laws.Made.{IsMade, Leaves, AcceptedIsMade, RefusedIsMade, MergeIsMade, MergeIsStale, WriteIsMade, EndingIsMade, ConnectedIsMade, DisconnectedIsMade, settled_world, settled_told, writes_with}
+use Rattle.rt_world.specs.laws.Steps.{RenewedIsOne, WriteIsPending, SettledIsNotPending}
 use Rattle.rt_core.specs.declared.told.Told.{Told}
 use Rattle.rt_core.specs.inside.Due.{IsDue, IsNext, settling}
-use Rattle.rt_world.specs.Met.{do_meet, renewed_met, all_told}
 use Rattle.rt_core.specs.inside.Parts.{asking, listens_shown}
 use Rattle.rt_core.specs.inside.StateView.{IsTied, world_of}
-use Rattle.rt_core.proofs.StepLaws.{online, brought_stays, next_is, told_is}
+
+pub or_left : (a b : Bool) → (a || b) ≡ false → a ≡ false
+or_left true b e = e
+or_left false b e = refl
 
 -- ---- the parts agree
 
@@ -42,59 +46,27 @@ use Rattle.rt_core.proofs.StepLaws.{online, brought_stays, next_is, told_is}
 abbrev entry_of : Listener → Registered
 entry_of l = (l.number, form l.query)
 
-registered_one : (entries : List Assignment) (b : Brought) (ws : List Write) (l : Listener) → entry_of (renewed_met entries b ws l) ≡ entry_of l
-registered_one entries b ws l = at (do_meet entries l.query.path)
+registered_one : RenewedIsOne → (entries : List Assignment) (b : Brought) (ws : List Write) (l : Listener) → entry_of (renewed_met entries b ws l) ≡ entry_of l
+registered_one law entries b ws l = at (do_meet entries l.query.path)
   where
     inner : entry_of (renewed b ws l) ≡ entry_of l
-    inner = λ i. (number-renewed b ws l i, form (query-renewed b ws l i))
+    inner = let one = law b ws l in λ i. (one.0 i, form (one.2 i))
 
     at : (c : Bool) → entry_of (cond c (renewed b ws l) l) ≡ entry_of l
     at true = inner
     at false = refl
 
 -- listeners stay registered where they are renewed
-pub registered_met : (entries : List Assignment) (b : Brought) (ws : List Write) (ls : List Listener) → registered (map (renewed_met entries b ws) ls) ≡ registered ls
-registered_met entries b ws [] = refl
-registered_met entries b ws (l ∷ ls) = λ i. registered_one entries b ws l i ∷ registered_met entries b ws ls i
-
--- where there are no entries all listeners stay, and are told nothing
-pub map_unmet : (b : Brought) (ws : List Write) (ls : List Listener) → map (renewed_met [] b ws) ls ≡ ls
-map_unmet b ws [] = refl
-map_unmet b ws (l ∷ ls) = ap (λ z. l ∷ z) (map_unmet b ws ls)
-
-pub told_unmet : (b : Brought) (ws : List Write) (ls : List Listener) → all_told [] b ws ls ≡ []
-told_unmet b ws [] = refl
-told_unmet b ws (l ∷ ls) = told_unmet b ws ls
+pub registered_met : RenewedIsOne → (entries : List Assignment) (b : Brought) (ws : List Write) (ls : List Listener) → registered (map (renewed_met entries b ws) ls) ≡ registered ls
+registered_met law entries b ws [] = refl
+registered_met law entries b ws (l ∷ ls) = λ i. registered_one law entries b ws l i ∷ registered_met law entries b ws ls i
 
 -- the kept listens as they are shown begin as they are
 pub listens_same : (ls : List Registered) (kept : List Tagged) → listens_shown (map (shown_with ls) kept) ≡ listens kept
 listens_same ls [] = refl
 listens_same ls (k ∷ kept) = ap (λ z. ClientMessage.Listen k.tag k.form ∷ z) (listens_same ls kept)
 
--- what a settlement leaves as it is, and what it takes out
-pub record Settles (w : World) (s : Step) (id : ℕ) (why : Option Reason) : Type 0 where
-  pub listeners : listeners_after w s ≡ w.listeners
-  pub requests : requests_after w s ≡ filter (λ (r : Request). not (r.id == id)) w.requests
-  pub entries : entries_by w s ≡ entries_settled w id
-  pub pushed : pushed w s ≡ w.brought
-  pub unrevoked : unrevoked s [] ≡ []
-  pub sent : request_sent w s ≡ []
-  pub messages : messages_of w s ≡ cond w.is_connected (messages_online w s) []
-  pub outgoing : outgoing_before w s ≡ w.outgoing
-  pub connected : is_connected_after w s ≡ w.is_connected
-  pub listener : listener_given w s ≡ None
-  pub request : request_given w s ≡ None
-  pub settled : settled_notes w s ≡ filter_map (settled_note (id, why)) w.requests
-  pub cancelled : cancelled_notes w s ≡ []
-
-pub settles : (w : World) (id : ℕ) (why : Option Reason) → Settles w (settling id why) id why
-settles w id None = record { listeners = refl; requests = refl; entries = refl; pushed = refl; unrevoked = refl; sent = refl; messages = refl; outgoing = refl; connected = refl; listener = refl; request = refl; settled = refl; cancelled = refl }
-settles w id (Some why) = record { listeners = refl; requests = refl; entries = refl; pushed = refl; unrevoked = refl; sent = refl; messages = refl; outgoing = refl; connected = refl; listener = refl; request = refl; settled = refl; cancelled = refl }
-
--- nothing is sent in either case
-no_messages : (c : Bool) → ◌≡◌ {A = List ClientMessage} (cond c [] []) []
-no_messages true = refl
-no_messages false = refl
+-- ---- settlements
 
 -- the one that is found has the number
 found_number : (id : ℕ) (rs : List Request) (r : Request) → find (λ (x : Request). x.id == id) rs ≡ Some r → (r.id == id) ≡ true
@@ -131,10 +103,10 @@ settled_entries w id None e = entries_left (find (λ (r : Request). r.id == id) 
 settled_entries w id (Some why) e = entries_left (find (λ (r : Request). r.id == id) w.requests) (entries_settled w id) (any_find id w.requests ∙ is_there (list_any (λ (r : Request). r.id == id) w.requests) e)
 
 -- the seat of a settled request is told
-pub settled_told : (id : ℕ) (why : Option Reason) (rs : List Request) → AllPairs (λ (r s : Request). r.id < s.id) rs
-    → option_to_list (option_map (λ seat. record { seat = seat; body = Settled id why }) (option_and_then (λ (r : Request). r.seat) (find (λ (r : Request). r.id == id) rs)))
-    ≡ filter_map (settled_note (id, why)) rs
-settled_told id why rs rise = ap option_to_list (at (find (λ (r : Request). r.id == id) rs) refl) ∙ sym (settled_once_told (id, why) rs rise)
+told_seat : (id : ℕ) (why : Option Reason) (rs : List Request)
+    → ◌≡◌ {A = Option Note} (option_map (λ seat. record { seat = seat; body = Settled id why }) (option_and_then (λ (r : Request). r.seat) (find (λ (r : Request). r.id == id) rs)))
+    (option_and_then (settled_note (id, why)) (find (λ (r : Request). r.id == id) rs))
+told_seat id why rs = at (find (λ (r : Request). r.id == id) rs) refl
   where
     told_if : Request → Bool → Option Note
     told_if r b = cond b (option_map (λ seat. record { seat = seat; body = Settled id why }) r.seat) None
@@ -143,6 +115,21 @@ settled_told id why rs rise = ap option_to_list (at (find (λ (r : Request). r.i
         → ◌≡◌ {A = Option Note} (option_map (λ seat. record { seat = seat; body = Settled id why }) (option_and_then (λ (r : Request). r.seat) o)) (option_and_then (settled_note (id, why)) o)
     at None e = refl
     at (Some r) e = sym (ap (told_if r) (found_number id rs r e))
+
+-- ---- steps
+
+pub made_of : (v : World) (s : Step) → IsDue v s → IsMade v s
+made_of v s d = record { sound = d.good.steady.sound; called = d.good.steady.called; not_refused = d.not_refused; not_stale = d.not_stale }
+
+-- a settlement gives no number
+none_given : (w : World) (id : ℕ) (why : Option Reason) → (done_report w (settling id why)).given ≡ None
+none_given w id None = refl
+none_given w id (Some why) = refl
+
+settling_leaves : AcceptedIsMade → RefusedIsMade → (w : World) (id : ℕ) (why : Option Reason) → IsDue w (settling id why)
+    → Leaves w (settling id why) (settled_world w id) (settled_told w id why)
+settling_leaves accepted refused w id None d = accepted w id (made_of w (Step.Accepted id) d) d.good.steady.reached
+settling_leaves accepted refused w id (Some why) d = refused w id why (made_of w (Step.Refused id why) d) d.good.steady.reached
 
 module _ (limits : Limits) (ls : List Listener) (requests : List Request) (b : Brought) (cover : Cover) (c : Bool) (out : List ClientMessage) (gl gr : ℕ) where
   abbrev pub w : World
@@ -153,137 +140,112 @@ module _ (limits : Limits) (ls : List Listener) (requests : List Request) (b : B
   along self is s made f d = subst (λ v. IsNext v s made) is (f (subst (λ v. IsDue v s) (sym is) d))
 
   -- the cover stays the world's where the listeners are renewed
-  pub tied_after : IsTied cover w → (entries : List Assignment) (b' b'' : Brought) (writes : List Write) (ls' : List Listener) (requests' : List Request) (c' : Bool) (out' : List ClientMessage) (gr' : ℕ)
+  pub tied_after : RenewedIsOne → IsTied cover w → (entries : List Assignment) (b' b'' : Brought) (writes : List Write) (ls' : List Listener) (requests' : List Request) (c' : Bool) (out' : List ClientMessage) (gr' : ℕ)
       → ls' ≡ map (renewed_met entries b'' writes) ls → IsTied cover (world_of limits ls' requests' b' cover c' out' gl gr')
-  tied_after t entries b' b'' writes ls' requests' c' out' gr' is = record {
-    listened = t.listened ∙ sym (ap registered is ∙ registered_met entries b'' writes ls);
+  tied_after law t entries b' b'' writes ls' requests' c' out' gr' is = record {
+    listened = t.listened ∙ sym (ap registered is ∙ registered_met law entries b'' writes ls);
     last_tag = t.last_tag;
   }
 
-  -- ---- a step that begins and ends no listener
-
-  pub still_made : (s : Step) → IsDue w s → listeners_after w s ≡ w.listeners → listener_given w s ≡ None
-      → (entries : List Assignment) → entries ≡ entries_by w s
-      → (b' : Brought) → brought_after w s ≡ b'
-      → (requests' : List Request) → requests' ≡ requests_after w s
-      → (ls' : List Listener) → ls' ≡ map (renewed_met entries b' (pending requests')) ls
-      → (out' : List ClientMessage) → out' ≡ outgoing_before w s ++ messages_of w s
-      → c ≡ is_connected_after w s
-      → (gr' : ℕ) → gr' + 1 ≡ counted w.next_request (request_given w s)
-      → (told : Told) → told.given ≡ request_given w s → told.notes.items ≡ settled_notes w s ++ cancelled_notes w s ++ all_told entries b' (pending requests') ls
-      → IsNext w s (world_of limits ls' requests' b' cover c out' gl gr', told)
-  still_made s d e lg entries ee b' eb requests' re ls' he out' oe ce gr' ge told given notes =
-      let ew : pending (requests_after w s) ≡ pending requests' = sym (ap pending re) in
-      record {
-        world = (λ i. record w {
-          listeners = (he ∙ ap (λ x. map (renewed_met x b' (pending requests')) ls) ee) i;
-          requests = re i;
-          brought = b';
-          is_connected = ce i;
-          outgoing = oe i;
-          next_listener = counted (gl + 1) (sym lg i);
-          next_request = ge i;
-        }) ∙ next_is w s d e b' (pending requests') (messages_of w s) eb ew refl;
-        given = given ∙ (λ i. option_or (sym lg i) (request_given w s));
-        notes = notes ∙ (λ i. settled_notes w s ++ cancelled_notes w s ++ (ap (λ x. all_told x b' (pending requests') ls) ee ∙ told_is w s d e b' (pending requests') eb ew) i);
-      }
-
-  pub settle_made : (id : ℕ) (why : Option Reason) → IsDue w (settling id why)
+  pub settle_made : AcceptedIsMade → RefusedIsMade → SettledIsNotPending → (id : ℕ) (why : Option Reason) → IsDue w (settling id why)
       → (entries : List Assignment) → entries ≡ entries_settled w id
       → (requests' : List Request) → requests' ≡ filter (λ (r : Request). not (r.id == id)) requests
       → (ls' : List Listener) → ls' ≡ map (renewed_met entries b (pending requests')) ls
       → (told : Told) → told.given ≡ None
       → told.notes.items ≡ option_to_list (option_map (λ seat. record { seat = seat; body = Settled id why }) (option_and_then (λ (r : Request). r.seat) (find (λ (r : Request). r.id == id) requests))) ++ all_told entries b (pending requests') ls
       → IsNext w (settling id why) (world_of limits ls' requests' b cover c out gl gr, told)
-  settle_made id why d entries ee requests' re ls' he told given notes =
-      let s : Step = settling id why in
-      let f : Settles w s id why = settles w id why in
-      let quiet : messages_of w s ≡ [] = f.messages ∙ ap (λ ms. cond c ms []) (online w s d f.listeners f.unrevoked ∙ f.sent) ∙ no_messages c in
-      still_made s d f.listeners f.listener entries (ee ∙ sym f.entries)
-      b (brought_stays w s d f.listeners f.pushed) requests' (re ∙ sym f.requests)
-      ls' he out (sym (append-nil out) ∙ (λ i. sym f.outgoing i ++ sym quiet i)) (sym f.connected)
-      gr (ap (counted (gr + 1)) (sym f.request)) told (given ∙ sym f.request)
-      (notes ∙ ap (λ z. z ++ all_told entries b (pending requests') ls)
-      (settled_told id why requests d.good.sound.requests ∙ sym f.settled ∙ sym (append-nil (settled_notes w s)) ∙ ap (λ z. settled_notes w s ++ z) (sym f.cancelled)))
+  settle_made accepted refused left id why d entries ee requests' re ls' he told given notes =
+      let leaves = settling_leaves accepted refused w id why d in
+      let ws = ap pending re ∙ left requests id in
+      record {
+        world = (λ i. record w {
+          listeners = (he ∙ (λ j. map (renewed_met (ee j) b (ws j)) ls)) i;
+          requests = re i;
+        }) ∙ sym leaves.world;
+        given = given ∙ sym (none_given w id why);
+        notes = notes ∙ (λ i. option_to_list (told_seat id why requests i) ++ all_told (ee i) b (ws i) ls) ∙ sym leaves.notes;
+      }
 
-  pub merge_brought : (tag : ℕ) (entries : List Assignment) → IsDue w (Step.DataMerge tag entries) → brought_after w (Step.DataMerge tag entries) ≡ pushed w (Step.DataMerge tag entries)
-  merge_brought tag entries d = push_is_brought w (Step.DataMerge tag entries) d.good.sound d.good.plain tt d.not_refused refl
-
-  pub merge_made : (tag : ℕ) (entries : List Assignment) → IsDue w (Step.DataMerge tag entries)
-      → (b' : Brought) → b' ≡ pushed w (Step.DataMerge tag entries)
+  pub merge_made : MergeIsMade → MergeIsStale → (tag : ℕ) (entries : List Assignment) → IsDue w (Step.DataMerge tag entries)
+      → (b' : Brought) → b' ≡ option_map_or (λ q. fold (push q) b entries) (option_map (λ (k : Tagged). k.form) (listen_at cover tag)) b
       → (ls' : List Listener) → ls' ≡ map (renewed_met entries b' (pending requests)) ls
       → (told : Told) → told.given ≡ None → told.notes.items ≡ all_told entries b' (pending requests) ls
       → IsNext w (Step.DataMerge tag entries) (world_of limits ls' requests b' cover c out gl gr, told)
-  merge_made tag entries d b' be ls' he told given notes =
+  merge_made law stale tag entries d b' be ls' he told given notes =
       let s : Step = Step.DataMerge tag entries in
-      let quiet : messages_of w s ≡ [] = ap (λ ms. cond c ms []) (online w s d refl refl) ∙ no_messages c in
-      still_made s d refl refl entries refl b' (merge_brought tag entries d ∙ sym be) requests refl ls' he
-      out (sym (append-nil out) ∙ (λ i. out ++ sym quiet i)) refl gr refl told given notes
+      let made : IsMade w s = made_of w s d in
+      elim (listen_of w tag) as (λ (o : Option Query). listen_of w tag ≡ o → IsNext w s (world_of limits ls' requests b' cover c out gl gr, told)) [
+        | None ↦ λ e. absurd (true≢false (sym (ap (λ (o : Option Query). option_map_or (λ q. list_all (is_without_window b q) entries) o true) e) ∙ sym (stale w tag entries) ∙ d.not_stale))
+        | Some q ↦ λ e.
+            let leaves = law w tag entries made d.good.steady.reached q e in
+            let same : b' ≡ fold (push q) b entries = be ∙ ap (λ (o : Option Query). option_map_or (λ x. fold (push x) b entries) o b) e in
+            record {
+              world = (λ i. record w {
+                listeners = (he ∙ ap (λ x. map (renewed_met entries x (pending requests)) ls) same) i;
+                brought = same i;
+              }) ∙ sym leaves.world;
+              given = given;
+              notes = notes ∙ ap (λ x. all_told entries x (pending requests) ls) same ∙ sym leaves.notes;
+            }
+      ] refl
 
-  -- ---- a write
-
-  pub write_made : (seat : ℕ) (action : Action) → IsDue w (Step.Write seat action)
+  pub write_made : WriteIsMade → WriteIsPending → (seat : ℕ) (action : Action) → IsDue w (Step.Write seat action)
       → (entries : List Assignment) → entries ≡ entries_of action
       → (requests' : List Request) → requests' ≡ requests ++ record { id = gr + 1; seat = Some seat; asked = Now action } ∷ []
       → (ls' : List Listener) → ls' ≡ map (renewed_met entries b (pending requests')) ls
       → (out' : List ClientMessage) → out' ≡ out ++ asking c (gr + 1) (Now action)
       → (told : Told) → told.given ≡ Some (gr + 1) → told.notes.items ≡ all_told entries b (pending requests') ls
       → IsNext w (Step.Write seat action) (world_of limits ls' requests' b cover c out' gl (gr + 1), told)
-  write_made seat action d entries ee requests' re ls' he out' oe told given notes =
-      let s : Step = Step.Write seat action in
-      let em : messages_of w s ≡ asking c (gr + 1) (Now action) = ap (λ ms. cond c ms []) (online w s d refl refl) in
-      still_made s d refl refl entries ee b (brought_stays w s d refl refl) requests' re ls' he
-      out' (oe ∙ ap (λ ms. out ++ ms) (sym em)) refl (gr + 1) refl told given notes
-
-  -- ---- a step that shows nothing
-
-  pub connect_made : IsDue w Step.Connected → (out' : List ClientMessage) → out' ≡ listens_shown (shown cover) ++ map request_message requests
-      → (told : Told) → told.given ≡ None → told.notes.items ≡ [] → IsNext w Step.Connected (world_of limits ls requests b cover true out' gl gr, told)
-  connect_made d out' oe told given notes =
-      let s : Step = Step.Connected in
-      let eb : brought_after w s ≡ b = brought_stays w s d refl refl in
+  write_made law more seat action d entries ee requests' re ls' he out' oe told given notes =
+      let leaves = law w seat action (made_of w (Step.Write seat action) d) d.good.steady.reached in
+      let ws : pending requests' ≡ writes_with w action = ap pending re ∙ more requests (gr + 1) (Some seat) action in
       record {
         world = (λ i. record w {
-          listeners = sym (map_unmet b (pending requests) ls) i;
+          listeners = (he ∙ (λ j. map (renewed_met (ee j) b (ws j)) ls)) i;
+          requests = re i;
+          outgoing = oe i;
+          next_request = gr + 1 + 1;
+        }) ∙ sym leaves.world;
+        given = given;
+        notes = notes ∙ (λ i. all_told (ee i) b (ws i) ls) ∙ sym leaves.notes;
+      }
+
+  pub connect_made : ConnectedIsMade → IsDue w Step.Connected → (out' : List ClientMessage) → out' ≡ listens_shown (shown cover) ++ map request_message requests
+      → (told : Told) → told.given ≡ None → told.notes.items ≡ [] → IsNext w Step.Connected (world_of limits ls requests b cover true out' gl gr, told)
+  connect_made law d out' oe told given notes =
+      let leaves = law w (made_of w Step.Connected d) d.good.steady.reached in
+      record {
+        world = (λ i. record w {
           is_connected = true;
           outgoing = (oe ∙ ap (λ ms. ms ++ map request_message requests) (listens_same cover.listeners cover.kept)) i;
-        }) ∙ next_is w s d refl b (pending requests) (messages_of w s) eb refl refl;
+        }) ∙ sym leaves.world;
         given = given;
-        notes = notes ∙ sym (told_unmet b (pending requests) ls) ∙ told_is w s d refl b (pending requests) eb refl;
+        notes = notes ∙ sym leaves.notes;
       }
 
-  pub disconnect_made : IsDue w Step.Disconnected → (out' : List ClientMessage) → out' ≡ []
+  pub disconnect_made : DisconnectedIsMade → IsDue w Step.Disconnected → (out' : List ClientMessage) → out' ≡ []
       → (told : Told) → told.given ≡ None → told.notes.items ≡ [] → IsNext w Step.Disconnected (world_of limits ls requests b cover false out' gl gr, told)
-  disconnect_made d out' oe told given notes =
-      let s : Step = Step.Disconnected in
-      let eb : brought_after w s ≡ b = brought_stays w s d refl refl in
+  disconnect_made law d out' oe told given notes =
+      let leaves = law w (made_of w Step.Disconnected d) d.good.steady.reached in
       record {
-        world = (λ i. record w {
-          listeners = sym (map_unmet b (pending requests) ls) i;
-          is_connected = false;
-          outgoing = oe i;
-        }) ∙ next_is w s d refl b (pending requests) (messages_of w s) eb refl refl;
+        world = (λ i. record w { is_connected = false; outgoing = oe i }) ∙ sym leaves.world;
         given = given;
-        notes = notes ∙ sym (told_unmet b (pending requests) ls) ∙ told_is w s d refl b (pending requests) eb refl;
+        notes = notes ∙ sym leaves.notes;
       }
 
-  pub ask_made : (seat : ℕ) (ending : Ending) → IsDue w (Step.OnDisconnect seat ending)
+  pub ask_made : EndingIsMade → (seat : ℕ) (ending : Ending) → IsDue w (Step.OnDisconnect seat ending)
       → (out' : List ClientMessage) → out' ≡ out ++ asking c (gr + 1) (AtDisconnect ending)
       → (requests' : List Request) → requests' ≡ requests ++ record { id = gr + 1; seat = Some seat; asked = AtDisconnect ending } ∷ []
       → (told : Told) → told.given ≡ Some (gr + 1) → told.notes.items ≡ []
       → IsNext w (Step.OnDisconnect seat ending) (world_of limits ls requests' b cover c out' gl (gr + 1), told)
-  ask_made seat ending d out' oe requests' re told given notes =
-      let s : Step = Step.OnDisconnect seat ending in
-      let eb : brought_after w s ≡ b = brought_stays w s d refl refl in
-      let em : messages_of w s ≡ asking c (gr + 1) (AtDisconnect ending) = ap (λ ms. cond c ms []) (online w s d refl refl) in
-      let ws : List Write = pending (requests_after w s) in
+  ask_made law seat ending d out' oe requests' re told given notes =
+      let leaves = law w seat ending (made_of w (Step.OnDisconnect seat ending) d) d.good.steady.reached in
       record {
         world = (λ i. record w {
-          listeners = sym (map_unmet b ws ls) i;
           requests = re i;
           outgoing = oe i;
           next_request = gr + 1 + 1;
-        }) ∙ next_is w s d refl b ws (asking c (gr + 1) (AtDisconnect ending)) eb refl em;
+        }) ∙ sym leaves.world;
         given = given;
-        notes = notes ∙ sym (told_unmet b ws ls) ∙ told_is w s d refl b ws eb refl;
+        notes = notes ∙ sym leaves.notes;
       }

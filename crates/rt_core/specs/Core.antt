@@ -1,9 +1,8 @@
 -- What a core answers to steps, and what it becomes: a world, or none once it has lacked memory.
-use Rattle.std.specs.Prelude.{◌≡◌, ◌==◌, ℕ, true, false, ◌⊎◌, List, [], ◌∷◌, drop}
+use Rattle.std.specs.Prelude.{◌≡◌, ◌==◌, ℕ, true, ◌⊎◌, List, [], ◌∷◌, drop}
 use Rattle.std.specs.Prelude.{Option, Some, None, Result, Ok, Err, is_some}
 use Rattle.std.specs.List.{find}
 use Rattle.std.specs.Option.{option_map_or}
-use Rattle.rt_query.specs.Queries.{is_filtered}
 use Rattle.rt_query.specs.Select.{Shown}
 use Rattle.rt_cover.specs.declared.kept.Kept.{Kept}
 use Rattle.rt_wire.specs.declared.client.ClientMessage.{ClientMessage}
@@ -13,21 +12,6 @@ use Rattle.rt_world.specs.declared.step.Step.{Step}
 use Rattle.rt_world.specs.World.{World, cover}
 use Rattle.rt_world.specs.Refusals.{refusal, is_stale}
 use Rattle.rt_world.specs.Answers.{Answer, answers, step, world_after}
-
--- the steps that a core takes so far: all, with unfiltered queries alone
-abbrev pub IsTaken : Step → Type 0
-IsTaken (Step.Listen seat query) = is_filtered query ≡ false
-IsTaken (Step.Unlisten seat listener) = Unit {0}
-IsTaken (Step.Write seat action) = Unit {0}
-IsTaken (Step.OnDisconnect seat ending) = Unit {0}
-IsTaken (Step.Data tag path tree) = Unit {0}
-IsTaken (Step.DataMerge tag entries) = Unit {0}
-IsTaken (Step.Accepted id) = Unit {0}
-IsTaken (Step.Refused id why) = Unit {0}
-IsTaken (Step.Revoked tag why) = Unit {0}
-IsTaken Step.Connected = Unit {0}
-IsTaken Step.Disconnected = Unit {0}
-IsTaken (Step.CloseSeat seat) = Unit {0}
 
 -- for want of memory a step is not made; it is neither refused nor stale then
 pub record LacksMemory (w : World) (s : Step) (answer : Answer) (new : Option World) : Type 0 where

@@ -2,34 +2,11 @@
 ghost use Rattle.std.specs.Prelude.{◌≡◌, false, None, Ok, IfOk, OnErr};
 ghost use Rattle.rt_world.specs.declared.report.Outcome.TheVariants.{Done};
 ghost use Rattle.rt_world.specs.Answers.{stale_report};
-ghost use Rattle.rt_world.specs.laws.Holds.{RegistersShort};
 
 use crate::state::State;
 use crate::told::Told;
-use rt_world::{CoreError, Notes, Outcome, Report, Step};
+use rt_world::{CoreError, Notes, Outcome, Report, Step, answer_law};
 use std::alloc::{AllocError, Global};
-
-// For the prover: no path that a step registers has more than 32 keys.
-pub(crate) fn registers_short(step: &Step)
-    ensures { RegistersShort step.now }
-{
-    match step {
-        Step::Listen { query, .. } => {
-            let _is_path = query.path().keys();
-        }
-        Step::Unlisten { .. }
-        | Step::Write { .. }
-        | Step::OnDisconnect { .. }
-        | Step::Data { .. }
-        | Step::DataMerge { .. }
-        | Step::Accepted { .. }
-        | Step::Refused { .. }
-        | Step::Revoked { .. }
-        | Step::Connected
-        | Step::Disconnected
-        | Step::CloseSeat { .. } => {}
-    }
-}
 
 // The report of what a step tells that is done.
 fn done_report(told: Told) -> Report
@@ -56,12 +33,10 @@ fn stale_report(alloc: Global) -> Report
 impl State {
     ghost use Rattle.rt_world.specs.Refusals.{refusal, is_stale};
     ghost use Rattle.rt_world.specs.Answers.{step as the_step};
-    ghost use Rattle.rt_core.specs.Core.{IsTaken};
     ghost use Rattle.rt_core.specs.inside.Due.{IsGood, IsDue, IsNext};
 
     // The step, which is neither refused nor stale.
     fn next(self, step: Step) -> Result<(State, Told), AllocError>
-        requires taken { IsTaken step }
         requires due { IsDue self step }
         ensures { IfOk result (λ made. IsNext self step made) }
     {
@@ -83,12 +58,13 @@ impl State {
 
     // The step, and its report, where it is not refused.
     fn make(self, step: Step) -> Result<(State, Report), AllocError>
-        requires taken { IsTaken step }
         requires good { IsGood self }
         requires not_refused { refusal self step ≡ None }
         ensures made { IfOk result (λ made. the_step self step ≡ (made.0, Ok made.1)) }
         ensures not_stale { OnErr result (is_stale self step ≡ false) }
     {
+        // State what a step answers that is not refused.
+        answer_law();
         if self.is_stale(&step) {
             let report = stale_report(self.alloc());
             return Ok((self, report));
@@ -99,12 +75,13 @@ impl State {
 
     // The step, and its answer.
     pub(crate) fn after(self, step: Step) -> Result<(State, Result<Report, CoreError>), AllocError>
-        requires taken { IsTaken step }
         requires good { IsGood self }
         ensures ok { IfOk result (λ made. made ≡ the_step self step) }
         ensures not_refused { OnErr result (refusal self step ≡ None) }
         ensures not_stale { OnErr result (is_stale self step ≡ false) }
     {
+        // State what a refused step answers.
+        answer_law();
         if let Some(error) = self.refusal(&step) {
             return Ok((self, Err(error)));
         }

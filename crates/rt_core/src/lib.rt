@@ -1,7 +1,7 @@
 //! The core over its parts: listeners, pending writes, what the listens brought, and the listens kept.
 //!
-//! A [`Core`] takes every step, but for a listener of a filtered query, and answers as the world of
-//! `rt_world` does. What any steps lead to is the headline of [`run`].
+//! A [`Core`] takes every step, and answers as the world of `rt_world` does. What any steps lead to is
+//! the headline of [`run`].
 //!
 //! ```text
 //! let mut core = Core::new(alloc, Limits::full());
@@ -13,7 +13,7 @@
 
 ghost use Rattle.std.specs.Prelude.{◌≡◌, Some};
 ghost use Rattle.rt_world.specs.World.{empty_world, limits_from};
-ghost use Rattle.rt_core.specs.Core.{Applies, Covers, IsTaken, TakesOut, Views};
+ghost use Rattle.rt_core.specs.Core.{Applies, Covers, TakesOut, Views};
 
 mod applying;
 mod refusal;
@@ -27,10 +27,10 @@ mod state;
 mod steps;
 mod told;
 
-use applying::registers_short;
 use rt_cover::KeptList;
 use rt_query::Shown;
-use rt_world::{ClientMessage, CoreError, Limits, Report, Step, steady_law};
+use rt_world::{ClientMessage, CoreError, Limits, Report, Step};
+use rt_world::{answer_law, holding_law, steady_law};
 pub use runs::{Answers, run};
 use state::State;
 use std::alloc::Global;
@@ -61,6 +61,9 @@ impl Core {
     pub fn new(alloc: Global, limits: Limits) -> Core
         ensures { result ≡ Some (empty_world (limits_from limits)) }
     {
+        // State what holds before any step.
+        steady_law();
+        holding_law();
         Core {
             state: Some(State::new(alloc, limits.within_full())),
         }
@@ -73,15 +76,15 @@ impl Core {
     ///
     /// The first of the causes that [`CoreError`] lists in its order, and `NoMemory`.
     pub fn apply(&mut self, step: Step) -> Result<Report, CoreError>
-        requires { IsTaken step }
         ensures { Applies self.old step result self.new }
     {
         let Some(state) = self.state.take() else {
             return Err(CoreError::Failed);
         };
-        // State what holds between steps, and that the step registers no path too long for it.
+        // State what a step answers, and what holds between steps.
         steady_law();
-        registers_short(&step);
+        holding_law();
+        answer_law();
         let (state, answer) = state.after(step)?;
         self.state = Some(state);
         answer

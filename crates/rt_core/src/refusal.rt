@@ -1,6 +1,7 @@
 // The order in which refusals are looked at. None takes memory.
 ghost use Rattle.std.specs.Prelude.{◌≡◌, ◌∷◌, []};
-ghost use Rattle.rt_core.specs.inside.Due.{IsGood, first_of};
+ghost use Rattle.rt_world.specs.laws.Refused.{first_of};
+ghost use Rattle.rt_core.specs.inside.Due.{IsGood};
 
 use crate::refusals::{has_overlap, is_empty_update, is_too_deep, needs_connection};
 use crate::state::State;

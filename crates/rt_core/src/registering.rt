@@ -16,7 +16,7 @@ use rt_cover::Choice;
 use rt_listeners::Listeners;
 use rt_query::Query;
 use rt_tree::{Path, Tree};
-use rt_world::Step;
+use rt_world::{Step, stay_law, tag_law};
 
 // Whether all these entries sit at or under the path.
 fn are_under(entries: &[(Path, Tree)], path: &Path) -> bool
@@ -86,6 +86,8 @@ impl State {
         requires { IsGood self.now }
         ensures { (seat : ℕ) → result ≡ needs_tag self.now (Step.Listen seat query.now) }
     {
+        // State when a step lacks a tag.
+        tag_law();
         self.cover.lacks_tag_to_add(query)
     }
 
@@ -93,6 +95,8 @@ impl State {
     fn lacks_tag_to_remove(&self, listener: u64) -> bool
         ensures { (seat : ℕ) → result ≡ needs_tag self.now (Step.Unlisten seat listener) }
     {
+        // State when a step lacks a tag.
+        tag_law();
         self.cover.lacks_tag_to_remove(&[listener])
     }
 
@@ -101,6 +105,8 @@ impl State {
         requires { IsGood self.now }
         ensures { result ≡ needs_tag self.now (Step.CloseSeat seat) }
     {
+        // State when a step lacks a tag.
+        tag_law();
         self.cover.lacks_tag_to_remove_chosen(&OfSeat {
             listeners: &self.listeners,
             seat,
@@ -112,6 +118,9 @@ impl State {
         requires { IsGood self.now }
         ensures { (why : Reason) → result ≡ needs_tag self.now (Step.Revoked tag why) }
     {
+        // State when a step lacks a tag, and that no listen changes where no listener ends.
+        tag_law();
+        stay_law();
         self.cover.lacks_tag_to_revoke(tag)
     }
 

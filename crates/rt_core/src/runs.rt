@@ -4,7 +4,7 @@ ghost use Rattle.std.specs.List.{All};
 ghost use Rattle.std.specs.Option.{IfSome};
 ghost use Rattle.rt_world.specs.World.{World};
 ghost use Rattle.rt_world.specs.Headline.{Headline};
-ghost use Rattle.rt_core.specs.Core.{AppliesAll, IsTaken, MakesAll};
+ghost use Rattle.rt_core.specs.Core.{AppliesAll, MakesAll};
 ghost use Rattle.rt_core.specs.inside.Due.{IsGood};
 
 use crate::Core;
@@ -53,7 +53,6 @@ impl Core {
 ///
 /// Only the list of answers can be refused, and then no step is made.
 pub fn run(alloc: Global, core: &mut Core, steps: Vec<Step>) -> Result<Answers, AllocError>
-    requires { All IsTaken steps.items }
     ensures unchanged { OnErr result (core.new ≡ core.old) }
     ensures nothing { steps.items ≡ [] → IsOk result }
     ensures answered { IfOk result (λ answers. AppliesAll core.old steps.items answers core.new) }

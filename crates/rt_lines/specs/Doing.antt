@@ -1,19 +1,17 @@
 -- What a line does to a core, and what it prints.
-use Rattle.std.specs.Prelude.{◌≡◌, ◌⊎◌, ℕ, Bool, true, false, not, if◌then◌else◌, List, [], ◌∷◌, drop}
+use Rattle.std.specs.Prelude.{◌≡◌, ◌⊎◌, ℕ, Bool, true, false, List, [], ◌∷◌, drop}
 use Rattle.std.specs.Prelude.{Option, Some, None, Result, Ok, Err}
-use Rattle.rt_query.specs.Queries.{is_filtered}
 use Rattle.rt_query.specs.Select.{Shown}
 use Rattle.rt_wire.specs.declared.client.ClientMessage.{ClientMessage}
 use Rattle.rt_world.specs.declared.error.CoreError.{CoreError}
 use Rattle.rt_world.specs.declared.error.CoreError.TheVariants as core_error
 use Rattle.rt_world.specs.declared.step.Step.{Step}
-use Rattle.rt_world.specs.declared.step.Step.TheVariants as step
 use Rattle.rt_world.specs.World.{World, cover}
 use Rattle.rt_world.specs.Answers as world
 use Rattle.rt_core.specs.Core.{LacksMemory, view_in}
 use Rattle.rt_lines.specs.declared.error.LineError.{LineError}
 use Rattle.rt_lines.specs.declared.error.LineError.TheVariants.{Bad, Refused, NoMemory}
-use Rattle.rt_lines.specs.declared.error.Refusal.TheVariants.{Core, NotTakenYet}
+use Rattle.rt_lines.specs.declared.error.Refusal.TheVariants.{Core}
 use Rattle.rt_lines.specs.declared.line.Line.{Line}
 use Rattle.rt_lines.specs.declared.line.Line.TheVariants as line
 use Rattle.rt_lines.specs.Lines.{line_of_bytes}
@@ -35,36 +33,16 @@ failed_text = refusal_text (Core core_error.Failed)
 
 -- ---- steps
 
--- the steps that a core takes so far: no listener of a filtered query
-abbrev pub is_taken : Step → Bool
-is_taken (step.Listen seat query) = not (is_filtered query)
-is_taken (step.Unlisten seat listener) = true
-is_taken (step.Write seat action) = true
-is_taken (step.OnDisconnect seat ending) = true
-is_taken (step.Data tag path tree) = true
-is_taken (step.DataMerge tag entries) = true
-is_taken (step.Accepted id) = true
-is_taken (step.Refused id why) = true
-is_taken (step.Revoked tag why) = true
-is_taken step.Connected = true
-is_taken step.Disconnected = true
-is_taken (step.CloseSeat seat) = true
-
 -- a report, or why the step is refused
 abbrev pub answer_text : world.Answer → List ℕ
 answer_text (Ok report) = report_text report
 answer_text (Err e) = refusal_text (Core e)
 
 -- the world's step is made, and its answer printed
-abbrev pub step_made : Step → Option World → Done
-step_made s None = only_prints failed_text None
-step_made s (Some w) =
-    record { core = Some (world.step w s).0; printed = answer_text (world.step w s).1 }
-
--- a step that is not taken is refused, and changes nothing
 abbrev pub step_done : Step → Option World → Done
-step_done s core =
-    if is_taken s then step_made s core else only_prints (refusal_text NotTakenYet) core
+step_done s None = only_prints failed_text None
+step_done s (Some w) =
+    record { core = Some (world.step w s).0; printed = answer_text (world.step w s).1 }
 
 -- ---- looks at the core, which change nothing, but that messages are taken out
 
@@ -137,7 +115,7 @@ is_good (b ∷ bytes) = has_form (line_of_bytes (b ∷ bytes))
 -- the step, which was due, is not made, and the core has failed
 abbrev pub FailsAt : Step → Option World → Option World → Type 0
 FailsAt s None new = ⊥
-FailsAt s (Some w) new = (is_taken s ≡ true) × LacksMemory w s (Err core_error.NoMemory) new
+FailsAt s (Some w) new = LacksMemory w s (Err core_error.NoMemory) new
 
 -- the step is made and can't be told, or is not made; a look changes nothing; some messages are lost
 abbrev pub LineLacks : Line → Option World → Option World → Type 0

@@ -9,7 +9,7 @@ use Rattle.rt_world.specs.Codes as core
 use Rattle.rt_lines.specs.declared.error.LineError.{LineError}
 use Rattle.rt_lines.specs.declared.error.LineError.TheVariants.{NoMemory, Refused}
 use Rattle.rt_lines.specs.declared.error.Refusal.{Refusal}
-use Rattle.rt_lines.specs.declared.error.Refusal.TheVariants.{Tree, Query, Wire, Core, NotTakenYet}
+use Rattle.rt_lines.specs.declared.error.Refusal.TheVariants.{Tree, Query, Wire, Core}
 
 -- the layer
 abbrev pub layer_of : Refusal → List ℕ
@@ -17,7 +17,6 @@ layer_of (Tree e) = codes "tree"
 layer_of (Query e) = codes "query"
 layer_of (Wire e) = codes "wire"
 layer_of (Core e) = codes "core"
-layer_of NotTakenYet = codes "script"
 
 -- the number, within its layer
 abbrev pub code_of : Refusal → ℕ
@@ -25,7 +24,6 @@ code_of (Tree e) = tree.code_of e
 code_of (Query e) = query.code_of e
 code_of (Wire e) = wire.code_of e
 code_of (Core e) = core.code_of e
-code_of NotTakenYet = 1
 
 -- the name, within its layer
 abbrev pub name_of : Refusal → List ℕ
@@ -33,7 +31,6 @@ name_of (Tree e) = tree.name_of e
 name_of (Query e) = query.name_of e
 name_of (Wire e) = wire.name_of e
 name_of (Core e) = core.name_of e
-name_of NotTakenYet = codes "NotTakenYet"
 
 -- why a line is not read where a call on its query is refused; want of memory is no refusal
 abbrev pub of_query : QueryError → LineError

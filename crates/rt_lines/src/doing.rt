@@ -1,7 +1,7 @@
 // What a line does to a core, and what it prints.
 ghost use Rattle.std.specs.Prelude.{◌≡◌, ◌≢◌, ◌++◌, [], string_bytes, IfOk, IsOk, OnOk, OnErr};
 ghost use Rattle.rt_lines.specs.Doing.{AskedLacks, LineLacks, asked_done, bytes_done};
-ghost use Rattle.rt_lines.specs.Doing.{has_form, is_good, is_taken, kept_text, line_done, listener_text};
+ghost use Rattle.rt_lines.specs.Doing.{has_form, is_good, kept_text, line_done, listener_text};
 ghost use Rattle.rt_lines.specs.Doing.{step_done, waiting, without, without_messages};
 ghost use Rattle.rt_lines.specs.Lines.{line_of_bytes};
 ghost use Rattle.rt_lines.specs.Printing.{messages_text, refusal_text};
@@ -15,26 +15,6 @@ use rt_core::Core;
 use rt_wire::ClientMessage;
 use rt_world::{CoreError, Step};
 use std::alloc::{AllocError, Global};
-
-// Whether a core takes the step so far.
-fn is_taken(step: &Step) -> bool
-    ensures { result ≡ is_taken step.now }
-{
-    match step {
-        Step::Listen { query, .. } => !query.is_filtered(),
-        Step::Unlisten { .. }
-        | Step::Write { .. }
-        | Step::OnDisconnect { .. }
-        | Step::Data { .. }
-        | Step::DataMerge { .. }
-        | Step::Accepted { .. }
-        | Step::Refused { .. }
-        | Step::Revoked { .. }
-        | Step::Connected
-        | Step::Disconnected
-        | Step::CloseSeat { .. } => true,
-    }
-}
 
 // Prints why a core refuses. Want of memory, which ends a run, is not printed.
 fn refuse(out: &mut String, error: CoreError) -> Result<(), AllocError>
@@ -53,10 +33,6 @@ fn make_step(out: &mut String, alloc: Global, core: &mut Core, step: Step) -> Re
     ensures printed { OnOk result (Appends out.old out.new (step_done step core.old).printed) }
     ensures lacking { OnErr result (LineLacks (Line.Step step) core.old core.new) }
 {
-    if !is_taken(&step) {
-        drop(step);
-        return write_refusal(out, Refusal::NotTakenYet);
-    }
     match core.apply(step) {
         Ok(report) => write_report(out, alloc, &report),
         Err(error) => refuse(out, error),
@@ -159,9 +135,6 @@ fn print_bytes(
 
 /// Does what a line asks for: makes its step, or looks at the core. Appends what is printed for it:
 /// the step's report, why it is refused, or what the core shows.
-///
-/// A listener of a filtered query, which a core doesn't take yet, is refused as
-/// [`Refusal::NotTakenYet`], and changes nothing.
 ///
 /// # Errors
 ///

@@ -21,8 +21,6 @@ pub enum Refusal {
     Wire(WireError),
     /// A step, or a look at the core.
     Core(CoreError),
-    /// A step that a core doesn't take yet: a listener of a filtered query.
-    NotTakenYet,
 }
 
 /// Why a line is not read.
@@ -49,7 +47,6 @@ impl Refusal {
             Refusal::Query(_) => "query",
             Refusal::Wire(_) => "wire",
             Refusal::Core(_) => "core",
-            Refusal::NotTakenYet => "script",
         }
     }
 
@@ -62,7 +59,6 @@ impl Refusal {
             Refusal::Query(error) => error.code(),
             Refusal::Wire(error) => error.code(),
             Refusal::Core(error) => error.code(),
-            Refusal::NotTakenYet => 1,
         }
     }
 
@@ -75,7 +71,6 @@ impl Refusal {
             Refusal::Query(error) => error.name(),
             Refusal::Wire(error) => error.name(),
             Refusal::Core(error) => error.name(),
-            Refusal::NotTakenYet => "NotTakenYet",
         }
     }
 }

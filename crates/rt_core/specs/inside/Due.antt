@@ -1,27 +1,18 @@
 -- When a step is made, and what is owed then.
-use Rattle.std.specs.Prelude.{◌≡◌, ℕ, ◌+◌, ◌≤◌, Bool, false, List, Option, Some, None}
-use Rattle.std.specs.List.{find}
-use Rattle.std.specs.Option.{option_map}
-use Rattle.rt_world.specs.declared.error.CoreError.{CoreError}
+use Rattle.std.specs.Prelude.{◌≡◌, ℕ, false, Option, Some, None}
 use Rattle.rt_world.specs.declared.step.Step.{Step}
 use Rattle.rt_world.specs.World.{Reason, World}
 use Rattle.rt_world.specs.Messages.{next}
 use Rattle.rt_world.specs.Refusals.{refusal, is_stale}
 use Rattle.rt_world.specs.Answers.{done_report}
-use Rattle.rt_world.specs.Called.{IsCalled}
-use Rattle.rt_world.specs.Plain.{IsPlain}
-use Rattle.rt_world.specs.Sound.{IsSound}
-use Rattle.rt_world.specs.laws.Holds.{AreShort}
+use Rattle.rt_world.specs.Limited.{IsWithin}
+use Rattle.rt_world.specs.laws.Holds.{IsSteady}
 use Rattle.rt_core.specs.declared.told.Told.{Told}
 
--- what holds between steps, and all listens are plain, of paths that are no longer than trees are
--- deep; the next tag is at most one above the last
+-- what holds between steps
 pub record IsGood (w : World) : Type 0 where
-  pub sound : IsSound w
-  pub called : IsCalled w.brought
-  pub plain : IsPlain w
-  pub short : AreShort w.listeners
-  pub tags : w.next_tag ≤ w.limits.last_number + 1
+  pub steady : IsSteady w
+  pub within : IsWithin w
 
 -- the step is neither refused nor stale
 pub record IsDue (w : World) (s : Step) : Type 0 where
@@ -39,7 +30,3 @@ pub record IsNext (w : World) (s : Step) (made : World × Told) : Type 0 where
 abbrev pub settling : ℕ → Option Reason → Step
 settling id None = Step.Accepted id
 settling id (Some why) = Step.Refused id why
-
--- the first refusal whose condition holds
-abbrev pub first_of : List (Bool × CoreError) → Option CoreError
-first_of conditions = option_map (λ c. c.1) (find (λ c. c.0) conditions)

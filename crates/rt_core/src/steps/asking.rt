@@ -5,7 +5,7 @@ ghost use Rattle.rt_world.specs.World.{entries_of};
 use crate::sending::send_asked;
 use crate::state::State;
 use crate::told::Told;
-use rt_world::{Action, Asked, Ending, Step};
+use rt_world::{Action, Asked, Ending, Step, asked_law, pending_law, refusal_law, stay_law};
 use rt_writes::Entries;
 use std::alloc::{AllocError, Global};
 
@@ -56,6 +56,11 @@ impl State {
         requires { IsDue self (Step.Write seat action) }
         ensures { IfOk result (λ made. IsNext self (Step.Write seat action) made) }
     {
+        // State what such a step leaves, and what may be asked.
+        asked_law();
+        pending_law();
+        refusal_law();
+        stay_law();
         let alloc = self.alloc();
         let mut state = self;
         let id = state.given_requests + 1;
@@ -87,6 +92,9 @@ impl State {
         requires { IsDue self (Step.OnDisconnect seat ending) }
         ensures { IfOk result (λ made. IsNext self (Step.OnDisconnect seat ending) made) }
     {
+        // State what such a step leaves, and what may be asked.
+        asked_law();
+        refusal_law();
         let alloc = self.alloc();
         let mut state = self;
         let id = state.given_requests + 1;

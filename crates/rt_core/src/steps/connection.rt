@@ -6,6 +6,7 @@ use crate::sending::{send_listens, send_requests};
 use crate::state::State;
 use crate::told::Told;
 use rt_cover::{Cover, Kept};
+use rt_world::connection_law;
 use std::alloc::AllocError;
 use std::collections::VecDeque;
 
@@ -28,6 +29,8 @@ impl State {
         requires { IsDue self Step.Connected }
         ensures { IfOk result (λ made. IsNext self Step.Connected made) }
     {
+        // State what such a step leaves.
+        connection_law();
         let alloc = self.alloc();
         let mut state = self;
         let mut outgoing = VecDeque::new(alloc);
@@ -44,6 +47,8 @@ impl State {
         requires { IsDue self Step.Disconnected }
         ensures { IsNext self Step.Disconnected result }
     {
+        // State what such a step leaves.
+        connection_law();
         let alloc = self.alloc();
         let mut state = self;
         state.outgoing.clear();

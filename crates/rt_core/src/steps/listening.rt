@@ -1,6 +1,5 @@
 // Listeners begin and end.
 ghost use Rattle.std.specs.Prelude.{◌≡◌, ◌∷◌, [], false, map, None, IfOk, OnOk};
-ghost use Rattle.rt_query.specs.Queries.{is_filtered};
 ghost use Rattle.rt_cache.specs.Recover.{recover};
 ghost use Rattle.rt_cover.specs.Cover.{forms};
 ghost use Rattle.rt_cover.specs.State.{added, add_fault, difference, is_registered, remove_fault};
@@ -63,8 +62,7 @@ impl State {
     // A seat registers a listener: it has the next number, and is told at once where something is
     // known for its query.
     pub(crate) fn listen(self, seat: u64, query: Query) -> Result<(State, Told), AllocError>
-        requires due { IsDue self (Step.Listen seat query) }
-        requires plain { is_filtered query ≡ false }
+        requires { IsDue self (Step.Listen seat query) }
         ensures { IfOk result (λ made. IsNext self (Step.Listen seat query) made) }
     {
         // State what such a step leaves, and that the cover takes it.

@@ -5,7 +5,7 @@ ghost use Rattle.std.specs.Option.{option_map, option_map_or};
 ghost use Rattle.rt_query.specs.Queries.{Query};
 ghost use Rattle.rt_cache.specs.Brought.{push};
 ghost use Rattle.rt_cover.specs.State.{listen_at};
-ghost use Rattle.rt_world.specs.Plain.{IsPushOn};
+ghost use Rattle.rt_world.specs.laws.Made.{IsPushOn};
 
 use crate::state::State;
 use crate::told::Told;
@@ -13,6 +13,7 @@ use rt_cache::Brought;
 use rt_cover::Cover;
 use rt_query::Query;
 use rt_tree::{Path, Tree};
+use rt_world::{push_law, pushed_law, stay_law};
 use std::alloc::{AllocError, Global};
 
 // Takes in these entries, which are pushed on the listen of the query.
@@ -67,6 +68,10 @@ impl State {
         requires { IsDue self (Step.DataMerge tag entries.items) }
         ensures { IfOk result (λ made. IsNext self (Step.DataMerge tag entries.items) made) }
     {
+        // State what such a step leaves, and what may be pushed.
+        push_law();
+        pushed_law();
+        stay_law();
         let alloc = self.alloc();
         let mut state = self;
         put_on(&mut state.brought, &state.cover, tag, &entries)?;

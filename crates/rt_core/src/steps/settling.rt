@@ -6,7 +6,7 @@ ghost use Rattle.rt_world.specs.declared.report.Body.TheVariants as Body;
 use crate::state::State;
 use crate::told::Told;
 use rt_requests::Settled;
-use rt_world::{Body, Note, Reason};
+use rt_world::{Body, Note, Reason, pending_law, settled_law, stay_law};
 use rt_writes::Entries;
 use std::alloc::{AllocError, Global};
 
@@ -52,6 +52,10 @@ impl State {
         requires { IsDue self (settling id why) }
         ensures { IfOk result (λ made. IsNext self (settling id why) made) }
     {
+        // State what such a step leaves.
+        settled_law();
+        pending_law();
+        stay_law();
         let alloc = self.alloc();
         let mut state = self;
         let taken = state.requests.settle(id)?;

@@ -76,7 +76,6 @@ RefusedLines =
     ∷ codes "[\"connect\"]"
     ∷ codes "[\"set\",1,\"/a.b\",1]"
     ∷ codes "[\"listen\",1,\"/a\",[[\"limitToFirst\",0]]]"
-    ∷ codes "[\"listen\",1,\"/a\",[[\"limitToFirst\",2]]]"
     ∷ codes "[\"server\",\"{}\"]"
     ∷ codes "[\"ok\",9]"
     ∷ codes "[\"out\"]" ∷ [])
@@ -87,7 +86,6 @@ RefusedLines =
     ∷ codes "bad line 4"
     ∷ codes "refused tree 1 BadKey"
     ∷ codes "refused query 5 LimitZero"
-    ∷ codes "refused script 1 NotTakenYet"
     ∷ codes "refused wire 2 UnknownKind"
     ∷ codes "stale"
     ∷ codes "> none" ∷ [])

@@ -3,7 +3,7 @@ use Rattle.std.specs.Option.{IfSome}
 use Rattle.rt_world.specs.World.{World}
 use Rattle.rt_world.specs.Answers.{Answer, step}
 use Rattle.rt_core.specs.inside.Due.{IsGood}
-use Rattle.rt_core.proofs.GoodWorlds.{good_step}
+use Rattle.rt_core.proofs.GoodWorlds.{Laws, good_step}
 use Rattle.rt_core.proofs.Core.apply.Goals as goal
 
 pub after-requires-clause-good : goal.after-requires-clause-good
@@ -17,4 +17,11 @@ invariant_of-self-2 c =
     let there : c.self.inside.state ≡ Some old = search rules in
     let good : IsGood old = subst (λ o. IfSome o IsGood) there c.self.invariant in
     let after : c.in_ok-state.state ≡ (step old c.args.step).0 = ap (λ (m : World × Answer). m.0) c.in_ok-state.ensures.ok in
-    subst IsGood (sym after) (good_step c.steady_law.ensures.next old c.args.step c.requires c.registers_short.ensures good)
+    let laws : Laws = record {
+      refused = c.answer_law.ensures.refused;
+      stale = c.answer_law.ensures.stale;
+      made = c.answer_law.ensures.made;
+      steady = c.steady_law.ensures.next;
+      within = c.holding_law.ensures.within;
+    } in
+    subst IsGood (sym after) (good_step laws old c.args.step good)

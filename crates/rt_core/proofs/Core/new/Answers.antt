@@ -1,7 +1,6 @@
 use Rattle.std.proofs.Common.{sym, subst}
 use Rattle.rt_core.specs.inside.Due.{IsGood}
-use Rattle.rt_core.proofs.GoodWorlds.{good_empty}
 use Rattle.rt_core.proofs.Core.new.Goals as goal
 
 pub invariant_of-result : goal.invariant_of-result
-invariant_of-result c = subst IsGood (sym c.new.ensures) (good_empty _)
+invariant_of-result c = subst IsGood (sym c.new.ensures) (record { steady = c.steady_law.ensures.empty _; within = c.holding_law.ensures.empty _ })

@@ -2,12 +2,11 @@ use Rattle.std.proofs.Common.{◌≡◌, ◌≤◌, ◌+◌, List, [], ◌∷◌
 use Rattle.std.specs.Option.{IfSome}
 use Rattle.std.specs.Vec.{vec_capacity, vec_len}
 use Rattle.std.specs.Vec.Iter.{into_iter_items}
-use Rattle.std.proofs.lemmas.List.Elements.{All-rest}
 use Rattle.rt_world.specs.declared.step.Step.{Step}
 use Rattle.rt_world.specs.World.{World}
 use Rattle.rt_world.specs.Answers.{Answer}
 use Rattle.rt_world.specs.Headline.{Headline}
-use Rattle.rt_core.specs.Core.{AppliesAll, IsTaken}
+use Rattle.rt_core.specs.Core.{AppliesAll}
 use Rattle.rt_core.specs.inside.Due.{IsGood}
 use Rattle.rt_core.proofs.AppliedAll.{Continues, continues_more, makes_all}
 use Rattle.rt_core.proofs.runs.run.Goals as goal
@@ -28,24 +27,23 @@ loop-step-preserved c =
     let rest : into_iter_items c.loop-step.step-iterator ≡ c.in-Some.step ∷ into_iter_items c.next.new.self = c.in-Some.ensures.steps.0 in
     let short = ap length rest in
     let more = continues_more c.args.core.now c.args.steps.items c.loop-step.items.items c.loop-step.core c.in-Some.step left c.apply.result c.apply.new.self
-    (subst (Continues c.args.core.now c.args.steps.items c.loop-step.items.items c.loop-step.core) rest c.loop-step.invariant.2) c.apply.ensures in
+    (subst (Continues c.args.core.now c.args.steps.items c.loop-step.items.items c.loop-step.core) rest c.loop-step.invariant.1) c.apply.ensures in
     let room : vec_len c.push_reserved.new.self + length left ≤ vec_capacity c.push_reserved.new.self =
-    omega (arith, c.loop-step.invariant.1, c.push_reserved.ensures.len, c.push_reserved.ensures.capacity, short) in (
-      All-rest IsTaken c.in-Some.step left (into_iter_items c.loop-step.step-iterator) rest c.loop-step.invariant.0,
+    omega (arith, c.loop-step.invariant.0, c.push_reserved.ensures.len, c.push_reserved.ensures.capacity, short) in (
       room,
       subst (λ told. Continues c.args.core.now c.args.steps.items told c.apply.new.self left) (sym c.push_reserved.ensures.items) more,
-      omega (arith, short, c.in-Some.ensures.steps.1, c.loop-step.invariant.3),
+      omega (arith, short, c.in-Some.ensures.steps.1, c.loop-step.invariant.2),
     )
 
 pub returns-clause-answered : goal.returns-clause-answered
 returns-clause-answered c =
-    all_told c.args.core.now c.loop-step.core c.args.steps.items (into_iter_items c.loop-step.step-iterator) c.loop-step.items.items c.loop-step.invariant.2
-    (sym c.loop-step.invariant.3 ∙ c.in-None.ensures.steps.0)
+    all_told c.args.core.now c.loop-step.core c.args.steps.items (into_iter_items c.loop-step.step-iterator) c.loop-step.items.items c.loop-step.invariant.1
+    (sym c.loop-step.invariant.2 ∙ c.in-None.ensures.steps.0)
 
 pub returns-clause-made : goal.returns-clause-made
 returns-clause-made c w v e f =
-    let applied = all_told c.args.core.now c.loop-step.core c.args.steps.items (into_iter_items c.loop-step.step-iterator) c.loop-step.items.items c.loop-step.invariant.2
-    (sym c.loop-step.invariant.3 ∙ c.in-None.ensures.steps.0) in
+    let applied = all_told c.args.core.now c.loop-step.core c.args.steps.items (into_iter_items c.loop-step.step-iterator) c.loop-step.items.items c.loop-step.invariant.1
+    (sym c.loop-step.invariant.2 ∙ c.in-None.ensures.steps.0) in
     makes_all c.args.steps.items c.loop-step.items.items w v
     (subst (λ (x : Option World × Option World). AppliesAll x.0 c.args.steps.items c.loop-step.items.items x.1) (λ i. (e i, f i)) applied)
 
@@ -55,4 +53,4 @@ returns-clause-headline c w v e f =
     let m = returns-clause-made c w v e f in
     let good : IsGood w = subst (λ o. IfSome o IsGood) e c.holds.ensures in
     subst (λ (x : List Answer × World). Headline w c.args.steps.items x.0 x.1) (λ i. (sym m.answers i, sym m.world i))
-    (c.holding_law.ensures.headline w c.args.steps.items good.sound)
+    (c.holding_law.ensures.headline w c.args.steps.items good.steady.sound)

@@ -1,15 +1,12 @@
 use Rattle.std.proofs.Common.{◌≡◌, ◌≤◌, ◌+◌, length}
-use Rattle.std.specs.List.{All}
 use Rattle.std.specs.Vec.{vec_capacity, vec_len}
 use Rattle.std.specs.Vec.Iter.{into_iter_items, into_iter_len}
-use Rattle.rt_core.specs.Core.{IsTaken}
 use Rattle.rt_core.proofs.AppliedAll.{Continues}
 use Rattle.rt_core.proofs.runs.run.Given as goal
 
 -- there is room for the answers to what is left; and what they make of the core now, all answers make of the core before
 abbrev pub invariant-loop-step : goal.invariant-loop-step
 invariant-loop-step l =
-    (All IsTaken (into_iter_items l.step-iterator))
-    × (vec_len l.items + length (into_iter_items l.step-iterator) ≤ vec_capacity l.items)
+    (vec_len l.items + length (into_iter_items l.step-iterator) ≤ vec_capacity l.items)
     × Continues l.initial.core l.fn.steps.items l.items.items l.core (into_iter_items l.step-iterator)
     × (into_iter_len l.step-iterator ≡ length (into_iter_items l.step-iterator))

@@ -2,24 +2,22 @@ use Rattle.std.proofs.Common.{◌≡◌, ◌++◌, sym, subst, ◌+◌, refl, ru
 use Rattle.rt_wire.specs.declared.request.Asked.TheVariants.{AtDisconnect}
 use Rattle.rt_world.specs.declared.step.Step.{Step}
 use Rattle.rt_world.specs.World.{World}
-use Rattle.rt_world.proofs.LimitLaws.{allowed}
-use Rattle.rt_world.proofs.Listeners.{or_false_left}
 use Rattle.rt_core.specs.inside.Due.{IsDue}
 use Rattle.rt_core.specs.inside.Parts.{asking}
-use Rattle.rt_core.proofs.NextWorlds.{along, ask_made}
+use Rattle.rt_core.proofs.NextWorlds.{along, ask_made, or_left}
 use Rattle.rt_core.proofs.state.State.ask_at_disconnect.Goals as goal
 
 pub add-requires-clause-above : goal.add-requires-clause-above
-add-requires-clause-above c = (subst (λ (v : World). IsDue v (Step.OnDisconnect c.args.seat c.args.ending)) (sym c.state.view_is) c.requires).good.sound.unsettled
+add-requires-clause-above c = (subst (λ (v : World). IsDue v (Step.OnDisconnect c.args.seat c.args.ending)) (sym c.state.view_is) c.requires).good.steady.sound.unsettled
 
 pub add-requires-clause-apart : goal.add-requires-clause-apart
-add-requires-clause-apart c = (allowed c.args.self (Step.OnDisconnect c.args.seat c.args.ending) c.requires.not_refused).overlap
+add-requires-clause-apart c = (c.refusal_law.ensures c.args.self (Step.OnDisconnect c.args.seat c.args.ending) c.requires.not_refused).overlap
 
 pub add-requires-clause-some : goal.add-requires-clause-some
-add-requires-clause-some c = (allowed c.args.self (Step.OnDisconnect c.args.seat c.args.ending) c.requires.not_refused).empty
+add-requires-clause-some c = (c.refusal_law.ensures c.args.self (Step.OnDisconnect c.args.seat c.args.ending) c.requires.not_refused).empty
 
 pub add-requires-clause-shallow : goal.add-requires-clause-shallow
-add-requires-clause-shallow c = or_false_left _ _ (allowed c.args.self (Step.OnDisconnect c.args.seat c.args.ending) c.requires.not_refused).deep
+add-requires-clause-shallow c = or_left _ _ (c.refusal_law.ensures c.args.self (Step.OnDisconnect c.args.seat c.args.ending) c.requires.not_refused).deep
 
 pub returns : goal.returns
 returns c =
@@ -28,4 +26,4 @@ returns c =
     along state.limits state.listeners.listeners state.requests state.brought state.cover state.is_connected state.outgoing.items state.given_listeners state.given_requests
     c.args.self c.state.view_is (Step.OnDisconnect c.args.seat c.args.ending) _ (λ d.
     ask_made state.limits state.listeners.listeners state.requests state.brought state.cover state.is_connected state.outgoing.items state.given_listeners state.given_requests
-    c.args.seat c.args.ending d c.send_asked.new.outgoing.items sent c.add.new.self c.in_ok-add.ensures.added _ refl c.new-notes.ensures.items) c.requires
+    c.asked_law.ensures.ending c.args.seat c.args.ending d c.send_asked.new.outgoing.items sent c.add.new.self c.in_ok-add.ensures.added _ refl c.new-notes.ensures.items) c.requires

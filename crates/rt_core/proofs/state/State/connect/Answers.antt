@@ -11,4 +11,4 @@ returns c =
     let state = c.state.inside in
     let sent : c.send_requests.new.outgoing.items ≡ listens_shown (shown state.cover) ++ map request_message state.requests = search rules in
     along state.limits state.listeners.listeners state.requests state.brought state.cover state.is_connected state.outgoing.items state.given_listeners state.given_requests
-    c.args.self c.state.view_is Step.Connected _ (λ d. connect_made state.limits state.listeners.listeners state.requests state.brought state.cover state.is_connected state.outgoing.items state.given_listeners state.given_requests d c.send_requests.new.outgoing.items sent _ refl c.new-notes.ensures.items) c.requires
+    c.args.self c.state.view_is Step.Connected _ (λ d. connect_made state.limits state.listeners.listeners state.requests state.brought state.cover state.is_connected state.outgoing.items state.given_listeners state.given_requests c.connection_law.ensures.connected d c.send_requests.new.outgoing.items sent _ refl c.new-notes.ensures.items) c.requires

@@ -7,4 +7,4 @@ pub returns : goal.returns
 returns c =
     let state = c.state.inside in
     along state.limits state.listeners.listeners state.requests state.brought state.cover state.is_connected state.outgoing.items state.given_listeners state.given_requests
-    c.args.self c.state.view_is Step.Disconnected _ (λ d. disconnect_made state.limits state.listeners.listeners state.requests state.brought state.cover state.is_connected state.outgoing.items state.given_listeners state.given_requests d c.clear.new.self.items c.clear.ensures.items _ refl c.new-notes.ensures.items) c.requires
+    c.args.self c.state.view_is Step.Disconnected _ (λ d. disconnect_made state.limits state.listeners.listeners state.requests state.brought state.cover state.is_connected state.outgoing.items state.given_listeners state.given_requests c.connection_law.ensures.disconnected d c.clear.new.self.items c.clear.ensures.items _ refl c.new-notes.ensures.items) c.requires

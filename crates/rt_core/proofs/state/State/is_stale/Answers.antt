@@ -1,16 +1,13 @@
-use Rattle.std.proofs.Common.{◌≡◌, not, sym, ap, subst, ◌∙◌, None}
-use Rattle.rt_world.specs.declared.step.Step.{Step}
-use Rattle.rt_world.specs.Refusals.{is_stale, refusal}
-use Rattle.rt_core.proofs.RefusalLaws.{stale_data, stale_merge}
+use Rattle.std.proofs.Common.{sym, ap, ◌∙◌}
+use Rattle.rt_world.specs.Refusals.{is_stale}
 use Rattle.rt_core.proofs.state.State.is_stale.Goals as goal
 
 pub returns-in-Data : goal.returns-in-Data
 returns-in-Data c =
-    ap not c.is_kept.ensures ∙ sym (stale_data c.args.self.now c.in-Data.tag c.in-Data.path c.in-Data.tree c.requires.good.sound c.requires.good.plain)
+    c.is_data_stale.ensures c.in-Data.tree ∙ sym (c.pushed_law.ensures.one_stale c.args.self.now c.in-Data.tag c.in-Data.path c.in-Data.tree)
     ∙ sym (ap (is_stale c.args.self.now) c.in-Data.is)
 
 pub returns-in-DataMerge : goal.returns-in-DataMerge
 returns-in-DataMerge c =
-    let fits = subst (λ (s : Step). refusal c.args.self.now s ≡ None) c.in-DataMerge.is c.requires.not_refused in
-    ap not c.is_kept-in-DataMerge.ensures ∙ sym (stale_merge c.args.self.now c.in-DataMerge.tag c.in-DataMerge.entries c.requires.good.sound c.requires.good.plain fits)
+    c.is_merge_stale.ensures ∙ sym (c.pushed_law.ensures.merge_stale c.args.self.now c.in-DataMerge.tag c.in-DataMerge.entries)
     ∙ sym (ap (is_stale c.args.self.now) c.in-DataMerge.is)

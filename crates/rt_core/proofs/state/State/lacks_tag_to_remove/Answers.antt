@@ -1,7 +1,7 @@
-use Rattle.std.proofs.Common.{◌≡◌, refl, ap, ◌∙◌, [], ◌∷◌}
+use Rattle.std.proofs.Common.{◌≡◌, refl, ap, sym, ◌∙◌, [], ◌∷◌}
 use Rattle.rt_cover.specs.State.{Cover, lacks_tag, without_listeners}
 use Rattle.rt_world.specs.Covering.{cover_in}
-use Rattle.rt_core.proofs.TagLaws.{cover_tied, remove_needs}
+use Rattle.rt_core.proofs.TagLaws.{cover_tied}
 use Rattle.rt_core.proofs.state.State.lacks_tag_to_remove.Goals as goal
 
 pub returns : goal.returns
@@ -10,4 +10,4 @@ returns c = λ seat.
     let same : c.self.inside.cover ≡ cover_in w = cover_tied c.self.inside.cover _ c.self.invariant refl refl ∙ ap cover_in c.self.view_is in
     c.lacks_tag_to_remove.ensures
     ∙ ap (λ (v : Cover). lacks_tag v (without_listeners v.listeners (c.args.listener ∷ []))) same
-    ∙ remove_needs w seat c.args.listener
+    ∙ sym (c.tag_law.ensures.unlisten w seat c.args.listener)

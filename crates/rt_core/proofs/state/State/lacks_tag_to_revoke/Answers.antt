@@ -11,4 +11,4 @@ returns c = λ why.
     let same : c.self.inside.cover ≡ cover_in w = cover_tied c.self.inside.cover _ c.self.invariant refl refl ∙ ap cover_in c.self.view_is in
     c.lacks_tag_to_revoke.ensures
     ∙ ap (λ (v : Cover). option_map_or (λ _. lacks_tag v (left_after v c.args.tag)) (listen_at v c.args.tag) false) same
-    ∙ revoke_needs w c.args.tag why c.requires
+    ∙ revoke_needs c.tag_law.ensures.revoked c.stay_law.ensures.listens w c.args.tag why c.requires

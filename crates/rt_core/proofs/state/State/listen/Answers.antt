@@ -23,19 +23,19 @@ returns c =
     along state.limits state.listeners.listeners state.requests state.brought state.cover state.is_connected state.outgoing.items state.given_listeners state.given_requests
     c.args.self c.state.view_is (Step.Listen c.args.seat c.args.query) _ (λ d.
     listen_made state.limits state.listeners.listeners state.requests state.brought state.cover state.is_connected state.outgoing.items state.given_listeners state.given_requests
-    c.listened_law.ensures.listen c.state.invariant c.args.seat c.args.query d c.requires.plain
+    c.listened_law.ensures.listen c.state.invariant c.args.seat c.args.query d
     c.cover_new.new.cover covers
     c.add.new.self.listeners (c.in_ok-add.ensures.listeners ∙ ap (λ ws. state.listeners.listeners ++ renewed state.brought ws (new_listener (state.given_listeners + 1) c.args.seat c.args.query) ∷ []) pend)
     c.in_ok-delta.delta delta
     c.send_change.new.outgoing.items c.in_ok-send_change.ensures _ refl
-    (c.in_ok-add.ensures.notes ∙ (λ i. c.new-notes.ensures.items i ++ option_to_list (told state.brought (pend i) (new_listener (state.given_listeners + 1) c.args.seat c.args.query))))) c.requires.due
+    (c.in_ok-add.ensures.notes ∙ (λ i. c.new-notes.ensures.items i ++ option_to_list (told state.brought (pend i) (new_listener (state.given_listeners + 1) c.args.seat c.args.query))))) c.requires
 
 pub invariant_of-state : goal.invariant_of-state
 invariant_of-state c =
     let state = c.state.inside in
     let old : World = world_of state.limits state.listeners.listeners state.requests state.brought state.cover state.is_connected state.outgoing.items state.given_listeners state.given_requests in
     let s : Step = Step.Listen c.args.seat c.args.query in
-    let d : IsDue old s = subst (λ v. IsDue v s) (sym c.state.view_is) c.requires.due in
+    let d : IsDue old s = subst (λ v. IsDue v s) (sym c.state.view_is) c.requires in
     let pend = c.pending-pending.ensures in
     let same : c.in_ok-covered.covered ≡ c.args.query = search rules in
     let covers : c.cover_new.new.cover ≡ added state.cover (state.given_listeners + 1) c.args.query = c.in_ok-delta.ensures.cover ∙ ap (added state.cover (state.given_listeners + 1)) same in
@@ -43,12 +43,12 @@ invariant_of-state c =
     let said : Told = record { given = Some (state.given_listeners + 1); notes = c.add.new.notes } in
     let made : IsNext old s (world_of state.limits c.add.new.self.listeners state.requests state.brought c.cover_new.new.cover state.is_connected c.send_change.new.outgoing.items (state.given_listeners + 1) state.given_requests, said) =
     listen_made state.limits state.listeners.listeners state.requests state.brought state.cover state.is_connected state.outgoing.items state.given_listeners state.given_requests
-    c.listened_law.ensures.listen c.state.invariant c.args.seat c.args.query d c.requires.plain
+    c.listened_law.ensures.listen c.state.invariant c.args.seat c.args.query d
     c.cover_new.new.cover covers
     c.add.new.self.listeners (c.in_ok-add.ensures.listeners ∙ ap (λ ws. state.listeners.listeners ++ renewed state.brought ws (new_listener (state.given_listeners + 1) c.args.seat c.args.query) ∷ []) pend)
     c.in_ok-delta.delta delta
     c.send_change.new.outgoing.items c.in_ok-send_change.ensures said refl
     (c.in_ok-add.ensures.notes ∙ (λ i. c.new-notes.ensures.items i ++ option_to_list (told state.brought (pend i) (new_listener (state.given_listeners + 1) c.args.seat c.args.query)))) in
-    tied_next c.following_law.ensures.cover old s d.good.sound c.cover_new.new.cover _
+    tied_next c.following_law.ensures.cover old s d.good.steady.sound c.cover_new.new.cover _
     (covers ∙ added_is state.limits state.listeners.listeners state.requests state.brought state.cover state.is_connected state.outgoing.items state.given_listeners state.given_requests c.state.invariant c.args.seat c.args.query)
     made.world

@@ -1,22 +1,18 @@
 use Rattle.std.proofs.Common.{◌∙◌, Ok, sym}
 use Rattle.rt_world.specs.declared.report.Outcome.TheVariants.{Done}
-use Rattle.rt_core.specs.inside.Due.{IsDue}
-use Rattle.rt_core.proofs.GoodWorlds.{stale_step}
-use Rattle.rt_core.proofs.StepLaws.{made}
 use Rattle.rt_core.proofs.state.State.make.Goals as goal
 
-pub next-requires-clause-due : goal.next-requires-clause-due
-next-requires-clause-due c = record { good = c.requires.good; not_refused = c.requires.not_refused; not_stale = sym c.is_stale.ensures ∙ c.if-is_stale.false }
+pub next-requires : goal.next-requires
+next-requires c = record { good = c.requires.good; not_refused = c.requires.not_refused; not_stale = sym c.is_stale.ensures ∙ c.if-is_stale.false }
 
 pub returns-then-is_stale-clause-made : goal.returns-then-is_stale-clause-made
 returns-then-is_stale-clause-made c =
-    stale_step c.args.self c.args.step c.requires.not_refused (sym c.is_stale.ensures ∙ c.if-is_stale.true)
+    c.answer_law.ensures.stale c.args.self c.args.step c.requires.not_refused (sym c.is_stale.ensures ∙ c.if-is_stale.true)
     ∙ (λ i. (c.args.self, Ok (sym c.stale_report-report.ensures i)))
 
 pub returns-clause-made : goal.returns-clause-made
 returns-clause-made c =
-    let d : IsDue c.args.self c.args.step = record { good = c.requires.good; not_refused = c.requires.not_refused; not_stale = sym c.is_stale.ensures ∙ c.if-is_stale.false } in
     let n = c.in_ok-state.ensures in
-    made c.args.self c.args.step d
+    c.answer_law.ensures.made c.args.self c.args.step c.requires.not_refused (sym c.is_stale.ensures ∙ c.if-is_stale.false)
     ∙ (λ i. (sym n.world i, Ok (record { outcome = Done; given = sym n.given i; notes = sym n.notes i })))
     ∙ (λ i. (c.in_ok-state.state, Ok (sym c.done_report.ensures i)))

@@ -1,6 +1,6 @@
 use Rattle.std.proofs.Common.{◌≡◌, ◌∙◌, sym, ap, Some, None}
 use Rattle.std.specs.Option.{option_or}
-use Rattle.rt_core.specs.inside.Due.{first_of}
+use Rattle.rt_world.specs.laws.Refused.{first_of}
 use Rattle.rt_core.proofs.RefusalLaws.{asking, connecting, listening, refusal_parts}
 use Rattle.rt_core.proofs.state.State.refusal.Goals as goal
 

@@ -16,7 +16,7 @@ pub invariant_of-state : goal.invariant_of-state
 invariant_of-state c =
     let state = c.state.inside in
     tied_after state.limits state.listeners.listeners state.requests state.brought state.cover state.is_connected state.outgoing.items state.given_listeners state.given_requests
-    c.state.invariant c.as_slice-entries.result.now state.brought state.brought c.pending-pending.result.now c.renew_met.new.self.listeners c.settle.new.self state.is_connected state.outgoing.items state.given_requests
+    c.stay_law.ensures.renewed c.state.invariant c.as_slice-entries.result.now state.brought state.brought c.pending-pending.result.now c.renew_met.new.self.listeners c.settle.new.self state.is_connected state.outgoing.items state.given_requests
     c.in_ok-renew_met.ensures.views
 
 pub returns : goal.returns
@@ -30,7 +30,7 @@ returns c =
     along state.limits state.listeners.listeners state.requests state.brought state.cover state.is_connected state.outgoing.items state.given_listeners state.given_requests
     c.args.self c.state.view_is (settling c.args.id c.args.why) _ (λ d.
     settle_made state.limits state.listeners.listeners state.requests state.brought state.cover state.is_connected state.outgoing.items state.given_listeners state.given_requests
-    c.args.id c.args.why d entries
+    c.settled_law.ensures.accepted c.settled_law.ensures.refused c.pending_law.ensures.settled c.args.id c.args.why d entries
     (c.as_slice-entries.ensures ∙ c.left_of-settled.ensures.entries ∙ ap (λ o. option_map_or (λ (x : Left). x.entries) o []) c.in_ok-taken.ensures.settled
     ∙ settled_entries (w state.limits state.listeners.listeners state.requests state.brought state.cover state.is_connected state.outgoing.items state.given_listeners state.given_requests) c.args.id c.args.why d.not_stale)
     c.settle.new.self c.in_ok-taken.ensures.left c.renew_met.new.self.listeners

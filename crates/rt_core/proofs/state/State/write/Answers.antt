@@ -3,36 +3,28 @@ use Rattle.rt_wire.specs.declared.request.Asked.TheVariants.{Now}
 use Rattle.rt_world.specs.declared.step.Step.{Step}
 use Rattle.rt_world.specs.World.{World, pending}
 use Rattle.rt_world.specs.Met.{all_told, renewed_met}
-use Rattle.rt_world.proofs.LimitLaws.{allowed}
-use Rattle.rt_world.proofs.Listeners.{or_false_left}
 use Rattle.rt_core.specs.inside.Due.{IsDue}
 use Rattle.rt_core.specs.inside.Parts.{asking}
-use Rattle.rt_core.proofs.NextWorlds.{along, tied_after, write_made}
+use Rattle.rt_core.proofs.NextWorlds.{along, or_left, tied_after, write_made}
 use Rattle.rt_core.proofs.state.State.write.Goals as goal
 
 pub add-requires-clause-above : goal.add-requires-clause-above
-add-requires-clause-above c = (subst (λ (v : World). IsDue v (Step.Write c.args.seat c.args.action)) (sym c.state.view_is) c.requires).good.sound.unsettled
+add-requires-clause-above c = (subst (λ (v : World). IsDue v (Step.Write c.args.seat c.args.action)) (sym c.state.view_is) c.requires).good.steady.sound.unsettled
 
 pub add-requires-clause-apart : goal.add-requires-clause-apart
-add-requires-clause-apart c = (allowed c.args.self (Step.Write c.args.seat c.args.action) c.requires.not_refused).overlap
+add-requires-clause-apart c = (c.refusal_law.ensures c.args.self (Step.Write c.args.seat c.args.action) c.requires.not_refused).overlap
 
 pub add-requires-clause-some : goal.add-requires-clause-some
-add-requires-clause-some c = (allowed c.args.self (Step.Write c.args.seat c.args.action) c.requires.not_refused).empty
+add-requires-clause-some c = (c.refusal_law.ensures c.args.self (Step.Write c.args.seat c.args.action) c.requires.not_refused).empty
 
 pub add-requires-clause-shallow : goal.add-requires-clause-shallow
-add-requires-clause-shallow c = or_false_left _ _ (allowed c.args.self (Step.Write c.args.seat c.args.action) c.requires.not_refused).deep
-
-pub renew_met-requires-clause-regions_alone : goal.renew_met-requires-clause-regions_alone
-renew_met-requires-clause-regions_alone c = (subst (λ (v : World). IsDue v (Step.Write c.args.seat c.args.action)) (sym c.state.view_is) c.requires).good.plain.windows
-
-pub renew_met-requires-clause-shallow : goal.renew_met-requires-clause-shallow
-renew_met-requires-clause-shallow c = (subst (λ (v : World). IsDue v (Step.Write c.args.seat c.args.action)) (sym c.state.view_is) c.requires).good.plain.shallow
+add-requires-clause-shallow c = or_left _ _ (c.refusal_law.ensures c.args.self (Step.Write c.args.seat c.args.action) c.requires.not_refused).deep
 
 pub invariant_of-state : goal.invariant_of-state
 invariant_of-state c =
     let state = c.state.inside in
     tied_after state.limits state.listeners.listeners state.requests state.brought state.cover state.is_connected state.outgoing.items state.given_listeners state.given_requests
-    c.state.invariant c.as_slice.result.now state.brought state.brought c.pending-pending.result.now c.renew_met.new.self.listeners c.add.new.self state.is_connected c.send_asked.new.outgoing.items (state.given_requests + 1)
+    c.stay_law.ensures.renewed c.state.invariant c.as_slice.result.now state.brought state.brought c.pending-pending.result.now c.renew_met.new.self.listeners c.add.new.self state.is_connected c.send_asked.new.outgoing.items (state.given_requests + 1)
     c.in_ok-renew_met.ensures.views
 
 pub returns : goal.returns
@@ -44,7 +36,7 @@ returns c =
     along state.limits state.listeners.listeners state.requests state.brought state.cover state.is_connected state.outgoing.items state.given_listeners state.given_requests
     c.args.self c.state.view_is (Step.Write c.args.seat c.args.action) _ (λ d.
     write_made state.limits state.listeners.listeners state.requests state.brought state.cover state.is_connected state.outgoing.items state.given_listeners state.given_requests
-    c.args.seat c.args.action d entries (c.as_slice.ensures ∙ c.in_ok-entries.ensures) c.add.new.self c.in_ok-add.ensures.added c.renew_met.new.self.listeners
+    c.asked_law.ensures.write c.pending_law.ensures.write c.args.seat c.args.action d entries (c.as_slice.ensures ∙ c.in_ok-entries.ensures) c.add.new.self c.in_ok-add.ensures.added c.renew_met.new.self.listeners
     (c.in_ok-renew_met.ensures.views ∙ ap (λ ws. map (renewed_met entries state.brought ws) state.listeners.listeners) pend)
     c.send_asked.new.outgoing.items sent _ refl
     (c.in_ok-renew_met.ensures.notes ∙ (λ i. c.new-notes.ensures.items i ++ all_told entries state.brought (pend i) state.listeners.listeners))) c.requires
