@@ -9,6 +9,7 @@ pub mod Listing
 pub mod Places
 pub mod Pushes
 pub mod QueryOrders
+pub mod RecoverLaws
 pub mod RunLaws
 pub mod Sharing
 pub mod Stays

@@ -1,0 +1,332 @@
+-- What a change of cover and a push leave of what was brought: nothing is lost that listens reach.
+use Rattle.std.proofs.Common.{◌≡◌, Bool, true, false, cond, not, ◌&&◌, List, [], ◌∷◌, map, refl}
+use Rattle.std.proofs.Common.{sym, ap, subst, ◌∙◌, Option, Some, None, is_some, append-nil}
+use lib.Dec.{T}
+use Rattle.std.specs.declared.cmp.Ordering.{Ordering}
+use Rattle.std.specs.declared.cmp.Ordering.TheVariants.{Less, Equal, Greater}
+use Rattle.std.specs.Ordering.{eq_by_cmp}
+use Rattle.std.specs.Cmp.{Equal-is}
+use Rattle.std.specs.List.{filter, filter_map, flat_map, cons_option, All, Contains}
+use Rattle.std.specs.Option.{option_map, option_map_or, option_or}
+use Rattle.std.specs.FinMap as map_of
+use Rattle.std.specs.FinMap.Entries.{by_order}
+use Rattle.std.proofs.lemmas.List.Elements.{All-nil, All-cons, All-head, All-tail, All-append}
+use Rattle.std.proofs.lemmas.List.Elements.{All-map, All-filter, All-contains_itself, filter_passes}
+use Rattle.std.proofs.lemmas.List.Folds.{list_any_at}
+use Rattle.rt_tree.specs.PathTree.{Path, PathTree, path_cmp, exact_paths, strip, strip-append, sub}
+use Rattle.rt_tree.specs.PathTree.{children_alone}
+use Rattle.rt_tree.specs.Assignments.{is_at_or_above, Assignment}
+use Rattle.rt_query.specs.Queries.{Query, is_filtered}
+use Rattle.rt_query.specs.QueryEq.{query_eq}
+use Rattle.rt_query.specs.laws.QueryEq.{query_eq_tells}
+use Rattle.rt_cache.specs.QueryOrder.{query_cmp}
+use Rattle.rt_cache.specs.Brought.{Window, Brought, nothing_brought, region_part, region_put}
+use Rattle.rt_cache.specs.Brought.{window_of, window_pushed, windows_pushed, push_plain, push}
+use Rattle.rt_cache.specs.Canonical.{IsCanonical}
+use Rattle.rt_cache.specs.Recover.{reaches, part_for, parts_of, with_regions, regions_kept}
+use Rattle.rt_cache.specs.Recover.{window_kept, in_query_order, windows_kept, recover}
+use Rattle.rt_cache.specs.Runs.{IsAllowed, after, after_all}
+use Rattle.rt_cache.specs.declared.run.Call.{Call}
+use Rattle.rt_cache.specs.declared.run.Call.TheVariants.{Put, Recover}
+use Rattle.rt_cache.specs.inside.Held.{for_each}
+use Rattle.rt_cache.proofs.Changes.{recover_stays}
+use Rattle.rt_cache.proofs.Keeping.{is_among, find-for_each}
+use Rattle.rt_cache.proofs.Listing.{listed_is}
+use Rattle.rt_cache.proofs.QueryOrders.{exact_queries}
+use Rattle.rt_cache.proofs.Stays.{push_stays}
+
+abbrev Regions : Type 0
+Regions = List (Path × PathTree)
+
+abbrev Windows : Type 0
+Windows = List (Query × Window)
+
+-- a plain listen that is kept reaches the region
+abbrev IsReached : List Query → Path × PathTree → Type 0
+IsReached kept r = reaches kept r.0 ≡ true
+
+-- the window is of a registered form
+abbrev IsRegistered : List Query → Query × Window → Type 0
+IsRegistered registered w = Contains registered w.0
+
+-- ---- lists
+
+filter_none : {X : Type 0} (p : X → Bool) (xs : List X) → All (λ x. p x ≡ false) xs → filter p xs ≡ []
+filter_none p [] h = refl
+filter_none p (x ∷ xs) h = ap (λ b. cond b (x ∷ filter p xs) (filter p xs))
+    (All-head (λ y. p y ≡ false) x xs h) ∙ filter_none p xs (All-tail (λ y. p y ≡ false) x xs h)
+
+filter_all : {X : Type 0} (p : X → Bool) (xs : List X) → All (λ x. p x ≡ true) xs → filter p xs ≡ xs
+filter_all p [] h = refl
+filter_all p (x ∷ xs) h = ap (λ b. cond b (x ∷ filter p xs) (filter p xs))
+    (All-head (λ y. p y ≡ true) x xs h)
+    ∙ ap (λ ys. x ∷ ys) (filter_all p xs (All-tail (λ y. p y ≡ true) x xs h))
+
+-- what a list's elements give, where each that one gives has it
+All-filter_map : {X Y : Type 0} (P : Y → Type 0) (f : X → Option Y) (Q : X → Type 0)
+    → ((x : X) (y : Y) → Q x → f x ≡ Some y → P y) → (xs : List X) → All Q xs → All P (filter_map f xs)
+All-filter_map P f Q gives [] h = All-nil P
+All-filter_map P f Q gives (x ∷ xs) h =
+    let rest = All-filter_map P f Q gives xs (All-tail Q x xs h) in
+    elim (f x) as (λ o. f x ≡ o → All P (cons_option o (filter_map f xs))) [
+      | None ↦ λ e. rest
+      | Some y ↦ λ e. All-cons P y (filter_map f xs) (gives x y (All-head Q x xs h) e) rest
+    ] refl
+
+All-flat_map : {X Y : Type 0} (P : Y → Type 0) (f : X → List Y) → ((x : X) → All P (f x))
+    → (xs : List X) → All P (flat_map f xs)
+All-flat_map P f gives [] = All-nil P
+All-flat_map P f gives (x ∷ xs) =
+    All-append P (f x) (flat_map f xs) (gives x) (All-flat_map P f gives xs)
+
+-- all entries of a map keep what the new one has
+All-put : {K X : Type 0} (order : K → K → Ordering)
+    → ((j k : K) → order j k ≡ Equal → j ≡ k) → (P : K × X → Type 0) (k : K) (x : X) (es : List (K × X))
+    → P (k, x) → All P es → All P (map_of.put order k x es)
+All-put order exact P k x [] new h = All-cons P (k, x) [] new h
+All-put order exact P k x (e ∷ es) new h =
+    let head = All-head P e es h in
+    let tail = All-tail P e es h in
+    elim (order k e.0) as (λ o. order k e.0 ≡ o
+    → All P (by_order o ((k, x) ∷ e ∷ es) ((e.0, x) ∷ es) (e ∷ map_of.put order k x es))) [
+      | Less ↦ λ f. All-cons P (k, x) (e ∷ es) new h
+      | Equal ↦ λ f. All-cons P (e.0, x) es (subst (λ j. P (j, x)) (exact k e.0 f) new) tail
+      | Greater ↦ λ f. All-cons P e (map_of.put order k x es) head
+          (All-put order exact P k x es new tail)
+    ] refl
+
+-- ---- regions
+
+-- where all regions are reached they stay as they are
+regions_stay : (kept : List Query) (rs : Regions) → All (IsReached kept) rs → regions_kept kept rs ≡ rs
+regions_stay kept rs h =
+    λ i. with_regions (filter_all (λ (r : Path × PathTree). reaches kept r.0) rs h i)
+    (flat_map (parts_of kept) (filter_none (λ (r : Path × PathTree). not (reaches kept r.0)) rs
+    (λ k d lt. ap not (h k d lt)) i))
+
+above_itself : (p : Path) → is_at_or_above p p ≡ true
+above_itself p = ap is_some (ap (strip p) (sym (append-nil p)) ∙ strip-append p [])
+
+-- a plain listen reaches what is at or under its path
+reached_by : (kept : List Query) (q : Query) (p : Path) → Contains kept q → is_filtered q ≡ false
+    → is_at_or_above q.path p ≡ true → reaches kept p ≡ true
+reached_by kept q p m e under =
+    list_any_at (λ k. not (is_filtered k) && is_at_or_above k.path p) kept m.0 q m.1
+    (ap (λ (k : Query). not (is_filtered k) && is_at_or_above k.path p) m.2
+    ∙ (λ i. not (e i) && under i))
+
+-- a part is at a plain listen that is kept
+part_reached : (kept : List Query) (r : Path × PathTree) (k : Query) (part : Path × PathTree)
+    → Contains kept k → part_for r k ≡ Some part → IsReached kept part
+part_reached kept r k part m e = at (is_filtered k) refl
+  where
+    parted : Bool → Option (Path × PathTree)
+    parted f = cond f None (option_map (λ rest. (k.path, sub r.1 rest)) (strip r.0 k.path))
+
+    its : (o : Option Path) → option_map (λ rest. (k.path, sub r.1 rest)) o ≡ Some part → k.path ≡ part.0
+    its None g = cc
+    its (Some rest) g = cc
+
+    at : (f : Bool) → is_filtered k ≡ f → IsReached kept part
+    at true f = let none : parted true ≡ Some part = ap parted (sym f) ∙ e in cc
+    at false f = subst (λ p. reaches kept p ≡ true) (its (strip r.0 k.path) (ap parted (sym f) ∙ e))
+        (reached_by kept k k.path m f (above_itself k.path))
+
+with_reached : (kept : List Query) (rs more : Regions) → All (IsReached kept) rs
+    → All (IsReached kept) more → All (IsReached kept) (with_regions rs more)
+with_reached kept rs [] h g = h
+with_reached kept rs (r ∷ more) h g =
+    with_reached kept (map_of.put path_cmp r.0 r.1 rs) more
+    (All-put path_cmp exact_paths (IsReached kept) r.0 r.1 rs (All-head (IsReached kept) r more g) h)
+    (All-tail (IsReached kept) r more g)
+
+-- what a change of cover leaves of regions, a plain listen that is kept reaches
+pub left_reached : (registered kept : List Query) (b : Brought)
+    → All (λ (r : Path × PathTree). reaches kept r.0 ≡ true) (recover registered kept b).regions
+left_reached registered kept b =
+    with_reached kept (filter (λ r. reaches kept r.0) b.regions)
+    (flat_map (parts_of kept) (filter (λ r. not (reaches kept r.0)) b.regions))
+    (filter_passes (λ (r : Path × PathTree). reaches kept r.0) b.regions)
+    (All-flat_map (IsReached kept) (parts_of kept) parts
+    (filter (λ r. not (reaches kept r.0)) b.regions))
+  where
+    parts : (r : Path × PathTree) → All (IsReached kept) (parts_of kept r)
+    parts r = All-filter_map (IsReached kept) (part_for r) (Contains kept) (part_reached kept r) kept
+        (All-contains_itself kept)
+
+-- a push on a listen that is kept keeps it so
+pub pushed_reached : (kept : List Query) (q : Query) (b : Brought) (a : Assignment) → Contains kept q
+    → is_at_or_above q.path a.0 ≡ true
+    → All (λ (r : Path × PathTree). reaches kept r.0 ≡ true) b.regions
+    → All (λ (r : Path × PathTree). reaches kept r.0 ≡ true) (push q b a).regions
+pushed_reached kept q b a m under h = at (is_filtered q) refl
+  where
+    plainly : is_filtered q ≡ false → All (IsReached kept) (push_plain b a).regions
+    plainly f =
+        elim (is_some (region_part b.regions a.0)) as (λ c.
+        All (IsReached kept) (cond c (record b { regions = map (region_put a) b.regions }) (record {
+          regions = map_of.put path_cmp a.0 a.1 (filter (λ r. not (is_at_or_above a.0 r.0)) b.regions);
+          windows = filter (λ w. not (is_at_or_above a.0 (w.0).path)) b.windows;
+        })).regions) [
+          | true ↦ All-map (IsReached kept) (region_put a) b.regions h
+          | false ↦ All-put path_cmp exact_paths (IsReached kept) a.0 a.1
+              (filter (λ r. not (is_at_or_above a.0 r.0)) b.regions) (reached_by kept q a.0 m f under)
+              (All-filter (λ (r : Path × PathTree). not (is_at_or_above a.0 r.0)) (IsReached kept)
+              b.regions h)
+        ]
+
+    windowed : (o : Option Path) → All (IsReached kept) (option_map_or (λ rest.
+        record b { windows = windows_pushed q rest a.1 b.windows }) o b).regions
+    windowed None = h
+    windowed (Some rest) = h
+
+    pushed : Bool → Brought
+    pushed f = cond f (option_map_or (λ rest.
+        record b { windows = windows_pushed q rest a.1 b.windows }) (strip q.path a.0) b) (push_plain b a)
+
+    at : (f : Bool) → is_filtered q ≡ f → All (IsReached kept) (push q b a).regions
+    at true f = subst (λ c. All (IsReached kept) (pushed c).regions) (sym f) (windowed (strip q.path a.0))
+    at false f = subst (λ c. All (IsReached kept) (pushed c).regions) (sym f) (plainly f)
+
+-- ---- windows
+
+-- what a change of cover leaves of windows is of registered forms
+pub left_registered : (registered kept : List Query) (b : Brought)
+    → All (λ (w : Query × Window). Contains registered w.0) (recover registered kept b).windows
+left_registered registered kept b =
+    listed (for_each known registered)
+    (All-filter_map (IsRegistered registered) (λ q. option_map (λ w. (q, w)) (known q))
+    (Contains registered) (λ q w m e. own q w (known q) m e) registered (All-contains_itself registered))
+  where
+    known : Query → Option Window
+    known = window_kept b.regions (regions_kept kept b.regions) b.windows
+
+    own : (q : Query) (w : Query × Window) (o : Option Window) → Contains registered q
+        → option_map (λ x. (q, x)) o ≡ Some w → IsRegistered registered w
+    own q w None m e = cc
+    own q w (Some x) m e = let same : q ≡ w.0 = cc in subst (Contains registered) same m
+
+    listed : (ws : Windows) → All (IsRegistered registered) ws
+        → All (IsRegistered registered) (in_query_order ws)
+    listed [] h = h
+    listed (w ∷ ws) h =
+        All-put query_cmp exact_queries (IsRegistered registered) w.0 w.1 (in_query_order ws)
+        (All-head (IsRegistered registered) w ws h)
+        (listed ws (All-tail (IsRegistered registered) w ws h))
+
+-- a push on a registered form keeps it so; its own window may be new
+pub pushed_registered : (registered : List Query) (q : Query) (b : Brought) (a : Assignment)
+    → Contains registered q → All (λ (w : Query × Window). Contains registered w.0) b.windows
+    → All (λ (w : Query × Window). Contains registered w.0) (push q b a).windows
+pushed_registered registered q b a m h =
+    elim (is_filtered q) as (λ f. All (IsRegistered registered) (cond f (option_map_or (λ rest.
+    record b { windows = windows_pushed q rest a.1 b.windows }) (strip q.path a.0) b)
+    (push_plain b a)).windows) [
+      | true ↦ windowed (strip q.path a.0)
+      | false ↦ plainly
+    ]
+  where
+    plainly : All (IsRegistered registered) (push_plain b a).windows
+    plainly =
+        elim (is_some (region_part b.regions a.0)) as (λ c. All (IsRegistered registered) (cond c
+        (record b { regions = map (region_put a) b.regions }) (record {
+          regions = map_of.put path_cmp a.0 a.1 (filter (λ r. not (is_at_or_above a.0 r.0)) b.regions);
+          windows = filter (λ w. not (is_at_or_above a.0 (w.0).path)) b.windows;
+        })).windows) [
+          | true ↦ h
+          | false ↦ All-filter (λ (w : Query × Window). not (is_at_or_above a.0 (w.0).path))
+              (IsRegistered registered) b.windows h
+        ]
+
+    replaced : (o : Option Window) → All (IsRegistered registered)
+        (option_map_or (λ w. map_of.put query_cmp q w b.windows) o b.windows)
+    replaced None = h
+    replaced (Some w) = All-put query_cmp exact_queries (IsRegistered registered) q w b.windows m h
+
+    windowed : (o : Option Path) → All (IsRegistered registered) (option_map_or (λ rest.
+        record b { windows = windows_pushed q rest a.1 b.windows }) o b).windows
+    windowed None = h
+    windowed (Some rest) = replaced (window_pushed rest a.1 (window_of b.windows q))
+
+-- where no region is lost, none leaves a window
+abbrev left_by : Bool → Option PathTree → Option Window
+left_by filtered o = cond (filtered && not (is_some o))
+    (option_map (λ t. record { children = children_alone t; is_whole = true }) o) None
+
+left_none : (filtered : Bool) (o : Option PathTree) → left_by filtered o ≡ None
+left_none true None = refl
+left_none true (Some t) = refl
+left_none false o = refl
+
+among : (registered : List Query) (q : Query) → Contains registered q → is_among registered q ≡ true
+among registered q m = list_any_at (λ x. query_eq x q) registered m.0 q m.1
+    (ap (λ x. query_eq x q) m.2 ∙ (query_eq_tells q q).1 refl)
+
+-- among the registered forms all windows are found
+abbrev where_known : Bool → Option Window → Option Window
+where_known b o = cond b o None
+
+known_none : (b : Bool) → where_known b None ≡ None
+known_none true = refl
+known_none false = refl
+
+found_registered : (registered : List Query) (ws : Windows) (q : Query)
+    → All (IsRegistered registered) ws
+    → where_known (is_among registered q) (window_of ws q) ≡ window_of ws q
+found_registered registered [] q h = known_none (is_among registered q)
+found_registered registered (w ∷ ws) q h =
+    elim (eq_by_cmp query_cmp q w.0) as (λ b. eq_by_cmp query_cmp q w.0 ≡ b
+    → where_known (is_among registered q) (either b) ≡ either b) [
+      | true ↦ λ e. ap (λ c. where_known c (Some w.1)) (among registered q
+          (subst (Contains registered) (sym (exact_queries q w.0 ((Equal-is (query_cmp q w.0)).0 e)))
+          (All-head (IsRegistered registered) w ws h)))
+      | false ↦ λ e. found_registered registered ws q (All-tail (IsRegistered registered) w ws h)
+    ] refl
+  where
+    either : Bool → Option Window
+    either b = cond b (Some w.1) (window_of ws q)
+
+windows_stay : (registered : List Query) (rs : Regions) (ws : Windows)
+    → T (map_of.is_sorted query_cmp ws) → All (IsRegistered registered) ws
+    → windows_kept registered rs rs ws ≡ ws
+windows_stay registered rs ws sorted h =
+    listed_is (for_each (window_kept rs rs ws) registered) ws sorted (λ q.
+    find-for_each (window_kept rs rs ws) q registered
+    ∙ ap (λ o. where_known (is_among registered q) (option_or o (window_of ws q)))
+    (left_none (is_filtered q) (region_part rs q.path))
+    ∙ found_registered registered ws q h)
+
+-- where a plain listen that is kept reaches each region, and each window is of a registered form, a
+-- change of cover changes nothing
+pub nothing_lost : (registered kept : List Query) (b : Brought) → IsCanonical b
+    → All (λ (r : Path × PathTree). reaches kept r.0 ≡ true) b.regions
+    → All (λ (w : Query × Window). Contains registered w.0) b.windows → recover registered kept b ≡ b
+nothing_lost registered kept b h reached known =
+    let same = regions_stay kept b.regions reached in
+    let windows : windows_kept registered b.regions (regions_kept kept b.regions) b.windows ≡ b.windows =
+    ap (λ rs. windows_kept registered b.regions rs b.windows) same
+    ∙ windows_stay registered b.regions b.windows h.windows known in
+    λ i. record { regions = same i; windows = windows i }
+
+-- ---- runs of calls
+
+kept_canonical : (b : Brought) (calls : List Call) → All IsAllowed calls → IsCanonical b
+    → IsCanonical (after_all b calls)
+kept_canonical b [] ok h = h
+kept_canonical b (c ∷ calls) ok h =
+    kept_canonical (after b c) calls (All-tail IsAllowed c calls ok)
+    (one c (All-head IsAllowed c calls ok))
+  where
+    one : (c : Call) → IsAllowed c → IsCanonical (after b c)
+    one (Put q p t) a = push_stays q b (p, t) h
+    one (Recover registered kept) a = recover_stays registered kept b a h
+
+-- what calls leave is in order
+pub calls_canonical : (calls : List Call) → All IsAllowed calls
+    → IsCanonical (after_all nothing_brought calls)
+calls_canonical calls ok = kept_canonical nothing_brought calls ok (record {
+  regions = tt;
+  apart = refl;
+  windows = tt;
+  filtered = All-nil (λ (w : Query × Window). is_filtered w.0 ≡ true);
+})
