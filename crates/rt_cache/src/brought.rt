@@ -1,7 +1,8 @@
 // What the listens brought.
-ghost use Rattle.std.specs.Prelude.{◌≡◌, ◌+◌, ◌≤◌, T, true, false, not, length, IfOk, OnOk, OnErr};
+ghost use Rattle.std.specs.Prelude.{◌≡◌, ◌+◌, ◌≤◌, T, true, false, not, length, IfOk, IfSome};
+ghost use Rattle.std.specs.Prelude.{OnOk, OnErr};
 ghost use Rattle.std.specs.FinMap as map_of;
-ghost use Rattle.rt_tree.specs.PathTree.{path_cmp, levels};
+ghost use Rattle.rt_tree.specs.PathTree.{PathTree, path_cmp, levels};
 ghost use Rattle.rt_tree.specs.Assignments.{is_at_or_above, have_overlap};
 ghost use Rattle.rt_cache.specs.Canonical.{IsCanonical};
 ghost use Rattle.rt_cache.specs.Recover.{do_plains_overlap, recover};
@@ -35,12 +36,13 @@ impl Model for Brought {
 
     ghost Value = { what.Brought };
 
-    ghost use Rattle.rt_cache.specs.Canonical.{IsCanonical};
+    ghost use Rattle.rt_cache.specs.Canonical.{IsCanonical, FitsLevels};
     ghost use Rattle.rt_cache.specs.inside.Held.{held};
 
     ghost view = { λ a. held a.regions.items a.windows.items };
 
-    ghost invariant = { λ a. IsCanonical (held a.regions.items a.windows.items) };
+    ghost invariant = { λ a. IsCanonical (held a.regions.items a.windows.items)
+        × FitsLevels (held a.regions.items a.windows.items) };
 }
 
 // The tree put into the region at or above the path, or else begun as a region.
@@ -130,11 +132,15 @@ impl Brought {
     /// or its window; `None` where there is neither.
     ///
     /// Finds it as [`Brought::knows`] does, and then costs by the path and the part, of which it
-    /// makes a copy.
+    /// makes a copy. It is no deeper than a tree at the query's path may be.
     pub fn base(&self, query: &Query) -> Result<Option<Base>, AllocError>
-        ensures { IfOk result (λ found. found ≡ base self.now query.now) }
+        ensures found { IfOk result (λ found. found ≡ base self.now query.now) }
+        ensures shallow { IfOk result (λ found. IfSome found (λ base.
+            length query.now.path + levels base.tree ≤ MAX_LEVELS)) }
     {
         let alloc = self.allocator();
+        // For the prover: so long are paths at most.
+        let _ = query.path().keys();
         if let Some(place) = regions::place_above(&self.regions, query.path()) {
             let tree = regions::part_at(alloc, &self.regions[place], query.path())?;
             return Ok(Some(Base { tree, whole: true }));
