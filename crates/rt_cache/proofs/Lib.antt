@@ -5,6 +5,7 @@ pub mod Halves
 pub mod InPlace
 pub mod InSpans
 pub mod Keeping
+pub mod Levels
 pub mod Listing
 pub mod Places
 pub mod Pushes

@@ -6,6 +6,8 @@ use Rattle.std.specs.declared.cmp.Ordering.{Ordering}
 use Rattle.std.specs.declared.cmp.Ordering.TheVariants.{Less, Equal, Greater}
 use Rattle.std.specs.Ordering.{eq_by_cmp}
 use Rattle.std.specs.Cmp.{Equal-is}
+use Rattle.std.specs.Prelude.{IfSome, slice_index_or}
+use Rattle.std.proofs.lemmas.List.Elements.{All-weaker}
 use Rattle.std.specs.List.{filter, filter_map, flat_map, cons_option, All, Contains}
 use Rattle.std.specs.Option.{option_map, option_map_or, option_or}
 use Rattle.std.specs.FinMap as map_of
@@ -63,24 +65,25 @@ filter_all p (x ∷ xs) h = ap (λ b. cond b (x ∷ filter p xs) (filter p xs))
     ∙ ap (λ ys. x ∷ ys) (filter_all p xs (All-tail (λ y. p y ≡ true) x xs h))
 
 -- what a list's elements give, where each that one gives has it
-All-filter_map : {X Y : Type 0} (P : Y → Type 0) (f : X → Option Y) (Q : X → Type 0)
-    → ((x : X) (y : Y) → Q x → f x ≡ Some y → P y) → (xs : List X) → All Q xs → All P (filter_map f xs)
-All-filter_map P f Q gives [] h = All-nil P
-All-filter_map P f Q gives (x ∷ xs) h =
-    let rest = All-filter_map P f Q gives xs (All-tail Q x xs h) in
-    elim (f x) as (λ o. f x ≡ o → All P (cons_option o (filter_map f xs))) [
+pub All-filter_map : {X Y : Type 0} (P : Y → Type 0) (f : X → Option Y) (xs : List X)
+    → All (λ x. IfSome (f x) P) xs → All P (filter_map f xs)
+All-filter_map P f [] h = All-nil P
+All-filter_map P f (x ∷ xs) h =
+    let rest = All-filter_map P f xs (All-tail (λ y. IfSome (f y) P) x xs h) in
+    elim (f x) as (λ o. IfSome o P → All P (cons_option o (filter_map f xs))) [
       | None ↦ λ e. rest
-      | Some y ↦ λ e. All-cons P y (filter_map f xs) (gives x y (All-head Q x xs h) e) rest
-    ] refl
+      | Some y ↦ λ e. All-cons P y (filter_map f xs) e rest
+    ] (All-head (λ y. IfSome (f y) P) x xs h)
 
-All-flat_map : {X Y : Type 0} (P : Y → Type 0) (f : X → List Y) → ((x : X) → All P (f x))
-    → (xs : List X) → All P (flat_map f xs)
-All-flat_map P f gives [] = All-nil P
-All-flat_map P f gives (x ∷ xs) =
-    All-append P (f x) (flat_map f xs) (gives x) (All-flat_map P f gives xs)
+pub All-flat_map : {X Y : Type 0} (P : Y → Type 0) (f : X → List Y) (xs : List X)
+    → All (λ x. All P (f x)) xs → All P (flat_map f xs)
+All-flat_map P f [] h = All-nil P
+All-flat_map P f (x ∷ xs) h =
+    All-append P (f x) (flat_map f xs) (All-head (λ y. All P (f y)) x xs h)
+    (All-flat_map P f xs (All-tail (λ y. All P (f y)) x xs h))
 
 -- all entries of a map keep what the new one has
-All-put : {K X : Type 0} (order : K → K → Ordering)
+pub All-put : {K X : Type 0} (order : K → K → Ordering)
     → ((j k : K) → order j k ≡ Equal → j ≡ k) → (P : K × X → Type 0) (k : K) (x : X) (es : List (K × X))
     → P (k, x) → All P es → All P (map_of.put order k x es)
 All-put order exact P k x [] new h = All-cons P (k, x) [] new h
@@ -116,43 +119,58 @@ reached_by kept q p m e under =
     ∙ (λ i. not (e i) && under i))
 
 -- a part is at a plain listen that is kept
-part_reached : (kept : List Query) (r : Path × PathTree) (k : Query) (part : Path × PathTree)
-    → Contains kept k → part_for r k ≡ Some part → IsReached kept part
-part_reached kept r k part m e = at (is_filtered k) refl
-  where
-    parted : Bool → Option (Path × PathTree)
-    parted f = cond f None (option_map (λ rest. (k.path, sub r.1 rest)) (strip r.0 k.path))
+part_reached : (kept : List Query) (r : Path × PathTree) (k : Query) → Contains kept k
+    → IfSome (part_for r k) (IsReached kept)
+part_reached kept r k m =
+    elim (is_filtered k) as (λ f. is_filtered k ≡ f → IfSome (cond f None
+    (option_map (λ rest. (k.path, sub r.1 rest)) (strip r.0 k.path))) (IsReached kept)) [
+      | true ↦ λ f. tt
+      | false ↦ λ f. elim (strip r.0 k.path) as (λ o. IfSome
+          (option_map (λ rest. (k.path, sub r.1 rest)) o) (IsReached kept)) [
+            | None ↦ tt
+            | Some rest ↦ reached_by kept k k.path m f (above_itself k.path)
+          ]
+    ] refl
 
-    its : (o : Option Path) → option_map (λ rest. (k.path, sub r.1 rest)) o ≡ Some part → k.path ≡ part.0
-    its None g = cc
-    its (Some rest) g = cc
-
-    at : (f : Bool) → is_filtered k ≡ f → IsReached kept part
-    at true f = let none : parted true ≡ Some part = ap parted (sym f) ∙ e in cc
-    at false f = subst (λ p. reaches kept p ≡ true) (its (strip r.0 k.path) (ap parted (sym f) ∙ e))
-        (reached_by kept k k.path m f (above_itself k.path))
-
-with_reached : (kept : List Query) (rs more : Regions) → All (IsReached kept) rs
-    → All (IsReached kept) more → All (IsReached kept) (with_regions rs more)
-with_reached kept rs [] h g = h
-with_reached kept rs (r ∷ more) h g =
-    with_reached kept (map_of.put path_cmp r.0 r.1 rs) more
-    (All-put path_cmp exact_paths (IsReached kept) r.0 r.1 rs (All-head (IsReached kept) r more g) h)
-    (All-tail (IsReached kept) r more g)
+-- what regions have and those that are put beside them
+pub with_all : (P : Path × PathTree → Type 0) (rs more : Regions) → All P rs → All P more
+    → All P (with_regions rs more)
+with_all P rs [] h g = h
+with_all P rs (r ∷ more) h g =
+    with_all P (map_of.put path_cmp r.0 r.1 rs) more
+    (All-put path_cmp exact_paths P r.0 r.1 rs (All-head P r more g) h) (All-tail P r more g)
 
 -- what a change of cover leaves of regions, a plain listen that is kept reaches
 pub left_reached : (registered kept : List Query) (b : Brought)
     → All (λ (r : Path × PathTree). reaches kept r.0 ≡ true) (recover registered kept b).regions
 left_reached registered kept b =
-    with_reached kept (filter (λ r. reaches kept r.0) b.regions)
-    (flat_map (parts_of kept) (filter (λ r. not (reaches kept r.0)) b.regions))
+    let lost : Regions = filter (λ r. not (reaches kept r.0)) b.regions in
+    with_all (IsReached kept) (filter (λ r. reaches kept r.0) b.regions)
+    (flat_map (parts_of kept) lost)
     (filter_passes (λ (r : Path × PathTree). reaches kept r.0) b.regions)
-    (All-flat_map (IsReached kept) (parts_of kept) parts
-    (filter (λ r. not (reaches kept r.0)) b.regions))
+    (All-flat_map (IsReached kept) (parts_of kept) lost (λ k d lt. parts (slice_index_or lost k d)))
   where
     parts : (r : Path × PathTree) → All (IsReached kept) (parts_of kept r)
-    parts r = All-filter_map (IsReached kept) (part_for r) (Contains kept) (part_reached kept r) kept
-        (All-contains_itself kept)
+    parts r = All-filter_map (IsReached kept) (part_for r) kept
+        (All-weaker (Contains kept) (λ k. IfSome (part_for r k) (IsReached kept)) (part_reached kept r)
+        kept (All-contains_itself kept))
+
+-- what all regions have and the pushed one, and what a put into a region keeps, all have after a push
+pub pushed_all : (P : Path × PathTree → Type 0) (b : Brought) (a : Assignment) → P a
+    → ((r : Path × PathTree) → P r → P (region_put a r)) → All P b.regions
+    → All P (push_plain b a).regions
+pushed_all P b a new keep h =
+    elim (is_some (region_part b.regions a.0)) as (λ c.
+    All P (cond c (record b { regions = map (region_put a) b.regions }) (record {
+      regions = map_of.put path_cmp a.0 a.1 (filter (λ r. not (is_at_or_above a.0 r.0)) b.regions);
+      windows = filter (λ w. not (is_at_or_above a.0 (w.0).path)) b.windows;
+    })).regions) [
+      | true ↦ All-map P (region_put a) b.regions (λ k d lt.
+          keep (slice_index_or b.regions k d) (h k d lt))
+      | false ↦ All-put path_cmp exact_paths P a.0 a.1
+          (filter (λ r. not (is_at_or_above a.0 r.0)) b.regions) new
+          (All-filter (λ (r : Path × PathTree). not (is_at_or_above a.0 r.0)) P b.regions h)
+    ]
 
 -- a push on a listen that is kept keeps it so
 pub pushed_reached : (kept : List Query) (q : Query) (b : Brought) (a : Assignment) → Contains kept q
@@ -162,18 +180,7 @@ pub pushed_reached : (kept : List Query) (q : Query) (b : Brought) (a : Assignme
 pushed_reached kept q b a m under h = at (is_filtered q) refl
   where
     plainly : is_filtered q ≡ false → All (IsReached kept) (push_plain b a).regions
-    plainly f =
-        elim (is_some (region_part b.regions a.0)) as (λ c.
-        All (IsReached kept) (cond c (record b { regions = map (region_put a) b.regions }) (record {
-          regions = map_of.put path_cmp a.0 a.1 (filter (λ r. not (is_at_or_above a.0 r.0)) b.regions);
-          windows = filter (λ w. not (is_at_or_above a.0 (w.0).path)) b.windows;
-        })).regions) [
-          | true ↦ All-map (IsReached kept) (region_put a) b.regions h
-          | false ↦ All-put path_cmp exact_paths (IsReached kept) a.0 a.1
-              (filter (λ r. not (is_at_or_above a.0 r.0)) b.regions) (reached_by kept q a.0 m f under)
-              (All-filter (λ (r : Path × PathTree). not (is_at_or_above a.0 r.0)) (IsReached kept)
-              b.regions h)
-        ]
+    plainly f = pushed_all (IsReached kept) b a (reached_by kept q a.0 m f under) (λ r e. e) h
 
     windowed : (o : Option Path) → All (IsReached kept) (option_map_or (λ rest.
         record b { windows = windows_pushed q rest a.1 b.windows }) o b).regions
@@ -190,63 +197,76 @@ pushed_reached kept q b a m under h = at (is_filtered q) refl
 
 -- ---- windows
 
+pub listed_all : (P : Query × Window → Type 0) (ws : Windows) → All P ws → All P (in_query_order ws)
+listed_all P [] h = h
+listed_all P (w ∷ ws) h =
+    All-put query_cmp exact_queries P w.0 w.1 (in_query_order ws) (All-head P w ws h)
+    (listed_all P ws (All-tail P w ws h))
+
 -- what a change of cover leaves of windows is of registered forms
 pub left_registered : (registered kept : List Query) (b : Brought)
     → All (λ (w : Query × Window). Contains registered w.0) (recover registered kept b).windows
 left_registered registered kept b =
-    listed (for_each known registered)
-    (All-filter_map (IsRegistered registered) (λ q. option_map (λ w. (q, w)) (known q))
-    (Contains registered) (λ q w m e. own q w (known q) m e) registered (All-contains_itself registered))
+    listed_all (IsRegistered registered) (for_each known registered)
+    (All-filter_map (IsRegistered registered) (λ q. option_map (λ w. (q, w)) (known q)) registered
+    (All-weaker (Contains registered) (λ q.
+    IfSome (option_map (λ w. (q, w)) (known q)) (IsRegistered registered))
+    (λ q m. own q m (known q)) registered (All-contains_itself registered)))
   where
     known : Query → Option Window
     known = window_kept b.regions (regions_kept kept b.regions) b.windows
 
-    own : (q : Query) (w : Query × Window) (o : Option Window) → Contains registered q
-        → option_map (λ x. (q, x)) o ≡ Some w → IsRegistered registered w
-    own q w None m e = cc
-    own q w (Some x) m e = let same : q ≡ w.0 = cc in subst (Contains registered) same m
+    own : (q : Query) → Contains registered q → (o : Option Window)
+        → IfSome (option_map (λ w. (q, w)) o) (IsRegistered registered)
+    own q m None = tt
+    own q m (Some w) = m
 
-    listed : (ws : Windows) → All (IsRegistered registered) ws
-        → All (IsRegistered registered) (in_query_order ws)
-    listed [] h = h
-    listed (w ∷ ws) h =
-        All-put query_cmp exact_queries (IsRegistered registered) w.0 w.1 (in_query_order ws)
-        (All-head (IsRegistered registered) w ws h)
-        (listed ws (All-tail (IsRegistered registered) w ws h))
+-- what all windows have and the query's own new one, all have after a push
+pub pushed_windows_all : (P : Query × Window → Type 0) (q : Query) (b : Brought) (a : Assignment)
+    → ((rest : Path) → strip q.path a.0 ≡ Some rest
+    → IfSome (window_pushed rest a.1 (window_of b.windows q)) (λ w. P (q, w)))
+    → All P b.windows → All P (push q b a).windows
+pushed_windows_all P q b a new h =
+    elim (is_filtered q) as (λ f. All P (cond f (option_map_or (λ rest.
+    record b { windows = windows_pushed q rest a.1 b.windows }) (strip q.path a.0) b)
+    (push_plain b a)).windows) [
+      | true ↦ windowed (strip q.path a.0) refl
+      | false ↦ plainly
+    ]
+  where
+    plainly : All P (push_plain b a).windows
+    plainly =
+        elim (is_some (region_part b.regions a.0)) as (λ c. All P (cond c
+        (record b { regions = map (region_put a) b.regions }) (record {
+          regions = map_of.put path_cmp a.0 a.1 (filter (λ r. not (is_at_or_above a.0 r.0)) b.regions);
+          windows = filter (λ w. not (is_at_or_above a.0 (w.0).path)) b.windows;
+        })).windows) [
+          | true ↦ h
+          | false ↦ All-filter (λ (w : Query × Window). not (is_at_or_above a.0 (w.0).path)) P
+              b.windows h
+        ]
+
+    replaced : (o : Option Window) → IfSome o (λ w. P (q, w)) → All P
+        (option_map_or (λ w. map_of.put query_cmp q w b.windows) o b.windows)
+    replaced None e = h
+    replaced (Some w) e = All-put query_cmp exact_queries P q w b.windows e h
+
+    windowed : (o : Option Path) → strip q.path a.0 ≡ o → All P (option_map_or (λ rest.
+        record b { windows = windows_pushed q rest a.1 b.windows }) o b).windows
+    windowed None e = h
+    windowed (Some rest) e = replaced (window_pushed rest a.1 (window_of b.windows q)) (new rest e)
 
 -- a push on a registered form keeps it so; its own window may be new
 pub pushed_registered : (registered : List Query) (q : Query) (b : Brought) (a : Assignment)
     → Contains registered q → All (λ (w : Query × Window). Contains registered w.0) b.windows
     → All (λ (w : Query × Window). Contains registered w.0) (push q b a).windows
 pushed_registered registered q b a m h =
-    elim (is_filtered q) as (λ f. All (IsRegistered registered) (cond f (option_map_or (λ rest.
-    record b { windows = windows_pushed q rest a.1 b.windows }) (strip q.path a.0) b)
-    (push_plain b a)).windows) [
-      | true ↦ windowed (strip q.path a.0)
-      | false ↦ plainly
-    ]
+    pushed_windows_all (IsRegistered registered) q b a
+    (λ rest e. own (window_pushed rest a.1 (window_of b.windows q))) h
   where
-    plainly : All (IsRegistered registered) (push_plain b a).windows
-    plainly =
-        elim (is_some (region_part b.regions a.0)) as (λ c. All (IsRegistered registered) (cond c
-        (record b { regions = map (region_put a) b.regions }) (record {
-          regions = map_of.put path_cmp a.0 a.1 (filter (λ r. not (is_at_or_above a.0 r.0)) b.regions);
-          windows = filter (λ w. not (is_at_or_above a.0 (w.0).path)) b.windows;
-        })).windows) [
-          | true ↦ h
-          | false ↦ All-filter (λ (w : Query × Window). not (is_at_or_above a.0 (w.0).path))
-              (IsRegistered registered) b.windows h
-        ]
-
-    replaced : (o : Option Window) → All (IsRegistered registered)
-        (option_map_or (λ w. map_of.put query_cmp q w b.windows) o b.windows)
-    replaced None = h
-    replaced (Some w) = All-put query_cmp exact_queries (IsRegistered registered) q w b.windows m h
-
-    windowed : (o : Option Path) → All (IsRegistered registered) (option_map_or (λ rest.
-        record b { windows = windows_pushed q rest a.1 b.windows }) o b).windows
-    windowed None = h
-    windowed (Some rest) = replaced (window_pushed rest a.1 (window_of b.windows q))
+    own : (o : Option Window) → IfSome o (λ w. IsRegistered registered (q, w))
+    own None = tt
+    own (Some w) = m
 
 -- where no region is lost, none leaves a window
 abbrev left_by : Bool → Option PathTree → Option Window

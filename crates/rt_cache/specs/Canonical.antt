@@ -1,9 +1,10 @@
--- What always holds of what was brought: each region and each window stands once, in order, and no
--- region is at or above another.
-use Rattle.std.specs.Prelude.{◌≡◌, true, false, T}
+-- What always holds of what was brought: each region and each window stands once, in order, no region
+-- is at or above another, and nothing is deeper than trees are.
+use Rattle.std.specs.Prelude.{◌≡◌, ◌+◌, ◌≤◌, true, false, T, length}
 use Rattle.std.specs.List.{All}
 use Rattle.std.specs.FinMap as map_of
-use Rattle.rt_tree.specs.PathTree.{path_cmp}
+use Rattle.rt_tree.specs.PathTree.{Path, PathTree, path_cmp, levels}
+use Rattle.rt_tree.specs.declared.limits.TheConstants.{MAX_LEVELS}
 use Rattle.rt_tree.specs.Assignments.{have_overlap}
 use Rattle.rt_query.specs.Queries.{Query, is_filtered}
 use Rattle.rt_cache.specs.QueryOrder.{query_cmp}
@@ -16,3 +17,9 @@ pub record IsCanonical (b : Brought) : Type 0 where
   pub apart : have_overlap b.regions ≡ false
   pub windows : T (map_of.is_sorted query_cmp b.windows)
   pub filtered : All (λ (w : Query × Window). is_filtered w.0 ≡ true) b.windows
+
+-- no leaf of a region or of a window stands under more than 32 keys
+pub record FitsLevels (b : Brought) : Type 0 where
+  pub regions : All (λ (r : Path × PathTree). length r.0 + levels r.1 ≤ MAX_LEVELS) b.regions
+  pub windows : All (λ (w : Query × Window). length (w.0).path + levels (w.1).children ≤ MAX_LEVELS)
+      b.windows

@@ -1,7 +1,8 @@
 // What the listens brought.
-ghost use Rattle.std.specs.Prelude.{◌≡◌, ◌+◌, ◌≤◌, T, true, false, not, length, IfOk, OnOk, OnErr};
+ghost use Rattle.std.specs.Prelude.{◌≡◌, ◌+◌, ◌≤◌, T, true, false, not, length, IfOk, IfSome};
+ghost use Rattle.std.specs.Prelude.{OnOk, OnErr};
 ghost use Rattle.std.specs.FinMap as map_of;
-ghost use Rattle.rt_tree.specs.PathTree.{path_cmp, levels};
+ghost use Rattle.rt_tree.specs.PathTree.{PathTree, path_cmp, levels};
 ghost use Rattle.rt_tree.specs.Assignments.{is_at_or_above, have_overlap};
 ghost use Rattle.rt_cache.specs.Canonical.{IsCanonical};
 ghost use Rattle.rt_cache.specs.Recover.{do_plains_overlap, recover};
@@ -35,12 +36,13 @@ impl Model for Brought {
 
     ghost Value = { what.Brought };
 
-    ghost use Rattle.rt_cache.specs.Canonical.{IsCanonical};
+    ghost use Rattle.rt_cache.specs.Canonical.{IsCanonical, FitsLevels};
     ghost use Rattle.rt_cache.specs.inside.Held.{held};
 
     ghost view = { λ a. held a.regions.items a.windows.items };
 
-    ghost invariant = { λ a. IsCanonical (held a.regions.items a.windows.items) };
+    ghost invariant = { λ a. IsCanonical (held a.regions.items a.windows.items)
+        × FitsLevels (held a.regions.items a.windows.items) };
 }
 
 // The tree put into the region at or above the path, or else begun as a region.
@@ -89,7 +91,7 @@ impl Brought {
     /// On an unfiltered query the tree is put into the region at or above the path; where there is
     /// none, it begins a region, which takes in the regions and windows below. On a filtered one it
     /// replaces the window by its children, or is put into the window, if there is one. `Ok(false)`
-    /// where there is none: the push is stale and changes nothing.
+    /// where there is none ([`Brought::lacks_window`]): the push is stale and changes nothing.
     ///
     /// Finds the region by halving, where keys that the path shares with all regions that are left
     /// are not compared again, or the window by going over their queries, and then costs by the
@@ -126,15 +128,32 @@ impl Brought {
             || windows::place_of_window(&self.windows, query).is_some()
     }
 
+    /// Whether a push on the listen of this query at the path would be stale, for want of a window:
+    /// [`Brought::put`] would give `Ok(false)`, whatever the tree.
+    ///
+    /// Goes over the queries of the windows, if the query is filtered and the path is not its own.
+    /// Takes no memory.
+    pub fn lacks_window(&self, query: &Query, path: &Path) -> bool
+        ensures { (u : PathTree) → result ≡ is_without_window self.now query.now (path.now, u) }
+    {
+        query.is_filtered()
+            && query.path() != path
+            && windows::place_of_window(&self.windows, query).is_none()
+    }
+
     /// What is brought for the query: the part of the region at or above its path, which is whole,
     /// or its window; `None` where there is neither.
     ///
     /// Finds it as [`Brought::knows`] does, and then costs by the path and the part, of which it
-    /// makes a copy.
+    /// makes a copy. It is no deeper than a tree at the query's path may be.
     pub fn base(&self, query: &Query) -> Result<Option<Base>, AllocError>
-        ensures { IfOk result (λ found. found ≡ base self.now query.now) }
+        ensures found { IfOk result (λ found. found ≡ base self.now query.now) }
+        ensures shallow { IfOk result (λ found. IfSome found (λ base.
+            length query.now.path + levels base.tree ≤ MAX_LEVELS)) }
     {
         let alloc = self.allocator();
+        // For the prover: so long are paths at most.
+        let _ = query.path().keys();
         if let Some(place) = regions::place_above(&self.regions, query.path()) {
             let tree = regions::part_at(alloc, &self.regions[place], query.path())?;
             return Ok(Some(Base { tree, whole: true }));

@@ -13,6 +13,7 @@ ghost use Rattle.rt_cache.specs.Brought.{region_part};
 ghost use Rattle.rt_cache.specs.Recover.{reaches, part_for, parts_of, with_regions, regions_kept};
 ghost use Rattle.rt_cache.specs.Recover.{window_left, do_plains_overlap, recover};
 ghost use Rattle.rt_cache.specs.inside.Held.{pair_of, pairs_of, entry_of, entries_of, for_each, held};
+ghost use Rattle.rt_cache.specs.inside.Held.{AreShort};
 ghost use Rattle.rt_cache.specs.inside.Spans.{have_place, AreInOrder, without, AreLost};
 ghost use Rattle.rt_cache.specs.declared.region.Region.{Region};
 
@@ -76,11 +77,15 @@ fn spans_kept(alloc: Global, regions: &[Region], kept: &[Query]) -> Result<Vec<S
         × (s.end ≤ length regions.now)) spans.items) }
     ensures places { IfOk result (λ spans. (k : ℕ) (d : Region) → k < length regions.now
         → have_place spans.items k ≡ reaches kept.now (slice_index_or regions.now k d).path) }
+    ensures short { OnOk result (AreShort kept.now) }
 {
     let mut spans = Vec::new(alloc);
     for query in kept {
+        let path = query.path();
+        // For the prover: so long are paths at most.
+        let _ = path.keys();
         if !query.is_filtered() {
-            spans.push(span_under(regions, query.path()))?;
+            spans.push(span_under(regions, path))?;
         }
     }
     Ok(spans)
@@ -89,7 +94,8 @@ fn spans_kept(alloc: Global, regions: &[Region], kept: &[Query]) -> Result<Vec<S
 // Where the regions stand that are lost: between those that the plain listens reach.
 fn spans_lost(alloc: Global, regions: &[Region], kept: &[Query]) -> Result<Vec<Span>, AllocError>
     requires sorted { T (map_of.is_sorted path_cmp (pairs_of regions.now)) }
-    ensures { IfOk result (λ spans. AreLost kept.now regions.now spans.items) }
+    ensures lost { IfOk result (λ spans. AreLost kept.now regions.now spans.items) }
+    ensures short { OnOk result (AreShort kept.now) }
 {
     let mut spans = spans_kept(alloc, regions, kept)?;
     spans.sort_unstable_by_key(|span| span.start);
@@ -224,12 +230,15 @@ pub(crate) fn windows_left(
     requires parts { pairs_of parts.now
         ≡ flat_map (parts_of kept.now) (filter (λ r. not (reaches kept.now r.0))
         (pairs_of regions.now)) }
-    ensures { IfOk result (λ left. entries_of left.items
+    ensures left { IfOk result (λ left. entries_of left.items
         ≡ for_each (window_left (pairs_of regions.now) (regions_kept kept.now
         (pairs_of regions.now))) registered.now) }
+    ensures short { OnOk result (AreShort registered.now) }
 {
     let mut left = Vec::new(alloc);
     for query in registered {
+        // For the prover: so long are paths at most.
+        let _ = query.path().keys();
         if let Some(window) = window_left(alloc, regions, parts, kept, query)? {
             left.push(window)?;
         }
@@ -274,6 +283,8 @@ pub(crate) fn change_cover(
     requires kept { do_plains_overlap kept.now ≡ false }
     ensures ok { OnOk result (held regions.new.items windows.new.items
         ≡ recover registered.now kept.now (held regions.old.items windows.old.items)) }
+    ensures forms { OnOk result (AreShort registered.now) }
+    ensures listens { OnOk result (AreShort kept.now) }
     ensures err { OnErr result (held regions.new.items windows.new.items
         ≡ held regions.old.items windows.old.items) }
 {

@@ -1,9 +1,10 @@
 -- What the fields hold, as what is brought.
-use Rattle.std.specs.Prelude.{Bool, ◌||◌, List, map, Option, is_some}
-use Rattle.std.specs.List.{filter_map}
+use Rattle.std.specs.Prelude.{Bool, ◌||◌, ◌≤◌, List, map, length, Option, is_some}
+use Rattle.std.specs.List.{filter_map, All}
 use Rattle.std.specs.Option.{option_map, option_map_or}
 use Rattle.rt_tree.specs.PathTree.{Path, PathTree, path_eq, strip}
 use Rattle.rt_tree.specs.Assignments.{Assignment}
+use Rattle.rt_tree.specs.declared.limits.TheConstants.{MAX_KEYS}
 use Rattle.rt_query.specs.Queries.{Query}
 use Rattle.rt_cache.specs.Brought.{Window, Brought, window_of, windows_pushed}
 use Rattle.rt_cache.specs.Recover.{in_query_order}
@@ -47,3 +48,7 @@ is_taken q p windows = path_eq q.path p || is_some (window_of windows q)
 -- what h gives of the queries, each with its query
 abbrev pub for_each : (Query → Option Window) → List Query → List (Query × Window)
 for_each h queries = filter_map (λ q. option_map (λ w. (q, w)) (h q)) queries
+
+-- paths of queries have at most 32 keys
+abbrev pub AreShort : List Query → Type 0
+AreShort queries = All (λ (q : Query). length q.path ≤ MAX_KEYS) queries

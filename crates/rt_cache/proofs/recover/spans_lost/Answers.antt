@@ -23,8 +23,8 @@ places_between-requires-clause-within c =
     (All-permutation (λ (s : Span). (s.start ≤ s.end) × (s.end ≤ length c.args.regions.now)) c.in_ok-spans.spans.items c.sort_unstable_by_key.new.self.items
     c.sort_unstable_by_key.ensures.permutation c.in_ok-spans.ensures.within)
 
-pub returns : goal.returns
-returns c =
+pub returns-clause-lost : goal.returns-clause-lost
+returns-clause-lost c =
     if_ok_both c.places_between.result _ _ _ c.places_between.ensures.order c.places_between.ensures.places (λ gaps order places. (
       order,
       λ k d lt. sym (places k lt ∙ ap not (ap (λ (spans : List Span). have_place spans k) c.deref.ensures.value

@@ -23,17 +23,17 @@ returns-in-Some c =
     let above : is_at_or_above (get_or c.self.inside.regions.items c.in-Some.place region).path (c.args.query.now).path ≡ true = search rules in
     let part : Some c.in_ok-tree.tree ≡ option_map (λ rest. child (sub (region.tree).tree rest) c.args.key.now) (strip region.path (c.args.query.now).path) = search rules in
     let seen : region_part (pairs_of c.self.inside.regions.items) (c.args.query.now).path ≡ option_map (sub (region.tree).tree) (strip region.path (c.args.query.now).path) =
-    part_is (c.args.query.now).path c.self.inside.regions.items c.in-Some.place region c.self.invariant.apart within above
+    part_is (c.args.query.now).path c.self.inside.regions.items c.in-Some.place region c.self.invariant.0.apart within above
     ∙ ap (λ (r : Region). option_map (sub (r.tree).tree) (strip r.path (c.args.query.now).path)) (sym at) in
     child_seen (region.tree).tree (strip region.path (c.args.query.now).path) c.in_ok-tree.tree c.args.key.now (map_of.find query_cmp c.args.query.now (entries_of c.self.inside.windows.items)) part
-    ∙ ap (option_map (child_base c.args.key.now)) (sym (base_found c.self.inside.regions.items c.self.inside.windows.items c.args.query.now _ _ c.self.invariant.filtered seen refl))
+    ∙ ap (option_map (child_base c.args.key.now)) (sym (base_found c.self.inside.regions.items c.self.inside.windows.items c.args.query.now _ _ c.self.invariant.0.filtered seen refl))
     ∙ ap (λ b. base_child b c.args.query.now c.args.key.now) c.self.view_is
 
 pub returns-in_default-place_of_window : goal.returns-in_default-place_of_window
 returns-in_default-place_of_window c =
     let none : region_part (pairs_of c.self.inside.regions.items) (c.args.query.now).path ≡ None = search rules in
     let window : map_of.find query_cmp c.args.query.now (entries_of c.self.inside.windows.items) ≡ None = search rules in
-    ap (option_map (child_base c.args.key.now)) (sym (base_found c.self.inside.regions.items c.self.inside.windows.items c.args.query.now None None c.self.invariant.filtered none window))
+    ap (option_map (child_base c.args.key.now)) (sym (base_found c.self.inside.regions.items c.self.inside.windows.items c.args.query.now None None c.self.invariant.0.filtered none window))
     ∙ ap (λ b. base_child b c.args.query.now c.args.key.now) c.self.view_is
 
 pub returns : goal.returns
@@ -48,5 +48,5 @@ returns c =
     let found : map_of.find query_cmp c.args.query.now (entries_of c.self.inside.windows.items) ≡ Some (seen_window window) =
     find-at c.args.query.now c.self.inside.windows.items c.in-Some-place_of_window.place window within first own ∙ ap (λ (w : Window). Some (seen_window w)) (sym at) in
     (λ i. Some (record { tree = (tree ∙ ap (λ x. child (sub (window.children).tree x) c.args.key.now) c.root.ensures ∙ ap (λ x. child x c.args.key.now) (sub_root (window.children).tree)) i; whole = window.is_whole }))
-    ∙ ap (option_map (child_base c.args.key.now)) (sym (base_found c.self.inside.regions.items c.self.inside.windows.items c.args.query.now None (Some (seen_window window)) c.self.invariant.filtered none found))
+    ∙ ap (option_map (child_base c.args.key.now)) (sym (base_found c.self.inside.regions.items c.self.inside.windows.items c.args.query.now None (Some (seen_window window)) c.self.invariant.0.filtered none found))
     ∙ ap (λ b. base_child b c.args.query.now c.args.key.now) c.self.view_is
