@@ -3,13 +3,12 @@ use Rattle.std.proofs.Common.{◌≡◌, Bool, true, false, ◌&&◌, ◌||◌, 
 use Rattle.std.specs.List.{fold, list_all}
 use Rattle.std.specs.Option.{option_map_or}
 use Rattle.std.proofs.lemmas.List.Elements.{All-head}
-use Rattle.rt_tree.specs.Assignments.{Assignment}
 use Rattle.rt_query.specs.Queries.{Query}
 use Rattle.rt_writes.specs.Writes.{Write, without}
 use Rattle.rt_cache.specs.Brought.{Brought, push, is_without_window}
 use Rattle.rt_world.specs.declared.report.Note.{Note}
 use Rattle.rt_world.specs.declared.step.Step.{Step}
-use Rattle.rt_world.specs.World.{World, pending, listen_of}
+use Rattle.rt_world.specs.World.{pending, listen_of}
 use Rattle.rt_world.specs.Steps.{requests_after, pushed}
 use Rattle.rt_world.specs.Messages.{messages_online}
 use Rattle.rt_world.specs.Answers.{settled_notes, batch_notes}

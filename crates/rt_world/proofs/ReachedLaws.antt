@@ -1,5 +1,5 @@
 -- What is brought is reached, and stays so: a change of cover that ends no listener leaves it as it is.
-use Rattle.std.proofs.Common.{◌≡◌, ℕ, Bool, true, false, not, ◌||◌, List, [], ◌∷◌, refl, sym, subst, ◌∙◌, slice_index_or, Option, Some, None}
+use Rattle.std.proofs.Common.{◌≡◌, ℕ, true, false, not, ◌||◌, List, [], ◌∷◌, refl, sym, subst, slice_index_or, Option, Some, None}
 use mathlib.Core.Bool.{true≢false}
 use Rattle.std.specs.List.{fold, list_any, All, Contains}
 use Rattle.std.specs.Option.{option_map_or}

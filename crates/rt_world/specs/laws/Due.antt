@@ -5,10 +5,12 @@ use Rattle.rt_tree.specs.PathTree.{object}
 use Rattle.rt_order.specs.declared.index.Index.{Index}
 use Rattle.rt_query.specs.declared.limit.Limit.TheVariants.{First}
 use Rattle.rt_query.specs.Queries.{Query, plain}
+use Rattle.rt_cache.specs.Brought.{nothing_brought}
 use Rattle.rt_wire.specs.declared.request.Action.TheVariants.{Put}
 use Rattle.rt_wire.specs.declared.request.Ending.TheVariants.{Run}
 use Rattle.rt_world.specs.declared.step.Step.{Step}
 use Rattle.rt_world.specs.World.{World}
+use Rattle.rt_world.specs.Steps.{pushed, brought_after}
 use Rattle.rt_world.specs.Refusals.{refusal, is_stale}
 use Rattle.rt_world.specs.Answers.{world_after}
 use Rattle.rt_world.specs.laws.Script.{fresh, num, ordered}
@@ -62,3 +64,13 @@ FilteredAreDue =
     IsDue windowed (Step.Listen 2 (ordered at_a Index.Value None))
     × IsDue windowed (Step.Data 1 (path_keys (codes "/a/y")) (num 5))
     × IsDue windowed (Step.DataMerge 1 ((path_keys (codes "/a/x"), num 6) ∷ []))
+
+-- /a has children that no listen brought
+abbrev pub unreached : World
+unreached = record fresh { brought = record { regions = (at_a, two) ∷ []; windows = [] } }
+
+-- they are lost in any step: so the laws ask that all that is brought is reached
+abbrev pub UnreachedIsLost : Type 0
+UnreachedIsLost =
+    (pushed unreached Step.Connected ≡ unreached.brought)
+    × (brought_after unreached Step.Connected ≡ nothing_brought)

@@ -1,7 +1,7 @@
 -- Laws of one step of a world that holds what holds between steps, for whoever keeps such a world.
 use Rattle.std.specs.Prelude.{◌≡◌, ◌<◌, ◌==◌, ℕ, false, not, List, [], ◌∷◌, ◌++◌, map}
 use Rattle.std.specs.Prelude.{Option, None}
-use Rattle.std.specs.List.{filter, filter_map, find, list_any, All, AllPairs, Contains}
+use Rattle.std.specs.List.{filter, filter_map, find, list_any, AllPairs, Contains}
 use Rattle.std.specs.Option.{option_and_then, option_to_list}
 use Rattle.rt_tree.specs.Assignments.{do_overlap}
 use Rattle.rt_query.specs.Queries.{Query}
