@@ -15,7 +15,7 @@ use Rattle.rt_world.specs.Refusals.{stands_too_deep}
 use Rattle.rt_world.specs.laws.Made.{asking, writes_with, WriteIsMade, EndingIsMade, ConnectedIsMade, DisconnectedIsMade, WritesAreShallow, NextIsAbovePending}
 use Rattle.rt_world.proofs.LimitLaws.{allowed}
 use Rattle.rt_world.proofs.Listeners.{or_false_left}
-use Rattle.rt_world.proofs.PlainLaws.{none_deep}
+use Rattle.rt_world.proofs.Reaching.{none_deep}
 use Rattle.rt_world.proofs.StillLaws.{still_leaves_listens, next_is, told_is, map_unmet, told_unmet}
 use Rattle.rt_world.proofs.WrittenLaws.{pending-write}
 

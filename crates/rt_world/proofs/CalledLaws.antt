@@ -28,11 +28,12 @@ use Rattle.rt_world.specs.Steps.{forms_after, kept_after, pushed}
 use Rattle.rt_world.specs.Messages.{next}
 use Rattle.rt_world.specs.Refusals.{refusal, is_stale, stands_too_deep, is_no_merge, is_within_listen}
 use Rattle.rt_world.specs.Answers.{step, step_by, world_after}
-use Rattle.rt_world.specs.Plain.{IsPushOn}
 use Rattle.rt_world.specs.Called.{IsCalled}
 use Rattle.rt_world.specs.Sound.{IsSound}
+use Rattle.rt_world.specs.laws.Made.{IsPushOn}
 use Rattle.rt_world.proofs.LimitLaws.{allowed}
-use Rattle.rt_world.proofs.PlainLaws.{forms_kept, pushes_on}
+use Rattle.rt_world.proofs.Listeners.{or_false_left}
+use Rattle.rt_world.proofs.Reaching.{forms_kept, pushes_on}
 use Rattle.rt_world.proofs.SoundLaws.{sound_empty, sound_next, sound_step}
 
 -- ---- of the plain listens kept none is at or above another
@@ -128,10 +129,6 @@ puts_allowed q (a ∷ entries) h =
 
 -- ---- a step
 
-or_first : (b : Bool) → (b || false) ≡ false → b ≡ false
-or_first true e = e
-or_first false e = refl
-
 -- a push on the listen of a tag
 called_push : (w : World) (tag : ℕ) (entries : List Assignment) → IsCalled w.brought
     → (not (is_within_listen w (tag, entries)) || is_no_merge entries) ≡ false → list_any stands_too_deep entries ≡ false
@@ -146,10 +143,10 @@ called_push w tag entries h good deep = at (listen_of w tag) refl
 pub called_pushed : (w : World) (s : Step) → IsCalled w.brought → refusal w s ≡ None → IsCalled (pushed w s)
 called_pushed w (Step.Data tag path tree) h free =
     let a = allowed w (Step.Data tag path tree) free in
-    called_push w tag ((path, tree) ∷ []) h (or_first _ a.push) (or_first _ a.deep)
+    called_push w tag ((path, tree) ∷ []) h (or_false_left _ _ a.push) (or_false_left _ _ a.deep)
 called_pushed w (Step.DataMerge tag entries) h free =
     let a = allowed w (Step.DataMerge tag entries) free in
-    called_push w tag entries h (or_first _ a.push) (or_first _ a.deep)
+    called_push w tag entries h (or_false_left _ _ a.push) (or_false_left _ _ a.deep)
 called_pushed w (Step.Listen seat query) h free = h
 called_pushed w (Step.Unlisten seat listener) h free = h
 called_pushed w (Step.Write seat action) h free = h

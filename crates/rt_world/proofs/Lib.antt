@@ -10,7 +10,6 @@ pub mod KeptLaws
 pub mod LimitLaws
 pub mod ListenedLaws
 pub mod Listeners
-pub mod LostLaws
 pub mod MadeLaws
 pub mod MessageLaws
 pub mod MovesLaws
@@ -19,6 +18,8 @@ pub mod NoteLaws
 pub mod Numbers
 pub mod PlainLaws
 pub mod PushLaws
+pub mod ReachedLaws
+pub mod Reaching
 pub mod RecoverLaws
 pub mod RefusedLaws
 pub mod RunLaws

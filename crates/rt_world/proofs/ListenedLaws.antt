@@ -27,9 +27,9 @@ use Rattle.rt_world.specs.laws.Listened.{changing, new_listener, cover_with, Lis
 use Rattle.rt_world.proofs.CoveringLaws.{follows, revoked_left, unlistened, closed}
 use Rattle.rt_world.proofs.DeltaLaws.{delta}
 use Rattle.rt_world.proofs.HeardLaws.{map-append}
-use Rattle.rt_world.proofs.LostLaws.{listen_brings_nothing}
 use Rattle.rt_world.proofs.NoteLaws.{batches_are_notes, still_is_quiet}
-use Rattle.rt_world.proofs.PlainLaws.{Contains-more}
+use Rattle.rt_world.proofs.ReachedLaws.{listen_brings_nothing}
+use Rattle.rt_world.proofs.Reaching.{Contains-more}
 use Rattle.rt_world.proofs.StayLaws.{stays_same}
 
 -- ---- lists
@@ -146,13 +146,13 @@ revoked_is_made w tag why d =
 -- ---- a new listener
 
 pub listen_is_made : ListenIsMade
-listen_is_made w seat query d p u =
+listen_is_made w seat query d r =
     let s : Step = Step.Listen seat query in
     let new : Listener = new_listener w seat query in
     let c : Cover = cover_with w query in
     let ws : List Write = pending w.requests in
     let f : cover_in (next w s) ≡ c = follows w s d.sound in
-    let b : brought_after w s ≡ w.brought = listen_brings_nothing w seat query d.sound p u d.not_refused in
+    let b : brought_after w s ≡ w.brought = listen_brings_nothing w seat query d.sound d.called r in
     let there : (l : Listener) → Contains w.listeners l → Contains (listeners_after w s) l = λ l m. Contains-more w.listeners (new ∷ []) l m in
     let ls : renewed_after w s ≡ w.listeners ++ renewed w.brought ws new ∷ [] =
     map-append (renewed (brought_after w s) ws) w.listeners (new ∷ [])

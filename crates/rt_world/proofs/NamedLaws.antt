@@ -34,7 +34,7 @@ use Rattle.rt_world.specs.laws.World.{OnlyNamedChange, LeafNamesAll, LeafReadsNa
 use Rattle.rt_world.proofs.CalledLaws.{called_pushed, called_world}
 use Rattle.rt_world.proofs.CountLaws.{no_more_children}
 use Rattle.rt_world.proofs.Listeners.{or_false_left, or_false_right}
-use Rattle.rt_world.proofs.PlainLaws.{form_stays}
+use Rattle.rt_world.proofs.Reaching.{form_stays}
 use Rattle.rt_world.proofs.PushLaws.{AreApart, apart_of, apart_below, AlikeAt, alike_same, alike_trans, pushes_alike}
 use Rattle.rt_world.proofs.SoundLaws.{sound_empty, sound_run}
 use Rattle.rt_world.proofs.StayLaws.{LooksSame, same_select, recover_same, renewed_same, same_world, has_stayed}

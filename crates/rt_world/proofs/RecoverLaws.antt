@@ -5,42 +5,28 @@ use Rattle.std.specs.Option.{option_map, option_or}
 use Rattle.std.proofs.lemmas.List.Elements.{All-nil, All-cons, All-head, All-tail}
 use Rattle.std.proofs.lemmas.List.Folds.{list_any_at}
 use Rattle.rt_tree.specs.PathTree.{Path, PathTree, null, sub}
-use Rattle.rt_query.specs.Queries.{Query, plain, is_filtered}
+use Rattle.rt_query.specs.Queries.{Query, plain}
 use Rattle.rt_query.specs.QueryEq.{query_eq}
 use Rattle.rt_query.specs.laws.QueryEq.{query_eq_tells}
 use Rattle.rt_cache.specs.Brought.{Window, Brought, nothing_brought, region_part, window_of}
 use Rattle.rt_cache.specs.declared.base.Base.{Base}
-use Rattle.rt_cache.specs.Canonical.{IsCanonical}
 use Rattle.rt_cache.specs.Recover.{reaches, regions_kept, window_kept, windows_kept, do_plains_overlap}
 use Rattle.rt_cache.specs.Runs.{IsAllowed, after, after_all}
 use Rattle.rt_cache.specs.inside.Held.{for_each}
+use Rattle.rt_cache.proofs.RecoverLaws.{calls_canonical}
 use Rattle.rt_cache.specs.laws.Runs.{with_push, pushed, known_after, is_known}
 use Rattle.rt_cache.specs.declared.run.Call.{Call}
-use Rattle.rt_cache.specs.declared.run.Call.TheVariants.{Put, Recover}
+use Rattle.rt_cache.specs.declared.run.Call.TheVariants.{Recover}
 use Rattle.rt_cache.proofs.Bases.{no_window}
-use Rattle.rt_cache.proofs.Changes.{recover_stays}
 use Rattle.rt_cache.proofs.Keeping.{is_among, find-for_each}
 use Rattle.rt_cache.proofs.Listing.{find-listed}
 use Rattle.rt_cache.proofs.RunLaws.{plain_base}
-use Rattle.rt_cache.proofs.Stays.{push_stays}
 use Rattle.rt_world.specs.Called.{IsCalled}
 
 -- ---- regions, by the law of calls
 
 abbrev pub whole : PathTree → Base
 whole t = record { tree = t; whole = true }
-
--- calls leave what is in order
-canonical : (calls : List Call) (b : Brought) → All IsAllowed calls → IsCanonical b → IsCanonical (after_all b calls)
-canonical [] b ok h = h
-canonical (c ∷ cs) b ok h = canonical cs (after b c) (All-tail IsAllowed c cs ok) (one c (All-head IsAllowed c cs ok))
-  where
-    one : (c : Call) → IsAllowed c → IsCanonical (after b c)
-    one (Put q p t) a = push_stays q b (p, t) h
-    one (Recover registered kept) a = recover_stays registered kept b a h
-
-nothing_canonical : IsCanonical nothing_brought
-nothing_canonical = record { regions = tt; apart = refl; windows = tt; filtered = All-nil (λ (w : Query × Window). is_filtered w.0 ≡ true) }
 
 some_tree : (o p : Option PathTree) → option_map whole o ≡ option_map whole p → o ≡ p
 some_tree None None e = refl
@@ -52,7 +38,7 @@ some_tree (Some t) (Some u) e = ap (option_map (λ (x : Base). x.tree)) e
 part_told : (calls : List Call) (p : Path) → All IsAllowed calls → region_part (after_all nothing_brought calls).regions p ≡ cond (is_known calls p) (Some (sub (pushed calls) p)) None
 part_told calls p ok =
     let b : Brought = after_all nothing_brought calls in
-    let none : window_of b.windows (plain p) ≡ None = no_window (plain p) b.windows (canonical calls nothing_brought ok nothing_canonical).filtered refl in
+    let none : window_of b.windows (plain p) ≡ None = no_window (plain p) b.windows (calls_canonical calls ok).filtered refl in
     some_tree (region_part b.regions p) _ (sym (alone (region_part b.regions p)) ∙ sym (ap (λ o. option_or (option_map whole (region_part b.regions p)) (option_map (λ (x : Window). record { tree = x.children; whole = x.is_whole }) o)) none) ∙ plain_base calls p ok ∙ told (is_known calls p))
   where
     alone : (o : Option PathTree) → option_or (option_map whole o) None ≡ option_map whole o

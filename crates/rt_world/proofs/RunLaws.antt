@@ -2,47 +2,37 @@
 use Rattle.std.proofs.Common.{◌≡◌, List, [], ◌∷◌, refl, ap, ◌∙◌, arith}
 use Rattle.std.specs.List.{All}
 use Rattle.std.proofs.lemmas.List.Elements.{All-head, All-tail}
-use Rattle.rt_world.specs.declared.limits.Limits.{Limits}
 use Rattle.rt_world.specs.declared.step.Step.{Step}
 use Rattle.rt_world.specs.World.{World, empty_world, pending}
 use Rattle.rt_world.specs.Refusals.{refusal, is_stale}
 use Rattle.rt_world.specs.Answers.{step, answers, world_after}
-use Rattle.rt_world.specs.Sound.{IsSound}
-use Rattle.rt_world.specs.Plain.{IsPlain, IsPlainStep, fold_both, writes_by, brought_by}
+use Rattle.rt_world.specs.Plain.{IsPlainStep, fold_both, writes_by, brought_by}
+use Rattle.rt_world.specs.laws.Holds.{IsSteady}
 use Rattle.rt_world.specs.laws.World.{IsWritten, IsBrought}
-use Rattle.rt_world.proofs.SoundLaws.{sound_empty, sound_step, sound_run}
+use Rattle.rt_world.proofs.HoldsLaws.{steady_step, worlds_are_steady}
+use Rattle.rt_world.proofs.PlainLaws.{AreUnfiltered, unfiltered_step, brought_step}
 use Rattle.rt_world.proofs.WrittenLaws.{written_step}
-use Rattle.rt_world.proofs.PlainLaws.{plain_step, brought_step}
 
 written_run : (steps : List Step) (w : World) → pending (world_after w steps).requests ≡ fold_both writes_by (pending w.requests) steps (answers w steps)
 written_run [] w = refl
 written_run (s ∷ steps) w = written_run steps (step w s).0 ∙ ap (λ ws. fold_both writes_by ws steps (answers (step w s).0 steps)) (written_step w s (refusal w s) (is_stale w s))
 
-brought_run : (steps : List Step) (w : World) → IsSound w → IsPlain w → All IsPlainStep steps → (world_after w steps).brought ≡ fold_both brought_by w.brought steps (answers w steps)
+brought_run : (steps : List Step) (w : World) → IsSteady w → AreUnfiltered w.listeners → All IsPlainStep steps → (world_after w steps).brought ≡ fold_both brought_by w.brought steps (answers w steps)
 brought_run [] w h p all = refl
 brought_run (s ∷ steps) w h p all =
     let u = All-head IsPlainStep s steps all in
-    brought_run steps (step w s).0 (sound_step w s (refusal w s) (is_stale w s) h) (plain_step w s h p u) (All-tail IsPlainStep s steps all)
+    brought_run steps (step w s).0 (steady_step w s h) (unfiltered_step w s p u) (All-tail IsPlainStep s steps all)
     ∙ ap (λ b. fold_both brought_by b steps (answers (step w s).0 steps)) (brought_step w s h p u)
 
-plain_empty : (limits : Limits) → IsPlain (empty_world limits)
-plain_empty limits = record {
-  unfiltered = λ k d lt. absurd (omega arith);
-  windows = refl;
-  reached = λ k d lt. absurd (omega arith);
-  shallow = λ k d lt. absurd (omega arith);
-}
-
-plain_run : (steps : List Step) (w : World) → IsSound w → IsPlain w → All IsPlainStep steps → IsPlain (world_after w steps)
-plain_run [] w h p all = p
-plain_run (s ∷ steps) w h p all =
-    plain_run steps (step w s).0 (sound_step w s (refusal w s) (is_stale w s) h) (plain_step w s h p (All-head IsPlainStep s steps all)) (All-tail IsPlainStep s steps all)
+unfiltered_run : (steps : List Step) (w : World) → AreUnfiltered w.listeners → All IsPlainStep steps → AreUnfiltered (world_after w steps).listeners
+unfiltered_run [] w p all = p
+unfiltered_run (s ∷ steps) w p all =
+    unfiltered_run steps (step w s).0 (unfiltered_step w s p (All-head IsPlainStep s steps all)) (All-tail IsPlainStep s steps all)
 
 pub is_written : IsWritten
 is_written limits before steps = written_run steps (world_after (empty_world limits) before)
 
 pub is_brought : IsBrought
 is_brought limits before steps first all =
-    let h = sound_empty limits in
     let w = world_after (empty_world limits) before in
-    brought_run steps w (sound_run before (empty_world limits) h) (plain_run before (empty_world limits) h (plain_empty limits) first) all
+    brought_run steps w (worlds_are_steady limits before) (unfiltered_run before (empty_world limits) (λ k d lt. absurd (omega arith)) first) all

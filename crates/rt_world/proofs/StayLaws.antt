@@ -36,7 +36,7 @@ use Rattle.rt_world.specs.laws.World.{changes_listeners, StayAsTheyWere, CoverCh
 use Rattle.rt_world.proofs.CalledLaws.{kept_apart, called_world}
 use Rattle.rt_world.proofs.Listeners.{number-renewed, primed_view}
 use Rattle.rt_world.proofs.Numbers.{one_number}
-use Rattle.rt_world.proofs.PlainLaws.{forms_kept, form_stays, reached_form}
+use Rattle.rt_world.proofs.Reaching.{forms_kept, form_stays, reached_form}
 use Rattle.rt_world.proofs.RecoverLaws.{whole, region_after, window_after}
 use Rattle.rt_world.proofs.ShowLaws.{left_or_more, first_seen}
 use Rattle.rt_world.proofs.SoundLaws.{sound_empty, sound_run}

@@ -1,6 +1,5 @@
 -- What a step leaves where no listener begins or ends.
 use Rattle.std.proofs.Common.{◌≡◌, Bool, true, false, cond, List, [], ◌∷◌, ◌++◌, map, length, refl, sym, ap, subst, ◌∙◌, arith, suc, append-nil, Option, None}
-use mathlib.Core.Bool.{true≢false}
 use Rattle.std.specs.List.{Contains, filter_map, cons_option}
 use Rattle.rt_writes.specs.Writes.{Write}
 use Rattle.rt_cache.specs.Brought.{Brought}
@@ -12,14 +11,12 @@ use Rattle.rt_world.specs.Messages.{listens, unlistens, request_sent, messages_o
 use Rattle.rt_world.specs.Answers.{batch_from, batch_note, batch_notes}
 use Rattle.rt_world.specs.Touched.{entries_by}
 use Rattle.rt_world.specs.Met.{told, do_meet, renewed_met, told_met, all_told}
-use Rattle.rt_world.specs.Plain.{RegistersPlain}
-use Rattle.rt_world.specs.laws.World.{changes_listeners}
 use Rattle.rt_world.specs.laws.Steps.{note_of}
 use Rattle.rt_world.specs.laws.Made.{IsMade, LeavesListens, StillLeavesListens}
 use Rattle.rt_world.proofs.KeptLaws.{listens_stay}
-use Rattle.rt_world.proofs.LostLaws.{push_is_brought}
 use Rattle.rt_world.proofs.NamedLaws.{unmet_stays}
 use Rattle.rt_world.proofs.NoteLaws.{batches_are_notes, still_is_quiet}
+use Rattle.rt_world.proofs.ReachedLaws.{still_listeners, push_is_brought}
 
 -- ---- lists
 
@@ -38,34 +35,6 @@ gather_same f g (x ∷ xs) h =
     λ i. cons_option (head i) (tail i)
 
 -- ---- steps
-
-still_listeners : (w : World) (s : Step) → changes_listeners s ≡ false → listeners_after w s ≡ w.listeners
-still_listeners w (Step.Write seat action) e = refl
-still_listeners w (Step.OnDisconnect seat ending) e = refl
-still_listeners w (Step.Data tag path tree) e = refl
-still_listeners w (Step.DataMerge tag entries) e = refl
-still_listeners w (Step.Accepted id) e = refl
-still_listeners w (Step.Refused id why) e = refl
-still_listeners w Step.Connected e = refl
-still_listeners w Step.Disconnected e = refl
-still_listeners w (Step.Listen seat query) e = absurd (true≢false e)
-still_listeners w (Step.Unlisten seat listener) e = absurd (true≢false e)
-still_listeners w (Step.Revoked tag why) e = absurd (true≢false e)
-still_listeners w (Step.CloseSeat seat) e = absurd (true≢false e)
-
-still_registers : (s : Step) → changes_listeners s ≡ false → RegistersPlain s
-still_registers (Step.Write seat action) e = tt
-still_registers (Step.OnDisconnect seat ending) e = tt
-still_registers (Step.Data tag path tree) e = tt
-still_registers (Step.DataMerge tag entries) e = tt
-still_registers (Step.Accepted id) e = tt
-still_registers (Step.Refused id why) e = tt
-still_registers Step.Connected e = tt
-still_registers Step.Disconnected e = tt
-still_registers (Step.Listen seat query) e = absurd (true≢false e)
-still_registers (Step.Unlisten seat listener) e = absurd (true≢false e)
-still_registers (Step.Revoked tag why) e = absurd (true≢false e)
-still_registers (Step.CloseSeat seat) e = absurd (true≢false e)
 
 module _ (w : World) (s : Step) (d : IsMade w s) (e : listeners_after w s ≡ w.listeners) where
   -- a listener whose path no entry meets stays as it is
@@ -112,7 +81,7 @@ module _ (w : World) (s : Step) (d : IsMade w s) (e : listeners_after w s ≡ w.
 
 pub still_leaves_listens : StillLeavesListens
 still_leaves_listens w s d p e =
-    leaves_listens w s d (still_listeners w s e) (push_is_brought w s d.sound p (still_registers s e) d.not_refused e)
+    leaves_listens w s d (still_listeners w s e) (push_is_brought w s d.sound d.called p d.not_refused e)
 
 -- ---- the world and the notes, said by what is brought, pending and sent
 

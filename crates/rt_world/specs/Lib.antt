@@ -4,8 +4,8 @@
 -- refused, and when it is stale), Answers (what it answers), Runs (what the server hears), Headline
 -- (what any steps lead to), Plain (the same of what is written and brought), Touched (which children
 -- of a view a step can change), Met (which listeners a step has to look at), Covering (the cover of a
--- world), Limited (what keeps within the limits), Sound and Called (what holds of a world between
--- steps), Codes (numbers and words of refusals).
+-- world), Limited (what keeps within the limits), Sound, Called and Reached (what holds of a world
+-- between steps), Codes (numbers and words of refusals).
 pub mod Answers
 pub mod Called
 pub mod Codes
@@ -16,6 +16,7 @@ pub mod Limited
 pub mod Messages
 pub mod Met
 pub mod Plain
+pub mod Reached
 pub mod Refusals
 pub mod Runs
 pub mod Sound

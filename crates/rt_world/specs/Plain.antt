@@ -1,50 +1,32 @@
 -- Plain listens: what their steps write and bring, said by the steps and the answers alone.
-use Rattle.std.specs.Prelude.{◌≡◌, ℕ, true, false, List, [], ◌∷◌, ◌++◌, map, Ok, Err}
-use Rattle.std.specs.List.{fold, All}
+use Rattle.std.specs.Prelude.{◌≡◌, ℕ, false, List, [], ◌∷◌, ◌++◌, Ok, Err}
+use Rattle.std.specs.List.{fold}
 use Rattle.std.specs.Option.{option_map_or}
-use Rattle.rt_tree.specs.PathTree.{Path, PathTree}
-use Rattle.rt_tree.specs.Assignments.{is_at_or_above, Assignment}
-use Rattle.rt_query.specs.Queries.{Query, is_filtered}
-use Rattle.rt_writes.specs.Writes.{Write, IsShallow, without}
+use Rattle.rt_tree.specs.Assignments.{Assignment}
+use Rattle.rt_query.specs.Queries.{is_filtered}
+use Rattle.rt_writes.specs.Writes.{Write, without}
 use Rattle.rt_cache.specs.Brought.{Brought, push_plain}
-use Rattle.rt_cache.specs.Recover.{reaches}
-use Rattle.rt_cover.specs.Cover.{Tagged}
 use Rattle.rt_world.specs.declared.report.Outcome.{Outcome}
 use Rattle.rt_world.specs.declared.report.Outcome.TheVariants.{Done, Stale}
 use Rattle.rt_world.specs.declared.step.Step.{Step}
-use Rattle.rt_world.specs.World.{World, Listener, entries_of}
+use Rattle.rt_world.specs.World.{entries_of}
 use Rattle.rt_world.specs.Answers.{Answer}
 
 -- the steps of plain listens that are not lost: a listener is registered with a query that is not
--- filtered; no listener ends, no connection does, and nothing is asked for its end
+-- filtered, and none ends
 abbrev pub IsPlainStep : Step → Type 0
 IsPlainStep (Step.Listen seat query) = is_filtered query ≡ false
 IsPlainStep (Step.Unlisten seat listener) = ⊥
 IsPlainStep (Step.Write seat action) = Unit {0}
-IsPlainStep (Step.OnDisconnect seat ending) = ⊥
+IsPlainStep (Step.OnDisconnect seat ending) = Unit {0}
 IsPlainStep (Step.Data tag path tree) = Unit {0}
 IsPlainStep (Step.DataMerge tag entries) = Unit {0}
 IsPlainStep (Step.Accepted id) = Unit {0}
 IsPlainStep (Step.Refused id why) = Unit {0}
 IsPlainStep (Step.Revoked tag why) = ⊥
 IsPlainStep Step.Connected = Unit {0}
-IsPlainStep Step.Disconnected = ⊥
+IsPlainStep Step.Disconnected = Unit {0}
 IsPlainStep (Step.CloseSeat seat) = ⊥
-
--- the step registers no listener of a filtered query
-abbrev pub RegistersPlain : Step → Type 0
-RegistersPlain (Step.Listen seat query) = is_filtered query ≡ false
-RegistersPlain (Step.Unlisten seat listener) = Unit {0}
-RegistersPlain (Step.Write seat action) = Unit {0}
-RegistersPlain (Step.OnDisconnect seat ending) = Unit {0}
-RegistersPlain (Step.Data tag path tree) = Unit {0}
-RegistersPlain (Step.DataMerge tag entries) = Unit {0}
-RegistersPlain (Step.Accepted id) = Unit {0}
-RegistersPlain (Step.Refused id why) = Unit {0}
-RegistersPlain (Step.Revoked tag why) = Unit {0}
-RegistersPlain Step.Connected = Unit {0}
-RegistersPlain Step.Disconnected = Unit {0}
-RegistersPlain (Step.CloseSeat seat) = Unit {0}
 
 -- the first where the step is done, else the second
 abbrev pub if_done : {X : Type 0} → Outcome → X → X → X
@@ -101,18 +83,3 @@ brought_by b (Step.Revoked tag why) answer = b
 brought_by b Step.Connected answer = b
 brought_by b Step.Disconnected answer = b
 brought_by b (Step.CloseSeat seat) answer = b
-
--- all queries are plain; what is brought is under the listens kept, and no leaf of it stands
--- under more than 32 keys
-pub record IsPlain (w : World) : Type 0 where
-  pub unfiltered : All (λ (l : Listener). is_filtered l.query ≡ false) w.listeners
-  pub windows : (w.brought).windows ≡ []
-  pub reached :
-      All (λ (r : Path × PathTree). reaches (map (λ (k : Tagged). k.form) w.kept) r.0 ≡ true)
-      (w.brought).regions
-  pub shallow : All IsShallow (w.brought).regions
-
--- an entry that may be pushed on the listen of the query
-pub record IsPushOn (q : Query) (a : Assignment) : Type 0 where
-  pub under : is_at_or_above q.path a.0 ≡ true
-  pub shallow : IsShallow a

@@ -4,6 +4,7 @@
 ghost use Rattle.rt_world.specs.laws.Children.{OneIsNamed, BelowIsSeen, AboveNamesNone};
 ghost use Rattle.rt_world.specs.laws.Children.{NamedOnce, SettledNames, LeafIsBack, LostWouldShow};
 ghost use Rattle.rt_world.specs.laws.Due.{SeatsAreDue, ServersAreDue, ConnectionsAreDue};
+ghost use Rattle.rt_world.specs.laws.Due.{FilteredAreDue, UnreachedIsLost};
 ghost use Rattle.rt_world.specs.laws.Examples.{PushOfNull, ParentTakesOverListen};
 ghost use Rattle.rt_world.specs.laws.Examples.{WindowUnderPlainListen, WindowKeptWhole};
 ghost use Rattle.rt_world.specs.laws.Examples.{LimitWithRemovals, DeepWriteUnknownChild};
@@ -145,4 +146,10 @@ pub fn steps_are_due()
     ensures seats { SeatsAreDue }
     ensures servers { ServersAreDue }
     ensures connections { ConnectionsAreDue }
+    ensures filtered { FilteredAreDue }
+{}
+
+/// What no listen reaches is lost in any step.
+pub fn unreached_goes()
+    ensures { UnreachedIsLost }
 {}

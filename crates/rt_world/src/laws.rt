@@ -7,7 +7,7 @@ ghost use Rattle.rt_world.specs.laws.World.{IsWritten, IsBrought};
 ghost use Rattle.rt_world.specs.laws.Steps.{WorldsAreSound, WorldsAreCalled, StaysSound};
 ghost use Rattle.rt_world.specs.laws.Steps.{NotRefusedIsAllowed};
 ghost use Rattle.rt_world.specs.laws.Steps.{ListensStay, UnmetStays, RenewedIsOne};
-ghost use Rattle.rt_world.specs.laws.Steps.{PushIsBrought, ListenBringsNothing, StaysPlain};
+ghost use Rattle.rt_world.specs.laws.Steps.{StaysReached, PushIsBrought, ListenBringsNothing};
 ghost use Rattle.rt_world.specs.laws.Steps.{WriteIsPending, EndingIsNotPending};
 ghost use Rattle.rt_world.specs.laws.Steps.{SettledIsNotPending, UnseatedIsPending};
 ghost use Rattle.rt_world.specs.laws.Steps.{SettledOnceTold, BatchesAreNotes, StillIsQuiet};
@@ -79,12 +79,13 @@ pub fn stay_law()
     ensures renewed { RenewedIsOne }
 {}
 
-/// What plain listens brought is changed by a push alone where no listener ends; a step that registers
-/// no filtered query keeps all listens plain.
+/// After a step a kept plain listen reaches each region that is brought, and each window is of a
+/// registered form. Where that is so, a step that ends no listener changes what is brought by its push
+/// alone.
 pub fn brought_law()
+    ensures next { StaysReached }
     ensures pushed { PushIsBrought }
     ensures listen { ListenBringsNothing }
-    ensures plain { StaysPlain }
 {}
 
 /// The pending writes of changed requests.

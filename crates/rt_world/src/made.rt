@@ -1,10 +1,9 @@
 // What each kind of step leaves, for whoever makes it.
 ghost use Rattle.rt_world.specs.laws.Made.{StillLeavesListens, AcceptedIsMade, RefusedIsMade};
 ghost use Rattle.rt_world.specs.laws.Made.{DataIsMade, MergeIsMade, DataMayPush, MergeMayPush};
-ghost use Rattle.rt_world.specs.laws.Made.{ListensArePlain, DataIsStale, MergeIsStale};
-ghost use Rattle.rt_world.specs.laws.Made.{WriteIsMade, EndingIsMade, ConnectedIsMade};
-ghost use Rattle.rt_world.specs.laws.Made.{DisconnectedIsMade, WritesAreShallow};
-ghost use Rattle.rt_world.specs.laws.Made.{NextIsAbovePending};
+ghost use Rattle.rt_world.specs.laws.Made.{DataIsStale, MergeIsStale, WriteIsMade, EndingIsMade};
+ghost use Rattle.rt_world.specs.laws.Made.{ConnectedIsMade, DisconnectedIsMade};
+ghost use Rattle.rt_world.specs.laws.Made.{WritesAreShallow, NextIsAbovePending};
 ghost use Rattle.rt_world.specs.laws.Listened.{ListenIsMade, UnlistenIsMade, CloseSeatIsMade};
 ghost use Rattle.rt_world.specs.laws.Listened.{RevokedIsMade, ListenMayAdd, UnlistenMayRemove};
 ghost use Rattle.rt_world.specs.laws.Listened.{CloseSeatMayRemove, RevokedMayRevoke};
@@ -12,12 +11,12 @@ ghost use Rattle.rt_world.specs.laws.Refused.{RefusedIsNothing, StaleIsNothing, 
 ghost use Rattle.rt_world.specs.laws.Refused.{RefusalIsOfKind, OwnIsNotStale, AcceptedIsStale};
 ghost use Rattle.rt_world.specs.laws.Refused.{RefusedIsStale, RevokedIsStale, ListenNeedsTag};
 ghost use Rattle.rt_world.specs.laws.Refused.{UnlistenNeedsTag, CloseSeatNeedsTag, RevokedNeedsTag};
-ghost use Rattle.rt_world.specs.laws.Holds.{EmptyIsSteady, StaysSteady, StaysCalled, StaysShort};
-ghost use Rattle.rt_world.specs.laws.Holds.{EmptyIsWithin, StaysWithin, HeadlineOfSound};
-ghost use Rattle.rt_world.specs.laws.Holds.{CoverFollows, DeltaFollows, WorldsAreSteady};
+ghost use Rattle.rt_world.specs.laws.Holds.{EmptyIsSteady, StaysSteady, WorldsAreSteady};
+ghost use Rattle.rt_world.specs.laws.Holds.{StaysCalled, EmptyIsWithin, StaysWithin};
+ghost use Rattle.rt_world.specs.laws.Holds.{HeadlineOfSound, CoverFollows, DeltaFollows};
 ghost use Rattle.rt_world.specs.laws.Holds.{TakenIsSound, TakenIsSteady};
 
-/// What any step leaves that registers and ends no listener, in plain listens.
+/// What any step leaves that registers and ends no listener.
 pub fn still_law()
     ensures { StillLeavesListens }
 {}
@@ -35,10 +34,9 @@ pub fn push_law()
     ensures merge { MergeIsMade }
 {}
 
-/// Of a push that is not refused: its listen is not filtered, each entry is at or under that one's
-/// path and no deeper than trees are, and it is stale just where its tag is not kept.
+/// Each entry of a push that is not refused is at or under its listen's path, and no deeper than trees
+/// are. A push is stale where its tag is not kept, or all its entries want a window.
 pub fn pushed_law()
-    ensures plain { ListensArePlain }
     ensures one { DataMayPush }
     ensures merge { MergeMayPush }
     ensures one_stale { DataIsStale }
@@ -71,17 +69,16 @@ pub fn listened_law()
     ensures revoked { RevokedIsMade }
 {}
 
-/// What holds between steps in plain listens holds before any step, and after each.
+/// What holds between steps holds before any step, and after each.
 pub fn steady_law()
     ensures empty { EmptyIsSteady }
     ensures next { StaysSteady }
     ensures worlds { WorldsAreSteady }
 {}
 
-/// The same of each part on its own, whatever the listens; and the headline, from any sound world.
+/// The same of each part on its own; and the headline, from any sound world.
 pub fn holding_law()
     ensures called { StaysCalled }
-    ensures short { StaysShort }
     ensures empty { EmptyIsWithin }
     ensures within { StaysWithin }
     ensures headline { HeadlineOfSound }

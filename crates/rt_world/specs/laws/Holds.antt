@@ -1,51 +1,27 @@
 -- What holds of a world between steps stays so after each, and is so before any step.
-use Rattle.std.specs.Prelude.{◌≡◌, ◌≤◌, length, List, Some, None}
-use Rattle.std.specs.List.{All}
-use Rattle.rt_tree.specs.declared.limits.TheConstants.{MAX_KEYS}
+use Rattle.std.specs.Prelude.{◌≡◌, List, Some, None}
 use Rattle.rt_cover.specs.Runs.{Change, told}
 use Rattle.rt_wire.specs.declared.client.ClientMessage.{ClientMessage}
 use Rattle.rt_world.specs.declared.limits.Limits.{Limits}
 use Rattle.rt_world.specs.declared.step.Step.{Step}
-use Rattle.rt_world.specs.World.{World, Listener, empty_world}
+use Rattle.rt_world.specs.World.{World, empty_world}
 use Rattle.rt_world.specs.Messages.{next}
 use Rattle.rt_world.specs.Refusals.{refusal}
 use Rattle.rt_world.specs.Answers.{answers, world_after}
 use Rattle.rt_world.specs.Covering.{cover_in, cover_after, change_by, delta_by}
 use Rattle.rt_world.specs.Headline.{Headline}
-use Rattle.rt_world.specs.Plain.{IsPlain, RegistersPlain}
 use Rattle.rt_world.specs.Called.{IsCalled}
 use Rattle.rt_world.specs.Limited.{IsWithin}
+use Rattle.rt_world.specs.Reached.{IsReached}
 use Rattle.rt_world.specs.Sound.{IsSound}
 
--- ---- paths
+-- ---- worlds between steps
 
--- no listener's path has more keys than trees have levels
-abbrev pub AreShort : List Listener → Type 0
-AreShort listeners = All (λ (l : Listener). length l.query.path ≤ MAX_KEYS) listeners
-
--- the step registers no listener of a longer path
-abbrev pub RegistersShort : Step → Type 0
-RegistersShort (Step.Listen seat query) = length query.path ≤ MAX_KEYS
-RegistersShort (Step.Unlisten seat listener) = Unit {0}
-RegistersShort (Step.Write seat action) = Unit {0}
-RegistersShort (Step.OnDisconnect seat ending) = Unit {0}
-RegistersShort (Step.Data tag path tree) = Unit {0}
-RegistersShort (Step.DataMerge tag entries) = Unit {0}
-RegistersShort (Step.Accepted id) = Unit {0}
-RegistersShort (Step.Refused id why) = Unit {0}
-RegistersShort (Step.Revoked tag why) = Unit {0}
-RegistersShort Step.Connected = Unit {0}
-RegistersShort Step.Disconnected = Unit {0}
-RegistersShort (Step.CloseSeat seat) = Unit {0}
-
--- ---- worlds of plain listens
-
--- what holds between steps where all listens are plain
+-- what holds between steps
 pub record IsSteady (w : World) : Type 0 where
   pub sound : IsSound w
   pub called : IsCalled w.brought
-  pub plain : IsPlain w
-  pub short : AreShort w.listeners
+  pub reached : IsReached w
 
 -- it holds before any step
 abbrev pub EmptyIsSteady : Type 0
@@ -53,27 +29,20 @@ EmptyIsSteady = (limits : Limits) → IsSteady (empty_world limits)
 
 -- and after a step that is not refused
 abbrev pub StaysSteady : Type 0
-StaysSteady =
-    (w : World) (s : Step) → IsSteady w → RegistersPlain s → RegistersShort s → refusal w s ≡ None
-    → IsSteady (next w s)
+StaysSteady = (w : World) (s : Step) → IsSteady w → refusal w s ≡ None → IsSteady (next w s)
 
 -- so in each world that steps lead to
 abbrev pub WorldsAreSteady : Type 0
 WorldsAreSteady =
-    (limits : Limits) (steps : List Step) → All RegistersPlain steps → All RegistersShort steps
-    → IsSteady (world_after (empty_world limits) steps)
+    (limits : Limits) (steps : List Step) → IsSteady (world_after (empty_world limits) steps)
 
--- ---- each on its own, whatever the listens
+-- ---- each on its own
 
 -- what is brought is what calls of a cache leave
 abbrev pub StaysCalled : Type 0
 StaysCalled =
     (w : World) (s : Step) → IsSound w → IsCalled w.brought → refusal w s ≡ None
     → IsCalled (next w s).brought
-
-abbrev pub StaysShort : Type 0
-StaysShort =
-    (w : World) (s : Step) → AreShort w.listeners → RegistersShort s → AreShort (next w s).listeners
 
 -- no limit is passed
 abbrev pub EmptyIsWithin : Type 0

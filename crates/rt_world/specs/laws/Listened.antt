@@ -3,7 +3,7 @@ use Rattle.std.specs.Prelude.{◌≡◌, ℕ, ◌+◌, Bool, false, not, if◌th
 use Rattle.std.specs.Prelude.{map, ◌==◌, None}
 use Rattle.std.specs.List.{filter}
 use Rattle.std.specs.Option.{option_to_list}
-use Rattle.rt_query.specs.Queries.{Query, is_filtered}
+use Rattle.rt_query.specs.Queries.{Query}
 use Rattle.rt_cache.specs.Recover.{recover}
 use Rattle.rt_cover.specs.declared.delta.Delta.{Delta}
 use Rattle.rt_cover.specs.Cover.{forms}
@@ -17,7 +17,7 @@ use Rattle.rt_world.specs.Steps.{is_cancelled, unseated, renewed}
 use Rattle.rt_world.specs.Refusals.{refusal, is_stale}
 use Rattle.rt_world.specs.Met.{told}
 use Rattle.rt_world.specs.Covering.{cover_in, numbers_of}
-use Rattle.rt_world.specs.Plain.{IsPlain}
+use Rattle.rt_world.specs.Reached.{IsReached}
 use Rattle.rt_world.specs.Sound.{IsSound}
 use Rattle.rt_world.specs.laws.Made.{IsMade, Leaves}
 
@@ -46,11 +46,11 @@ new_listener w seat query =
 abbrev pub cover_with : World → Query → Cover
 cover_with w query = added (cover_in w) w.next_listener query
 
--- it alone is renewed, and told; what is brought stays, in plain listens
+-- it alone is renewed, and told; what is brought stays
 abbrev pub ListenIsMade : Type 0
 ListenIsMade =
     (w : World) (seat : ℕ) (query : Query) → let s = Step.Listen seat query in
-    IsMade w s → IsPlain w → is_filtered query ≡ false
+    IsMade w s → IsReached w
     → let new = new_listener w seat query in
     let c = cover_with w query in
     Leaves w s (record w {

@@ -1,13 +1,13 @@
 -- What each kind of step leaves and tells, part by part, as a core makes it.
 use Rattle.std.specs.Prelude.{◌≡◌, ◌<◌, ℕ, ◌+◌, Bool, true, false, not, if◌then◌else◌, List, [], ◌∷◌}
-use Rattle.std.specs.Prelude.{◌++◌, map, ◌==◌, Option, Some, None, is_some}
-use Rattle.std.specs.List.{filter, find, fold, All}
-use Rattle.std.specs.Option.{option_and_then, option_to_list}
+use Rattle.std.specs.Prelude.{◌++◌, map, ◌==◌, Option, Some, None}
+use Rattle.std.specs.List.{filter, find, fold, list_all, All}
+use Rattle.std.specs.Option.{option_map_or, option_and_then, option_to_list}
 use Rattle.rt_tree.specs.PathTree.{Path, PathTree}
-use Rattle.rt_tree.specs.Assignments.{Assignment}
-use Rattle.rt_query.specs.Queries.{Query, is_filtered}
+use Rattle.rt_tree.specs.Assignments.{Assignment, is_at_or_above}
+use Rattle.rt_query.specs.Queries.{Query}
 use Rattle.rt_writes.specs.Writes.{Write, IsShallow, without}
-use Rattle.rt_cache.specs.Brought.{push}
+use Rattle.rt_cache.specs.Brought.{push, is_without_window}
 use Rattle.rt_wire.specs.declared.client.ClientMessage.{ClientMessage}
 use Rattle.rt_wire.specs.declared.request.Action.{Action}
 use Rattle.rt_wire.specs.declared.request.Asked.{Asked}
@@ -23,8 +23,8 @@ use Rattle.rt_world.specs.Refusals.{refusal, is_stale}
 use Rattle.rt_world.specs.Answers.{settled_note, batch_notes, done_report}
 use Rattle.rt_world.specs.Touched.{entries_settled, entries_by}
 use Rattle.rt_world.specs.Met.{renewed_met, all_told}
-use Rattle.rt_world.specs.Plain.{IsPlain, IsPushOn}
 use Rattle.rt_world.specs.Called.{IsCalled}
+use Rattle.rt_world.specs.Reached.{IsReached}
 use Rattle.rt_world.specs.Sound.{IsSound}
 use Rattle.rt_world.specs.laws.World.{changes_listeners}
 
@@ -56,10 +56,10 @@ pub record LeavesListens (w : World) (s : Step) : Type 0 where
   pub notes : batch_notes w s
       ≡ all_told (entries_by w s) (pushed w s) (pending (requests_after w s)) w.listeners
 
--- so it is in plain listens, whatever the step
+-- so it is where what is brought is reached, whatever the step
 abbrev pub StillLeavesListens : Type 0
 StillLeavesListens =
-    (w : World) (s : Step) → IsMade w s → IsPlain w → changes_listeners s ≡ false
+    (w : World) (s : Step) → IsMade w s → IsReached w → changes_listeners s ≡ false
     → LeavesListens w s
 
 -- ---- settlements
@@ -84,13 +84,13 @@ settled_told w id why =
 abbrev pub AcceptedIsMade : Type 0
 AcceptedIsMade =
     (w : World) (id : ℕ) → let s = Step.Accepted id in
-    IsMade w s → IsPlain w → Leaves w s (settled_world w id) (settled_told w id None)
+    IsMade w s → IsReached w → Leaves w s (settled_world w id) (settled_told w id None)
 
 -- a refused one
 abbrev pub RefusedIsMade : Type 0
 RefusedIsMade =
     (w : World) (id : ℕ) (why : Reason) → let s = Step.Refused id why in
-    IsMade w s → IsPlain w → Leaves w s (settled_world w id) (settled_told w id (Some why))
+    IsMade w s → IsReached w → Leaves w s (settled_world w id) (settled_told w id (Some why))
 
 -- ---- pushes
 
@@ -112,7 +112,7 @@ pushed_told w q entries =
 abbrev pub DataIsMade : Type 0
 DataIsMade =
     (w : World) (tag : ℕ) (path : Path) (tree : PathTree) → let s = Step.Data tag path tree in
-    IsMade w s → IsPlain w → (q : Query) → listen_of w tag ≡ Some q
+    IsMade w s → IsReached w → (q : Query) → listen_of w tag ≡ Some q
     → let entries = (path, tree) ∷ [] in
     Leaves w s (pushed_world w q entries) (pushed_told w q entries)
 
@@ -120,47 +120,40 @@ DataIsMade =
 abbrev pub MergeIsMade : Type 0
 MergeIsMade =
     (w : World) (tag : ℕ) (entries : List Assignment) → let s = Step.DataMerge tag entries in
-    IsMade w s → IsPlain w → (q : Query) → listen_of w tag ≡ Some q
+    IsMade w s → IsReached w → (q : Query) → listen_of w tag ≡ Some q
     → Leaves w s (pushed_world w q entries) (pushed_told w q entries)
 
--- the entries may be pushed on the listen of the query, and leave regions alone, none of them too deep
-pub record MayPush (w : World) (q : Query) (pushes : List Assignment) : Type 0 where
-  pub plain : is_filtered q ≡ false
-  pub entries : All (IsPushOn q) pushes
-  pub windows : (fold (push q) w.brought pushes).windows ≡ []
-  pub shallow : All IsShallow (fold (push q) w.brought pushes).regions
+-- an entry that may be pushed on the listen of the query
+pub record IsPushOn (q : Query) (a : Assignment) : Type 0 where
+  pub under : is_at_or_above q.path a.0 ≡ true
+  pub shallow : IsShallow a
 
--- so may those of a push of one tree that is not refused
+-- so may that of a push of one tree that is not refused
 abbrev pub DataMayPush : Type 0
 DataMayPush =
-    (w : World) (tag : ℕ) (path : Path) (tree : PathTree) → IsSound w → IsPlain w
+    (w : World) (tag : ℕ) (path : Path) (tree : PathTree)
     → refusal w (Step.Data tag path tree) ≡ None
-    → (q : Query) → listen_of w tag ≡ Some q → MayPush w q ((path, tree) ∷ [])
+    → (q : Query) → listen_of w tag ≡ Some q → IsPushOn q (path, tree)
 
--- and of several
+-- and each of several
 abbrev pub MergeMayPush : Type 0
 MergeMayPush =
-    (w : World) (tag : ℕ) (entries : List Assignment) → IsSound w → IsPlain w
+    (w : World) (tag : ℕ) (entries : List Assignment)
     → refusal w (Step.DataMerge tag entries) ≡ None
-    → (q : Query) → listen_of w tag ≡ Some q → MayPush w q entries
+    → (q : Query) → listen_of w tag ≡ Some q → All (IsPushOn q) entries
 
--- a listen that is kept is not filtered
-abbrev pub ListensArePlain : Type 0
-ListensArePlain =
-    (w : World) (tag : ℕ) (q : Query) → IsSound w → IsPlain w → listen_of w tag ≡ Some q
-    → is_filtered q ≡ false
-
--- so a push that is not refused is stale just where its tag is not kept
+-- a push is stale where its tag is not kept, or all its entries want a window
 abbrev pub DataIsStale : Type 0
 DataIsStale =
-    (w : World) (tag : ℕ) (path : Path) (tree : PathTree) → IsSound w → IsPlain w
-    → is_stale w (Step.Data tag path tree) ≡ not (is_some (listen_of w tag))
+    (w : World) (tag : ℕ) (path : Path) (tree : PathTree)
+    → is_stale w (Step.Data tag path tree)
+    ≡ option_map_or (λ q. is_without_window w.brought q (path, tree)) (listen_of w tag) true
 
 abbrev pub MergeIsStale : Type 0
 MergeIsStale =
-    (w : World) (tag : ℕ) (entries : List Assignment) → IsSound w → IsPlain w
-    → refusal w (Step.DataMerge tag entries) ≡ None
-    → is_stale w (Step.DataMerge tag entries) ≡ not (is_some (listen_of w tag))
+    (w : World) (tag : ℕ) (entries : List Assignment)
+    → is_stale w (Step.DataMerge tag entries)
+    ≡ option_map_or (λ q. list_all (is_without_window w.brought q) entries) (listen_of w tag) true
 
 -- ---- requests and the connection
 
@@ -187,7 +180,7 @@ writes_with w action =
 abbrev pub WriteIsMade : Type 0
 WriteIsMade =
     (w : World) (seat : ℕ) (action : Action) → let s = Step.Write seat action in
-    IsMade w s → IsPlain w
+    IsMade w s → IsReached w
     → Leaves w s (record (asked_world w seat (Now action)) {
       listeners =
           map (renewed_met (entries_of action) w.brought (writes_with w action)) w.listeners;
@@ -197,13 +190,13 @@ WriteIsMade =
 abbrev pub EndingIsMade : Type 0
 EndingIsMade =
     (w : World) (seat : ℕ) (ending : Ending) → let s = Step.OnDisconnect seat ending in
-    IsMade w s → IsPlain w → Leaves w s (asked_world w seat (AtDisconnect ending)) []
+    IsMade w s → IsReached w → Leaves w s (asked_world w seat (AtDisconnect ending)) []
 
 -- a connection that opens sends the listens that are kept, and then the unsettled requests
 abbrev pub ConnectedIsMade : Type 0
 ConnectedIsMade =
     (w : World) → let s = Step.Connected in
-    IsMade w s → IsPlain w
+    IsMade w s → IsReached w
     → Leaves w s (record w {
       is_connected = true;
       outgoing = listens w.kept ++ map request_message w.requests;
@@ -213,7 +206,7 @@ ConnectedIsMade =
 abbrev pub DisconnectedIsMade : Type 0
 DisconnectedIsMade =
     (w : World) → let s = Step.Disconnected in
-    IsMade w s → IsPlain w → Leaves w s (record w { is_connected = false; outgoing = [] }) []
+    IsMade w s → IsReached w → Leaves w s (record w { is_connected = false; outgoing = [] }) []
 
 -- ---- what a write may be asked
 

@@ -1,11 +1,10 @@
 -- Laws of one step of a world that holds what holds between steps, for whoever keeps such a world.
-use Rattle.std.specs.Prelude.{◌≡◌, ◌<◌, ◌≤◌, ◌==◌, ℕ, false, not, List, [], ◌∷◌, ◌++◌, map}
-use Rattle.std.specs.Prelude.{length, Option, None}
-use Rattle.std.specs.List.{filter, filter_map, find, list_any, All, AllPairs, Contains}
+use Rattle.std.specs.Prelude.{◌≡◌, ◌<◌, ◌==◌, ℕ, false, not, List, [], ◌∷◌, ◌++◌, map}
+use Rattle.std.specs.Prelude.{Option, None}
+use Rattle.std.specs.List.{filter, filter_map, find, list_any, AllPairs, Contains}
 use Rattle.std.specs.Option.{option_and_then, option_to_list}
-use Rattle.rt_tree.specs.declared.limits.TheConstants.{MAX_KEYS}
 use Rattle.rt_tree.specs.Assignments.{do_overlap}
-use Rattle.rt_query.specs.Queries.{Query, is_filtered}
+use Rattle.rt_query.specs.Queries.{Query}
 use Rattle.rt_writes.specs.Writes.{Write, without}
 use Rattle.rt_cache.specs.Brought.{Brought}
 use Rattle.rt_wire.specs.declared.request.Action.{Action}
@@ -21,10 +20,10 @@ use Rattle.rt_world.specs.Steps.{brought_after, renewed, unseated}
 use Rattle.rt_world.specs.Messages.{stopped_by, next}
 use Rattle.rt_world.specs.Refusals.{refusal}
 use Rattle.rt_world.specs.Answers.{batch_from, batch_note, batch_notes, settled_note, world_after}
-use Rattle.rt_world.specs.Plain.{IsPlain, RegistersPlain}
 use Rattle.rt_world.specs.Touched.{entries_by}
 use Rattle.rt_world.specs.Called.{IsCalled}
 use Rattle.rt_world.specs.Limited.{IsAllowed}
+use Rattle.rt_world.specs.Reached.{IsReached}
 use Rattle.rt_world.specs.Sound.{IsSound}
 use Rattle.rt_world.specs.laws.World.{changes_listeners}
 
@@ -77,27 +76,23 @@ RenewedIsOne =
     → let m = renewed brought writes l in
     (m.number ≡ l.number) × (m.seat ≡ l.seat) × (m.query ≡ l.query)
 
--- ---- what plain listens brought
+-- ---- what the listens brought
 
--- where a step ends no listener its change of cover leaves what plain listens brought
+-- what a step leaves brought is reached
+abbrev pub StaysReached : Type 0
+StaysReached = (w : World) (s : Step) → IsReached (next w s)
+
+-- where a step registers and ends no listener its change of cover leaves what is brought
 abbrev pub PushIsBrought : Type 0
 PushIsBrought =
-    (w : World) (s : Step) → IsSound w → IsPlain w → RegistersPlain s → refusal w s ≡ None
+    (w : World) (s : Step) → IsSound w → IsCalled w.brought → IsReached w → refusal w s ≡ None
     → changes_listeners s ≡ false → brought_after w s ≡ pushed w s
 
 -- and where it registers one
 abbrev pub ListenBringsNothing : Type 0
 ListenBringsNothing =
-    (w : World) (seat : ℕ) (query : Query) → IsSound w → IsPlain w → is_filtered query ≡ false
-    → refusal w (Step.Listen seat query) ≡ None
+    (w : World) (seat : ℕ) (query : Query) → IsSound w → IsCalled w.brought → IsReached w
     → brought_after w (Step.Listen seat query) ≡ w.brought
-
--- a step that registers no filtered query keeps a world of plain listens
-abbrev pub StaysPlain : Type 0
-StaysPlain =
-    (w : World) (s : Step) → IsSound w → IsPlain w → RegistersPlain s → refusal w s ≡ None
-    → All (λ (l : Listener). length l.query.path ≤ MAX_KEYS) w.listeners
-    → IsPlain (next w s)
 
 -- ---- pending writes
 
