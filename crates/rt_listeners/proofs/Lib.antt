@@ -1,4 +1,5 @@
 pub mod HeldLaws
+pub mod KnownLaws
 pub mod Loops
 pub mod Places
 pub mod ViewLaws

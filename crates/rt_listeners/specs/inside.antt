@@ -1,1 +1,2 @@
 pub mod HeldView
+pub mod Unknown

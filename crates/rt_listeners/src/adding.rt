@@ -1,8 +1,7 @@
 // A listener that is added.
-ghost use Rattle.std.specs.Prelude.{◌≡◌, ◌++◌, [], false, IfOk, OnOk};
+ghost use Rattle.std.specs.Prelude.{◌≡◌, ◌++◌, [], IfOk, OnOk};
 ghost use Rattle.std.specs.List.{All};
 ghost use Rattle.std.specs.Option.{option_to_list};
-ghost use Rattle.rt_query.specs.Queries.{is_filtered};
 ghost use Rattle.rt_writes.specs.Writes.{IsShallow};
 ghost use Rattle.rt_world.specs.Met.{told};
 ghost use Rattle.rt_world.specs.Steps.{renewed};
@@ -27,7 +26,6 @@ pub(crate) fn first(
     pending: &Pending,
     notes: &mut Vec<Note>,
 ) -> Result<Held, AllocError>
-    requires plain { is_filtered query ≡ false }
     requires regions_alone { brought.now.windows ≡ [] }
     requires shallow { All IsShallow brought.now.regions }
     ensures listener { IfOk result (λ l. listener_of l

@@ -35,7 +35,8 @@ pub(crate) fn numbers_of(alloc: Global, held: &[Held], seat: u64) -> Result<Vec<
 // What the listener's view shows, if it has one.
 fn shown_of(listener: &Held) -> Result<Option<Shown>, AllocError>
     requires { IsHeld listener.now }
-    ensures { IfOk result (λ shown. shown ≡ shown_in listener.now.view) }
+    ensures shown { IfOk result (λ shown. shown ≡ shown_in listener.now.view) }
+    ensures memory { OnErr result (shown_in listener.now.view ≢ None) }
 {
     match &listener.view {
         Some(view) => match view.shown() {
@@ -53,6 +54,8 @@ pub(crate) fn shown(held: &[Held], number: u64) -> Result<Option<Shown>, ShownEr
         ≡ option_and_then (λ l. shown_in l.view) (find (λ l. l.number == number) held.now)) }
     ensures unknown { (result ≡ Err ShownError.NoListener)
         ↔ (find (λ l. l.number == number) held.now ≡ None) }
+    ensures memory { result ≡ Err ShownError.NoMemory
+        → option_and_then (λ l. shown_in l.view) (find (λ l. l.number == number) held.now) ≢ None }
 {
     match place_of(held, number) {
         Some(place) => Ok(shown_of(&held[place])?),

@@ -15,6 +15,7 @@ mod asking;
 mod ending;
 mod error;
 mod held;
+mod known;
 mod listeners;
 mod views;
 

@@ -1,9 +1,8 @@
 // The registered listeners.
-ghost use Rattle.std.specs.Prelude.{◌≡◌, ◌==◌, ◌↔◌, ◌&&◌, ◌<◌, ◌++◌, ◌∷◌, [], false, not, map, length};
+ghost use Rattle.std.specs.Prelude.{◌≡◌, ◌≢◌, ◌==◌, ◌↔◌, ◌&&◌, ◌<◌, ◌++◌, ◌∷◌, [], not, map, length};
 ghost use Rattle.std.specs.Prelude.{IsTrue, IfOk, OnOk, OnErr, None, Err};
 ghost use Rattle.std.specs.List.{All, filter, find, list_any};
 ghost use Rattle.std.specs.Option.{option_to_list};
-ghost use Rattle.rt_query.specs.Queries.{is_filtered};
 ghost use Rattle.rt_query.specs.QueryEq.{query_eq};
 ghost use Rattle.rt_query.specs.Supply.{form};
 ghost use Rattle.rt_writes.specs.Writes.{IsShallow};
@@ -127,7 +126,6 @@ impl Listeners {
         notes: &mut Vec<Note>,
     ) -> Result<(), AllocError>
         requires above { All (λ l. l.number < number) self.old.listeners }
-        requires plain { is_filtered query ≡ false }
         requires regions_alone { brought.now.windows ≡ [] }
         requires shallow { All IsShallow brought.now.regions }
         ensures listeners { OnOk result (self.new.listeners ≡ self.old.listeners
@@ -203,11 +201,13 @@ impl Listeners {
     ///
     /// # Errors
     ///
-    /// `NoListener` where no listener has that number; else `NoMemory`.
+    /// `NoListener` where no listener has that number; `NoMemory` where it has a view.
     pub fn shown(&self, number: u64) -> Result<Option<Shown>, ShownError>
         ensures shown { IfOk result (λ shown. shown ≡ view_before self.now.listeners number) }
         ensures unknown { (result ≡ Err ShownError.NoListener)
             ↔ (find (λ l. l.number == number) self.now.listeners ≡ None) }
+        ensures memory { result ≡ Err ShownError.NoMemory
+            → view_before self.now.listeners number ≢ None }
     {
         shown(&self.held, number)
     }

@@ -1,14 +1,13 @@
 // The view of a listener, and what its seat is told.
-ghost use Rattle.std.specs.Prelude.{◌≡◌, ◌++◌, ◌||◌, [], map, false, not, IfOk, OnOk};
+ghost use Rattle.std.specs.Prelude.{◌≡◌, ◌++◌, ◌||◌, [], map, not, IfOk, OnOk};
 ghost use Rattle.std.specs.Prelude.{None, Some};
 ghost use Rattle.std.specs.List.{All};
 ghost use Rattle.std.specs.Option.{option_to_list};
-ghost use Rattle.rt_query.specs.Queries.{is_filtered};
 ghost use Rattle.rt_query.specs.Select.{select};
 ghost use Rattle.rt_writes.specs.Writes.{IsShallow};
 ghost use Rattle.rt_cache.specs.Brought.{base};
 ghost use Rattle.rt_view.specs.Changes.{changes};
-ghost use Rattle.rt_world.specs.Views.{base_tree, is_known, seen_over};
+ghost use Rattle.rt_world.specs.Views.{base_tree, is_base_whole, is_known, seen_over};
 ghost use Rattle.rt_world.specs.Steps.{renewed};
 ghost use Rattle.rt_world.specs.Answers.{batch_note};
 ghost use Rattle.rt_listeners.specs.inside.HeldView.{IsHeld, AreHeld, listener_of, listeners_of};
@@ -18,6 +17,7 @@ ghost use Rattle.rt_world.specs.Met.{all_told, do_meet, renewed_met, seeing, tol
 ghost use Rattle.rt_world.specs.Met.{told_met};
 
 use crate::held::Held;
+use crate::known::known_over;
 use rt_cache::{Base, Brought};
 use rt_query::Query;
 use rt_tree::{Path, Tree};
@@ -43,17 +43,32 @@ fn tree_of(base: Option<Base>) -> Tree
     }
 }
 
-// What the query sees: what is brought, overlaid by the pending writes.
+// Whether all that the query's path has is brought.
+fn is_whole(base: &Option<Base>) -> bool
+    ensures { result ≡ is_base_whole base.now }
+{
+    match base {
+        Some(base) => base.whole,
+        None => false,
+    }
+}
+
+// What the query sees: what is brought, overlaid by the pending writes; without the children that
+// are not known, where the query is filtered and not all is brought.
 fn seen(brought: &Brought, pending: &Pending, query: &Query) -> Result<Tree, AllocError>
-    requires plain { is_filtered query.now ≡ false }
     requires regions_alone { brought.now.windows ≡ [] }
     requires shallow { All IsShallow brought.now.regions }
     ensures { IfOk result (λ tree.
         tree ≡ seen_over (base brought.now query.now) pending.now query.now) }
 {
-    let tree = tree_of(brought.base(query)?);
+    let base = brought.base(query)?;
+    let whole = is_whole(&base);
+    let tree = tree_of(base);
     // States that no path has more than 32 keys.
     let _is_path = query.path().keys();
+    if query.is_filtered() && !whole {
+        return known_over(pending, query.path(), tree);
+    }
     pending.overlay(query.path(), tree)
 }
 

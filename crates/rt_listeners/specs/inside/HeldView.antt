@@ -3,7 +3,7 @@ use Rattle.std.specs.Prelude.{◌≡◌, ℕ, ◌<◌, Bool, false, if◌then◌
 use Rattle.std.specs.Prelude.{Option, Some, None, is_some, ◌==◌}
 use Rattle.std.specs.List.{All, AllPairs, filter_map}
 use Rattle.std.specs.Option.{option_map}
-use Rattle.rt_query.specs.Queries.{Query, is_filtered}
+use Rattle.rt_query.specs.Queries.{Query}
 use Rattle.rt_query.specs.QueryEq.{query_eq}
 use Rattle.rt_query.specs.Select.{Shown}
 use Rattle.rt_query.specs.Supply.{form}
@@ -61,9 +61,8 @@ abbrev pub IsViewOf : Query → Option View → Type 0
 IsViewOf q None = Unit {0}
 IsViewOf q (Some v) = (v.query ≡ q) × (v.failed ≡ false)
 
--- the query is not filtered, and the view is the listener's
+-- the view is the listener's
 pub record IsHeld (l : Held) : Type 0 where
-  pub plain : is_filtered l.query ≡ false
   pub view : IsViewOf l.query l.view
 
 -- the numbers rise, and each is held so

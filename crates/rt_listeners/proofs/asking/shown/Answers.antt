@@ -15,11 +15,18 @@ returns-in_err-shown_of-in-Some-clause-unknown c =
     let lacks : c.from_residual.result ≡ Err NoMemory = search rules in
     (λ e. cc, λ e. cc)
 
+pub returns-in_err-shown_of-in-Some-clause-memory : goal.returns-in_err-shown_of-in-Some-clause-memory
+returns-in_err-shown_of-in-Some-clause-memory c =
+    let at : position (λ (l : Held). l.number == c.args.number) c.args.held.now ≡ Some c.in-Some.place = search rules in
+    let found = found_at (λ (l : Held). l.number == c.args.number) c.args.held.now c.in-Some.place c.index-held-place.result at in
+    λ e none. c.in_err-shown_of-in-Some.ensures.memory
+    (ap (λ (l : Held). shown_in l.view) c.index-held-place.is ∙ sym (ap (option_and_then (λ (l : Held). shown_in l.view)) found) ∙ none)
+
 pub returns-in_ok-shown_of-in-Some-clause-shown : goal.returns-in_ok-shown_of-in-Some-clause-shown
 returns-in_ok-shown_of-in-Some-clause-shown c =
     let at : position (λ (l : Held). l.number == c.args.number) c.args.held.now ≡ Some c.in-Some.place = search rules in
     let found = found_at (λ (l : Held). l.number == c.args.number) c.args.held.now c.in-Some.place c.index-held-place.result at in
-    c.in_ok-shown_of-in-Some.ensures ∙ ap (λ (l : Held). shown_in l.view) c.index-held-place.is ∙ sym (ap (option_and_then (λ (l : Held). shown_in l.view)) found)
+    c.in_ok-shown_of-in-Some.ensures.shown ∙ ap (λ (l : Held). shown_in l.view) c.index-held-place.is ∙ sym (ap (option_and_then (λ (l : Held). shown_in l.view)) found)
 
 pub returns-in_ok-shown_of-in-Some-clause-unknown :
     goal.returns-in_ok-shown_of-in-Some-clause-unknown

@@ -15,6 +15,13 @@ returns-clause-shown c =
     ∙ view_held c.args.number c.self.inside.held.items ∙ ap (λ all. view_before all.listeners c.args.number) c.self.view_is in
     subst (λ o. IfOk c.shown.result (λ shown. shown ≡ o)) same c.shown.ensures.shown
 
+pub returns-clause-memory : goal.returns-clause-memory
+returns-clause-memory c =
+    let same : option_and_then (λ (h : Held). shown_in h.view) (find (λ (h : Held). h.number == c.args.number) c.deref.result.now) ≡ view_before c.args.self.now.listeners c.args.number =
+    ap (λ held. option_and_then (λ (h : Held). shown_in h.view) (find (λ (h : Held). h.number == c.args.number) held)) c.deref.ensures.value
+    ∙ view_held c.args.number c.self.inside.held.items ∙ ap (λ all. view_before all.listeners c.args.number) c.self.view_is in
+    λ e none. c.shown.ensures.memory e (same ∙ none)
+
 pub returns-clause-unknown : goal.returns-clause-unknown
 returns-clause-unknown c =
     let held = ap (find (λ (h : Held). h.number == c.args.number)) c.deref.ensures.value in
