@@ -1,5 +1,5 @@
 -- What a core answers to steps, and what it becomes: a world, or none once it has lacked memory.
-use Rattle.std.specs.Prelude.{◌≡◌, ◌==◌, ℕ, true, ◌⊎◌, List, [], ◌∷◌, drop}
+use Rattle.std.specs.Prelude.{◌≡◌, ◌==◌, ℕ, true, false, ◌⊎◌, List, [], ◌∷◌, drop}
 use Rattle.std.specs.Prelude.{Option, Some, None, Result, Ok, Err, is_some}
 use Rattle.std.specs.List.{find}
 use Rattle.std.specs.Option.{option_map_or}
