@@ -2,7 +2,7 @@
 //! answers.
 #![tactic(auto)]
 
-mod sync;
+mod cores;
 mod view;
 mod wire;
 
@@ -13,21 +13,21 @@ use std::process::ExitCode;
 // What the lines so far have made.
 #[derive(Drop)]
 struct State {
-    sync: sync::State,
+    cores: cores::State,
     view: view::State,
 }
 
 impl Calls for State {
     fn new(alloc: Global) -> State {
         State {
-            sync: sync::State::new(alloc),
+            cores: cores::State::new(alloc),
             view: view::State::new(alloc),
         }
     }
 
     fn call(&mut self, alloc: Global, words: &mut Words, said: &mut Said) -> Result<(), Fault> {
         match words.next()? {
-            "sync" => sync::call(&mut self.sync, alloc, words, said),
+            "core" => cores::call(&mut self.cores, alloc, words, said),
             "view" => view::call(&mut self.view, alloc, words, said),
             "wire" => wire::call(alloc, words, said),
             _ => Err(Fault::NoSuchCall),

@@ -1,7 +1,8 @@
 // The example of README.md, word for word.
+use rt_core::Core;
 use rt_query::Query;
-use rt_sync::{Action, Core, Limits, Report, Step};
 use rt_tree::{Path, Tree};
+use rt_world::{Action, Limits, Report, Step};
 use std::alloc::Global;
 use std::test::Fail;
 

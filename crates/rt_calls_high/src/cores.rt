@@ -1,0 +1,403 @@
+// Cores.
+
+use rt_core::{Answers, Core};
+use rt_cover::{Kept, KeptList};
+use rt_query::{Query, Shown};
+use rt_script::{Fault, Said, Words};
+use rt_tree::{Key, Tree};
+use rt_view::{Batch, Change};
+use rt_wire::ClientMessage;
+use rt_world::{Action, Body, CoreError, Limits, Note, Reason, Report, Step};
+use std::alloc::{AllocError, Global};
+
+// A core, at first with full limits.
+#[derive(Drop)]
+pub(crate) struct State {
+    core: Core,
+}
+
+impl State {
+    pub(crate) fn new(alloc: Global) -> State {
+        State {
+            core: Core::new(alloc, Limits::full()),
+        }
+    }
+}
+
+const ERRORS: [CoreError; 11] = [
+    CoreError::Failed,
+    CoreError::UnknownListener,
+    CoreError::TooManyListeners,
+    CoreError::TooManyRequests,
+    CoreError::Overlap,
+    CoreError::EmptyUpdate,
+    CoreError::TooDeep,
+    CoreError::BadPush,
+    CoreError::AlreadyConnected,
+    CoreError::NotConnected,
+    CoreError::NoMemory,
+];
+
+// The words of the refusal of a number.
+fn error(alloc: Global, words: &mut Words, said: &mut Said) -> Result<(), Fault> {
+    let number = words.number()?;
+    for error in ERRORS {
+        if u64::from(error.code()) == number {
+            said.debug(alloc, &(error.code(), error));
+            said.say(error.name());
+            said.say(": ");
+            said.display(alloc, &error);
+        }
+    }
+    Ok(())
+}
+
+// A new core, with these limits, or full ones; says them.
+fn new(core: &mut Core, alloc: Global, words: &mut Words, said: &mut Said) -> Result<(), Fault> {
+    let limits = if words.is_empty() {
+        Limits::full()
+    } else {
+        Limits {
+            listeners: words.small_number()?,
+            requests: words.small_number()?,
+            last_number: words.number()?,
+        }
+    };
+    *core = Core::new(alloc, limits);
+    said.debug(alloc, &limits);
+    Ok(())
+}
+
+// `connected`, `listen SEAT PATH`, `unlisten SEAT LISTENER`, `write SEAT PATH TREE`,
+// `data TAG PATH TREE`, `accepted ID`, `refused ID WHY` or `revoked TAG WHY`.
+fn step(alloc: Global, words: &mut Words) -> Result<Step, Fault>
+{
+    match words.next()? {
+        "connected" => Ok(Step::Connected),
+        "listen" => listen(alloc, words),
+        "unlisten" => unlisten(words),
+        "write" => write(alloc, words),
+        "data" => data(alloc, words),
+        "accepted" => accepted(words),
+        "refused" => refused(alloc, words),
+        "revoked" => revoked(alloc, words),
+        _ => Err(Fault::NoSuchCall),
+    }
+}
+
+fn listen(alloc: Global, words: &mut Words) -> Result<Step, Fault>
+{
+    let seat = words.number()?;
+    let path = words.path(alloc)?;
+    let query = Query::at(path).done();
+    Ok(Step::Listen { seat, query })
+}
+
+fn unlisten(words: &mut Words) -> Result<Step, Fault>
+{
+    let seat = words.number()?;
+    let listener = words.number()?;
+    Ok(Step::Unlisten { seat, listener })
+}
+
+fn write(alloc: Global, words: &mut Words) -> Result<Step, Fault>
+{
+    let seat = words.number()?;
+    let path = words.path(alloc)?;
+    let tree = words.tree(alloc)?;
+    let action = Action::Put { path, tree };
+    Ok(Step::Write { seat, action })
+}
+
+fn data(alloc: Global, words: &mut Words) -> Result<Step, Fault>
+{
+    let tag = words.number()?;
+    let path = words.path(alloc)?;
+    let tree = words.tree(alloc)?;
+    Ok(Step::Data { tag, path, tree })
+}
+
+fn accepted(words: &mut Words) -> Result<Step, Fault>
+{
+    let id = words.number()?;
+    Ok(Step::Accepted { id })
+}
+
+fn refused(alloc: Global, words: &mut Words) -> Result<Step, Fault>
+{
+    let id = words.number()?;
+    let why = Reason::of(words.text(alloc)?);
+    Ok(Step::Refused { id, why })
+}
+
+fn revoked(alloc: Global, words: &mut Words) -> Result<Step, Fault>
+{
+    let tag = words.number()?;
+    let why = Reason::of(words.text(alloc)?);
+    Ok(Step::Revoked { tag, why })
+}
+
+// Calls of the core. Each promises nothing, so that what a world is stays out of their callers'
+// proofs.
+fn apply(core: &mut Core, step: Step) -> Result<Report, CoreError>
+{
+    core.apply(step)
+}
+
+fn apply_all(alloc: Global, core: &mut Core, steps: Vec<Step>) -> Result<Answers, AllocError>
+{
+    rt_core::run(alloc, core, steps)
+}
+
+fn view_of(core: &Core, listener: u64) -> Result<Option<Shown>, CoreError> {
+    core.view(listener)
+}
+
+fn cover_of(core: &Core) -> Result<KeptList, CoreError> {
+    core.cover()
+}
+
+fn first_message(core: &mut Core) -> Option<ClientMessage> {
+    core.take_outgoing()
+}
+
+// A core that lacked memory has failed: it answers so to steps and to looks, and has no message.
+fn failed(core: &mut Core) -> Fault {
+    let applied = apply(core, Step::Connected).err();
+    let viewed = view_of(core, 1).err();
+    let covered = cover_of(core).err();
+    if first_message(core).is_none() && have_failed([applied, viewed, covered]) {
+        Fault::Failed
+    } else {
+        Fault::NoSuchCall
+    }
+}
+
+fn have_failed(answers: [Option<CoreError>; 3]) -> bool {
+    for answer in answers {
+        if answer != Some(CoreError::Failed) {
+            return false;
+        }
+    }
+    true
+}
+
+// Makes a step, and says what it answers.
+fn make(core: &mut Core, alloc: Global, words: &mut Words, said: &mut Said) -> Result<(), Fault> {
+    let step = step(alloc, words)?;
+    let answer = apply(core, step);
+    if let Err(CoreError::NoMemory) = &answer {
+        return Err(failed(core));
+    }
+    say_answer(alloc, &answer, said);
+    Ok(())
+}
+
+// The steps to the end of the line.
+fn steps(alloc: Global, words: &mut Words) -> Result<Vec<Step>, Fault>
+{
+    let mut steps = Vec::new(alloc);
+    'steps: for _ in 0..words.len() {
+        if words.is_empty() {
+            break;
+        }
+        steps.push(step(alloc, words)?)?;
+    }
+    Ok(steps)
+}
+
+// Makes a run of steps, and says what each answers.
+fn run(core: &mut Core, alloc: Global, words: &mut Words, said: &mut Said) -> Result<(), Fault> {
+    let steps = steps(alloc, words)?;
+    let answers = apply_all(alloc, core, steps)?;
+    if lacked_memory(&answers) {
+        return Err(failed(core));
+    }
+    for answer in answers.as_slice() {
+        say_answer(alloc, answer, said);
+    }
+    Ok(())
+}
+
+fn lacked_memory(answers: &Answers) -> bool {
+    for answer in answers.as_slice() {
+        if let Err(CoreError::NoMemory) = answer {
+            return true;
+        }
+    }
+    false
+}
+
+// `Done` or `Stale`, the number that is given, and what each seat is told; or the name of a
+// refusal.
+fn say_answer(alloc: Global, answer: &Result<Report, CoreError>, said: &mut Said) {
+    match answer {
+        Ok(report) => say_report(alloc, report, said),
+        Err(error) => said.say(error.name()),
+    }
+    said.say(".");
+}
+
+fn say_report(alloc: Global, report: &Report, said: &mut Said) {
+    said.debug(alloc, &(report.outcome, report.given));
+    for note in report.notes.as_slice() {
+        say_note(alloc, note, said);
+    }
+}
+
+// The seat, and the number of its request or listener; then how the request or the listener ended,
+// or the changes.
+fn say_note(alloc: Global, note: &Note, said: &mut Said) {
+    match &note.body {
+        Body::Settled { id, why } => {
+            said.debug(alloc, &(note.seat, *id));
+            said.say(" settled");
+            say_why(why.as_ref(), said);
+        }
+        Body::Cancelled { listener, why } => {
+            said.debug(alloc, &(note.seat, *listener));
+            said.say(" cancelled");
+            say_why(Some(why), said);
+        }
+        Body::Batch(batch) => say_batch(alloc, note.seat, batch, said),
+    }
+}
+
+fn say_why(why: Option<&Reason>, said: &mut Said) {
+    if let Some(why) = why {
+        said.say(": ");
+        said.say(why.text());
+    }
+}
+
+fn say_batch(alloc: Global, seat: u64, batch: &Batch, said: &mut Said) {
+    said.debug(alloc, &(seat, batch.listener));
+    for change in batch.changes.as_slice() {
+        say_change(alloc, change, said);
+    }
+}
+
+fn say_change(alloc: Global, change: &Change, said: &mut Said) {
+    match change {
+        Change::Removed { key, old } => say_row(alloc, " removed ", key, old, said),
+        Change::Added { key, value, after } => {
+            say_row(alloc, " added ", key, value, said);
+            say_after(alloc, after, said);
+        }
+        Change::Moved { key, value, after } => {
+            say_row(alloc, " moved ", key, value, said);
+            say_after(alloc, after, said);
+        }
+        Change::Changed { key, value, after } => {
+            say_row(alloc, " changed ", key, value, said);
+            say_after(alloc, after, said);
+        }
+        Change::Value { value } => {
+            said.say(" value ");
+            said.tree(alloc, value);
+        }
+    }
+}
+
+fn say_row(alloc: Global, name: &str, key: &Key, tree: &Tree, said: &mut Said) {
+    said.say(name);
+    said.display(alloc, key);
+    said.say(" ");
+    said.tree(alloc, tree);
+}
+
+fn say_after(alloc: Global, after: &Option<Key>, said: &mut Said) {
+    if let Some(key) = after {
+        said.say(" after ");
+        said.display(alloc, key);
+    }
+}
+
+// What the listener of a number shows: a leaf, or rows; or `none`, or the name of a refusal.
+fn view(core: &Core, alloc: Global, words: &mut Words, said: &mut Said) -> Result<(), Fault> {
+    let listener = words.number()?;
+    match view_of(core, listener) {
+        Ok(Some(shown)) => say_shown(alloc, &shown, said),
+        Ok(None) => said.say("none"),
+        Err(CoreError::NoMemory) => return Err(Fault::NoMemory),
+        Err(error) => said.say(error.name()),
+    }
+    Ok(())
+}
+
+fn say_shown(alloc: Global, shown: &Shown, said: &mut Said) {
+    said.say(if shown.leaf().is_some() {
+        "leaf "
+    } else {
+        "rows "
+    });
+    said.tree(alloc, shown.tree());
+    for row in shown.rows() {
+        say_row(alloc, " ", &row.key, &row.value, said);
+    }
+}
+
+// The listens kept, each with its tag, a listener that needs it, and its path; or the name of a
+// refusal.
+fn cover(core: &Core, alloc: Global, said: &mut Said) -> Result<(), Fault> {
+    match cover_of(core) {
+        Ok(list) => say_kept(alloc, list.as_slice(), said),
+        Err(CoreError::NoMemory) => return Err(Fault::NoMemory),
+        Err(error) => said.say(error.name()),
+    }
+    Ok(())
+}
+
+fn say_kept(alloc: Global, listens: &[Kept], said: &mut Said) {
+    for kept in listens {
+        said.debug(alloc, &(kept.tag, kept.listener));
+        said.display(alloc, kept.query.path());
+    }
+}
+
+// The first message that is to be sent, or `none`.
+fn sent(core: &mut Core, alloc: Global, said: &mut Said) {
+    match first_message(core) {
+        Some(message) => say_message(alloc, &message, said),
+        None => said.say("none"),
+    }
+}
+
+// A message that is taken out does not come again: a text that lacked memory is made once more.
+fn say_message(alloc: Global, message: &ClientMessage, said: &mut Said) {
+    let _ = say_text(message.text(alloc), said) || say_text(message.text(alloc), said);
+}
+
+fn say_text(text: Result<String, AllocError>, said: &mut Said) -> bool {
+    match text {
+        Ok(text) => {
+            said.say(text.as_str());
+            true
+        }
+        Err(_) => {
+            said.say("NoMemory\n");
+            false
+        }
+    }
+}
+
+pub(crate) fn call(
+    state: &mut State,
+    alloc: Global,
+    words: &mut Words,
+    said: &mut Said,
+) -> Result<(), Fault> {
+    match words.next()? {
+        "error" => error(alloc, words, said),
+        "new" => new(&mut state.core, alloc, words, said),
+        "make" => make(&mut state.core, alloc, words, said),
+        "run" => run(&mut state.core, alloc, words, said),
+        "view" => view(&state.core, alloc, words, said),
+        "cover" => cover(&state.core, alloc, said),
+        "sent" => {
+            sent(&mut state.core, alloc, said);
+            Ok(())
+        }
+        _ => Err(Fault::NoSuchCall),
+    }
+}
