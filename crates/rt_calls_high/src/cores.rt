@@ -70,8 +70,7 @@ fn new(core: &mut Core, alloc: Global, words: &mut Words, said: &mut Said) -> Re
 
 // `connected`, `listen SEAT PATH`, `unlisten SEAT LISTENER`, `write SEAT PATH TREE`,
 // `data TAG PATH TREE`, `accepted ID`, `refused ID WHY` or `revoked TAG WHY`.
-fn step(alloc: Global, words: &mut Words) -> Result<Step, Fault>
-{
+fn step(alloc: Global, words: &mut Words) -> Result<Step, Fault> {
     match words.next()? {
         "connected" => Ok(Step::Connected),
         "listen" => listen(alloc, words),
@@ -85,23 +84,20 @@ fn step(alloc: Global, words: &mut Words) -> Result<Step, Fault>
     }
 }
 
-fn listen(alloc: Global, words: &mut Words) -> Result<Step, Fault>
-{
+fn listen(alloc: Global, words: &mut Words) -> Result<Step, Fault> {
     let seat = words.number()?;
     let path = words.path(alloc)?;
     let query = Query::at(path).done();
     Ok(Step::Listen { seat, query })
 }
 
-fn unlisten(words: &mut Words) -> Result<Step, Fault>
-{
+fn unlisten(words: &mut Words) -> Result<Step, Fault> {
     let seat = words.number()?;
     let listener = words.number()?;
     Ok(Step::Unlisten { seat, listener })
 }
 
-fn write(alloc: Global, words: &mut Words) -> Result<Step, Fault>
-{
+fn write(alloc: Global, words: &mut Words) -> Result<Step, Fault> {
     let seat = words.number()?;
     let path = words.path(alloc)?;
     let tree = words.tree(alloc)?;
@@ -109,29 +105,25 @@ fn write(alloc: Global, words: &mut Words) -> Result<Step, Fault>
     Ok(Step::Write { seat, action })
 }
 
-fn data(alloc: Global, words: &mut Words) -> Result<Step, Fault>
-{
+fn data(alloc: Global, words: &mut Words) -> Result<Step, Fault> {
     let tag = words.number()?;
     let path = words.path(alloc)?;
     let tree = words.tree(alloc)?;
     Ok(Step::Data { tag, path, tree })
 }
 
-fn accepted(words: &mut Words) -> Result<Step, Fault>
-{
+fn accepted(words: &mut Words) -> Result<Step, Fault> {
     let id = words.number()?;
     Ok(Step::Accepted { id })
 }
 
-fn refused(alloc: Global, words: &mut Words) -> Result<Step, Fault>
-{
+fn refused(alloc: Global, words: &mut Words) -> Result<Step, Fault> {
     let id = words.number()?;
     let why = Reason::of(words.text(alloc)?);
     Ok(Step::Refused { id, why })
 }
 
-fn revoked(alloc: Global, words: &mut Words) -> Result<Step, Fault>
-{
+fn revoked(alloc: Global, words: &mut Words) -> Result<Step, Fault> {
     let tag = words.number()?;
     let why = Reason::of(words.text(alloc)?);
     Ok(Step::Revoked { tag, why })
@@ -139,13 +131,11 @@ fn revoked(alloc: Global, words: &mut Words) -> Result<Step, Fault>
 
 // Calls of the core. Each promises nothing, so that what a world is stays out of their callers'
 // proofs.
-fn apply(core: &mut Core, step: Step) -> Result<Report, CoreError>
-{
+fn apply(core: &mut Core, step: Step) -> Result<Report, CoreError> {
     core.apply(step)
 }
 
-fn apply_all(alloc: Global, core: &mut Core, steps: Vec<Step>) -> Result<Answers, AllocError>
-{
+fn apply_all(alloc: Global, core: &mut Core, steps: Vec<Step>) -> Result<Answers, AllocError> {
     rt_core::run(alloc, core, steps)
 }
 
@@ -194,8 +184,7 @@ fn make(core: &mut Core, alloc: Global, words: &mut Words, said: &mut Said) -> R
 }
 
 // The steps to the end of the line.
-fn steps(alloc: Global, words: &mut Words) -> Result<Vec<Step>, Fault>
-{
+fn steps(alloc: Global, words: &mut Words) -> Result<Vec<Step>, Fault> {
     let mut steps = Vec::new(alloc);
     'steps: for _ in 0..words.len() {
         if words.is_empty() {
