@@ -1,8 +1,6 @@
 // A listener that is added.
-ghost use Rattle.std.specs.Prelude.{◌≡◌, ◌++◌, [], IfOk, OnOk};
-ghost use Rattle.std.specs.List.{All};
+ghost use Rattle.std.specs.Prelude.{◌≡◌, ◌++◌, IfOk, OnOk};
 ghost use Rattle.std.specs.Option.{option_to_list};
-ghost use Rattle.rt_writes.specs.Writes.{IsShallow};
 ghost use Rattle.rt_world.specs.Met.{told};
 ghost use Rattle.rt_world.specs.Steps.{renewed};
 ghost use Rattle.rt_listeners.specs.Listeners.{first_counts, new_listener};
@@ -26,8 +24,6 @@ pub(crate) fn first(
     pending: &Pending,
     notes: &mut Vec<Note>,
 ) -> Result<Held, AllocError>
-    requires regions_alone { brought.now.windows ≡ [] }
-    requires shallow { All IsShallow brought.now.regions }
     ensures listener { IfOk result (λ l. listener_of l
         ≡ renewed brought.now pending.now (new_listener number seat query)) }
     ensures held { IfOk result (λ l. IsHeld l) }

@@ -5,7 +5,6 @@ ghost use Rattle.std.specs.List.{All, filter, find, list_any};
 ghost use Rattle.std.specs.Option.{option_to_list};
 ghost use Rattle.rt_query.specs.QueryEq.{query_eq};
 ghost use Rattle.rt_query.specs.Supply.{form};
-ghost use Rattle.rt_writes.specs.Writes.{IsShallow};
 ghost use Rattle.rt_world.specs.Answers.{view_before};
 ghost use Rattle.rt_world.specs.Met.{all_told, do_meet, renewed_met, told};
 ghost use Rattle.rt_world.specs.Steps.{renewed};
@@ -92,8 +91,6 @@ impl Listeners {
         pending: &Pending,
         notes: &mut Vec<Note>,
     ) -> Result<(), AllocError>
-        requires regions_alone { brought.now.windows ≡ [] }
-        requires shallow { All IsShallow brought.now.regions }
         ensures views { OnOk result (self.new.listeners
             ≡ map (renewed_met entries.now brought.now pending.now) self.old.listeners) }
         ensures counts { OnOk result
@@ -126,8 +123,6 @@ impl Listeners {
         notes: &mut Vec<Note>,
     ) -> Result<(), AllocError>
         requires above { All (λ l. l.number < number) self.old.listeners }
-        requires regions_alone { brought.now.windows ≡ [] }
-        requires shallow { All IsShallow brought.now.regions }
         ensures listeners { OnOk result (self.new.listeners ≡ self.old.listeners
             ++ renewed brought.now pending.now (new_listener number seat query) ∷ []) }
         ensures counts { OnOk result (self.new.counts ≡ self.old.counts

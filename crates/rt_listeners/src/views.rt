@@ -1,7 +1,6 @@
 // The view of a listener, and what its seat is told.
-ghost use Rattle.std.specs.Prelude.{◌≡◌, ◌++◌, ◌||◌, [], map, not, IfOk, OnOk};
+ghost use Rattle.std.specs.Prelude.{◌≡◌, ◌++◌, ◌||◌, map, not, IfOk, IfSome, OnOk};
 ghost use Rattle.std.specs.Prelude.{None, Some};
-ghost use Rattle.std.specs.List.{All};
 ghost use Rattle.std.specs.Option.{option_to_list};
 ghost use Rattle.rt_query.specs.Select.{select};
 ghost use Rattle.rt_writes.specs.Writes.{IsShallow};
@@ -33,10 +32,14 @@ fn is_known(brought: &Brought, pending: &Pending, query: &Query) -> bool
     brought.knows(query) || pending.sets_whole(query.path())
 }
 
-// The tree brought; nothing is null.
-fn tree_of(base: Option<Base>) -> Tree
-    ensures { result ≡ base_tree base }
+// The tree brought for the path; nothing is null.
+fn tree_of(path: &Path, base: Option<Base>) -> Tree
+    requires { IfSome base (λ b. IsShallow (path.now, b.tree)) }
+    ensures tree { result ≡ base_tree base }
+    ensures shallow { IsShallow (path.now, result) }
 {
+    // States that no path has more than 32 keys.
+    let _is_path = path.keys();
     match base {
         Some(base) => base.tree,
         None => Tree::null(),
@@ -56,16 +59,12 @@ fn is_whole(base: &Option<Base>) -> bool
 // What the query sees: what is brought, overlaid by the pending writes; without the children that
 // are not known, where the query is filtered and not all is brought.
 fn seen(brought: &Brought, pending: &Pending, query: &Query) -> Result<Tree, AllocError>
-    requires regions_alone { brought.now.windows ≡ [] }
-    requires shallow { All IsShallow brought.now.regions }
     ensures { IfOk result (λ tree.
         tree ≡ seen_over (base brought.now query.now) pending.now query.now) }
 {
     let base = brought.base(query)?;
     let whole = is_whole(&base);
-    let tree = tree_of(base);
-    // States that no path has more than 32 keys.
-    let _is_path = query.path().keys();
+    let tree = tree_of(query.path(), base);
     if query.is_filtered() && !whole {
         return known_over(pending, query.path(), tree);
     }
@@ -132,8 +131,6 @@ pub(crate) fn renew(
     notes: &mut Vec<Note>,
 ) -> Result<(), AllocError>
     requires held { IsHeld listener.old }
-    requires regions_alone { brought.now.windows ≡ [] }
-    requires shallow { All IsShallow brought.now.regions }
     ensures view { OnOk result (listener_of listener.new
         ≡ renewed brought.now pending.now (listener_of listener.old)) }
     ensures held { OnOk result (IsHeld listener.new) }
@@ -168,8 +165,6 @@ fn renew_if_met(
     notes: &mut Vec<Note>,
 ) -> Result<(), AllocError>
     requires held { IsHeld listener.old }
-    requires regions_alone { brought.now.windows ≡ [] }
-    requires shallow { All IsShallow brought.now.regions }
     ensures view { OnOk result (listener_of listener.new
         ≡ renewed_met entries.now brought.now pending.now (listener_of listener.old)) }
     ensures held { OnOk result (IsHeld listener.new) }
@@ -196,8 +191,6 @@ pub(crate) fn renew_met(
     notes: &mut Vec<Note>,
 ) -> Result<(), AllocError>
     requires held { AreHeld listeners.old }
-    requires regions_alone { brought.now.windows ≡ [] }
-    requires shallow { All IsShallow brought.now.regions }
     ensures views { OnOk result (listeners_of listeners.new
         ≡ map (renewed_met entries.now brought.now pending.now) (listeners_of listeners.old)) }
     ensures held { OnOk result (AreHeld listeners.new) }
