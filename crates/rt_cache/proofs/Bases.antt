@@ -1,16 +1,16 @@
 -- What is brought for a query.
-use Rattle.std.proofs.Common.{◌≡◌, Bool, true, false, cond, ◌||◌, List, [], ◌∷◌, refl, sym, ap, ◌∙◌, Option, Some, None, is_some}
+use Rattle.std.proofs.Common.{◌≡◌, Bool, true, false, cond, not, ◌&&◌, ◌||◌, List, [], ◌∷◌, refl, sym, ap, ◌∙◌, Option, Some, None, is_some}
 use mathlib.Core.Bool.{true≢false}
 use Rattle.std.specs.Ordering.{eq_by_cmp}
 use Rattle.std.specs.Option.{option_map, option_or}
 use Rattle.std.specs.Cmp.{Equal-is}
 use Rattle.std.specs.FinMap as map_of
 use Rattle.std.proofs.lemmas.List.Elements.{All-head, All-tail}
-use Rattle.rt_tree.specs.PathTree.{Path, PathTree, Key, sub, child}
+use Rattle.rt_tree.specs.PathTree.{Path, PathTree, Key, path_eq, sub, child}
 use Rattle.rt_query.specs.Queries.{Query, plain, is_filtered}
 use Rattle.rt_query.specs.Supply.{form}
 use Rattle.rt_cache.specs.QueryOrder.{query_cmp}
-use Rattle.rt_cache.specs.Brought.{Window, Base, region_part, window_of, base, knows, child_base}
+use Rattle.rt_cache.specs.Brought.{Window, Base, region_part, window_of, base, knows, child_base, is_without_window}
 use Rattle.rt_cache.specs.Recover.{in_query_order}
 use Rattle.rt_cache.specs.declared.region.Region.{Region}
 use Rattle.rt_cache.specs.declared.window.Window as inside
@@ -52,6 +52,11 @@ knows_found rs ws q h = ap is_some (base_found rs ws q _ _ h refl refl) ∙ eith
     either (Some t) w = refl
     either None (Some w) = refl
     either None None = refl
+
+-- a filtered query lacks a window, by what is found where they are kept
+pub lacks_found : (rs : List Region) (ws : List inside.Window) (q : Query) (p : Path) (u : PathTree) → is_filtered q ≡ true → path_eq q.path p ≡ false
+    → not (is_some (map_of.find query_cmp q (entries_of ws))) ≡ is_without_window (held rs ws) q (p, u)
+lacks_found rs ws q p u filtered other = sym (λ i. filtered i && not (other i) && not (is_some (find-listed q (entries_of ws) i)))
 
 pub child_seen : (t : PathTree) (o : Option Path) (tree : PathTree) (k : Key) (w : Option Window) → Some tree ≡ option_map (λ rest. child (sub t rest) k) o
     → Some (record { tree = tree; whole = true }) ≡ option_map (child_base k) (found (option_map (sub t) o) w)

@@ -16,7 +16,7 @@ use Rattle.std.proofs.lemmas.List.Elements.{All-head, All-tail, All-filter, All-
 use Rattle.rt_tree.specs.declared.limits.TheConstants.{MAX_LEVELS, MAX_KEYS}
 use Rattle.rt_tree.specs.Leaf.{LeafValue}
 use Rattle.rt_tree.specs.Path.{IsPath}
-use Rattle.rt_tree.specs.PathTree.{Path, PathTree, strip, strip-some, length-strip, shown, leaf_at}
+use Rattle.rt_tree.specs.PathTree.{Path, PathTree, strip, length-strip, shown, leaf_at}
 use Rattle.rt_tree.specs.PathTree.{leaf_at-sub, leaf_at-put, leaf_at-children_alone}
 use Rattle.rt_tree.specs.PathTree.{leaf_of-children_alone, after_put, is_null, sub, put, children_alone}
 use Rattle.rt_tree.specs.PathTree.{levels, levels_le, length_lt_levels}
@@ -36,7 +36,7 @@ use Rattle.rt_cache.specs.declared.spans.Span.{Span}
 use Rattle.rt_cache.specs.inside.Spans.{has_place, have_place}
 use Rattle.rt_cache.proofs.Pushes.{push_of_filtered, push_of_plain}
 use Rattle.rt_cache.proofs.QueryOrders.{exact_queries}
-use Rattle.rt_cache.proofs.RecoverLaws.{All-filter_map, All-flat_map, with_all, listed_all, left_by}
+use Rattle.rt_cache.proofs.RecoverLaws.{All-filter_map, All-flat_map, with_all, listed_all}
 use Rattle.rt_cache.proofs.RecoverLaws.{pushed_all, pushed_windows_all}
 use Rattle.rt_cache.proofs.Stays.{Regions, Windows}
 

@@ -269,7 +269,7 @@ pushed_registered registered q b a m h =
     own (Some w) = m
 
 -- where no region is lost, none leaves a window
-abbrev pub left_by : Bool → Option PathTree → Option Window
+abbrev left_by : Bool → Option PathTree → Option Window
 left_by filtered o = cond (filtered && not (is_some o))
     (option_map (λ t. record { children = children_alone t; is_whole = true }) o) None
 

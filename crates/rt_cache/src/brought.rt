@@ -91,7 +91,7 @@ impl Brought {
     /// On an unfiltered query the tree is put into the region at or above the path; where there is
     /// none, it begins a region, which takes in the regions and windows below. On a filtered one it
     /// replaces the window by its children, or is put into the window, if there is one. `Ok(false)`
-    /// where there is none: the push is stale and changes nothing.
+    /// where there is none ([`Brought::lacks_window`]): the push is stale and changes nothing.
     ///
     /// Finds the region by halving, where keys that the path shares with all regions that are left
     /// are not compared again, or the window by going over their queries, and then costs by the
@@ -126,6 +126,19 @@ impl Brought {
     {
         regions::place_above(&self.regions, query.path()).is_some()
             || windows::place_of_window(&self.windows, query).is_some()
+    }
+
+    /// Whether a push on the listen of this query at the path would be stale, for want of a window:
+    /// [`Brought::put`] would give `Ok(false)`, whatever the tree.
+    ///
+    /// Goes over the queries of the windows, if the query is filtered and the path is not its own.
+    /// Takes no memory.
+    pub fn lacks_window(&self, query: &Query, path: &Path) -> bool
+        ensures { (u : PathTree) → result ≡ is_without_window self.now query.now (path.now, u) }
+    {
+        query.is_filtered()
+            && query.path() != path
+            && windows::place_of_window(&self.windows, query).is_none()
     }
 
     /// What is brought for the query: the part of the region at or above its path, which is whole,
