@@ -1,5 +1,5 @@
 -- What the code of a step makes that begins and ends no listener is the next world, and its parts agree.
-use Rattle.std.proofs.Common.{◌≡◌, ℕ, ◌+◌, Bool, true, false, cond, not, ◌||◌, List, [], ◌∷◌, ◌++◌, map, refl, sym, ap, subst, ◌∙◌, Option, Some, None}
+use Rattle.std.proofs.Common.{◌≡◌, ℕ, ◌+◌, ◌<◌, Bool, true, false, cond, not, ◌||◌, List, [], ◌∷◌, ◌++◌, map, refl, sym, ap, subst, ◌∙◌, Option, Some, None}
 use mathlib.Core.Bool.{true≢false}
 use Rattle.std.specs.Prelude.{◌==◌, is_some}
 use Rattle.rt_requests.specs.declared.settled.Settled.{Settled as Left}

@@ -1,4 +1,4 @@
-use Rattle.std.proofs.Common.{true, sym, ap, ◌∙◌, Option}
+use Rattle.std.proofs.Common.{◌≡◌, true, sym, ap, ◌∙◌, Option}
 use Rattle.std.specs.List.{list_all}
 use Rattle.std.specs.Option.{option_copied, option_map_or}
 use Rattle.rt_query.specs.Queries.{Query}

@@ -1,4 +1,4 @@
-use Rattle.std.proofs.Common.{◌≡◌, ◌++◌, map, sym, ap, subst, ◌∙◌, refl, rules}
+use Rattle.std.proofs.Common.{◌≡◌, ◌++◌, [], map, sym, ap, subst, ◌∙◌, refl, rules}
 use Rattle.std.specs.List.{All, fold}
 use Rattle.std.specs.Option.{option_map, option_map_or}
 use Rattle.rt_cache.specs.Brought.{push}
