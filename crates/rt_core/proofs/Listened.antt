@@ -56,7 +56,7 @@ module _ (limits : Limits) (ls : List Listener) (requests : List Request) (b : B
       → (said : Told) → said.given ≡ Some (gl + 1) → said.notes.items ≡ option_to_list (told b (pending requests) (new_listener (gl + 1) seat query))
       → IsNext w (Step.Listen seat query) (world_of limits ls' requests b cover' c out' (gl + 1) gr, said)
   listen_made law t seat query d cover' ce ls' le delta de out' oe said given notes =
-      let leaves = law w seat query (made_of w (Step.Listen seat query) d) d.good.steady.reached in
+      let leaves = law w seat query (made_of w (Step.Listen seat query) d) d.good.reached in
       let whole : cover ≡ cover_in w = cover_tied cover w t refl refl in
       let covers : cover' ≡ added (cover_in w) (gl + 1) query = ce ∙ ap (λ (x : Cover). added x (gl + 1) query) whole in
       let sent : out' ≡ out ++ changing c (difference (cover_in w) (added (cover_in w) (gl + 1) query)) =

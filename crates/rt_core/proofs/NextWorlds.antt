@@ -119,7 +119,7 @@ told_seat id why rs = at (find (λ (r : Request). r.id == id) rs) refl
 -- ---- steps
 
 pub made_of : (v : World) (s : Step) → IsDue v s → IsMade v s
-made_of v s d = record { sound = d.good.steady.sound; called = d.good.steady.called; not_refused = d.not_refused; not_stale = d.not_stale }
+made_of v s d = record { sound = d.good.sound; called = d.good.called; not_refused = d.not_refused; not_stale = d.not_stale }
 
 -- a settlement gives no number
 none_given : (w : World) (id : ℕ) (why : Option Reason) → (done_report w (settling id why)).given ≡ None
@@ -128,8 +128,8 @@ none_given w id (Some why) = refl
 
 settling_leaves : AcceptedIsMade → RefusedIsMade → (w : World) (id : ℕ) (why : Option Reason) → IsDue w (settling id why)
     → Leaves w (settling id why) (settled_world w id) (settled_told w id why)
-settling_leaves accepted refused w id None d = accepted w id (made_of w (Step.Accepted id) d) d.good.steady.reached
-settling_leaves accepted refused w id (Some why) d = refused w id why (made_of w (Step.Refused id why) d) d.good.steady.reached
+settling_leaves accepted refused w id None d = accepted w id (made_of w (Step.Accepted id) d) d.good.reached
+settling_leaves accepted refused w id (Some why) d = refused w id why (made_of w (Step.Refused id why) d) d.good.reached
 
 module _ (limits : Limits) (ls : List Listener) (requests : List Request) (b : Brought) (cover : Cover) (c : Bool) (out : List ClientMessage) (gl gr : ℕ) where
   abbrev pub w : World
@@ -177,7 +177,7 @@ module _ (limits : Limits) (ls : List Listener) (requests : List Request) (b : B
       elim (listen_of w tag) as (λ (o : Option Query). listen_of w tag ≡ o → IsNext w s (world_of limits ls' requests b' cover c out gl gr, told)) [
         | None ↦ λ e. absurd (true≢false (sym (ap (λ (o : Option Query). option_map_or (λ q. list_all (is_without_window b q) entries) o true) e) ∙ sym (stale w tag entries) ∙ d.not_stale))
         | Some q ↦ λ e.
-            let leaves = law w tag entries made d.good.steady.reached q e in
+            let leaves = law w tag entries made d.good.reached q e in
             let same : b' ≡ fold (push q) b entries = be ∙ ap (λ (o : Option Query). option_map_or (λ x. fold (push x) b entries) o b) e in
             record {
               world = (λ i. record w {
@@ -197,7 +197,7 @@ module _ (limits : Limits) (ls : List Listener) (requests : List Request) (b : B
       → (told : Told) → told.given ≡ Some (gr + 1) → told.notes.items ≡ all_told entries b (pending requests') ls
       → IsNext w (Step.Write seat action) (world_of limits ls' requests' b cover c out' gl (gr + 1), told)
   write_made law more seat action d entries ee requests' re ls' he out' oe told given notes =
-      let leaves = law w seat action (made_of w (Step.Write seat action) d) d.good.steady.reached in
+      let leaves = law w seat action (made_of w (Step.Write seat action) d) d.good.reached in
       let ws : pending requests' ≡ writes_with w action = ap pending re ∙ more requests (gr + 1) (Some seat) action in
       record {
         world = (λ i. record w {
@@ -213,7 +213,7 @@ module _ (limits : Limits) (ls : List Listener) (requests : List Request) (b : B
   pub connect_made : ConnectedIsMade → IsDue w Step.Connected → (out' : List ClientMessage) → out' ≡ listens_shown (shown cover) ++ map request_message requests
       → (told : Told) → told.given ≡ None → told.notes.items ≡ [] → IsNext w Step.Connected (world_of limits ls requests b cover true out' gl gr, told)
   connect_made law d out' oe told given notes =
-      let leaves = law w (made_of w Step.Connected d) d.good.steady.reached in
+      let leaves = law w (made_of w Step.Connected d) d.good.reached in
       record {
         world = (λ i. record w {
           is_connected = true;
@@ -226,7 +226,7 @@ module _ (limits : Limits) (ls : List Listener) (requests : List Request) (b : B
   pub disconnect_made : DisconnectedIsMade → IsDue w Step.Disconnected → (out' : List ClientMessage) → out' ≡ []
       → (told : Told) → told.given ≡ None → told.notes.items ≡ [] → IsNext w Step.Disconnected (world_of limits ls requests b cover false out' gl gr, told)
   disconnect_made law d out' oe told given notes =
-      let leaves = law w (made_of w Step.Disconnected d) d.good.steady.reached in
+      let leaves = law w (made_of w Step.Disconnected d) d.good.reached in
       record {
         world = (λ i. record w { is_connected = false; outgoing = oe i }) ∙ sym leaves.world;
         given = given;
@@ -239,7 +239,7 @@ module _ (limits : Limits) (ls : List Listener) (requests : List Request) (b : B
       → (told : Told) → told.given ≡ Some (gr + 1) → told.notes.items ≡ []
       → IsNext w (Step.OnDisconnect seat ending) (world_of limits ls requests' b cover c out' gl (gr + 1), told)
   ask_made law seat ending d out' oe requests' re told given notes =
-      let leaves = law w seat ending (made_of w (Step.OnDisconnect seat ending) d) d.good.steady.reached in
+      let leaves = law w seat ending (made_of w (Step.OnDisconnect seat ending) d) d.good.reached in
       record {
         world = (λ i. record w {
           requests = re i;

@@ -77,5 +77,5 @@ revoke_needs law stay w tag why g = at (find (λ (k : Tagged). k.tag == tag) w.k
     at (Some k) e = sym (law w tag why)
     at None e =
         let same : listeners_after w s ≡ w.listeners = (λ i. filter (λ l. not (option_map_or (query_eq (form l.query)) (option_map (λ (k : Tagged). k.form) (e i)) false)) w.listeners) ∙ all w.listeners in
-        let none : length (started_by w s) ≡ 0 = ap length (stay w s g.steady.sound same).started in
+        let none : length (started_by w s) ≡ 0 = ap length (stay w s g.sound same).started in
         sym (le-ltb (w.limits.last_number + 1) (w.next_tag + length (started_by w s)) (omega (arith, none, g.within.next_tag)))

@@ -29,8 +29,10 @@ mod told;
 
 use rt_cover::KeptList;
 use rt_query::Shown;
-use rt_world::{ClientMessage, CoreError, Limits, Report, Step};
-use rt_world::{answer_law, holding_law, steady_law};
+use rt_world::{
+    ClientMessage, CoreError, Limits, Report, Step, answer_law, holding_law, sending_law,
+    steady_law,
+};
 pub use runs::{Answers, run};
 use state::State;
 use std::alloc::Global;
@@ -125,9 +127,14 @@ impl Core {
     pub fn take_outgoing(&mut self) -> Option<ClientMessage>
         ensures { TakesOut self.old result self.new }
     {
-        match &mut self.state {
-            Some(state) => state.take_outgoing(),
-            None => None,
-        }
+        // State that what holds between steps holds without the message.
+        sending_law();
+        let Some(state) = self.state.take() else {
+            return None;
+        };
+        let mut state = state;
+        let message = state.take_outgoing();
+        self.state = Some(state);
+        message
     }
 }

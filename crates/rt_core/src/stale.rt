@@ -13,11 +13,20 @@ use rt_query::Query;
 use rt_tree::{Path, Tree};
 use rt_world::{Step, pushed_law};
 
-// Whether each of these entries, pushed on the query, would want a window that is not there.
+// Whether the entry, pushed on the query, would want a window that is not there.
+fn lacks_window(brought: &Brought, query: &Query, entry: &(Path, Tree)) -> bool
+    ensures { result ≡ is_without_window brought.now query.now entry.now }
+{
+    brought.lacks_window(query, &entry.0)
+}
+
+// Whether each of these entries would.
 fn lack_window(brought: &Brought, query: &Query, entries: &[(Path, Tree)]) -> bool
     ensures { result ≡ list_all (is_without_window brought.now query.now) entries.now }
 {
-    entries.iter().all(|entry| brought.lacks_window(query, &entry.0))
+    entries
+        .iter()
+        .all(|entry| lacks_window(brought, query, entry))
 }
 
 impl State {

@@ -1,19 +1,13 @@
 -- A listener that is renewed, and what its seat is told.
-use Rattle.std.proofs.Common.{◌≡◌, suc, ◌+◌, ◌≤◌, true, false, cond, not, ◌&&◌, ◌||◌, List, [], ◌∷◌, length, refl, sym, ap, subst, ◌∙◌, arith, Option, Some, None, IfSome}
-use Rattle.std.specs.List.{All}
-use Rattle.std.specs.Option.{option_map, option_map_or, option_or}
-use Rattle.rt_tree.specs.PathTree.{Path, PathTree, strip, sub, levels, with_children}
-use Rattle.rt_tree.specs.laws.PathTree.{levels-null}
-use Rattle.rt_query.specs.Queries.{Query, is_filtered}
-use Rattle.rt_query.specs.Supply.{form}
-use Rattle.rt_writes.specs.Writes.{Write, IsShallow, overlay}
-use Rattle.rt_writes.specs.laws.ShallowLaws.{shallow-part}
-use Rattle.rt_cache.specs.declared.base.Base.{Base}
-use Rattle.rt_cache.specs.Brought.{Brought, base, region_part, window_of}
+use Rattle.std.proofs.Common.{◌≡◌, true, false, cond, ◌||◌, List, [], sym, ap, ◌∙◌, None}
+use Rattle.std.specs.Option.{option_map_or}
+use Rattle.rt_tree.specs.PathTree.{PathTree}
+use Rattle.rt_writes.specs.Writes.{Write}
+use Rattle.rt_cache.specs.Brought.{Brought, base}
 use Rattle.rt_view.specs.Changes.{changes}
 use Rattle.rt_query.specs.Select.{select}
 use Rattle.rt_world.specs.World.{Listener}
-use Rattle.rt_world.specs.Views.{base_tree, is_base_whole, is_child_known, is_known, seen_over}
+use Rattle.rt_world.specs.Views.{is_known, seen_over}
 use Rattle.rt_world.specs.Steps.{renewed}
 use Rattle.rt_world.specs.Answers.{batch_note, batch_from}
 use Rattle.rt_world.specs.Met.{seeing, told}

@@ -36,8 +36,8 @@ fn unknown_keys(
     pending: &Pending,
     path: &Path,
 ) -> Result<Vec<Key>, AllocError>
-    ensures { IfOk result (λ keys. keys.items
-        ≡ unknown_keys (is_child_known base.now pending.now path.now) (keys_of (children_of seen.now))) }
+    ensures { IfOk result (λ keys. keys.items ≡ unknown_keys
+        (is_child_known base.now pending.now path.now) (keys_of (children_of seen.now))) }
 {
     let mut unknown = Vec::new(alloc);
     let Some(children) = seen.children() else {

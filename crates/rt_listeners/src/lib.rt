@@ -1,7 +1,8 @@
-//! The registered listeners of a core, by number, each with its view once something is known for it.
+//! The registered listeners of a core, by number, each with its view once something is known for
+//! it.
 //!
-//! [`Listeners`] are seen by contracts as the world of `rt_world` has them, with the counts of their
-//! views beside them (`specs/Listeners.antt`).
+//! [`Listeners`] are seen by contracts as the world of `rt_world` has them, with the counts of
+//! their views beside them (`specs/Listeners.antt`).
 //!
 //! ```text
 //! let mut listeners = Listeners::new(alloc);

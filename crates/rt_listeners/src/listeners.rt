@@ -1,6 +1,6 @@
 // The registered listeners.
-ghost use Rattle.std.specs.Prelude.{◌≡◌, ◌≢◌, ◌==◌, ◌↔◌, ◌&&◌, ◌<◌, ◌++◌, ◌∷◌, [], not, map, length};
-ghost use Rattle.std.specs.Prelude.{IsTrue, IfOk, OnOk, OnErr, None, Err};
+ghost use Rattle.std.specs.Prelude.{◌≡◌, ◌≢◌, ◌==◌, ◌↔◌, ◌&&◌, ◌<◌, ◌++◌, ◌∷◌, [], not, map};
+ghost use Rattle.std.specs.Prelude.{length, IsTrue, IfOk, OnOk, OnErr, None, Err};
 ghost use Rattle.std.specs.List.{All, filter, find, list_any};
 ghost use Rattle.std.specs.Option.{option_to_list};
 ghost use Rattle.rt_query.specs.QueryEq.{query_eq};

@@ -5,13 +5,17 @@ use Rattle.rt_world.specs.World.{Reason, World}
 use Rattle.rt_world.specs.Messages.{next}
 use Rattle.rt_world.specs.Refusals.{refusal, is_stale}
 use Rattle.rt_world.specs.Answers.{done_report}
+use Rattle.rt_world.specs.Called.{IsCalled}
 use Rattle.rt_world.specs.Limited.{IsWithin}
-use Rattle.rt_world.specs.laws.Holds.{IsSteady}
+use Rattle.rt_world.specs.Reached.{IsReached}
+use Rattle.rt_world.specs.Sound.{IsSound}
 use Rattle.rt_core.specs.declared.told.Told.{Told}
 
 -- what holds between steps
 pub record IsGood (w : World) : Type 0 where
-  pub steady : IsSteady w
+  pub sound : IsSound w
+  pub called : IsCalled w.brought
+  pub reached : IsReached w
   pub within : IsWithin w
 
 -- the step is neither refused nor stale

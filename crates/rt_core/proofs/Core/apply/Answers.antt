@@ -6,10 +6,10 @@ use Rattle.rt_core.specs.inside.Due.{IsGood}
 use Rattle.rt_core.proofs.GoodWorlds.{Laws, good_step}
 use Rattle.rt_core.proofs.Core.apply.Goals as goal
 
-pub after-requires-clause-good : goal.after-requires-clause-good
-after-requires-clause-good c =
+pub after-requires : goal.after-requires
+after-requires c =
     let there : c.self.inside.state ≡ Some c.in-Some.state = search rules in
-    subst (λ o. IfSome o IsGood) there c.self.invariant
+    record { good = subst (λ o. IfSome o IsGood) there c.self.invariant }
 
 pub invariant_of-self-2 : goal.invariant_of-self-2
 invariant_of-self-2 c =

@@ -53,4 +53,4 @@ returns-clause-headline c w v e f =
     let m = returns-clause-made c w v e f in
     let good : IsGood w = subst (λ o. IfSome o IsGood) e c.holds.ensures in
     subst (λ (x : List Answer × World). Headline w c.args.steps.items x.0 x.1) (λ i. (sym m.answers i, sym m.world i))
-    (c.holding_law.ensures.headline w c.args.steps.items good.steady.sound)
+    (c.holding_law.ensures.headline w c.args.steps.items good.sound)

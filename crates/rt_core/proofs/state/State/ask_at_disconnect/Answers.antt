@@ -8,7 +8,7 @@ use Rattle.rt_core.proofs.NextWorlds.{along, ask_made, or_left}
 use Rattle.rt_core.proofs.state.State.ask_at_disconnect.Goals as goal
 
 pub add-requires-clause-above : goal.add-requires-clause-above
-add-requires-clause-above c = (subst (λ (v : World). IsDue v (Step.OnDisconnect c.args.seat c.args.ending)) (sym c.state.view_is) c.requires).good.steady.sound.unsettled
+add-requires-clause-above c = (subst (λ (v : World). IsDue v (Step.OnDisconnect c.args.seat c.args.ending)) (sym c.state.view_is) c.requires).good.sound.unsettled
 
 pub add-requires-clause-apart : goal.add-requires-clause-apart
 add-requires-clause-apart c = (c.refusal_law.ensures c.args.self (Step.OnDisconnect c.args.seat c.args.ending) c.requires.not_refused).overlap

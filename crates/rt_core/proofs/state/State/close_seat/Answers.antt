@@ -17,7 +17,7 @@ uncover-requires c =
     let cover : state.cover ≡ cover_in c.args.self = cover_tied state.cover _ c.state.invariant refl refl ∙ ap cover_in c.state.view_is in
     let same : c.deref.result.now ≡ c.in_ok-numbers.numbers.items = search rules in
     let numbers : c.deref.result.now ≡ numbers_of c.args.self c.args.seat = same ∙ c.in_ok-numbers.ensures ∙ ap (λ (v : World). numbers_of v c.args.seat) c.state.view_is in
-    (λ i. remove_fault (cover i) (numbers i)) ∙ c.covered_law.ensures.close c.args.self c.args.seat c.requires.good.steady.sound c.requires.not_refused
+    (λ i. remove_fault (cover i) (numbers i)) ∙ c.covered_law.ensures.close c.args.self c.args.seat c.requires.good.sound c.requires.not_refused
 
 pub returns : goal.returns
 returns c =
@@ -47,6 +47,6 @@ invariant_of-state c =
     numbers (same ∙ c.in_ok-numbers.ensures)
     c.uncover.new.cover c.in_ok-delta.ensures.cover c.close.new.self.listeners c.close.ensures.listeners c.close-2.new.self c.close-2.ensures c.lose.new.brought c.in_ok-lose.ensures
     c.in_ok-delta.delta c.in_ok-delta.ensures.delta c.send_change.new.outgoing.items c.in_ok-send_change.ensures said refl c.new-notes.ensures.items in
-    tied_next c.following_law.ensures.cover old s d.good.steady.sound c.uncover.new.cover _
+    tied_next c.following_law.ensures.cover old s d.good.sound c.uncover.new.cover _
     (c.in_ok-delta.ensures.cover ∙ closed_is state.limits state.listeners.listeners state.requests state.brought state.cover state.is_connected state.outgoing.items state.given_listeners state.given_requests c.state.invariant c.args.seat numbers (same ∙ c.in_ok-numbers.ensures))
     made.world

@@ -1,4 +1,8 @@
-use Rattle.std.proofs.Common.{sym, ap, ◌∙◌}
+use Rattle.std.proofs.Common.{true, sym, ap, ◌∙◌}
+use Rattle.std.specs.List.{list_all}
+use Rattle.std.specs.Option.{option_map_or}
+use Rattle.rt_cache.specs.Brought.{is_without_window}
+use Rattle.rt_world.specs.World.{World, listen_of}
 use Rattle.rt_world.specs.Refusals.{is_stale}
 use Rattle.rt_core.proofs.state.State.is_stale.Goals as goal
 
@@ -9,5 +13,8 @@ returns-in-Data c =
 
 pub returns-in-DataMerge : goal.returns-in-DataMerge
 returns-in-DataMerge c =
-    c.is_merge_stale.ensures ∙ sym (c.pushed_law.ensures.merge_stale c.args.self.now c.in-DataMerge.tag c.in-DataMerge.entries)
-    ∙ sym (ap (is_stale c.args.self.now) c.in-DataMerge.is)
+    let w : World = c.args.self.now in
+    c.is_merge_stale.ensures
+    ∙ ap (λ es. option_map_or (λ q. list_all (is_without_window w.brought q) es) (listen_of w c.in-DataMerge.tag) true) c.as_slice.ensures
+    ∙ sym (c.pushed_law.ensures.merge_stale w c.in-DataMerge.tag c.in-DataMerge.entries)
+    ∙ sym (ap (is_stale w) c.in-DataMerge.is)

@@ -9,6 +9,6 @@ pub returns : goal.returns
 returns c = λ seat.
     let w = c.args.self.now in
     let same : c.self.inside.cover ≡ cover_in w = cover_tied c.self.inside.cover _ c.self.invariant refl refl ∙ ap cover_in c.self.view_is in
-    c.lacks_tag_to_add.ensures w.next_listener (ap (λ (v : Cover). is_registered v.listeners w.next_listener) same ∙ new_number w c.requires.steady.sound)
+    c.lacks_tag_to_add.ensures w.next_listener (ap (λ (v : Cover). is_registered v.listeners w.next_listener) same ∙ new_number w c.requires.sound)
     ∙ ap (λ (v : Cover). lacks_tag v (with_listener v.listeners w.next_listener (form c.args.query.now))) same
-    ∙ sym (c.tag_law.ensures.listen w seat c.args.query.now c.requires.steady.sound)
+    ∙ sym (c.tag_law.ensures.listen w seat c.args.query.now c.requires.sound)

@@ -14,4 +14,4 @@ returns c =
     let there : state.listeners.listeners ≡ w.listeners = ap (λ (v : World). v.listeners) c.self.view_is in
     c.lacks_tag_to_remove_chosen.ensures.exact
     ∙ (λ i. lacks_tag (same i) (without_chosen (λ n. list_any (λ (l : Listener). l.number == n && l.seat == c.args.seat) (there i)) (same i).listeners))
-    ∙ close_needs c.tag_law.ensures.close w c.args.seat c.requires.steady.sound
+    ∙ close_needs c.tag_law.ensures.close w c.args.seat c.requires.sound

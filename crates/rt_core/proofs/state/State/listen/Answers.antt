@@ -49,6 +49,6 @@ invariant_of-state c =
     c.in_ok-delta.delta delta
     c.send_change.new.outgoing.items c.in_ok-send_change.ensures said refl
     (c.in_ok-add.ensures.notes ∙ (λ i. c.new-notes.ensures.items i ++ option_to_list (told state.brought (pend i) (new_listener (state.given_listeners + 1) c.args.seat c.args.query)))) in
-    tied_next c.following_law.ensures.cover old s d.good.steady.sound c.cover_new.new.cover _
+    tied_next c.following_law.ensures.cover old s d.good.sound c.cover_new.new.cover _
     (covers ∙ added_is state.limits state.listeners.listeners state.requests state.brought state.cover state.is_connected state.outgoing.items state.given_listeners state.given_requests c.state.invariant c.args.seat c.args.query)
     made.world

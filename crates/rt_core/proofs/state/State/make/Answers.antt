@@ -3,7 +3,7 @@ use Rattle.rt_world.specs.declared.report.Outcome.TheVariants.{Done}
 use Rattle.rt_core.proofs.state.State.make.Goals as goal
 
 pub next-requires : goal.next-requires
-next-requires c = record { good = c.requires.good; not_refused = c.requires.not_refused; not_stale = sym c.is_stale.ensures ∙ c.if-is_stale.false }
+next-requires c = record { due = record { good = c.requires.good; not_refused = c.requires.not_refused; not_stale = sym c.is_stale.ensures ∙ c.if-is_stale.false } }
 
 pub returns-then-is_stale-clause-made : goal.returns-then-is_stale-clause-made
 returns-then-is_stale-clause-made c =

@@ -49,6 +49,6 @@ invariant_of-state c =
     c.uncover_revoked.new.cover c.in_ok-form.ensures.cover c.cancel.new.self.listeners c.in_ok-cancel.ensures.listeners c.lose.new.brought c.in_ok-lose.ensures
     c.in_ok-form.delta c.in_ok-form.ensures.delta c.send_change.new.outgoing.items c.in_ok-send_change.ensures said refl
     (c.in_ok-cancel.ensures.notes ∙ ap (λ ns. ns ++ ended) c.new-notes.ensures.items) in
-    tied_next c.following_law.ensures.cover old s d.good.steady.sound c.uncover_revoked.new.cover _
+    tied_next c.following_law.ensures.cover old s d.good.sound c.uncover_revoked.new.cover _
     (c.in_ok-form.ensures.cover ∙ revoked_is state.limits state.listeners.listeners state.requests state.brought state.cover state.is_connected state.outgoing.items state.given_listeners state.given_requests c.state.invariant c.args.tag c.args.why)
     made.world

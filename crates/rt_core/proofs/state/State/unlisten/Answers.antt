@@ -30,6 +30,6 @@ invariant_of-state c =
     c.listened_law.ensures.unlisten c.state.invariant c.args.seat c.args.listener d
     c.uncover.new.cover c.in_ok-delta.ensures.cover c.remove.new.self.listeners c.remove.ensures.listeners c.lose.new.brought c.in_ok-lose.ensures
     c.in_ok-delta.delta c.in_ok-delta.ensures.delta c.send_change.new.outgoing.items c.in_ok-send_change.ensures said refl c.new-notes.ensures.items in
-    tied_next c.following_law.ensures.cover old s d.good.steady.sound c.uncover.new.cover _
+    tied_next c.following_law.ensures.cover old s d.good.sound c.uncover.new.cover _
     (c.in_ok-delta.ensures.cover ∙ removed_is state.limits state.listeners.listeners state.requests state.brought state.cover state.is_connected state.outgoing.items state.given_listeners state.given_requests c.state.invariant c.args.seat c.args.listener)
     made.world

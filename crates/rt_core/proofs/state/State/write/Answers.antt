@@ -9,7 +9,7 @@ use Rattle.rt_core.proofs.NextWorlds.{along, or_left, tied_after, write_made}
 use Rattle.rt_core.proofs.state.State.write.Goals as goal
 
 pub add-requires-clause-above : goal.add-requires-clause-above
-add-requires-clause-above c = (subst (λ (v : World). IsDue v (Step.Write c.args.seat c.args.action)) (sym c.state.view_is) c.requires).good.steady.sound.unsettled
+add-requires-clause-above c = (subst (λ (v : World). IsDue v (Step.Write c.args.seat c.args.action)) (sym c.state.view_is) c.requires).good.sound.unsettled
 
 pub add-requires-clause-apart : goal.add-requires-clause-apart
 add-requires-clause-apart c = (c.refusal_law.ensures c.args.self (Step.Write c.args.seat c.args.action) c.requires.not_refused).overlap
