@@ -1,2 +1,5 @@
+mod Asked
+mod Clients
+mod Numbers
 mod Runs
 mod Written

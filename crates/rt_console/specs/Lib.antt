@@ -1,6 +1,9 @@
 -- What a reader must believe stands here; what only the code needs stands in inside/.
--- In reading order: Words (the command line), Run (a run over an input, whose lines are those of
--- rt_lines), Streams (what a reader and a writer count), Errors (why a run ends).
+-- In reading order: Commands and Words (the command line), Run (a run over an input, whose lines are
+-- those of rt_lines), Connections (what clients leave of a peer), Streams (what a reader and a writer
+-- count), Errors (why a run ends).
+pub mod Commands
+pub mod Connections
 pub mod Errors
 pub mod inside
 pub mod Run

@@ -4,14 +4,17 @@
 mod arguments;
 mod error;
 mod script;
+mod serve;
 mod stream;
 mod words;
 
 use error::ConsoleError;
+use serve::serve;
 use std::alloc::Global;
+use std::fmt::Display;
 use std::process::ExitCode;
 use stream::{Reading, Writing};
-use words::{PROGRAM, Work};
+use words::{PROGRAM, Serving, Work};
 
 // Runs the script of the standard input.
 fn run(rt: &HostRuntime, alloc: Global) -> Result<u64, ConsoleError> {
@@ -21,20 +24,33 @@ fn run(rt: &HostRuntime, alloc: Global) -> Result<u64, ConsoleError> {
 }
 
 // Says why the program ends, and answers the exit status of a fault.
-fn say_fault(rt: &HostRuntime, error: ConsoleError) -> u8 {
-    let _ = eprintln!(rt; "{PROGRAM}: {error}");
+fn say_fault<E: Display>(rt: &HostRuntime, fault: &E) -> u8 {
+    let _ = eprintln!(rt; "{PROGRAM}: {fault}");
     1
 }
 
-// Does the work, and answers the exit status: 1 where a fault or a bad line was printed.
-fn status_of_work(rt: &HostRuntime, work: Work) -> u8 {
-    let outcome = match work {
-        Work::Script => run(rt, rt.alloc()),
-    };
-    match outcome {
+// Runs the script, and answers the exit status: 1 where a fault or a bad line was printed.
+fn status_of_script(rt: &HostRuntime) -> u8 {
+    match run(rt, rt.alloc()) {
         Ok(0) => 0,
         Ok(_) => 1,
-        Err(error) => say_fault(rt, error),
+        Err(error) => say_fault(rt, &error),
+    }
+}
+
+// Serves a peer, and answers the exit status.
+fn status_of_serving(rt: &HostRuntime, serving: Serving) -> u8 {
+    match serve(rt, rt.alloc(), serving) {
+        Ok(_) => 0,
+        Err(fault) => say_fault(rt, &fault),
+    }
+}
+
+// Does the work, and answers the exit status.
+fn status_of_work(rt: &HostRuntime, work: Work) -> u8 {
+    match work {
+        Work::Script => status_of_script(rt),
+        Work::Serve(serving) => status_of_serving(rt, serving),
     }
 }
 
@@ -43,7 +59,7 @@ fn status_of_words(rt: &HostRuntime, words: &[String]) -> u8 {
     match words::read_words(rt.alloc(), words) {
         Ok(work) => status_of_work(rt, work),
         Err(ConsoleError::BadWords) => words::explain(rt, rt.alloc(), words),
-        Err(error) => say_fault(rt, error),
+        Err(error) => say_fault(rt, &error),
     }
 }
 

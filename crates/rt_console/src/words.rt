@@ -1,13 +1,20 @@
 // The command line.
-ghost use Rattle.std.specs.Prelude.{◌≡◌, ◌≢◌, ◌⊎◌, [], map, codes, false, IfOk, IfErr, OnOk};
-ghost use Rattle.clap.specs.Words.{app_of, new_app, FailsBy};
+ghost use Rattle.std.specs.Prelude.{◌≡◌, ◌≢◌, ◌⊎◌, [], map, codes, false, Some, option_map};
+ghost use Rattle.std.specs.Prelude.{IfOk, IfErr, OnOk};
+ghost use Rattle.clap.specs.Words.{app_of, new_app, FailsBy, first_of, found_of, one_of, rows_of};
+ghost use Rattle.clap.specs.Words.{rule_of, subcommand_rows_of};
 ghost use Rattle.clap.specs.Values.{kind_of};
 ghost use Rattle.clap.specs.declared.builder.command.Command.TheViews.{out-Command as fields_of};
-ghost use Rattle.rt_console.specs.Words.{base_app, console_app, faults_of, IsExplained, status_of};
+ghost use Rattle.rt_console.specs.Commands.{base_app, console_app, count_rule, deny_rule, port_rule};
+ghost use Rattle.rt_console.specs.Commands.{serve_app, tree_rule, whole};
+ghost use Rattle.rt_console.specs.Words.{asked, denied_of, faults_of, Gives, IsExplained, number_of};
+ghost use Rattle.rt_console.specs.Words.{serving_of, status_of, tree_of, work_of};
 
 use crate::error::ConsoleError;
+use clap::builder::ValueParser;
 use clap::error::ErrorKind;
-use clap::{ArgMatches, Command, Error};
+use clap::{Arg, ArgMatches, Command, Error, value_parser};
+use rt_tree::{Path, Tree, TreeError};
 use std::alloc::{AllocError, Global};
 use std::convert::AsStr;
 
@@ -51,11 +58,39 @@ A line that can't be made prints why: 'refused LAYER CODE NAME'.
 A line that is none of these prints 'bad line N', and the run goes on.
 Exit status: 0 done; 1 a fault, or a bad line was printed; 2 a bad command line.";
 
+const SERVE: &str = "\
+Serves clients that connect over WebSockets, one after the other, and keeps what they write in one tree";
+
+const MESSAGES: &str = "\
+A client connects to ws://127.0.0.1:PORT/ and sends text messages, each a JSON object, as
+  {\"k\":\"listen\",\"path\":\"/a\",\"tag\":1}
+  {\"k\":\"put\",\"id\":1,\"path\":\"/a\",\"value\":5}
+The next client comes in when it goes, and finds what was written. Nothing is printed.
+Write JSON that begins with '-' as --tree=JSON.
+Exit status: 0 once N clients came and went; 1 a fault, such as a port that is taken; 2 a bad command line.
+
+Example: kaltewi serve 8080 --count 2 --tree '{\"a\":1}' --deny /secret";
+
+/// What `serve` is to do.
+#[derive(Debug, Drop)]
+pub struct Serving {
+    /// The port of 127.0.0.1.
+    pub port: u16,
+    /// How many connections are served.
+    pub count: u16,
+    /// The first tree.
+    pub tree: Tree,
+    /// The path that is denied, if any is.
+    pub denied: Option<Path>,
+}
+
 /// What the command line asks for.
-#[derive(Clone, Copy, Debug, PartialEq, Eq)]
+#[derive(Debug, Drop)]
 pub enum Work {
     /// Run the script of the standard input.
     Script,
+    /// Serve the peer.
+    Serve(Serving),
 }
 
 // `script`
@@ -66,6 +101,72 @@ fn script_command<'a>(alloc: Global) -> Command<'a>
     Command::new(alloc, "script")
         .about(SCRIPT)
         .after_help(LINES)
+}
+
+// A whole number from 1 to 65,535.
+fn whole_number<'a>() -> ValueParser<'a>
+    ensures { result ≡ whole }
+{
+    value_parser!(u16).range(1..)
+}
+
+// `PORT`
+fn port_arg<'a>(alloc: Global) -> Arg<'a>
+    ensures rule { rule_of result ≡ port_rule }
+    ensures local { result.global ≡ false }
+{
+    Arg::new(alloc, "PORT")
+        .help("The port of 127.0.0.1, from 1 to 65535")
+        .required(true)
+        .value_parser(whole_number())
+}
+
+// `--count N`
+fn count_arg<'a>(alloc: Global) -> Arg<'a>
+    ensures rule { rule_of result ≡ count_rule }
+    ensures local { result.global ≡ false }
+{
+    Arg::new(alloc, "count")
+        .long("count")
+        .value_name("N")
+        .help("How many connections are served, from 1 to 65535")
+        .default_value("1")
+        .value_parser(whole_number())
+}
+
+// `--tree JSON`
+fn tree_arg<'a>(alloc: Global) -> Arg<'a>
+    ensures rule { rule_of result ≡ tree_rule }
+    ensures local { result.global ≡ false }
+{
+    Arg::new(alloc, "tree").long("tree").value_name("JSON").help(
+        "The tree before the first connection; null where it is left out",
+    )
+}
+
+// `--deny PATH`
+fn deny_arg<'a>(alloc: Global) -> Arg<'a>
+    ensures rule { rule_of result ≡ deny_rule }
+    ensures local { result.global ≡ false }
+{
+    Arg::new(alloc, "deny").long("deny").value_name("PATH").help(
+        "A path that can't be listened to, nor written, nor any above or below it",
+    )
+}
+
+// `serve`
+fn serve_command<'a>(alloc: Global) -> Result<Command<'a>, AllocError>
+    ensures app { IfOk result (λ command. app_of command ≡ serve_app) }
+    ensures local { IfOk result (λ command. (fields_of command).has_globals ≡ false) }
+{
+    let command = Command::new(alloc, "serve")
+        .about(SERVE)
+        .after_help(MESSAGES)
+        .arg(port_arg(alloc))?
+        .arg(count_arg(alloc))?
+        .arg(tree_arg(alloc))?
+        .arg(deny_arg(alloc))?;
+    Ok(command)
 }
 
 // The program, with no subcommand yet.
@@ -86,27 +187,100 @@ fn console_command<'a>(alloc: Global) -> Result<Command<'a>, AllocError>
     ensures { IfOk result (λ command. app_of command ≡ console_app) }
 {
     let base = base_command(alloc)?;
-    let command = base.subcommand(script_command(alloc))?;
+    let serve = serve_command(alloc)?;
+    let command = base.subcommand(script_command(alloc))?.subcommand(serve)?;
     Ok(command)
 }
 
-// The work that the words name. The command takes no other subcommand.
-fn work_of(_matches: &ArgMatches<'_>) -> Work {
-    Work::Script
+// The error of a value that `rt_tree` refuses, in clap's own form.
+fn refused(alloc: Global, option: &str, text: &str, why: TreeError) -> Result<Error, AllocError>
+    ensures { IfOk result (λ error. kind_of error ≡ ErrorKind.ValueValidation) }
+{
+    let message = format!(in alloc; "invalid value '{text}' for '{option}': {why}")?;
+    let mut command = serve_command(alloc)?.bin_name("kaltewi serve")?;
+    command.error(ErrorKind::ValueValidation, message.as_str())
 }
 
-// Reads the words behind the program's name, with clap's own error.
+// The number of that name. clap has read it, so there is one, and it is not 0.
+fn number(entries: &ArgMatches<'_>, name: &str) -> u16
+    ensures { result ≡ number_of (one_of name.now (rows_of (found_of entries.now))) }
+{
+    entries.get_one::<u16>(name).unwrap_or(0)
+}
+
+// The text of that name, if there is one.
+fn text<'a>(entries: &ArgMatches<'a>, name: &str) -> Option<&'a str>
+    ensures { option_map (λ t. t.now) result ≡ first_of name.now (rows_of (found_of entries.now)) }
+{
+    entries.get_str(name)
+}
+
+// The tree of a text; null where there is none.
+fn read_tree(alloc: Global, text: Option<&str>) -> Result<Tree, Error>
+    ensures { Gives (tree_of (option_map (λ t. t.now) text.entry)) result }
+{
+    let Some(text) = text else {
+        return Ok(Tree::null());
+    };
+    match Tree::read(alloc, text) {
+        Ok(tree) => Ok(tree),
+        Err(TreeError::NoMemory) => Err(Error::from(AllocError)),
+        Err(why) => Err(refused(alloc, "--tree <JSON>", text, why)?),
+    }
+}
+
+// The path of a text, if there is one.
+fn read_denied(alloc: Global, text: Option<&str>) -> Result<Option<Path>, Error>
+    ensures { Gives (denied_of (option_map (λ t. t.now) text.entry)) result }
+{
+    let Some(text) = text else {
+        return Ok(None);
+    };
+    match Path::parse(alloc, text) {
+        Ok(path) => Ok(Some(path)),
+        Err(TreeError::NoMemory) => Err(Error::from(AllocError)),
+        Err(why) => Err(refused(alloc, "--deny <PATH>", text, why)?),
+    }
+}
+
+// What the entries of `serve` ask for.
+fn read_serving(alloc: Global, entries: &ArgMatches<'_>) -> Result<Serving, Error>
+    ensures { Gives (serving_of (rows_of (found_of entries.now))) result }
+{
+    let tree = read_tree(alloc, text(entries, "tree"))?;
+    let denied = read_denied(alloc, text(entries, "deny"))?;
+    Ok(Serving {
+        port: number(entries, "PORT"),
+        count: number(entries, "count"),
+        tree,
+        denied,
+    })
+}
+
+// The work that the subcommand names. There is none but `serve` and `script`.
+fn read_work(alloc: Global, matches: &ArgMatches<'_>) -> Result<Work, Error>
+    ensures { Gives (work_of (subcommand_rows_of matches.now)) result }
+{
+    match matches.subcommand_matches("serve") {
+        Some(entries) => Ok(Work::Serve(read_serving(alloc, entries)?)),
+        None => Ok(Work::Script),
+    }
+}
+
+// Reads the words behind the program's name, with an error in clap's form.
 fn command_line<'a, S: AsStr>(alloc: Global, words: &'a [S]) -> Result<Work, Error>
-    ensures { FailsBy (faults_of (map S.text words.entry.now)) result }
+    ensures fails { FailsBy (faults_of (map S.text words.entry.now)) result }
+    ensures work { IfOk result (λ work. asked (map S.text words.entry.now) ≡ Some work) }
 {
     let command = console_command(alloc)?;
     let matches = command.try_get_matches_from(words)?;
-    Ok(work_of(&matches))
+    read_work(alloc, &matches)
 }
 
 /// Reads the words behind the program's name.
 pub fn read_words<'a, S: AsStr>(alloc: Global, words: &'a [S]) -> Result<Work, ConsoleError>
     ensures ok { OnOk result (faults_of (map S.text words.entry.now) ≡ []) }
+    ensures work { IfOk result (λ work. asked (map S.text words.entry.now) ≡ Some work) }
     ensures fault { IfErr result (λ e.
         (e ≡ ConsoleError.NoMemory)
         ⊎ ((e ≡ ConsoleError.BadWords) × (faults_of (map S.text words.entry.now) ≢ []))) }
@@ -149,7 +323,7 @@ pub(crate) fn explain<'a, R: Print + Eprint, S: AsStr>(rt: &R, alloc: Global, wo
     ensures { IsExplained (faults_of (map S.text words.entry.now)) result }
 {
     match command_line(alloc, words) {
-        Ok(Work::Script) => 0,
+        Ok(Work::Script | Work::Serve(_)) => 0,
         Err(error) => print_error(rt, &error),
     }
 }

@@ -1,0 +1,60 @@
+-- What clients that come one after another leave of a peer.
+use Rattle.std.specs.Prelude.{◌≡◌, ◌≤◌, ℕ, suc, Bool, true, ⊤, List, [], ◌∷◌, length, Option, Some, None, Result, Ok, Err}
+use Rattle.std.specs.List.{AllByRecursion, fold}
+use Rattle.rt_tree.specs.PathTree.{Path}
+use Rattle.rt_peer.specs.Peers.{Peer, least_free}
+use Rattle.rt_peer.specs.Runs.{after_all}
+use Rattle.rt_serve.specs.Sessions.{session}
+use Rattle.rt_serve.specs.declared.serve.TheConstants.{MAX_MESSAGES}
+use Rattle.rt_console.specs.declared.serve.ServeFault.{ServeFault}
+use Rattle.rt_console.specs.declared.serve.ServeFault.TheVariants.{NotBound, NotAccepted, NoMemory}
+
+-- ---- the peer
+
+-- the denied paths
+abbrev pub listed : Option Path → List Path
+listed None = []
+listed (Some path) = path ∷ []
+
+-- the texts of a client, as many as are taken
+abbrev pub IsTaken : List (List ℕ) → Type 0
+IsTaken texts = length texts ≤ MAX_MESSAGES
+
+-- the peer after a client: a connection with the least free number, its texts, and its end
+abbrev pub after_client : Peer → List (List ℕ) → Peer
+after_client p texts = after_all p (session (least_free p.connections) texts)
+
+-- q is p after clients one after another, of whom there were at most so many: as many came, and those
+-- with whom no handshake came about left no trace
+abbrev pub Serves : ℕ → Peer → Option Peer → Type 0
+Serves most p q =
+    (clients : List (List (List ℕ))) × (length clients ≤ most) × AllByRecursion IsTaken clients
+    × (q ≡ Some (fold after_client p clients))
+
+-- ---- streams
+
+-- one stream less is left where one was given, and none where there is no next
+abbrev pub CountsDown : {S E : Type 0} → Option (Result S E) → ℕ → ℕ → Type 0
+CountsDown None old new = (old ≡ 0) × (new ≡ 0)
+CountsDown (Some (Ok stream)) old new = old ≡ suc new
+CountsDown (Some (Err why)) old new = new ≡ old
+
+-- it has failed where a stream could not be given
+abbrev pub Fails : {S E : Type 0} → Option (Result S E) → Bool → Bool → Type 0
+Fails None old new = new ≡ old
+Fails (Some (Ok stream)) old new = new ≡ old
+Fails (Some (Err why)) old new = new ≡ true
+
+-- ---- faults
+
+-- a fault of that port, or want of memory
+abbrev pub NamesPort : ℕ → ServeFault → Type 0
+NamesPort port (NotBound p why) = p ≡ port
+NamesPort port (NotAccepted p why) = p ≡ port
+NamesPort port NoMemory = ⊤
+
+-- serving stops where no client can be accepted, or for want of memory
+abbrev pub Stops : ℕ → ServeFault → Bool → Bool → Type 0
+Stops port (NotBound p why) old new = ⊥
+Stops port (NotAccepted p why) old new = (p ≡ port) × (new ≡ true)
+Stops port NoMemory old new = new ≡ old
