@@ -16,7 +16,7 @@ use Rattle.std.proofs.lemmas.List.Elements.{All-head, All-tail, All-filter, All-
 use Rattle.rt_tree.specs.declared.limits.TheConstants.{MAX_LEVELS, MAX_KEYS}
 use Rattle.rt_tree.specs.Leaf.{LeafValue}
 use Rattle.rt_tree.specs.Path.{IsPath}
-use Rattle.rt_tree.specs.PathTree.{Path, PathTree, strip, length-strip, shown, leaf_at}
+use Rattle.rt_tree.specs.PathTree.{Key, Path, PathTree, strip, strip-append, length-strip, shown, leaf_at}
 use Rattle.rt_tree.specs.PathTree.{leaf_at-sub, leaf_at-put, leaf_at-children_alone}
 use Rattle.rt_tree.specs.PathTree.{leaf_of-children_alone, after_put, is_null, sub, put, children_alone}
 use Rattle.rt_tree.specs.PathTree.{levels, levels_le, length_lt_levels}
@@ -25,7 +25,8 @@ use Rattle.rt_query.specs.Queries.{Query, plain, is_filtered}
 use Rattle.rt_query.specs.Supply.{form}
 use Rattle.rt_cache.specs.QueryOrder.{query_cmp}
 use Rattle.rt_cache.specs.Brought.{Window, Brought, Base, region_part, region_put, window_of}
-use Rattle.rt_cache.specs.Brought.{window_pushed, windows_pushed, push_plain, push, base}
+use Rattle.rt_cache.specs.Brought.{window_pushed, windows_pushed, push_plain, push, base, base_child}
+use Rattle.rt_cache.specs.Brought.{child_base}
 use Rattle.rt_cache.specs.Canonical.{FitsLevels}
 use Rattle.rt_cache.specs.Recover.{reaches, part_for, parts_of, regions_kept, window_left, window_kept}
 use Rattle.rt_cache.specs.Recover.{in_query_order, recover}
@@ -199,6 +200,18 @@ base_fits b q short h =
     window (Some w) e = e
 
 -- ---- pushes
+
+-- and of one child of it
+pub base_child_fits : (b : Brought) (q : Query) (k : Key) → length q.path ≤ MAX_KEYS → FitsLevels b
+    → IfSome (base_child b q k) (λ x. length (q.path ++ k ∷ []) + levels x.tree ≤ MAX_LEVELS)
+base_child_fits b q k short h = at (base b q) (base_fits b q short h)
+  where
+    at : (o : Option Base) → IfSome o (λ x. length q.path + levels x.tree ≤ MAX_LEVELS)
+        → IfSome (option_map (child_base k) o) (λ x. length (q.path ++ k ∷ []) + levels x.tree ≤ MAX_LEVELS)
+    at None f = f
+    at (Some x) f =
+        part_fits q.path (q.path ++ k ∷ []) (k ∷ []) x.tree (strip-append q.path (k ∷ []))
+        (omega (arith, length-append q.path (k ∷ []), short)) f
 
 region_put_fits : (a : Assignment) (r : Path × PathTree) → Fits a.0 a.1 → RegionFits r
     → RegionFits (region_put a r)

@@ -1,6 +1,6 @@
 // What the listens brought.
 ghost use Rattle.std.specs.Prelude.{◌≡◌, ◌+◌, ◌≤◌, T, true, false, not, length, IfOk, IfSome};
-ghost use Rattle.std.specs.Prelude.{OnOk, OnErr};
+ghost use Rattle.std.specs.Prelude.{◌++◌, ◌∷◌, [], OnOk, OnErr};
 ghost use Rattle.std.specs.FinMap as map_of;
 ghost use Rattle.rt_tree.specs.PathTree.{PathTree, path_cmp, levels};
 ghost use Rattle.rt_tree.specs.Assignments.{is_at_or_above, have_overlap};
@@ -170,11 +170,16 @@ impl Brought {
     }
 
     /// [`Brought::base`] with one child of the tree in its place, null where there is none. It
-    /// copies that child alone, and so costs by the path and that child.
+    /// copies that child alone, and so costs by the path and that child. It is no deeper than a tree
+    /// at the child's path may be.
     pub fn base_child(&self, query: &Query, key: &Key) -> Result<Option<Base>, AllocError>
-        ensures { IfOk result (λ found. found ≡ base_child self.now query.now key.now) }
+        ensures found { IfOk result (λ found. found ≡ base_child self.now query.now key.now) }
+        ensures shallow { IfOk result (λ found. IfSome found (λ base.
+            length (query.now.path ++ key.now ∷ []) + levels base.tree ≤ MAX_LEVELS)) }
     {
         let alloc = self.allocator();
+        // For the prover: so long are paths at most.
+        let _ = query.path().keys();
         if let Some(place) = regions::place_above(&self.regions, query.path()) {
             let tree = regions::child_at(alloc, &self.regions[place], query.path(), key)?;
             return Ok(Some(Base { tree, whole: true }));

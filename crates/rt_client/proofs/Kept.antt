@@ -1,7 +1,8 @@
 -- What the lock keeps is kept.
-use Rattle.std.proofs.Common.{◌≡◌, ℕ, zero, suc, Bool, true, false, cond, ◌==◌, List, [], ◌∷◌, ◌++◌, take, drop, refl, sym, ap, subst, ◌∙◌, Option, Some, None, Ok, Err}
+use Rattle.std.proofs.Common.{◌≡◌, ℕ, zero, suc, Bool, true, false, cond, ◌==◌, List, [], ◌∷◌, ◌++◌, take, drop, refl, sym, ap, subst, ◌∙◌, replicate, Option, Some, None, Ok, Err}
 use Rattle.std.specs.Option.{option_map, option_map_or}
 use Rattle.rt_world.specs.declared.error.CoreError.{CoreError}
+use Rattle.rt_world.specs.declared.limits.Limits.{Limits}
 use Rattle.rt_world.specs.declared.step.Step.{Step}
 use Rattle.rt_world.specs.World.{World, empty_world}
 use Rattle.rt_world.specs.Refusals.{refusal, is_stale}
@@ -14,8 +15,8 @@ use Rattle.rt_mail.specs.declared.receipt.Receipt.{Receipt}
 use Rattle.rt_mail.specs.Mailbox.{Known, taken, known_of}
 use Rattle.rt_mail.specs.Lanes.{Line, without_first}
 use Rattle.rt_client.specs.Seats.{reflection, told_to, told_by, receipt_of, does_close}
-use Rattle.rt_client.specs.Lanes.{lane_of, with_told}
-use Rattle.rt_client.specs.Shared.{foreseen, AreTold, Held, IsKept, signed_by, lane_after, MakesStep}
+use Rattle.rt_client.specs.Lanes.{new_lane, lane_of, with_told}
+use Rattle.rt_client.specs.Shared.{foreseen, AreTold, IsKept, signed_by, lane_after}
 use Rattle.rt_client.specs.laws.Keeping.{StepKeeps, NewIsKept, HandingKeeps}
 use Rattle.rt_client.specs.laws.Reflecting.{StepReflects}
 use Rattle.rt_client.proofs.Mirrored.{sound_by}
@@ -119,3 +120,14 @@ handing_keeps w old new told hands seat lane e =
     found (Some l) is h =
         let same : without_first (hands seat).0 l ≡ lane = cc in
         ap foreseen (sym same) ∙ foreseen_handed (hands seat).0 l ∙ told seat l is
+
+-- ---- a client that is opened
+
+lanes_new : (n seat : ℕ) (lane : Line) → lane_of (replicate n (Some new_lane)) seat ≡ Some lane → lane ≡ new_lane
+lanes_new n zero lane e = cc
+lanes_new zero (suc place) lane e = cc
+lanes_new (suc n) (suc zero) lane e = cc
+lanes_new (suc n) (suc (suc place)) lane e = lanes_new n (suc place) lane e
+
+pub opened_is_kept : NewIsKept → (limits : Limits) (n : ℕ) → IsKept (record { core = Some (empty_world limits); lanes = replicate n (Some new_lane) })
+opened_is_kept new limits n = new limits (replicate n (Some new_lane)) (lanes_new n)

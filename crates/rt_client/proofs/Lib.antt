@@ -1,10 +1,13 @@
 pub mod Allowed
 pub mod Batches
+pub mod Called
 pub mod Filters
 pub mod Kept
 pub mod Mirrored
 pub mod Noted
 pub mod Numbers
 pub mod Reflects
+pub mod Seated
 pub mod Slots
+pub mod Steps
 pub mod Texts

@@ -1,6 +1,5 @@
 -- Lanes at their places.
-use Rattle.std.proofs.Common.{◌≡◌, ℕ, zero, suc, ◌+◌, ◌-◌, ◌<◌, ◌≤◌, Bool, true, false, cond, ◌==◌, List, [], ◌∷◌, ◌++◌, length, take, drop, set, get_or, refl, sym, ap, subst, ◌∙◌, arith, append-nil, append_assoc, Option, Some, None, Ok, Err, Result, OnOk, IfErr}
-use mathlib.Core.Bool.{true≢false}
+use Rattle.std.proofs.Common.{◌≡◌, ℕ, zero, suc, ◌-◌, ◌<◌, ◌≤◌, true, false, cond, ◌==◌, List, [], ◌∷◌, ◌++◌, length, take, drop, set, get_or, refl, sym, ap, subst, ◌∙◌, arith, append-nil, append_assoc, Option, Some, None, Ok, Err, Result, OnOk, IfErr}
 use Rattle.std.specs.List.{cons_option, slice_get}
 use Rattle.std.specs.Option.{option_map}
 use Rattle.rt_world.specs.declared.report.Note.{Note}
@@ -9,7 +8,7 @@ use Rattle.rt_mail.specs.declared.item.Item.{Item}
 use Rattle.rt_mail.specs.Lanes.{Line, with_waiting, why_not}
 use Rattle.rt_client.specs.Seats.{item_of, told_to}
 use Rattle.rt_client.specs.Lanes.{lane_of, with_told, AreQueued, StopsAt, IsChanged}
-use Rattle.rt_client.proofs.Numbers.{same_number, other_number, apart}
+use Rattle.rt_client.proofs.Numbers.{same_number, apart}
 use Rattle.rt_client.proofs.Reflects.{told_to-append}
 
 abbrev pub Lines : Type 0
@@ -111,7 +110,7 @@ told_one seat note o =
     ]
 
 -- the note's seat's lane as it is changed, whichever seat is asked
-at_seat : (xs : Lines) (seat n : ℕ) (f : Option Line → Option Line) → cond (seat == n) (f (lane_of xs seat)) (lane_of xs n) ≡ cond (seat == n) (f (lane_of xs n)) (lane_of xs n)
+pub at_seat : (xs : Lines) (seat n : ℕ) (f : Option Line → Option Line) → cond (seat == n) (f (lane_of xs seat)) (lane_of xs n) ≡ cond (seat == n) (f (lane_of xs n)) (lane_of xs n)
 at_seat xs seat n f =
     elim (seat == n) as (λ b. (seat == n) ≡ b → cond b (f (lane_of xs seat)) (lane_of xs n) ≡ cond b (f (lane_of xs n)) (lane_of xs n)) [
       | true ↦ λ e. ap (λ m. f (lane_of xs m)) (same_number seat n e)

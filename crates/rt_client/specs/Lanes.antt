@@ -1,13 +1,20 @@
 -- The lanes of a client's seats.
 use Rattle.std.specs.Prelude.{◌≡◌, ℕ, zero, suc, min, length, take, ◌++◌, List, if◌then◌else◌, ◌==◌}
-use Rattle.std.specs.Prelude.{Option, Some, None}
+use Rattle.std.specs.Prelude.{[], ◌∷◌, ◌<◌, Option, Some, None}
 use Rattle.std.specs.List.{slice_get}
-use Rattle.std.specs.Option.{option_map, option_map_or, option_and_then}
+use Rattle.std.specs.Option.{option_map, option_and_then}
 use Rattle.rt_world.specs.declared.report.Note.{Note}
 use Rattle.rt_mail.specs.declared.error.MailError.{MailError}
 use Rattle.rt_mail.specs.declared.item.Item.{Item}
+use Rattle.rt_mail.specs.declared.item.Item.TheVariants as item
+use Rattle.rt_mail.specs.declared.receipt.Receipt.{Receipt}
+use Rattle.rt_mail.specs.Mailbox.{nothing_known}
 use Rattle.rt_mail.specs.Lanes.{Line, Ring, room, with_items, without_first, why_not, Refuses}
 use Rattle.rt_client.specs.Seats.{told_to}
+
+-- nothing waits in a lane, and nothing was handed over
+abbrev pub new_lane : Line
+new_lane = record { waiting = []; mirror = Some nothing_known }
 
 -- the lane of a seat; none where no seat has that number, or it is closed
 abbrev pub lane_of : List (Option Line) → ℕ → Option Line
@@ -49,8 +56,17 @@ settled ring lane = without_first (due ring lane) lane
 abbrev pub settled_ring : Ring → Line → Ring
 settled_ring ring lane = with_items (take (due ring lane) lane.waiting) ring
 
+-- the lane is open, and the ring has room for all that waits and one more
+abbrev pub HasRoom : Ring → Option Line → Type 0
+HasRoom ring None = ⊥
+HasRoom ring (Some lane) = length lane.waiting < room ring
+
+-- the ring to which all that waits was handed over, and then a receipt
+abbrev pub signed_ring : Receipt → Ring → Line → Ring
+signed_ring receipt ring lane = with_items (lane.waiting ++ item.Receipt receipt ∷ []) ring
+
 -- a lane that is open refuses to hand over, and no other changes
-pub record RefusesToSettle (seat : ℕ) (old : List (Option Line)) (old_ring : Ring) (why : MailError) (new : List (Option Line)) (new_ring : Ring) : Type 0 where
+pub record RefusesToHand (seat : ℕ) (old : List (Option Line)) (old_ring : Ring) (why : MailError) (new : List (Option Line)) (new_ring : Ring) : Type 0 where
   pub lane : Line
   pub left : Line
   pub is_open : lane_of old seat ≡ Some lane

@@ -4,11 +4,17 @@
 --     Seats       what the core knows of a seat, and what a step tells it
 --     Lanes       the lanes of a client's seats
 --     Shared      what a client's lock keeps, and what a step makes of it
+--     Calls       what calls make of it and of the caller's seat
+--     Opened      a client as it is opened, and its seats
 -- laws/ has that what a seat is told keeps it up to date (Reflecting), that what the lock keeps is kept
--- (Keeping), and what the prover computes of literals (Examples, Telling).
+-- (Keeping), and what the prover computes of literals (Examples, Telling);
+-- inside/ what only the code's own functions need.
+pub mod Calls
 pub mod Codes
+pub mod inside
 pub mod Lanes
 pub mod laws
+pub mod Opened
 pub mod PushKeys
 pub mod Seats
 pub mod Shared

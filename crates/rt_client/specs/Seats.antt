@@ -62,6 +62,21 @@ receipt_of w Step.Connected = None
 receipt_of w Step.Disconnected = None
 receipt_of w (Step.CloseSeat seat) = None
 
+-- the seat whose call the step is, if it is one
+abbrev pub caller_of : Step → Option ℕ
+caller_of (Step.Listen seat query) = Some seat
+caller_of (Step.Unlisten seat listener) = Some seat
+caller_of (Step.Write seat action) = Some seat
+caller_of (Step.OnDisconnect seat ending) = Some seat
+caller_of (Step.Data tag path tree) = None
+caller_of (Step.DataMerge tag entries) = None
+caller_of (Step.Accepted id) = None
+caller_of (Step.Refused id why) = None
+caller_of (Step.Revoked tag why) = None
+caller_of Step.Connected = None
+caller_of Step.Disconnected = None
+caller_of (Step.CloseSeat seat) = None
+
 -- the receipt for a seat, where the step is its call
 abbrev pub receipts_to : ℕ → World → Step → List Item
 receipts_to seat w s =

@@ -1,13 +1,15 @@
 // The lanes of a client's seats.
-ghost use Rattle.std.specs.Prelude.{◌≡◌, OnOk, IfErr, Some, None};
+ghost use Rattle.std.specs.Prelude.{◌≡◌, ◌↔◌, OnOk, IfOk, IfErr, IsTrue, Some, None, is_some};
+ghost use Rattle.std.specs.Prelude.{replicate};
 ghost use Rattle.std.specs.Option.{option_map, option_map_or};
-ghost use Rattle.rt_mail.specs.Lanes.{Line, why_not, with_waiting, Refuses};
+ghost use Rattle.rt_mail.specs.Lanes.{Line, why_not, with_waiting, signed_lane, Refuses};
 ghost use Rattle.rt_client.specs.Seats.{item_of};
-ghost use Rattle.rt_client.specs.Lanes.{lane_of, AreQueued, StopsAt, IsChanged};
-ghost use Rattle.rt_client.specs.Lanes.{settled, settled_ring, RefusesToSettle};
+ghost use Rattle.rt_client.specs.Lanes.{new_lane, lane_of, AreQueued, StopsAt, IsChanged, HasRoom};
+ghost use Rattle.rt_client.specs.Lanes.{settled, settled_ring, signed_ring, RefusesToHand};
 
-use rt_mail::{Inbox, Item, Lane, MailError, Unqueued};
+use rt_mail::{Inbox, Item, Lane, MailError, Receipt, Unqueued};
 use rt_world::{Body, Note, Notes};
+use std::alloc::{AllocError, Global};
 use std::marker::Model;
 
 // The lanes of a client's seats, that of the first seat first; none where the seat is closed.
@@ -102,13 +104,74 @@ fn settle_at(lanes: &mut Vec<Option<Lane>>, seat: u64, inbox: &mut Inbox) -> Res
         lanes.old.items lanes.new.items) }
     ensures ring { OnOk result (inbox.new
         ≡ option_map_or (settled_ring inbox.old) (lane_of lanes.old.items seat) inbox.old) }
-    ensures refused { IfErr result (λ e. RefusesToSettle seat lanes.old.items inbox.old e
+    ensures refused { IfErr result (λ e. RefusesToHand seat lanes.old.items inbox.old e
         lanes.new.items inbox.new) }
 {
     if seat == 0 || (seat - 1) as usize >= lanes.len() {
         return Ok(());
     }
     settle_in(&mut lanes[(seat - 1) as usize], inbox)
+}
+
+// The lane hands over all that waits and then a receipt, if it is open.
+fn sign_in(lane: &mut Option<Lane>, inbox: &mut Inbox, receipt: Receipt) -> Result<(), MailError>
+    requires { HasRoom inbox.old lane.old }
+    ensures lane { OnOk result (lane.new ≡ option_map (signed_lane receipt) lane.old) }
+    ensures ring { OnOk result (inbox.new
+        ≡ option_map_or (signed_ring receipt inbox.old) lane.old inbox.old) }
+    ensures refused { IfErr result (λ e. (l m : Line) × (lane.old ≡ Some l) × (lane.new ≡ Some m)
+        × Refuses l inbox.old e m inbox.new) }
+{
+    match lane {
+        Some(lane) => lane.sign(inbox, receipt),
+        None => {
+            drop(receipt);
+            Ok(())
+        }
+    }
+}
+
+// The seat's lane hands over all that waits and then a receipt, if it is open.
+fn sign_at(
+    lanes: &mut Vec<Option<Lane>>,
+    seat: u64,
+    inbox: &mut Inbox,
+    receipt: Receipt,
+) -> Result<(), MailError>
+    requires { HasRoom inbox.old (lane_of lanes.old.items seat) }
+    ensures lane { OnOk result (IsChanged seat
+        (option_map (signed_lane receipt) (lane_of lanes.old.items seat)) lanes.old.items lanes.new.items) }
+    ensures ring { OnOk result (inbox.new
+        ≡ option_map_or (signed_ring receipt inbox.old) (lane_of lanes.old.items seat) inbox.old) }
+    ensures refused { IfErr result (λ e. RefusesToHand seat lanes.old.items inbox.old e
+        lanes.new.items inbox.new) }
+{
+    if seat == 0 || (seat - 1) as usize >= lanes.len() {
+        drop(receipt);
+        return Ok(());
+    }
+    sign_in(&mut lanes[(seat - 1) as usize], inbox, receipt)
+}
+
+// The seat's lane, if it is open.
+fn lane_at(lanes: &[Option<Lane>], seat: u64) -> Option<&Lane>
+    ensures { option_map (λ l. l.now) result ≡ lane_of lanes.now seat }
+{
+    if seat == 0 || (seat - 1) as usize >= lanes.len() {
+        return None;
+    }
+    lanes[(seat - 1) as usize].as_ref()
+}
+
+// So many lanes in which nothing waits.
+fn new_lanes(alloc: Global, seats: usize) -> Result<Vec<Option<Lane>>, AllocError>
+    ensures { IfOk result (λ lanes. lanes.items ≡ replicate seats (Some new_lane)) }
+{
+    let mut lanes = Vec::with_capacity(alloc, seats)?;
+    for seat in 0..seats {
+        lanes.push_reserved(Some(Lane::new(alloc)));
+    }
+    Ok(lanes)
 }
 
 // Drops the seat's lane, if it is open.
@@ -125,6 +188,31 @@ fn close_at(lanes: &mut Vec<Option<Lane>>, seat: u64)
 }
 
 impl Lanes {
+    // A lane for each of so many seats, in which nothing waits.
+    pub(crate) fn open(alloc: Global, seats: usize) -> Result<Lanes, AllocError>
+        ensures { IfOk result (λ lanes. lanes ≡ replicate seats (Some new_lane)) }
+    {
+        let lanes = new_lanes(alloc, seats)?;
+        Ok(Lanes { lanes })
+    }
+
+    // Whether the seat is open.
+    pub(crate) fn has_lane(&self, seat: u64) -> bool
+        ensures { result ≡ is_some (lane_of self.now seat) }
+    {
+        lane_at(self.lanes.as_slice(), seat).is_some()
+    }
+
+    // Whether the seat is open, and its ring has room for all that waits and one more.
+    pub(crate) fn has_room(&self, seat: u64, inbox: &Inbox) -> bool
+        ensures { IsTrue result ↔ HasRoom inbox.now (lane_of self.now seat) }
+    {
+        match lane_at(self.lanes.as_slice(), seat) {
+            Some(lane) => lane.has_room(inbox),
+            None => false,
+        }
+    }
+
     // Each note waits in its seat's lane, in order; the notes of closed seats are dropped.
     pub(crate) fn queue_all(&mut self, notes: Notes) -> Result<(), MailError>
         ensures queued { OnOk result (AreQueued notes self.old self.new) }
@@ -132,6 +220,7 @@ impl Lanes {
     {
         queue_each(&mut self.lanes, notes.into_vec())
     }
+
     // The seat's lane goes, and what waits in it; no other lane changes.
     pub(crate) fn close(&mut self, seat: u64)
         ensures { IsChanged seat None self.old self.new }
@@ -145,8 +234,25 @@ impl Lanes {
             self.old self.new) }
         ensures ring { OnOk result (inbox.new
             ≡ option_map_or (settled_ring inbox.old) (lane_of self.old seat) inbox.old) }
-        ensures refused { IfErr result (λ e. RefusesToSettle seat self.old inbox.old e self.new inbox.new) }
+        ensures refused { IfErr result (λ e. RefusesToHand seat self.old inbox.old e self.new inbox.new) }
     {
         settle_at(&mut self.lanes, seat, inbox)
+    }
+
+    // The seat's lane hands over all that waits and then a receipt; without a lane nothing changes.
+    pub(crate) fn sign(
+        &mut self,
+        seat: u64,
+        inbox: &mut Inbox,
+        receipt: Receipt,
+    ) -> Result<(), MailError>
+        requires { HasRoom inbox.old (lane_of self.old seat) }
+        ensures lane { OnOk result (IsChanged seat
+            (option_map (signed_lane receipt) (lane_of self.old seat)) self.old self.new) }
+        ensures ring { OnOk result (inbox.new
+            ≡ option_map_or (signed_ring receipt inbox.old) (lane_of self.old seat) inbox.old) }
+        ensures refused { IfErr result (λ e. RefusesToHand seat self.old inbox.old e self.new inbox.new) }
+    {
+        sign_at(&mut self.lanes, seat, inbox, receipt)
     }
 }

@@ -1,4 +1,17 @@
-//! What the orders and the push ids are together: the keys that push ids are; and what seats are told.
+//! The client that threads share: one lock round its core and a lane per seat; each thread has a seat
+//! of its own. And what the orders and the push ids are together: the keys that push ids are.
+//!
+//! ```text
+//! let (client, mut seats) = Client::open(alloc, 1, &[8, 8], Limits::full())?;
+//! let mut shared = client.shared.lock(rt);
+//! with_core(&mut shared, Step::Connected)?;
+//! with_seat(&mut shared, &mut seats[0], Call::Listen { query })?;     // answers the listener's number
+//! seats[0].next()                                                     // the receipt; waits for nobody
+//! ```
+//!
+//! What the lock keeps, as the invariant of [`Shared`]: the client has failed, or its world holds what
+//! holds between steps, and what waits for each open seat, taken on from what was handed over to it, is
+//! just what the core knows of the seat.
 //!
 //! ```text
 //! let id = ids.next(now_ms, digits)?;                       // Ok(*b"-NjEtLV-------------")
@@ -13,14 +26,27 @@
 //! of their views, and its unsettled requests, by the law `mirror_law`.
 #![tactic(auto)]
 
+mod call;
+mod client;
+mod done;
 mod error;
 pub mod examples;
+mod held;
 mod keeping;
 mod lanes;
 mod laws;
 mod reflecting;
+mod seat;
+mod shared;
+#[cfg(test)]
+mod tests;
 
+pub use call::Call;
+pub use client::{Client, MAX_SEATS};
+pub use done::Done;
 pub use error::ClientError;
 pub use keeping::keeping_law;
 pub use laws::{ids_are_keys, keys_rise, push_key_examples};
 pub use reflecting::{mirror_law, reflection_law};
+pub use seat::Seat;
+pub use shared::{Shared, with_core, with_seat};

@@ -1,7 +1,7 @@
 -- What lines print, which is written in pieces.
 use Rattle.std.proofs.Common.{◌≡◌, ℕ, List, [], ◌∷◌, ◌++◌, Bool, true, false, cond, Option, Some, None, Result, Ok, Err, IfOk, OnOk, string_bytes, refl, sym, ap, subst, ◌∙◌, append-nil, append_assoc}
 use Rattle.std.specs.Io.KnownBytes.{Appends, Keeps}
-use Rattle.rt_world.specs.World.{World}
+use Rattle.rt_lines.specs.State.{State}
 use Rattle.rt_lines.specs.Doing.{bytes_done, is_good}
 use Rattle.rt_console.specs.declared.script.Script.{Script}
 use Rattle.rt_console.specs.Run.{Progress, Ran, after_line, after_lines, lines_of, one_more, start}
@@ -45,11 +45,11 @@ Appends-kept (Some x) (Some y) (Some z) bs p q = q ∙ p
 
 -- ---- how far a run is
 
-abbrev progress : Option World → List ℕ → ℕ → ℕ → Progress
-progress core printed lines bad_lines =
-    record { core = core; printed = printed; lines = lines; bad_lines = bad_lines }
+abbrev progress : State → List ℕ → ℕ → ℕ → Progress
+progress state printed lines bad_lines =
+    record { state = state; printed = printed; lines = lines; bad_lines = bad_lines }
 
-same_progress : (a b : Option World) (s t : List ℕ) (m n k l : ℕ) → a ≡ b → s ≡ t → m ≡ n → k ≡ l → progress a s m k ≡ progress b t n l
+same_progress : (a b : State) (s t : List ℕ) (m n k l : ℕ) → a ≡ b → s ≡ t → m ≡ n → k ≡ l → progress a s m k ≡ progress b t n l
 same_progress a b s t m n k l e f g h =
     ap (λ x. progress x s m k) e ∙ ap (λ x. progress b x m k) f ∙ ap (λ x. progress b t x k) g ∙ ap (λ x. progress b t n x) h
 
@@ -59,13 +59,13 @@ after_lines-append (l ∷ ls) ms p = after_lines-append ls ms (after_line l p)
 
 -- with so much printed before
 abbrev behind : List ℕ → Progress → Progress
-behind text p = progress p.core (text ++ p.printed) p.lines p.bad_lines
+behind text p = progress p.state (text ++ p.printed) p.lines p.bad_lines
 
 after_line-behind : (text line : List ℕ) (p : Progress) → after_line line (behind text p) ≡ behind text (after_line line p)
 after_line-behind text line p =
     let new : Progress = after_line line p in
-    let more : List ℕ = (bytes_done (one_more p.lines) line p.core).printed in
-    ap (λ t. progress new.core t new.lines new.bad_lines) (append_assoc text p.printed more)
+    let more : List ℕ = (bytes_done (one_more p.lines) line p.state).printed in
+    ap (λ t. progress new.state t new.lines new.bad_lines) (append_assoc text p.printed more)
 
 after_lines-behind : (ls : List (List ℕ)) (text : List ℕ) (p : Progress) → after_lines ls (behind text p) ≡ behind text (after_lines ls p)
 after_lines-behind [] text p = refl
@@ -73,7 +73,7 @@ after_lines-behind (l ∷ ls) text p = ap (after_lines ls) (after_line-behind te
 
 so_far-behind : (text written : List ℕ) (s : Script) → so_far (text ++ written) s ≡ behind text (so_far written s)
 so_far-behind text written s =
-    ap (λ t. progress s.core t s.lines s.bad_lines) (append_assoc text written (string_bytes s.printed))
+    ap (λ t. progress s.state t s.lines s.bad_lines) (append_assoc text written (string_bytes s.printed))
 
 -- ---- runs
 
@@ -94,11 +94,11 @@ Runs-append ls ms old c0 c1 c2 s1 s2 (w, a, e) (v, b, f) = (
 )
 
 -- what waits is written
-pub Runs-written : (ls : List (List ℕ)) (old : Progress) (c0 c1 c2 : Option (List ℕ)) (s1 s2 : Script) → Runs ls old c0 s1 c1 → Appends c1 c2 (string_bytes s1.printed) → string_bytes s2.printed ≡ [] → s2.core ≡ s1.core → s2.lines ≡ s1.lines → s2.bad_lines ≡ s1.bad_lines → Runs ls old c0 s2 c2
+pub Runs-written : (ls : List (List ℕ)) (old : Progress) (c0 c1 c2 : Option (List ℕ)) (s1 s2 : Script) → Runs ls old c0 s1 c1 → Appends c1 c2 (string_bytes s1.printed) → string_bytes s2.printed ≡ [] → s2.state ≡ s1.state → s2.lines ≡ s1.lines → s2.bad_lines ≡ s1.bad_lines → Runs ls old c0 s2 c2
 Runs-written ls old c0 c1 c2 s1 s2 (w, a, e) b nothing core lines bad =
     let more : List ℕ = w ++ string_bytes s1.printed in
     let text : more ++ string_bytes s2.printed ≡ more = ap (λ t. more ++ t) nothing ∙ append-nil more in
-    (more, Appends-trans c0 c1 c2 w (string_bytes s1.printed) a b, same_progress s2.core s1.core _ _ s2.lines s1.lines s2.bad_lines s1.bad_lines core text lines bad ∙ e)
+    (more, Appends-trans c0 c1 c2 w (string_bytes s1.printed) a b, same_progress s2.state s1.state _ _ s2.lines s1.lines s2.bad_lines s1.bad_lines core text lines bad ∙ e)
 
 -- the whole run, of which nothing waits
 pub Ran-whole : (text : List ℕ) (n : ℕ) (c0 c1 : Option (List ℕ)) (s : Script) → Runs (lines_of text) start c0 s c1 → string_bytes s.printed ≡ [] → n ≡ s.bad_lines → Ran text n c0 c1
@@ -110,10 +110,10 @@ Ran-whole text n c0 c1 s (w, a, e) nothing counted =
 -- ---- a line
 
 -- the line that was read is done
-pub line_done : (old new : Script) (bytes : List ℕ) (number : ℕ) → bytes ≡ old.line.items → number ≡ one_more old.lines → new.lines ≡ number → new.core ≡ (bytes_done number bytes old.core).core → string_bytes new.printed ≡ string_bytes old.printed ++ (bytes_done number bytes old.core).printed → new.bad_lines ≡ cond (is_good bytes) old.bad_lines (one_more old.bad_lines) → so_far [] new ≡ after_line old.line.items (so_far [] old)
+pub line_done : (old new : Script) (bytes : List ℕ) (number : ℕ) → bytes ≡ old.line.items → number ≡ one_more old.lines → new.lines ≡ number → new.state ≡ (bytes_done number bytes old.state).state → string_bytes new.printed ≡ string_bytes old.printed ++ (bytes_done number bytes old.state).printed → new.bad_lines ≡ cond (is_good bytes) old.bad_lines (one_more old.bad_lines) → so_far [] new ≡ after_line old.line.items (so_far [] old)
 line_done old new bytes number same counted lines core printed bad =
-    let done : bytes_done number bytes old.core ≡ bytes_done (one_more old.lines) old.line.items old.core = ap (λ n. bytes_done n bytes old.core) counted ∙ ap (λ b. bytes_done (one_more old.lines) b old.core) same in
-    same_progress new.core _ (string_bytes new.printed) _ new.lines _ new.bad_lines _ (core ∙ ap (λ d. d.core) done) (printed ∙ ap (λ d. string_bytes old.printed ++ d.printed) done) (lines ∙ counted) (bad ∙ ap (λ b. cond (is_good b) old.bad_lines (one_more old.bad_lines)) same)
+    let done : bytes_done number bytes old.state ≡ bytes_done (one_more old.lines) old.line.items old.state = ap (λ n. bytes_done n bytes old.state) counted ∙ ap (λ b. bytes_done (one_more old.lines) b old.state) same in
+    same_progress new.state _ (string_bytes new.printed) _ new.lines _ new.bad_lines _ (core ∙ ap (λ d. d.state) done) (printed ∙ ap (λ d. string_bytes old.printed ++ d.printed) done) (lines ∙ counted) (bad ∙ ap (λ b. cond (is_good b) old.bad_lines (one_more old.bad_lines)) same)
 
 pub counts-good : (good : Bool) (n m k : ℕ) → good ≡ true → n ≡ m → n ≡ cond good m k
 counts-good true n m k e f = f

@@ -1,9 +1,11 @@
--- A run of a script: its lines are done one after another, numbered from 1, from a new core.
+-- A run of a script: its lines are done one after another, numbered from 1, on a new core and a
+-- source of push ids that has given none.
 use Rattle.std.specs.Prelude.{◌≡◌, ℕ, ◌+◌, ◌-◌, ◌^◌, ◌==◌, min, if◌then◌else◌, List, [], ◌∷◌, ◌++◌}
-use Rattle.std.specs.Prelude.{Option, Some}
+use Rattle.std.specs.Prelude.{Option}
 use Rattle.std.specs.Io.KnownBytes.{Appends}
 use Rattle.std.specs.List.{slice_split}
-use Rattle.rt_world.specs.World.{World, empty_world, limits_from, full_limits}
+use Rattle.rt_world.specs.World.{limits_from, full_limits}
+use Rattle.rt_lines.specs.State.{State, new_state}
 use Rattle.rt_lines.specs.Doing.{bytes_done, is_good}
 
 -- the most bytes of input that a run takes
@@ -14,10 +16,10 @@ most_input = 67108864
 abbrev pub lines_of : List ℕ → List (List ℕ)
 lines_of text = slice_split (λ b. b == 10) text
 
--- how far a run is: its core, what was printed, and how many lines were done and how many of them
--- were bad. A core is a world, or none once it has lacked memory
+-- how far a run is: what its lines act on, what was printed, and how many lines were done and how
+-- many of them were bad
 pub record Progress : Type 0 where
-  pub core : Option World
+  pub state : State
   pub printed : List ℕ
   pub lines : ℕ
   pub bad_lines : ℕ
@@ -26,12 +28,12 @@ pub record Progress : Type 0 where
 abbrev pub one_more : ℕ → ℕ
 one_more n = min (n + 1) (2 ^ 64 - 1)
 
--- one more line: what it does to the core is done, what it prints is printed, and it counts as bad
+-- one more line: what it does to the state is done, what it prints is printed, and it counts as bad
 -- where it is not good
 abbrev pub after_line : List ℕ → Progress → Progress
 after_line line p = record {
-  core = (bytes_done (one_more p.lines) line p.core).core;
-  printed = p.printed ++ (bytes_done (one_more p.lines) line p.core).printed;
+  state = (bytes_done (one_more p.lines) line p.state).state;
+  printed = p.printed ++ (bytes_done (one_more p.lines) line p.state).printed;
   lines = one_more p.lines;
   bad_lines = if is_good line then p.bad_lines else one_more p.bad_lines;
 }
@@ -44,7 +46,7 @@ after_lines (line ∷ lines) p = after_lines lines (after_line line p)
 -- before the first line
 abbrev pub start : Progress
 start = record {
-  core = Some (empty_world (limits_from full_limits));
+  state = new_state (limits_from full_limits);
   printed = [];
   lines = 0;
   bad_lines = 0;

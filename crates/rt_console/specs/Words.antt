@@ -1,7 +1,6 @@
 -- The words of the command line: what they ask for, and why they make no command.
 use Rattle.std.specs.Prelude.{◌≡◌, ◌⊎◌, ◌&&◌, ℕ, List, [], ◌∷◌, Option, Some, None, Result, MatchResult}
 use Rattle.std.specs.Prelude.{is_some, if◌then◌else◌, codes, nat_lt, option_map, option_and_then}
-use Rattle.std.specs.Option.{option_map_or}
 use Rattle.std.specs.Str.{bytes_eq}
 use Rattle.std.specs.Str.Parse.{digits_value, without_leading_plus}
 use Rattle.serde_json.specs.Read.{read}

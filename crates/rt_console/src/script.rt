@@ -10,8 +10,7 @@ ghost use Rattle.rt_console.specs.inside.Pieces.{resumed, Runs, so_far, Takes};
 
 use crate::error::ConsoleError;
 use crate::stream::{Drain, Source};
-use rt_core::Core;
-use rt_lines::do_bytes;
+use rt_lines::{State, do_bytes};
 use rt_world::Limits;
 use std::alloc::{AllocError, Global};
 
@@ -21,11 +20,11 @@ const MOST_INPUT: usize = 67_108_864;
 // How many bytes are read at once.
 const CHUNK: usize = 65_536;
 
-// A core, and where its script stands.
+// A core and its push ids, and where its script stands.
 #[derive(Drop)]
 struct Script {
     alloc: Global,
-    core: Core,
+    state: State,
     // The line that is being read, and how many were read before it.
     line: Vec<u8>,
     lines: u64,
@@ -88,7 +87,7 @@ impl Script {
     {
         Script {
             alloc,
-            core: Core::new(alloc, Limits::full()),
+            state: State::new(alloc, Limits::full()),
             line: Vec::new(alloc),
             lines: 0,
             bad_lines: 0,
@@ -106,7 +105,7 @@ impl Script {
         let bytes = self.line.as_slice();
         let is_good = do_bytes(
             self.alloc,
-            &mut self.core,
+            &mut self.state,
             self.lines,
             bytes,
             &mut self.printed,
@@ -127,7 +126,7 @@ impl Script {
         ensures written { OnOk result (Appends (D.contents writer.old) (D.contents writer.new)
             (string_bytes self.old.printed)) }
         ensures nothing_waits { string_bytes self.new.printed ≡ [] }
-        ensures core { self.new.core ≡ self.old.core }
+        ensures state { self.new.state ≡ self.old.state }
         ensures line { self.new.line ≡ self.old.line }
         ensures lines { self.new.lines ≡ self.old.lines }
         ensures bad_lines { self.new.bad_lines ≡ self.old.bad_lines }
@@ -268,8 +267,8 @@ impl Script {
     }
 }
 
-/// Runs the script that a reader gives over one new core, and writes what its lines print. Answers
-/// the number of bad lines.
+/// Runs the script that a reader gives over one new core and one source of push ids, and writes
+/// what its lines print. Answers the number of bad lines.
 ///
 /// A `ReadFault` is a failure of the reader, or more than 67,108,864 bytes of input, and a
 /// `WriteFault` a failure of the writer.

@@ -51,6 +51,8 @@ Looks at the client:
   [\"view\",LISTENER]                      what the listener shows
   [\"cover\"]                              the listens that are kept
   [\"out\"]                                the messages to be sent, which are taken
+The next push id, for the milliseconds since 1970 and twelve random numbers from 0 to 63:
+  [\"push\",MS,[RANDOM,..]]
 CALL is [\"orderByKey\"], [\"orderByValue\"], [\"orderByChild\",PATH], [\"limitToFirst\",N],
 [\"limitToLast\",N], or startAt, startAfter, endAt, endBefore or equalTo with a value and perhaps a key.
 A step prints 'done', 'done N' or 'stale', then what is settled and ended, then each listener's changes.

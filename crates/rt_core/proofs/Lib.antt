@@ -4,4 +4,5 @@ pub mod Listened
 pub mod NextWorlds
 pub mod RefusalLaws
 pub mod TagLaws
+pub mod Viewed
 pub mod ViewLaws

@@ -22,7 +22,7 @@ use Rattle.rt_core.specs.inside.Due.{IsGood}
 use Rattle.rt_core.specs.inside.StateView.{IsTied}
 
 -- a smaller number is another
-other_number : (m n : ℕ) → m < n → (m == n) ≡ false
+pub other_number : (m n : ℕ) → m < n → (m == n) ≡ false
 other_number m n lt = elim (m == n) as (λ b. (m == n) ≡ b → b ≡ false) [
   | true ↦ λ e. let same : m ≡ n = eqb→eq m n (subst (λ b. T b) (sym e) tt) in absurd (omega (arith, same))
   | false ↦ λ e. refl

@@ -18,8 +18,3 @@ view_found (Some l) shown there e = ap Ok e
 
 pub view_lost : (o : Option Listener) → o ≡ None → ◌≡◌ {A = Result (Option Shown) CoreError} (Err UnknownListener) (view_of_found o)
 view_lost o e = ap view_of_found (sym e)
-
--- one that is not none is some
-pub is_found : (o : Option Listener) → (o ≡ None → ⊥) → is_some o ≡ true
-is_found None there = absurd (there refl)
-is_found (Some l) there = refl

@@ -1,17 +1,36 @@
--- What a core answers to steps, and what it becomes: a world, or none once it has lacked memory.
-use Rattle.std.specs.Prelude.{◌≡◌, ◌==◌, ℕ, true, false, ◌⊎◌, List, [], ◌∷◌, drop}
-use Rattle.std.specs.Prelude.{Option, Some, None, Result, Ok, Err, is_some}
+-- What a core holds, what it answers to steps, and what it becomes.
+use Rattle.std.specs.Prelude.{◌≡◌, ◌≢◌, ◌==◌, ℕ, true, false, ◌⊎◌, List, [], ◌∷◌, drop}
+use Rattle.std.specs.Prelude.{Option, Some, None, Result, Ok, Err}
 use Rattle.std.specs.List.{find}
-use Rattle.std.specs.Option.{option_map_or}
+use Rattle.std.specs.Option.{option_map, option_map_or}
 use Rattle.rt_query.specs.Select.{Shown}
 use Rattle.rt_cover.specs.declared.kept.Kept.{Kept}
+use Rattle.rt_view.specs.Views.{View}
 use Rattle.rt_wire.specs.declared.client.ClientMessage.{ClientMessage}
 use Rattle.rt_world.specs.declared.error.CoreError.{CoreError}
 use Rattle.rt_world.specs.declared.error.CoreError.TheVariants.{Failed, NoMemory, UnknownListener}
+use Rattle.rt_world.specs.declared.limits.Limits.{Limits}
 use Rattle.rt_world.specs.declared.step.Step.{Step}
-use Rattle.rt_world.specs.World.{World, cover}
+use Rattle.rt_world.specs.World.{World, cover, empty_world}
 use Rattle.rt_world.specs.Refusals.{refusal, is_stale}
-use Rattle.rt_world.specs.Answers.{Answer, answers, step, world_after}
+use Rattle.rt_world.specs.Answers.{Answer, answers, step, view_before, world_after}
+
+-- a world, and of each of its listeners, in their order, the view that is held; none where it has none
+pub record Held : Type 0 where
+  pub world : World
+  pub views : List (Option View)
+
+-- before any step
+abbrev pub empty_held : Limits → Held
+empty_held limits = record { world = empty_world limits; views = [] }
+
+-- the world of a core; none once it has lacked memory
+abbrev pub world_in : Option Held → Option World
+world_in core = option_map (λ h. h.world) core
+
+-- and its views
+abbrev pub views_in : Option Held → List (Option View)
+views_in core = option_map_or (λ h. h.views) core []
 
 -- for want of memory a step is not made; it is neither refused nor stale then
 pub record LacksMemory (w : World) (s : Step) (answer : Answer) (new : Option World) : Type 0 where
@@ -56,16 +75,16 @@ view_in w number =
     option_map_or
     (λ l. Ok l.view) (find (λ l. l.number == number) w.listeners) (Err UnknownListener)
 
--- a listener of that number is registered
-abbrev pub HasListener : World → ℕ → Type 0
-HasListener w number = is_some (find (λ l. l.number == number) w.listeners) ≡ true
+-- the listener of that number has a view
+abbrev pub HasView : World → ℕ → Type 0
+HasView w number = view_before w.listeners number ≢ None
 
--- what a core answers of a listener's view: it is the world's; for one that is registered it may lack
--- memory, and a core that has failed says so
+-- what a core answers of a listener's view: it is the world's; where there is one memory may lack, and
+-- a core that has failed says so
 abbrev pub Views : Option World → ℕ → Result (Option Shown) CoreError → Type 0
 Views None number answer = answer ≡ Err Failed
 Views (Some w) number answer =
-    (answer ≡ view_in w number) ⊎ ((answer ≡ Err NoMemory) × HasListener w number)
+    (answer ≡ view_in w number) ⊎ ((answer ≡ Err NoMemory) × HasView w number)
 
 -- the first of the messages
 abbrev pub first_message : List ClientMessage → Option ClientMessage

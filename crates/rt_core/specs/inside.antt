@@ -1,3 +1,4 @@
 pub mod Due
 pub mod Parts
 pub mod StateView
+pub mod Viewed

@@ -5,7 +5,7 @@ ghost use Rattle.rt_world.specs.Answers.{stale_report};
 
 use crate::state::State;
 use crate::told::Told;
-use rt_world::{CoreError, Notes, Outcome, Report, Step, answer_law};
+use rt_world::{CoreError, Notes, Outcome, Report, Step, answer_law, sound_law, touch_law};
 use std::alloc::{AllocError, Global};
 
 // The report of what a step tells that is done.
@@ -34,11 +34,14 @@ impl State {
     ghost use Rattle.rt_world.specs.Refusals.{refusal, is_stale};
     ghost use Rattle.rt_world.specs.Answers.{step as the_step};
     ghost use Rattle.rt_core.specs.inside.Due.{IsGood, IsDue, IsNext};
+    ghost use Rattle.rt_core.specs.inside.Viewed.{AreViewed, FollowsStep, HasViews};
 
     // The step, which is neither refused nor stale.
     fn next(self, step: Step) -> Result<(State, Told), AllocError>
-        requires due { IsDue self step }
-        ensures { IfOk result (λ made. IsNext self step made) }
+        requires due { IsDue self.world step }
+        requires viewed { AreViewed self }
+        ensures made { IfOk result (λ made. IsNext self.world step (made.0.world, made.1)) }
+        ensures views { IfOk result (λ made. HasViews self step made.0) }
     {
         match step {
             Step::Write { seat, action } => self.write(seat, action),
@@ -58,13 +61,18 @@ impl State {
 
     // The step, and its report, where it is not refused.
     fn make(self, step: Step) -> Result<(State, Report), AllocError>
-        requires good { IsGood self }
-        requires not_refused { refusal self step ≡ None }
-        ensures made { IfOk result (λ made. the_step self step ≡ (made.0, Ok made.1)) }
-        ensures not_stale { OnErr result (is_stale self step ≡ false) }
+        requires good { IsGood self.world }
+        requires viewed { AreViewed self }
+        requires not_refused { refusal self.world step ≡ None }
+        ensures made { IfOk result (λ made.
+            the_step self.world step ≡ (made.0.world, Ok made.1)) }
+        ensures views { IfOk result (λ made. FollowsStep self step made.0) }
+        ensures not_stale { OnErr result (is_stale self.world step ≡ false) }
     {
-        // State what a step answers that is not refused.
+        // State what a step answers that is not refused, and which children it changes.
         answer_law();
+        sound_law();
+        touch_law();
         if self.is_stale(&step) {
             let report = stale_report(self.alloc());
             return Ok((self, report));
@@ -75,10 +83,12 @@ impl State {
 
     // The step, and its answer.
     pub(crate) fn after(self, step: Step) -> Result<(State, Result<Report, CoreError>), AllocError>
-        requires good { IsGood self }
-        ensures ok { IfOk result (λ made. made ≡ the_step self step) }
-        ensures not_refused { OnErr result (refusal self step ≡ None) }
-        ensures not_stale { OnErr result (is_stale self step ≡ false) }
+        requires good { IsGood self.world }
+        requires viewed { AreViewed self }
+        ensures ok { IfOk result (λ made. (made.0.world, made.1) ≡ the_step self.world step) }
+        ensures views { IfOk result (λ made. FollowsStep self step made.0) }
+        ensures not_refused { OnErr result (refusal self.world step ≡ None) }
+        ensures not_stale { OnErr result (is_stale self.world step ≡ false) }
     {
         // State what a refused step answers.
         answer_law();

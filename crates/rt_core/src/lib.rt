@@ -12,8 +12,10 @@
 #![tactic(auto)]
 
 ghost use Rattle.std.specs.Prelude.{◌≡◌, Some};
-ghost use Rattle.rt_world.specs.World.{empty_world, limits_from};
-ghost use Rattle.rt_core.specs.Core.{Applies, Covers, TakesOut, Views};
+ghost use Rattle.rt_world.specs.World.{limits_from};
+ghost use Rattle.rt_core.specs.Core.{Applies, Covers, TakesOut, Views, empty_held};
+ghost use Rattle.rt_core.specs.Core.{views_in, world_in};
+ghost use Rattle.rt_core.specs.Reads.{Reads};
 
 mod applying;
 mod refusal;
@@ -47,21 +49,21 @@ pub struct Core {
 
 impl Model for Core {
     ghost use Rattle.std.specs.Prelude.{Option, IfSome};
-    ghost use Rattle.rt_world.specs.World.{World};
-    ghost use Rattle.rt_core.specs.inside.Due.{IsGood};
+    ghost use Rattle.rt_core.specs.Core.{Held};
+    ghost use Rattle.rt_core.specs.inside.Viewed.{HoldsWell};
 
-    ghost Value = { Option World };
+    ghost Value = { Option Held };
 
     ghost view = { λ a. a.state };
 
-    ghost invariant = { λ a. IfSome a.state IsGood };
+    ghost invariant = { λ a. IfSome a.state HoldsWell };
 }
 
 impl Core {
     /// A core with no listener, no request and no connection. A limit of 0 counts as 1, and one
     /// above what a core takes as that.
     pub fn new(alloc: Global, limits: Limits) -> Core
-        ensures { result ≡ Some (empty_world (limits_from limits)) }
+        ensures { result ≡ Some (empty_held (limits_from limits)) }
     {
         // State what holds before any step.
         steady_law();
@@ -78,12 +80,13 @@ impl Core {
     ///
     /// The first of the causes that [`CoreError`] lists in its order, and `NoMemory`.
     pub fn apply(&mut self, step: Step) -> Result<Report, CoreError>
-        ensures { Applies self.old step result self.new }
+        ensures made { Applies (world_in self.old) step result (world_in self.new) }
+        ensures reads { Reads self.old step self.new }
     {
         let Some(state) = self.state.take() else {
             return Err(CoreError::Failed);
         };
-        // State what a step answers, and what holds between steps.
+        // State what holds after a step.
         steady_law();
         holding_law();
         answer_law();
@@ -98,7 +101,7 @@ impl Core {
     ///
     /// Failed, and NoMemory where there is no memory for the list: the core goes on then.
     pub fn cover(&self) -> Result<KeptList, CoreError>
-        ensures { Covers self.now result }
+        ensures { Covers (world_in self.now) result }
     {
         match &self.state {
             Some(state) => state.cover(),
@@ -114,7 +117,7 @@ impl Core {
     /// Failed, UnknownListener where no listener has that number, and NoMemory where there is no
     /// memory for the rows: the core goes on then.
     pub fn view(&self, listener: u64) -> Result<Option<Shown>, CoreError>
-        ensures { Views self.now listener result }
+        ensures { Views (world_in self.now) listener result }
     {
         match &self.state {
             Some(state) => state.view(listener),
@@ -125,14 +128,14 @@ impl Core {
     /// Takes out the first message that is to be sent; none where nothing is to be sent, or the core
     /// has failed.
     pub fn take_outgoing(&mut self) -> Option<ClientMessage>
-        ensures { TakesOut self.old result self.new }
+        ensures sent { TakesOut (world_in self.old) result (world_in self.new) }
+        ensures views { views_in self.new ≡ views_in self.old }
     {
         // State that what holds between steps holds without the message.
         sending_law();
-        let Some(state) = self.state.take() else {
+        let Some(mut state) = self.state.take() else {
             return None;
         };
-        let mut state = state;
         let message = state.take_outgoing();
         self.state = Some(state);
         message

@@ -17,12 +17,12 @@ impl State {
 
     // The refusals of a change of listeners.
     fn listener_refusal(&self, step: &Step) -> Option<CoreError>
-        requires { IsGood self.now }
+        requires { IsGood self.now.world }
         ensures { result ≡ first_of ((
-          is_unknown_listener self.now step.now,
+          is_unknown_listener self.now.world step.now,
           CoreError.UnknownListener,
         )
-            ∷ (has_too_many_listeners self.now step.now, CoreError.TooManyListeners) ∷ []) }
+            ∷ (has_too_many_listeners self.now.world step.now, CoreError.TooManyListeners) ∷ []) }
     {
         if self.is_unknown_listener(step) {
             return Some(CoreError::UnknownListener);
@@ -36,7 +36,7 @@ impl State {
     // The refusals of what a seat asks for.
     fn asking_refusal(&self, step: &Step) -> Option<CoreError>
         ensures { result ≡ first_of ((
-          has_too_many_requests self.now step.now,
+          has_too_many_requests self.now.world step.now,
           CoreError.TooManyRequests,
         )
             ∷ (has_overlap step.now, CoreError.Overlap)
@@ -60,7 +60,7 @@ impl State {
 
     // Whether the step opens a connection where there is one.
     fn is_already_connected(&self, step: &Step) -> bool
-        ensures { result ≡ is_already_connected self.now step.now }
+        ensures { result ≡ is_already_connected self.now.world step.now }
     {
         match step {
             Step::Connected => self.is_connected,
@@ -80,14 +80,14 @@ impl State {
 
     // The refusals of a push, those that depend on the connection, and that of a revocation.
     fn connection_refusal(&self, step: &Step) -> Option<CoreError>
-        requires { IsGood self.now }
+        requires { IsGood self.now.world }
         ensures { result ≡ first_of ((
-          is_bad_push self.now step.now,
+          is_bad_push self.now.world step.now,
           CoreError.BadPush,
         )
-            ∷ (is_already_connected self.now step.now, CoreError.AlreadyConnected)
-            ∷ (is_not_connected self.now step.now, CoreError.NotConnected)
-            ∷ (has_too_many_revoked self.now step.now, CoreError.TooManyListeners) ∷ []) }
+            ∷ (is_already_connected self.now.world step.now, CoreError.AlreadyConnected)
+            ∷ (is_not_connected self.now.world step.now, CoreError.NotConnected)
+            ∷ (has_too_many_revoked self.now.world step.now, CoreError.TooManyListeners) ∷ []) }
     {
         if self.is_bad_push(step) {
             return Some(CoreError::BadPush);
@@ -106,8 +106,8 @@ impl State {
 
     // The first refusal whose condition holds.
     pub(crate) fn refusal(&self, step: &Step) -> Option<CoreError>
-        requires { IsGood self.now }
-        ensures { result ≡ refusal self.now step.now }
+        requires { IsGood self.now.world }
+        ensures { result ≡ refusal self.now.world step.now }
     {
         if let Some(error) = self.listener_refusal(step) {
             return Some(error);

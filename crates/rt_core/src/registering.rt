@@ -46,14 +46,14 @@ impl State {
 
     // The query of the kept listen with that tag.
     pub(crate) fn listen_of(&self, tag: u64) -> Option<&Query>
-        ensures { option_copied result ≡ listen_of self.now tag }
+        ensures { option_copied result ≡ listen_of self.now.world tag }
     {
         self.cover.form_at(tag)
     }
 
     // Whether a listen with that tag is kept.
     pub(crate) fn is_kept(&self, tag: u64) -> bool
-        ensures { result ≡ is_some (listen_of self.now tag) }
+        ensures { result ≡ is_some (listen_of self.now.world tag) }
     {
         match self.listen_of(tag) {
             Some(_) => true,
@@ -63,7 +63,7 @@ impl State {
 
     // Whether the listener that is to end is not the seat's.
     pub(crate) fn is_unknown_listener(&self, step: &Step) -> bool
-        ensures { result ≡ is_unknown_listener self.now step.now }
+        ensures { result ≡ is_unknown_listener self.now.world step.now }
     {
         match step {
             Step::Unlisten { seat, listener } => !self.listeners.is_seats(*seat, *listener),
@@ -83,8 +83,8 @@ impl State {
 
     // Whether a new listener of the query would need a tag above the last one.
     fn lacks_tag_to_add(&self, query: &Query) -> bool
-        requires { IsGood self.now }
-        ensures { (seat : ℕ) → result ≡ needs_tag self.now (Step.Listen seat query.now) }
+        requires { IsGood self.now.world }
+        ensures { (seat : ℕ) → result ≡ needs_tag self.now.world (Step.Listen seat query.now) }
     {
         // State when a step lacks a tag.
         tag_law();
@@ -93,7 +93,7 @@ impl State {
 
     // Whether the end of the listener would.
     fn lacks_tag_to_remove(&self, listener: u64) -> bool
-        ensures { (seat : ℕ) → result ≡ needs_tag self.now (Step.Unlisten seat listener) }
+        ensures { (seat : ℕ) → result ≡ needs_tag self.now.world (Step.Unlisten seat listener) }
     {
         // State when a step lacks a tag.
         tag_law();
@@ -102,8 +102,8 @@ impl State {
 
     // Whether the end of all listeners of the seat would.
     fn lacks_tag_to_close(&self, seat: u64) -> bool
-        requires { IsGood self.now }
-        ensures { result ≡ needs_tag self.now (Step.CloseSeat seat) }
+        requires { IsGood self.now.world }
+        ensures { result ≡ needs_tag self.now.world (Step.CloseSeat seat) }
     {
         // State when a step lacks a tag.
         tag_law();
@@ -115,8 +115,8 @@ impl State {
 
     // Whether the end of the listen would.
     fn lacks_tag_to_revoke(&self, tag: u64) -> bool
-        requires { IsGood self.now }
-        ensures { (why : Reason) → result ≡ needs_tag self.now (Step.Revoked tag why) }
+        requires { IsGood self.now.world }
+        ensures { (why : Reason) → result ≡ needs_tag self.now.world (Step.Revoked tag why) }
     {
         // State when a step lacks a tag, and that no listen changes where no listener ends.
         tag_law();
@@ -126,8 +126,8 @@ impl State {
 
     // Whether the limit of listeners is reached, or the last number.
     fn is_full(&self) -> bool
-        ensures { result ≡ (nat_le self.now.limits.listeners (length self.now.listeners)
-            || nat_lt self.now.limits.last_number self.now.next_listener) }
+        ensures { result ≡ (nat_le self.now.world.limits.listeners (length self.now.world.listeners)
+            || nat_lt self.now.world.limits.last_number self.now.world.next_listener) }
     {
         self.listeners.len() as u64 >= u64::from(self.limits.listeners)
             || self.given_listeners >= self.limits.last_number
@@ -135,8 +135,8 @@ impl State {
 
     // Whether the listeners are too many, or a number or a tag above the last one is needed.
     pub(crate) fn has_too_many_listeners(&self, step: &Step) -> bool
-        requires { IsGood self.now }
-        ensures { result ≡ has_too_many_listeners self.now step.now }
+        requires { IsGood self.now.world }
+        ensures { result ≡ has_too_many_listeners self.now.world step.now }
     {
         match step {
             Step::Listen { query, .. } => self.is_full() || self.lacks_tag_to_add(query),
@@ -156,8 +156,8 @@ impl State {
 
     // The same of a revocation.
     pub(crate) fn has_too_many_revoked(&self, step: &Step) -> bool
-        requires { IsGood self.now }
-        ensures { result ≡ has_too_many_revoked self.now step.now }
+        requires { IsGood self.now.world }
+        ensures { result ≡ has_too_many_revoked self.now.world step.now }
     {
         match step {
             Step::Revoked { tag, .. } => self.lacks_tag_to_revoke(*tag),
@@ -177,7 +177,7 @@ impl State {
 
     // Whether a path of these entries is outside the listen's.
     fn is_outside_listen(&self, tag: u64, entries: &[(Path, Tree)]) -> bool
-        ensures { result ≡ not (is_within_listen self.now (tag, entries.now)) }
+        ensures { result ≡ not (is_within_listen self.now.world (tag, entries.now)) }
     {
         match self.listen_of(tag) {
             Some(query) => !are_under(entries, query.path()),
@@ -187,7 +187,7 @@ impl State {
 
     // Whether the path of a tree is.
     fn is_path_outside(&self, tag: u64, path: &Path, tree: &Tree) -> bool
-        ensures { result ≡ not (is_within_listen self.now (tag, (path.now, tree.now) ∷ [])) }
+        ensures { result ≡ not (is_within_listen self.now.world (tag, (path.now, tree.now) ∷ [])) }
     {
         match self.listen_of(tag) {
             Some(query) => !query.path().is_prefix_of(path),
@@ -197,7 +197,7 @@ impl State {
 
     // Whether a push has a path outside its listen's, or entries that are none or overlap.
     pub(crate) fn is_bad_push(&self, step: &Step) -> bool
-        ensures { result ≡ is_bad_push self.now step.now }
+        ensures { result ≡ is_bad_push self.now.world step.now }
     {
         match step {
             Step::Data { tag, path, tree } => self.is_path_outside(*tag, path, tree),

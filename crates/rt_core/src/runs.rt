@@ -4,8 +4,8 @@ ghost use Rattle.std.specs.List.{All};
 ghost use Rattle.std.specs.Option.{IfSome};
 ghost use Rattle.rt_world.specs.World.{World};
 ghost use Rattle.rt_world.specs.Headline.{Headline};
-ghost use Rattle.rt_core.specs.Core.{AppliesAll, MakesAll};
-ghost use Rattle.rt_core.specs.inside.Due.{IsGood};
+ghost use Rattle.rt_core.specs.Core.{AppliesAll, MakesAll, world_in};
+ghost use Rattle.rt_core.specs.inside.Viewed.{HoldsWell};
 
 use crate::Core;
 use rt_world::{CoreError, Report, Step, holding_law};
@@ -39,7 +39,7 @@ impl Answers {
 impl Core {
     // For the prover: what holds of a core between steps.
     fn holds(&self)
-        ensures { IfSome self.now IsGood }
+        ensures { IfSome self.now HoldsWell }
     {
         let _has_failed = self.state.is_none();
     }
@@ -55,11 +55,12 @@ impl Core {
 pub fn run(alloc: Global, core: &mut Core, steps: Vec<Step>) -> Result<Answers, AllocError>
     ensures unchanged { OnErr result (core.new ≡ core.old) }
     ensures nothing { steps.items ≡ [] → IsOk result }
-    ensures answered { IfOk result (λ answers. AppliesAll core.old steps.items answers core.new) }
-    ensures made { IfOk result (λ answers. (w v : World) → core.old ≡ Some w → core.new ≡ Some v
-        → MakesAll w steps.items answers v) }
-    ensures headline { IfOk result (λ answers. (w v : World) → core.old ≡ Some w
-        → core.new ≡ Some v → Headline w steps.items answers v) }
+    ensures answered { IfOk result (λ answers.
+        AppliesAll (world_in core.old) steps.items answers (world_in core.new)) }
+    ensures made { IfOk result (λ answers. (w v : World) → world_in core.old ≡ Some w
+        → world_in core.new ≡ Some v → MakesAll w steps.items answers v) }
+    ensures headline { IfOk result (λ answers. (w v : World) → world_in core.old ≡ Some w
+        → world_in core.new ≡ Some v → Headline w steps.items answers v) }
 {
     // State what any steps lead to from a core between steps.
     core.holds();

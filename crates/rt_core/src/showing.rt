@@ -1,7 +1,7 @@
 // What a core shows of itself.
 ghost use Rattle.std.specs.Prelude.{◌≡◌, ◌⊎◌, Ok, Err};
 ghost use Rattle.rt_world.specs.World.{cover};
-ghost use Rattle.rt_core.specs.Core.{HasListener, first_message, view_in, without_first};
+ghost use Rattle.rt_core.specs.Core.{HasView, first_message, view_in, without_first};
 
 use crate::state::State;
 use rt_cover::KeptList;
@@ -14,7 +14,7 @@ impl State {
 
     // The kept listens, by tag.
     pub(crate) fn cover(&self) -> Result<KeptList, CoreError>
-        ensures { (result ≡ Ok (cover self.now)) ⊎ (result ≡ Err CoreError.NoMemory) }
+        ensures { (result ≡ Ok (cover self.now.world)) ⊎ (result ≡ Err CoreError.NoMemory) }
     {
         match self.cover.open() {
             Ok(list) => Ok(list),
@@ -24,8 +24,8 @@ impl State {
 
     // What the listener of that number shows.
     pub(crate) fn view(&self, listener: u64) -> Result<Option<Shown>, CoreError>
-        ensures { (result ≡ view_in self.now listener)
-            ⊎ ((result ≡ Err CoreError.NoMemory) × HasListener self.now listener) }
+        ensures { (result ≡ view_in self.now.world listener)
+            ⊎ ((result ≡ Err CoreError.NoMemory) × HasView self.now.world listener) }
     {
         match self.listeners.shown(listener) {
             Ok(shown) => Ok(shown),
@@ -36,8 +36,8 @@ impl State {
 
     // Takes the first message out.
     pub(crate) fn take_outgoing(&mut self) -> Option<ClientMessage>
-        ensures message { result ≡ first_message self.old.outgoing }
-        ensures rest { self.new ≡ without_first self.old }
+        ensures message { result ≡ first_message self.old.world.outgoing }
+        ensures rest { self.new ≡ record { world = without_first self.old.world; views = self.old.views } }
     {
         self.outgoing.pop_front()
     }

@@ -34,7 +34,7 @@ impl State {
     // it wants a window.
     fn is_data_stale(&self, tag: u64, path: &Path) -> bool
         ensures { (u : PathTree) → result ≡ option_map_or
-            (λ q. is_without_window self.now.brought q (path.now, u)) (listen_of self.now tag) true }
+            (λ q. is_without_window self.now.world.brought q (path.now, u)) (listen_of self.now.world tag) true }
     {
         match self.listen_of(tag) {
             Some(query) => self.brought.lacks_window(query, path),
@@ -45,8 +45,8 @@ impl State {
     // The same of several trees, where each wants one.
     fn is_merge_stale(&self, tag: u64, entries: &[(Path, Tree)]) -> bool
         ensures { result ≡ option_map_or
-            (λ q. list_all (is_without_window self.now.brought q) entries.now)
-            (listen_of self.now tag) true }
+            (λ q. list_all (is_without_window self.now.world.brought q) entries.now)
+            (listen_of self.now.world tag) true }
     {
         match self.listen_of(tag) {
             Some(query) => lack_window(&self.brought, query, entries),
@@ -57,7 +57,7 @@ impl State {
     // Whether the step is a push that changes nothing, settles no unsettled request, or revokes a
     // listen that is not kept.
     pub(crate) fn is_stale(&self, step: &Step) -> bool
-        ensures { result ≡ is_stale self.now step.now }
+        ensures { result ≡ is_stale self.now.world step.now }
     {
         // State when a push is stale.
         pushed_law();

@@ -10,7 +10,8 @@ use std::alloc::Global;
 use std::collections::VecDeque;
 use std::marker::Model;
 
-// Listeners and unsettled requests by number, what the listens brought, the listens kept, the messages to be sent, and the numbers given last.
+// Listeners and unsettled requests by number, what the listens brought, the listens kept, the
+// messages to be sent, and the numbers given last.
 #[derive(Drop)]
 pub(crate) struct State {
     pub(crate) limits: Limits,
@@ -25,13 +26,16 @@ pub(crate) struct State {
 }
 
 impl Model for State {
-    ghost use Rattle.rt_world.specs.World.{World};
+    ghost use Rattle.rt_core.specs.Core.{Held};
     ghost use Rattle.rt_core.specs.inside.StateView.{world_of, IsTied};
 
-    ghost Value = { World };
+    ghost Value = { Held };
 
-    ghost view = { λ a. world_of a.limits a.listeners.listeners a.requests a.brought
-        a.cover a.is_connected a.outgoing.items a.given_listeners a.given_requests };
+    ghost view = { λ a. record {
+      world = world_of a.limits a.listeners.listeners a.requests a.brought a.cover
+          a.is_connected a.outgoing.items a.given_listeners a.given_requests;
+      views = a.listeners.views;
+    } };
 
     ghost invariant = { λ a. IsTied a.cover
         (world_of a.limits a.listeners.listeners a.requests a.brought a.cover
@@ -39,11 +43,11 @@ impl Model for State {
 }
 
 impl State {
-    ghost use Rattle.rt_world.specs.World.{empty_world};
+    ghost use Rattle.rt_core.specs.Core.{empty_held};
 
     // No listener, no request, no connection.
     pub(crate) fn new(alloc: Global, limits: Limits) -> State
-        ensures { result ≡ empty_world limits }
+        ensures { result ≡ empty_held limits }
     {
         let last_tag = limits.last_number;
         State {

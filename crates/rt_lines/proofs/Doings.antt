@@ -1,12 +1,11 @@
 -- What is done and printed by what a core answers.
-use Rattle.std.proofs.Common.{◌≡◌, ◌≢◌, inl, inr, OnOk, OnErr, subst, ℕ, List, true, false, Option, Some, None, Result, Ok, Err, refl, ap, sym, ◌∙◌}
+use Rattle.std.proofs.Common.{◌≡◌, ◌≢◌, inl, inr, OnOk, OnErr, subst, ℕ, List, Option, Some, None, Result, Ok, Err, ap, sym, ◌∙◌}
 use Rattle.rt_query.specs.Select.{Shown}
 use Rattle.rt_world.specs.declared.error.CoreError.{CoreError}
 use Rattle.rt_world.specs.declared.error.CoreError.TheVariants as core_error
 use Rattle.rt_world.specs.declared.step.Step.{Step}
 use Rattle.rt_world.specs.World.{World}
 use Rattle.rt_world.specs.Answers.{Answer}
-use Rattle.rt_world.specs.Answers as world
 use Rattle.rt_core.specs.Core.{Applies, Views}
 use Rattle.rt_lines.specs.declared.error.LineError.{LineError}
 use Rattle.rt_lines.specs.declared.error.LineError.TheVariants.{Bad, Refused, NoMemory}
@@ -14,7 +13,8 @@ use Rattle.rt_lines.specs.declared.error.Refusal.TheVariants.{Core}
 use Rattle.rt_lines.specs.declared.line.Line.{Line}
 use Rattle.rt_lines.specs.declared.line.Line.TheVariants as line
 use Rattle.rt_lines.specs.Printing.{refusal_text, view_text}
-use Rattle.rt_lines.specs.Doing.{AskedLacks, Done, LineLacks, answer_text, asked_done, line_done, listener_text, shown_or_refusal, step_done}
+use Rattle.rt_lines.specs.Doing.{AskedLacks, LineLacks, answer_text, asked_done, line_done, listener_text, shown_or_refusal, step_text, stepped, without_messages}
+use Rattle.rt_lines.specs.State.{State, with_world}
 use Rattle.rt_lines.proofs.Waiting.{lacks_all}
 
 -- what holds on an error
@@ -24,16 +24,16 @@ on_err (Err e) h = h
 
 -- ---- steps
 
--- a core that answers, and does not lack memory, has made the step
-done_by : (s : Step) (old new : Option World) (answer : Answer) → Applies old s answer new → answer ≢ Err core_error.NoMemory → step_done s old ≡ record { core = new; printed = answer_text answer }
-done_by s None new answer (told, failed) had = let D : Answer → Option World → Done = λ a c. record { core = c; printed = answer_text a } in ap (λ a. D a None) (sym told) ∙ ap (λ c. D answer c) (sym failed)
-done_by s (Some w) new answer (inl made) had = let D : Answer → Option World → Done = λ a c. record { core = c; printed = answer_text a } in ap (λ a. D a (Some (world.step w s).0)) (sym made.told) ∙ ap (λ c. D answer c) (sym made.world)
-done_by s (Some w) new answer (inr lacks) had = absurd (had lacks.told)
+-- a core that answers, and does not lack memory, answers as the world does
+told_by : (s : Step) (old new : Option World) (answer : Answer) → Applies old s answer new → answer ≢ Err core_error.NoMemory → answer_text answer ≡ step_text s old
+told_by s None new answer (told, failed) had = ap answer_text told
+told_by s (Some w) new answer (inl made) had = ap answer_text made.told
+told_by s (Some w) new answer (inr lacks) had = absurd (had lacks.told)
 
 -- a step is refused, and its refusal is told
 pub refused_by : {A E : Type 0} (r : Result A E) (s : Step) (old new : Option World) (e : CoreError) (P : List ℕ → Type 0) → Applies old s (Err e) new
-    → OnOk r (e ≢ core_error.NoMemory) → OnOk r (P (refusal_text (Core e))) → OnOk r (P (step_done s old).printed)
-refused_by (Ok x) s old new e P applies had h = subst (λ (d : Done). P d.printed) (sym (done_by s old new (Err e) applies (λ f. had (cc f)))) h
+    → OnOk r (e ≢ core_error.NoMemory) → OnOk r (P (refusal_text (Core e))) → OnOk r (P (step_text s old))
+refused_by (Ok x) s old new e P applies had h = subst P (told_by s old new (Err e) applies (λ f. had (cc f))) h
 refused_by (Err x) s old new e P applies had h = tt
 
 -- ---- looks
@@ -49,18 +49,25 @@ views_ok core number shown h = shows_by core number (Ok shown) h (λ e. cc)
 
 -- ---- lines
 
+-- the world is all that changes
+world_alone : (old new : State) (w : Option World) → new ≡ with_world w old → (new.world ≡ w) × (new ≡ with_world new.world old)
+world_alone old new w e =
+    let is : new.world ≡ w = ap (λ (s : State). s.world) e in
+    (is, e ∙ ap (λ v. with_world v old) (sym is))
+
 -- a line is done, and can't be told
-pub line_untold : (l : Line) (old new : Option World) → new ≡ (line_done l old).core → LineLacks l old new
-line_untold (line.Step s) old new e = inl e
-line_untold line.Out old new e = lacks_all old new e
+pub line_untold : (l : Line) (old new : State) → new ≡ (line_done l old).state → LineLacks l old new
+line_untold (line.Step s) old new e = let is = world_alone old new (stepped s old.world) e in (inl is.0, is.1)
+line_untold line.Out old new e = let is = world_alone old new (without_messages old.world) e in (lacks_all old.world new.world is.0, is.1)
 line_untold line.Cover old new e = e
 line_untold (line.View listener) old new e = e
+line_untold (line.Push now random) old new e = e
 
-pub asked_unread : (asked : Result Line LineError) (old new : Option World) → new ≡ old → AskedLacks asked old new
+pub asked_unread : (asked : Result Line LineError) (old new : State) → new ≡ old → AskedLacks asked old new
 asked_unread (Err e) old new h = h
 asked_unread (Ok l) old new h = inl h
 
-pub asked_untold : (number : ℕ) (asked : Result Line LineError) (old new : Option World) → new ≡ (asked_done number asked old).core → AskedLacks asked old new
+pub asked_untold : (number : ℕ) (asked : Result Line LineError) (old new : State) → new ≡ (asked_done number asked old).state → AskedLacks asked old new
 asked_untold number (Ok l) old new h = inr (line_untold l old new h)
 asked_untold number (Err Bad) old new h = h
 asked_untold number (Err (Refused r)) old new h = h

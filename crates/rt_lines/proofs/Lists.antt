@@ -8,7 +8,7 @@ use Rattle.serde_json.specs.View.{items_view}
 use Rattle.serde_json.specs.declared.value.Value.{Value}
 use Rattle.rt_lines.specs.declared.call.Call.{Call as CodeCall}
 use Rattle.rt_lines.specs.Calls.{Call, call_in, calls_in, calls_of}
-use Rattle.rt_lines.specs.Words.{elements}
+use Rattle.rt_lines.specs.Words.{elements, random_in, twelve_of}
 use Rattle.rt_lines.specs.Reading.{and_then, path_in, tree_in, in_front, entries_in}
 use Rattle.rt_lines.specs.declared.error.LineError.{LineError}
 use Rattle.rt_tree.specs.Assignments.{Assignment}
@@ -34,6 +34,10 @@ calls-more all found d ds call h is =
 pub calls_in_array : (d : Data) (vs : List Value) → Some (items_view vs) ≡ as_array d → calls_in d ≡ calls_of (views vs)
 calls_in_array d vs e =
     ap (option_and_then (λ ds. calls_of (elements ds))) (sym e) ∙ ap calls_of (elements-items_of (views vs))
+
+pub random_in_array : (d : Data) (vs : List Value) → Some (items_view vs) ≡ as_array d → random_in d ≡ twelve_of (views vs)
+random_in_array d vs e =
+    ap (option_and_then (λ ds. twelve_of (elements ds))) (sym e) ∙ ap twelve_of (elements-items_of (views vs))
 
 joined_entries : (items : List Assignment) (a : Assignment) (r : Result (List Assignment) LineError)
     → and_then (in_front a.0 a.1 r) (λ rest. Ok (items ++ rest)) ≡ and_then r (λ rest. Ok ((items ++ a ∷ []) ++ rest))

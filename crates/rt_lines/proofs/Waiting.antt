@@ -5,8 +5,7 @@ use Rattle.std.proofs.lemmas.List.{drop-drop}
 use Rattle.rt_wire.specs.declared.client.ClientMessage.{ClientMessage}
 use Rattle.rt_world.specs.World.{World}
 use Rattle.rt_core.specs.Core.{TakesOut, first_message}
-use Rattle.rt_lines.specs.declared.line.Line.TheVariants as line
-use Rattle.rt_lines.specs.Doing.{LineLacks, waiting, without, without_messages}
+use Rattle.rt_lines.specs.Doing.{OutLacks, waiting, without, without_messages}
 
 -- so many messages were taken out, and the others wait
 pub record HasTaken (old : Option World) (taken : List ClientMessage) (now : Option World) : Type 0 where
@@ -57,10 +56,10 @@ all_taken old now new taken h t =
     let is = nothing_waits now new t in
     is.1 ∙ h.core ∙ all_without (length taken) old (ap waiting (sym h.core) ∙ is.0)
 
-pub lacks_taken : (old now : Option World) (taken : List ClientMessage) → HasTaken old taken now → LineLacks line.Out old now
+pub lacks_taken : (old now : Option World) (taken : List ClientMessage) → HasTaken old taken now → OutLacks old now
 lacks_taken old now taken h = (length taken, h.core)
 
 -- all are lost
-pub lacks_all : (old now : Option World) → now ≡ without_messages old → LineLacks line.Out old now
+pub lacks_all : (old now : Option World) → now ≡ without_messages old → OutLacks old now
 lacks_all None now e = (0, e)
 lacks_all (Some w) now e = (length w.outgoing, e ∙ ap (λ xs. Some (record w { outgoing = xs })) (sym (drop-length w.outgoing)))

@@ -4,7 +4,7 @@ use Rattle.std.specs.Prelude.{option_map, option_and_then}
 use Rattle.serde_json.specs.Data.{Data as Json, Members}
 use Rattle.serde_json.specs.Find.{as_object, as_str}
 use Rattle.rt_lines.specs.Calls.{Call, calls_in}
-use Rattle.rt_lines.specs.Words.{named_in, seat_in, whole}
+use Rattle.rt_lines.specs.Words.{named_in, random_in, seat_in, whole}
 
 -- what a write sets: a value at a path, several values at their paths, or nothing at a path
 pub data Written : Type 0 where
@@ -31,6 +31,7 @@ pub data Form : Type 0 where
   Out : Form
   Cover : Form
   View : ℕ → Form
+  Push : ℕ → List ℕ → Form
 
 -- ---- what a write sets
 
@@ -146,6 +147,14 @@ abbrev pub view_form : List Json → Option Form
 view_form (listener ∷ []) = option_map View (whole listener)
 view_form _ = None
 
+-- ---- push ids
+
+-- `["push",ms,[r1,..,r12]]`
+abbrev pub push_form : List Json → Option Form
+push_form (now ∷ random ∷ []) =
+    option_and_then (λ ms. option_map (Push ms) (random_in random)) (whole now)
+push_form _ = None
+
 -- ---- a line of that name
 
 abbrev pub server_named : List ℕ → List Json → Option Form
@@ -165,6 +174,7 @@ lone_named name words =
     else if bytes_eq name (codes "out") then lone_form Out words
     else if bytes_eq name (codes "cover") then lone_form Cover words
     else if bytes_eq name (codes "view") then view_form words
+    else if bytes_eq name (codes "push") then push_form words
     else server_named name words
 
 abbrev pub seat_named : List ℕ → List Json → Option Form

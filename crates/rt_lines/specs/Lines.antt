@@ -63,6 +63,7 @@ line_in form.Disconnected = makes step.Disconnected
 line_in form.Out = Ok line.Out
 line_in form.Cover = Ok line.Cover
 line_in (form.View listener) = Ok (line.View listener)
+line_in (form.Push now random) = Ok (line.Push now random)
 
 -- what a JSON value asks for
 abbrev pub line_of_data : Json → Result Line LineError

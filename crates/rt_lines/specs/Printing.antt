@@ -101,6 +101,10 @@ refusal_text r =
 abbrev pub bad_line : ℕ → List ℕ
 bad_line number = line (codes "bad line " ++ decimal number)
 
+-- a push id
+abbrev pub id_line : List ℕ → List ℕ
+id_line id = line (codes "id " ++ id)
+
 -- ---- what a look at the core shows
 
 abbrev pub row_line : Row → List ℕ

@@ -4,12 +4,13 @@ use Rattle.rt_tree.specs.Errors as tree
 use Rattle.rt_query.specs.Errors as query
 use Rattle.rt_query.specs.declared.error.QueryError.{QueryError}
 use Rattle.rt_query.specs.declared.error.QueryError.TheVariants as query_error
+use Rattle.rt_push.specs.Errors as push
 use Rattle.rt_wire.specs.Errors as wire
 use Rattle.rt_world.specs.Codes as core
 use Rattle.rt_lines.specs.declared.error.LineError.{LineError}
 use Rattle.rt_lines.specs.declared.error.LineError.TheVariants.{NoMemory, Refused}
 use Rattle.rt_lines.specs.declared.error.Refusal.{Refusal}
-use Rattle.rt_lines.specs.declared.error.Refusal.TheVariants.{Tree, Query, Wire, Core}
+use Rattle.rt_lines.specs.declared.error.Refusal.TheVariants.{Tree, Query, Wire, Core, Push}
 
 -- the layer
 abbrev pub layer_of : Refusal → List ℕ
@@ -17,6 +18,7 @@ layer_of (Tree e) = codes "tree"
 layer_of (Query e) = codes "query"
 layer_of (Wire e) = codes "wire"
 layer_of (Core e) = codes "core"
+layer_of (Push e) = codes "push"
 
 -- the number, within its layer
 abbrev pub code_of : Refusal → ℕ
@@ -24,6 +26,7 @@ code_of (Tree e) = tree.code_of e
 code_of (Query e) = query.code_of e
 code_of (Wire e) = wire.code_of e
 code_of (Core e) = core.code_of e
+code_of (Push e) = push.code_of e
 
 -- the name, within its layer
 abbrev pub name_of : Refusal → List ℕ
@@ -31,6 +34,7 @@ name_of (Tree e) = tree.name_of e
 name_of (Query e) = query.name_of e
 name_of (Wire e) = wire.name_of e
 name_of (Core e) = core.name_of e
+name_of (Push e) = push.name_of e
 
 -- why a line is not read where a call on its query is refused; want of memory is no refusal
 abbrev pub of_query : QueryError → LineError

@@ -1,7 +1,7 @@
 -- The words of a line, as they stand there. JSON data are called Json: a Data is what the server
 -- sends.
-use Rattle.std.specs.Prelude.{ℕ, zero, suc, List, [], ◌∷◌, nat_le, if◌then◌else◌, Option, Some, None}
-use Rattle.std.specs.Prelude.{option_map, option_and_then}
+use Rattle.std.specs.Prelude.{ℕ, zero, suc, ◌==◌, nat_le, nat_lt, if◌then◌else◌, List, [], ◌∷◌, length}
+use Rattle.std.specs.Prelude.{Option, Some, None, option_map, option_and_then}
 use Rattle.serde_json.specs.Data.{Data as Json, Items, no_items, item}
 use Rattle.serde_json.specs.Find.{as_array, as_number, as_str, as_u64}
 
@@ -26,10 +26,28 @@ small n = if nat_le n 4294967295 then Some n else None
 abbrev pub count_in : Json → Option ℕ
 count_in d = option_and_then small (whole d)
 
+-- a number of 8 bits
+abbrev pub byte_in : Json → Option ℕ
+byte_in d = option_and_then (λ n. if nat_lt n 256 then Some n else None) (whole d)
+
+-- numbers of 8 bits, if each is one
+abbrev pub bytes_of : List Json → Option (List ℕ)
+bytes_of [] = Some []
+bytes_of (d ∷ ds) =
+    option_and_then (λ byte. option_map (λ bytes. byte ∷ bytes) (bytes_of ds)) (byte_in d)
+
 -- the elements of an array, in order
 abbrev pub elements : Items → List Json
 elements no_items = []
 elements (item d ds) = d ∷ elements ds
+
+-- twelve numbers of 8 bits
+abbrev pub twelve_of : List Json → Option (List ℕ)
+twelve_of ds = if length ds == 12 then bytes_of ds else None
+
+-- the random part of a push id
+abbrev pub random_in : Json → Option (List ℕ)
+random_in d = option_and_then (λ ds. twelve_of (elements ds)) (as_array d)
 
 -- ---- a name, and the words behind it
 

@@ -1,17 +1,21 @@
-// What a line does to a core, and what it prints.
+// What a line does to a core and to the source of push ids, and what it prints.
 ghost use Rattle.std.specs.Prelude.{◌≡◌, ◌≢◌, ◌++◌, [], string_bytes, IfOk, IsOk, OnOk, OnErr};
-ghost use Rattle.rt_lines.specs.Doing.{AskedLacks, LineLacks, asked_done, bytes_done};
-ghost use Rattle.rt_lines.specs.Doing.{has_form, is_good, kept_text, line_done, listener_text};
-ghost use Rattle.rt_lines.specs.Doing.{step_done, waiting, without, without_messages};
+ghost use Rattle.rt_core.specs.Core.{world_in};
+ghost use Rattle.rt_lines.specs.Doing.{AskedLacks, LineLacks, OutLacks, StepLacks, asked_done};
+ghost use Rattle.rt_lines.specs.Doing.{bytes_done, has_form, is_good, kept_text, last_after};
+ghost use Rattle.rt_lines.specs.Doing.{line_done, listener_text, push_text, step_text, stepped};
+ghost use Rattle.rt_lines.specs.Doing.{waiting, without_messages};
 ghost use Rattle.rt_lines.specs.Lines.{line_of_bytes};
 ghost use Rattle.rt_lines.specs.Printing.{messages_text, refusal_text};
 ghost use Rattle.rt_lines.specs.inside.Appending.{Appends};
 
 use crate::error::{LineError, Refusal};
 use crate::line::Line;
-use crate::report::{write_bad_line, write_refusal, write_report};
+use crate::report::{write_bad_line, write_id, write_refusal, write_report};
 use crate::show::{write_cover, write_messages, write_view};
+use crate::state::State;
 use rt_core::Core;
+use rt_push::PushIds;
 use rt_wire::ClientMessage;
 use rt_world::{CoreError, Step};
 use std::alloc::{AllocError, Global};
@@ -29,9 +33,9 @@ fn refuse(out: &mut String, error: CoreError) -> Result<(), AllocError>
 
 // Makes a step, and prints what the core answers.
 fn make_step(out: &mut String, alloc: Global, core: &mut Core, step: Step) -> Result<(), AllocError>
-    ensures core { OnOk result (core.new ≡ (step_done step core.old).core) }
-    ensures printed { OnOk result (Appends out.old out.new (step_done step core.old).printed) }
-    ensures lacking { OnErr result (LineLacks (Line.Step step) core.old core.new) }
+    ensures world { OnOk result (world_in core.new ≡ stepped step (world_in core.old)) }
+    ensures printed { OnOk result (Appends out.old out.new (step_text step (world_in core.old))) }
+    ensures lacking { OnErr result (StepLacks step (world_in core.old) (world_in core.new)) }
 {
     match core.apply(step) {
         Ok(report) => write_report(out, alloc, &report),
@@ -41,9 +45,9 @@ fn make_step(out: &mut String, alloc: Global, core: &mut Core, step: Step) -> Re
 
 // Takes out the messages that wait to be sent.
 fn take_messages(alloc: Global, core: &mut Core) -> Result<Vec<ClientMessage>, AllocError>
-    ensures core { OnOk result (core.new ≡ without_messages core.old) }
-    ensures messages { IfOk result (λ messages. messages.items ≡ waiting core.old) }
-    ensures lacking { OnErr result (LineLacks Line.Out core.old core.new) }
+    ensures world { OnOk result (world_in core.new ≡ without_messages (world_in core.old)) }
+    ensures messages { IfOk result (λ messages. messages.items ≡ waiting (world_in core.old)) }
+    ensures lacking { OnErr result (OutLacks (world_in core.old) (world_in core.new)) }
 {
     let mut messages = Vec::new(alloc);
     while let Some(message) = core.take_outgoing() {
@@ -54,9 +58,10 @@ fn take_messages(alloc: Global, core: &mut Core) -> Result<Vec<ClientMessage>, A
 
 // Takes out the messages that wait to be sent, and prints them.
 fn show_messages(out: &mut String, alloc: Global, core: &mut Core) -> Result<(), AllocError>
-    ensures core { OnOk result (core.new ≡ without_messages core.old) }
-    ensures printed { OnOk result (Appends out.old out.new (messages_text (waiting core.old))) }
-    ensures lacking { OnErr result (LineLacks Line.Out core.old core.new) }
+    ensures world { OnOk result (world_in core.new ≡ without_messages (world_in core.old)) }
+    ensures printed { OnOk result (Appends out.old out.new
+        (messages_text (waiting (world_in core.old)))) }
+    ensures lacking { OnErr result (OutLacks (world_in core.old) (world_in core.new)) }
 {
     let messages = take_messages(alloc, core)?;
     write_messages(out, alloc, messages.as_slice())
@@ -64,7 +69,7 @@ fn show_messages(out: &mut String, alloc: Global, core: &mut Core) -> Result<(),
 
 // Prints the listens that are kept.
 fn show_cover(out: &mut String, alloc: Global, core: &Core) -> Result<(), AllocError>
-    ensures { OnOk result (Appends out.old out.new (kept_text core.now)) }
+    ensures { OnOk result (Appends out.old out.new (kept_text (world_in core.now))) }
 {
     match core.cover() {
         Ok(cover) => write_cover(out, alloc, cover.as_slice()),
@@ -74,7 +79,7 @@ fn show_cover(out: &mut String, alloc: Global, core: &Core) -> Result<(), AllocE
 
 // Prints what the listener of that number shows.
 fn show_view(out: &mut String, alloc: Global, core: &Core, listener: u64) -> Result<(), AllocError>
-    ensures { OnOk result (Appends out.old out.new (listener_text listener core.now)) }
+    ensures { OnOk result (Appends out.old out.new (listener_text listener (world_in core.now))) }
 {
     match core.view(listener) {
         Ok(view) => write_view(out, alloc, view.as_ref()),
@@ -82,22 +87,39 @@ fn show_view(out: &mut String, alloc: Global, core: &Core, listener: u64) -> Res
     }
 }
 
+// Makes a push id, and prints it, or why there is none.
+fn make_id(
+    out: &mut String,
+    ids: &mut PushIds,
+    now_ms: u64,
+    random: [u8; 12],
+) -> Result<(), AllocError>
+    ensures last { ids.new ≡ last_after now_ms random ids.old }
+    ensures printed { OnOk result (Appends out.old out.new (push_text now_ms random ids.old)) }
+{
+    match ids.next(now_ms, random) {
+        Ok(id) => write_id(out, str::from_utf8(&id).unwrap()),
+        Err(error) => write_refusal(out, Refusal::Push(error)),
+    }
+}
+
 // Does what a line asks for, and prints it.
 fn print_line(
     out: &mut String,
     alloc: Global,
-    core: &mut Core,
+    state: &mut State,
     line: Line,
 ) -> Result<(), AllocError>
-    ensures core { OnOk result (core.new ≡ (line_done line core.old).core) }
-    ensures printed { OnOk result (Appends out.old out.new (line_done line core.old).printed) }
-    ensures lacking { OnErr result (LineLacks line core.old core.new) }
+    ensures state { OnOk result (state.new ≡ (line_done line state.old).state) }
+    ensures printed { OnOk result (Appends out.old out.new (line_done line state.old).printed) }
+    ensures lacking { OnErr result (LineLacks line state.old state.new) }
 {
     match line {
-        Line::Step(step) => make_step(out, alloc, core, step),
-        Line::Out => show_messages(out, alloc, core),
-        Line::Cover => show_cover(out, alloc, core),
-        Line::View(listener) => show_view(out, alloc, core, listener),
+        Line::Step(step) => make_step(out, alloc, &mut state.core, step),
+        Line::Out => show_messages(out, alloc, &mut state.core),
+        Line::Cover => show_cover(out, alloc, &state.core),
+        Line::View(listener) => show_view(out, alloc, &state.core, listener),
+        Line::Push { now_ms, random } => make_id(out, &mut state.ids, now_ms, random),
     }
 }
 
@@ -105,20 +127,20 @@ fn print_line(
 fn print_bytes(
     out: &mut String,
     alloc: Global,
-    core: &mut Core,
+    state: &mut State,
     number: u64,
     bytes: &[u8],
 ) -> Result<bool, AllocError>
     ensures good { IfOk result (λ good. good ≡ has_form (line_of_bytes bytes.now)) }
-    ensures core { OnOk result
-        (core.new ≡ (asked_done number (line_of_bytes bytes.now) core.old).core) }
+    ensures state { OnOk result
+        (state.new ≡ (asked_done number (line_of_bytes bytes.now) state.old).state) }
     ensures printed { OnOk result (Appends out.old out.new
-        (asked_done number (line_of_bytes bytes.now) core.old).printed) }
-    ensures lacking { OnErr result (AskedLacks (line_of_bytes bytes.now) core.old core.new) }
+        (asked_done number (line_of_bytes bytes.now) state.old).printed) }
+    ensures lacking { OnErr result (AskedLacks (line_of_bytes bytes.now) state.old state.new) }
 {
     match Line::read(alloc, bytes) {
         Ok(line) => {
-            print_line(out, alloc, core, line)?;
+            print_line(out, alloc, state, line)?;
             Ok(true)
         }
         Err(LineError::Bad) => {
@@ -133,26 +155,26 @@ fn print_bytes(
     }
 }
 
-/// Does what a line asks for: makes its step, or looks at the core. Appends what is printed for it:
-/// the step's report, why it is refused, or what the core shows.
+/// Does what a line asks for: makes its step, looks at the core, or makes a push id. Appends what is
+/// printed for it: the step's report, what the core shows, the id, or why it is refused.
 ///
 /// # Errors
 ///
 /// Memory lacked, which ends a run: nothing is appended then. The step may be made and untold, or
-/// not made, and the core has failed; and messages that were taken out are lost.
+/// not made, and the core has failed; messages that were taken out and an id that was made are lost.
 pub fn do_line(
     alloc: Global,
-    core: &mut Core,
+    state: &mut State,
     line: Line,
     text: &mut String,
 ) -> Result<(), AllocError>
-    ensures core { OnOk result (core.new ≡ (line_done line core.old).core) }
-    ensures printed { OnOk result (Appends text.old text.new (line_done line core.old).printed) }
+    ensures state { OnOk result (state.new ≡ (line_done line state.old).state) }
+    ensures printed { OnOk result (Appends text.old text.new (line_done line state.old).printed) }
     ensures silent { OnErr result (string_bytes text.new ≡ string_bytes text.old) }
-    ensures lacking { OnErr result (LineLacks line core.old core.new) }
+    ensures lacking { OnErr result (LineLacks line state.old state.new) }
 {
     let mut told = String::new(alloc);
-    print_line(&mut told, alloc, core, line)?;
+    print_line(&mut told, alloc, state, line)?;
     text.push_str(told.as_str())
 }
 
@@ -162,9 +184,9 @@ pub fn do_line(
 /// nothing for an empty one.
 ///
 /// ```text
-/// let mut core = Core::new(alloc, Limits::full());
-/// do_bytes(alloc, &mut core, 1, b"[\"connected\"]", &mut text)?;    // text has "done\n" more
-/// do_bytes(alloc, &mut core, 2, b"[\"connect\"]", &mut text)?;      // false, and "bad line 2\n"
+/// let mut state = State::new(alloc, Limits::full());
+/// do_bytes(alloc, &mut state, 1, b"[\"connected\"]", &mut text)?;    // text has "done\n" more
+/// do_bytes(alloc, &mut state, 2, b"[\"connect\"]", &mut text)?;      // false, and "bad line 2\n"
 /// ```
 ///
 /// # Errors
@@ -173,24 +195,24 @@ pub fn do_line(
 /// [`do_line`] leaves it.
 pub fn do_bytes(
     alloc: Global,
-    core: &mut Core,
+    state: &mut State,
     number: u64,
     bytes: &[u8],
     text: &mut String,
 ) -> Result<bool, AllocError>
     ensures good { IfOk result (λ good. good ≡ is_good bytes.now) }
-    ensures core { OnOk result (core.new ≡ (bytes_done number bytes.now core.old).core) }
+    ensures state { OnOk result (state.new ≡ (bytes_done number bytes.now state.old).state) }
     ensures printed { OnOk result (Appends text.old text.new
-        (bytes_done number bytes.now core.old).printed) }
+        (bytes_done number bytes.now state.old).printed) }
     ensures silent { OnErr result (string_bytes text.new ≡ string_bytes text.old) }
-    ensures lacking { OnErr result (AskedLacks (line_of_bytes bytes.now) core.old core.new) }
+    ensures lacking { OnErr result (AskedLacks (line_of_bytes bytes.now) state.old state.new) }
     ensures empty { bytes.now ≡ [] → IsOk result }
 {
     if bytes.is_empty() {
         return Ok(true);
     }
     let mut printed = String::new(alloc);
-    let good = print_bytes(&mut printed, alloc, core, number, bytes)?;
+    let good = print_bytes(&mut printed, alloc, state, number, bytes)?;
     text.push_str(printed.as_str())?;
     Ok(good)
 }

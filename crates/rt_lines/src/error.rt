@@ -3,6 +3,7 @@ ghost use Rattle.std.specs.Prelude.{◌≡◌};
 ghost use Rattle.rt_lines.specs.Refusals.{code_of, layer_of, name_of, of_query};
 ghost use Rattle.rt_lines.specs.declared.error.LineError.TheVariants.{NoMemory};
 
+use rt_push::PushError;
 use rt_query::QueryError;
 use rt_tree::TreeError;
 use rt_wire::WireError;
@@ -21,6 +22,8 @@ pub enum Refusal {
     Wire(WireError),
     /// A step, or a look at the core.
     Core(CoreError),
+    /// A push id.
+    Push(PushError),
 }
 
 /// Why a line is not read.
@@ -47,6 +50,7 @@ impl Refusal {
             Refusal::Query(_) => "query",
             Refusal::Wire(_) => "wire",
             Refusal::Core(_) => "core",
+            Refusal::Push(_) => "push",
         }
     }
 
@@ -59,6 +63,7 @@ impl Refusal {
             Refusal::Query(error) => error.code(),
             Refusal::Wire(error) => error.code(),
             Refusal::Core(error) => error.code(),
+            Refusal::Push(error) => error.code(),
         }
     }
 
@@ -71,6 +76,7 @@ impl Refusal {
             Refusal::Query(error) => error.name(),
             Refusal::Wire(error) => error.name(),
             Refusal::Core(error) => error.name(),
+            Refusal::Push(error) => error.name(),
         }
     }
 }

@@ -1,7 +1,7 @@
 //! Lines and scripts that the prover computes.
 ghost use Rattle.rt_lines.specs.laws.Examples.{CallsAreMade, CallsAreRefused, FirstWordIsRefused};
 ghost use Rattle.rt_lines.specs.laws.Examples.{FormsComeFirst, LinesAreRead, TextsArePrinted};
-ghost use Rattle.rt_lines.specs.laws.Scripts.{LooksAreShown, RefusedLines, RootListen};
+ghost use Rattle.rt_lines.specs.laws.Scripts.{IdsGoOn, LooksAreShown, RefusedLines, RootListen};
 
 /// What lines ask for.
 pub fn lines_are_read()
@@ -46,4 +46,9 @@ pub fn looks_are_shown()
 /// What is refused, bad or stale changes nothing.
 pub fn refused_lines()
     ensures { RefusedLines }
+{}
+
+/// Push ids go on from line to line; a refusal changes nothing.
+pub fn ids_go_on()
+    ensures { IdsGoOn }
 {}

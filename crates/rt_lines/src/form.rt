@@ -4,7 +4,7 @@ ghost use Rattle.serde_json.specs.View.{view as data_of};
 ghost use Rattle.rt_lines.specs.Forms.{cancel_form, close_form, data_form, ending_form, form_in};
 ghost use Rattle.rt_lines.specs.Forms.{form_named};
 ghost use Rattle.rt_lines.specs.Forms.{listen_form, lone_form, lone_named, merge_form, no_form};
-ghost use Rattle.rt_lines.specs.Forms.{ok_form, on_disconnect_form, remove_words, revoke_form};
+ghost use Rattle.rt_lines.specs.Forms.{ok_form, on_disconnect_form, push_form, remove_words, revoke_form};
 ghost use Rattle.rt_lines.specs.Forms.{seat_named, server_form, server_named, set_words};
 ghost use Rattle.rt_lines.specs.Forms.{unlisten_form, update_words, view_form, write_form};
 ghost use Rattle.rt_lines.specs.Forms.{written_in};
@@ -12,7 +12,7 @@ ghost use Rattle.rt_lines.specs.inside.FormView.{as_form, as_written, views};
 
 use crate::call::{Call, calls_in};
 use crate::error::LineError;
-use crate::word::{parts_of, seat_of};
+use crate::word::{parts_of, random_of, seat_of};
 use serde_json::Value;
 use std::alloc::Global;
 use std::collections::BTreeMap;
@@ -108,6 +108,11 @@ pub(crate) enum Form<'a> {
     /// `["view",listener]`
     View {
         listener: u64,
+    },
+    /// `["push",ms,[r1,..,r12]]`
+    Push {
+        now_ms: u64,
+        random: [u8; 12],
     },
 }
 
@@ -313,6 +318,18 @@ fn view(words: &[Value]) -> Option<Form<'_>>
     })
 }
 
+fn push(words: &[Value]) -> Option<Form<'_>>
+    ensures { option_map as_form result ≡ push_form (views words.now) }
+{
+    let [now_ms, random] = words else {
+        return None;
+    };
+    Some(Form::Push {
+        now_ms: now_ms.as_u64()?,
+        random: random_of(random)?,
+    })
+}
+
 // What the server sends, by that name.
 fn server_named<'a>(name: &str, words: &'a [Value]) -> Option<Form<'a>>
     ensures { option_map as_form result ≡ server_named name.now (views words.entry.now) }
@@ -328,7 +345,7 @@ fn server_named<'a>(name: &str, words: &'a [Value]) -> Option<Form<'a>>
     }
 }
 
-// The connection and looks at the core, or what the server sends.
+// The connection, looks at the core and push ids, or what the server sends.
 fn lone_named<'a>(name: &str, words: &'a [Value]) -> Option<Form<'a>>
     ensures { option_map as_form result ≡ lone_named name.now (views words.entry.now) }
 {
@@ -338,6 +355,7 @@ fn lone_named<'a>(name: &str, words: &'a [Value]) -> Option<Form<'a>>
         "out" => lone(Form::Out, words),
         "cover" => lone(Form::Cover, words),
         "view" => view(words),
+        "push" => push(words),
         _ => server_named(name, words),
     }
 }

@@ -1,12 +1,12 @@
-//! The lines of a script: which bytes are which line, what a line asks for, what it does to a core, and
-//! what is printed for it. Each of the three can be had by itself.
+//! The lines of a script: which bytes are which line, what a line asks for, what it does to a core or
+//! asks of a source of push ids, and what is printed for it. Each of the three can be had by itself.
 //!
 //! ```text
-//! do_bytes(alloc, &mut core, 1, b"[\"set\",1,\"/a\",5]", &mut text)?;      // does it, and prints
+//! do_bytes(alloc, &mut state, 1, b"[\"set\",1,\"/a\",5]", &mut text)?;      // does it, and prints
 //!
 //! match Line::read(alloc, b"[\"set\",1,\"/a\",5]")? {
 //!     Line::Step(step) => ..,               // Write {seat: 1, action: Put {path: /a, tree: 5}}
-//!     Line::Out | Line::Cover | Line::View(_) => ..,
+//!     Line::Out | Line::Cover | Line::View(_) | Line::Push { .. } => ..,
 //! }
 //! ```
 #![tactic(auto)]
@@ -22,10 +22,12 @@ mod line;
 mod reading;
 mod report;
 mod show;
+mod state;
 mod word;
 
 pub use doing::{do_bytes, do_line};
 pub use error::{LineError, Refusal};
 pub use line::{Line, step_of};
-pub use report::{write_bad_line, write_refusal, write_report};
+pub use report::{write_bad_line, write_id, write_refusal, write_report};
 pub use show::{write_cover, write_messages, write_view};
+pub use state::State;

@@ -2,12 +2,13 @@
 ghost use Rattle.std.specs.Prelude.{◌≡◌, ◌⊎◌, IfOk, IfErr, Ok, Err, Some, None};
 ghost use Rattle.serde_json.specs.View.{view as data_of};
 ghost use Rattle.rt_lines.specs.Lines.{data_of_bytes, line_in, line_of_bytes, line_of_data};
-ghost use Rattle.rt_lines.specs.Lines.{server_step, step_of_message};
-ghost use Rattle.rt_lines.specs.inside.FormView.{as_form};
+ghost use Rattle.rt_lines.specs.Lines.{makes, server_step, step_of_message};
+ghost use Rattle.rt_lines.specs.Forms as form;
+ghost use Rattle.rt_lines.specs.inside.FormView.{as_form, as_written};
 
 use crate::draft::query_of;
 use crate::error::{LineError, Refusal};
-use crate::form::{Form, form_of};
+use crate::form::{Form, Written, form_of};
 use crate::reading::{action_of, entries_of, path_of, tree_of};
 use rt_wire::{Ending, Reason, ServerMessage, WireError};
 use rt_world::Step;
@@ -25,6 +26,8 @@ pub enum Line {
     Cover,
     /// What the listener of that number shows.
     View(u64),
+    /// The next push id, for the moment now in milliseconds since 1970 and twelve random digits.
+    Push { now_ms: u64, random: [u8; 12] },
 }
 
 /// The step of a message of the server.
@@ -59,7 +62,41 @@ fn reason_of(alloc: Global, why: &str) -> Result<Reason, AllocError>
     Ok(Reason::of(String::from_str(alloc, why)?))
 }
 
-// The step of a line that asks for one, or the look that it asks for. Its words are looked at in
+// A value that the server sends at a path.
+fn data_step(alloc: Global, tag: u64, path: &str, value: &Value) -> Result<Step, LineError>
+    ensures ok { IfOk result (λ step. line_in (form.Data tag path.now (data_of value.now))
+        ≡ makes step) }
+    ensures fault { IfErr result (λ e. (line_in (form.Data tag path.now (data_of value.now)) ≡ Err e)
+        ⊎ (e ≡ LineError.NoMemory)) }
+{
+    let path = path_of(alloc, path)?;
+    let tree = tree_of(alloc, value)?;
+    Ok(Step::Data { tag, path, tree })
+}
+
+// A write that a seat asks for at the end of the connection.
+fn run_at_end(alloc: Global, seat: u64, written: Written<'_>) -> Result<Step, LineError>
+    ensures ok { IfOk result (λ step. line_in (form.OnDisconnect seat (as_written written.entry))
+        ≡ makes step) }
+    ensures fault { IfErr result (λ e.
+        (line_in (form.OnDisconnect seat (as_written written.entry)) ≡ Err e)
+        ⊎ (e ≡ LineError.NoMemory)) }
+{
+    let ending = Ending::Run(action_of(alloc, written)?);
+    Ok(Step::OnDisconnect { seat, ending })
+}
+
+// That a seat asks for nothing more there.
+fn cancel_at_end(alloc: Global, seat: u64, path: &str) -> Result<Step, LineError>
+    ensures ok { IfOk result (λ step. line_in (form.CancelDisconnect seat path.now) ≡ makes step) }
+    ensures fault { IfErr result (λ e. (line_in (form.CancelDisconnect seat path.now) ≡ Err e)
+        ⊎ (e ≡ LineError.NoMemory)) }
+{
+    let ending = Ending::Cancel(path_of(alloc, path)?);
+    Ok(Step::OnDisconnect { seat, ending })
+}
+
+// The step of a line that asks for one, or what else it asks for. Its words are looked at in
 // their order, so that a line with several faults is refused by the first.
 fn line_of(alloc: Global, form: Form<'_>) -> Result<Line, LineError>
     ensures ok { IfOk result (λ line. line_in (as_form form.entry) ≡ Ok line) }
@@ -76,20 +113,10 @@ fn line_of(alloc: Global, form: Form<'_>) -> Result<Line, LineError>
             let action = action_of(alloc, written)?;
             Step::Write { seat, action }
         }
-        Form::OnDisconnect { seat, written } => {
-            let ending = Ending::Run(action_of(alloc, written)?);
-            Step::OnDisconnect { seat, ending }
-        }
-        Form::CancelDisconnect { seat, path } => {
-            let ending = Ending::Cancel(path_of(alloc, path)?);
-            Step::OnDisconnect { seat, ending }
-        }
+        Form::OnDisconnect { seat, written } => run_at_end(alloc, seat, written)?,
+        Form::CancelDisconnect { seat, path } => cancel_at_end(alloc, seat, path)?,
         Form::Close { seat } => Step::CloseSeat { seat },
-        Form::Data { tag, path, value } => {
-            let path = path_of(alloc, path)?;
-            let tree = tree_of(alloc, value)?;
-            Step::Data { tag, path, tree }
-        }
+        Form::Data { tag, path, value } => data_step(alloc, tag, path, value)?,
         Form::Merge { tag, entries } => {
             let entries = entries_of(alloc, entries)?;
             Step::DataMerge { tag, entries }
@@ -109,6 +136,7 @@ fn line_of(alloc: Global, form: Form<'_>) -> Result<Line, LineError>
         Form::Out => return Ok(Line::Out),
         Form::Cover => return Ok(Line::Cover),
         Form::View { listener } => return Ok(Line::View(listener)),
+        Form::Push { now_ms, random } => return Ok(Line::Push { now_ms, random }),
     };
     Ok(Line::Step(step))
 }

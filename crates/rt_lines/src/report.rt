@@ -1,6 +1,6 @@
 // What a step answers, printed.
 ghost use Rattle.std.specs.Prelude.{◌≡◌, ◌++◌, OnOk};
-ghost use Rattle.rt_lines.specs.Printing.{bad_line, body_text, line, note_text, outcome_text};
+ghost use Rattle.rt_lines.specs.Printing.{bad_line, body_text, id_line, line, note_text, outcome_text};
 ghost use Rattle.rt_lines.specs.Printing.{refusal_text, report_text};
 ghost use Rattle.rt_lines.specs.inside.Appending.{Appends};
 
@@ -84,6 +84,13 @@ pub fn write_refusal(out: &mut String, refusal: Refusal) -> Result<(), AllocErro
     let code = refusal.code();
     let name = refusal.name();
     writeln!(out, "refused {layer} {code} {name}")
+}
+
+/// Prints a push id, whose characters stand in a text: `id` and them.
+pub fn write_id(out: &mut String, id: &str) -> Result<(), AllocError>
+    ensures { OnOk result (Appends out.old out.new (id_line id.now)) }
+{
+    writeln!(out, "id {id}")
 }
 
 /// Prints that the line of that number has no form.

@@ -1,4 +1,4 @@
--- The listeners and their counts, of what is held.
+-- The listeners and their views, of what is held.
 use Rattle.std.proofs.Common.{◌≡◌, ℕ, zero, suc, ◌<◌, Bool, true, false, cond, ◌||◌, List, [], ◌∷◌, ◌++◌, length, get_or, map, refl, sym, ap, ◌∙◌, arith, Option, Some, None}
 use Rattle.std.specs.Prelude.{◌==◌}
 use Rattle.std.specs.List.{All, filter, filter_map, cons_option, find, list_any}
@@ -13,18 +13,18 @@ use Rattle.rt_query.specs.Supply.{form}
 use Rattle.rt_world.specs.Answers.{view_before}
 use Rattle.rt_world.specs.World.{Listener, Reason}
 use Rattle.rt_listeners.specs.declared.held.Held.{Held}
-use Rattle.rt_listeners.specs.Listeners.{cancelled_note, counts_left, counts_where}
-use Rattle.rt_listeners.specs.inside.HeldView.{all_of, AreHeld, counts_of, ended_note, IsHeld, listener_of, listeners_of, own_count, own_counts, own_number, shown_in}
+use Rattle.rt_listeners.specs.Listeners.{cancelled_note, views_left, views_where}
+use Rattle.rt_listeners.specs.inside.HeldView.{all_of, AreHeld, views_of, ended_note, IsHeld, listener_of, listeners_of, own_view, own_views, own_number, shown_in}
 
 -- a test of what is made of each
 pub any_map : {X Y : Type 0} (test : Y → Bool) (f : X → Y) (xs : List X) → list_any test (map f xs) ≡ list_any (λ x. test (f x)) xs
 any_map test f [] = refl
 any_map test f (x ∷ xs) = ap (λ b. test (f x) || b) (any_map test f xs)
 
--- the counts of the listeners that pass
-pub counts_held : (test : Listener → Bool) (held : List Held) → counts_where test (all_of held) ≡ own_counts test held
-counts_held test [] = refl
-counts_held test (h ∷ hs) = ap (cons_option (own_count test h)) (counts_held test hs)
+-- the views of the listeners that pass
+pub views_held : (test : Listener → Bool) (held : List Held) → views_where test (all_of held) ≡ own_views test held
+views_held test [] = refl
+views_held test (h ∷ hs) = ap (cons_option (own_view test h)) (views_held test hs)
 
 -- ---- those that pass
 
@@ -42,16 +42,16 @@ listeners_filter test (h ∷ hs) =
       | false ↦ listeners_filter test hs
     ]
 
-own_filter : (test : Listener → Bool) (held : List Held) → map counts_of (filter (λ h. test (listener_of h)) held) ≡ map (λ c. c.1) (own_counts test held)
+own_filter : (test : Listener → Bool) (held : List Held) → views_of (filter (λ h. test (listener_of h)) held) ≡ map (λ c. c.1) (own_views test held)
 own_filter test [] = refl
 own_filter test (h ∷ hs) =
-    elim (test (listener_of h)) as (λ b. map counts_of (cond b (h ∷ filter (λ h. test (listener_of h)) hs) (filter (λ h. test (listener_of h)) hs)) ≡ map (λ c. c.1) (cons_option (cond b (Some (h.number, counts_of h)) None) (own_counts test hs))) [
-      | true ↦ ap (λ cs. counts_of h ∷ cs) (own_filter test hs)
+    elim (test (listener_of h)) as (λ b. views_of (cond b (h ∷ filter (λ h. test (listener_of h)) hs) (filter (λ h. test (listener_of h)) hs)) ≡ map (λ c. c.1) (cons_option (cond b (Some (h.number, h.view)) None) (own_views test hs))) [
+      | true ↦ ap (λ cs. h.view ∷ cs) (own_filter test hs)
       | false ↦ own_filter test hs
     ]
 
-pub counts_filter : (test : Listener → Bool) (held : List Held) → map counts_of (filter (λ h. test (listener_of h)) held) ≡ counts_left test (all_of held)
-counts_filter test held = own_filter test held ∙ ap (map (λ c. c.1)) (sym (counts_held test held))
+pub views_filter : (test : Listener → Bool) (held : List Held) → views_of (filter (λ h. test (listener_of h)) held) ≡ views_left test (all_of held)
+views_filter test held = own_filter test held ∙ ap (map (λ c. c.1)) (sym (views_held test held))
 
 -- ---- one more
 

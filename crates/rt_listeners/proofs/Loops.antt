@@ -1,9 +1,19 @@
 -- Loops that change each element of a list in its place.
-use Rattle.std.proofs.Common.{◌≡◌, ℕ, zero, suc, ◌<◌, arith, length, take, drop, set, get_or, List, [], ◌∷◌, ◌++◌, map, refl, sym, ap, ◌∙◌, Option, Some, None}
-use Rattle.std.specs.List.{AllPairs, filter_map, cons_option}
+use Rattle.std.proofs.Common.{◌≡◌, ℕ, zero, suc, ◌<◌, arith, length, take, drop, set, get_or, List, [], ◌∷◌, ◌++◌, map, refl, sym, ap, subst, ◌∙◌, Option, Some, None}
+use Rattle.std.specs.List.{All, AllPairs, filter_map, cons_option, zip}
+use Rattle.std.proofs.lemmas.List.Elements.{All-head, All-tail}
 use Rattle.std.proofs.Math.ListN.{get_or-map}
 use Rattle.std.proofs.lemmas.List.{length-map}
 use Rattle.std.specs.Option.{option_to_list}
+use Rattle.rt_tree.specs.Assignments.{Assignment}
+use Rattle.rt_writes.specs.Writes.{Write}
+use Rattle.rt_cache.specs.Brought.{Brought}
+use Rattle.rt_view.specs.Views.{View}
+use Rattle.rt_world.specs.Met.{all_told, renewed_met, told_met}
+use Rattle.rt_world.specs.World.{Listener}
+use Rattle.rt_listeners.specs.declared.held.Held.{Held}
+use Rattle.rt_listeners.specs.inside.HeldView.{listener_of, listeners_of, pair_of, refreshed, views_of}
+use Rattle.rt_listeners.specs.Refreshed.{view_met}
 
 -- the element at i is changed
 pub step_set : {X Y : Type 0} (g : X → Y) (f : Y → Y) (ys : List Y) (xs : List X) (i : ℕ) (d new : X)
@@ -20,6 +30,19 @@ step_set g f (y ∷ ys) (x ∷ xs) (suc i) d new e lt put =
     let head : g x ≡ f y = cc in
     let tail : map g xs ≡ map f (take i ys) ++ drop i ys = cc in
     λ j. head j ∷ step_set g f ys xs i d new tail (omega arith) put j
+
+-- what holds of each of the old holds of one that is left
+pub step_left : {X Y : Type 0} (g : X → Y) (f : Y → Y) (P : Y → Type 0) (ys : List Y) (xs : List X) (i : ℕ) (d : X)
+    → map g xs ≡ map f (take i ys) ++ drop i ys → i < length xs → All P ys → P (g (get_or xs i d))
+step_left g f P ys [] i d e lt h = absurd (omega arith)
+step_left g f P [] (x ∷ xs) zero d e lt h = cc
+step_left g f P (y ∷ ys) (x ∷ xs) zero d e lt h =
+    let head : y ≡ g x = cc in
+    subst P head (All-head P y ys h)
+step_left g f P [] (x ∷ xs) (suc i) d e lt h = cc
+step_left g f P (y ∷ ys) (x ∷ xs) (suc i) d e lt h =
+    let tail : map g xs ≡ map f (take i ys) ++ drop i ys = cc in
+    step_left g f P ys xs i d tail (omega arith) (All-tail P y ys h)
 
 one_more : {Z : Type 0} (o : Option Z) → cons_option o [] ≡ option_to_list o
 one_more (Some z) = refl
@@ -52,12 +75,6 @@ all_set P (x ∷ xs) zero v h p (suc k) d lt = h (suc k) d (omega arith)
 all_set P (x ∷ xs) (suc i) v h p zero d lt = h 0 d (omega arith)
 all_set P (x ∷ xs) (suc i) v h p (suc k) d lt = all_set P xs i v (λ j e l. h (suc j) e (omega arith)) p k d (omega arith)
 
--- what is gathered, where the changed element gives what it gave
-pub gathered_same : {X Y : Type 0} (f : X → Option Y) (xs : List X) (i : ℕ) (new d : X) → i < length xs → f new ≡ f (get_or xs i d) → filter_map f (set xs i new) ≡ filter_map f xs
-gathered_same f [] i new d lt e = absurd (omega arith)
-gathered_same f (x ∷ xs) zero new d lt e = ap (λ o. cons_option o (filter_map f xs)) e
-gathered_same f (x ∷ xs) (suc i) new d lt e = ap (cons_option (f x)) (gathered_same f xs i new d (omega arith) e)
-
 -- numbers that are as they were rise as they did
 pub rising_same : {X : Type 0} (number : X → ℕ) (xs ys : List X) → map number ys ≡ map number xs → AllPairs (λ a b. number a < number b) xs → AllPairs (λ a b. number a < number b) ys
 rising_same number xs ys e h = λ i j d below within.
@@ -73,3 +90,49 @@ gather_more t [] i d lt = absurd (omega arith)
 gather_more t (x ∷ xs) zero d lt = one_more (t x)
 gather_more t (x ∷ xs) (suc i) d lt =
     ap (cons_option (t x)) (gather_more t xs i d (omega arith)) ∙ cons_append (t x) (filter_map t (take i xs)) (option_to_list (t (get_or xs i d)))
+
+-- ---- refreshed pairs
+
+-- the listeners among them
+pub firsts : (ls : List Held) → listeners_of ls ≡ map (λ (p : Listener × Option View). p.0) (map pair_of ls)
+firsts [] = refl
+firsts (l ∷ ls) = ap (λ z. listener_of l ∷ z) (firsts ls)
+
+module _ (entries : List Assignment) (b : Brought) (writes : List Write) where
+  some_firsts : (i : ℕ) (old : List Held) → map (λ (p : Listener × Option View). p.0) (map (refreshed entries b writes) (take i (map pair_of old)) ++ drop i (map pair_of old))
+      ≡ map (renewed_met entries b writes) (take i (listeners_of old)) ++ drop i (listeners_of old)
+  some_firsts zero old = sym (firsts old)
+  some_firsts (suc i) [] = refl
+  some_firsts (suc i) (l ∷ old) = ap (λ z. renewed_met entries b writes (listener_of l) ∷ z) (some_firsts i old)
+
+  -- the notes of one more listener, where pairs are refreshed in their place
+  pub notes_more : (old ls : List Held) (i : ℕ) (d : Held)
+      → map pair_of ls ≡ map (refreshed entries b writes) (take i (map pair_of old)) ++ drop i (map pair_of old) → i < length ls
+      → all_told entries b writes (take (suc i) (listeners_of old)) ≡ all_told entries b writes (take i (listeners_of old)) ++ option_to_list (told_met entries b writes (listener_of (get_or ls i d)))
+  notes_more old ls i d e lt =
+      step_gather listener_of (renewed_met entries b writes) (told_met entries b writes) (listeners_of old) ls i d
+      (firsts ls ∙ ap (map (λ (p : Listener × Option View). p.0)) e ∙ some_firsts i old) lt
+
+  -- all listeners, and all views
+  pub all_listeners : (old ls : List Held) → map pair_of ls ≡ map (refreshed entries b writes) (map pair_of old) → listeners_of ls ≡ map (renewed_met entries b writes) (listeners_of old)
+  all_listeners old ls e = firsts ls ∙ ap (map (λ (p : Listener × Option View). p.0)) e ∙ at old
+    where
+      at : (old : List Held) → map (λ (p : Listener × Option View). p.0) (map (refreshed entries b writes) (map pair_of old)) ≡ map (renewed_met entries b writes) (listeners_of old)
+      at [] = refl
+      at (l ∷ old) = ap (λ z. renewed_met entries b writes (listener_of l) ∷ z) (at old)
+
+  pub all_views : (old ls : List Held) → map pair_of ls ≡ map (refreshed entries b writes) (map pair_of old) → views_of ls ≡ map (view_met entries b writes) (zip (listeners_of old) (views_of old))
+  all_views old ls e = seconds ls ∙ ap (map (λ (p : Listener × Option View). p.1)) e ∙ at old
+    where
+      seconds : (ls : List Held) → views_of ls ≡ map (λ (p : Listener × Option View). p.1) (map pair_of ls)
+      seconds [] = refl
+      seconds (l ∷ ls) = ap (λ z. l.view ∷ z) (seconds ls)
+
+      at : (old : List Held) → map (λ (p : Listener × Option View). p.1) (map (refreshed entries b writes) (map pair_of old)) ≡ map (view_met entries b writes) (zip (listeners_of old) (views_of old))
+      at [] = refl
+      at (l ∷ old) = ap (λ z. view_met entries b writes (pair_of l) ∷ z) (at old)
+
+-- listeners with their views
+pub zip_pairs : (ls : List Held) → zip (listeners_of ls) (views_of ls) ≡ map pair_of ls
+zip_pairs [] = refl
+zip_pairs (l ∷ ls) = ap (λ z. pair_of l ∷ z) (zip_pairs ls)

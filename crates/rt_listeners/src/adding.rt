@@ -3,8 +3,8 @@ ghost use Rattle.std.specs.Prelude.{◌≡◌, ◌++◌, IfOk, OnOk};
 ghost use Rattle.std.specs.Option.{option_to_list};
 ghost use Rattle.rt_world.specs.Met.{told};
 ghost use Rattle.rt_world.specs.Steps.{renewed};
-ghost use Rattle.rt_listeners.specs.Listeners.{first_counts, new_listener};
-ghost use Rattle.rt_listeners.specs.inside.HeldView.{IsHeld, counts_of, listener_of};
+ghost use Rattle.rt_listeners.specs.Listeners.{first_view_of, new_listener};
+ghost use Rattle.rt_listeners.specs.inside.HeldView.{IsHeld, listener_of};
 
 use crate::held::Held;
 use crate::views::renew;
@@ -28,7 +28,7 @@ pub(crate) fn first(
         ≡ renewed brought.now pending.now (new_listener number seat query)) }
     ensures held { IfOk result (λ l. IsHeld l) }
     ensures number { IfOk result (λ l. l.number ≡ number) }
-    ensures counts { IfOk result (λ l. counts_of l ≡ first_counts brought.now pending.now query) }
+    ensures view { IfOk result (λ l. l.view ≡ first_view_of brought.now pending.now query) }
     ensures notes { OnOk result (notes.new.items ≡ notes.old.items
         ++ option_to_list (told brought.now pending.now (new_listener number seat query))) }
 {

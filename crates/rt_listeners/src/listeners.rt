@@ -1,22 +1,23 @@
 // The registered listeners.
 ghost use Rattle.std.specs.Prelude.{◌≡◌, ◌≢◌, ◌==◌, ◌↔◌, ◌&&◌, ◌<◌, ◌++◌, ◌∷◌, [], not, map};
 ghost use Rattle.std.specs.Prelude.{length, IsTrue, IfOk, OnOk, OnErr, None, Err};
-ghost use Rattle.std.specs.List.{All, filter, find, list_any};
+ghost use Rattle.std.specs.List.{All, filter, find, list_any, zip};
 ghost use Rattle.std.specs.Option.{option_to_list};
 ghost use Rattle.rt_query.specs.QueryEq.{query_eq};
 ghost use Rattle.rt_query.specs.Supply.{form};
 ghost use Rattle.rt_world.specs.Answers.{view_before};
-ghost use Rattle.rt_world.specs.Met.{all_told, do_meet, renewed_met, told};
+ghost use Rattle.rt_world.specs.Met.{all_told, renewed_met, told};
 ghost use Rattle.rt_world.specs.Steps.{renewed};
-ghost use Rattle.rt_listeners.specs.Listeners.{cancelled_note, counts_left, counts_where};
-ghost use Rattle.rt_listeners.specs.Listeners.{first_counts, new_listener, no_listeners};
+ghost use Rattle.rt_listeners.specs.Listeners.{cancelled_note, first_view_of, new_listener};
+ghost use Rattle.rt_listeners.specs.Listeners.{no_listeners, views_left};
+ghost use Rattle.rt_listeners.specs.Refreshed.{FollowNamed, view_met};
 
 use crate::adding::first;
 use crate::asking::{numbers_of, shown};
 use crate::ending::{end_form, end_number, end_seat, tell_ends};
 use crate::error::ShownError;
 use crate::held::{Held, is_seats};
-use crate::views::renew_met;
+use crate::views::refresh;
 use rt_cache::Brought;
 use rt_query::{Query, Shown};
 use rt_tree::{Path, Tree};
@@ -77,32 +78,35 @@ impl Listeners {
         is_seats(&self.held, seat, number)
     }
 
-    /// Takes the views of the listeners from scratch whose paths an entry meets, and tells their
-    /// seats what changes; one with no view gets its first, where something is known for it. Of
-    /// each other listener the path alone is looked at.
+    /// Takes anew what the entries meet, and tells the seats what changes. A view below whose path
+    /// all of them lie is touched with the children that they name, where an object stays, and costs
+    /// by these; any other view that one meets is taken from scratch, and a listener without one gets
+    /// its first, where something is known for it. Of each other listener the path alone is looked
+    /// at.
     ///
     /// # Errors
     ///
     /// Want of memory. The listeners are gone then, and some seats may be told.
-    pub fn renew_met(
+    pub fn refresh(
         &mut self,
         entries: &[(Path, Tree)],
         brought: &Brought,
         pending: &Pending,
         notes: &mut Vec<Note>,
     ) -> Result<(), AllocError>
-        ensures views { OnOk result (self.new.listeners
+        requires follow { FollowNamed entries.now brought.now pending.now self.old }
+        ensures listeners { OnOk result (self.new.listeners
             ≡ map (renewed_met entries.now brought.now pending.now) self.old.listeners) }
-        ensures counts { OnOk result
-            (counts_where (λ l. not (do_meet entries.now l.query.path)) self.new
-            ≡ counts_where (λ l. not (do_meet entries.now l.query.path)) self.old) }
+        ensures views { OnOk result (self.new.views
+            ≡ map (view_met entries.now brought.now pending.now)
+            (zip self.old.listeners self.old.views)) }
         ensures notes { OnOk result (notes.new.items ≡ notes.old.items
             ++ all_told entries.now brought.now pending.now self.old.listeners) }
         ensures gives_up { OnErr result (self.new ≡ no_listeners) }
     {
         let alloc = *self.held.allocator();
         let mut held = replace(&mut self.held, Vec::new(alloc));
-        renew_met(alloc, held.as_mut_slice(), entries, brought, pending, notes)?;
+        refresh(alloc, held.as_mut_slice(), entries, brought, pending, notes)?;
         self.held = held;
         Ok(())
     }
@@ -125,8 +129,8 @@ impl Listeners {
         requires above { All (λ l. l.number < number) self.old.listeners }
         ensures listeners { OnOk result (self.new.listeners ≡ self.old.listeners
             ++ renewed brought.now pending.now (new_listener number seat query) ∷ []) }
-        ensures counts { OnOk result (self.new.counts ≡ self.old.counts
-            ++ first_counts brought.now pending.now query ∷ []) }
+        ensures views { OnOk result (self.new.views ≡ self.old.views
+            ++ first_view_of brought.now pending.now query ∷ []) }
         ensures notes { OnOk result (notes.new.items ≡ notes.old.items
             ++ option_to_list (told brought.now pending.now (new_listener number seat query))) }
         ensures unchanged { OnErr result (self.new ≡ self.old) }
@@ -142,7 +146,7 @@ impl Listeners {
     pub fn remove(&mut self, number: u64)
         ensures listeners { self.new.listeners
             ≡ filter (λ l. not (l.number == number)) self.old.listeners }
-        ensures counts { self.new.counts ≡ counts_left (λ l. not (l.number == number)) self.old }
+        ensures views { self.new.views ≡ views_left (λ l. not (l.number == number)) self.old }
     {
         end_number(&mut self.held, number);
     }
@@ -151,7 +155,7 @@ impl Listeners {
     pub fn close(&mut self, seat: u64)
         ensures listeners { self.new.listeners
             ≡ filter (λ l. not (l.seat == seat)) self.old.listeners }
-        ensures counts { self.new.counts ≡ counts_left (λ l. not (l.seat == seat)) self.old }
+        ensures views { self.new.views ≡ views_left (λ l. not (l.seat == seat)) self.old }
     {
         end_seat(&mut self.held, seat);
     }
@@ -170,8 +174,8 @@ impl Listeners {
     ) -> Result<(), AllocError>
         ensures listeners { OnOk result (self.new.listeners
             ≡ filter (λ l. not (query_eq (form l.query) listened.now)) self.old.listeners) }
-        ensures counts { OnOk result (self.new.counts
-            ≡ counts_left (λ l. not (query_eq (form l.query) listened.now)) self.old) }
+        ensures views { OnOk result (self.new.views
+            ≡ views_left (λ l. not (query_eq (form l.query) listened.now)) self.old) }
         ensures notes { OnOk result (notes.new.items ≡ notes.old.items
             ++ map (cancelled_note why.now)
             (filter (λ l. query_eq (form l.query) listened.now) self.old.listeners)) }

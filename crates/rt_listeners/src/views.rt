@@ -1,7 +1,8 @@
 // The view of a listener, and what its seat is told.
-ghost use Rattle.std.specs.Prelude.{◌≡◌, ◌++◌, ◌||◌, map, not, IfOk, IfSome, OnOk};
-ghost use Rattle.std.specs.Prelude.{None, Some};
-ghost use Rattle.std.specs.Option.{option_to_list};
+ghost use Rattle.std.specs.Prelude.{◌≡◌, ◌≤◌, ◌++◌, ◌||◌, false, map, IfOk, IfSome, OnOk, Some};
+ghost use Rattle.std.specs.List.{All};
+ghost use Rattle.std.specs.Option.{option_map, option_map_or, option_to_list};
+ghost use Rattle.rt_tree.specs.PathTree.{levels};
 ghost use Rattle.rt_query.specs.Select.{select};
 ghost use Rattle.rt_writes.specs.Writes.{IsShallow};
 ghost use Rattle.rt_cache.specs.Brought.{base};
@@ -10,16 +11,20 @@ ghost use Rattle.rt_world.specs.Views.{base_tree, is_base_whole, is_known, seen_
 ghost use Rattle.rt_world.specs.Steps.{renewed};
 ghost use Rattle.rt_world.specs.Answers.{batch_note};
 ghost use Rattle.rt_listeners.specs.inside.HeldView.{IsHeld, AreHeld, listener_of, listeners_of};
-ghost use Rattle.rt_listeners.specs.inside.HeldView.{counts_of, own_count, own_counts, shown_in};
-ghost use Rattle.rt_listeners.specs.Listeners.{first_counts, first_of};
-ghost use Rattle.rt_world.specs.Met.{all_told, do_meet, renewed_met, seeing, told};
-ghost use Rattle.rt_world.specs.Met.{told_met};
+ghost use Rattle.rt_listeners.specs.inside.HeldView.{pair_of, refreshed, shown_in, view_anew};
+ghost use Rattle.rt_listeners.specs.inside.HeldView.{view_over};
+ghost use Rattle.rt_listeners.specs.Refreshed.{FollowsNamed, view_after};
+ghost use Rattle.rt_view.specs.Views.{stays_object, touched};
+ghost use Rattle.rt_view.specs.Views.{told as told_of};
+ghost use Rattle.rt_world.specs.Met.{all_told, do_meet, seeing, told, told_met};
+ghost use Rattle.rt_world.specs.Touched.{is_covered};
 
 use crate::held::Held;
 use crate::known::known_over;
+use crate::named::named_children;
 use rt_cache::{Base, Brought};
 use rt_query::Query;
-use rt_tree::{Path, Tree};
+use rt_tree::{Key, MAX_KEYS, Path, Tree};
 use rt_view::{Batch, ChangeList, View};
 use rt_world::{Body, Note};
 use rt_writes::Pending;
@@ -33,7 +38,7 @@ fn is_known(brought: &Brought, pending: &Pending, query: &Query) -> bool
 }
 
 // The tree brought for the path; nothing is null.
-fn tree_of(path: &Path, base: Option<Base>) -> Tree
+pub(crate) fn tree_of(path: &Path, base: Option<Base>) -> Tree
     requires { IfSome base (λ b. IsShallow (path.now, b.tree)) }
     ensures tree { result ≡ base_tree base }
     ensures shallow { IsShallow (path.now, result) }
@@ -47,7 +52,7 @@ fn tree_of(path: &Path, base: Option<Base>) -> Tree
 }
 
 // Whether all that the query's path has is brought.
-fn is_whole(base: &Option<Base>) -> bool
+pub(crate) fn is_whole(base: &Option<Base>) -> bool
     ensures { result ≡ is_base_whole base.now }
 {
     match base {
@@ -85,8 +90,8 @@ fn show(alloc: Global, listener: &mut Held, seen: Tree) -> Result<ChangeList, Al
     ensures view { OnOk result (listener_of listener.new ≡ seeing seen (listener_of listener.old)) }
     ensures held { OnOk result (IsHeld listener.new) }
     ensures number { listener.new.number ≡ listener.old.number }
-    ensures first { OnOk result (listener.old.view ≡ None
-        → counts_of listener.new ≡ Some (first_of seen)) }
+    ensures taken { OnOk result (listener.new.view
+        ≡ Some (view_over listener.old.query seen listener.old.view)) }
     ensures changes { IfOk result (λ list. list
         ≡ changes listener.old.query.index (shown_in listener.old.view)
         (select listener.old.query seen)) }
@@ -135,8 +140,8 @@ pub(crate) fn renew(
         ≡ renewed brought.now pending.now (listener_of listener.old)) }
     ensures held { OnOk result (IsHeld listener.new) }
     ensures number { listener.new.number ≡ listener.old.number }
-    ensures first { OnOk result (listener.old.view ≡ None
-        → counts_of listener.new ≡ first_counts brought.now pending.now listener.old.query) }
+    ensures taken { OnOk result (listener.new.view
+        ≡ view_anew brought.now pending.now listener.old.query listener.old.view) }
     ensures notes { OnOk result (notes.new.items ≡ notes.old.items
         ++ option_to_list (told brought.now pending.now (listener_of listener.old))) }
 {
@@ -148,15 +153,43 @@ pub(crate) fn renew(
     tell(notes, listener, changes)
 }
 
-// Whether one of the entries sits at, above or below the path.
-fn do_meet(entries: &[(Path, Tree)], path: &Path) -> bool
-    ensures { result ≡ do_meet entries.now path.now }
+// Whether the listener's view stays an object once these children are put into it; none does not.
+fn stays_object(listener: &Held, named: &[(Key, Tree)]) -> bool
+    ensures { result ≡ option_map_or (λ v. stays_object v.tree named.now) listener.now.view false }
 {
-    entries.iter().any(|entry| entry.0.is_prefix_of(path) || path.is_prefix_of(&entry.0))
+    match &listener.view {
+        Some(view) => view.stays_object(named),
+        None => false,
+    }
 }
 
-// The same, where an entry meets the listener's path; else its view isn't looked at.
-fn renew_if_met(
+// Puts these children into the listener's view, which it has: the changes of the view.
+fn touch(
+    alloc: Global,
+    listener: &mut Held,
+    named: Vec<(Key, Tree)>,
+) -> Result<ChangeList, AllocError>
+    requires held { IsHeld listener.old }
+    requires levels { All (λ c. levels c.1 ≤ MAX_KEYS) named.items }
+    ensures listener { OnOk result (listener.new ≡ record listener.old { view =
+        option_map (λ v. touched v named.items) listener.old.view }) }
+    ensures number { listener.new.number ≡ listener.old.number }
+    ensures changes { IfOk result (λ list. (v : View) → listener.old.view ≡ Some v
+        → list ≡ told_of v (touched v named.items)) }
+{
+    let Some(view) = &mut listener.view else {
+        drop(named);
+        return Err(AllocError);
+    };
+    match view.touch(alloc, named) {
+        Ok(changes) => Ok(changes),
+        Err(_) => Err(AllocError),
+    }
+}
+
+// Touches the view with the children that the entries name, if it stays an object; else takes it from
+// scratch.
+fn touch_or_renew(
     alloc: Global,
     listener: &mut Held,
     entries: &[(Path, Tree)],
@@ -165,24 +198,68 @@ fn renew_if_met(
     notes: &mut Vec<Note>,
 ) -> Result<(), AllocError>
     requires held { IsHeld listener.old }
+    requires low { is_covered listener.old.query.path entries.now ≡ false }
+    requires follow { FollowsNamed entries.now brought.now pending.now (pair_of listener.old) }
     ensures view { OnOk result (listener_of listener.new
-        ≡ renewed_met entries.now brought.now pending.now (listener_of listener.old)) }
+        ≡ renewed brought.now pending.now (listener_of listener.old)) }
     ensures held { OnOk result (IsHeld listener.new) }
     ensures number { listener.new.number ≡ listener.old.number }
-    ensures counts { OnOk result
-        (own_count (λ l. not (do_meet entries.now l.query.path)) listener.new
-        ≡ own_count (λ l. not (do_meet entries.now l.query.path)) listener.old) }
+    ensures taken { OnOk result (listener.new.view
+        ≡ view_after entries.now brought.now pending.now listener.old.query listener.old.view) }
+    ensures notes { OnOk result (notes.new.items ≡ notes.old.items
+        ++ option_to_list (told brought.now pending.now (listener_of listener.old))) }
+{
+    let named = named_children(alloc, entries, brought, pending, &listener.query)?;
+    if !stays_object(listener, &named) {
+        return renew(alloc, listener, brought, pending, notes);
+    }
+    let changes = touch(alloc, listener, named)?;
+    tell(notes, listener, changes)
+}
+
+// Whether one of the entries sits at, above or below the path.
+fn do_meet(entries: &[(Path, Tree)], path: &Path) -> bool
+    ensures { result ≡ do_meet entries.now path.now }
+{
+    entries.iter().any(|entry| entry.0.is_prefix_of(path) || path.is_prefix_of(&entry.0))
+}
+
+// Whether one of them sits at or above it.
+fn is_covered(entries: &[(Path, Tree)], path: &Path) -> bool
+    ensures { result ≡ is_covered path.now entries.now }
+{
+    entries.iter().any(|entry| entry.0.is_prefix_of(path))
+}
+
+// Touches or renews the view, where an entry meets the listener's path; else it isn't looked at.
+fn refresh_one(
+    alloc: Global,
+    listener: &mut Held,
+    entries: &[(Path, Tree)],
+    brought: &Brought,
+    pending: &Pending,
+    notes: &mut Vec<Note>,
+) -> Result<(), AllocError>
+    requires held { IsHeld listener.old }
+    requires follow { FollowsNamed entries.now brought.now pending.now (pair_of listener.old) }
+    ensures pair { OnOk result (pair_of listener.new
+        ≡ refreshed entries.now brought.now pending.now (pair_of listener.old)) }
+    ensures held { OnOk result (IsHeld listener.new) }
+    ensures number { listener.new.number ≡ listener.old.number }
     ensures notes { OnOk result (notes.new.items ≡ notes.old.items ++ option_to_list
         (told_met entries.now brought.now pending.now (listener_of listener.old))) }
 {
     if !do_meet(entries, listener.query.path()) {
         return Ok(());
     }
-    renew(alloc, listener, brought, pending, notes)
+    if is_covered(entries, listener.query.path()) {
+        return renew(alloc, listener, brought, pending, notes);
+    }
+    touch_or_renew(alloc, listener, entries, brought, pending, notes)
 }
 
 // The same of all listeners.
-pub(crate) fn renew_met(
+pub(crate) fn refresh(
     alloc: Global,
     listeners: &mut [Held],
     entries: &[(Path, Tree)],
@@ -191,17 +268,16 @@ pub(crate) fn renew_met(
     notes: &mut Vec<Note>,
 ) -> Result<(), AllocError>
     requires held { AreHeld listeners.old }
-    ensures views { OnOk result (listeners_of listeners.new
-        ≡ map (renewed_met entries.now brought.now pending.now) (listeners_of listeners.old)) }
+    requires follow { All (FollowsNamed entries.now brought.now pending.now)
+        (map pair_of listeners.old) }
+    ensures pairs { OnOk result (map pair_of listeners.new
+        ≡ map (refreshed entries.now brought.now pending.now) (map pair_of listeners.old)) }
     ensures held { OnOk result (AreHeld listeners.new) }
-    ensures counts { OnOk result
-        (own_counts (λ l. not (do_meet entries.now l.query.path)) listeners.new
-        ≡ own_counts (λ l. not (do_meet entries.now l.query.path)) listeners.old) }
     ensures notes { OnOk result (notes.new.items ≡ notes.old.items
         ++ all_told entries.now brought.now pending.now (listeners_of listeners.old)) }
 {
     for listener in listeners.iter_mut() {
-        renew_if_met(alloc, listener, entries, brought, pending, notes)?;
+        refresh_one(alloc, listener, entries, brought, pending, notes)?;
     }
     Ok(())
 }

@@ -1,6 +1,7 @@
 // The source of push ids.
 ghost use Rattle.std.specs.Prelude.{◌≡◌, ◌≤◌, ◌<◌, ◌^◌, ℕ, Option, Some, None, IfOk, OnOk, OnErr};
 ghost use Rattle.std.specs.Result.{result_err};
+ghost use Rattle.std.specs.Str.{IsUtf8};
 ghost use Rattle.rt_push.specs.Digits.{number};
 ghost use Rattle.rt_push.specs.PushIds.{Stamp, push_fault, push_id, used};
 
@@ -92,6 +93,7 @@ impl PushIds {
     pub fn next(&mut self, now_ms: u64, random: [u8; 12]) -> Result<[u8; 20], PushError>
         ensures fault { result_err result ≡ push_fault self.old now_ms random }
         ensures id { IfOk result (λ id. id ≡ push_id (used self.old now_ms (number random))) }
+        ensures text { IfOk result IsUtf8 }
         ensures used { OnOk result (self.new ≡ Some (used self.old now_ms (number random))) }
         ensures unchanged { OnErr result (self.new ≡ self.old) }
     {

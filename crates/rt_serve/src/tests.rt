@@ -1,6 +1,6 @@
 // Streams in memory are served: what clients write, what they are sent, and what the peer then is.
 use crate::serve_stream;
-use crate::socket::{Heard, accepted, hear};
+use crate::socket::{Heard, Socket, accepted, hear};
 use rt_peer::Peer;
 use rt_tree::Tree;
 use std::alloc::Global;
@@ -95,6 +95,13 @@ impl Write for Room<'_> {
     }
 }
 
+// What a client is sent, and the tree then, behind the number that the next connection gets.
+#[derive(Drop)]
+struct Sight {
+    out: Vec<u8>,
+    state: String,
+}
+
 // What is sent to a client that writes this, where so many bytes can be sent.
 fn served<R: Read + Drop>(
     alloc: Global,
@@ -111,6 +118,40 @@ fn served<R: Read + Drop>(
     Ok(out)
 }
 
+fn peer_of(alloc: Global, json: &str) -> Result<Peer, Fail> {
+    Ok(Peer::new(Tree::read(alloc, json)?, Vec::new(alloc)))
+}
+
+// The tree, behind the number that the next connection gets.
+fn state(alloc: Global, peer: &mut Peer) -> Result<String, Fail> {
+    let next = peer.connect()?;
+    let tree = peer.tree().text(alloc)?;
+    Ok(format!(in alloc; "{next} {tree}")?)
+}
+
+fn seen_of<R: Read + Drop>(
+    alloc: Global,
+    peer: &mut Peer,
+    reader: R,
+    room: usize,
+) -> Result<Sight, Fail> {
+    let out = served(alloc, peer, reader, room)?;
+    let state = state(alloc, peer)?;
+    Ok(Sight { out, state })
+}
+
+// What a client that writes this sees of a peer with this tree, where so many bytes can be sent.
+fn seen<R: Read + Drop>(alloc: Global, json: &str, reader: R, room: usize) -> Result<Sight, Fail> {
+    let mut peer = peer_of(alloc, json)?;
+    seen_of(alloc, &mut peer, reader, room)
+}
+
+// The same of a client that writes these messages behind its head.
+fn seen_of_messages(alloc: Global, messages: &[(u8, &str)]) -> Result<Sight, Fail> {
+    let frames = frames_of(alloc, messages)?;
+    seen(alloc, "null", HEAD.chain(frames.as_slice()), usize::MAX)
+}
+
 // What stands behind the head.
 fn behind_head(bytes: &[u8]) -> &[u8] {
     for at in 0..bytes.len() {
@@ -121,73 +162,83 @@ fn behind_head(bytes: &[u8]) -> &[u8] {
     bytes
 }
 
-fn peer_of(alloc: Global, json: &str) -> Result<Peer, Fail> {
-    Ok(Peer::new(Tree::read(alloc, json)?, Vec::new(alloc)))
+// What stands behind these bytes; nothing where they don't stand first.
+fn behind<'a>(first: &[u8], bytes: &'a [u8]) -> &'a [u8] {
+    bytes.strip_prefix(first).unwrap_or(&[])
 }
 
-// The tree, behind the number that the next connection gets.
-fn state(alloc: Global, peer: &mut Peer) -> Result<String, Fail> {
-    let tree = peer.tree().text(alloc)?;
-    let next = peer.connect()?;
-    Ok(format!(in alloc; "{next} {tree}")?)
+// Whether these are the bytes of an accepted handshake.
+fn is_accepted(bytes: &[u8]) -> bool {
+    bytes.starts_with(b"HTTP/1.1 101 ") && bytes.windows(ACCEPT.len()).any(|part| part == ACCEPT)
 }
 
 // A ping is answered, a listen is shown what stands there, and a write is shown and answered.
 #[test]
 fn whole_session(rt: HostRuntime) -> Result<(), Fail> {
-    let alloc = rt.alloc();
-    let frames = frames_of(alloc, &SESSION)?;
-    let mut peer = peer_of(alloc, "null")?;
-    let out = served(alloc, &mut peer, HEAD.chain(frames.as_slice()), usize::MAX)?;
-    assert!(rt; out.starts_with(b"HTTP/1.1 101 "));
-    assert!(rt; out.windows(ACCEPT.len()).any(|part| part == ACCEPT));
-    let mut want = Vec::from_slice(alloc, SHOWN)?;
-    want.extend_from_slice(WRITTEN)?;
-    want.extend_from_slice(KEPT)?;
-    assert_eq!(rt; behind_head(&out), want.as_slice());
-    assert_eq!(rt; state(alloc, &mut peer)?.as_str(), r#"1 {"a":5,"b":6}"#);
+    let seen = seen_of_messages(rt.alloc(), &SESSION)?;
+    assert!(rt; is_accepted(&seen.out));
+    assert_eq!(rt;
+        behind(WRITTEN, behind(SHOWN, behind_head(&seen.out))),
+        KEPT
+    );
+    assert_eq!(rt; seen.state.as_str(), r#"1 {"a":5,"b":6}"#);
     Ok(())
 }
 
-// A text that is no message and a message that is no text are passed over; a close is answered, and
-// nothing is taken behind it.
+// A text that is no message, a message that is no text, a text in two parts with a ping between
+// them, and a text behind a close.
+const STRAY: [(u8, &str); 7] = [
+    (TEXT, "x"),
+    (BINARY, r#"{"id":1,"k":"put","path":"/a","value":4}"#),
+    (FIRST_PART, r#"{"id":2,"k":"put","#),
+    (PING, ""),
+    (LAST_PART, r#""path":"/a","value":5}"#),
+    (CLOSE, ""),
+    (TEXT, r#"{"id":3,"k":"put","path":"/a","value":7}"#),
+];
+
+// The first two are passed over; a close is answered, and nothing is taken behind it.
 #[test]
 fn passed_over(rt: HostRuntime) -> Result<(), Fail> {
-    let alloc = rt.alloc();
-    let frames = frames_of(
-        alloc,
-        &[
-            (TEXT, "x"),
-            (BINARY, r#"{"id":1,"k":"put","path":"/a","value":4}"#),
-            (FIRST_PART, r#"{"id":2,"k":"put","#),
-            (PING, ""),
-            (LAST_PART, r#""path":"/a","value":5}"#),
-            (CLOSE, ""),
-            (TEXT, r#"{"id":3,"k":"put","path":"/a","value":7}"#),
-        ],
-    )?;
-    let mut peer = peer_of(alloc, "null")?;
-    let out = served(alloc, &mut peer, HEAD.chain(frames.as_slice()), usize::MAX)?;
+    let seen = seen_of_messages(rt.alloc(), &STRAY)?;
     assert_eq!(rt;
-        behind_head(&out),
+        behind_head(&seen.out),
         b"\x8a\x00\x81\x11{\"id\":2,\"k\":\"ok\"}\x88\x00".as_slice()
     );
-    assert_eq!(rt; state(alloc, &mut peer)?.as_str(), r#"1 {"a":5}"#);
+    assert_eq!(rt; seen.state.as_str(), r#"1 {"a":5}"#);
     Ok(())
 }
 
-// Where the head is no request for a WebSocket, or more comes with it, the peer is as it was.
+// The head and a session in one.
+fn early(alloc: Global) -> Result<Vec<u8>, Fail> {
+    let frames = frames_of(alloc, &SESSION)?;
+    let mut early = Vec::from_slice(alloc, HEAD)?;
+    early.extend_from_slice(&frames)?;
+    Ok(early)
+}
+
+// What a client sees that writes the head and a session in one.
+fn seen_early(alloc: Global) -> Result<Sight, Fail> {
+    let early = early(alloc)?;
+    seen(alloc, "1", early.as_slice(), usize::MAX)
+}
+
+// Where the head is no request for a WebSocket the peer is as it was.
 #[test]
 fn no_handshake(rt: HostRuntime) -> Result<(), Fail> {
-    let alloc = rt.alloc();
-    let mut early = Vec::from_slice(alloc, HEAD)?;
-    early.extend_from_slice(&frames_of(alloc, &SESSION)?)?;
-    for head in [b"GET / HTTP/1.1\r\nHost: a\r\n\r\n".as_slice(), &early] {
-        let mut peer = peer_of(alloc, "1")?;
-        let out = served(alloc, &mut peer, head, usize::MAX)?;
-        assert_eq!(rt; out.as_slice(), [].as_slice());
-        assert_eq!(rt; state(alloc, &mut peer)?.as_str(), "1 1");
-    }
+    let head = b"GET / HTTP/1.1\r\nHost: a\r\n\r\n".as_slice();
+    let seen = seen(rt.alloc(), "1", head, usize::MAX)?;
+    assert_eq!(rt; seen.out.as_slice(), [].as_slice());
+    assert_eq!(rt; seen.state.as_str(), "1 1");
+    Ok(())
+}
+
+// So it is where more comes with the head.
+#[test]
+fn early_frames(rt: HostRuntime) -> Result<(), Fail> {
+    let seen = seen_early(rt.alloc())?;
+    assert_eq!(rt; seen.out.as_slice(), [].as_slice());
+    assert_eq!(rt; seen.state.as_str(), "1 1");
     Ok(())
 }
 
@@ -203,47 +254,75 @@ fn state_behind(count: usize, written: usize, asked: usize) -> &'static str {
     }
 }
 
+// What a client sees whose reads fail behind so many bytes.
+fn seen_of_reads(alloc: Global, frames: &[u8], count: usize) -> Result<Sight, Fail> {
+    let reader = HEAD.chain(frames).take(count as u64);
+    seen(alloc, "null", reader.chain(Broken), usize::MAX)
+}
+
+// After how many bytes of the session a failing read first leaves another state than it has to.
+fn wrong_read(alloc: Global) -> Result<Option<usize>, Fail> {
+    let frames = frames_of(alloc, &SESSION)?;
+    let last = frames_of(alloc, &SESSION[3..])?.len();
+    let asked = HEAD.len() + frames.len();
+    for count in 0..=asked {
+        let seen = seen_of_reads(alloc, &frames, count)?;
+        if seen.state.as_str() != state_behind(count, asked.saturating_sub(last), asked) {
+            return Ok(Some(count));
+        }
+    }
+    Ok(None)
+}
+
 // A read fails behind each of the bytes: all that was read whole is taken, and the connection ended.
 #[test]
 fn failing_reads(rt: HostRuntime) -> Result<(), Fail> {
-    let alloc = rt.alloc();
-    let frames = frames_of(alloc, &SESSION)?;
-    let written = HEAD.len() + frames_of(alloc, &SESSION[..3])?.len();
-    let all = HEAD.len() + frames.len();
-    for count in 0..=all {
-        let mut peer = peer_of(alloc, "null")?;
-        let reader = HEAD.chain(frames.as_slice()).take(count as u64);
-        drop(served(alloc, &mut peer, reader.chain(Broken), usize::MAX)?);
-        assert_eq!(rt;
-            state(alloc, &mut peer)?.as_str(),
-            state_behind(count, written, all),
-            "{count}"
-        );
-    }
+    assert_eq!(rt; wrong_read(rt.alloc())?, None);
     Ok(())
+}
+
+// Whether a client of which so many bytes can be sent sees what it has to, where these are all.
+fn is_cut(seen: &Sight, whole: &[u8], count: usize) -> bool {
+    let asked = whole.len().saturating_sub(KEPT.len());
+    let written = asked.saturating_sub(WRITTEN.len());
+    seen.out.len() == count
+        && whole.starts_with(&seen.out)
+        && seen.state.as_str() == state_behind(count, written, asked)
+}
+
+// After how many bytes that are sent in the session a failing write is first told otherwise.
+fn wrong_write(alloc: Global, frames: &[u8], whole: &[u8]) -> Result<Option<usize>, Fail> {
+    for count in 0..=whole.len() {
+        let seen = seen(alloc, "null", HEAD.chain(frames), count)?;
+        if !is_cut(&seen, whole, count) {
+            return Ok(Some(count));
+        }
+    }
+    Ok(None)
+}
+
+fn wrong_write_of_session(alloc: Global) -> Result<Option<usize>, Fail> {
+    let frames = frames_of(alloc, &SESSION)?;
+    let whole = seen(alloc, "null", HEAD.chain(frames.as_slice()), usize::MAX)?;
+    wrong_write(alloc, &frames, &whole.out)
 }
 
 // A write fails behind each of the bytes: those before are sent, a request is taken before it is
 // answered, and the connection is ended.
 #[test]
 fn failing_writes(rt: HostRuntime) -> Result<(), Fail> {
-    let alloc = rt.alloc();
-    let frames = frames_of(alloc, &SESSION)?;
-    let mut peer = peer_of(alloc, "null")?;
-    let whole = served(alloc, &mut peer, HEAD.chain(frames.as_slice()), usize::MAX)?;
-    let asked = whole.len().saturating_sub(KEPT.len());
-    let written = asked.saturating_sub(WRITTEN.len());
-    for count in 0..=whole.len() {
-        let mut peer = peer_of(alloc, "null")?;
-        let out = served(alloc, &mut peer, HEAD.chain(frames.as_slice()), count)?;
-        assert_eq!(rt; out.as_slice(), &whole[..count]);
-        assert_eq!(rt;
-            state(alloc, &mut peer)?.as_str(),
-            state_behind(count, written, asked),
-            "{count}"
-        );
-    }
+    assert_eq!(rt; wrong_write_of_session(rt.alloc())?, None);
     Ok(())
+}
+
+// How many texts are heard of a socket, of at most ten.
+fn texts<S: Read + Write + Drop>(socket: &mut Socket<S>) -> Result<usize, Fail> {
+    for count in 0..10 {
+        if !matches!(hear(socket)?, Heard::Text(_)) {
+            return Ok(count);
+        }
+    }
+    Ok(10)
 }
 
 // How many texts are heard of these frames, where at most so many bytes are read for one.
@@ -253,15 +332,10 @@ fn heard(alloc: Global, frames: &[u8], most: usize) -> Result<usize, Fail> {
         reader: HEAD.chain(frames),
         writer: &mut out,
     };
-    let Some(mut socket) = accepted(alloc, stream, most)? else {
-        return Ok(usize::MAX);
-    };
-    for count in 0..10 {
-        if !matches!(hear(&mut socket)?, Heard::Text(_)) {
-            return Ok(count);
-        }
+    match accepted(alloc, stream, most)? {
+        Some(mut socket) => texts(&mut socket),
+        None => Ok(usize::MAX),
     }
-    Ok(10)
 }
 
 // Two texts that are too long together, and one of so many empty parts.
@@ -275,31 +349,38 @@ fn parts(alloc: Global, count: usize) -> Result<Vec<u8>, Fail> {
     Ok(out)
 }
 
+fn heard_parts(alloc: Global, count: usize) -> Result<usize, Fail> {
+    let frames = parts(alloc, count)?;
+    heard(alloc, &frames, 200)
+}
+
 // The bytes are counted for each message, however few of them are the message's own.
 #[test]
 fn counted(rt: HostRuntime) -> Result<(), Fail> {
-    let alloc = rt.alloc();
-    assert_eq!(rt; heard(alloc, &parts(alloc, 10)?, 200)?, 3);
-    assert_eq!(rt; heard(alloc, &parts(alloc, 100)?, 200)?, 2);
+    assert_eq!(rt; heard_parts(rt.alloc(), 10)?, 3);
+    assert_eq!(rt; heard_parts(rt.alloc(), 100)?, 2);
     Ok(())
+}
+
+// What begins a frame with a text of 17 MiB and 40 bytes, and the text.
+fn large_head(alloc: Global) -> Result<Vec<u8>, Fail> {
+    let frame = [TEXT, 0xff, 0, 0, 0, 0, 0x01, 0x10, 0, 40, 0, 0, 0, 0];
+    let mut first = Vec::from_slice(alloc, &frame)?;
+    first.extend_from_slice(br#"{"id":1,"k":"put","path":"/a","value":5"#)?;
+    Ok(first)
+}
+
+fn seen_large(alloc: Global) -> Result<Sight, Fail> {
+    let first = large_head(alloc)?;
+    let spaces = io::repeat(b' ').take(17 << 20);
+    let text = first.as_slice().chain(spaces).chain(b"}".as_slice());
+    seen(alloc, "null", HEAD.chain(text), usize::MAX)
 }
 
 // A text of 17 MiB is read, which is more than the library's own bound for a frame.
 #[test]
 fn large_text(rt: HostRuntime) -> Result<(), Fail> {
-    let alloc = rt.alloc();
-    let mut first = Vec::from_slice(
-        alloc,
-        &[TEXT, 0xff, 0, 0, 0, 0, 0x01, 0x10, 0, 40, 0, 0, 0, 0],
-    )?;
-    first.extend_from_slice(br#"{"id":1,"k":"put","path":"/a","value":5"#)?;
-    let spaces = io::repeat(b' ').take(17 << 20);
-    let mut peer = peer_of(alloc, "null")?;
-    let reader = HEAD
-        .chain(first.as_slice())
-        .chain(spaces)
-        .chain(b"}".as_slice());
-    drop(served(alloc, &mut peer, reader, usize::MAX)?);
-    assert_eq!(rt; state(alloc, &mut peer)?.as_str(), r#"1 {"a":5}"#);
+    let seen = seen_large(rt.alloc())?;
+    assert_eq!(rt; seen.state.as_str(), r#"1 {"a":5}"#);
     Ok(())
 }

@@ -1,6 +1,8 @@
 -- A view that is changed child by child.
-use Rattle.std.specs.Prelude.{ℕ, Bool, ◌+◌, ◌%◌, ◌^◌, false, List, [], ◌∷◌, length, Some}
-use Rattle.rt_tree.specs.PathTree.{Key, PathTree}
+use Rattle.std.specs.Prelude.{ℕ, Bool, ◌+◌, ◌%◌, ◌^◌, false, not, ◌&&◌, ◌||◌, List, [], ◌∷◌, length}
+use Rattle.std.specs.Prelude.{Some, is_some}
+use Rattle.std.specs.List.{list_any}
+use Rattle.rt_tree.specs.PathTree.{Key, PathTree, key_eq, is_null, leaf_of}
 use Rattle.rt_tree.specs.PathTree as tree
 use Rattle.rt_tree.specs.Children.{children_of}
 use Rattle.rt_query.specs.Queries.{Query}
@@ -60,3 +62,12 @@ touched v named = turned v (with_named v.tree named) (length named)
 -- the changes, by the query's index, from what one view shows to what the next one shows
 abbrev pub told : View → View → List Change
 told old new = changes old.query.index (Some (shown_of old)) (shown_of new)
+
+-- whether a child is there once the named ones are put in: one of these, or another that was there
+abbrev pub leaves_child : PathTree → List (Key × PathTree) → Bool
+leaves_child t named = list_any (λ c. not (is_null c.1)) named
+    || list_any (λ c. not (list_any (λ d. key_eq d.0 c.0) named)) (children_of t)
+
+-- whether there is no leaf, and a child is there once the named ones are put in
+abbrev pub stays_object : PathTree → List (Key × PathTree) → Bool
+stays_object t named = not (is_some (leaf_of t)) && leaves_child t named

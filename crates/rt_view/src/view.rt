@@ -1,9 +1,11 @@
 // A view, changed child by child.
 ghost use Rattle.std.specs.Prelude.{◌≡◌, ◌≤◌, ◌↔◌, true, All, IfOk, OnOk, OnErr, IsTrue, None, Err};
-ghost use Rattle.rt_tree.specs.PathTree.{leaf_of, levels};
+ghost use Rattle.std.specs.List.{list_any};
+ghost use Rattle.rt_tree.specs.PathTree.{key_eq, leaf_of, levels};
 ghost use Rattle.rt_query.specs.Select.{select};
 ghost use Rattle.rt_view.specs.Changes.{changes};
-ghost use Rattle.rt_view.specs.Views.{first_view, renewed, shown_of, told, touched};
+ghost use Rattle.rt_view.specs.Views.{first_view, leaves_child, renewed, shown_of, stays_object, told};
+ghost use Rattle.rt_view.specs.Views.{touched};
 ghost use Rattle.rt_view.specs.inside.Kept.{IsKept};
 
 use crate::change_list::ChangeList;
@@ -76,6 +78,26 @@ fn copy_leaf(alloc: Global, tree: &Tree) -> Result<Option<Leaf>, AllocError>
     match tree.as_leaf() {
         Some(leaf) => Ok(Some(leaf.copy(alloc)?)),
         None => Ok(None),
+    }
+}
+
+// Whether the key is one of the named ones.
+fn is_named(named: &[(Key, Tree)], key: &Key) -> bool
+    ensures { result ≡ list_any (λ c. key_eq c.0 key.now) named.now }
+{
+    named.iter().any(|child| child.0 == *key)
+}
+
+// Whether a child is there once the named ones are put in.
+fn leaves_child(tree: &Tree, named: &[(Key, Tree)]) -> bool
+    ensures { result ≡ leaves_child tree.now named.now }
+{
+    if named.iter().any(|child| !child.1.is_null()) {
+        return true;
+    }
+    match tree.children() {
+        Some(children) => children.keys().any(|key| !is_named(named, key)),
+        None => false,
     }
 }
 
@@ -173,6 +195,15 @@ impl View {
         self.turns = self.turns.wrapping_add(1);
         self.failed = false;
         Ok(changes)
+    }
+
+    /// Whether the tree is an object before and after the named children are put into it, or comes to
+    /// be one from null: no leaf stands there, and a child is there afterwards. Takes no memory, and
+    /// costs by the named children alone.
+    pub fn stays_object(&self, named: &[(Key, Tree)]) -> bool
+        ensures { result ≡ stays_object self.now.tree named.now }
+    {
+        self.known.as_leaf().is_none() && leaves_child(&self.known, named)
     }
 
     /// What is shown; its trees are shared, and it costs by its rows. Nothing changes.

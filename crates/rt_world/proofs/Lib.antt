@@ -29,4 +29,5 @@ pub mod SoundLaws
 pub mod StayLaws
 pub mod StillLaws
 pub mod TouchingLaws
+pub mod TouchLaws
 pub mod WrittenLaws

@@ -67,7 +67,7 @@ apart_test : (p q : Path) → AreApart p q → do_overlap p q ≡ false
 apart_test p q h = λ i. is_some (h.down i) || is_some (h.up i)
 
 -- what misses a path misses what is under it
-misses_below : (p d : Path) (entries : List Assignment) → misses p entries → misses (p ++ d) entries
+pub misses_below : (p d : Path) (entries : List Assignment) → misses p entries → misses (p ++ d) entries
 misses_below p d [] h = refl
 misses_below p d (a ∷ entries) h =
     λ i. apart_test a.0 (p ++ d) (apart_below a.0 p d (apart_of a.0 p (or_false_left (do_overlap a.0 p) (list_any (λ (x : Assignment). do_overlap x.0 p) entries) h))) i
@@ -106,7 +106,7 @@ misses_named p k (a ∷ entries) c n =
     both_parts None h = (refl, h)
     both_parts (Some j) h = (or_false_left (key_eq k j) _ h, or_false_right (key_eq k j) _ h)
 
-misses_unnamed : (p : Path) (k : Key) (entries : List Assignment) → is_covered p entries ≡ false → is_named p entries k ≡ false → misses (p ++ k ∷ []) entries
+pub misses_unnamed : (p : Path) (k : Key) (entries : List Assignment) → is_covered p entries ≡ false → is_named p entries k ≡ false → misses (p ++ k ∷ []) entries
 misses_unnamed p k entries c n = misses_named p k entries c (sym (any_once k (filter_map (named_by p) entries)) ∙ n)
 
 -- ---- a child that is seen
@@ -223,7 +223,7 @@ only_named_change limits before s =
     child_by_step w s (refusal w s) (is_stale w s) refl (sound_run before (empty_world limits) (sound_empty limits)) (called_world limits before)
 
 -- a leaf has no children
-under_leaf : (t : PathTree) (k : Key) → is_some (leaf_of t) ≡ true → child t k ≡ null
+pub under_leaf : (t : PathTree) (k : Key) → is_some (leaf_of t) ≡ true → child t k ≡ null
 under_leaf t k e = at (leaf_of t) refl
   where
     below : (l : LeafValue) → child (of_leaf l) k ≡ null
@@ -301,17 +301,20 @@ leaf_touched : (from t : PathTree) (keys : List Key) → leaf_of t ≡ leaf_of f
 leaf_touched from t [] e = e
 leaf_touched from t (j ∷ keys) e = leaf_touched from (put t (j ∷ []) (child from j)) keys (leaf_put from t j e)
 
-pub touched_is_seen : TouchedIsSeen
-touched_is_seen limits before s l m both c leaf =
-    let w = world_after (empty_world limits) before in
-    let new = seen (step w s).0 l.query in
-    let old = seen w l.query in
-    let keys = children_named l.query.path (entries_by w s) in
+-- a tree with the children of these keys taken from another is that one, where the leaf and all other children are alike
+pub touched_same : (old new : PathTree) (keys : List Key) → leaf_of old ≡ leaf_of new → ((k : Key) → list_any (key_eq k) keys ≡ false → child new k ≡ child old k)
+    → with_named old (children_at new keys) ≡ new
+touched_same old new keys leaf same =
     same_by_children (with_named old (children_at new keys)) new (leaf_touched new old keys leaf) (λ k.
     child_touched new old keys k ∙ elim (list_any (key_eq k) keys) as (λ b. list_any (key_eq k) keys ≡ b → cond b (child new k) (child old k) ≡ child new k) [
       | true ↦ λ e. refl
-      | false ↦ λ e. sym (only_named_change limits before s l m both c k e)
+      | false ↦ λ e. sym (same k e)
     ] refl)
+
+pub touched_is_seen : TouchedIsSeen
+touched_is_seen limits before s l m both c leaf =
+    let w = world_after (empty_world limits) before in
+    touched_same (seen w l.query) (seen (step w s).0 l.query) (children_named l.query.path (entries_by w s)) leaf (only_named_change limits before s l m both c)
 
 -- ---- a listener elsewhere
 

@@ -44,7 +44,7 @@ use Rattle.rt_world.proofs.WrittenLaws.{pending-unseated}
 
 -- ---- views of trees with the same children
 
-same_children : (t u : PathTree) → ((k : Key) → child t k ≡ child u k) → children_of t ≡ children_of u
+pub same_children : (t u : PathTree) → ((k : Key) → child t k ≡ child u k) → children_of t ≡ children_of u
 same_children t u h = children_of-unique u (children_of t) (children_sorted t) (λ k. child_of-children_of t k ∙ ap non_null (h k))
 
 -- a filtered query sees children alone

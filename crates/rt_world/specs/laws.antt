@@ -8,4 +8,5 @@ pub mod Made
 pub mod Refused
 pub mod Script
 pub mod Steps
+pub mod Touch
 pub mod World

@@ -4,6 +4,8 @@ ghost use Rattle.rt_world.specs.laws.World.{CoverChangesNoView, OnlyNamedChange,
 ghost use Rattle.rt_world.specs.laws.World.{LeafReadsNamed, TouchedIsSeen, OthersKeepViews};
 ghost use Rattle.rt_world.specs.laws.World.{MessagesAreHeard, ConnectedSendsAll, NumbersStayWithin};
 ghost use Rattle.rt_world.specs.laws.World.{IsWritten, IsBrought};
+ghost use Rattle.rt_world.specs.laws.Touch.{SeenAreChildren, UnmetAreSeen, UnnamedAreSeen};
+ghost use Rattle.rt_world.specs.laws.Touch.{TouchIsEnough, ElseFewAreSeen};
 ghost use Rattle.rt_world.specs.laws.Steps.{WorldsAreSound, WorldsAreCalled, StaysSound};
 ghost use Rattle.rt_world.specs.laws.Steps.{NotRefusedIsAllowed};
 ghost use Rattle.rt_world.specs.laws.Steps.{ListensStay, UnmetStays, RenewedIsOne};
@@ -36,6 +38,17 @@ pub fn named_law()
     ensures reads { LeafReadsNamed }
     ensures touched { TouchedIsSeen }
     ensures others { OthersKeepViews }
+{}
+
+/// The same of one step, for whoever holds views, each over a tree with the children that are seen:
+/// where an object stays, a view that is touched with the named children is what is seen then, and
+/// elsewhere its children and those that are seen then are no more than these.
+pub fn touch_law()
+    ensures children { SeenAreChildren }
+    ensures unmet { UnmetAreSeen }
+    ensures unnamed { UnnamedAreSeen }
+    ensures touched { TouchIsEnough }
+    ensures few { ElseFewAreSeen }
 {}
 
 /// The messages to be sent are those that the steps made, and the server that hears them keeps just

@@ -22,7 +22,7 @@ mod step;
 pub use error::CoreError;
 pub use laws::{
     brought_law, cover_law, headline_law, limit_law, message_law, named_law, note_law, pending_law,
-    plain_law, refusal_law, sound_law, stay_law,
+    plain_law, refusal_law, sound_law, stay_law, touch_law,
 };
 pub use limits::{Limits, MAX_LISTENERS, MAX_NUMBER, MAX_REQUESTS};
 pub use made::{

@@ -1,12 +1,11 @@
 -- What the lock keeps is kept.
-use Rattle.std.specs.Prelude.{◌≡◌, ℕ, List, [], Option, Some}
+use Rattle.std.specs.Prelude.{◌≡◌, ℕ, List, Option, Some}
 use Rattle.std.specs.Option.{option_map}
 use Rattle.rt_world.specs.declared.limits.Limits.{Limits}
 use Rattle.rt_world.specs.declared.step.Step.{Step}
 use Rattle.rt_world.specs.World.{World, empty_world}
-use Rattle.rt_mail.specs.Mailbox.{nothing_known}
 use Rattle.rt_mail.specs.Lanes.{Line, without_first}
-use Rattle.rt_client.specs.Lanes.{lane_of}
+use Rattle.rt_client.specs.Lanes.{new_lane, lane_of}
 use Rattle.rt_client.specs.Shared.{AreTold, Held, IsKept, MakesStep}
 
 -- by each step, whatever it is answered
@@ -14,10 +13,6 @@ abbrev pub StepKeeps : Type 0
 StepKeeps =
     (old new : Held) (w : World) (s : Step) → IsKept old → old.core ≡ Some w → MakesStep w s old new
     → IsKept new
-
--- nothing waits in a lane, and nothing was handed over
-abbrev pub new_lane : Line
-new_lane = record { waiting = []; mirror = Some nothing_known }
 
 -- at first, where no step was made and each lane is new
 abbrev pub NewIsKept : Type 0

@@ -8,7 +8,7 @@ use Rattle.rt_console.specs.Run.{Progress, after_lines, lines_of}
 -- printed waits
 abbrev pub so_far : List ℕ → Script → Progress
 so_far written script = record {
-  core = script.core;
+  state = script.state;
   printed = written ++ string_bytes script.printed;
   lines = script.lines;
   bad_lines = script.bad_lines;

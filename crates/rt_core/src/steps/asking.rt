@@ -5,7 +5,7 @@ ghost use Rattle.rt_world.specs.World.{entries_of};
 use crate::sending::send_asked;
 use crate::state::State;
 use crate::told::Told;
-use rt_world::{Action, Asked, Ending, Step, asked_law, pending_law, refusal_law, stay_law};
+use rt_world::{Action, Asked, Ending, Step, asked_law, brought_law, pending_law, refusal_law, stay_law, touch_law};
 use rt_writes::Entries;
 use std::alloc::{AllocError, Global};
 
@@ -28,10 +28,11 @@ impl State {
     ghost use Rattle.rt_world.specs.declared.step.Step.TheVariants as Step;
     ghost use Rattle.rt_world.specs.Refusals.{has_too_many_requests};
     ghost use Rattle.rt_core.specs.inside.Due.{IsDue, IsNext};
+    ghost use Rattle.rt_core.specs.inside.Viewed.{AreViewed, RefreshesViews, SameViews};
 
     // Whether the limit of unsettled requests is reached, or the last number.
     pub(crate) fn has_too_many_requests(&self, step: &Step) -> bool
-        ensures { result ≡ has_too_many_requests self.now step.now }
+        ensures { result ≡ has_too_many_requests self.now.world step.now }
     {
         match step {
             Step::Write { .. } | Step::OnDisconnect { .. } => {
@@ -53,14 +54,18 @@ impl State {
 
     // A seat writes: the write shows at once, and is asked for.
     pub(crate) fn write(self, seat: u64, action: Action) -> Result<(State, Told), AllocError>
-        requires { IsDue self (Step.Write seat action) }
-        ensures { IfOk result (λ made. IsNext self (Step.Write seat action) made) }
+        requires due { IsDue self.world (Step.Write seat action) }
+        requires viewed { AreViewed self }
+        ensures made { IfOk result (λ made. IsNext self.world (Step.Write seat action) (made.0.world, made.1)) }
+        ensures views { IfOk result (λ made. RefreshesViews self (entries_of action) made.0) }
     {
         // State what such a step leaves, and what may be asked.
         asked_law();
         pending_law();
         refusal_law();
         stay_law();
+        brought_law();
+        touch_law();
         let alloc = self.alloc();
         let mut state = self;
         let id = state.given_requests + 1;
@@ -72,7 +77,7 @@ impl State {
         let pending = state.requests.pending();
         state
             .listeners
-            .renew_met(entries.as_slice(), &state.brought, pending, &mut notes)?;
+            .refresh(entries.as_slice(), &state.brought, pending, &mut notes)?;
         state.given_requests = id;
         Ok((
             state,
@@ -89,8 +94,9 @@ impl State {
         seat: u64,
         ending: Ending,
     ) -> Result<(State, Told), AllocError>
-        requires { IsDue self (Step.OnDisconnect seat ending) }
-        ensures { IfOk result (λ made. IsNext self (Step.OnDisconnect seat ending) made) }
+        requires { IsDue self.world (Step.OnDisconnect seat ending) }
+        ensures made { IfOk result (λ made. IsNext self.world (Step.OnDisconnect seat ending) (made.0.world, made.1)) }
+        ensures views { IfOk result (λ made. SameViews self made.0) }
     {
         // State what such a step leaves, and what may be asked.
         asked_law();

@@ -1,5 +1,5 @@
 // A seat goes.
-ghost use Rattle.std.specs.Prelude.{◌≡◌, IfOk};
+ghost use Rattle.std.specs.Prelude.{◌≡◌, ◌==◌, not, IfOk};
 
 use crate::sending::send_change;
 use crate::state::State;
@@ -11,11 +11,13 @@ use std::alloc::AllocError;
 impl State {
     ghost use Rattle.rt_world.specs.declared.step.Step.TheVariants as Step;
     ghost use Rattle.rt_core.specs.inside.Due.{IsDue, IsNext};
+    ghost use Rattle.rt_core.specs.inside.Viewed.{AreViewed, KeepsViews};
 
     // A seat goes: its listeners end, and nobody is told; its requests stay, without a seat.
     pub(crate) fn close_seat(self, seat: u64) -> Result<(State, Told), AllocError>
-        requires { IsDue self (Step.CloseSeat seat) }
-        ensures { IfOk result (λ made. IsNext self (Step.CloseSeat seat) made) }
+        requires { IsDue self.world (Step.CloseSeat seat) }
+        ensures made { IfOk result (λ made. IsNext self.world (Step.CloseSeat seat) (made.0.world, made.1)) }
+        ensures views { IfOk result (λ made. KeepsViews (λ l. not (l.seat == seat)) self made.0) }
     {
         // State what such a step leaves, and that the cover takes it.
         listened_law();

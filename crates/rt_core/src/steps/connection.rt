@@ -23,11 +23,13 @@ fn kept_listens(cover: &Cover) -> Result<Vec<Kept>, AllocError>
 impl State {
     ghost use Rattle.rt_world.specs.declared.step.Step.TheVariants as Step;
     ghost use Rattle.rt_core.specs.inside.Due.{IsDue, IsNext};
+    ghost use Rattle.rt_core.specs.inside.Viewed.{SameViews};
 
     // A connection is opened: all kept listens are to be sent, and then all unsettled requests.
     pub(crate) fn connect(self) -> Result<(State, Told), AllocError>
-        requires { IsDue self Step.Connected }
-        ensures { IfOk result (λ made. IsNext self Step.Connected made) }
+        requires { IsDue self.world Step.Connected }
+        ensures made { IfOk result (λ made. IsNext self.world Step.Connected (made.0.world, made.1)) }
+        ensures views { IfOk result (λ made. SameViews self made.0) }
     {
         // State what such a step leaves.
         connection_law();
@@ -44,8 +46,9 @@ impl State {
 
     // The connection ends: what was to be sent is dropped.
     pub(crate) fn disconnect(self) -> (State, Told)
-        requires { IsDue self Step.Disconnected }
-        ensures { IsNext self Step.Disconnected result }
+        requires { IsDue self.world Step.Disconnected }
+        ensures made { IsNext self.world Step.Disconnected (result.0.world, result.1) }
+        ensures views { SameViews self result.0 }
     {
         // State what such a step leaves.
         connection_law();

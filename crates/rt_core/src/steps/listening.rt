@@ -1,5 +1,5 @@
 // Listeners begin and end.
-ghost use Rattle.std.specs.Prelude.{◌≡◌, ◌∷◌, [], false, map, None, IfOk, OnOk};
+ghost use Rattle.std.specs.Prelude.{◌≡◌, ◌==◌, ◌∷◌, [], false, not, map, None, IfOk, OnOk};
 ghost use Rattle.rt_cache.specs.Recover.{recover};
 ghost use Rattle.rt_cover.specs.Cover.{forms};
 ghost use Rattle.rt_cover.specs.State.{added, add_fault, difference, is_registered, remove_fault};
@@ -58,12 +58,14 @@ pub(crate) fn lose(brought: &mut Brought, cover: &Cover) -> Result<(), AllocErro
 impl State {
     ghost use Rattle.rt_world.specs.declared.step.Step.TheVariants as Step;
     ghost use Rattle.rt_core.specs.inside.Due.{IsDue, IsNext};
+    ghost use Rattle.rt_core.specs.inside.Viewed.{AddsView, AreViewed, KeepsViews};
 
     // A seat registers a listener: it has the next number, and is told at once where something is
     // known for its query.
     pub(crate) fn listen(self, seat: u64, query: Query) -> Result<(State, Told), AllocError>
-        requires { IsDue self (Step.Listen seat query) }
-        ensures { IfOk result (λ made. IsNext self (Step.Listen seat query) made) }
+        requires { IsDue self.world (Step.Listen seat query) }
+        ensures made { IfOk result (λ made. IsNext self.world (Step.Listen seat query) (made.0.world, made.1)) }
+        ensures views { IfOk result (λ made. AddsView self seat query made.0) }
     {
         // State what such a step leaves, and that the cover takes it.
         listened_law();
@@ -92,8 +94,9 @@ impl State {
 
     // A seat ends a listener of its own: nobody is told.
     pub(crate) fn unlisten(self, seat: u64, listener: u64) -> Result<(State, Told), AllocError>
-        requires { IsDue self (Step.Unlisten seat listener) }
-        ensures { IfOk result (λ made. IsNext self (Step.Unlisten seat listener) made) }
+        requires { IsDue self.world (Step.Unlisten seat listener) }
+        ensures made { IfOk result (λ made. IsNext self.world (Step.Unlisten seat listener) (made.0.world, made.1)) }
+        ensures views { IfOk result (λ made. KeepsViews (λ l. not (l.number == listener)) self made.0) }
     {
         // State what such a step leaves, and that the cover takes it.
         listened_law();

@@ -13,7 +13,7 @@ use rt_cache::Brought;
 use rt_cover::Cover;
 use rt_query::Query;
 use rt_tree::{Path, Tree};
-use rt_world::{push_law, pushed_law, stay_law};
+use rt_world::{brought_law, push_law, pushed_law, stay_law, touch_law};
 use std::alloc::{AllocError, Global};
 
 // Takes in these entries, which are pushed on the listen of the query.
@@ -58,6 +58,7 @@ fn one_entry(alloc: Global, path: Path, tree: Tree) -> Result<Vec<(Path, Tree)>,
 impl State {
     ghost use Rattle.rt_world.specs.declared.step.Step.TheVariants as Step;
     ghost use Rattle.rt_core.specs.inside.Due.{IsDue, IsNext};
+    ghost use Rattle.rt_core.specs.inside.Viewed.{AreViewed, RefreshesViews};
 
     // Several trees are pushed, each at its path: they show together.
     pub(crate) fn take_merge(
@@ -65,13 +66,17 @@ impl State {
         tag: u64,
         entries: Vec<(Path, Tree)>,
     ) -> Result<(State, Told), AllocError>
-        requires { IsDue self (Step.DataMerge tag entries.items) }
-        ensures { IfOk result (λ made. IsNext self (Step.DataMerge tag entries.items) made) }
+        requires due { IsDue self.world (Step.DataMerge tag entries.items) }
+        requires viewed { AreViewed self }
+        ensures made { IfOk result (λ made. IsNext self.world (Step.DataMerge tag entries.items) (made.0.world, made.1)) }
+        ensures views { IfOk result (λ made. RefreshesViews self entries.items made.0) }
     {
         // State what such a step leaves, and what may be pushed.
         push_law();
         pushed_law();
         stay_law();
+        brought_law();
+        touch_law();
         let alloc = self.alloc();
         let mut state = self;
         put_on(&mut state.brought, &state.cover, tag, &entries)?;
@@ -79,7 +84,7 @@ impl State {
         let pending = state.requests.pending();
         state
             .listeners
-            .renew_met(&entries, &state.brought, pending, &mut notes)?;
+            .refresh(&entries, &state.brought, pending, &mut notes)?;
         Ok((state, Told { given: None, notes }))
     }
 
@@ -90,8 +95,10 @@ impl State {
         path: Path,
         tree: Tree,
     ) -> Result<(State, Told), AllocError>
-        requires { IsDue self (Step.Data tag path tree) }
-        ensures { IfOk result (λ made. IsNext self (Step.Data tag path tree) made) }
+        requires due { IsDue self.world (Step.Data tag path tree) }
+        requires viewed { AreViewed self }
+        ensures made { IfOk result (λ made. IsNext self.world (Step.Data tag path tree) (made.0.world, made.1)) }
+        ensures views { IfOk result (λ made. RefreshesViews self ((path, tree) ∷ []) made.0) }
     {
         let entries = one_entry(self.alloc(), path, tree)?;
         self.take_merge(tag, entries)

@@ -1,7 +1,8 @@
 // The server ends a listen.
-ghost use Rattle.std.specs.Prelude.{◌≡◌, Some, None, IfOk, OnOk};
+ghost use Rattle.std.specs.Prelude.{◌≡◌, Some, None, not, IfOk, OnOk};
 ghost use Rattle.std.specs.Option.{option_map};
 ghost use Rattle.rt_cover.specs.State.{difference, listen_at, revoke_fault, revoked, without_tag};
+ghost use Rattle.rt_world.specs.Steps.{is_cancelled};
 
 use crate::sending::send_change;
 use crate::state::State;
@@ -35,11 +36,13 @@ fn uncover_revoked(cover: &mut Cover, tag: u64) -> Result<(Query, Delta), AllocE
 impl State {
     ghost use Rattle.rt_world.specs.declared.step.Step.TheVariants as Step;
     ghost use Rattle.rt_core.specs.inside.Due.{IsDue, IsNext};
+    ghost use Rattle.rt_core.specs.inside.Viewed.{AreViewed, KeepsViews};
 
     // The server ends a listen: the listeners that it is the form of end, and their seats are told.
     pub(crate) fn revoke(self, tag: u64, why: Reason) -> Result<(State, Told), AllocError>
-        requires { IsDue self (Step.Revoked tag why) }
-        ensures { IfOk result (λ made. IsNext self (Step.Revoked tag why) made) }
+        requires { IsDue self.world (Step.Revoked tag why) }
+        ensures made { IfOk result (λ made. IsNext self.world (Step.Revoked tag why) (made.0.world, made.1)) }
+        ensures views { IfOk result (λ made. KeepsViews (λ l. not (is_cancelled self.world tag l)) self made.0) }
     {
         // State what such a step leaves, and that the cover takes it.
         listened_law();

@@ -2,11 +2,12 @@
 ghost use Rattle.std.specs.Prelude.{◌≡◌, ◌++◌, [], IfOk, OnOk};
 ghost use Rattle.std.specs.Option.{option_and_then, option_map, option_map_or, option_to_list};
 ghost use Rattle.rt_world.specs.declared.report.Body.TheVariants as Body;
+ghost use Rattle.rt_world.specs.Touched.{entries_settled};
 
 use crate::state::State;
 use crate::told::Told;
 use rt_requests::Settled;
-use rt_world::{Body, Note, Reason, pending_law, settled_law, stay_law};
+use rt_world::{Body, Note, Reason, brought_law, pending_law, settled_law, stay_law, touch_law};
 use rt_writes::Entries;
 use std::alloc::{AllocError, Global};
 
@@ -45,17 +46,22 @@ fn tell_settled(
 
 impl State {
     ghost use Rattle.rt_core.specs.inside.Due.{IsDue, IsNext, settling};
+    ghost use Rattle.rt_core.specs.inside.Viewed.{AreViewed, RefreshesViews};
 
     // A request is accepted, or refused for a reason: what it wrote is pending no more, and its seat
     // is told first.
     pub(crate) fn settle(self, id: u64, why: Option<Reason>) -> Result<(State, Told), AllocError>
-        requires { IsDue self (settling id why) }
-        ensures { IfOk result (λ made. IsNext self (settling id why) made) }
+        requires due { IsDue self.world (settling id why) }
+        requires viewed { AreViewed self }
+        ensures made { IfOk result (λ made. IsNext self.world (settling id why) (made.0.world, made.1)) }
+        ensures views { IfOk result (λ made. RefreshesViews self (entries_settled self.world id) made.0) }
     {
         // State what such a step leaves.
         settled_law();
         pending_law();
         stay_law();
+        brought_law();
+        touch_law();
         let alloc = self.alloc();
         let mut state = self;
         let taken = state.requests.settle(id)?;
@@ -66,7 +72,7 @@ impl State {
         let entries = settled.entries.as_slice();
         state
             .listeners
-            .renew_met(entries, &state.brought, pending, &mut notes)?;
+            .refresh(entries, &state.brought, pending, &mut notes)?;
         Ok((state, Told { given: None, notes }))
     }
 }

@@ -49,6 +49,7 @@ as_form form_code.Disconnected = form.Disconnected
 as_form form_code.Out = form.Out
 as_form form_code.Cover = form.Cover
 as_form (form_code.View listener) = form.View listener
+as_form (form_code.Push now random) = form.Push now random
 
 -- the data of each value
 abbrev pub views : List Value → List Data

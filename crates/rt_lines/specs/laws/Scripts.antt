@@ -1,23 +1,23 @@
--- Scripts that the prover runs: each line is done on the core that the line before it left.
-use Rattle.std.specs.Prelude.{◌≡◌, ℕ, suc, List, [], ◌∷◌, ◌++◌, flat_map, codes, Option, Some}
-use Rattle.rt_world.specs.World.{World, empty_world, full_limits}
+-- Scripts that the prover runs: each line is done on what the line before it left.
+use Rattle.std.specs.Prelude.{◌≡◌, ℕ, suc, List, [], ◌∷◌, ◌++◌, flat_map, codes}
+use Rattle.rt_world.specs.World.{full_limits}
 use Rattle.rt_lines.specs.Printing.{line}
+use Rattle.rt_lines.specs.State.{State, new_state}
 use Rattle.rt_lines.specs.Doing.{Done, asked_done}
 use Rattle.rt_lines.specs.laws.Examples.{line_of_text}
 
 -- what is printed for a line, and then for the lines after it
-abbrev pub followed : Done → (Option World → List ℕ) → List ℕ
-followed d after = d.printed ++ after d.core
+abbrev pub followed : Done → (State → List ℕ) → List ℕ
+followed d after = d.printed ++ after d.state
 
 -- what is printed for lines that aren't empty and whose bytes are UTF-8, the first being of that number
-abbrev pub prints : ℕ → List (List ℕ) → Option World → List ℕ
-prints number [] core = []
-prints number (l ∷ ls) core =
-    followed (asked_done number (line_of_text l) core) (prints (suc number) ls)
+abbrev pub prints : ℕ → List (List ℕ) → State → List ℕ
+prints number [] s = []
+prints number (l ∷ ls) s = followed (asked_done number (line_of_text l) s) (prints (suc number) ls)
 
 -- what is printed for a script
 abbrev pub printed_for : List (List ℕ) → List ℕ
-printed_for script = prints 1 script (Some (empty_world full_limits))
+printed_for script = prints 1 script (new_state full_limits)
 
 -- a listen on all there is, a push, and a write that shows at once
 abbrev pub RootListen : Type 0
@@ -89,3 +89,22 @@ RefusedLines =
     ∷ codes "refused wire 2 UnknownKind"
     ∷ codes "stale"
     ∷ codes "> none" ∷ [])
+
+-- push ids go on from line to line, whatever stands between; a refusal changes nothing, and eleven
+-- random numbers are no line
+abbrev pub IdsGoOn : Type 0
+IdsGoOn =
+    printed_for (
+    codes "[\"push\",1700000000000,[0,0,0,0,0,0,0,0,0,0,0,0]]"
+    ∷ codes "[\"connected\"]"
+    ∷ codes "[\"push\",1700000000000,[0,0,0,0,0,0,0,0,0,0,0,64]]"
+    ∷ codes "[\"push\",281474976710656,[0,0,0,0,0,0,0,0,0,0,0,0]]"
+    ∷ codes "[\"push\",1700000000000,[0,0,0,0,0,0,0,0,0,0,0]]"
+    ∷ codes "[\"push\",1699999999999,[0,0,0,0,0,0,0,0,0,0,0,0]]" ∷ [])
+    ≡ flat_map line (
+    codes "id -NjEtLV-------------"
+    ∷ codes "done"
+    ∷ codes "refused push 3 RandomOutOfRange"
+    ∷ codes "refused push 2 MomentTooLarge"
+    ∷ codes "bad line 5"
+    ∷ codes "id -NjEtLV------------0" ∷ [])

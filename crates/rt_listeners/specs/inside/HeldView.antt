@@ -3,15 +3,22 @@ use Rattle.std.specs.Prelude.{◌≡◌, ℕ, ◌<◌, Bool, false, if◌then◌
 use Rattle.std.specs.Prelude.{Option, Some, None, is_some, ◌==◌}
 use Rattle.std.specs.List.{All, AllPairs, filter_map}
 use Rattle.std.specs.Option.{option_map}
+use Rattle.rt_tree.specs.PathTree.{PathTree}
+use Rattle.rt_tree.specs.Assignments.{Assignment}
 use Rattle.rt_query.specs.Queries.{Query}
 use Rattle.rt_query.specs.QueryEq.{query_eq}
 use Rattle.rt_query.specs.Select.{Shown}
 use Rattle.rt_query.specs.Supply.{form}
-use Rattle.rt_view.specs.Views.{View, shown_of}
+use Rattle.rt_writes.specs.Writes.{Write}
+use Rattle.rt_cache.specs.Brought.{Brought, base}
+use Rattle.rt_view.specs.Views.{View, first_view, renewed, shown_of}
 use Rattle.rt_world.specs.declared.report.Note.{Note}
+use Rattle.rt_world.specs.Met.{renewed_met}
+use Rattle.rt_world.specs.Views.{seen_over}
 use Rattle.rt_world.specs.World.{Listener, Reason}
 use Rattle.rt_listeners.specs.declared.held.Held.{Held}
-use Rattle.rt_listeners.specs.Listeners.{cancelled_note, Counts, Listeners}
+use Rattle.rt_listeners.specs.Listeners.{cancelled_note, first_view_of, Listeners}
+use Rattle.rt_listeners.specs.Refreshed.{view_met}
 
 -- what a view shows
 abbrev pub shown_in : Option View → Option Shown
@@ -31,21 +38,39 @@ listener_of l = record {
 abbrev pub listeners_of : List Held → List Listener
 listeners_of held = map listener_of held
 
--- the counts of its view
-abbrev pub counts_of : Held → Option Counts
-counts_of l = option_map (λ v. record { reads = v.reads; turns = v.turns }) l.view
+-- the views that they hold
+abbrev pub views_of : List Held → List (Option View)
+views_of held = map (λ h. h.view) held
 
--- the listeners with their counts
+-- the listeners with their views
 abbrev pub all_of : List Held → Listeners
-all_of held = record { listeners = listeners_of held; counts = map counts_of held }
+all_of held = record { listeners = listeners_of held; views = views_of held }
 
--- a listener's number with its counts, if it passes
-abbrev pub own_count : (Listener → Bool) → Held → Option (ℕ × Option Counts)
-own_count test l = if test (listener_of l) then Some (l.number, counts_of l) else None
+-- a listener with its view
+abbrev pub pair_of : Held → Listener × Option View
+pair_of l = (listener_of l, l.view)
 
--- the counts of the listeners that pass
-abbrev pub own_counts : (Listener → Bool) → List Held → List (ℕ × Option Counts)
-own_counts test held = filter_map (own_count test) held
+-- both after entries
+abbrev pub refreshed : List Assignment → Brought → List Write → Listener × Option View → Listener × Option View
+refreshed entries b writes p = (renewed_met entries b writes p.0, view_met entries b writes p)
+
+-- what a view becomes that sees that tree; the first where there is none
+abbrev pub view_over : Query → PathTree → Option View → View
+view_over q t None = first_view q t
+view_over q t (Some v) = renewed v t
+
+-- and where it is due
+abbrev pub view_anew : Brought → List Write → Query → Option View → Option View
+view_anew b writes q None = first_view_of b writes q
+view_anew b writes q (Some v) = Some (renewed v (seen_over (base b q) writes q))
+
+-- a listener's number with its view, if it passes
+abbrev pub own_view : (Listener → Bool) → Held → Option (ℕ × Option View)
+own_view test l = if test (listener_of l) then Some (l.number, l.view) else None
+
+-- the views of the listeners that pass
+abbrev pub own_views : (Listener → Bool) → List Held → List (ℕ × Option View)
+own_views test held = filter_map (own_view test) held
 
 -- the listener's number, if it is the seat's
 abbrev pub own_number : ℕ → Held → Option ℕ

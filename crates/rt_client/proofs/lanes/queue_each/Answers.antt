@@ -1,4 +1,4 @@
-use Rattle.std.proofs.Common.{rules, ◌≡◌, [], ◌∷◌, length, sym, subst, Err, IfErr}
+use Rattle.std.proofs.Common.{rules, ◌≡◌, ◌∷◌, length, sym, subst, Err, IfErr}
 use Rattle.std.proofs.lemmas.List.{nil_from_length}
 use Rattle.std.specs.Option.{option_map}
 use Rattle.rt_mail.specs.Lanes.{with_waiting}

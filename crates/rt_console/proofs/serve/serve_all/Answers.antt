@@ -1,4 +1,4 @@
-use Rattle.std.proofs.Common.{◌≡◌, ◌-◌, ◌+◌, ◌≤◌, ℕ, suc, Bool, arith, ◌∙◌}
+use Rattle.std.proofs.Common.{◌≡◌, ◌-◌, ◌≤◌, ℕ, suc, arith, ◌∙◌}
 use Rattle.rt_console.proofs.Clients.{counted, err_turn, none_failed, turn}
 use Rattle.rt_console.proofs.serve.serve_all.Goals as goal
 

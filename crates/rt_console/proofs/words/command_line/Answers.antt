@@ -1,6 +1,5 @@
 use Rattle.std.proofs.Common.{◌≡◌, List, ℕ, [], true, map, ap, refl, subst, ◌∙◌}
 use Rattle.clap.specs.Words.{App, HasKind, app_of, fault_of, is_simple, is_simple_and_free, subcommand_of, subcommand_rows_of}
-use Rattle.clap.specs.declared.parser.matches.ArgMatches.{ArgMatches}
 use Rattle.rt_console.specs.Commands.{console_app}
 use Rattle.rt_console.specs.Words.{Gives, asked, faults_of, work_of}
 use Rattle.clap.proofs.FaultLemmas.{failed_up}

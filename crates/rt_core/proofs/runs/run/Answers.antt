@@ -1,4 +1,4 @@
-use Rattle.std.proofs.Common.{◌≡◌, ◌≤◌, ◌+◌, List, [], ◌∷◌, length, ap, sym, subst, refl, append-nil, arith, Option, ◌∙◌}
+use Rattle.std.proofs.Common.{◌≡◌, ◌≤◌, ◌+◌, List, [], ◌∷◌, length, ap, sym, subst, refl, append-nil, arith, Option, Some, None, ◌∙◌}
 use Rattle.std.specs.Option.{IfSome}
 use Rattle.std.specs.Vec.{vec_capacity, vec_len}
 use Rattle.std.specs.Vec.Iter.{into_iter_items}
@@ -6,8 +6,9 @@ use Rattle.rt_world.specs.declared.step.Step.{Step}
 use Rattle.rt_world.specs.World.{World}
 use Rattle.rt_world.specs.Answers.{Answer}
 use Rattle.rt_world.specs.Headline.{Headline}
-use Rattle.rt_core.specs.Core.{AppliesAll}
+use Rattle.rt_core.specs.Core.{AppliesAll, Held, world_in}
 use Rattle.rt_core.specs.inside.Due.{IsGood}
+use Rattle.rt_core.specs.inside.Viewed.{HoldsWell}
 use Rattle.rt_core.proofs.AppliedAll.{Continues, continues_more, makes_all}
 use Rattle.rt_core.proofs.runs.run.Goals as goal
 
@@ -26,31 +27,43 @@ loop-step-preserved c =
     let left : List Step = into_iter_items c.next.new.self in
     let rest : into_iter_items c.loop-step.step-iterator ≡ c.in-Some.step ∷ into_iter_items c.next.new.self = c.in-Some.ensures.steps.0 in
     let short = ap length rest in
-    let more = continues_more c.args.core.now c.args.steps.items c.loop-step.items.items c.loop-step.core c.in-Some.step left c.apply.result c.apply.new.self
-    (subst (Continues c.args.core.now c.args.steps.items c.loop-step.items.items c.loop-step.core) rest c.loop-step.invariant.1) c.apply.ensures in
+    let more = continues_more (world_in c.args.core.now) c.args.steps.items c.loop-step.items.items (world_in c.loop-step.core) c.in-Some.step left c.apply.result (world_in c.apply.new.self)
+    (subst (Continues (world_in c.args.core.now) c.args.steps.items c.loop-step.items.items (world_in c.loop-step.core)) rest c.loop-step.invariant.1) c.apply.ensures.made in
     let room : vec_len c.push_reserved.new.self + length left ≤ vec_capacity c.push_reserved.new.self =
     omega (arith, c.loop-step.invariant.0, c.push_reserved.ensures.len, c.push_reserved.ensures.capacity, short) in (
       room,
-      subst (λ told. Continues c.args.core.now c.args.steps.items told c.apply.new.self left) (sym c.push_reserved.ensures.items) more,
+      subst (λ told. Continues (world_in c.args.core.now) c.args.steps.items told (world_in c.apply.new.self) left) (sym c.push_reserved.ensures.items) more,
       omega (arith, short, c.in-Some.ensures.steps.1, c.loop-step.invariant.2),
     )
 
 pub returns-clause-answered : goal.returns-clause-answered
 returns-clause-answered c =
-    all_told c.args.core.now c.loop-step.core c.args.steps.items (into_iter_items c.loop-step.step-iterator) c.loop-step.items.items c.loop-step.invariant.1
+    all_told (world_in c.args.core.now) (world_in c.loop-step.core) c.args.steps.items (into_iter_items c.loop-step.step-iterator) c.loop-step.items.items c.loop-step.invariant.1
     (sym c.loop-step.invariant.2 ∙ c.in-None.ensures.steps.0)
 
 pub returns-clause-made : goal.returns-clause-made
 returns-clause-made c w v e f =
-    let applied = all_told c.args.core.now c.loop-step.core c.args.steps.items (into_iter_items c.loop-step.step-iterator) c.loop-step.items.items c.loop-step.invariant.1
+    let applied = all_told (world_in c.args.core.now) (world_in c.loop-step.core) c.args.steps.items (into_iter_items c.loop-step.step-iterator) c.loop-step.items.items c.loop-step.invariant.1
     (sym c.loop-step.invariant.2 ∙ c.in-None.ensures.steps.0) in
     makes_all c.args.steps.items c.loop-step.items.items w v
     (subst (λ (x : Option World × Option World). AppliesAll x.0 c.args.steps.items c.loop-step.items.items x.1) (λ i. (e i, f i)) applied)
+
+-- the world of a core that holds well
+good_world : (core : Option Held) → IfSome core HoldsWell → (w : World) → world_in core ≡ Some w → IsGood w
+good_world None h w e = cc
+good_world (Some k) h w e = subst IsGood (some_same k.world w e) h.good
+  where
+    or_else : World → Option World → World
+    or_else d None = d
+    or_else d (Some x) = x
+
+    some_same : (x y : World) → ◌≡◌ {A = Option World} (Some x) (Some y) → x ≡ y
+    some_same x y e = ap (or_else x) e
 
 -- of a good world
 pub returns-clause-headline : goal.returns-clause-headline
 returns-clause-headline c w v e f =
     let m = returns-clause-made c w v e f in
-    let good : IsGood w = subst (λ o. IfSome o IsGood) e c.holds.ensures in
+    let good : IsGood w = good_world c.args.core.now c.holds.ensures w e in
     subst (λ (x : List Answer × World). Headline w c.args.steps.items x.0 x.1) (λ i. (sym m.answers i, sym m.world i))
     (c.holding_law.ensures.headline w c.args.steps.items good.sound)

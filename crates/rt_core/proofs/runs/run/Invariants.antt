@@ -1,6 +1,7 @@
 use Rattle.std.proofs.Common.{◌≡◌, ◌≤◌, ◌+◌, length}
 use Rattle.std.specs.Vec.{vec_capacity, vec_len}
 use Rattle.std.specs.Vec.Iter.{into_iter_items, into_iter_len}
+use Rattle.rt_core.specs.Core.{world_in}
 use Rattle.rt_core.proofs.AppliedAll.{Continues}
 use Rattle.rt_core.proofs.runs.run.Given as goal
 
@@ -8,5 +9,5 @@ use Rattle.rt_core.proofs.runs.run.Given as goal
 abbrev pub invariant-loop-step : goal.invariant-loop-step
 invariant-loop-step l =
     (vec_len l.items + length (into_iter_items l.step-iterator) ≤ vec_capacity l.items)
-    × Continues l.initial.core l.fn.steps.items l.items.items l.core (into_iter_items l.step-iterator)
+    × Continues (world_in l.initial.core) l.fn.steps.items l.items.items (world_in l.core) (into_iter_items l.step-iterator)
     × (into_iter_len l.step-iterator ≡ length (into_iter_items l.step-iterator))

@@ -4,4 +4,4 @@ use Rattle.rt_lines.proofs.Doings.{asked_unread}
 use Rattle.rt_lines.proofs.doing.print_bytes.Goals as goal
 
 pub returns-in-Err-NoMemory-clause-lacking : goal.returns-in-Err-NoMemory-clause-lacking
-returns-in-Err-NoMemory-clause-lacking c = asked_unread (line_of_bytes c.args.bytes.now) c.args.core.now c.args.core.now refl
+returns-in-Err-NoMemory-clause-lacking c = asked_unread (line_of_bytes c.args.bytes.now) c.args.state.now c.args.state.now refl

@@ -1,7 +1,9 @@
-use Rattle.std.proofs.Common.{rules, ◌≡◌, ◌∙◌, ◌<◌, ℕ, ap, sym, length, get_or, refl, true, false, Some, None}
+use Rattle.std.proofs.Common.{rules, ◌≡◌, ◌+◌, ◌≤◌, ◌++◌, ◌∷◌, [], subst, ◌∙◌, ◌<◌, ℕ, ap, sym, length, get_or, refl, true, false, Some, None}
+use Rattle.std.specs.Prelude.{IfSome}
 use Rattle.std.specs.FinMap as map_of
 use Rattle.std.specs.Option.{option_map}
-use Rattle.rt_tree.specs.PathTree.{strip, sub, child}
+use Rattle.rt_tree.specs.PathTree.{strip, sub, child, levels}
+use Rattle.rt_tree.specs.declared.limits.TheConstants.{MAX_KEYS, MAX_LEVELS}
 use Rattle.rt_tree.specs.Parts.{sub_root}
 use Rattle.rt_tree.specs.Assignments.{is_at_or_above}
 use Rattle.rt_query.specs.QueryEq.{query_eq}
@@ -10,13 +12,15 @@ use Rattle.rt_cache.specs.Brought.{region_part, child_base, base_child}
 use Rattle.rt_cache.specs.declared.region.Region.{Region}
 use Rattle.rt_cache.specs.declared.window.Window.{Window}
 use Rattle.rt_cache.specs.inside.Held.{seen_window, pairs_of, entries_of}
+use Rattle.rt_cache.specs.Canonical.{FitsLevels}
+use Rattle.rt_cache.proofs.Levels.{short_path, base_child_fits}
 use Rattle.rt_cache.proofs.Bases.{base_found, child_seen}
 use Rattle.rt_cache.proofs.Listing.{find-at}
 use Rattle.rt_cache.proofs.Places.{part_is}
 use Rattle.rt_cache.proofs.brought.Brought.base_child.Goals as goal
 
-pub returns-in-Some : goal.returns-in-Some
-returns-in-Some c =
+pub returns-in-Some-clause-found : goal.returns-in-Some-clause-found
+returns-in-Some-clause-found c =
     let region : Region = c.index.result.now in
     let within : c.in-Some.place < length c.self.inside.regions.items = search rules in
     let at : region ≡ get_or c.self.inside.regions.items c.in-Some.place region = search rules in
@@ -29,15 +33,15 @@ returns-in-Some c =
     ∙ ap (option_map (child_base c.args.key.now)) (sym (base_found c.self.inside.regions.items c.self.inside.windows.items c.args.query.now _ _ c.self.invariant.0.filtered seen refl))
     ∙ ap (λ b. base_child b c.args.query.now c.args.key.now) c.self.view_is
 
-pub returns-in_default-place_of_window : goal.returns-in_default-place_of_window
-returns-in_default-place_of_window c =
+pub returns-in_default-place_of_window-clause-found : goal.returns-in_default-place_of_window-clause-found
+returns-in_default-place_of_window-clause-found c =
     let none : region_part (pairs_of c.self.inside.regions.items) (c.args.query.now).path ≡ None = search rules in
     let window : map_of.find query_cmp c.args.query.now (entries_of c.self.inside.windows.items) ≡ None = search rules in
     ap (option_map (child_base c.args.key.now)) (sym (base_found c.self.inside.regions.items c.self.inside.windows.items c.args.query.now None None c.self.invariant.0.filtered none window))
     ∙ ap (λ b. base_child b c.args.query.now c.args.key.now) c.self.view_is
 
-pub returns : goal.returns
-returns c =
+pub returns-clause-found : goal.returns-clause-found
+returns-clause-found c =
     let none : region_part (pairs_of c.self.inside.regions.items) (c.args.query.now).path ≡ None = search rules in
     let window : Window = c.index-window.result.now in
     let within : c.in-Some-place_of_window.place < length c.self.inside.windows.items = search rules in
@@ -50,3 +54,17 @@ returns c =
     (λ i. Some (record { tree = (tree ∙ ap (λ x. child (sub (window.children).tree x) c.args.key.now) c.root.ensures ∙ ap (λ x. child x c.args.key.now) (sub_root (window.children).tree)) i; whole = window.is_whole }))
     ∙ ap (option_map (child_base c.args.key.now)) (sym (base_found c.self.inside.regions.items c.self.inside.windows.items c.args.query.now None (Some (seen_window window)) c.self.invariant.0.filtered none found))
     ∙ ap (λ b. base_child b c.args.query.now c.args.key.now) c.self.view_is
+
+pub returns-in-Some-clause-shallow : goal.returns-in-Some-clause-shallow
+returns-in-Some-clause-shallow c =
+    let short : length (c.args.query.now).path ≤ MAX_KEYS = short_path c.args.query.now c.path.result.now c.path.ensures c.keys.ensures.valid in
+    let fits : FitsLevels c.args.self.now = subst FitsLevels c.self.view_is c.self.invariant.1 in
+    subst (λ o. IfSome o (λ b. length ((c.args.query.now).path ++ c.args.key.now ∷ []) + levels b.tree ≤ MAX_LEVELS)) (sym (returns-in-Some-clause-found c))
+    (base_child_fits c.args.self.now c.args.query.now c.args.key.now short fits)
+
+pub returns-clause-shallow : goal.returns-clause-shallow
+returns-clause-shallow c =
+    let short : length (c.args.query.now).path ≤ MAX_KEYS = short_path c.args.query.now c.path.result.now c.path.ensures c.keys.ensures.valid in
+    let fits : FitsLevels c.args.self.now = subst FitsLevels c.self.view_is c.self.invariant.1 in
+    subst (λ o. IfSome o (λ b. length ((c.args.query.now).path ++ c.args.key.now ∷ []) + levels b.tree ≤ MAX_LEVELS)) (sym (returns-clause-found c))
+    (base_child_fits c.args.self.now c.args.query.now c.args.key.now short fits)

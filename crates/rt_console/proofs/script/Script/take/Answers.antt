@@ -32,4 +32,4 @@ returns-clause-takes g c =
     let wrote : OnOk c.write_out.result Written = c.write_out.ensures.written in
     on_ok Written Done c.write_out.result (λ written.
     Took-rest whole old before now after c.loop-end.self c.write_out.new.self c.loop-end.rest.now c.loop-end.invariant.1 split kept (λ done runs.
-    Runs-written done old before now after c.loop-end.self c.write_out.new.self runs written c.write_out.ensures.nothing_waits c.write_out.ensures.core c.write_out.ensures.lines c.write_out.ensures.bad_lines)) wrote
+    Runs-written done old before now after c.loop-end.self c.write_out.new.self runs written c.write_out.ensures.nothing_waits c.write_out.ensures.state c.write_out.ensures.lines c.write_out.ensures.bad_lines)) wrote

@@ -3,11 +3,12 @@ use Rattle.std.specs.Option.{option_copied, option_map_or}
 use Rattle.rt_query.specs.Queries.{Query}
 use Rattle.rt_cache.specs.Brought.{is_without_window}
 use Rattle.rt_world.specs.World.{World}
+use Rattle.rt_core.specs.Core.{Held}
 use Rattle.rt_core.proofs.state.State.is_data_stale.Goals as goal
 
 pub returns-in-Some : goal.returns-in-Some
 returns-in-Some c = λ u.
     let q : Query = c.in-Some.query.now in
     c.lacks_window.ensures u
-    ∙ ap (λ (v : World). is_without_window v.brought q (c.args.path.now, u)) c.self.view_is
-    ∙ ap (λ (o : Option Query). option_map_or (λ x. is_without_window (c.args.self.now).brought x (c.args.path.now, u)) o true) (sym (ap option_copied c.in-Some.is) ∙ c.listen_of.ensures)
+    ∙ ap (λ (v : World). is_without_window v.brought q (c.args.path.now, u)) (ap (λ (h : Held). h.world) c.self.view_is)
+    ∙ ap (λ (o : Option Query). option_map_or (λ x. is_without_window ((c.args.self.now).world).brought x (c.args.path.now, u)) o true) (sym (ap option_copied c.in-Some.is) ∙ c.listen_of.ensures)

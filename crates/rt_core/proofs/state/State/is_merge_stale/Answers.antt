@@ -4,11 +4,12 @@ use Rattle.std.specs.Option.{option_copied, option_map_or}
 use Rattle.rt_query.specs.Queries.{Query}
 use Rattle.rt_cache.specs.Brought.{is_without_window}
 use Rattle.rt_world.specs.World.{World}
+use Rattle.rt_core.specs.Core.{Held}
 use Rattle.rt_core.proofs.state.State.is_merge_stale.Goals as goal
 
 pub returns-in-Some : goal.returns-in-Some
 returns-in-Some c =
     let q : Query = c.in-Some.query.now in
     c.lack_window.ensures
-    ∙ ap (λ (v : World). list_all (is_without_window v.brought q) c.args.entries.now) c.self.view_is
-    ∙ ap (λ (o : Option Query). option_map_or (λ x. list_all (is_without_window (c.args.self.now).brought x) c.args.entries.now) o true) (sym (ap option_copied c.in-Some.is) ∙ c.listen_of.ensures)
+    ∙ ap (λ (v : World). list_all (is_without_window v.brought q) c.args.entries.now) (ap (λ (h : Held). h.world) c.self.view_is)
+    ∙ ap (λ (o : Option Query). option_map_or (λ x. list_all (is_without_window ((c.args.self.now).world).brought x) c.args.entries.now) o true) (sym (ap option_copied c.in-Some.is) ∙ c.listen_of.ensures)

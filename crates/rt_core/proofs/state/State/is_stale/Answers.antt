@@ -8,12 +8,12 @@ use Rattle.rt_core.proofs.state.State.is_stale.Goals as goal
 
 pub returns-in-Data : goal.returns-in-Data
 returns-in-Data c =
-    c.is_data_stale.ensures c.in-Data.tree ∙ sym (c.pushed_law.ensures.one_stale c.args.self.now c.in-Data.tag c.in-Data.path c.in-Data.tree)
-    ∙ sym (ap (is_stale c.args.self.now) c.in-Data.is)
+    c.is_data_stale.ensures c.in-Data.tree ∙ sym (c.pushed_law.ensures.one_stale (c.args.self.now).world c.in-Data.tag c.in-Data.path c.in-Data.tree)
+    ∙ sym (ap (is_stale (c.args.self.now).world) c.in-Data.is)
 
 pub returns-in-DataMerge : goal.returns-in-DataMerge
 returns-in-DataMerge c =
-    let w : World = c.args.self.now in
+    let w : World = (c.args.self.now).world in
     c.is_merge_stale.ensures
     ∙ ap (λ es. option_map_or (λ q. list_all (is_without_window w.brought q) es) (listen_of w c.in-DataMerge.tag) true) c.as_slice.ensures
     ∙ sym (c.pushed_law.ensures.merge_stale w c.in-DataMerge.tag c.in-DataMerge.entries)

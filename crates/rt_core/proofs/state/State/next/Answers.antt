@@ -1,6 +1,10 @@
 use Rattle.std.proofs.Common.{subst, sym}
 use Rattle.rt_core.specs.inside.Due.{IsNext}
+use Rattle.rt_core.specs.inside.Viewed.{HasViews}
 use Rattle.rt_core.proofs.state.State.next.Goals as goal
 
 pub returns-in-Disconnected : goal.returns-in-Disconnected
-returns-in-Disconnected c = subst (λ s. IsNext c.args.self s c.disconnect.result) (sym c.in-Disconnected.is) c.disconnect.ensures
+returns-in-Disconnected c = record {
+  made = subst (λ s. IsNext (c.args.self).world s ((c.disconnect.result.0).world, c.disconnect.result.1)) (sym c.in-Disconnected.is) c.disconnect.ensures.made;
+  views = subst (λ s. HasViews c.args.self s c.disconnect.result.0) (sym c.in-Disconnected.is) c.disconnect.ensures.views;
+}

@@ -1,32 +1,38 @@
-use Rattle.std.proofs.Common.{◌≡◌, ◌++◌, None, ◌∙◌, ap, map, sym, subst, refl}
+use Rattle.std.proofs.Common.{◌≡◌, ◌++◌, None, ◌∙◌, ap, map, sym, subst, refl, not, false, Bool, Some}
 use Rattle.std.specs.List.{filter}
 use Rattle.rt_query.specs.QueryEq.{query_eq}
 use Rattle.rt_query.specs.Supply.{form}
-use Rattle.rt_cover.specs.State.{Cover, revoke_fault}
-use Rattle.rt_listeners.specs.Listeners.{cancelled_note}
+use Rattle.rt_cover.specs.State.{Cover, revoke_fault, listen_at}
+use Rattle.rt_listeners.specs.Listeners.{cancelled_note, views_left}
 use Rattle.rt_world.specs.declared.step.Step.{Step}
 use Rattle.rt_world.specs.World.{Listener, World}
 use Rattle.rt_world.specs.Covering.{cover_in}
+use Rattle.rt_core.specs.Core.{Held}
 use Rattle.rt_core.specs.declared.told.Told.{Told}
 use Rattle.rt_core.specs.inside.Due.{IsDue, IsNext}
 use Rattle.rt_core.specs.inside.StateView.{world_of}
 use Rattle.rt_core.proofs.Listened.{revoke_made, revoked_is, tied_next}
 use Rattle.rt_core.proofs.NextWorlds.{along}
 use Rattle.rt_core.proofs.TagLaws.{cover_tied}
+use Rattle.std.specs.Option.{option_map, option_map_or}
+use Rattle.rt_query.specs.Queries.{Query}
+use Rattle.rt_cover.specs.Cover.{Tagged}
+use Rattle.rt_world.specs.Steps.{is_cancelled}
+use Rattle.rt_core.specs.inside.Viewed.{KeepsViews}
 use Rattle.rt_core.proofs.state.State.revoke.Goals as goal
 
 pub uncover_revoked-requires : goal.uncover_revoked-requires
 uncover_revoked-requires c =
-    let cover : c.state.inside.cover ≡ cover_in c.args.self = cover_tied c.state.inside.cover _ c.state.invariant refl refl ∙ ap cover_in c.state.view_is in
+    let cover : c.state.inside.cover ≡ cover_in (c.args.self).world = cover_tied c.state.inside.cover _ c.state.invariant refl refl ∙ ap (λ (h : Held). cover_in h.world) c.state.view_is in
     ap (λ (v : Cover). revoke_fault v c.args.tag) cover
-    ∙ c.covered_law.ensures.revoked c.args.self c.args.tag c.args.why c.requires.not_refused c.requires.not_stale
+    ∙ c.covered_law.ensures.revoked (c.args.self).world c.args.tag c.args.why c.requires.not_refused c.requires.not_stale
 
-pub returns : goal.returns
-returns c =
+pub returns-clause-made : goal.returns-clause-made
+returns-clause-made c =
     let state = c.state.inside in
     let ended = map (cancelled_note c.args.why) (filter (λ (l : Listener). query_eq (form l.query) c.in_ok-form.form) state.listeners.listeners) in
     along state.limits state.listeners.listeners state.requests state.brought state.cover state.is_connected state.outgoing.items state.given_listeners state.given_requests
-    c.args.self c.state.view_is (Step.Revoked c.args.tag c.args.why) _ (λ d.
+    (c.args.self).world (ap (λ (h : Held). h.world) c.state.view_is) (Step.Revoked c.args.tag c.args.why) _ (λ d.
     revoke_made state.limits state.listeners.listeners state.requests state.brought state.cover state.is_connected state.outgoing.items state.given_listeners state.given_requests
     c.listened_law.ensures.revoked c.state.invariant c.args.tag c.args.why d
     c.in_ok-form.form c.in_ok-form.ensures.form
@@ -40,7 +46,7 @@ invariant_of-state c =
     let ended = map (cancelled_note c.args.why) (filter (λ (l : Listener). query_eq (form l.query) c.in_ok-form.form) state.listeners.listeners) in
     let old : World = world_of state.limits state.listeners.listeners state.requests state.brought state.cover state.is_connected state.outgoing.items state.given_listeners state.given_requests in
     let s : Step = Step.Revoked c.args.tag c.args.why in
-    let d : IsDue old s = subst (λ v. IsDue v s) (sym c.state.view_is) c.requires in
+    let d : IsDue old s = subst (λ (v : Held). IsDue v.world s) (sym c.state.view_is) c.requires in
     let said : Told = record { given = None; notes = c.cancel.new.notes } in
     let made : IsNext old s (world_of state.limits c.cancel.new.self.listeners state.requests c.lose.new.brought c.uncover_revoked.new.cover state.is_connected c.send_change.new.outgoing.items state.given_listeners state.given_requests, said) =
     revoke_made state.limits state.listeners.listeners state.requests state.brought state.cover state.is_connected state.outgoing.items state.given_listeners state.given_requests
@@ -52,3 +58,14 @@ invariant_of-state c =
     tied_next c.following_law.ensures.cover old s d.good.sound c.uncover_revoked.new.cover _
     (c.in_ok-form.ensures.cover ∙ revoked_is state.limits state.listeners.listeners state.requests state.brought state.cover state.is_connected state.outgoing.items state.given_listeners state.given_requests c.state.invariant c.args.tag c.args.why)
     made.world
+
+pub returns-clause-views : goal.returns-clause-views
+returns-clause-views c =
+    let state = c.state.inside in
+    let form_is : option_map (λ (k : Tagged). k.form) (listen_at state.cover c.args.tag) ≡ Some c.in_ok-form.form = c.in_ok-form.ensures.form in
+    record {
+      listeners = c.in_ok-cancel.ensures.listeners ∙ (λ i. filter (λ (l : Listener). not (option_map_or (query_eq (form l.query)) (sym form_is i) false)) state.listeners.listeners)
+          ∙ (λ i. filter (λ (l : Listener). not (is_cancelled (c.state.view_is i).world c.args.tag l)) ((c.state.view_is i).world).listeners);
+      views = c.in_ok-cancel.ensures.views ∙ (λ i. views_left (λ (l : Listener). not (option_map_or (query_eq (form l.query)) (sym form_is i) false)) state.listeners)
+          ∙ (λ i. views_left (λ (l : Listener). not (is_cancelled (c.state.view_is i).world c.args.tag l)) (record { listeners = ((c.state.view_is i).world).listeners; views = (c.state.view_is i).views }));
+    }

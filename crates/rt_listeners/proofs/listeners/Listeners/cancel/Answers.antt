@@ -3,9 +3,9 @@ use Rattle.std.specs.List.{filter, filter_map}
 use Rattle.rt_query.specs.QueryEq.{query_eq}
 use Rattle.rt_query.specs.Supply.{form}
 use Rattle.rt_world.specs.World.{Listener}
-use Rattle.rt_listeners.specs.Listeners.{cancelled_note, counts_left}
-use Rattle.rt_listeners.specs.inside.HeldView.{counts_of, ended_note, listener_of, listeners_of}
-use Rattle.rt_listeners.proofs.HeldLaws.{counts_filter, listeners_filter, notes_ended}
+use Rattle.rt_listeners.specs.Listeners.{cancelled_note, views_left}
+use Rattle.rt_listeners.specs.inside.HeldView.{views_of, ended_note, listener_of, listeners_of}
+use Rattle.rt_listeners.proofs.HeldLaws.{views_filter, listeners_filter, notes_ended}
 use Rattle.rt_listeners.proofs.listeners.Listeners.cancel.Goals as goal
 
 pub returns-clause-listeners : goal.returns-clause-listeners
@@ -13,10 +13,10 @@ returns-clause-listeners c =
     let test : Listener → Bool = λ l. not (query_eq (form l.query) c.args.listened.now) in
     ap listeners_of c.end_form.ensures.left ∙ listeners_filter test c.self.inside.held.items ∙ ap (λ all. filter test all.listeners) c.self.view_is
 
-pub returns-clause-counts : goal.returns-clause-counts
-returns-clause-counts c =
+pub returns-clause-views : goal.returns-clause-views
+returns-clause-views c =
     let test : Listener → Bool = λ l. not (query_eq (form l.query) c.args.listened.now) in
-    ap (map counts_of) c.end_form.ensures.left ∙ counts_filter test c.self.inside.held.items ∙ ap (counts_left test) c.self.view_is
+    ap views_of c.end_form.ensures.left ∙ views_filter test c.self.inside.held.items ∙ ap (views_left test) c.self.view_is
 
 pub returns-clause-notes : goal.returns-clause-notes
 returns-clause-notes c =

@@ -1,0 +1,48 @@
+-- Seats' calls on the locked value.
+use Rattle.std.proofs.Common.{◌≡◌, ℕ, cond, ◌==◌, sym, ap, subst, ◌∙◌, Option, Some, None}
+use Rattle.std.specs.Cmp.{nat_eq_equiv}
+use Rattle.rt_world.specs.declared.error.CoreError.{CoreError}
+use Rattle.rt_push.specs.PushIds.{Stamp}
+use Rattle.rt_mail.specs.Lanes.{Line, Ring}
+use Rattle.rt_client.specs.declared.call.Call.{Call}
+use Rattle.rt_client.specs.declared.done.Done.{Done}
+use Rattle.rt_client.specs.declared.error.ClientError.TheVariants.{Core, NoMemory}
+use Rattle.rt_client.specs.Lanes.{lane_of, HasRoom}
+use Rattle.rt_client.specs.Shared.{Held}
+use Rattle.rt_client.specs.Calls.{Locked, Seated, Called, RefusesCalled, MakesCall, RefusesCall}
+
+abbrev pub locked_of : ℕ → Option Stamp → Option Held → Locked
+locked_of number ids held = record { number = number; ids = ids; held = held }
+
+abbrev pub seated_of : ℕ → ℕ → Ring → Seated
+seated_of client number ring = record { client = client; number = number; ring = ring }
+
+-- a seat of the client has its lane
+own_is : (n seat : ℕ) (lanes : Option Line) → seat ≡ n → lanes ≡ cond (seat == n) lanes None
+own_is n seat lanes e = ap (λ b. cond b lanes None) (sym (ap (λ m. seat == m) (sym e) ∙ nat_eq_equiv.refl seat))
+
+pub seat_made : (n : ℕ) (ids : Option Stamp) (client number : ℕ) (ring left : Ring) (before after : Held) (c : Call) (done : Done) → client ≡ n
+    → Called before number ring c done after left
+    → MakesCall (locked_of n ids (Some before)) (seated_of client number ring) c done (locked_of n ids (Some after)) (seated_of client number left)
+seat_made n ids client number ring left before after c done own called = record {
+  before = before;
+  held = λ i. Some before;
+  own = own;
+  after = after;
+  locked = λ i. locked_of n ids (Some after);
+  ring = left;
+  seated = λ i. seated_of client number left;
+  called = called;
+}
+
+pub seat_refused : (n : ℕ) (ids : Option Stamp) (client number : ℕ) (ring left : Ring) (before after : Held) (c : Call) (why : CoreError) → client ≡ n
+    → HasRoom ring (lane_of before.lanes number) → RefusesCalled before number ring c (Core why) after left
+    → RefusesCall (locked_of n ids (Some before)) (seated_of client number ring) c (Core why) (locked_of n ids (Some after)) (seated_of client number left)
+seat_refused n ids client number ring left before after c why own has h =
+    (before, λ i. Some before, subst (HasRoom ring) (own_is n client (lane_of before.lanes number) own) has, h.0, (λ i. locked_of n ids (Some (h.1 i)), λ i. seated_of client number (h.2 i)))
+
+pub seat_gave_up : (n : ℕ) (ids : Option Stamp) (client number : ℕ) (ring left : Ring) (before after : Held) (given_up : Option Held) (c : Call) → client ≡ n
+    → HasRoom ring (lane_of before.lanes number) → given_up ≡ None → RefusesCalled before number ring c NoMemory after left
+    → RefusesCall (locked_of n ids (Some before)) (seated_of client number ring) c NoMemory (locked_of n ids given_up) (seated_of client number left)
+seat_gave_up n ids client number ring left before after given_up c own has none h =
+    (before, λ i. Some before, subst (HasRoom ring) (own_is n client (lane_of before.lanes number) own) has, left, h, λ i. seated_of client number left, λ i. locked_of n ids (none i))

@@ -1,0 +1,2 @@
+-- What only the code's own functions need.
+pub mod Receipts

@@ -1,0 +1,155 @@
+// What a client holds as long as it has not failed.
+ghost use Rattle.std.specs.Prelude.{◌≡◌, Some, None, IfOk, OnOk, IfErr};
+ghost use Rattle.std.specs.Option.{option_map_or};
+ghost use Rattle.rt_world.specs.World.{World};
+ghost use Rattle.rt_client.specs.Seats.{caller_of, closed_by};
+ghost use Rattle.rt_mail.specs.Lanes.{Line};
+ghost use Rattle.rt_client.specs.Lanes.{lane_of, HasRoom, signed_ring};
+ghost use Rattle.rt_client.specs.inside.Receipts.{AreSigned};
+ghost use Rattle.rt_client.specs.Calls.{HandsFirst, Made, Refuses, Called, RefusesCalled};
+
+use crate::call::Call;
+use crate::done::Done;
+use crate::error::ClientError;
+use crate::lanes::Lanes;
+use rt_core::Core;
+use rt_mail::{Inbox, Receipt};
+use rt_world::{Notes, Report, Step};
+use std::alloc::{AllocError, Global};
+use std::marker::Model;
+
+// The core, and a lane per open seat.
+#[derive(Drop)]
+pub(crate) struct Held {
+    pub(crate) core: Core,
+    pub(crate) lanes: Lanes,
+}
+
+impl Model for Held {
+    ghost use Rattle.rt_core.specs.Core.{world_in};
+    ghost use Rattle.rt_client.specs.Shared.{Held};
+
+    ghost Value = { Held };
+
+    ghost view = { λ a. record { core = world_in a.core; lanes = a.lanes } };
+}
+
+// The seat that the step closes, if it closes one.
+fn closed_by(step: &Step) -> Option<u64>
+    ensures { result ≡ closed_by step.now }
+{
+    match step {
+        Step::CloseSeat { seat } => Some(*seat),
+        Step::Listen { .. }
+        | Step::Unlisten { .. }
+        | Step::Write { .. }
+        | Step::OnDisconnect { .. }
+        | Step::Data { .. }
+        | Step::DataMerge { .. }
+        | Step::Accepted { .. }
+        | Step::Refused { .. }
+        | Step::Revoked { .. }
+        | Step::Connected
+        | Step::Disconnected => None,
+    }
+}
+
+// The seat's lane hands over all that waits and then the receipt, and each note waits in its seat's
+// lane, in order. No open lane has failed, so want of memory is all that can be answered.
+fn tell(
+    lanes: &mut Lanes,
+    seat: u64,
+    inbox: &mut Inbox,
+    receipt: Receipt,
+    notes: Notes,
+) -> Result<(), AllocError>
+    requires { HasRoom inbox.old (lane_of lanes.old seat) }
+    ensures lanes { OnOk result (AreSigned seat receipt notes lanes.old lanes.new) }
+    ensures ring { OnOk result (inbox.new
+        ≡ option_map_or (signed_ring receipt inbox.old) (lane_of lanes.old seat) inbox.old) }
+    ensures refused { IfErr result (λ _. (lane : Line) × (lane_of lanes.old seat ≡ Some lane)
+        × HandsFirst lane receipt inbox.old inbox.new) }
+{
+    match lanes.sign(seat, inbox, receipt) {
+        Ok(()) => {}
+        Err(_why) => {
+            drop(notes);
+            return Err(AllocError);
+        }
+    }
+    match lanes.queue_all(notes) {
+        Ok(()) => Ok(()),
+        Err(_why) => Err(AllocError),
+    }
+}
+
+impl Held {
+    // One step of the core that is answered with no receipt: its notes wait in their lanes, and the
+    // lane of a seat that it closes goes. After want of memory what is held is given up.
+    pub(crate) fn after(&mut self, step: Step) -> Result<Done, ClientError>
+        requires world { (w : World) × (self.old.core ≡ Some w) }
+        requires no_call { caller_of step ≡ None }
+        ensures made { IfOk result (λ done. Made self.old step done self.new) }
+        ensures refused { IfErr result (λ e. Refuses self.old step e self.new) }
+    {
+        let closed = closed_by(&step);
+        match self.core.apply(step) {
+            Ok(
+                Report {
+                    outcome,
+                    given,
+                    notes,
+                },
+            ) => {
+                // No open lane has failed, so want of memory is all that can be answered.
+                if self.lanes.queue_all(notes).is_err() {
+                    return Err(ClientError::NoMemory);
+                }
+                if let Some(seat) = closed {
+                    self.lanes.close(seat);
+                }
+                Ok(Done { outcome, given })
+            }
+            Err(error) => Err(ClientError::from(error)),
+        }
+    }
+
+    // One step of the core that is an open seat's call: all that waited in its lane is handed over, and
+    // then the receipt, and the step's notes wait in their lanes. After want of memory what is held
+    // is given up.
+    pub(crate) fn called(
+        &mut self,
+        alloc: Global,
+        seat: u64,
+        inbox: &mut Inbox,
+        call: Call,
+    ) -> Result<Done, ClientError>
+        requires world { (w : World) × (self.old.core ≡ Some w) }
+        requires room { HasRoom inbox.old (lane_of self.old.lanes seat) }
+        ensures made { IfOk result (λ done. Called self.old seat inbox.old call done self.new inbox.new) }
+        ensures refused { IfErr result (λ e. RefusesCalled self.old seat inbox.old call e self.new inbox.new) }
+    {
+        let Ok(step) = call.step(alloc, seat) else {
+            drop(call);
+            return Err(ClientError::NoMemory);
+        };
+        match self.core.apply(step) {
+            Ok(
+                Report {
+                    outcome,
+                    given,
+                    notes,
+                },
+            ) => {
+                // The end of a listener is given no number.
+                let receipt = call.receipt(given.unwrap_or(0));
+                tell(&mut self.lanes, seat, inbox, receipt, notes)?;
+                Ok(Done { outcome, given })
+            }
+            Err(error) => {
+                drop(call);
+                Err(ClientError::from(error))
+            }
+        }
+    }
+}

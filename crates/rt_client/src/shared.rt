@@ -1,0 +1,140 @@
+// What a client's lock keeps, and the steps on it.
+ghost use Rattle.std.specs.Prelude.{◌≡◌, None, IfOk, IfErr};
+ghost use Rattle.rt_client.specs.Seats.{caller_of};
+ghost use Rattle.rt_client.specs.Opened.{new_locked};
+ghost use Rattle.rt_client.specs.Calls.{MakesOn, RefusesOn, MakesCall, RefusesCall};
+
+use crate::call::Call;
+use crate::done::Done;
+use crate::error::ClientError;
+use crate::held::Held;
+use crate::keeping::keeping_law;
+use crate::lanes::Lanes;
+use crate::seat::Seat;
+use rt_core::Core;
+use rt_push::PushIds;
+use rt_world::{Limits, Step};
+use std::alloc::{AllocError, Global};
+use std::marker::Model;
+
+/// What a client's lock keeps: its core, its push ids, and a lane per open seat. Once a call has
+/// lacked memory the client has failed, and its calls answer nothing else from then on.
+#[derive(Drop)]
+pub struct Shared {
+    pub(crate) alloc: Global,
+    pub(crate) number: u64,
+    pub(crate) ids: PushIds,
+    pub(crate) held: Option<Held>,
+}
+
+impl Model for Shared {
+    ghost use Rattle.std.specs.Option.{IfSome};
+    ghost use Rattle.rt_client.specs.Shared.{IsKept};
+    ghost use Rattle.rt_client.specs.Calls.{Locked};
+
+    ghost Value = { Locked };
+
+    ghost view = { λ a. record { number = a.number; ids = a.ids; held = a.held } };
+
+    ghost invariant = { λ a. IfSome a.held IsKept };
+}
+
+impl Shared {
+    // A client with so many open seats, whose core is new.
+    #[tactic(auto, using(crate::proofs::Kept::opened_is_kept))]
+    pub(crate) fn open(
+        alloc: Global,
+        number: u64,
+        seats: usize,
+        limits: Limits,
+    ) -> Result<Shared, AllocError>
+        ensures { IfOk result (λ shared. shared ≡ new_locked number seats limits) }
+    {
+        // This states for the prover that what the lock keeps holds at first.
+        keeping_law();
+        let lanes = Lanes::open(alloc, seats)?;
+        let core = Core::new(alloc, limits);
+        Ok(Shared {
+            alloc,
+            number,
+            ids: PushIds::new(),
+            held: Some(Held { core, lanes }),
+        })
+    }
+}
+
+/// Makes one step of the core that is no seat's call: each note waits in its seat's lane, in order,
+/// and the lane of a seat that the step closes goes. A step that is refused changes nothing.
+///
+/// # Errors
+///
+/// Failed, a refusal of the core, and NoMemory, after which the client has failed.
+pub fn with_core(shared: &mut Shared, step: Step) -> Result<Done, ClientError>
+    requires { caller_of step ≡ None }
+    ensures made { IfOk result (λ done. MakesOn shared.old step done shared.new) }
+    ensures refused { IfErr result (λ e. RefusesOn shared.old step e shared.new) }
+{
+    // This states for the prover that a step keeps what the lock keeps.
+    keeping_law();
+    let Some(held) = &mut shared.held else {
+        drop(step);
+        return Err(ClientError::Failed);
+    };
+    match held.after(step) {
+        Ok(done) => Ok(done),
+        Err(ClientError::NoMemory) => {
+            drop(shared.held.take());
+            Err(ClientError::NoMemory)
+        }
+        Err(ClientError::Core(refused)) => Err(ClientError::Core(refused)),
+        Err(
+            ClientError::Failed
+            | ClientError::WrongSeat
+            | ClientError::MailboxFull
+            | ClientError::TooManySeats,
+        ) => unreachable!(),
+    }
+}
+
+/// Makes the step of the core that a seat's call is: the ring gets all that waited and then the
+/// receipt, and each note waits in its seat's lane, in order. A call that is refused changes nothing.
+///
+/// # Errors
+///
+/// Failed, WrongSeat, MailboxFull, a refusal of the core, and NoMemory, after which the client has
+/// failed; the ring keeps what it holds.
+pub fn with_seat(shared: &mut Shared, seat: &mut Seat, call: Call) -> Result<Done, ClientError>
+    ensures made { IfOk result (λ done. MakesCall shared.old seat.old call done shared.new seat.new) }
+    ensures refused { IfErr result (λ e. RefusesCall shared.old seat.old call e shared.new seat.new) }
+{
+    // This states for the prover that a step keeps what the lock keeps.
+    keeping_law();
+    let alloc = shared.alloc;
+    let Some(held) = &mut shared.held else {
+        drop(call);
+        return Err(ClientError::Failed);
+    };
+    if seat.client != shared.number || !held.lanes.has_lane(seat.number) {
+        drop(call);
+        return Err(ClientError::WrongSeat);
+    }
+    if !held.lanes.has_room(seat.number, &seat.inbox) {
+        drop(call);
+        return Err(ClientError::MailboxFull);
+    }
+    let done = match held.called(alloc, seat.number, &mut seat.inbox, call) {
+        Ok(done) => done,
+        Err(ClientError::NoMemory) => {
+            drop(shared.held.take());
+            return Err(ClientError::NoMemory);
+        }
+        Err(ClientError::Core(refused)) => return Err(ClientError::Core(refused)),
+        Err(
+            ClientError::Failed
+            | ClientError::WrongSeat
+            | ClientError::MailboxFull
+            | ClientError::TooManySeats,
+        ) => unreachable!(),
+    };
+    Ok(done)
+}

@@ -1,0 +1,130 @@
+// Clients of two seats, whose rings hold one item and eight.
+use crate::{Call, Client, ClientError, Done, Seat, Shared, with_core, with_seat};
+use rt_mail::{Item, Receipt};
+use rt_query::Query;
+use rt_tree::{Path, Tree};
+use rt_world::{Limits, Outcome, Step};
+use std::alloc::Global;
+use std::sync::Wait;
+use std::test::Fail;
+
+fn listen(alloc: Global) -> Result<Call, Fail> {
+    let query = Query::at(Path::parse(alloc, "/g")?).done();
+    Ok(Call::Listen { query })
+}
+
+// The number of a refusal; 0 where there is none.
+fn code_of(done: Result<Done, ClientError>) -> u8 {
+    match done {
+        Ok(_) => 0,
+        Err(error) => error.code(),
+    }
+}
+
+// The number of the listener or request that a call was given; 0 where it was refused.
+fn given(done: Result<Done, ClientError>) -> u64 {
+    match done {
+        Ok(done) => done.given.unwrap_or(0),
+        Err(_) => 0,
+    }
+}
+
+// The number that the next item's receipt has; 0 where there is none.
+fn receipt_of(seat: &mut Seat) -> u64 {
+    let Some(item) = seat.next() else {
+        return 0;
+    };
+    match item {
+        Item::Receipt(Receipt::Listened { listener, .. }) => listener,
+        Item::Receipt(Receipt::Wrote { id, .. }) => id,
+        Item::Receipt(Receipt::Unlistened { .. } | Receipt::Asked { .. })
+        | Item::Batch(_)
+        | Item::Settled { .. }
+        | Item::Cancelled { .. } => 0,
+    }
+}
+
+// The first seat listens, and takes its receipt.
+fn listened(shared: &mut Shared, seat: &mut Seat, call: Call) -> (u64, u64) {
+    (given(with_seat(shared, seat, call)), receipt_of(seat))
+}
+
+// A connection, and a push of null on the first listen.
+fn pushed(shared: &mut Shared, path: Path) -> Option<Outcome> {
+    let connected = with_core(shared, Step::Connected);
+    let push = Step::Data {
+        tag: 1,
+        path,
+        tree: Tree::null(),
+    };
+    let Ok(done) = with_core(shared, push) else {
+        return None;
+    };
+    match connected {
+        Ok(_) => Some(done.outcome),
+        Err(_) => None,
+    }
+}
+
+fn client_of(alloc: Global, number: u64) -> Result<(Client, Vec<Seat>), Fail> {
+    Ok(Client::open(alloc, number, &[1, 8], Limits::full())?)
+}
+
+// What the first call of the first of the seats is given and told, and what it is told then.
+fn told_once(shared: &mut Shared, seats: &mut [Seat], call: Call) -> Option<((u64, u64), u64)> {
+    match seats {
+        [first, ..] => Some((listened(shared, first, call), receipt_of(first))),
+        [] => None,
+    }
+}
+
+fn told_of_listen(rt: &impl Wait, alloc: Global) -> Result<Option<((u64, u64), u64)>, Fail> {
+    let call = listen(alloc)?;
+    let (client, mut seats) = client_of(alloc, 1)?;
+    let mut shared = client.shared.lock(rt);
+    Ok(told_once(&mut shared, &mut seats, call))
+}
+
+#[test]
+fn receipts_come_once_each(rt: HostRuntime) -> Result<(), Fail> {
+    let told = told_of_listen(&rt, rt.alloc())?;
+    assert_eq!(rt; told, Some(((1, 1), 0)));
+    Ok(())
+}
+
+fn told_of_push(rt: &impl Wait, alloc: Global) -> Result<Option<Outcome>, Fail> {
+    let path = Path::parse(alloc, "/g")?;
+    let (client, _seats) = client_of(alloc, 1)?;
+    let mut shared = client.shared.lock(rt);
+    Ok(pushed(&mut shared, path))
+}
+
+// No listen has the tag.
+#[test]
+fn push_comes_too_late(rt: HostRuntime) -> Result<(), Fail> {
+    let told = told_of_push(&rt, rt.alloc())?;
+    assert_eq!(rt; told, Some(Outcome::Stale));
+    Ok(())
+}
+
+fn refused_others(shared: &mut Shared, seats: &mut [Seat], call: Call) -> Option<u8> {
+    match seats {
+        [first, ..] => Some(code_of(with_seat(shared, first, call))),
+        [] => None,
+    }
+}
+
+fn told_others(rt: &impl Wait, alloc: Global) -> Result<Option<u8>, Fail> {
+    let call = listen(alloc)?;
+    let (client, _seats) = client_of(alloc, 1)?;
+    let (_other, mut others) = client_of(alloc, 2)?;
+    let mut shared = client.shared.lock(rt);
+    Ok(refused_others(&mut shared, &mut others, call))
+}
+
+#[test]
+fn wrong_seat(rt: HostRuntime) -> Result<(), Fail> {
+    let told = told_others(&rt, rt.alloc())?;
+    assert_eq!(rt; told, Some(2));
+    Ok(())
+}
