@@ -97,7 +97,8 @@ Refuses old s (Core why) new = IsRefused old s why × (new ≡ old)
 Refuses old s NoMemory new = Unit {0}
 
 -- the step that an open seat's call is; its ring has all that waited, and then the receipt
-pub record Called (old : Held) (seat : ℕ) (had : Ring) (c : Call) (done : Done) (new : Held) (left : Ring) : Type 0 where
+pub record Called (old : Held) (seat : ℕ) (had : Ring) (c : Call) (done : Done) (new : Held)
+    (left : Ring) : Type 0 where
   pub made : Made old (step_of seat c) done new
   pub lane : Line
   pub is_open : lane_of old.lanes seat ≡ Some lane
@@ -151,7 +152,8 @@ RefusesOn old s (Core why) new =
 RefusesOn old s NoMemory new = (before : Held) × (old.held ≡ Some before) × Fails old new
 
 -- the step that the call of an open seat is
-pub record MakesCall (old : Locked) (seat : Seated) (c : Call) (done : Done) (new : Locked) (left : Seated) : Type 0 where
+pub record MakesCall (old : Locked) (seat : Seated) (c : Call) (done : Done) (new : Locked)
+    (left : Seated) : Type 0 where
   pub before : Held
   pub held : old.held ≡ Some before
   pub own : seat.client ≡ old.number

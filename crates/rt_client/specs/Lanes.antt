@@ -32,7 +32,8 @@ AreQueued notes old new =
 
 -- some first notes are queued, and the lane of the next one's seat, which is open, has no memory for
 -- it or has failed
-pub record StopsAt (notes : List Note) (old : List (Option Line)) (why : MailError) (new : List (Option Line)) : Type 0 where
+pub record StopsAt (notes : List Note) (old : List (Option Line)) (why : MailError)
+    (new : List (Option Line)) : Type 0 where
   pub before : ℕ
   pub note : Note
   pub next : slice_get notes before ≡ Some note
@@ -66,7 +67,8 @@ abbrev pub signed_ring : Receipt → Ring → Line → Ring
 signed_ring receipt ring lane = with_items (lane.waiting ++ item.Receipt receipt ∷ []) ring
 
 -- a lane that is open refuses to hand over, and no other changes
-pub record RefusesToHand (seat : ℕ) (old : List (Option Line)) (old_ring : Ring) (why : MailError) (new : List (Option Line)) (new_ring : Ring) : Type 0 where
+pub record RefusesToHand (seat : ℕ) (old : List (Option Line)) (old_ring : Ring) (why : MailError)
+    (new : List (Option Line)) (new_ring : Ring) : Type 0 where
   pub lane : Line
   pub left : Line
   pub is_open : lane_of old seat ≡ Some lane

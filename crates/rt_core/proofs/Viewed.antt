@@ -296,7 +296,7 @@ module _ (law : UnnamedAreSeen) (h : Held) (seat : ℕ) (query : Query) (k : Hel
           None,
           ap (λ j. found j (h.world).listeners h.views) (numbered known) ∙ found_none (h.world).listeners h.views (h.world).next_listener sound.below,
           subst (λ q. IsTurn (length (children_of (seen k.world q))) (most_read h.world (Step.Listen seat query) k.world q) None y) (asks known)
-          (first_turn (length (children_of (seen k.world query))) 0 (most_read h.world (Step.Listen seat query) k.world query) y one.1),
+              (first_turn (length (children_of (seen k.world query))) 0 (most_read h.world (Step.Listen seat query) k.world query) y one.1),
         ),
       )
 

@@ -2,7 +2,8 @@
 -- In reading order: Words (numbers of a line, and its name), Calls (the calls of a query), Forms (which
 -- JSON data have the form of a line), Reading (paths, trees and entries, and what refuses them), Drafts
 -- (the query that calls make), Lines (what a line asks for), Refusals (layers, numbers and names of
--- refusals), Printing (what is printed), State (what lines act on), Doing (what a line does to it, and what it prints).
+-- refusals), Printing (what is printed), State (what lines act on), Doing (what a line does to it, and
+-- what it prints).
 -- laws/ has lines and texts that the prover computes.
 pub mod Calls
 pub mod Doing

@@ -4,7 +4,8 @@ use Rattle.rt_push.specs.PushIds.{Stamp}
 use Rattle.rt_world.specs.World.{World, empty_world}
 use Rattle.rt_world.specs.declared.limits.Limits.{Limits}
 
--- the world of a core, none once it has lacked memory, and what the last push id was made of, none before the first
+-- the world of a core, none once it has lacked memory, and what the last push id was made of, none before
+-- the first
 pub record State : Type 0 where
   pub world : Option World
   pub last_id : Option Stamp

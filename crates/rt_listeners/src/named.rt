@@ -46,11 +46,7 @@ fn put_first(keys: &mut Vec<Key>, key: &Key) -> Result<(), AllocError>
 }
 
 // The keys of the path's children that the entries name, each once.
-fn named_keys(
-    alloc: Global,
-    path: &Path,
-    entries: &[(Path, Tree)],
-) -> Result<Vec<Key>, AllocError>
+fn named_keys(alloc: Global, path: &Path, entries: &[(Path, Tree)]) -> Result<Vec<Key>, AllocError>
     ensures { IfOk result (λ keys. keys.items ≡ children_named path.now entries.now) }
 {
     let mut keys = Vec::new(alloc);
@@ -78,10 +74,7 @@ fn is_hidden(pending: &Pending, query: &Query, key: &Key, whole: bool, child: &T
         && not (not (is_null child.now)
         || sets_child_whole pending.now query.now.path key.now)) }
 {
-    query.is_filtered()
-        && !whole
-        && child.is_null()
-        && !pending.sets_child_whole(query.path(), key)
+    query.is_filtered() && !whole && child.is_null() && !pending.sets_child_whole(query.path(), key)
 }
 
 // The child of that key as the query sees it, taken alone.

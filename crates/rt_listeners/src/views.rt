@@ -171,8 +171,10 @@ fn touch(
 ) -> Result<ChangeList, AllocError>
     requires held { IsHeld listener.old }
     requires levels { All (λ c. levels c.1 ≤ MAX_KEYS) named.items }
-    ensures listener { OnOk result (listener.new ≡ record listener.old { view =
-        option_map (λ v. touched v named.items) listener.old.view }) }
+    ensures listener { OnOk result (listener.new ≡ record listener.old {
+      view =
+          option_map (λ v. touched v named.items) listener.old.view;
+    }) }
     ensures number { listener.new.number ≡ listener.old.number }
     ensures changes { IfOk result (λ list. (v : View) → listener.old.view ≡ Some v
         → list ≡ told_of v (touched v named.items)) }

@@ -16,7 +16,8 @@ receipt_with number (call.Write action) = Wrote number action
 receipt_with number (call.OnDisconnect ending) = Asked number ending
 
 -- the seat's lane is signed, and then each lane is told its notes
-pub record AreSigned (seat : ℕ) (receipt : Receipt) (notes : List Note) (old new : List (Option Line)) : Type 0 where
+pub record AreSigned (seat : ℕ) (receipt : Receipt) (notes : List Note)
+    (old new : List (Option Line)) : Type 0 where
   pub between : List (Option Line)
   pub signed : IsChanged seat (option_map (signed_lane receipt) (lane_of old seat)) old between
   pub queued : AreQueued notes between new

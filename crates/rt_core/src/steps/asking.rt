@@ -5,7 +5,10 @@ ghost use Rattle.rt_world.specs.World.{entries_of};
 use crate::sending::send_asked;
 use crate::state::State;
 use crate::told::Told;
-use rt_world::{Action, Asked, Ending, Step, asked_law, brought_law, pending_law, refusal_law, stay_law, touch_law};
+use rt_world::{
+    Action, Asked, Ending, Step, asked_law, brought_law, pending_law, refusal_law, stay_law,
+    touch_law,
+};
 use rt_writes::Entries;
 use std::alloc::{AllocError, Global};
 
@@ -95,7 +98,8 @@ impl State {
         ending: Ending,
     ) -> Result<(State, Told), AllocError>
         requires { IsDue self.world (Step.OnDisconnect seat ending) }
-        ensures made { IfOk result (λ made. IsNext self.world (Step.OnDisconnect seat ending) (made.0.world, made.1)) }
+        ensures made { IfOk result (λ made.
+            IsNext self.world (Step.OnDisconnect seat ending) (made.0.world, made.1)) }
         ensures views { IfOk result (λ made. SameViews self made.0) }
     {
         // State what such a step leaves, and what may be asked.

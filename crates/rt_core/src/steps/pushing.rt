@@ -68,7 +68,8 @@ impl State {
     ) -> Result<(State, Told), AllocError>
         requires due { IsDue self.world (Step.DataMerge tag entries.items) }
         requires viewed { AreViewed self }
-        ensures made { IfOk result (λ made. IsNext self.world (Step.DataMerge tag entries.items) (made.0.world, made.1)) }
+        ensures made { IfOk result (λ made.
+            IsNext self.world (Step.DataMerge tag entries.items) (made.0.world, made.1)) }
         ensures views { IfOk result (λ made. RefreshesViews self entries.items made.0) }
     {
         // State what such a step leaves, and what may be pushed.

@@ -42,7 +42,8 @@ impl State {
     pub(crate) fn revoke(self, tag: u64, why: Reason) -> Result<(State, Told), AllocError>
         requires { IsDue self.world (Step.Revoked tag why) }
         ensures made { IfOk result (λ made. IsNext self.world (Step.Revoked tag why) (made.0.world, made.1)) }
-        ensures views { IfOk result (λ made. KeepsViews (λ l. not (is_cancelled self.world tag l)) self made.0) }
+        ensures views { IfOk result (λ made.
+            KeepsViews (λ l. not (is_cancelled self.world tag l)) self made.0) }
     {
         // State what such a step leaves, and that the cover takes it.
         listened_law();

@@ -51,7 +51,8 @@ abbrev pub pair_of : Held → Listener × Option View
 pair_of l = (listener_of l, l.view)
 
 -- both after entries
-abbrev pub refreshed : List Assignment → Brought → List Write → Listener × Option View → Listener × Option View
+abbrev pub refreshed : List Assignment → Brought → List Write
+    → Listener × Option View → Listener × Option View
 refreshed entries b writes p = (renewed_met entries b writes p.0, view_met entries b writes p)
 
 -- what a view becomes that sees that tree; the first where there is none

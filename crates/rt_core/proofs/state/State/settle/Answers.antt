@@ -55,7 +55,7 @@ refresh-requires c =
     record {
       follow = follows_settled laws c.brought_law.ensures.pushed old viewed c.args.id c.args.why d c.as_slice-entries.result.now
           (c.as_slice-entries.ensures ∙ c.left_of-settled.ensures.entries ∙ ap (λ o. option_map_or (λ (x : Left). x.entries) o []) c.in_ok-taken.ensures.settled
-    ∙ settled_entries (w state.limits state.listeners.listeners state.requests state.brought state.cover state.is_connected state.outgoing.items state.given_listeners state.given_requests) c.args.id c.args.why d.not_stale)
+          ∙ settled_entries (w state.limits state.listeners.listeners state.requests state.brought state.cover state.is_connected state.outgoing.items state.given_listeners state.given_requests) c.args.id c.args.why d.not_stale)
           c.settle.new.self c.in_ok-taken.ensures.left c.pending-pending.result.now c.pending-pending.ensures;
     }
 
