@@ -7,7 +7,7 @@ use Rattle.rt_world.specs.declared.error.CoreError.TheVariants as core
 use Rattle.rt_world.specs.declared.report.Report.{Report}
 use Rattle.rt_world.specs.declared.step.Step.{Step}
 use Rattle.rt_world.specs.World.{World}
-use Rattle.rt_world.specs.Steps.{listener_given, request_given}
+use Rattle.rt_world.specs.After.{listener_given, request_given}
 use Rattle.rt_world.specs.Refusals.{refusal, is_stale}
 use Rattle.rt_world.specs.Answers.{step_by, step, done_report}
 use Rattle.rt_core.specs.Core.{Applies}

@@ -5,7 +5,7 @@ use Rattle.std.proofs.lemmas.List.Elements.{All-head, All-tail}
 use Rattle.rt_world.specs.declared.error.CoreError.{CoreError}
 use Rattle.rt_world.specs.declared.step.Step.{Step}
 use Rattle.rt_world.specs.World.{World, empty_world, pending}
-use Rattle.rt_world.specs.Steps.{requests_after, brought_after, renewed}
+use Rattle.rt_world.specs.After.{requests_after, brought_after, renewed}
 use Rattle.rt_world.specs.Refusals.{refusal, is_stale}
 use Rattle.rt_world.specs.Answers.{step_by, step}
 use Rattle.rt_world.specs.Sound.{IsSound}

@@ -11,7 +11,7 @@ use Rattle.rt_world.specs.declared.report.Body.TheVariants as body
 use Rattle.rt_world.specs.declared.report.Note.{Note}
 use Rattle.rt_world.specs.declared.request.Request.{Request}
 use Rattle.rt_world.specs.World.{Reason, Listener}
-use Rattle.rt_world.specs.Steps.{unseated}
+use Rattle.rt_world.specs.steps.Closing.{unseated}
 use Rattle.rt_world.specs.Answers.{settled_note}
 use Rattle.rt_world.specs.Sound.{Rises}
 use Rattle.rt_mail.specs.declared.item.Item.TheVariants as item

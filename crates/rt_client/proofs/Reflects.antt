@@ -18,7 +18,8 @@ use Rattle.rt_world.specs.declared.request.Request.{Request}
 use Rattle.rt_world.specs.declared.step.Step.{Step}
 use Rattle.rt_world.specs.World.{Reason, Listener, World, pending}
 use Rattle.rt_world.specs.Views.{is_known, view_of, seen_over}
-use Rattle.rt_world.specs.Steps.{is_cancelled, listeners_after, requests_after, brought_after, renewed}
+use Rattle.rt_world.specs.steps.Revoking.{is_cancelled}
+use Rattle.rt_world.specs.After.{listeners_after, requests_after, brought_after, renewed}
 use Rattle.rt_world.specs.Messages.{next}
 use Rattle.rt_world.specs.Refusals.{refusal, is_unknown_listener}
 use Rattle.rt_world.specs.Answers.{settled_note, settled_notes, cancelled_notes, batch_notes, batch_from, done_report}

@@ -17,7 +17,8 @@ use Rattle.rt_world.specs.declared.limits.Limits.{Limits}
 use Rattle.rt_world.specs.declared.request.Request.{Request}
 use Rattle.rt_world.specs.declared.step.Step.{Step}
 use Rattle.rt_world.specs.World.{Reason, World, Listener, registered, pending, listen_of}
-use Rattle.rt_world.specs.Steps.{renewed, unseated}
+use Rattle.rt_world.specs.After.{renewed}
+use Rattle.rt_world.specs.steps.Closing.{unseated}
 use Rattle.rt_world.specs.Messages.{next}
 use Rattle.rt_world.specs.Met.{told}
 use Rattle.rt_world.specs.Covering.{cover_in, cover_after, numbers_of}

@@ -22,7 +22,7 @@ use Rattle.rt_world.specs.declared.step.Step.{Step}
 use Rattle.rt_world.specs.declared.report.Body.TheVariants.{Settled}
 use Rattle.rt_world.specs.declared.report.Note.{Note}
 use Rattle.rt_world.specs.World.{Reason, World, Listener, registered, pending, entries_of, listen_of}
-use Rattle.rt_world.specs.Steps.{renewed}
+use Rattle.rt_world.specs.After.{renewed}
 use Rattle.rt_world.specs.Messages.{listens, request_message}
 use Rattle.rt_requests.specs.Settling.{settled}
 use Rattle.rt_world.specs.Refusals.{is_stale}
@@ -92,7 +92,7 @@ any_find id (r ∷ rs) = elim (r.id == id) as (λ b. is_some (cond b (Some r) (f
   | false ↦ any_find id rs
 ]
 
-is_there : (b : Bool) → ((false || not b) || false) ≡ false → b ≡ true
+is_there : (b : Bool) → not b ≡ false → b ≡ true
 is_there true e = refl
 is_there false e = cc
 

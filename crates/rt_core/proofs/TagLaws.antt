@@ -12,7 +12,7 @@ use Rattle.rt_cover.specs.Cover.{Tagged}
 use Rattle.rt_cover.specs.State.{Cover, is_registered, lacks_tag, left_after, listen_at, without_chosen}
 use Rattle.rt_world.specs.declared.step.Step.{Step}
 use Rattle.rt_world.specs.World.{Reason, World, Listener, registered}
-use Rattle.rt_world.specs.Steps.{listeners_after, started_by}
+use Rattle.rt_world.specs.After.{listeners_after, started_by}
 use Rattle.rt_world.specs.Refusals.{needs_tag}
 use Rattle.rt_world.specs.Covering.{cover_in}
 use Rattle.rt_world.specs.Sound.{IsSound}

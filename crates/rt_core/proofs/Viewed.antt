@@ -22,7 +22,8 @@ use Rattle.rt_world.specs.declared.step.Step.{Step}
 use Rattle.rt_world.specs.declared.request.Request.{Request}
 use Rattle.rt_world.specs.World.{Reason, World, Listener, entries_of, pending}
 use Rattle.rt_world.specs.Views.{is_known, view_of}
-use Rattle.rt_world.specs.Steps.{is_cancelled, listeners_after, pushed, renewed, requests_after}
+use Rattle.rt_world.specs.steps.Revoking.{is_cancelled}
+use Rattle.rt_world.specs.After.{listeners_after, pushed, renewed, requests_after}
 use Rattle.rt_world.specs.Messages.{next}
 use Rattle.rt_world.specs.Met.{do_meet, renewed_met}
 use Rattle.rt_world.specs.Refusals.{refusal}

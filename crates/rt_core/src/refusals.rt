@@ -5,7 +5,8 @@ ghost use Rattle.rt_tree.specs.Assignments.{have_overlap};
 ghost use Rattle.rt_world.specs.World.{entries_of};
 ghost use Rattle.rt_world.specs.Refusals.{has_overlap, is_empty_action, is_empty_update};
 ghost use Rattle.rt_world.specs.Refusals.{is_no_merge};
-ghost use Rattle.rt_world.specs.Refusals.{is_too_deep, needs_connection, stands_too_deep};
+ghost use Rattle.rt_world.specs.Refusals.{is_too_deep, stands_too_deep};
+ghost use Rattle.rt_world.specs.After.{kind};
 
 use rt_tree::{MAX_LEVELS, Path, Tree};
 use rt_wire::{Action, Ending};
@@ -145,7 +146,7 @@ pub(crate) fn is_too_deep(step: &Step) -> bool
 
 // Whether the step comes from a connection.
 pub(crate) fn needs_connection(step: &Step) -> bool
-    ensures { result ≡ needs_connection step.now }
+    ensures { result ≡ (kind step.now).needs_connection }
 {
     match step {
         Step::Data { .. }

@@ -13,7 +13,7 @@ use Rattle.rt_view.specs.Views.{told as told_of}
 use Rattle.rt_query.specs.Select.{select}
 use Rattle.rt_world.specs.World.{Listener}
 use Rattle.rt_world.specs.Views.{is_known, seen_over}
-use Rattle.rt_world.specs.Steps.{renewed}
+use Rattle.rt_world.specs.After.{renewed}
 use Rattle.rt_world.specs.Answers.{batch_note, batch_from}
 use Rattle.rt_world.specs.Met.{seeing, told}
 use Rattle.rt_world.specs.Touched.{is_covered}

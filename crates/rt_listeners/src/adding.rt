@@ -2,7 +2,7 @@
 ghost use Rattle.std.specs.Prelude.{◌≡◌, ◌++◌, IfOk, OnOk};
 ghost use Rattle.std.specs.Option.{option_to_list};
 ghost use Rattle.rt_world.specs.Met.{told};
-ghost use Rattle.rt_world.specs.Steps.{renewed};
+ghost use Rattle.rt_world.specs.After.{renewed};
 ghost use Rattle.rt_listeners.specs.Listeners.{first_view_of, new_listener};
 ghost use Rattle.rt_listeners.specs.inside.HeldView.{IsHeld, listener_of};
 

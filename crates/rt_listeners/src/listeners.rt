@@ -7,7 +7,7 @@ ghost use Rattle.rt_query.specs.QueryEq.{query_eq};
 ghost use Rattle.rt_query.specs.Supply.{form};
 ghost use Rattle.rt_world.specs.Answers.{view_before};
 ghost use Rattle.rt_world.specs.Met.{all_told, renewed_met, told};
-ghost use Rattle.rt_world.specs.Steps.{renewed};
+ghost use Rattle.rt_world.specs.After.{renewed};
 ghost use Rattle.rt_listeners.specs.Listeners.{cancelled_note, first_view_of, new_listener};
 ghost use Rattle.rt_listeners.specs.Listeners.{no_listeners, views_left};
 ghost use Rattle.rt_listeners.specs.Refreshed.{FollowNamed, view_met};

@@ -8,7 +8,7 @@ ghost use Rattle.rt_writes.specs.Writes.{IsShallow};
 ghost use Rattle.rt_cache.specs.Brought.{base};
 ghost use Rattle.rt_view.specs.Changes.{changes};
 ghost use Rattle.rt_world.specs.Views.{base_tree, is_base_whole, is_known, seen_over};
-ghost use Rattle.rt_world.specs.Steps.{renewed};
+ghost use Rattle.rt_world.specs.After.{renewed};
 ghost use Rattle.rt_world.specs.Answers.{batch_note};
 ghost use Rattle.rt_listeners.specs.inside.HeldView.{IsHeld, AreHeld, listener_of, listeners_of};
 ghost use Rattle.rt_listeners.specs.inside.HeldView.{pair_of, refreshed, shown_in, view_anew};

@@ -8,7 +8,7 @@ use Rattle.std.proofs.lemmas.List.Kept.{AllPairs-cons, AllPairs-filter}
 use Rattle.rt_cover.specs.laws.Pairs.{AllPairs-nil, AllPairs-append, AllPairs-map}
 use Rattle.rt_world.specs.declared.request.Request.{Request}
 use Rattle.rt_writes.specs.Writes.{Write, without}
-use Rattle.rt_world.specs.Steps.{unseated}
+use Rattle.rt_world.specs.steps.Closing.{unseated}
 use Rattle.rt_world.specs.World.{pending}
 use Rattle.rt_world.specs.laws.Steps.{SettledIsNotPending}
 use Rattle.rt_requests.specs.inside.Rising.{IsTied}

@@ -9,7 +9,7 @@ use Rattle.rt_wire.specs.declared.request.Asked.TheVariants.{Now, AtDisconnect}
 use Rattle.rt_world.specs.declared.request.Request.{Request}
 use Rattle.rt_world.specs.declared.step.Step.{Step}
 use Rattle.rt_world.specs.World.{pending, entries_of}
-use Rattle.rt_world.specs.Steps.{requests_after, counted, request_given}
+use Rattle.rt_world.specs.After.{requests_after, counted, request_given}
 use Rattle.rt_world.specs.Messages.{messages_of, outgoing_before}
 use Rattle.rt_world.specs.Refusals.{stands_too_deep}
 use Rattle.rt_world.specs.laws.Made.{asking, writes_with, WriteIsMade, EndingIsMade, ConnectedIsMade, DisconnectedIsMade, WritesAreShallow, NextIsAbovePending}

@@ -24,7 +24,7 @@ use Rattle.rt_world.specs.declared.limits.Limits.{Limits}
 use Rattle.rt_world.specs.declared.error.CoreError.{CoreError}
 use Rattle.rt_world.specs.declared.step.Step.{Step}
 use Rattle.rt_world.specs.World.{World, empty_world, listen_of, registered}
-use Rattle.rt_world.specs.Steps.{forms_after, kept_after, pushed}
+use Rattle.rt_world.specs.After.{forms_after, kept_after, pushed}
 use Rattle.rt_world.specs.Messages.{next}
 use Rattle.rt_world.specs.Refusals.{refusal, is_stale, stands_too_deep, is_no_merge, is_within_listen}
 use Rattle.rt_world.specs.Answers.{step, step_by, world_after}

@@ -17,7 +17,8 @@ use Rattle.rt_cover.specs.laws.KeepLaws.{Contains-map, Contains-from_map, length
 use Rattle.rt_cover.specs.laws.Pairs.{filter_none, filter_all}
 use Rattle.rt_world.specs.declared.step.Step.{Step}
 use Rattle.rt_world.specs.World.{World, Listener, empty_world, registered, pending}
-use Rattle.rt_world.specs.Steps.{is_cancelled, listeners_after, requests_after, brought_after, started_by}
+use Rattle.rt_world.specs.steps.Revoking.{is_cancelled}
+use Rattle.rt_world.specs.After.{listeners_after, requests_after, brought_after, started_by}
 use Rattle.rt_world.specs.Messages.{next}
 use Rattle.rt_world.specs.Answers.{world_after}
 use Rattle.rt_world.specs.Sound.{IsSound}

@@ -9,7 +9,7 @@ use Rattle.rt_cover.specs.Runs.{Change, told}
 use Rattle.rt_cover.specs.laws.SoundLaws.{told_exactly}
 use Rattle.rt_world.specs.declared.step.Step.{Step}
 use Rattle.rt_world.specs.World.{World, Listener, empty_world, registered}
-use Rattle.rt_world.specs.Steps.{listeners_after, started_by}
+use Rattle.rt_world.specs.After.{listeners_after, started_by}
 use Rattle.rt_world.specs.Messages.{stopped_by}
 use Rattle.rt_world.specs.Answers.{world_after}
 use Rattle.rt_world.specs.Sound.{cover_of, IsSound}

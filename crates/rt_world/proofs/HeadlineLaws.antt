@@ -12,7 +12,7 @@ use Rattle.rt_world.specs.declared.error.CoreError.{CoreError}
 use Rattle.rt_world.specs.declared.limits.Limits.{Limits}
 use Rattle.rt_world.specs.declared.step.Step.{Step}
 use Rattle.rt_world.specs.World.{World, Listener, empty_world, pending}
-use Rattle.rt_world.specs.Steps.{listeners_after, brought_after, requests_after, listener_given, counted}
+use Rattle.rt_world.specs.After.{listeners_after, brought_after, requests_after, listener_given, counted}
 use Rattle.rt_world.specs.Messages.{listens, request_message}
 use Rattle.rt_world.specs.Refusals.{refusal, is_stale}
 use Rattle.rt_world.specs.Answers.{Answer, step, step_by, answers, world_after, view_before}

@@ -24,7 +24,8 @@ use Rattle.rt_wire.specs.declared.request.Asked.{Asked}
 use Rattle.rt_world.specs.declared.request.Request.{Request}
 use Rattle.rt_world.specs.declared.step.Step.{Step}
 use Rattle.rt_world.specs.World.{World, Listener, registered, listen_of}
-use Rattle.rt_world.specs.Steps.{asked_by, is_cancelled, listeners_after, forms_after, kept_after, started_by}
+use Rattle.rt_world.specs.After.{asked_by, listeners_after, forms_after, kept_after, started_by}
+use Rattle.rt_world.specs.steps.Revoking.{is_cancelled}
 use Rattle.rt_world.specs.Messages.{unrevoked, stopped_by, listens, unlistens, request_message, request_sent, messages_online, messages_of, next}
 use Rattle.rt_world.specs.Answers.{step_by}
 use Rattle.rt_world.specs.Runs.{Event, Opened, Made, events_before, heard_after, is_done}

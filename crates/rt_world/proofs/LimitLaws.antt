@@ -8,7 +8,9 @@ use Rattle.rt_world.specs.declared.error.CoreError.{CoreError}
 use Rattle.rt_world.specs.declared.request.Request.{Request}
 use Rattle.rt_world.specs.declared.step.Step.{Step}
 use Rattle.rt_world.specs.World.{World, Listener, empty_world, pending}
-use Rattle.rt_world.specs.Steps.{is_cancelled, listeners_after, requests_after, unseated, brought_after, renewed, started_by, listener_given, request_given, counted}
+use Rattle.rt_world.specs.steps.Revoking.{is_cancelled}
+use Rattle.rt_world.specs.After.{listeners_after, requests_after, brought_after, renewed, started_by, listener_given, request_given, counted}
+use Rattle.rt_world.specs.steps.Closing.{unseated}
 use Rattle.rt_world.specs.Messages.{next}
 use Rattle.rt_world.specs.Refusals.{conditions, refusal, is_stale, needs_tag}
 use Rattle.rt_world.specs.Answers.{step, step_by, world_after}

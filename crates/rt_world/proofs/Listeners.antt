@@ -12,7 +12,7 @@ use Rattle.rt_writes.specs.Writes.{Write}
 use Rattle.rt_cache.specs.Brought.{Brought}
 use Rattle.rt_world.specs.Views.{is_known, view_of}
 use Rattle.rt_world.specs.World.{Listener, registered}
-use Rattle.rt_world.specs.Steps.{renewed}
+use Rattle.rt_world.specs.After.{renewed}
 use Rattle.rt_world.specs.Answers.{view_before}
 use Rattle.rt_world.specs.Sound.{Rises}
 

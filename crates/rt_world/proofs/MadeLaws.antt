@@ -9,7 +9,7 @@ use Rattle.rt_cache.specs.Brought.{Brought, push, is_without_window}
 use Rattle.rt_world.specs.declared.report.Note.{Note}
 use Rattle.rt_world.specs.declared.step.Step.{Step}
 use Rattle.rt_world.specs.World.{pending, listen_of}
-use Rattle.rt_world.specs.Steps.{requests_after, pushed}
+use Rattle.rt_world.specs.After.{requests_after, pushed}
 use Rattle.rt_world.specs.Messages.{messages_online}
 use Rattle.rt_world.specs.Answers.{settled_notes, batch_notes}
 use Rattle.rt_world.specs.laws.Made.{AcceptedIsMade, RefusedIsMade, DataIsMade, MergeIsMade, IsPushOn, DataMayPush, MergeMayPush, DataIsStale, MergeIsStale}
@@ -84,22 +84,16 @@ merge_may_push w tag entries free q e =
 
 -- ---- stale pushes
 
--- one part, and nothing else in the step
-part_alone : (b : Bool) → (((b && true) || false) || false) ≡ b
-part_alone true = refl
-part_alone false = refl
-
 and_true : (b : Bool) → (b && true) ≡ b
 and_true true = refl
 and_true false = refl
 
 pub data_is_stale : DataIsStale
-data_is_stale w tag path tree =
-    part_alone (option_map_or (λ q. list_all (is_without_window w.brought q) ((path, tree) ∷ [])) (listen_of w tag) true) ∙ at (listen_of w tag)
+data_is_stale w tag path tree = at (listen_of w tag)
   where
     at : (o : Option Query) → option_map_or (λ q. list_all (is_without_window w.brought q) ((path, tree) ∷ [])) o true ≡ option_map_or (λ q. is_without_window w.brought q (path, tree)) o true
     at None = refl
     at (Some q) = and_true (is_without_window w.brought q (path, tree))
 
 pub merge_is_stale : MergeIsStale
-merge_is_stale w tag entries = part_alone (option_map_or (λ q. list_all (is_without_window w.brought q) entries) (listen_of w tag) true)
+merge_is_stale w tag entries = refl

@@ -16,7 +16,7 @@ use Rattle.rt_world.specs.declared.error.CoreError.TheVariants.{AlreadyConnected
 use Rattle.rt_world.specs.declared.step.Step.{Step}
 use Rattle.rt_world.specs.Views.{is_known}
 use Rattle.rt_world.specs.World.{World, Listener, pending}
-use Rattle.rt_world.specs.Steps.{listeners_after, requests_after, brought_after, kept_after, started_by, pushed, renewed, is_connected_after}
+use Rattle.rt_world.specs.After.{listeners_after, requests_after, brought_after, kept_after, started_by, pushed, renewed, is_connected_after}
 use Rattle.rt_world.specs.Messages.{listens, unlistens, request_message, request_sent, stopped_by, messages_online, messages_of, outgoing_before, next}
 use Rattle.rt_world.specs.Refusals.{refusal, is_stale}
 use Rattle.rt_world.specs.Answers.{step, step_by, stale_report}

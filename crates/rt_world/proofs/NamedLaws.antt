@@ -22,7 +22,8 @@ use Rattle.rt_world.specs.declared.error.CoreError.{CoreError}
 use Rattle.rt_world.specs.declared.step.Step.{Step}
 use Rattle.rt_world.specs.Views.{is_known, base_tree, is_base_whole, is_child_known, seen_over, view_of}
 use Rattle.rt_world.specs.World.{World, Listener, empty_world, pending, listen_of}
-use Rattle.rt_world.specs.Steps.{Part, parts_of, requests_after, forms_after, part_pushed, pushed, brought_after, listeners_after}
+use Rattle.rt_world.specs.steps.Kind.{Part}
+use Rattle.rt_world.specs.After.{parts_of, requests_after, forms_after, part_pushed, pushed, brought_after, listeners_after}
 use Rattle.rt_world.specs.Messages.{next}
 use Rattle.rt_world.specs.Refusals.{refusal, is_stale}
 use Rattle.rt_world.specs.Answers.{step, step_by, world_after}

@@ -12,7 +12,7 @@ use Rattle.rt_cover.specs.laws.FormLaws.{form_unfiltered}
 use Rattle.rt_world.specs.declared.error.CoreError.{CoreError}
 use Rattle.rt_world.specs.declared.step.Step.{Step}
 use Rattle.rt_world.specs.World.{World, Listener, pending, listen_of}
-use Rattle.rt_world.specs.Steps.{listeners_after, pushed, brought_after, requests_after, renewed}
+use Rattle.rt_world.specs.After.{listeners_after, pushed, brought_after, requests_after, renewed}
 use Rattle.rt_world.specs.Messages.{next}
 use Rattle.rt_world.specs.Refusals.{refusal, is_stale}
 use Rattle.rt_world.specs.Answers.{step, step_by}
@@ -105,10 +105,10 @@ listened w s tag none fresh = at (listen_of w tag) refl
     at None e = absurd (true≢false (sym (none e) ∙ fresh))
 
 stale_data : (w : World) (tag : ℕ) (path : Path) (tree : PathTree) → listen_of w tag ≡ None → is_stale w (Step.Data tag path tree) ≡ true
-stale_data w tag path tree e = ap (λ o. ((option_map_or (λ q. list_all (is_without_window w.brought q) ((path, tree) ∷ [])) o true && true) || false) || false) e
+stale_data w tag path tree e = ap (λ o. option_map_or (λ q. list_all (is_without_window w.brought q) ((path, tree) ∷ [])) o true) e
 
 stale_merge : (w : World) (tag : ℕ) (entries : List Assignment) → listen_of w tag ≡ None → is_stale w (Step.DataMerge tag entries) ≡ true
-stale_merge w tag entries e = ap (λ o. ((option_map_or (λ q. list_all (is_without_window w.brought q) entries) o true && true) || false) || false) e
+stale_merge w tag entries e = ap (λ o. option_map_or (λ q. list_all (is_without_window w.brought q) entries) o true) e
 
 brought_done : (w : World) (s : Step) → IsSound w → AreUnfiltered w.listeners → IsPlainStep s → is_stale w s ≡ false → pushed w s ≡ brought_by w.brought s (step_by None false w s).1
 brought_done w (Step.Listen seat query) h p u fresh = refl

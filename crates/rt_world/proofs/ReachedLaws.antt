@@ -14,7 +14,7 @@ use Rattle.rt_cache.proofs.RecoverLaws.{nothing_lost, left_reached, left_registe
 use Rattle.rt_cover.specs.Cover.{Registered, forms}
 use Rattle.rt_world.specs.declared.step.Step.{Step}
 use Rattle.rt_world.specs.World.{World, Listener, registered, pending, listen_of}
-use Rattle.rt_world.specs.Steps.{listeners_after, requests_after, forms_after, kept_after, pushed, brought_after}
+use Rattle.rt_world.specs.After.{listeners_after, requests_after, forms_after, kept_after, pushed, brought_after}
 use Rattle.rt_world.specs.Refusals.{refusal, stands_too_deep, is_no_merge, is_within_listen}
 use Rattle.rt_world.specs.Called.{IsCalled}
 use Rattle.rt_world.specs.Reached.{IsReached}

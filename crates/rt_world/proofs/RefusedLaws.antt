@@ -64,15 +64,11 @@ own_is_not_stale w (Step.Accepted id) e = absurd (true≢false e)
 own_is_not_stale w (Step.Refused id why) e = absurd (true≢false e)
 own_is_not_stale w (Step.Revoked tag why) e = absurd (true≢false e)
 
-or_nothing : (b : Bool) → (b || false) ≡ b
-or_nothing true = refl
-or_nothing false = refl
-
 pub accepted_is_stale : AcceptedIsStale
-accepted_is_stale w id = or_nothing (not (list_any (λ r. r.id == id) w.requests))
+accepted_is_stale w id = refl
 
 pub refused_is_stale : RefusedIsStale
-refused_is_stale w id why = or_nothing (not (list_any (λ r. r.id == id) w.requests))
+refused_is_stale w id why = refl
 
 pub revoked_is_stale : RevokedIsStale
 revoked_is_stale w tag why = refl

@@ -17,7 +17,8 @@ use Rattle.rt_world.specs.declared.request.Request.{Request}
 use Rattle.rt_world.specs.declared.step.Step.{Step}
 use Rattle.rt_world.specs.Views.{is_known, seen_over, view_of}
 use Rattle.rt_world.specs.World.{Reason, World, Listener, pending}
-use Rattle.rt_world.specs.Steps.{settled_by, is_cancelled, listeners_after, brought_after, requests_after, renewed, renewed_after, listener_given, counted}
+use Rattle.rt_world.specs.After.{settled_by, listeners_after, brought_after, requests_after, renewed, renewed_after, listener_given, counted}
+use Rattle.rt_world.specs.steps.Revoking.{is_cancelled}
 use Rattle.rt_world.specs.Messages.{next}
 use Rattle.rt_world.specs.Answers.{step_by, Answer, settled_note, settled_notes, cancelled_notes, batch_notes, batch_note, batch_from, view_before, done_report, stale_report}
 use Rattle.rt_world.specs.Headline.{view_by, changes_in, changes_told, IsUpToDate}

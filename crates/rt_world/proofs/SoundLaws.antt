@@ -18,7 +18,9 @@ use Rattle.rt_wire.specs.declared.request.Asked.{Asked}
 use Rattle.rt_world.specs.declared.request.Request.{Request}
 use Rattle.rt_world.specs.declared.step.Step.{Step}
 use Rattle.rt_world.specs.World.{World, Listener, empty_world, registered, pending}
-use Rattle.rt_world.specs.Steps.{requests_with, requests_after, unseated, listeners_after, brought_after, renewed_after, listener_given, request_given, counted, started_by}
+use Rattle.rt_world.specs.steps.Asking.{requests_with}
+use Rattle.rt_world.specs.After.{requests_after, listeners_after, brought_after, renewed_after, listener_given, request_given, counted, started_by}
+use Rattle.rt_world.specs.steps.Closing.{unseated}
 use Rattle.rt_world.specs.Messages.{next}
 use Rattle.rt_world.specs.Refusals.{refusal, is_stale}
 use Rattle.rt_world.specs.Answers.{step, step_by, world_after}
@@ -78,7 +80,7 @@ requests_order w s h = at s
     less : (p : Request → Bool) → InOrder (filter p w.requests) × AreBelow w.next_request (filter p w.requests)
     less p = (AllPairs-filter (λ (r s : Request). r.id < s.id) p w.requests h.requests, All-filter p (λ (r : Request). r.id < w.next_request) w.requests h.unsettled)
 
-    more : (seat : ℕ) (asked : Asked) → InOrder (requests_with w (Some (seat, asked))) × AreBelow (w.next_request + 1) (requests_with w (Some (seat, asked)))
+    more : (seat : ℕ) (asked : Asked) → InOrder (requests_with w (seat, asked)) × AreBelow (w.next_request + 1) (requests_with w (seat, asked))
     more seat asked = (
       AllPairs-append (λ (r s : Request). r.id < s.id) w.requests (record { id = w.next_request; seat = Some seat; asked = asked } ∷ []) h.requests
           (AllPairs-cons (λ (r s : Request). r.id < s.id) (record { id = w.next_request; seat = Some seat; asked = asked }) [] (λ k d lt. absurd (omega arith)) (AllPairs-nil (λ (r s : Request). r.id < s.id)))

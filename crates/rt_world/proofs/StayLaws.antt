@@ -24,7 +24,7 @@ use Rattle.rt_world.specs.declared.error.CoreError.{CoreError}
 use Rattle.rt_world.specs.declared.step.Step.{Step}
 use Rattle.rt_world.specs.Views.{is_known, seen_over, view_of}
 use Rattle.rt_world.specs.World.{World, Listener, empty_world, pending}
-use Rattle.rt_world.specs.Steps.{listeners_after, requests_after, forms_after, kept_after, pushed, brought_after, renewed, renewed_after}
+use Rattle.rt_world.specs.After.{listeners_after, requests_after, forms_after, kept_after, pushed, brought_after, renewed, renewed_after}
 use Rattle.rt_world.specs.Messages.{next}
 use Rattle.rt_world.specs.Refusals.{refusal, is_stale}
 use Rattle.rt_world.specs.Answers.{step_by, world_after}

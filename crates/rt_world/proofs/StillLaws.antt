@@ -6,7 +6,7 @@ use Rattle.rt_cache.specs.Brought.{Brought}
 use Rattle.rt_wire.specs.declared.client.ClientMessage.{ClientMessage}
 use Rattle.rt_world.specs.declared.step.Step.{Step}
 use Rattle.rt_world.specs.World.{World, Listener, pending}
-use Rattle.rt_world.specs.Steps.{listeners_after, requests_after, started_by, pushed, brought_after, renewed, renewed_after, is_connected_after, listener_given, request_given, counted}
+use Rattle.rt_world.specs.After.{listeners_after, requests_after, started_by, pushed, brought_after, renewed, renewed_after, is_connected_after, listener_given, request_given, counted}
 use Rattle.rt_world.specs.Messages.{listens, unlistens, request_sent, messages_of, outgoing_before, next}
 use Rattle.rt_world.specs.Answers.{batch_from, batch_note, batch_notes}
 use Rattle.rt_world.specs.Touched.{entries_by}

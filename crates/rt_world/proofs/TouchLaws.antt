@@ -9,7 +9,7 @@ use Rattle.rt_tree.specs.PathTree.{Key, PathTree, key_cmp, key_eq, key_eq-is, ke
 use Rattle.rt_tree.specs.Leaf.{LeafValue}
 use Rattle.rt_tree.specs.Children.{children_of, child_of-children_of}
 use Rattle.rt_view.specs.Views.{leaves_child, stays_object, with_named}
-use Rattle.rt_world.specs.Steps.{listeners_after}
+use Rattle.rt_world.specs.After.{listeners_after}
 use Rattle.rt_world.specs.Messages.{next}
 use Rattle.rt_world.specs.Touched.{entries_by, children_named, children_at, seen}
 use Rattle.rt_world.specs.laws.Touch.{SeenAreChildren, UnmetAreSeen, UnnamedAreSeen, TouchIsEnough, ElseFewAreSeen}

@@ -16,7 +16,7 @@ use Rattle.rt_wire.specs.declared.request.Asked.TheVariants.{Now, AtDisconnect}
 use Rattle.rt_world.specs.declared.request.Request.{Request}
 use Rattle.rt_world.specs.declared.step.Step.{Step}
 use Rattle.rt_world.specs.World.{World, entries_of, pending, write_asked}
-use Rattle.rt_world.specs.Steps.{requests_after}
+use Rattle.rt_world.specs.After.{requests_after}
 use Rattle.rt_world.specs.Touched.{entries_by}
 use Rattle.rt_cover.specs.laws.Pairs.{AllPairs-first, AllPairs-rest}
 use Rattle.rt_world.proofs.Listeners.{same_number, other_number, or_false_left, or_false_right}

@@ -11,7 +11,7 @@ use Rattle.rt_world.specs.declared.error.CoreError.{CoreError}
 use Rattle.rt_world.specs.declared.request.Request.{Request}
 use Rattle.rt_world.specs.declared.step.Step.{Step}
 use Rattle.rt_world.specs.World.{World, entries_of, pending, write_asked}
-use Rattle.rt_world.specs.Steps.{unseated}
+use Rattle.rt_world.specs.steps.Closing.{unseated}
 use Rattle.rt_world.specs.Answers.{step_by}
 use Rattle.rt_world.specs.Plain.{writes_by}
 

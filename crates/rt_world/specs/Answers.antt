@@ -14,8 +14,9 @@ use Rattle.rt_world.specs.declared.report.Report.{Report}
 use Rattle.rt_world.specs.declared.request.Request.{Request}
 use Rattle.rt_world.specs.declared.step.Step.{Step}
 use Rattle.rt_world.specs.World.{Reason, Listener, World}
-use Rattle.rt_world.specs.Steps.{settled_by, is_cancelled, renewed_after, listener_given}
-use Rattle.rt_world.specs.Steps.{request_given}
+use Rattle.rt_world.specs.After.{settled_by, revoked_by, renewed_after, listener_given}
+use Rattle.rt_world.specs.After.{request_given}
+use Rattle.rt_world.specs.steps.Revoking.{is_cancelled}
 use Rattle.rt_world.specs.Messages.{next}
 use Rattle.rt_world.specs.Refusals.{refusal, is_stale}
 
@@ -34,21 +35,13 @@ settled_notes w s = option_map_or (λ d. filter_map (settled_note d) w.requests)
 
 -- the listeners that a revocation ends are told, by number
 abbrev pub cancelled_notes : World → Step → List Note
-cancelled_notes w (Step.Listen seat query) = []
-cancelled_notes w (Step.Unlisten seat listener) = []
-cancelled_notes w (Step.Write seat action) = []
-cancelled_notes w (Step.OnDisconnect seat ending) = []
-cancelled_notes w (Step.Data tag path tree) = []
-cancelled_notes w (Step.DataMerge tag entries) = []
-cancelled_notes w (Step.Accepted id) = []
-cancelled_notes w (Step.Refused id why) = []
-cancelled_notes w (Step.Revoked tag why) =
-    map
-    (λ l. record { seat = l.seat; body = Cancelled l.number why })
-    (filter (is_cancelled w tag) w.listeners)
-cancelled_notes w Step.Connected = []
-cancelled_notes w Step.Disconnected = []
-cancelled_notes w (Step.CloseSeat seat) = []
+cancelled_notes w s =
+    option_map_or
+    (λ r. map
+    (λ l. record { seat = l.seat; body = Cancelled l.number r.1 })
+    (filter (is_cancelled w r.0) w.listeners))
+    (revoked_by s)
+    []
 
 -- the changes from a listener's view to its next one
 abbrev pub batch_from : Option Shown → Listener → List Change

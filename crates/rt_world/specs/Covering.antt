@@ -7,7 +7,7 @@ use Rattle.rt_cover.specs.State.{Cover, shown_with}
 use Rattle.rt_cover.specs.Runs.{Change, Add, Remove, Revoke, changed}
 use Rattle.rt_world.specs.declared.step.Step.{Step}
 use Rattle.rt_world.specs.World.{World, registered}
-use Rattle.rt_world.specs.Steps.{listeners_after, started_by}
+use Rattle.rt_world.specs.After.{listeners_after, started_by}
 use Rattle.rt_world.specs.Messages.{stopped_by}
 
 -- the cover of a world

@@ -19,8 +19,8 @@ use Rattle.rt_world.specs.declared.report.Outcome.TheVariants.{Done}
 use Rattle.rt_world.specs.declared.step.Step.{Step}
 use Rattle.rt_world.specs.World.{World, Listener, registered, pending, cover}
 use Rattle.rt_world.specs.Views.{is_known, view_of}
-use Rattle.rt_world.specs.Steps.{listeners_after, requests_after, pushed, is_connected_after}
-use Rattle.rt_world.specs.Steps.{started_by, listener_given, request_given, counted}
+use Rattle.rt_world.specs.After.{listeners_after, requests_after, pushed, is_connected_after}
+use Rattle.rt_world.specs.After.{started_by, listener_given, request_given, counted}
 use Rattle.rt_world.specs.Messages.{listens, unlistens, request_message, request_sent}
 use Rattle.rt_world.specs.Messages.{outgoing_before}
 use Rattle.rt_world.specs.Refusals.{refusal, is_stale}

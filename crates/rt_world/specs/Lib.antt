@@ -1,11 +1,12 @@
 -- What a reader must believe stands here; laws/ holds the laws and examples that the prover computes.
--- In reading order: World (listeners, requests, what is brought), Views (what a listener shows),
--- Steps (what a step leaves), Messages (what it sends, and the world after it), Refusals (when it is
+-- In reading order: World (listeners, requests, what is brought), Views (what a listener shows), steps/
+-- (what each kind of step does), After (what a step leaves), Messages (what it sends, and the world after it), Refusals (when it is
 -- refused, and when it is stale), Answers (what it answers), Runs (what the server hears), Headline
 -- (what any steps lead to), Plain (the same of what is written and brought), Touched (which children
 -- of a view a step can change), Met (which listeners a step has to look at), Covering (the cover of a
 -- world), Limited (what keeps within the limits), Sound, Called and Reached (what holds of a world
 -- between steps), Codes (numbers and words of refusals).
+pub mod After
 pub mod Answers
 pub mod Called
 pub mod Codes
@@ -20,7 +21,7 @@ pub mod Reached
 pub mod Refusals
 pub mod Runs
 pub mod Sound
-pub mod Steps
+pub mod steps
 pub mod Touched
 pub mod Views
 pub mod World

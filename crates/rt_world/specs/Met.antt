@@ -8,7 +8,7 @@ use Rattle.rt_writes.specs.Writes.{Write}
 use Rattle.rt_cache.specs.Brought.{Brought}
 use Rattle.rt_world.specs.declared.report.Note.{Note}
 use Rattle.rt_world.specs.World.{Listener}
-use Rattle.rt_world.specs.Steps.{renewed}
+use Rattle.rt_world.specs.After.{renewed}
 use Rattle.rt_world.specs.Answers.{batch_from, batch_note}
 
 -- the listener once its query sees that tree

@@ -6,7 +6,6 @@ use Rattle.std.specs.Option.{option_map, option_map_or, option_and_then}
 use Rattle.rt_tree.specs.PathTree.{levels}
 use Rattle.rt_tree.specs.declared.limits.TheConstants.{MAX_LEVELS}
 use Rattle.rt_tree.specs.Assignments.{is_at_or_above, Assignment, have_overlap}
-use Rattle.rt_cache.specs.Brought.{is_without_window}
 use Rattle.rt_world.specs.declared.error.CoreError.{CoreError}
 use Rattle.rt_world.specs.declared.error.CoreError.TheVariants.{UnknownListener, TooManyListeners}
 use Rattle.rt_world.specs.declared.error.CoreError.TheVariants.{TooManyRequests, Overlap}
@@ -19,25 +18,14 @@ use Rattle.rt_wire.specs.declared.request.Action.{Action}
 use Rattle.rt_wire.specs.declared.request.Action.TheVariants.{Put, Merge}
 use Rattle.rt_world.specs.declared.step.Step.{Step}
 use Rattle.rt_world.specs.World.{Reason, World, listen_of, entries_of}
-use Rattle.rt_world.specs.Steps.{Part, parts_of, asked_by, settled_by, started_by}
+use Rattle.rt_world.specs.After.{kind, parts_of, asked_by, revoked_by, started_by}
+use Rattle.rt_world.specs.steps.Kind.{Part}
 
 -- ---- seats' calls
 
 -- not registered, or another seat's
 abbrev pub is_unknown_listener : World → Step → Bool
-is_unknown_listener w (Step.Listen seat query) = false
-is_unknown_listener w (Step.Unlisten seat listener) =
-    not (list_any (λ l. l.number == listener && l.seat == seat) w.listeners)
-is_unknown_listener w (Step.Write seat action) = false
-is_unknown_listener w (Step.OnDisconnect seat ending) = false
-is_unknown_listener w (Step.Data tag path tree) = false
-is_unknown_listener w (Step.DataMerge tag entries) = false
-is_unknown_listener w (Step.Accepted id) = false
-is_unknown_listener w (Step.Refused id why) = false
-is_unknown_listener w (Step.Revoked tag why) = false
-is_unknown_listener w Step.Connected = false
-is_unknown_listener w Step.Disconnected = false
-is_unknown_listener w (Step.CloseSeat seat) = false
+is_unknown_listener w s = (kind s).is_unknown w
 
 -- whether the step needs a tag above the last number
 abbrev pub needs_tag : World → Step → Bool
@@ -46,35 +34,11 @@ needs_tag w s = nat_lt (w.limits.last_number + 1) (w.next_tag + length (started_
 -- the limit of listeners is reached, or the step, which adds or ends listeners, needs a number or a
 -- tag above the last one
 abbrev pub has_too_many_listeners : World → Step → Bool
-has_too_many_listeners w (Step.Listen seat query) =
-    nat_le w.limits.listeners (length w.listeners) || nat_lt w.limits.last_number w.next_listener
-    || needs_tag w (Step.Listen seat query)
-has_too_many_listeners w (Step.Unlisten seat listener) = needs_tag w (Step.Unlisten seat listener)
-has_too_many_listeners w (Step.Write seat action) = false
-has_too_many_listeners w (Step.OnDisconnect seat ending) = false
-has_too_many_listeners w (Step.Data tag path tree) = false
-has_too_many_listeners w (Step.DataMerge tag entries) = false
-has_too_many_listeners w (Step.Accepted id) = false
-has_too_many_listeners w (Step.Refused id why) = false
-has_too_many_listeners w (Step.Revoked tag why) = false
-has_too_many_listeners w Step.Connected = false
-has_too_many_listeners w Step.Disconnected = false
-has_too_many_listeners w (Step.CloseSeat seat) = needs_tag w (Step.CloseSeat seat)
+has_too_many_listeners w s = (kind s).has_too_many w (needs_tag w s)
 
 -- the same of a revocation, which is looked at last
 abbrev pub has_too_many_revoked : World → Step → Bool
-has_too_many_revoked w (Step.Listen seat query) = false
-has_too_many_revoked w (Step.Unlisten seat listener) = false
-has_too_many_revoked w (Step.Write seat action) = false
-has_too_many_revoked w (Step.OnDisconnect seat ending) = false
-has_too_many_revoked w (Step.Data tag path tree) = false
-has_too_many_revoked w (Step.DataMerge tag entries) = false
-has_too_many_revoked w (Step.Accepted id) = false
-has_too_many_revoked w (Step.Refused id why) = false
-has_too_many_revoked w (Step.Revoked tag why) = needs_tag w (Step.Revoked tag why)
-has_too_many_revoked w Step.Connected = false
-has_too_many_revoked w Step.Disconnected = false
-has_too_many_revoked w (Step.CloseSeat seat) = false
+has_too_many_revoked w s = is_some (revoked_by s) && needs_tag w s
 
 -- the limit of unsettled requests is reached, or the last number
 abbrev pub has_too_many_requests : World → Step → Bool
@@ -136,37 +100,11 @@ is_bad_push w s = list_any (λ p. not (is_within_listen w p) || is_no_merge p.1)
 
 -- whether the step opens a connection where there is one
 abbrev pub is_already_connected : World → Step → Bool
-is_already_connected w (Step.Listen seat query) = false
-is_already_connected w (Step.Unlisten seat listener) = false
-is_already_connected w (Step.Write seat action) = false
-is_already_connected w (Step.OnDisconnect seat ending) = false
-is_already_connected w (Step.Data tag path tree) = false
-is_already_connected w (Step.DataMerge tag entries) = false
-is_already_connected w (Step.Accepted id) = false
-is_already_connected w (Step.Refused id why) = false
-is_already_connected w (Step.Revoked tag why) = false
-is_already_connected w Step.Connected = w.is_connected
-is_already_connected w Step.Disconnected = false
-is_already_connected w (Step.CloseSeat seat) = false
-
--- whether the step comes from a connection
-abbrev pub needs_connection : Step → Bool
-needs_connection (Step.Listen seat query) = false
-needs_connection (Step.Unlisten seat listener) = false
-needs_connection (Step.Write seat action) = false
-needs_connection (Step.OnDisconnect seat ending) = false
-needs_connection (Step.Data tag path tree) = true
-needs_connection (Step.DataMerge tag entries) = true
-needs_connection (Step.Accepted id) = true
-needs_connection (Step.Refused id why) = true
-needs_connection (Step.Revoked tag why) = true
-needs_connection Step.Connected = false
-needs_connection Step.Disconnected = true
-needs_connection (Step.CloseSeat seat) = false
+is_already_connected w s = (kind s).opens && w.is_connected
 
 -- whether the step comes from a connection where there is none
 abbrev pub is_not_connected : World → Step → Bool
-is_not_connected w s = needs_connection s && not w.is_connected
+is_not_connected w s = (kind s).needs_connection && not w.is_connected
 
 -- ---- the refusal
 
@@ -191,36 +129,6 @@ refusal w s = option_map (λ c. c.1) (find (λ c. c.0) (conditions w s))
 
 -- ---- stale steps
 
--- a part of a push whose tag is not kept, or that changes nothing for want of a window
-abbrev pub is_stale_part : World → Part → Bool
-is_stale_part w p =
-    option_map_or (λ q. list_all (is_without_window w.brought q) p.1) (listen_of w p.0) true
-
--- a push of which all parts are stale
-abbrev pub is_stale_push : World → List Part → Bool
-is_stale_push w [] = false
-is_stale_push w (p ∷ rest) = list_all (is_stale_part w) (p ∷ rest)
-
--- a settlement of no unsettled request
-abbrev pub is_stale_settlement : World → Option (ℕ × Option Reason) → Bool
-is_stale_settlement w d = option_map_or (λ d. not (list_any (λ r. r.id == d.0) w.requests)) d false
-
--- the revocation of a tag that is not kept
-abbrev pub is_stale_revocation : World → Step → Bool
-is_stale_revocation w (Step.Listen seat query) = false
-is_stale_revocation w (Step.Unlisten seat listener) = false
-is_stale_revocation w (Step.Write seat action) = false
-is_stale_revocation w (Step.OnDisconnect seat ending) = false
-is_stale_revocation w (Step.Data tag path tree) = false
-is_stale_revocation w (Step.DataMerge tag entries) = false
-is_stale_revocation w (Step.Accepted id) = false
-is_stale_revocation w (Step.Refused id why) = false
-is_stale_revocation w (Step.Revoked tag why) = not (is_some (listen_of w tag))
-is_stale_revocation w Step.Connected = false
-is_stale_revocation w Step.Disconnected = false
-is_stale_revocation w (Step.CloseSeat seat) = false
-
--- a push, a settlement or a revocation that is stale
+-- whether the step comes too late
 abbrev pub is_stale : World → Step → Bool
-is_stale w s =
-    is_stale_push w (parts_of s) || is_stale_settlement w (settled_by s) || is_stale_revocation w s
+is_stale w s = (kind s).is_stale w

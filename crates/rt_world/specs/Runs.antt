@@ -2,10 +2,12 @@
 use Rattle.std.specs.Prelude.{ℕ, Bool, true, false, ◌&&◌, not, if◌then◌else◌, List, [], ◌∷◌, ◌++◌}
 use Rattle.std.specs.Prelude.{map, ◌==◌, is_none}
 use Rattle.std.specs.List.{filter, fold, list_any}
+use Rattle.std.specs.Option.{option_map_or}
 use Rattle.rt_cover.specs.Cover.{Tagged}
 use Rattle.rt_wire.specs.declared.client.ClientMessage.{ClientMessage}
 use Rattle.rt_world.specs.declared.step.Step.{Step}
 use Rattle.rt_world.specs.World.{World}
+use Rattle.rt_world.specs.After.{kind, revoked_by}
 use Rattle.rt_world.specs.Messages.{messages_of}
 use Rattle.rt_world.specs.Refusals.{refusal, is_stale}
 use Rattle.rt_world.specs.Answers.{step}
@@ -22,18 +24,8 @@ is_done w s = is_none (refusal w s) && not (is_stale w s)
 
 -- what a step is besides its messages
 abbrev pub events_before : Step → List Event
-events_before (Step.Listen seat query) = []
-events_before (Step.Unlisten seat listener) = []
-events_before (Step.Write seat action) = []
-events_before (Step.OnDisconnect seat ending) = []
-events_before (Step.Data tag path tree) = []
-events_before (Step.DataMerge tag entries) = []
-events_before (Step.Accepted id) = []
-events_before (Step.Refused id why) = []
-events_before (Step.Revoked tag why) = Ended tag ∷ []
-events_before Step.Connected = Opened ∷ []
-events_before Step.Disconnected = []
-events_before (Step.CloseSeat seat) = []
+events_before s =
+    option_map_or (λ r. Ended r.0 ∷ []) (revoked_by s) (if (kind s).opens then Opened ∷ [] else [])
 
 -- the events of a step that is done; of another none
 abbrev pub events_of : World → Step → List Event

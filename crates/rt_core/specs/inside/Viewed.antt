@@ -7,7 +7,8 @@ use Rattle.rt_query.specs.Queries.{Query}
 use Rattle.rt_view.specs.Views.{View, shown_of}
 use Rattle.rt_world.specs.declared.step.Step.{Step}
 use Rattle.rt_world.specs.World.{Listener, World, entries_of, pending}
-use Rattle.rt_world.specs.Steps.{is_cancelled, renewed}
+use Rattle.rt_world.specs.steps.Revoking.{is_cancelled}
+use Rattle.rt_world.specs.After.{renewed}
 use Rattle.rt_world.specs.Met.{renewed_met}
 use Rattle.rt_world.specs.Touched.{entries_settled}
 use Rattle.rt_world.specs.laws.Touch.{HasSeen}

@@ -2,7 +2,7 @@
 ghost use Rattle.std.specs.Prelude.{◌≡◌, Some, None, not, IfOk, OnOk};
 ghost use Rattle.std.specs.Option.{option_map};
 ghost use Rattle.rt_cover.specs.State.{difference, listen_at, revoke_fault, revoked, without_tag};
-ghost use Rattle.rt_world.specs.Steps.{is_cancelled};
+ghost use Rattle.rt_world.specs.steps.Revoking.{is_cancelled};
 
 use crate::sending::send_change;
 use crate::state::State;

@@ -10,7 +10,7 @@ use Rattle.rt_wire.specs.declared.request.Action.TheVariants.{Put}
 use Rattle.rt_wire.specs.declared.request.Ending.TheVariants.{Run}
 use Rattle.rt_world.specs.declared.step.Step.{Step}
 use Rattle.rt_world.specs.World.{World}
-use Rattle.rt_world.specs.Steps.{pushed, brought_after}
+use Rattle.rt_world.specs.After.{pushed, brought_after}
 use Rattle.rt_world.specs.Refusals.{refusal, is_stale}
 use Rattle.rt_world.specs.Answers.{world_after}
 use Rattle.rt_world.specs.laws.Script.{fresh, num, ordered}

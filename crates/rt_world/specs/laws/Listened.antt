@@ -13,7 +13,9 @@ use Rattle.rt_wire.specs.declared.client.ClientMessage.{ClientMessage}
 use Rattle.rt_world.specs.declared.report.Body.TheVariants.{Cancelled}
 use Rattle.rt_world.specs.declared.step.Step.{Step}
 use Rattle.rt_world.specs.World.{Reason, Listener, World, registered, pending}
-use Rattle.rt_world.specs.Steps.{is_cancelled, unseated, renewed}
+use Rattle.rt_world.specs.steps.Revoking.{is_cancelled}
+use Rattle.rt_world.specs.steps.Closing.{unseated}
+use Rattle.rt_world.specs.After.{renewed}
 use Rattle.rt_world.specs.Refusals.{refusal, is_stale}
 use Rattle.rt_world.specs.Met.{told}
 use Rattle.rt_world.specs.Covering.{cover_in, numbers_of}

@@ -16,7 +16,7 @@ use Rattle.rt_wire.specs.declared.request.Ending.{Ending}
 use Rattle.rt_world.specs.declared.report.Note.{Note}
 use Rattle.rt_world.specs.declared.step.Step.{Step}
 use Rattle.rt_world.specs.World.{Reason, World, entries_of, pending, listen_of}
-use Rattle.rt_world.specs.Steps.{requests_after, pushed}
+use Rattle.rt_world.specs.After.{requests_after, pushed}
 use Rattle.rt_world.specs.Messages.{listens, request_message, request_sent}
 use Rattle.rt_world.specs.Messages.{messages_online, next}
 use Rattle.rt_world.specs.Refusals.{refusal, is_stale}

@@ -15,8 +15,9 @@ use Rattle.rt_world.specs.declared.report.Note.{Note}
 use Rattle.rt_world.specs.declared.request.Request.{Request}
 use Rattle.rt_world.specs.declared.step.Step.{Step}
 use Rattle.rt_world.specs.World.{Reason, Listener, World, empty_world, entries_of, pending}
-use Rattle.rt_world.specs.Steps.{listeners_after, requests_after, kept_after, started_by, pushed}
-use Rattle.rt_world.specs.Steps.{brought_after, renewed, unseated}
+use Rattle.rt_world.specs.After.{listeners_after, requests_after, kept_after, started_by, pushed}
+use Rattle.rt_world.specs.After.{brought_after, renewed}
+use Rattle.rt_world.specs.steps.Closing.{unseated}
 use Rattle.rt_world.specs.Messages.{stopped_by, next}
 use Rattle.rt_world.specs.Refusals.{refusal}
 use Rattle.rt_world.specs.Answers.{batch_from, batch_note, batch_notes, settled_note, world_after}

@@ -7,7 +7,7 @@ use Rattle.rt_query.specs.Queries.{Query}
 use Rattle.rt_view.specs.Views.{stays_object, with_named}
 use Rattle.rt_world.specs.declared.step.Step.{Step}
 use Rattle.rt_world.specs.World.{Listener, World}
-use Rattle.rt_world.specs.Steps.{listeners_after}
+use Rattle.rt_world.specs.After.{listeners_after}
 use Rattle.rt_world.specs.Messages.{next}
 use Rattle.rt_world.specs.Refusals.{refusal}
 use Rattle.rt_world.specs.Touched.{entries_by, is_covered, is_named, children_named, children_at, seen}

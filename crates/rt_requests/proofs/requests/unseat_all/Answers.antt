@@ -1,5 +1,5 @@
 use Rattle.std.proofs.Common.{◌<◌, length, rules, ◌++◌, ◌≡◌, suc, map, take, drop, set, ap, ◌∙◌, sym, add-one}
-use Rattle.rt_world.specs.Steps.{unseated}
+use Rattle.rt_world.specs.steps.Closing.{unseated}
 use Rattle.rt_requests.proofs.Loops.{step_set}
 use Rattle.rt_requests.proofs.requests.unseat_all.Goals as goal
 

@@ -1,5 +1,5 @@
 use Rattle.std.proofs.Common.{◌≡◌, ◌++◌, map, take, drop}
-use Rattle.rt_world.specs.Steps.{unseated}
+use Rattle.rt_world.specs.steps.Closing.{unseated}
 use Rattle.rt_requests.proofs.requests.unseat_all.Given as goal
 
 -- those so far are without the seat

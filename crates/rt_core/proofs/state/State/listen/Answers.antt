@@ -4,7 +4,7 @@ use Rattle.rt_cover.specs.State.{added, difference}
 use Rattle.rt_listeners.specs.Listeners.{new_listener, first_view_of}
 use Rattle.rt_world.specs.declared.step.Step.{Step}
 use Rattle.rt_world.specs.World.{World, pending}
-use Rattle.rt_world.specs.Steps.{renewed}
+use Rattle.rt_world.specs.After.{renewed}
 use Rattle.rt_world.specs.Met.{told}
 use Rattle.rt_core.specs.Core.{Held}
 use Rattle.rt_core.specs.declared.told.Told.{Told}

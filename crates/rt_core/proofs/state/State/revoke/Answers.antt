@@ -17,7 +17,7 @@ use Rattle.rt_core.proofs.TagLaws.{cover_tied}
 use Rattle.std.specs.Option.{option_map, option_map_or}
 use Rattle.rt_query.specs.Queries.{Query}
 use Rattle.rt_cover.specs.Cover.{Tagged}
-use Rattle.rt_world.specs.Steps.{is_cancelled}
+use Rattle.rt_world.specs.steps.Revoking.{is_cancelled}
 use Rattle.rt_core.specs.inside.Viewed.{KeepsViews}
 use Rattle.rt_core.proofs.state.State.revoke.Goals as goal
 

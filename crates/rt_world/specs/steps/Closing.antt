@@ -1,0 +1,19 @@
+-- A seat goes.
+use Rattle.std.specs.Prelude.{ℕ, if◌then◌else◌, not, map, ◌==◌, Some, None}
+use Rattle.std.specs.List.{filter}
+use Rattle.std.specs.Option.{option_eq}
+use Rattle.rt_world.specs.declared.request.Request.{Request}
+use Rattle.rt_world.specs.steps.Kind.{Kind, quiet}
+
+-- a request of a closed seat stays without a seat
+abbrev pub unseated : ℕ → Request → Request
+unseated seat r =
+    if option_eq (λ a b. a == b) r.seat (Some seat) then record r { seat = None } else r
+
+-- its listeners end, and its requests stay; refused where a tag is lacking
+abbrev pub close_seat : ℕ → Kind
+close_seat seat = record quiet {
+  has_too_many = λ w lacks_tag. lacks_tag;
+  listeners = λ w. filter (λ l. not (l.seat == seat)) w.listeners;
+  requests = λ w. map (unseated seat) w.requests;
+}

@@ -1,0 +1,11 @@
+-- A connection is opened, or ends.
+use Rattle.std.specs.Prelude.{true}
+use Rattle.rt_world.specs.steps.Kind.{Kind, quiet}
+
+-- refused where there is one
+abbrev pub connected : Kind
+connected = record quiet { opens = true }
+
+-- refused where there is none
+abbrev pub disconnected : Kind
+disconnected = record quiet { needs_connection = true; closes = true }

@@ -1,0 +1,20 @@
+-- The server accepts a request, or refuses it.
+use Rattle.std.specs.Prelude.{ℕ, true, not, ◌==◌, Option, Some, None}
+use Rattle.std.specs.List.{filter, list_any}
+use Rattle.rt_world.specs.World.{Reason}
+use Rattle.rt_world.specs.steps.Kind.{Kind, quiet}
+
+-- the request goes; stale where no unsettled request has the number
+abbrev pub settle : ℕ → Option Reason → Kind
+settle id why = record quiet {
+  settled = Some (id, why);
+  needs_connection = true;
+  is_stale = λ w. not (list_any (λ r. r.id == id) w.requests);
+  requests = λ w. filter (λ r. not (r.id == id)) w.requests;
+}
+
+abbrev pub accepted : ℕ → Kind
+accepted id = settle id None
+
+abbrev pub refused : ℕ → Reason → Kind
+refused id why = settle id (Some why)
