@@ -2,12 +2,13 @@
 
 use rt_core::{Answers, Core};
 use rt_cover::{Kept, KeptList};
-use rt_query::{Query, Shown};
+use rt_query::Shown;
 use rt_script::{Fault, Said, Words};
 use rt_tree::{Key, Tree};
 use rt_view::{Batch, Change};
 use rt_wire::ClientMessage;
 use rt_world::{Action, Body, CoreError, Limits, Note, Reason, Report, Step};
+use rt_writes::Entries;
 use std::alloc::{AllocError, Global};
 
 // A core, at first with full limits.
@@ -38,15 +39,20 @@ const ERRORS: [CoreError; 11] = [
     CoreError::NoMemory,
 ];
 
+// The words of a refusal.
+fn say_error(alloc: Global, error: CoreError, said: &mut Said) {
+    said.debug(alloc, &(error.code(), error));
+    said.say(error.name());
+    said.say(": ");
+    said.display(alloc, &error);
+}
+
 // The words of the refusal of a number.
 fn error(alloc: Global, words: &mut Words, said: &mut Said) -> Result<(), Fault> {
     let number = words.number()?;
     for error in ERRORS {
         if u64::from(error.code()) == number {
-            said.debug(alloc, &(error.code(), error));
-            said.say(error.name());
-            said.say(": ");
-            said.display(alloc, &error);
+            say_error(alloc, error, said);
         }
     }
     Ok(())
@@ -68,14 +74,18 @@ fn new(core: &mut Core, alloc: Global, words: &mut Words, said: &mut Said) -> Re
     Ok(())
 }
 
-// `connected`, `listen SEAT PATH`, `unlisten SEAT LISTENER`, `write SEAT PATH TREE`,
+// `connected`, `disconnected`, `listen SEAT QUERY`, `unlisten SEAT LISTENER`,
+// `write SEAT PATH TREE`, `update SEAT COUNT` and so many `PATH TREE`, `remove SEAT PATH`,
 // `data TAG PATH TREE`, `accepted ID`, `refused ID WHY` or `revoked TAG WHY`.
 fn step(alloc: Global, words: &mut Words) -> Result<Step, Fault> {
     match words.next()? {
         "connected" => Ok(Step::Connected),
+        "disconnected" => Ok(Step::Disconnected),
         "listen" => listen(alloc, words),
         "unlisten" => unlisten(words),
         "write" => write(alloc, words),
+        "update" => update(alloc, words),
+        "remove" => remove(alloc, words),
         "data" => data(alloc, words),
         "accepted" => accepted(words),
         "refused" => refused(alloc, words),
@@ -86,8 +96,7 @@ fn step(alloc: Global, words: &mut Words) -> Result<Step, Fault> {
 
 fn listen(alloc: Global, words: &mut Words) -> Result<Step, Fault> {
     let seat = words.number()?;
-    let path = words.path(alloc)?;
-    let query = Query::at(path).done();
+    let query = words.query(alloc)?;
     Ok(Step::Listen { seat, query })
 }
 
@@ -101,6 +110,32 @@ fn write(alloc: Global, words: &mut Words) -> Result<Step, Fault> {
     let seat = words.number()?;
     let path = words.path(alloc)?;
     let tree = words.tree(alloc)?;
+    let action = Action::Put { path, tree };
+    Ok(Step::Write { seat, action })
+}
+
+// So many trees, each at its path.
+fn entries(alloc: Global, words: &mut Words) -> Result<Entries, Fault> {
+    let mut entries = Vec::new(alloc);
+    for _ in 0..words.number()? {
+        let path = words.path(alloc)?;
+        let tree = words.tree(alloc)?;
+        entries.push((path, tree))?;
+    }
+    Ok(Entries::of(entries))
+}
+
+fn update(alloc: Global, words: &mut Words) -> Result<Step, Fault> {
+    let seat = words.number()?;
+    let entries = entries(alloc, words)?;
+    let action = Action::Merge { entries };
+    Ok(Step::Write { seat, action })
+}
+
+fn remove(alloc: Global, words: &mut Words) -> Result<Step, Fault> {
+    let seat = words.number()?;
+    let path = words.path(alloc)?;
+    let tree = Tree::null();
     let action = Action::Put { path, tree };
     Ok(Step::Write { seat, action })
 }

@@ -47,23 +47,39 @@ fn tell_row(alloc: Global, word: &str, key: &Key, value: &Tree, said: &mut Said)
     said.tree(alloc, value);
 }
 
+fn tell_after(after: &Option<Key>, said: &mut Said) {
+    said.say(" after ");
+    match after {
+        Some(key) => said.say(key.text()),
+        None => said.say("none"),
+    }
+    said.say("; ");
+}
+
 // A change by its kind, with the key of the row before it.
 fn tell_change(alloc: Global, change: &Change, said: &mut Said) {
-    let (word, key, value, after) = match change {
-        Change::Removed { key, old } => ("removed ", key, old, None),
-        Change::Added { key, value, after } => ("added ", key, value, after.as_ref()),
-        Change::Moved { key, value, after } => ("moved ", key, value, after.as_ref()),
-        Change::Changed { key, value, after } => ("changed ", key, value, after.as_ref()),
+    match change {
+        Change::Removed { key, old } => {
+            tell_row(alloc, "removed ", key, old, said);
+            tell_after(&None, said);
+        }
+        Change::Added { key, value, after } => {
+            tell_row(alloc, "added ", key, value, said);
+            tell_after(after, said);
+        }
+        Change::Moved { key, value, after } => {
+            tell_row(alloc, "moved ", key, value, said);
+            tell_after(after, said);
+        }
+        Change::Changed { key, value, after } => {
+            tell_row(alloc, "changed ", key, value, said);
+            tell_after(after, said);
+        }
         Change::Value { value } => {
             said.say("value ");
             said.tree(alloc, value);
-            return;
         }
-    };
-    tell_row(alloc, word, key, value, said);
-    said.say(" after ");
-    said.say(after.map_or("none", |key| key.text()));
-    said.say("; ");
+    }
 }
 
 fn tell(alloc: Global, changes: &ChangeList, said: &mut Said) {

@@ -12,15 +12,20 @@ const ERRORS: [WireError; 5] = [
     WireError::NoMemory,
 ];
 
+// The words of a refusal.
+fn say_error(alloc: Global, error: WireError, said: &mut Said) {
+    said.debug(alloc, &(error.code(), error));
+    said.say(error.name());
+    said.say(": ");
+    said.display(alloc, &error);
+}
+
 // The words of the refusal of a number.
 fn error(alloc: Global, words: &mut Words, said: &mut Said) -> Result<(), Fault> {
     let number = words.number()?;
     for error in ERRORS {
         if u64::from(error.code()) == number {
-            said.debug(alloc, &(error.code(), error));
-            said.say(error.name());
-            said.say(": ");
-            said.display(alloc, &error);
+            say_error(alloc, error, said);
         }
     }
     Ok(())
