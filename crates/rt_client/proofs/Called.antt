@@ -1,5 +1,5 @@
 -- A seat's call: its receipt, its lane and its ring.
-use Rattle.std.proofs.Common.{◌≡◌, ℕ, zero, suc, ◌≤◌, Bool, true, false, cond, ◌==◌, List, [], ◌∷◌, ◌++◌, length, take, refl, sym, ap, subst, ◌∙◌, arith, append-nil, ◌⊎◌, inl, inr, Option, Some, None, Ok, Err, Result, IfErr, unwrap_or}
+use Rattle.std.proofs.Common.{◌≡◌, ℕ, zero, suc, ◌≤◌, Bool, true, false, cond, ◌==◌, List, [], ◌∷◌, ◌++◌, length, take, refl, sym, ap, subst, ◌∙◌, arith, append-nil, ◌⊎◌, inl, inr, Option, Some, None, Ok, Err, Result, IfErr, unwrap_or, IsTrue}
 use mathlib.Core.Bool.{true≢false}
 use Rattle.std.specs.Option.{option_map, option_map_or, option_or}
 use Rattle.rt_world.specs.declared.error.CoreError.{CoreError}
@@ -19,6 +19,7 @@ use Rattle.rt_mail.specs.declared.receipt.Receipt.{Receipt}
 use Rattle.rt_mail.specs.Lanes.{Line, Ring, with_items, signed_lane, Refuses}
 use Rattle.rt_client.specs.declared.call.Call.{Call}
 use Rattle.rt_client.specs.declared.call.Call.TheVariants as call
+use Rattle.rt_client.specs.declared.done.Done.{Done}
 use Rattle.rt_client.specs.declared.error.ClientError.{ClientError}
 use Rattle.rt_client.specs.declared.error.ClientError.TheVariants.{NoMemory}
 use Rattle.rt_client.specs.Codes.{of_core}
@@ -26,7 +27,7 @@ use Rattle.rt_client.specs.Seats.{told_to, receipt_of, does_close}
 use Rattle.rt_client.specs.Lanes.{lane_of, with_told, HasRoom, signed_ring}
 use Rattle.rt_client.specs.Shared.{Held, signed_by, lane_after}
 use Rattle.rt_client.specs.Calls.{step_of, IsRefused, HandsFirst, HandsSome, Called, RefusesCalled}
-use Rattle.rt_client.specs.inside.Receipts.{receipt_with, AreSigned}
+use Rattle.rt_client.specs.inside.Receipts.{receipt_with, gives_number, AreSigned}
 use Rattle.rt_client.proofs.Slots.{Lines, at_seat}
 use Rattle.rt_client.proofs.Steps.{is_refusal, refused_core}
 
@@ -58,6 +59,21 @@ given_is : (o : Option CoreError) (b : Bool) (w : World) (s : Step) (report : Re
 given_is (Some e) b w s report fresh is = cc
 given_is None true w s report fresh is = absurd (true≢false fresh)
 given_is None false w s report fresh is = let same : done_report w s ≡ report = cc in sym (ap (λ (r : Report). r.given) same)
+
+-- a call that makes a listener or a request is given a number
+is_given : (w : World) (seat : ℕ) (c : Call) → IsTrue (gives_number c) → given_by w (step_of seat c) ≡ None → ⊥
+is_given w seat (call.Listen query) makes e = cc
+is_given w seat (call.Unlisten listener) makes e = absurd (true≢false (sym makes))
+is_given w seat (call.Write action) makes e = cc
+is_given w seat (call.OnDisconnect ending) makes e = cc
+
+pub number_given : (old new : Held) (seat : ℕ) (had left : Ring) (c : Call) (done : Done) → IsTrue (gives_number c) → Called old seat had c done new left
+    → done.given ≡ None → ⊥
+number_given old new seat had left c done makes called none =
+    let m = called.made in
+    let s = step_of seat c in
+    let given = given_is (refusal m.world s) (is_stale m.world s) m.world s m.report (not_stale m.world seat c) m.answer in
+    is_given m.world seat c makes (sym given ∙ sym (ap (λ (d : Done). d.given) m.told) ∙ none)
 
 -- a core that answers with a report has made the world's step
 pub done_core : (old new : Option World) (w : World) (s : Step) (report : Report) → old ≡ Some w → Applies old s (Ok report) new

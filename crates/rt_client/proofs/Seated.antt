@@ -1,5 +1,5 @@
 -- Seats' calls on the locked value.
-use Rattle.std.proofs.Common.{◌≡◌, ℕ, cond, ◌==◌, sym, ap, subst, ◌∙◌, Option, Some, None}
+use Rattle.std.proofs.Common.{◌≡◌, ℕ, cond, ◌==◌, sym, ap, subst, ◌∙◌, Option, Some, None, IsTrue}
 use Rattle.std.specs.Cmp.{nat_eq_equiv}
 use Rattle.rt_world.specs.declared.error.CoreError.{CoreError}
 use Rattle.rt_push.specs.PushIds.{Stamp}
@@ -10,6 +10,8 @@ use Rattle.rt_client.specs.declared.error.ClientError.TheVariants.{Core, NoMemor
 use Rattle.rt_client.specs.Lanes.{lane_of, HasRoom}
 use Rattle.rt_client.specs.Shared.{Held}
 use Rattle.rt_client.specs.Calls.{Locked, Seated, Called, RefusesCalled, MakesCall, RefusesCall}
+use Rattle.rt_client.specs.inside.Receipts.{gives_number}
+use Rattle.rt_client.proofs.Called.{number_given}
 
 abbrev pub locked_of : ℕ → Option Stamp → Option Held → Locked
 locked_of number ids held = record { number = number; ids = ids; held = held }
@@ -46,3 +48,7 @@ pub seat_gave_up : (n : ℕ) (ids : Option Stamp) (client number : ℕ) (ring le
     → RefusesCall (locked_of n ids (Some before)) (seated_of client number ring) c NoMemory (locked_of n ids given_up) (seated_of client number left)
 seat_gave_up n ids client number ring left before after given_up c own has none h =
     (before, λ i. Some before, subst (HasRoom ring) (own_is n client (lane_of before.lanes number) own) has, left, h, λ i. seated_of client number left, λ i. locked_of n ids (none i))
+
+-- a call that makes a listener or a request is given a number
+pub number_there : (old new : Locked) (seat left : Seated) (c : Call) (done : Done) → IsTrue (gives_number c) → MakesCall old seat c done new left → done.given ≡ None → ⊥
+number_there old new seat left c done makes m none = number_given m.before m.after seat.number seat.ring m.ring c done makes m.called none

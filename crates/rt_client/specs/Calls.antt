@@ -2,7 +2,10 @@
 use Rattle.std.specs.Prelude.{◌≡◌, ◌≤◌, ℕ, length, [], ◌∷◌, ◌++◌, take, if◌then◌else◌, ◌==◌}
 use Rattle.std.specs.Prelude.{Option, Some, None, Ok, Err}
 use Rattle.rt_push.specs.PushIds.{Stamp}
+use Rattle.rt_wire.specs.declared.server.ServerMessage.{ServerMessage}
+use Rattle.rt_wire.specs.declared.server.ServerMessage.TheVariants as message
 use Rattle.rt_world.specs.declared.error.CoreError.{CoreError}
+use Rattle.rt_world.specs.declared.report.Outcome.{Outcome}
 use Rattle.rt_world.specs.declared.report.Report.{Report}
 use Rattle.rt_world.specs.declared.step.Step.{Step}
 use Rattle.rt_world.specs.World.{World}
@@ -69,6 +72,14 @@ step_of seat (call.Listen query) = Step.Listen seat query
 step_of seat (call.Unlisten listener) = Step.Unlisten seat listener
 step_of seat (call.Write action) = Step.Write seat action
 step_of seat (call.OnDisconnect ending) = Step.OnDisconnect seat ending
+
+-- a message of the server as a step
+abbrev pub step_of_message : ServerMessage → Step
+step_of_message (message.Data tag path tree) = Step.Data tag path tree
+step_of_message (message.DataMerge tag entries) = Step.DataMerge tag entries
+step_of_message (message.Accepted id) = Step.Accepted id
+step_of_message (message.Refused id why) = Step.Refused id why
+step_of_message (message.Revoked tag why) = Step.Revoked tag why
 
 -- ---- what is held
 
@@ -179,3 +190,18 @@ RefusesCall old seat c NoMemory new left =
     (before : Held) × (old.held ≡ Some before) × HasRoom seat.ring (own_lane old before seat)
     × (ring : Ring) × HandsSome before seat.number seat.ring c ring
     × (left ≡ record seat { ring = ring }) × Fails old new
+
+-- ---- what they answer
+
+-- a seat's call is made, and its step gives the new listener or request that number
+pub record Numbers (old : Locked) (seat : Seated) (c : Call) (n : ℕ) (new : Locked)
+    (left : Seated) : Type 0 where
+  pub done : Done
+  pub given : done.given ≡ Some n
+  pub made : MakesCall old seat c done new left
+
+-- a step that is no seat's call is made, and has that outcome
+pub record Comes (old : Locked) (s : Step) (outcome : Outcome) (new : Locked) : Type 0 where
+  pub done : Done
+  pub told : done.outcome ≡ outcome
+  pub made : MakesOn old s done new

@@ -4,8 +4,8 @@
 //! ```text
 //! let (client, mut seats) = Client::open(alloc, 1, &[8, 8], Limits::full())?;
 //! let mut shared = client.shared.lock(rt);
-//! with_core(&mut shared, Step::Connected)?;
-//! with_seat(&mut shared, &mut seats[0], Call::Listen { query })?;     // answers the listener's number
+//! shared.connected()?;
+//! let listener = shared.listen(&mut seats[0], query)?;                // the listener's number
 //! seats[0].next()                                                     // the receipt; waits for nobody
 //! ```
 //!
@@ -27,6 +27,7 @@
 #![tactic(auto)]
 
 mod call;
+mod calls;
 mod client;
 mod done;
 mod error;

@@ -128,3 +128,61 @@ fn wrong_seat(rt: HostRuntime) -> Result<(), Fail> {
     assert_eq!(rt; told, Some(2));
     Ok(())
 }
+
+// What a write of one of the seats is answered, and the number of the receipt that its ring has then.
+fn wrote(shared: &mut Shared, seat: &mut Seat, path: Path) -> (u64, u64) {
+    let id = match shared.set(seat, path, Tree::null()) {
+        Ok(id) => id,
+        Err(_) => 0,
+    };
+    (id, receipt_of(seat))
+}
+
+// The same of a seat that is dropped then; zeros where there is none.
+fn wrote_once(shared: &mut Shared, seat: Option<Seat>, path: Path) -> (u64, u64) {
+    let Some(seat) = seat else {
+        drop(path);
+        return (0, 0);
+    };
+    let mut seat = seat;
+    wrote(shared, &mut seat, path)
+}
+
+fn told_of_sets(rt: &impl Wait, alloc: Global) -> Result<((u64, u64), (u64, u64)), Fail> {
+    let path = Path::parse(alloc, "/g")?;
+    let other = Path::parse(alloc, "/h")?;
+    let (client, mut seats) = client_of(alloc, 1)?;
+    let mut shared = client.shared.lock(rt);
+    let second = wrote_once(&mut shared, seats.pop(), path);
+    let first = wrote_once(&mut shared, seats.pop(), other);
+    Ok((second, first))
+}
+
+#[test]
+fn set_answers_its_number(rt: HostRuntime) -> Result<(), Fail> {
+    let told = told_of_sets(&rt, rt.alloc())?;
+    assert_eq!(rt; told, ((1, 1), (2, 2)));
+    Ok(())
+}
+
+// A push id of that moment with twelve zeros; empty where it is refused.
+fn key_of(shared: &mut Shared) -> [u8; 20] {
+    match shared.push_key(1_700_000_000_000, [0; 12]) {
+        Ok(id) => id,
+        Err(_) => [0; 20],
+    }
+}
+
+fn told_of_keys(rt: &impl Wait, alloc: Global) -> Result<([u8; 20], [u8; 20]), Fail> {
+    let (client, _seats) = client_of(alloc, 1)?;
+    let mut shared = client.shared.lock(rt);
+    Ok((key_of(&mut shared), key_of(&mut shared)))
+}
+
+#[test]
+fn push_keys_count_up(rt: HostRuntime) -> Result<(), Fail> {
+    let (first, next) = told_of_keys(&rt, rt.alloc())?;
+    assert_eq!(rt; first, *b"-NjEtLV-------------");
+    assert_eq!(rt; next, *b"-NjEtLV------------0");
+    Ok(())
+}

@@ -1,5 +1,5 @@
 -- The receipt of a call, by the number that its step gave, and how the lanes are told.
-use Rattle.std.specs.Prelude.{ℕ, List, Option}
+use Rattle.std.specs.Prelude.{ℕ, Bool, true, false, List, Option}
 use Rattle.std.specs.Option.{option_map}
 use Rattle.rt_world.specs.declared.report.Note.{Note}
 use Rattle.rt_mail.specs.declared.receipt.Receipt.{Receipt}
@@ -21,3 +21,10 @@ pub record AreSigned (seat : ℕ) (receipt : Receipt) (notes : List Note)
   pub between : List (Option Line)
   pub signed : IsChanged seat (option_map (signed_lane receipt) (lane_of old seat)) old between
   pub queued : AreQueued notes between new
+
+-- whether the call's step makes a listener or a request, which is given a number
+abbrev pub gives_number : Call → Bool
+gives_number (call.Listen query) = true
+gives_number (call.Unlisten listener) = false
+gives_number (call.Write action) = true
+gives_number (call.OnDisconnect ending) = true
