@@ -106,7 +106,7 @@ signed_after w seat c r report old new is told n =
 
 -- ---- rings
 
-nothing_more : (ring : Ring) → ring ≡ with_items [] ring
+pub nothing_more : (ring : Ring) → ring ≡ with_items [] ring
 nothing_more ring = λ i. record ring { items = sym (append-nil ring.items) i }
 
 take_within : (n : ℕ) (xs ys : List Item) → n ≤ length xs → take n (xs ++ ys) ≡ take n xs

@@ -8,6 +8,7 @@ pub mod Noted
 pub mod Numbers
 pub mod Reflects
 pub mod Seated
+pub mod Settled
 pub mod Slots
 pub mod Steps
 pub mod Texts

@@ -20,7 +20,7 @@ abbrev pub seated_of : ℕ → ℕ → Ring → Seated
 seated_of client number ring = record { client = client; number = number; ring = ring }
 
 -- a seat of the client has its lane
-own_is : (n seat : ℕ) (lanes : Option Line) → seat ≡ n → lanes ≡ cond (seat == n) lanes None
+pub own_is : (n seat : ℕ) (lanes : Option Line) → seat ≡ n → lanes ≡ cond (seat == n) lanes None
 own_is n seat lanes e = ap (λ b. cond b lanes None) (sym (ap (λ m. seat == m) (sym e) ∙ nat_eq_equiv.refl seat))
 
 pub seat_made : (n : ℕ) (ids : Option Stamp) (client number : ℕ) (ring left : Ring) (before after : Held) (c : Call) (done : Done) → client ≡ n

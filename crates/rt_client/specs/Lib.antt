@@ -5,6 +5,7 @@
 --     Lanes       the lanes of a client's seats
 --     Shared      what a client's lock keeps, and what a step makes of it
 --     Calls       what calls make of it and of the caller's seat
+--     Settling    what is handed over, closed, taken out and shown
 --     Opened      a client as it is opened, and its seats
 -- laws/ has that what a seat is told keeps it up to date (Reflecting), that what the lock keeps is kept
 -- (Keeping), and what the prover computes of literals (Examples, Telling);
@@ -17,4 +18,5 @@ pub mod laws
 pub mod Opened
 pub mod PushKeys
 pub mod Seats
+pub mod Settling
 pub mod Shared

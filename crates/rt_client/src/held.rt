@@ -1,5 +1,5 @@
 // What a client holds as long as it has not failed.
-ghost use Rattle.std.specs.Prelude.{◌≡◌, Some, None, IfOk, OnOk, IfErr};
+ghost use Rattle.std.specs.Prelude.{◌≡◌, Some, None, IfOk, OnOk, IfErr, IsTrue, is_some};
 ghost use Rattle.std.specs.Option.{option_map_or};
 ghost use Rattle.rt_world.specs.World.{World};
 ghost use Rattle.rt_client.specs.Seats.{caller_of, closed_by};
@@ -7,14 +7,16 @@ ghost use Rattle.rt_mail.specs.Lanes.{Line};
 ghost use Rattle.rt_client.specs.Lanes.{lane_of, HasRoom, signed_ring};
 ghost use Rattle.rt_client.specs.inside.Receipts.{AreSigned};
 ghost use Rattle.rt_client.specs.Calls.{HandsFirst, Made, Refuses, Called, RefusesCalled};
+ghost use Rattle.rt_client.specs.Settling.{HandsDue, HandsPart, TakesFirst, HasCover};
 
 use crate::call::Call;
 use crate::done::Done;
 use crate::error::ClientError;
 use crate::lanes::Lanes;
 use rt_core::Core;
+use rt_cover::Kept;
 use rt_mail::{Inbox, Receipt};
-use rt_world::{Notes, Report, Step};
+use rt_world::{ClientMessage, Notes, Report, Step};
 use std::alloc::{AllocError, Global};
 use std::marker::Model;
 
@@ -150,6 +152,39 @@ impl Held {
                 drop(call);
                 Err(ClientError::from(error))
             }
+        }
+    }
+
+    // The seat's lane hands over what its ring has room for. No open lane has failed, so want of memory
+    // is all that can be answered.
+    pub(crate) fn settle(&mut self, seat: u64, inbox: &mut Inbox) -> Result<(), AllocError>
+        requires { IsTrue (is_some (lane_of self.old.lanes seat)) }
+        ensures settled { OnOk result (HandsDue self.old seat inbox.old self.new inbox.new) }
+        ensures refused { IfErr result (λ _. HandsPart self.old seat inbox.old inbox.new) }
+    {
+        match self.lanes.settle(seat, inbox) {
+            Ok(()) => Ok(()),
+            Err(_why) => Err(AllocError),
+        }
+    }
+
+    // Takes out the first message that is to be sent.
+    pub(crate) fn take_outgoing(&mut self) -> Option<ClientMessage>
+        requires { (w : World) × (self.old.core ≡ Some w) }
+        ensures { TakesFirst self.old result self.new }
+    {
+        self.core.take_outgoing()
+    }
+
+    // The listens that are kept, by tag. The core has not failed, so want of memory is all that can be
+    // answered.
+    pub(crate) fn cover(&self) -> Result<Vec<Kept>, AllocError>
+        requires { (w : World) × (self.now.core ≡ Some w) }
+        ensures { IfOk result (λ kept. HasCover self.now kept.items) }
+    {
+        match self.core.cover() {
+            Ok(kept) => Ok(kept.into_vec()),
+            Err(_why) => Err(AllocError),
         }
     }
 }

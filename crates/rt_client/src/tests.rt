@@ -1,8 +1,9 @@
 // Clients of two seats, whose rings hold one item and eight.
-use crate::{Call, Client, ClientError, Done, Seat, Shared, with_core, with_seat};
+use crate::{Call, Client, ClientError, Done, Seat, Shared, Unclosed, with_core, with_seat};
 use rt_mail::{Item, Receipt};
 use rt_query::Query;
 use rt_tree::{Path, Tree};
+use rt_wire::ServerMessage;
 use rt_world::{Limits, Outcome, Step};
 use std::alloc::Global;
 use std::sync::Wait;
@@ -184,5 +185,130 @@ fn push_keys_count_up(rt: HostRuntime) -> Result<(), Fail> {
     let (first, next) = told_of_keys(&rt, rt.alloc())?;
     assert_eq!(rt; first, *b"-NjEtLV-------------");
     assert_eq!(rt; next, *b"-NjEtLV------------0");
+    Ok(())
+}
+
+// The number of the first seat's listener, over a connection; 0 where there is none.
+fn listening(shared: &mut Shared, seat: &mut Seat, query: Query) -> u64 {
+    if shared.connected().is_err() {
+        drop(query);
+        return 0;
+    }
+    match shared.listen(seat, query) {
+        Ok(listener) => listener,
+        Err(_) => 0,
+    }
+}
+
+// Whether a message is to be sent, which is taken out.
+fn is_sent(shared: &mut Shared) -> bool {
+    match shared.take_outgoing() {
+        Ok(Some(message)) => {
+            drop(message);
+            true
+        }
+        Ok(None) | Err(_) => false,
+    }
+}
+
+// How many listens are kept, and whether there is a first and a second message.
+fn shown(shared: &mut Shared, seats: &mut [Seat], query: Query) -> Option<(usize, bool, bool)> {
+    match seats {
+        [first, ..] => {
+            let _listener = listening(shared, first, query);
+            let kept = match shared.cover() {
+                Ok(kept) => kept.len(),
+                Err(_) => 0,
+            };
+            Some((kept, is_sent(shared), is_sent(shared)))
+        }
+        [] => {
+            drop(query);
+            None
+        }
+    }
+}
+
+fn shown_of_listen(rt: &impl Wait, alloc: Global) -> Result<Option<(usize, bool, bool)>, Fail> {
+    let query = Query::at(Path::parse(alloc, "/g")?).done();
+    let (client, mut seats) = client_of(alloc, 1)?;
+    let mut shared = client.shared.lock(rt);
+    Ok(shown(&mut shared, &mut seats, query))
+}
+
+#[test]
+fn listens_are_kept_and_sent(rt: HostRuntime) -> Result<(), Fail> {
+    let told = shown_of_listen(&rt, rt.alloc())?;
+    assert_eq!(rt; told, Some((1, true, false)));
+    Ok(())
+}
+
+fn has_batch(seat: &mut Seat) -> bool {
+    let Some(item) = seat.next() else {
+        return false;
+    };
+    match item {
+        Item::Batch(_) => true,
+        Item::Receipt(_) | Item::Settled { .. } | Item::Cancelled { .. } => false,
+    }
+}
+
+// The ring has room for the receipt alone: the batch comes once the seat has settled.
+fn settled(shared: &mut Shared, seat: &mut Seat, query: Query, path: Path) -> (u64, bool, bool) {
+    let _listener = listening(shared, seat, query);
+    let tree = Tree::null();
+    let _pushed = shared.server_message(ServerMessage::Data { tag: 1, path, tree });
+    let receipt = receipt_of(seat);
+    let early = has_batch(seat);
+    let _settled = shared.settle(seat);
+    (receipt, early, has_batch(seat))
+}
+
+fn settled_once(rt: &impl Wait, alloc: Global) -> Result<Option<(u64, bool, bool)>, Fail> {
+    let query = Query::at(Path::parse(alloc, "/g")?).done();
+    let path = Path::parse(alloc, "/g")?;
+    let (client, mut seats) = client_of(alloc, 1)?;
+    let mut shared = client.shared.lock(rt);
+    match seats.as_mut_slice() {
+        [first, ..] => Ok(Some(settled(&mut shared, first, query, path))),
+        [] => Ok(None),
+    }
+}
+
+#[test]
+fn what_waits_comes_when_settled(rt: HostRuntime) -> Result<(), Fail> {
+    let told = settled_once(&rt, rt.alloc())?;
+    assert_eq!(rt; told, Some((1, false, true)));
+    Ok(())
+}
+
+// The number of the refusal to close a seat; 0 where it is closed.
+fn closed(shared: &mut Shared, seat: Option<Seat>) -> Option<u8> {
+    let Some(seat) = seat else {
+        return None;
+    };
+    match shared.close_seat(seat) {
+        Ok(()) => Some(0),
+        Err(Unclosed { seat, why }) => {
+            drop(seat);
+            Some(why.code())
+        }
+    }
+}
+
+fn closed_both(rt: &impl Wait, alloc: Global) -> Result<(Option<u8>, Option<u8>), Fail> {
+    let (client, mut seats) = client_of(alloc, 1)?;
+    let (_other, mut others) = client_of(alloc, 2)?;
+    let mut shared = client.shared.lock(rt);
+    Ok((
+        closed(&mut shared, seats.pop()),
+        closed(&mut shared, others.pop()),
+    ))
+}
+
+#[test]
+fn own_seats_close(rt: HostRuntime) -> Result<(), Fail> {
+    let told = closed_both(&rt, rt.alloc())?;
+    assert_eq!(rt; told, (Some(0), Some(2)));
     Ok(())
 }

@@ -4,9 +4,11 @@ use Rattle.std.specs.Option.{option_map}
 use Rattle.rt_world.specs.declared.limits.Limits.{Limits}
 use Rattle.rt_world.specs.declared.step.Step.{Step}
 use Rattle.rt_world.specs.World.{World, empty_world}
-use Rattle.rt_mail.specs.Lanes.{Line, without_first}
+use Rattle.rt_wire.specs.declared.client.ClientMessage.{ClientMessage}
+use Rattle.rt_mail.specs.Lanes.{Line, Ring, without_first}
 use Rattle.rt_client.specs.Lanes.{new_lane, lane_of}
 use Rattle.rt_client.specs.Shared.{AreTold, Held, IsKept, MakesStep}
+use Rattle.rt_client.specs.Settling.{HandsDue, TakesFirst}
 
 -- by each step, whatever it is answered
 abbrev pub StepKeeps : Type 0
@@ -27,3 +29,15 @@ HandingKeeps =
     (w : World) (old new : List (Option Line)) → AreTold w old
     → ((seat : ℕ) → (n : ℕ) × (lane_of new seat ≡ option_map (without_first n) (lane_of old seat)))
     → AreTold w new
+
+-- so by a seat's lane that fills its ring
+abbrev pub SettlingKeeps : Type 0
+SettlingKeeps =
+    (old new : Held) (seat : ℕ) (had left : Ring) → IsKept old → HandsDue old seat had new left
+    → IsKept new
+
+-- and by a message that is taken out
+abbrev pub TakingKeeps : Type 0
+TakingKeeps =
+    (old new : Held) (message : Option ClientMessage) → IsKept old → TakesFirst old message new
+    → IsKept new

@@ -1,4 +1,5 @@
 use Rattle.rt_client.proofs.Kept.{new_is_kept, step_keeps, handing_keeps}
+use Rattle.rt_client.proofs.Settled.{settling_keeps, taking_keeps}
 use Rattle.rt_client.proofs.keeping.keeping_law.Goals as goal
 
 pub returns : goal.returns
@@ -6,4 +7,6 @@ returns c = record {
   new = new_is_kept c.sound_law.ensures.worlds;
   step = step_keeps c.sound_law.ensures.next c.reflection_law.ensures.step;
   handing = handing_keeps;
+  settling = settling_keeps;
+  taking = taking_keeps c.sending_law.ensures.sound;
 }

@@ -1,0 +1,149 @@
+-- Lanes that hand over what is due, messages that are taken out, and seats that end.
+use Rattle.std.proofs.Common.{◌≡◌, ℕ, Bool, true, false, cond, ◌==◌, List, [], drop, inl, inr, refl, sym, ap, subst, ◌∙◌, Option, Some, None, Ok, IsTrue, is_some}
+use mathlib.Core.Bool.{true≢false}
+use Rattle.std.specs.Option.{option_map, option_map_or}
+use Rattle.rt_cover.specs.declared.kept.Kept.{Kept}
+use Rattle.rt_push.specs.PushIds.{Stamp}
+use Rattle.rt_wire.specs.declared.client.ClientMessage.{ClientMessage}
+use Rattle.rt_world.specs.World.{World, cover}
+use Rattle.rt_world.specs.laws.Holds.{TakenIsSound}
+use Rattle.rt_world.specs.Sound.{IsSound}
+use Rattle.rt_core.specs.Core.{Covers, TakesOut}
+use Rattle.rt_core.specs.Core.{without_first as without_sent}
+use Rattle.rt_mail.specs.declared.error.MailError.{MailError}
+use Rattle.rt_mail.specs.declared.error.MailError.TheVariants as mail
+use Rattle.rt_mail.specs.Mailbox.{Known, known_of}
+use Rattle.rt_mail.specs.Lanes.{Line, Ring, without_first}
+use Rattle.rt_world.specs.declared.step.Step.{Step}
+use Rattle.rt_client.specs.declared.done.Done.{Done}
+use Rattle.rt_client.specs.declared.error.ClientError.{ClientError}
+use Rattle.rt_client.specs.declared.error.ClientError.TheVariants as error
+use Rattle.rt_client.specs.declared.error.ClientError.TheVariants.{NoMemory}
+use Rattle.rt_client.specs.Lanes.{lane_of, IsChanged, due, settled, settled_ring, RefusesToHand}
+use Rattle.rt_client.specs.Shared.{Held, AreTold, IsKept}
+use Rattle.rt_client.specs.Settling.{HandsDue, HandsPart, TakesFirst, HasCover, Settles, RefusesSettle, Closes, RefusesClose}
+use Rattle.rt_client.specs.Calls.{Locked, IsOpen, MakesOn, RefusesOn}
+use Rattle.rt_client.specs.laws.Keeping.{SettlingKeeps, TakingKeeps}
+use Rattle.rt_client.proofs.Called.{held_of, nothing_more}
+use Rattle.rt_client.proofs.Kept.{handing_keeps}
+use Rattle.rt_client.proofs.Numbers.{same_number}
+use Rattle.rt_client.proofs.Seated.{locked_of, seated_of, own_is}
+use Rattle.rt_client.proofs.Slots.{Lines}
+
+-- ---- lanes
+
+-- what is there
+pub some_of : {X : Type 0} (o : Option X) → IsTrue (is_some o) → (x : X) × (o ≡ Some x)
+some_of None h = absurd (true≢false (sym h))
+some_of (Some x) h = (x, refl)
+
+pub held_settled : (core : Option World) (lanes left : Lines) (seat : ℕ) (had ring : Ring) → IsTrue (is_some (lane_of lanes seat))
+    → IsChanged seat (option_map (settled had) (lane_of lanes seat)) lanes left → ring ≡ option_map_or (settled_ring had) (lane_of lanes seat) had
+    → HandsDue (held_of core lanes) seat had (held_of core left) ring
+held_settled core lanes left seat had ring has changed e =
+    let found = some_of (lane_of lanes seat) has in
+    record {
+      lane = found.0;
+      is_open = found.1;
+      core = refl;
+      lanes = subst (λ o. IsChanged seat (option_map (settled had) o) lanes left) found.1 changed;
+      ring = e ∙ ap (λ o. option_map_or (settled_ring had) o had) found.1;
+    }
+
+pub held_part : (core : Option World) (lanes left : Lines) (seat : ℕ) (had ring : Ring) (why : MailError) → RefusesToHand seat lanes had why left ring
+    → HandsPart (held_of core lanes) seat had ring
+held_part core lanes left seat had ring mail.Failed h = record { lane = h.lane; is_open = h.is_open; count = 0; ring = (h.refused).2 ∙ nothing_more had }
+held_part core lanes left seat had ring mail.NoMemory h = record { lane = h.lane; is_open = h.is_open; count = (h.refused).0; ring = (h.refused).1.ring }
+
+-- nothing is handed over
+handed_none : (o : Option Line) → o ≡ option_map (without_first 0) o
+handed_none None = refl
+handed_none (Some l) = λ i. Some (record l { mirror = same l.mirror i })
+  where
+    same : (m : Option Known) → m ≡ option_map (λ k. known_of k []) m
+    same None = refl
+    same (Some k) = refl
+
+handed_by : (old : Lines) (seat n : ℕ) (had : Ring) (lane : Line) (new : Option Line) (b : Bool) → (seat == n) ≡ b → lane_of old seat ≡ Some lane
+    → new ≡ cond b (Some (settled had lane)) (lane_of old n) → (k : ℕ) × (new ≡ option_map (without_first k) (lane_of old n))
+handed_by old seat n had lane new true t is e = (due had lane, e ∙ ap (option_map (without_first (due had lane))) (sym is ∙ ap (lane_of old) (same_number seat n t)))
+handed_by old seat n had lane new false t is e = (0, e ∙ handed_none (lane_of old n))
+
+pub settling_keeps : SettlingKeeps
+settling_keeps old new seat had left kept s = record {
+  world = kept.world;
+  core = s.core ∙ kept.core;
+  sound = kept.sound;
+  told = handing_keeps kept.world old.lanes new.lanes kept.told (λ n. handed_by old.lanes seat n had s.lane (lane_of new.lanes n) (seat == n) refl s.is_open (s.lanes n));
+}
+
+-- ---- the core
+
+pub taken_first : (old new : Option World) (lanes : Lines) (w : World) (message : Option ClientMessage) → old ≡ Some w → TakesOut old message new
+    → TakesFirst (held_of old lanes) message (held_of new lanes)
+taken_first None new lanes w message is t = cc
+taken_first (Some v) new lanes w message is t = record { world = v; core = refl; first = t.0; left = λ i. held_of (t.1 i) lanes }
+
+pub taking_keeps : TakenIsSound → TakingKeeps
+taking_keeps taken old new message kept t =
+    let same : kept.world ≡ t.world = cc in
+    subst IsKept (sym t.left) (record {
+      world = without_sent t.world;
+      core = refl;
+      sound = taken t.world (drop 1 t.world.outgoing) (subst IsSound same kept.sound);
+      told = subst (λ v. AreTold v old.lanes) same kept.told;
+    })
+
+pub has_cover : (core : Option World) (lanes : Lines) (w : World) (kept : List Kept) → core ≡ Some w → Covers core (Ok kept) → HasCover (held_of core lanes) kept
+has_cover None lanes w kept is c = cc
+has_cover (Some v) lanes w kept is (inl e) = let same : kept ≡ cover v = cc in record { world = v; core = refl; listens = same }
+has_cover (Some v) lanes w kept is (inr e) = cc
+
+-- ---- the locked value
+
+pub seat_settled : (n : ℕ) (ids : Option Stamp) (client number : ℕ) (ring left : Ring) (before after : Held) → client ≡ n → HandsDue before number ring after left
+    → Settles (locked_of n ids (Some before)) (seated_of client number ring) (locked_of n ids (Some after)) (seated_of client number left)
+seat_settled n ids client number ring left before after own hands = record {
+  before = before;
+  held = λ i. Some before;
+  own = own;
+  after = after;
+  locked = λ i. locked_of n ids (Some after);
+  ring = left;
+  seated = λ i. seated_of client number left;
+  hands = hands;
+}
+
+pub seat_part : (n : ℕ) (ids : Option Stamp) (client number : ℕ) (ring left : Ring) (before : Held) (given_up : Option Held) → client ≡ n → given_up ≡ None
+    → HandsPart before number ring left
+    → RefusesSettle (locked_of n ids (Some before)) (seated_of client number ring) NoMemory (locked_of n ids given_up) (seated_of client number left)
+seat_part n ids client number ring left before given_up own none hands =
+    (before, λ i. Some before, own, left, hands, λ i. seated_of client number left, λ i. locked_of n ids (none i))
+
+-- ---- the end of a seat
+
+-- a seat of the client that has its lane is open
+open_by : (n : ℕ) (ids : Option Stamp) (client number : ℕ) (ring : Ring) (before : Held) → client ≡ n → IsTrue (is_some (lane_of before.lanes number))
+    → (lane : Line) × IsOpen (locked_of n ids (Some before)) before (seated_of client number ring) lane
+open_by n ids client number ring before own has =
+    let found = some_of (lane_of before.lanes number) has in
+    (found.0, record { held = λ i. Some before; own = sym (own_is n client (lane_of before.lanes number) own) ∙ found.1 })
+
+pub seat_closed : (n : ℕ) (ids : Option Stamp) (client number : ℕ) (ring : Ring) (before : Held) (done : Done) (new : Locked) → client ≡ n
+    → IsTrue (is_some (lane_of before.lanes number)) → MakesOn (locked_of n ids (Some before)) (Step.CloseSeat number) done new
+    → Closes (locked_of n ids (Some before)) (seated_of client number ring) new
+seat_closed n ids client number ring before done new own has made =
+    let found = open_by n ids client number ring before own has in
+    record { before = before; lane = found.0; is_open = found.1; done = done; made = made }
+
+pub seat_stays : (n : ℕ) (ids : Option Stamp) (client number : ℕ) (ring : Ring) (before : Held) (why : ClientError) (new : Locked) → client ≡ n
+    → IsTrue (is_some (lane_of before.lanes number)) → RefusesOn (locked_of n ids (Some before)) (Step.CloseSeat number) why new
+    → RefusesClose (locked_of n ids (Some before)) (seated_of client number ring) why new
+seat_stays n ids client number ring before error.Failed new own has r = r
+seat_stays n ids client number ring before error.WrongSeat new own has r = absurd r
+seat_stays n ids client number ring before error.MailboxFull new own has r = absurd r
+seat_stays n ids client number ring before error.TooManySeats new own has r = absurd r
+seat_stays n ids client number ring before (error.Core refused) new own has r =
+    let found = open_by n ids client number ring before own has in (before, found.0, found.1, r)
+seat_stays n ids client number ring before error.NoMemory new own has r =
+    let found = open_by n ids client number ring before own has in (before, found.0, found.1, r)
