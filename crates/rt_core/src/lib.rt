@@ -19,12 +19,9 @@ ghost use Rattle.rt_core.specs.Reads.{Reads};
 
 mod applying;
 mod refusal;
-mod refusals;
-mod registering;
 mod runs;
 mod sending;
 mod showing;
-mod stale;
 mod state;
 mod steps;
 mod told;

@@ -5,7 +5,8 @@ ghost use Rattle.std.specs.List.{All, filter, find, list_any};
 ghost use Rattle.std.specs.Option.{option_map_or};
 ghost use Rattle.rt_tree.specs.Assignments.{have_overlap};
 ghost use Rattle.rt_world.specs.World.{entries_of, pending};
-ghost use Rattle.rt_world.specs.Refusals.{action_in, is_empty_action, stands_too_deep};
+ghost use Rattle.rt_world.specs.steps.Asking.{action_in, is_empty_action};
+ghost use Rattle.rt_world.specs.steps.Kind.{stands_too_deep};
 ghost use Rattle.rt_world.specs.steps.Closing.{unseated};
 ghost use Rattle.rt_requests.specs.Settling.{settled};
 

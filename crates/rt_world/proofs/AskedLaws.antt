@@ -1,6 +1,6 @@
 -- Requests and the connection, as a core makes them.
 use Rattle.std.proofs.Common.{◌≡◌, ℕ, ◌<◌, true, false, cond, List, [], ◌∷◌, ◌++◌, refl, ◌∙◌, arith, Some}
-use Rattle.std.specs.List.{All, list_any}
+use Rattle.std.specs.List.{All}
 use Rattle.std.proofs.lemmas.List.Elements.{All-cons, All-head, All-tail}
 use Rattle.rt_writes.specs.Writes.{Write}
 use Rattle.rt_wire.specs.declared.client.ClientMessage.{ClientMessage}
@@ -11,10 +11,8 @@ use Rattle.rt_world.specs.declared.step.Step.{Step}
 use Rattle.rt_world.specs.World.{pending, entries_of}
 use Rattle.rt_world.specs.After.{requests_after, counted, request_given}
 use Rattle.rt_world.specs.Messages.{messages_of, outgoing_before}
-use Rattle.rt_world.specs.Refusals.{stands_too_deep}
 use Rattle.rt_world.specs.laws.Made.{asking, writes_with, WriteIsMade, EndingIsMade, ConnectedIsMade, DisconnectedIsMade, WritesAreShallow, NextIsAbovePending}
 use Rattle.rt_world.proofs.LimitLaws.{allowed}
-use Rattle.rt_world.proofs.Listeners.{or_false_left}
 use Rattle.rt_world.proofs.Reaching.{none_deep}
 use Rattle.rt_world.proofs.StillLaws.{still_leaves_listens, next_is, told_is, map_unmet, told_unmet}
 use Rattle.rt_world.proofs.WrittenLaws.{pending-write}
@@ -84,7 +82,7 @@ disconnected_is_made w d p =
 
 pub writes_are_shallow : WritesAreShallow
 writes_are_shallow w seat action free =
-    none_deep (entries_of action) (or_false_left (list_any stands_too_deep (entries_of action)) false (allowed w (Step.Write seat action) free).deep)
+    none_deep (entries_of action) (allowed w (Step.Write seat action) free).deep
 
 -- the writes of requests below a number are below it
 writes_below : (n : ℕ) (rs : List Request) → All (λ (r : Request). r.id < n) rs → All (λ (x : Write). x.id < n) (pending rs)

@@ -26,13 +26,14 @@ use Rattle.rt_world.specs.declared.step.Step.{Step}
 use Rattle.rt_world.specs.World.{World, empty_world, listen_of, registered}
 use Rattle.rt_world.specs.After.{forms_after, kept_after, pushed}
 use Rattle.rt_world.specs.Messages.{next}
-use Rattle.rt_world.specs.Refusals.{refusal, is_stale, stands_too_deep, is_no_merge, is_within_listen}
+use Rattle.rt_world.specs.steps.Kind.{stands_too_deep}
+use Rattle.rt_world.specs.steps.Pushing.{is_no_merge, is_within_listen}
+use Rattle.rt_world.specs.Refusals.{refusal, is_stale}
 use Rattle.rt_world.specs.Answers.{step, step_by, world_after}
 use Rattle.rt_world.specs.Called.{IsCalled}
 use Rattle.rt_world.specs.Sound.{IsSound}
 use Rattle.rt_world.specs.laws.Made.{IsPushOn}
 use Rattle.rt_world.proofs.LimitLaws.{allowed}
-use Rattle.rt_world.proofs.Listeners.{or_false_left}
 use Rattle.rt_world.proofs.Reaching.{forms_kept, pushes_on}
 use Rattle.rt_world.proofs.SoundLaws.{sound_empty, sound_next, sound_step}
 
@@ -143,10 +144,10 @@ called_push w tag entries h good deep = at (listen_of w tag) refl
 pub called_pushed : (w : World) (s : Step) → IsCalled w.brought → refusal w s ≡ None → IsCalled (pushed w s)
 called_pushed w (Step.Data tag path tree) h free =
     let a = allowed w (Step.Data tag path tree) free in
-    called_push w tag ((path, tree) ∷ []) h (or_false_left _ _ a.push) (or_false_left _ _ a.deep)
+    called_push w tag ((path, tree) ∷ []) h a.push a.deep
 called_pushed w (Step.DataMerge tag entries) h free =
     let a = allowed w (Step.DataMerge tag entries) free in
-    called_push w tag entries h (or_false_left _ _ a.push) (or_false_left _ _ a.deep)
+    called_push w tag entries h a.push a.deep
 called_pushed w (Step.Listen seat query) h free = h
 called_pushed w (Step.Unlisten seat listener) h free = h
 called_pushed w (Step.Write seat action) h free = h

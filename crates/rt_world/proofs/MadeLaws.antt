@@ -1,5 +1,5 @@
 -- Settlements and pushes, as a core makes them.
-use Rattle.std.proofs.Common.{◌≡◌, Bool, true, false, ◌&&◌, ◌||◌, List, [], ◌∷◌, ◌++◌, refl, ap, ◌∙◌, Option, Some, None, append-nil}
+use Rattle.std.proofs.Common.{◌≡◌, Bool, true, false, ◌&&◌, List, [], ◌∷◌, ◌++◌, refl, ap, ◌∙◌, Option, Some, None, append-nil}
 use Rattle.std.specs.List.{fold, list_all}
 use Rattle.std.specs.Option.{option_map_or}
 use Rattle.std.proofs.lemmas.List.Elements.{All-head}
@@ -14,7 +14,6 @@ use Rattle.rt_world.specs.Messages.{messages_online}
 use Rattle.rt_world.specs.Answers.{settled_notes, batch_notes}
 use Rattle.rt_world.specs.laws.Made.{AcceptedIsMade, RefusedIsMade, DataIsMade, MergeIsMade, IsPushOn, DataMayPush, MergeMayPush, DataIsStale, MergeIsStale}
 use Rattle.rt_world.proofs.LimitLaws.{allowed}
-use Rattle.rt_world.proofs.Listeners.{or_false_left}
 use Rattle.rt_world.proofs.NoteLaws.{settled_once_told}
 use Rattle.rt_world.proofs.Reaching.{pushes_on}
 use Rattle.rt_world.proofs.StillLaws.{still_leaves_listens, next_is, told_is, none_sent}
@@ -75,12 +74,12 @@ merge_is_made w tag entries d p q e =
 pub data_may_push : DataMayPush
 data_may_push w tag path tree free q e =
     let a = allowed w (Step.Data tag path tree) free in
-    All-head (IsPushOn q) (path, tree) [] (pushes_on w tag ((path, tree) ∷ []) q e (or_false_left _ _ a.push) (or_false_left _ _ a.deep))
+    All-head (IsPushOn q) (path, tree) [] (pushes_on w tag ((path, tree) ∷ []) q e a.push a.deep)
 
 pub merge_may_push : MergeMayPush
 merge_may_push w tag entries free q e =
     let a = allowed w (Step.DataMerge tag entries) free in
-    pushes_on w tag entries q e (or_false_left _ _ a.push) (or_false_left _ _ a.deep)
+    pushes_on w tag entries q e a.push a.deep
 
 -- ---- stale pushes
 

@@ -15,7 +15,9 @@ use Rattle.rt_cover.specs.Cover.{Registered, forms}
 use Rattle.rt_world.specs.declared.step.Step.{Step}
 use Rattle.rt_world.specs.World.{World, Listener, registered, pending, listen_of}
 use Rattle.rt_world.specs.After.{listeners_after, requests_after, forms_after, kept_after, pushed, brought_after}
-use Rattle.rt_world.specs.Refusals.{refusal, stands_too_deep, is_no_merge, is_within_listen}
+use Rattle.rt_world.specs.steps.Kind.{stands_too_deep}
+use Rattle.rt_world.specs.steps.Pushing.{is_no_merge, is_within_listen}
+use Rattle.rt_world.specs.Refusals.{refusal}
 use Rattle.rt_world.specs.Called.{IsCalled}
 use Rattle.rt_world.specs.Reached.{IsReached}
 use Rattle.rt_world.specs.Sound.{IsSound}
@@ -25,7 +27,7 @@ use Rattle.rt_world.specs.laws.Made.{IsPushOn}
 use Rattle.rt_world.proofs.CalledLaws.{called_pushed}
 use Rattle.rt_world.proofs.HeardLaws.{kept-same}
 use Rattle.rt_world.proofs.LimitLaws.{allowed}
-use Rattle.rt_world.proofs.Listeners.{or_false_left, registered-renewed}
+use Rattle.rt_world.proofs.Listeners.{registered-renewed}
 use Rattle.rt_world.proofs.Reaching.{forms_kept, kept_of, kept_registered, registered_still, reached_still, pushes_on, Contains-more}
 use Rattle.rt_world.proofs.ShowLaws.{first_seen}
 
@@ -81,10 +83,10 @@ pushed_still w s h r free = at s free
     at : (s : Step) → refusal w s ≡ None → AreReachedIn w (pushed w s)
     at (Step.Data tag path tree) free =
         let a = allowed w (Step.Data tag path tree) free in
-        part_reached w tag ((path, tree) ∷ []) h r (or_false_left _ _ a.push) (or_false_left _ _ a.deep)
+        part_reached w tag ((path, tree) ∷ []) h r a.push a.deep
     at (Step.DataMerge tag entries) free =
         let a = allowed w (Step.DataMerge tag entries) free in
-        part_reached w tag entries h r (or_false_left _ _ a.push) (or_false_left _ _ a.deep)
+        part_reached w tag entries h r a.push a.deep
     at (Step.Listen seat query) free = old
     at (Step.Unlisten seat listener) free = old
     at (Step.Write seat action) free = old

@@ -21,7 +21,8 @@ use Rattle.rt_cover.specs.laws.ShownLaws.{found, form_in}
 use Rattle.rt_world.specs.declared.step.Step.{Step}
 use Rattle.rt_world.specs.World.{World, Listener, registered, listen_of}
 use Rattle.rt_world.specs.After.{listeners_after, forms_after, kept_after}
-use Rattle.rt_world.specs.Refusals.{stands_too_deep, is_no_merge, is_within_listen}
+use Rattle.rt_world.specs.steps.Kind.{stands_too_deep}
+use Rattle.rt_world.specs.steps.Pushing.{is_no_merge, is_within_listen}
 use Rattle.rt_world.specs.Sound.{IsSound}
 use Rattle.rt_world.specs.laws.Made.{IsPushOn}
 use Rattle.rt_world.proofs.Listeners.{or_false_left, or_false_right}

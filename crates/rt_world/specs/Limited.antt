@@ -1,13 +1,11 @@
 -- What a world between steps keeps of its limits, and what is so of a step that is not refused.
-use Rattle.std.specs.Prelude.{◌≡◌, ◌+◌, ◌≤◌, false, length}
+use Rattle.std.specs.Prelude.{◌≡◌, ◌+◌, ◌≤◌, ◌&&◌, false, not, length}
 use Rattle.rt_world.specs.declared.limits.Limits.{Limits}
 use Rattle.rt_world.specs.declared.limits.TheConstants.{MAX_LISTENERS, MAX_REQUESTS, MAX_NUMBER}
 use Rattle.rt_world.specs.declared.step.Step.{Step}
 use Rattle.rt_world.specs.World.{World}
-use Rattle.rt_world.specs.Refusals.{is_unknown_listener, has_too_many_listeners}
-use Rattle.rt_world.specs.Refusals.{has_too_many_requests, has_overlap, is_empty_update}
-use Rattle.rt_world.specs.Refusals.{is_too_deep, is_bad_push, is_already_connected}
-use Rattle.rt_world.specs.Refusals.{is_not_connected, has_too_many_revoked}
+use Rattle.rt_world.specs.After.{kind}
+use Rattle.rt_world.specs.Refusals.{is_unknown_listener, needs_tag}
 
 -- no limit is above the most that a core takes
 pub record AreLimits (limits : Limits) : Type 0 where
@@ -26,12 +24,12 @@ pub record IsWithin (w : World) : Type 0 where
 -- no refusal's condition holds
 pub record IsAllowed (w : World) (s : Step) : Type 0 where
   pub unknown : is_unknown_listener w s ≡ false
-  pub listeners : has_too_many_listeners w s ≡ false
-  pub requests : has_too_many_requests w s ≡ false
-  pub overlap : has_overlap s ≡ false
-  pub empty : is_empty_update s ≡ false
-  pub deep : is_too_deep s ≡ false
-  pub push : is_bad_push w s ≡ false
-  pub connected : is_already_connected w s ≡ false
-  pub connection : is_not_connected w s ≡ false
-  pub revoked : has_too_many_revoked w s ≡ false
+  pub listeners : (kind s).has_too_many w (needs_tag w s) ≡ false
+  pub requests : (kind s).has_too_many_requests w ≡ false
+  pub overlap : (kind s).has_overlap ≡ false
+  pub empty : (kind s).is_empty ≡ false
+  pub deep : (kind s).is_too_deep ≡ false
+  pub push : (kind s).is_bad_push w ≡ false
+  pub connected : ((kind s).opens && w.is_connected) ≡ false
+  pub connection : ((kind s).needs_connection && not w.is_connected) ≡ false
+  pub revoked : (kind s).has_too_many_last (needs_tag w s) ≡ false

@@ -4,9 +4,10 @@
 ghost use Rattle.rt_world.specs.laws.False.{ListenLeavesNothing, ListenIsStale, ListenIsRefused};
 ghost use Rattle.rt_world.specs.laws.False.{ListenIsNotSent, NoListenIsKept, EndIsToldToAnother};
 ghost use Rattle.rt_world.specs.laws.False.{PushIsDropped, PushIsStale, PushIsNotTold};
-ghost use Rattle.rt_world.specs.laws.False.{PushIsToldToAnother, PushShowsAnother};
+ghost use Rattle.rt_world.specs.laws.False.{PushIsToldToAnother, PushShowsAnother, PushPrimesNobody};
 ghost use Rattle.rt_world.specs.laws.False.{WriteShowsNothing, WriteIsForgotten, SettledIsPending};
 ghost use Rattle.rt_world.specs.laws.False.{RefusedStillShows, RunDoesNothing, RunStopsShort};
+ghost use Rattle.rt_world.specs.laws.False.{RunRegistersNobody};
 
 /// A listen that leaves nothing, comes too late, is refused, is not sent or not kept; another seat
 /// that is told of an end.
@@ -19,13 +20,15 @@ pub fn false_listens()
     ensures end { EndIsToldToAnother }
 {}
 
-/// A push that is dropped, comes too late, is told to nobody or to another, or shows something else.
+/// A push that is dropped, comes too late, is told to nobody or to another, shows something else, or
+/// leaves its listener unprimed.
 pub fn false_pushes()
     ensures dropped { PushIsDropped }
     ensures stale { PushIsStale }
     ensures nobody { PushIsNotTold }
     ensures another { PushIsToldToAnother }
     ensures shown { PushShowsAnother }
+    ensures primed { PushPrimesNobody }
 {}
 
 /// A write that does not show or is forgotten; one that is settled and stays, or is refused and shows.
@@ -36,8 +39,9 @@ pub fn false_writes()
     ensures refused { RefusedStillShows }
 {}
 
-/// A run that does nothing, and one that stops short.
+/// A run that does nothing, one that stops short, and one in which nobody is registered.
 pub fn false_runs()
     ensures nothing { RunDoesNothing }
     ensures short { RunStopsShort }
+    ensures nobody { RunRegistersNobody }
 {}

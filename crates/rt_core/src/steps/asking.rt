@@ -1,12 +1,19 @@
 // A seat asks the server for something: a write, or what is to be done when the connection ends.
-ghost use Rattle.std.specs.Prelude.{◌≡◌, IfOk};
+ghost use Rattle.std.specs.Prelude.{◌≡◌, ◌∷◌, ◌||◌, [], ℕ, length, nat_le, nat_lt, IfOk};
+ghost use Rattle.std.specs.List.{list_any};
+ghost use Rattle.rt_tree.specs.Assignments.{have_overlap};
+ghost use Rattle.rt_world.specs.declared.error.CoreError.TheVariants as CoreError;
 ghost use Rattle.rt_world.specs.World.{entries_of};
+ghost use Rattle.rt_world.specs.steps.Asking.{is_empty_action};
+ghost use Rattle.rt_world.specs.steps.Kind.{stands_too_deep};
+ghost use Rattle.rt_world.specs.laws.Refused.{first_of};
 
 use crate::sending::send_asked;
 use crate::state::State;
 use crate::told::Told;
+use rt_tree::{MAX_LEVELS, Path, Tree};
 use rt_world::{
-    Action, Asked, Ending, Step, asked_law, brought_law, pending_law, refusal_law, stay_law,
+    Action, Asked, CoreError, Ending, asked_law, brought_law, pending_law, refusal_law, stay_law,
     touch_law,
 };
 use rt_writes::Entries;
@@ -26,32 +33,110 @@ fn entries_of(alloc: Global, action: &Action) -> Result<Entries, AllocError>
     }
 }
 
+// Whether of two entries of the action one is at or above the other.
+fn has_overlap(action: &Action) -> bool
+    ensures { result ≡ have_overlap (entries_of action.now) }
+{
+    match action {
+        Action::Put { .. } => false,
+        Action::Merge { entries } => entries.have_overlap(),
+    }
+}
+
+// Whether the action is an update without entries.
+fn is_empty_update(action: &Action) -> bool
+    ensures { result ≡ is_empty_action action.now }
+{
+    match action {
+        Action::Put { .. } => false,
+        Action::Merge { entries } => match entries.as_slice() {
+            [] => true,
+            [_, ..] => false,
+        },
+    }
+}
+
+// Whether a leaf would stand under too many keys.
+pub(crate) fn stands_too_deep(path: &Path, tree: &Tree) -> bool
+    ensures { result ≡ stands_too_deep (path.now, tree.now) }
+{
+    MAX_LEVELS < path.keys().len() + tree.levels()
+}
+
+// Whether one of these entries would.
+pub(crate) fn stand_too_deep(entries: &Entries) -> bool
+    ensures { result ≡ list_any stands_too_deep entries.now }
+{
+    entries
+        .as_slice()
+        .iter()
+        .any(|entry| stands_too_deep(&entry.0, &entry.1))
+}
+
+// Whether a leaf of the action would.
+fn is_too_deep(action: &Action) -> bool
+    ensures { result ≡ list_any stands_too_deep (entries_of action.now) }
+{
+    match action {
+        Action::Put { path, tree } => stands_too_deep(path, tree),
+        Action::Merge { entries } => stand_too_deep(entries),
+    }
+}
+
+// Why an action can't be asked for, whoever asks.
+fn action_refusal(action: &Action) -> Option<CoreError>
+    ensures { result ≡ first_of ((have_overlap (entries_of action.now), CoreError.Overlap)
+        ∷ (is_empty_action action.now, CoreError.EmptyUpdate)
+        ∷ (list_any stands_too_deep (entries_of action.now), CoreError.TooDeep) ∷ []) }
+{
+    if has_overlap(action) {
+        return Some(CoreError::Overlap);
+    }
+    if is_empty_update(action) {
+        return Some(CoreError::EmptyUpdate);
+    }
+    if is_too_deep(action) {
+        return Some(CoreError::TooDeep);
+    }
+    None
+}
+
 impl State {
     ghost use Rattle.rt_wire.specs.declared.request.Asked.TheVariants as Asked;
     ghost use Rattle.rt_world.specs.declared.step.Step.TheVariants as Step;
-    ghost use Rattle.rt_world.specs.Refusals.{has_too_many_requests};
+    ghost use Rattle.rt_world.specs.Refusals.{refusal};
     ghost use Rattle.rt_core.specs.inside.Due.{IsDue, IsNext};
     ghost use Rattle.rt_core.specs.inside.Viewed.{AreViewed, RefreshesViews, SameViews};
 
     // Whether the limit of unsettled requests is reached, or the last number.
-    pub(crate) fn has_too_many_requests(&self, step: &Step) -> bool
-        ensures { result ≡ has_too_many_requests self.now.world step.now }
+    fn has_too_many_requests(&self) -> bool
+        ensures { result ≡ (nat_le self.now.world.limits.requests (length self.now.world.requests)
+            || nat_lt self.now.world.limits.last_number self.now.world.next_request) }
     {
-        match step {
-            Step::Write { .. } | Step::OnDisconnect { .. } => {
-                self.requests.len() as u64 >= u64::from(self.limits.requests)
-                    || self.given_requests >= self.limits.last_number
-            }
-            Step::Listen { .. }
-            | Step::Unlisten { .. }
-            | Step::Data { .. }
-            | Step::DataMerge { .. }
-            | Step::Accepted { .. }
-            | Step::Refused { .. }
-            | Step::Revoked { .. }
-            | Step::Connected
-            | Step::Disconnected
-            | Step::CloseSeat { .. } => false,
+        self.requests.len() as u64 >= u64::from(self.limits.requests)
+            || self.given_requests >= self.limits.last_number
+    }
+
+    // Why a write is refused.
+    pub(crate) fn write_refusal(&self, action: &Action) -> Option<CoreError>
+        ensures { (seat : ℕ) → result ≡ refusal self.now.world (Step.Write seat action.now) }
+    {
+        if self.has_too_many_requests() {
+            return Some(CoreError::TooManyRequests);
+        }
+        action_refusal(action)
+    }
+
+    // Why what is asked for the end of the connection is.
+    pub(crate) fn on_disconnect_refusal(&self, ending: &Ending) -> Option<CoreError>
+        ensures { (seat : ℕ) → result ≡ refusal self.now.world (Step.OnDisconnect seat ending.now) }
+    {
+        if self.has_too_many_requests() {
+            return Some(CoreError::TooManyRequests);
+        }
+        match ending {
+            Ending::Run(action) => action_refusal(action),
+            Ending::Cancel(_) => None,
         }
     }
 

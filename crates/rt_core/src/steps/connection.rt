@@ -1,12 +1,14 @@
 // Connections begin and end.
-ghost use Rattle.std.specs.Prelude.{◌≡◌, IfOk};
+ghost use Rattle.std.specs.Prelude.{◌≡◌, ◌∷◌, [], not, IfOk};
 ghost use Rattle.rt_cover.specs.State.{shown};
+ghost use Rattle.rt_world.specs.declared.error.CoreError.TheVariants as CoreError;
+ghost use Rattle.rt_world.specs.laws.Refused.{first_of};
 
 use crate::sending::{send_listens, send_requests};
 use crate::state::State;
 use crate::told::Told;
 use rt_cover::{Cover, Kept};
-use rt_world::connection_law;
+use rt_world::{CoreError, connection_law};
 use std::alloc::AllocError;
 use std::collections::VecDeque;
 
@@ -22,8 +24,36 @@ fn kept_listens(cover: &Cover) -> Result<Vec<Kept>, AllocError>
 
 impl State {
     ghost use Rattle.rt_world.specs.declared.step.Step.TheVariants as Step;
+    ghost use Rattle.rt_world.specs.Refusals.{refusal};
     ghost use Rattle.rt_core.specs.inside.Due.{IsDue, IsNext};
     ghost use Rattle.rt_core.specs.inside.Viewed.{SameViews};
+
+    // Why no connection can be opened.
+    pub(crate) fn connect_refusal(&self) -> Option<CoreError>
+        ensures { result ≡ refusal self.now.world Step.Connected }
+    {
+        if self.is_connected {
+            return Some(CoreError::AlreadyConnected);
+        }
+        None
+    }
+
+    // Why nothing can come from a connection.
+    pub(crate) fn offline_refusal(&self) -> Option<CoreError>
+        ensures { result ≡ first_of ((not self.now.world.is_connected, CoreError.NotConnected) ∷ []) }
+    {
+        if self.is_connected {
+            return None;
+        }
+        Some(CoreError::NotConnected)
+    }
+
+    // Why no connection can end.
+    pub(crate) fn disconnect_refusal(&self) -> Option<CoreError>
+        ensures { result ≡ refusal self.now.world Step.Disconnected }
+    {
+        self.offline_refusal()
+    }
 
     // A connection is opened: all kept listens are to be sent, and then all unsettled requests.
     pub(crate) fn connect(self) -> Result<(State, Told), AllocError>

@@ -1,5 +1,6 @@
 // Listeners begin and end.
-ghost use Rattle.std.specs.Prelude.{◌≡◌, ◌==◌, ◌∷◌, [], false, not, map, None, IfOk, OnOk};
+ghost use Rattle.std.specs.Prelude.{◌≡◌, ◌==◌, ◌∷◌, ◌||◌, [], ℕ, false, length, map, nat_le, nat_lt};
+ghost use Rattle.std.specs.Prelude.{not, None, IfOk, OnOk};
 ghost use Rattle.rt_cache.specs.Recover.{recover};
 ghost use Rattle.rt_cover.specs.Cover.{forms};
 ghost use Rattle.rt_cover.specs.State.{added, add_fault, difference, is_registered, remove_fault};
@@ -11,7 +12,7 @@ use crate::told::Told;
 use rt_cache::Brought;
 use rt_cover::{Cover, Delta};
 use rt_query::Query;
-use rt_world::{covered_law, following_law, listened_law};
+use rt_world::{CoreError, covered_law, following_law, listened_law, tag_law};
 use std::alloc::AllocError;
 
 // A listener is covered. Only memory can refuse: whether a tag is lacking was looked at.
@@ -57,8 +58,39 @@ pub(crate) fn lose(brought: &mut Brought, cover: &Cover) -> Result<(), AllocErro
 
 impl State {
     ghost use Rattle.rt_world.specs.declared.step.Step.TheVariants as Step;
-    ghost use Rattle.rt_core.specs.inside.Due.{IsDue, IsNext};
+    ghost use Rattle.rt_world.specs.Refusals.{needs_tag, refusal};
+    ghost use Rattle.rt_core.specs.inside.Due.{IsDue, IsGood, IsNext};
     ghost use Rattle.rt_core.specs.inside.Viewed.{AddsView, AreViewed, KeepsViews};
+
+    // Whether the limit of listeners is reached, or the last number.
+    fn is_full(&self) -> bool
+        ensures { result ≡ (nat_le self.now.world.limits.listeners (length self.now.world.listeners)
+            || nat_lt self.now.world.limits.last_number self.now.world.next_listener) }
+    {
+        self.listeners.len() as u64 >= u64::from(self.limits.listeners)
+            || self.given_listeners >= self.limits.last_number
+    }
+
+    // Whether a new listener of the query would need a tag above the last one.
+    fn lacks_tag_to_add(&self, query: &Query) -> bool
+        requires { IsGood self.now.world }
+        ensures { (seat : ℕ) → result ≡ needs_tag self.now.world (Step.Listen seat query.now) }
+    {
+        // State when a step lacks a tag.
+        tag_law();
+        self.cover.lacks_tag_to_add(query)
+    }
+
+    // Why a listener of the query can't be registered.
+    pub(crate) fn listen_refusal(&self, query: &Query) -> Option<CoreError>
+        requires { IsGood self.now.world }
+        ensures { (seat : ℕ) → result ≡ refusal self.now.world (Step.Listen seat query.now) }
+    {
+        if self.is_full() || self.lacks_tag_to_add(query) {
+            return Some(CoreError::TooManyListeners);
+        }
+        None
+    }
 
     // A seat registers a listener: it has the next number, and is told at once where something is
     // known for its query.
@@ -90,6 +122,28 @@ impl State {
                 notes,
             },
         ))
+    }
+
+    // Whether the end of the listener would need a tag above the last one.
+    fn lacks_tag_to_remove(&self, listener: u64) -> bool
+        ensures { (seat : ℕ) → result ≡ needs_tag self.now.world (Step.Unlisten seat listener) }
+    {
+        // State when a step lacks a tag.
+        tag_law();
+        self.cover.lacks_tag_to_remove(&[listener])
+    }
+
+    // Why the seat can't end the listener.
+    pub(crate) fn unlisten_refusal(&self, seat: u64, listener: u64) -> Option<CoreError>
+        ensures { result ≡ refusal self.now.world (Step.Unlisten seat listener) }
+    {
+        if !self.listeners.is_seats(seat, listener) {
+            return Some(CoreError::UnknownListener);
+        }
+        if self.lacks_tag_to_remove(listener) {
+            return Some(CoreError::TooManyListeners);
+        }
+        None
     }
 
     // A seat ends a listener of its own: nobody is told.

@@ -10,7 +10,7 @@ use crate::steps::listening::lose;
 use crate::told::Told;
 use rt_cover::{Cover, Delta};
 use rt_query::Query;
-use rt_world::{Reason, covered_law, following_law, listened_law};
+use rt_world::{CoreError, Reason, covered_law, following_law, listened_law, stay_law, tag_law};
 use std::alloc::AllocError;
 
 // The listeners whose form is that of the listen with the tag are covered no more: that form, and
@@ -35,8 +35,45 @@ fn uncover_revoked(cover: &mut Cover, tag: u64) -> Result<(Query, Delta), AllocE
 
 impl State {
     ghost use Rattle.rt_world.specs.declared.step.Step.TheVariants as Step;
-    ghost use Rattle.rt_core.specs.inside.Due.{IsDue, IsNext};
+    ghost use Rattle.rt_world.specs.World.{Reason};
+    ghost use Rattle.rt_world.specs.Refusals.{is_stale, needs_tag, refusal};
+    ghost use Rattle.rt_core.specs.inside.Due.{IsDue, IsGood, IsNext};
     ghost use Rattle.rt_core.specs.inside.Viewed.{AreViewed, KeepsViews};
+
+    // Whether the end of the listen would need a tag above the last one.
+    fn lacks_tag_to_revoke(&self, tag: u64) -> bool
+        requires { IsGood self.now.world }
+        ensures { (why : Reason) → result ≡ needs_tag self.now.world (Step.Revoked tag why) }
+    {
+        // State when a step lacks a tag, and that no listen changes where no listener ends.
+        tag_law();
+        stay_law();
+        self.cover.lacks_tag_to_revoke(tag)
+    }
+
+    // Why the listen can't end.
+    pub(crate) fn revoke_refusal(&self, tag: u64) -> Option<CoreError>
+        requires { IsGood self.now.world }
+        ensures { (why : Reason) → result ≡ refusal self.now.world (Step.Revoked tag why) }
+    {
+        if !self.is_connected {
+            return Some(CoreError::NotConnected);
+        }
+        if self.lacks_tag_to_revoke(tag) {
+            return Some(CoreError::TooManyListeners);
+        }
+        None
+    }
+
+    // Whether no listen with that tag is kept.
+    pub(crate) fn revoke_is_stale(&self, tag: u64) -> bool
+        ensures { (why : Reason) → result ≡ is_stale self.now.world (Step.Revoked tag why) }
+    {
+        match self.listen_of(tag) {
+            Some(_) => false,
+            None => true,
+        }
+    }
 
     // The server ends a listen: the listeners that it is the form of end, and their seats are told.
     pub(crate) fn revoke(self, tag: u64, why: Reason) -> Result<(State, Told), AllocError>

@@ -1,5 +1,5 @@
 // The server settles a request: it accepts or refuses it.
-ghost use Rattle.std.specs.Prelude.{◌≡◌, ◌++◌, [], IfOk, OnOk};
+ghost use Rattle.std.specs.Prelude.{◌≡◌, ◌++◌, [], ℕ, IfOk, OnOk};
 ghost use Rattle.std.specs.Option.{option_and_then, option_map, option_map_or, option_to_list};
 ghost use Rattle.rt_world.specs.declared.report.Body.TheVariants as Body;
 ghost use Rattle.rt_world.specs.Touched.{entries_settled};
@@ -7,7 +7,9 @@ ghost use Rattle.rt_world.specs.Touched.{entries_settled};
 use crate::state::State;
 use crate::told::Told;
 use rt_requests::Settled;
-use rt_world::{Body, Note, Reason, brought_law, pending_law, settled_law, stay_law, touch_law};
+use rt_world::{
+    Body, CoreError, Note, Reason, brought_law, pending_law, settled_law, stay_law, touch_law,
+};
 use rt_writes::Entries;
 use std::alloc::{AllocError, Global};
 
@@ -45,8 +47,27 @@ fn tell_settled(
 }
 
 impl State {
+    ghost use Rattle.rt_world.specs.declared.step.Step.TheVariants as Step;
+    ghost use Rattle.rt_world.specs.World.{Reason};
+    ghost use Rattle.rt_world.specs.Refusals.{is_stale, refusal};
     ghost use Rattle.rt_core.specs.inside.Due.{IsDue, IsNext, settling};
     ghost use Rattle.rt_core.specs.inside.Viewed.{AreViewed, RefreshesViews};
+
+    // Why nothing can be settled.
+    pub(crate) fn settle_refusal(&self) -> Option<CoreError>
+        ensures accepted { (id : ℕ) → result ≡ refusal self.now.world (Step.Accepted id) }
+        ensures refused { (id : ℕ) (why : Reason) → result ≡ refusal self.now.world (Step.Refused id why) }
+    {
+        self.offline_refusal()
+    }
+
+    // Whether no unsettled request has the number.
+    pub(crate) fn settle_is_stale(&self, id: u64) -> bool
+        ensures accepted { result ≡ is_stale self.now.world (Step.Accepted id) }
+        ensures refused { (why : Reason) → result ≡ is_stale self.now.world (Step.Refused id why) }
+    {
+        !self.requests.is_unsettled(id)
+    }
 
     // A request is accepted, or refused for a reason: what it wrote is pending no more, and its seat
     // is told first.

@@ -1,5 +1,5 @@
 -- Steps and runs as they must not be: the headline is met by none of these.
-use Rattle.std.specs.Prelude.{ℕ, true, List, [], ◌∷◌, Option, Some, None, Ok, Err, codes, pos}
+use Rattle.std.specs.Prelude.{◌≡◌, ℕ, true, List, [], ◌∷◌, Option, Some, None, Ok, Err, codes, pos}
 use Rattle.rt_tree.specs.Leaf.{number}
 use Rattle.rt_tree.specs.Path.{path_keys}
 use Rattle.rt_tree.specs.PathTree.{Path}
@@ -105,6 +105,12 @@ PushShowsAnother =
     Never listening (Step.Data 1 a (num 7)) (done None (told 1 (batch 1 (Value (num 8) ∷ [])) ∷ []))
     (record seeing { listeners = showing 8 ∷ [] })
 
+-- a push is brought, and its listener is never primed
+abbrev pub PushPrimesNobody : Type 0
+PushPrimesNobody =
+    Never listening (Step.Data 1 a (num 7)) (done None [])
+    (record seeing { listeners = listening.listeners })
+
 -- ---- writes
 
 -- a write does not show
@@ -143,3 +149,10 @@ abbrev pub RunStopsShort : Type 0
 RunStopsShort =
     (answer : Answer) (new : World)
     → Headline fresh (Step.Connected ∷ Step.Listen 1 (plain a) ∷ []) (answer ∷ []) new → ⊥
+
+-- a connection, a listen and a push leave no listener, whatever they answer
+abbrev pub RunRegistersNobody : Type 0
+RunRegistersNobody =
+    (answers : List Answer) (new : World) → new.listeners ≡ []
+    → let steps = Step.Connected ∷ Step.Listen 1 (plain a) ∷ Step.Data 1 a (num 7) ∷ [] in
+    Headline fresh steps answers new → ⊥

@@ -13,10 +13,9 @@ use Rattle.rt_world.specs.declared.error.CoreError.TheVariants.{EmptyUpdate, Too
 use Rattle.rt_world.specs.declared.error.CoreError.TheVariants.{AlreadyConnected, NotConnected}
 use Rattle.rt_world.specs.declared.step.Step.{Step}
 use Rattle.rt_world.specs.World.{Reason, World, registered, listen_of}
+use Rattle.rt_world.specs.After.{kind}
 use Rattle.rt_world.specs.Messages.{next}
-use Rattle.rt_world.specs.Refusals.{is_unknown_listener, needs_tag, has_too_many_listeners}
-use Rattle.rt_world.specs.Refusals.{has_too_many_requests, has_overlap, is_empty_update, is_too_deep}
-use Rattle.rt_world.specs.Refusals.{is_bad_push, refusal, is_stale}
+use Rattle.rt_world.specs.Refusals.{is_unknown_listener, needs_tag, refusal, is_stale}
 use Rattle.rt_world.specs.Answers.{step, stale_report, done_report}
 use Rattle.rt_world.specs.Covering.{cover_in, numbers_of}
 use Rattle.rt_world.specs.Sound.{IsSound}
@@ -49,24 +48,25 @@ first_of conditions = option_map (λ c. c.1) (find (λ c. c.0) conditions)
 -- what a seat asks for
 abbrev pub asking_conditions : World → Step → List (Bool × CoreError)
 asking_conditions w s =
-    (has_too_many_requests w s, TooManyRequests)
-    ∷ (has_overlap s, Overlap)
-    ∷ (is_empty_update s, EmptyUpdate)
-    ∷ (is_too_deep s, TooDeep)
+    ((kind s).has_too_many_requests w, TooManyRequests)
+    ∷ ((kind s).has_overlap, Overlap)
+    ∷ ((kind s).is_empty, EmptyUpdate)
+    ∷ ((kind s).is_too_deep, TooDeep)
     ∷ []
 
 -- what the server pushes
 abbrev pub push_conditions : World → Step → List (Bool × CoreError)
 push_conditions w s =
-    (is_too_deep s, TooDeep)
-    ∷ (is_bad_push w s, BadPush)
+    ((kind s).is_too_deep, TooDeep)
+    ∷ ((kind s).is_bad_push w, BadPush)
     ∷ (not w.is_connected, NotConnected)
     ∷ []
 
 -- the refusals that the step can have, each with its condition, in order
 abbrev pub conditions_for : World → Step → List (Bool × CoreError)
 conditions_for w (Step.Listen seat query) =
-    (has_too_many_listeners w (Step.Listen seat query), TooManyListeners) ∷ []
+    let s = Step.Listen seat query in
+    ((kind s).has_too_many w (needs_tag w s), TooManyListeners) ∷ []
 conditions_for w (Step.Unlisten seat listener) =
     (is_unknown_listener w (Step.Unlisten seat listener), UnknownListener)
     ∷ (needs_tag w (Step.Unlisten seat listener), TooManyListeners)

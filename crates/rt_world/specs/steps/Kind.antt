@@ -1,5 +1,7 @@
 -- What there is to say of a step, whatever its kind.
-use Rattle.std.specs.Prelude.{ℕ, Bool, false, List, [], Option, None}
+use Rattle.std.specs.Prelude.{ℕ, ◌+◌, Bool, false, List, [], length, nat_lt, Option, None}
+use Rattle.rt_tree.specs.declared.limits.TheConstants.{MAX_LEVELS}
+use Rattle.rt_tree.specs.PathTree.{levels}
 use Rattle.rt_tree.specs.Assignments.{Assignment}
 use Rattle.rt_wire.specs.declared.request.Asked.{Asked}
 use Rattle.rt_world.specs.declared.request.Request.{Request}
@@ -9,22 +11,36 @@ use Rattle.rt_world.specs.World.{Reason, Listener, World}
 abbrev pub Part : Type 0
 Part = ℕ × List Assignment
 
--- what comes with it: the parts of a push; what a seat asks for; the request that is settled, and why
--- it is refused; the listen that is revoked, and why. Then when it is refused for the listeners that
--- there are: it names none of the seat's, or there are too many, by whether a tag is lacking. Whether
--- it comes from a connection, opens one, ends one; when it is stale. And what it leaves: the
--- listeners that stay, and a new one, as they were; the requests; whether a listener gets a number
+-- whether a leaf of the entry would stand under too many keys: levels counts one more
+abbrev pub stands_too_deep : Assignment → Bool
+stands_too_deep a = nat_lt MAX_LEVELS (length a.0 + levels a.1)
+
+-- what comes with it, when it is refused, when it is stale, and what it leaves
 pub record Kind : Type 0 where
+  -- the parts of a push; what a seat asks for; the request that is settled, and why it is refused; the
+  -- listen that is revoked, and why
   pub parts : List Part
   pub asked : Option (ℕ × Asked)
   pub settled : Option (ℕ × Option Reason)
   pub revoked : Option (ℕ × Reason)
+  -- it names a listener that is none of its seat's; there are too many listeners, by whether a tag is
+  -- lacking, and where that is looked at last; too many requests
   pub is_unknown : World → Bool
   pub has_too_many : World → Bool → Bool
+  pub has_too_many_last : Bool → Bool
+  pub has_too_many_requests : World → Bool
+  -- of two of its paths one is at or above the other; it is an update without entries; a leaf of it
+  -- would stand under too many keys; it pushes what its listen can't bring
+  pub has_overlap : Bool
+  pub is_empty : Bool
+  pub is_too_deep : Bool
+  pub is_bad_push : World → Bool
+  -- it comes from a connection; it opens one; it ends one; it comes too late
   pub needs_connection : Bool
   pub opens : Bool
   pub closes : Bool
   pub is_stale : World → Bool
+  -- the listeners that stay, and a new one, as they were; the requests; whether a listener gets a number
   pub listeners : World → List Listener
   pub requests : World → List Request
   pub registers : Bool
@@ -38,6 +54,12 @@ quiet = record {
   revoked = None;
   is_unknown = λ w. false;
   has_too_many = λ w lacks_tag. false;
+  has_too_many_last = λ lacks_tag. false;
+  has_too_many_requests = λ w. false;
+  has_overlap = false;
+  is_empty = false;
+  is_too_deep = false;
+  is_bad_push = λ w. false;
   needs_connection = false;
   opens = false;
   closes = false;

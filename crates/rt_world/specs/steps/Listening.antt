@@ -3,7 +3,6 @@ use Rattle.std.specs.Prelude.{ℕ, true, false, ◌&&◌, ◌||◌, not, [], ◌
 use Rattle.std.specs.Prelude.{nat_le, None}
 use Rattle.std.specs.List.{filter, list_any}
 use Rattle.rt_query.specs.Queries.{Query}
-use Rattle.rt_world.specs.World.{World}
 use Rattle.rt_world.specs.steps.Kind.{Kind, quiet}
 
 -- the listener has the next number, and is not primed; refused where the limit of listeners is reached,

@@ -11,10 +11,12 @@ use Rattle.rt_world.specs.steps.Kind.{Kind, quiet}
 abbrev pub is_cancelled : World → ℕ → Listener → Bool
 is_cancelled w tag l = option_map_or (query_eq (form l.query)) (listen_of w tag) false
 
--- the listeners of that form end; stale where the tag is not kept
+-- the listeners of that form end; refused, after all else, where a tag is lacking; stale where the
+-- revoked one is not kept
 abbrev pub revoke : ℕ → Reason → Kind
 revoke tag why = record quiet {
   revoked = Some (tag, why);
+  has_too_many_last = λ lacks_tag. lacks_tag;
   needs_connection = true;
   is_stale = λ w. not (is_some (listen_of w tag));
   listeners = λ w. filter (λ l. not (is_cancelled w tag l)) w.listeners;

@@ -33,3 +33,8 @@ returns-clause-another c = λ m. true≢false (ap (λ (x : Answer). seat_of (not
 pub returns-clause-shown : goal.returns-clause-shown
 unfolding null of_leaf is_null leaf_at sub put with_children children_alone levels children_of tree_eq
 returns-clause-shown c = λ m. true≢false (ap shows_eight (m.shown 0 (showing 8) (omega arith)).view)
+
+-- what is brought is known
+pub returns-clause-primed : goal.returns-clause-primed
+unfolding null of_leaf is_null leaf_at sub put with_children children_alone levels children_of tree_eq
+returns-clause-primed c = λ m. true≢false (sym (m.primed 0 (showing 7) (omega arith)))

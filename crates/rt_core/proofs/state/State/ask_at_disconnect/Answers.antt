@@ -1,12 +1,10 @@
 use Rattle.std.proofs.Common.{◌≡◌, ◌++◌, sym, subst, ◌+◌, refl, rules, ap}
 use Rattle.rt_wire.specs.declared.request.Asked.TheVariants.{AtDisconnect}
 use Rattle.rt_world.specs.declared.step.Step.{Step}
-use Rattle.rt_world.specs.World.{World}
 use Rattle.rt_core.specs.Core.{Held}
 use Rattle.rt_core.specs.inside.Due.{IsDue}
 use Rattle.rt_core.specs.inside.Parts.{asking}
-use Rattle.rt_core.proofs.NextWorlds.{along, ask_made, or_left}
-use Rattle.rt_core.specs.inside.Viewed.{SameViews}
+use Rattle.rt_core.proofs.NextWorlds.{along, ask_made}
 use Rattle.rt_core.proofs.state.State.ask_at_disconnect.Goals as goal
 
 pub add-requires-clause-above : goal.add-requires-clause-above
@@ -19,7 +17,7 @@ pub add-requires-clause-some : goal.add-requires-clause-some
 add-requires-clause-some c = (c.refusal_law.ensures (c.args.self).world (Step.OnDisconnect c.args.seat c.args.ending) c.requires.not_refused).empty
 
 pub add-requires-clause-shallow : goal.add-requires-clause-shallow
-add-requires-clause-shallow c = or_left _ _ (c.refusal_law.ensures (c.args.self).world (Step.OnDisconnect c.args.seat c.args.ending) c.requires.not_refused).deep
+add-requires-clause-shallow c = (c.refusal_law.ensures (c.args.self).world (Step.OnDisconnect c.args.seat c.args.ending) c.requires.not_refused).deep
 
 pub returns-clause-made : goal.returns-clause-made
 returns-clause-made c =

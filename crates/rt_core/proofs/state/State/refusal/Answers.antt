@@ -1,27 +1,21 @@
-use Rattle.std.proofs.Common.{◌≡◌, ◌∙◌, sym, ap, Some, None}
-use Rattle.std.specs.Option.{option_or}
-use Rattle.rt_world.specs.laws.Refused.{first_of}
-use Rattle.rt_core.proofs.RefusalLaws.{asking, connecting, listening, refusal_parts}
+use Rattle.std.proofs.Common.{sym, ap, ◌∙◌}
+use Rattle.rt_world.specs.Refusals.{refusal}
 use Rattle.rt_core.proofs.state.State.refusal.Goals as goal
 
-pub returns-in-Some : goal.returns-in-Some
-returns-in-Some c =
-    let w = (c.args.self.now).world in
-    let s = c.args.step.now in
-    ap (λ o. option_or o (option_or (first_of (asking w s)) (first_of (connecting w s)))) (sym c.in-Some.is ∙ c.listener_refusal.ensures) ∙ sym (refusal_parts w s)
+pub returns-in-Listen : goal.returns-in-Listen
+returns-in-Listen c = c.listen_refusal.ensures c.in-Listen.seat ∙ sym (ap (refusal (c.args.self.now).world) c.in-Listen.is)
 
-pub returns-in-Some-asking_refusal : goal.returns-in-Some-asking_refusal
-returns-in-Some-asking_refusal c =
-    let w = (c.args.self.now).world in
-    let s = c.args.step.now in
-    let first : first_of (listening w s) ≡ None = sym c.listener_refusal.ensures ∙ c.in_default.is in
-    let second : first_of (asking w s) ≡ Some c.in-Some-asking_refusal.error = sym c.asking_refusal.ensures ∙ c.in-Some-asking_refusal.is in
-    sym (refusal_parts w s ∙ (λ i. option_or (first i) (option_or (second i) (first_of (connecting w s)))))
+pub returns-in-Write : goal.returns-in-Write
+returns-in-Write c = c.write_refusal.ensures c.in-Write.seat ∙ sym (ap (refusal (c.args.self.now).world) c.in-Write.is)
 
-pub returns : goal.returns
-returns c =
-    let w = (c.args.self.now).world in
-    let s = c.args.step.now in
-    let first : first_of (listening w s) ≡ None = sym c.listener_refusal.ensures ∙ c.in_default.is in
-    let second : first_of (asking w s) ≡ None = sym c.asking_refusal.ensures ∙ c.in_default-asking_refusal.is in
-    c.connection_refusal.ensures ∙ sym (refusal_parts w s ∙ (λ i. option_or (first i) (option_or (second i) (first_of (connecting w s)))))
+pub returns-in-OnDisconnect : goal.returns-in-OnDisconnect
+returns-in-OnDisconnect c = c.on_disconnect_refusal.ensures c.in-OnDisconnect.seat ∙ sym (ap (refusal (c.args.self.now).world) c.in-OnDisconnect.is)
+
+pub returns-in-Accepted : goal.returns-in-Accepted
+returns-in-Accepted c = c.settle_refusal.ensures.accepted c.in-Accepted.id ∙ sym (ap (refusal (c.args.self.now).world) c.in-Accepted.is)
+
+pub returns-in-Refused : goal.returns-in-Refused
+returns-in-Refused c = c.settle_refusal-in-Refused.ensures.refused c.in-Refused.id c.in-Refused.why ∙ sym (ap (refusal (c.args.self.now).world) c.in-Refused.is)
+
+pub returns-in-Revoked : goal.returns-in-Revoked
+returns-in-Revoked c = c.revoke_refusal.ensures c.in-Revoked.why ∙ sym (ap (refusal (c.args.self.now).world) c.in-Revoked.is)

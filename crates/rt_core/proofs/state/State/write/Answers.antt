@@ -1,15 +1,15 @@
 use Rattle.std.proofs.Common.{◌≡◌, ◌++◌, map, sym, ap, subst, ◌∙◌, ◌+◌, refl, rules}
 use Rattle.rt_wire.specs.declared.request.Asked.TheVariants.{Now}
 use Rattle.rt_world.specs.declared.step.Step.{Step}
-use Rattle.rt_world.specs.World.{World, pending, entries_of}
+use Rattle.rt_world.specs.World.{pending, entries_of}
 use Rattle.rt_world.specs.Met.{all_told, renewed_met}
 use Rattle.rt_core.specs.Core.{Held}
 use Rattle.rt_core.specs.inside.Due.{IsDue}
 use Rattle.rt_core.specs.inside.Parts.{asking}
-use Rattle.rt_core.proofs.NextWorlds.{along, or_left, tied_after, write_made}
+use Rattle.rt_core.proofs.NextWorlds.{along, tied_after, write_made}
 use Rattle.std.specs.List.{zip}
 use Rattle.rt_listeners.specs.Refreshed.{view_met}
-use Rattle.rt_core.specs.inside.Viewed.{AreViewed, RefreshesViews}
+use Rattle.rt_core.specs.inside.Viewed.{AreViewed}
 use Rattle.rt_core.specs.inside.StateView.{world_of}
 use Rattle.rt_core.proofs.Viewed.{TouchLaws, follows_at}
 use Rattle.rt_core.proofs.state.State.write.Goals as goal
@@ -24,7 +24,7 @@ pub add-requires-clause-some : goal.add-requires-clause-some
 add-requires-clause-some c = (c.refusal_law.ensures (c.args.self).world (Step.Write c.args.seat c.args.action) c.requires.due.not_refused).empty
 
 pub add-requires-clause-shallow : goal.add-requires-clause-shallow
-add-requires-clause-shallow c = or_left _ _ (c.refusal_law.ensures (c.args.self).world (Step.Write c.args.seat c.args.action) c.requires.due.not_refused).deep
+add-requires-clause-shallow c = (c.refusal_law.ensures (c.args.self).world (Step.Write c.args.seat c.args.action) c.requires.due.not_refused).deep
 
 pub invariant_of-state : goal.invariant_of-state
 invariant_of-state c =
