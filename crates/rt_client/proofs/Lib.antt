@@ -1,7 +1,9 @@
 pub mod Allowed
 pub mod Batches
 pub mod Called
+pub mod Delivered
 pub mod Filters
+pub mod Followed
 pub mod Kept
 pub mod Mirrored
 pub mod Noted
@@ -11,4 +13,5 @@ pub mod Seated
 pub mod Settled
 pub mod Slots
 pub mod Steps
+pub mod Taking
 pub mod Texts

@@ -6,12 +6,15 @@
 --     Shared      what a client's lock keeps, and what a step makes of it
 --     Calls       what calls make of it and of the caller's seat
 --     Settling    what is handed over, closed, taken out and shown
+--     Delivery    what is given to a sink or a mirror, and delivered over turns
 --     Opened      a client as it is opened, and its seats
 -- laws/ has that what a seat is told keeps it up to date (Reflecting), that what the lock keeps is kept
--- (Keeping), and what the prover computes of literals (Examples, Telling);
+-- (Keeping), that a mirror follows a lane (Following), and what the prover computes of literals (Examples,
+-- Telling);
 -- inside/ what only the code's own functions need.
 pub mod Calls
 pub mod Codes
+pub mod Delivery
 pub mod inside
 pub mod Lanes
 pub mod laws

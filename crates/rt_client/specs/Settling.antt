@@ -1,8 +1,7 @@
 -- What is handed over, closed and taken out of a client's locked value, and what it shows.
-use Rattle.std.specs.Prelude.{◌≡◌, ℕ, length, take, List, Option, Some}
+use Rattle.std.specs.Prelude.{◌≡◌, ℕ, take, List, Option, Some}
 use Rattle.rt_cover.specs.declared.kept.Kept.{Kept}
 use Rattle.rt_wire.specs.declared.client.ClientMessage.{ClientMessage}
-use Rattle.rt_world.specs.declared.error.CoreError.{CoreError}
 use Rattle.rt_world.specs.declared.step.Step.{Step}
 use Rattle.rt_world.specs.World.{World, cover}
 use Rattle.rt_core.specs.Core.{first_message, without_first}

@@ -1,5 +1,6 @@
 -- Laws for callers, and what the prover computes of literals.
 pub mod Examples
+pub mod Following
 pub mod Keeping
 pub mod Reflecting
 pub mod Telling

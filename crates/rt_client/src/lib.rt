@@ -7,6 +7,8 @@
 //! shared.connected()?;
 //! let listener = shared.listen(&mut seats[0], query)?;                // the listener's number
 //! seats[0].next()                                                     // the receipt; waits for nobody
+//! drop(shared);                                                       // lets the lock go
+//! deliver(rt, &client, &mut seats[0], &mut sink, &gate, 100)?;        // settles and hands out
 //! ```
 //!
 //! What the lock keeps, as the invariant of [`Shared`]: the client has failed, or its world holds what
@@ -29,9 +31,11 @@
 mod call;
 mod calls;
 mod client;
+mod delivery;
 mod done;
 mod error;
 pub mod examples;
+mod following;
 mod handing;
 mod held;
 mod keeping;
@@ -45,8 +49,10 @@ mod tests;
 
 pub use call::Call;
 pub use client::{Client, MAX_SEATS};
+pub use delivery::{Gate, Sink, deliver};
 pub use done::Done;
 pub use error::ClientError;
+pub use following::following_law;
 pub use handing::Unclosed;
 pub use keeping::keeping_law;
 pub use laws::{ids_are_keys, keys_rise, push_key_examples};

@@ -1,8 +1,11 @@
 // A seat.
-ghost use Rattle.std.specs.Prelude.{◌≡◌, drop};
-ghost use Rattle.std.specs.List.{slice_get};
+ghost use Rattle.std.specs.Prelude.{◌≡◌, IsTrue, is_some, IfOk, IfErr, [], drop};
+ghost use Rattle.std.specs.List.{fold, slice_get};
+ghost use Rattle.rt_mail.specs.declared.error.MailError.TheVariants.{NoMemory};
+ghost use Rattle.rt_client.specs.Delivery.{emptied, TakesAll, TakesSome, IsMirrored, RefusesMirror};
 
-use rt_mail::{Inbox, Item};
+use crate::delivery::Sink;
+use rt_mail::{Inbox, Item, MailError, Mirror};
 use std::marker::Model;
 
 /// A thread's own end of a client: its ring. It is shared with nobody.
@@ -21,6 +24,30 @@ impl Model for Seat {
     ghost view = { λ a. record { client = a.client; number = a.number; ring = a.inbox } };
 }
 
+// Gives the sink all that the ring holds, in order.
+fn give_all<S: Sink>(inbox: &mut Inbox, sink: &mut S)
+    ensures sink { sink.new ≡ fold S.after_item sink.old inbox.old.items }
+    ensures ring { inbox.new ≡ record (inbox.old) { items = [] } }
+{
+    while let Some(item) = inbox.next() {
+        sink.take(item);
+    }
+}
+
+// Takes all that the ring holds into a mirror that has not failed, in order: how many.
+fn mirror_all(inbox: &mut Inbox, mirror: &mut Mirror) -> Result<usize, MailError>
+    requires { IsTrue (is_some mirror.old) }
+    ensures taken { IfOk result (λ n. TakesAll inbox.old mirror.old n inbox.new mirror.new) }
+    ensures refused { IfErr result (λ e. e ≡ NoMemory) }
+    ensures some { IfErr result (λ _. TakesSome inbox.old mirror.old inbox.new mirror.new) }
+{
+    let count = inbox.len();
+    while let Some(item) = inbox.next() {
+        mirror.take(item)?;
+    }
+    Ok(count)
+}
+
 impl Seat {
     /// Takes the first item that the ring holds, if there is one. Waits for nobody, and takes no
     /// memory and no lock.
@@ -31,5 +58,34 @@ impl Seat {
         } }
     {
         self.inbox.next()
+    }
+
+    /// Gives the sink all that the ring holds, in order. Waits for nobody, and takes no memory and no
+    /// lock.
+    pub fn hand_out<S: Sink>(&mut self, sink: &mut S)
+        ensures sink { sink.new ≡ fold S.after_item sink.old self.old.ring.items }
+        ensures seat { self.new ≡ emptied self.old }
+    {
+        give_all(&mut self.inbox, sink);
+    }
+
+    /// Takes all that the ring holds into the mirror, in order, and answers how many that are.
+    ///
+    /// # Errors
+    ///
+    /// Failed where the mirror has failed, which changes nothing; else NoMemory, after which it has: the
+    /// item for which memory lacked is dropped, and those behind it stay in the ring.
+    pub fn mirror(&mut self, mirror: &mut Mirror) -> Result<usize, MailError>
+        ensures taken { IfOk result (λ n. IsMirrored self.old mirror.old n self.new mirror.new) }
+        ensures refused { IfErr result (λ e.
+            RefusesMirror self.old mirror.old e self.new mirror.new) }
+    {
+        if mirror.has_failed() {
+            return Err(MailError::Failed);
+        }
+        let Ok(count) = mirror_all(&mut self.inbox, mirror) else {
+            return Err(MailError::NoMemory);
+        };
+        Ok(count)
     }
 }

@@ -1,6 +1,9 @@
 // Clients of two seats, whose rings hold one item and eight.
-use crate::{Call, Client, ClientError, Done, Seat, Shared, Unclosed, with_core, with_seat};
-use rt_mail::{Item, Receipt};
+use crate::{
+    Call, Client, ClientError, Done, Gate, Seat, Shared, Sink, Unclosed, deliver, with_core,
+    with_seat,
+};
+use rt_mail::{Item, Mirror, Receipt};
 use rt_query::Query;
 use rt_tree::{Path, Tree};
 use rt_wire::ServerMessage;
@@ -30,19 +33,26 @@ fn given(done: Result<Done, ClientError>) -> u64 {
     }
 }
 
-// The number that the next item's receipt has; 0 where there is none.
-fn receipt_of(seat: &mut Seat) -> u64 {
-    let Some(item) = seat.next() else {
-        return 0;
-    };
+// The number of a receipt; 0 of another item.
+fn number_in(item: &Item) -> u64 {
     match item {
-        Item::Receipt(Receipt::Listened { listener, .. }) => listener,
-        Item::Receipt(Receipt::Wrote { id, .. }) => id,
+        Item::Receipt(Receipt::Listened { listener, .. }) => *listener,
+        Item::Receipt(Receipt::Wrote { id, .. }) => *id,
         Item::Receipt(Receipt::Unlistened { .. } | Receipt::Asked { .. })
         | Item::Batch(_)
         | Item::Settled { .. }
         | Item::Cancelled { .. } => 0,
     }
+}
+
+// The number that the next item's receipt has; 0 where there is none.
+fn receipt_of(seat: &mut Seat) -> u64 {
+    let Some(item) = seat.next() else {
+        return 0;
+    };
+    let number = number_in(&item);
+    drop(item);
+    number
 }
 
 // The first seat listens, and takes its receipt.
@@ -75,13 +85,16 @@ fn client_of(alloc: Global, number: u64) -> Result<(Client, Vec<Seat>), Fail> {
 fn told_once(shared: &mut Shared, seats: &mut [Seat], call: Call) -> Option<((u64, u64), u64)> {
     match seats {
         [first, ..] => Some((listened(shared, first, call), receipt_of(first))),
-        [] => None,
+        [] => {
+            drop(call);
+            None
+        }
     }
 }
 
 fn told_of_listen(rt: &impl Wait, alloc: Global) -> Result<Option<((u64, u64), u64)>, Fail> {
-    let call = listen(alloc)?;
     let (client, mut seats) = client_of(alloc, 1)?;
+    let call = listen(alloc)?;
     let mut shared = client.shared.lock(rt);
     Ok(told_once(&mut shared, &mut seats, call))
 }
@@ -111,14 +124,17 @@ fn push_comes_too_late(rt: HostRuntime) -> Result<(), Fail> {
 fn refused_others(shared: &mut Shared, seats: &mut [Seat], call: Call) -> Option<u8> {
     match seats {
         [first, ..] => Some(code_of(with_seat(shared, first, call))),
-        [] => None,
+        [] => {
+            drop(call);
+            None
+        }
     }
 }
 
 fn told_others(rt: &impl Wait, alloc: Global) -> Result<Option<u8>, Fail> {
-    let call = listen(alloc)?;
     let (client, _seats) = client_of(alloc, 1)?;
     let (_other, mut others) = client_of(alloc, 2)?;
+    let call = listen(alloc)?;
     let mut shared = client.shared.lock(rt);
     Ok(refused_others(&mut shared, &mut others, call))
 }
@@ -243,45 +259,6 @@ fn listens_are_kept_and_sent(rt: HostRuntime) -> Result<(), Fail> {
     Ok(())
 }
 
-fn has_batch(seat: &mut Seat) -> bool {
-    let Some(item) = seat.next() else {
-        return false;
-    };
-    match item {
-        Item::Batch(_) => true,
-        Item::Receipt(_) | Item::Settled { .. } | Item::Cancelled { .. } => false,
-    }
-}
-
-// The ring has room for the receipt alone: the batch comes once the seat has settled.
-fn settled(shared: &mut Shared, seat: &mut Seat, query: Query, path: Path) -> (u64, bool, bool) {
-    let _listener = listening(shared, seat, query);
-    let tree = Tree::null();
-    let _pushed = shared.server_message(ServerMessage::Data { tag: 1, path, tree });
-    let receipt = receipt_of(seat);
-    let early = has_batch(seat);
-    let _settled = shared.settle(seat);
-    (receipt, early, has_batch(seat))
-}
-
-fn settled_once(rt: &impl Wait, alloc: Global) -> Result<Option<(u64, bool, bool)>, Fail> {
-    let query = Query::at(Path::parse(alloc, "/g")?).done();
-    let path = Path::parse(alloc, "/g")?;
-    let (client, mut seats) = client_of(alloc, 1)?;
-    let mut shared = client.shared.lock(rt);
-    match seats.as_mut_slice() {
-        [first, ..] => Ok(Some(settled(&mut shared, first, query, path))),
-        [] => Ok(None),
-    }
-}
-
-#[test]
-fn what_waits_comes_when_settled(rt: HostRuntime) -> Result<(), Fail> {
-    let told = settled_once(&rt, rt.alloc())?;
-    assert_eq!(rt; told, Some((1, false, true)));
-    Ok(())
-}
-
 // The number of the refusal to close a seat; 0 where it is closed.
 fn closed(shared: &mut Shared, seat: Option<Seat>) -> Option<u8> {
     let Some(seat) = seat else {
@@ -310,5 +287,130 @@ fn closed_both(rt: &impl Wait, alloc: Global) -> Result<(Option<u8>, Option<u8>)
 fn own_seats_close(rt: HostRuntime) -> Result<(), Fail> {
     let told = closed_both(&rt, rt.alloc())?;
     assert_eq!(rt; told, (Some(0), Some(2)));
+    Ok(())
+}
+
+// Whether a first and a second item have come.
+#[derive(Drop)]
+struct Two {
+    first: bool,
+    second: bool,
+}
+
+impl Sink for Two {
+    ghost use Rattle.std.specs.Prelude.{true};
+
+    ghost after_item = { λ s _. record { first = true; second = s.first } };
+
+    fn take(&mut self, item: Item) {
+        drop(item);
+        self.second = self.first;
+        self.first = true;
+    }
+}
+
+// Goes on for all turns.
+#[derive(Drop)]
+struct Always;
+
+impl Gate for Always {
+    ghost may_stop = { λ _. ⊥ };
+
+    fn go(&self) -> bool {
+        true
+    }
+}
+
+// The ring has room for the receipt alone: the batch of a push waits.
+fn waits(rt: &impl Wait, client: &Client, seat: &mut Seat, query: Query, path: Path) {
+    let mut shared = client.shared.lock(rt);
+    let _listener = listening(&mut shared, seat, query);
+    let tree = Tree::null();
+    let _pushed = shared.server_message(ServerMessage::Data { tag: 1, path, tree });
+}
+
+// Whether one turn delivers a first and a second item.
+fn delivered(rt: &impl Wait, client: &Client, seat: &mut Seat) -> (bool, bool) {
+    let mut two = Two {
+        first: false,
+        second: false,
+    };
+    let _done = deliver(rt, client, seat, &mut two, &Always, 1);
+    (two.first, two.second)
+}
+
+// What one turn delivers to the first of the seats, and then another.
+fn turns(
+    rt: &impl Wait,
+    client: &Client,
+    seats: &mut [Seat],
+    query: Query,
+    path: Path,
+) -> Option<((bool, bool), (bool, bool))> {
+    match seats {
+        [first, ..] => {
+            waits(rt, client, first, query, path);
+            Some((delivered(rt, client, first), delivered(rt, client, first)))
+        }
+        [] => {
+            drop(query);
+            drop(path);
+            None
+        }
+    }
+}
+
+fn delivered_twice(
+    rt: &impl Wait,
+    alloc: Global,
+) -> Result<Option<((bool, bool), (bool, bool))>, Fail> {
+    let query = Query::at(Path::parse(alloc, "/g")?).done();
+    let path = Path::parse(alloc, "/g")?;
+    let (client, mut seats) = client_of(alloc, 1)?;
+    Ok(turns(rt, &client, &mut seats, query, path))
+}
+
+// The ring has room for one item: what waits comes in the second turn.
+#[test]
+fn turns_deliver_what_waits(rt: HostRuntime) -> Result<(), Fail> {
+    let told = delivered_twice(&rt, rt.alloc())?;
+    assert_eq!(rt; told, Some(((true, false), (true, false))));
+    Ok(())
+}
+
+// How many items a mirror takes once a seat has listened, and how many listeners it knows then.
+fn mirrored(
+    shared: &mut Shared,
+    seats: &mut [Seat],
+    mirror: &mut Mirror,
+    query: Query,
+) -> (usize, usize) {
+    match seats {
+        [first, ..] => {
+            let _listener = listening(shared, first, query);
+            match first.mirror(mirror) {
+                Ok(count) => (count, mirror.listeners().len()),
+                Err(_) => (0, 0),
+            }
+        }
+        [] => {
+            drop(query);
+            (0, 0)
+        }
+    }
+}
+
+fn mirrored_listen(rt: &impl Wait, alloc: Global) -> Result<(usize, usize), Fail> {
+    let query = Query::at(Path::parse(alloc, "/g")?).done();
+    let (client, mut seats) = client_of(alloc, 1)?;
+    let mut mirror = Mirror::new(alloc);
+    let mut shared = client.shared.lock(rt);
+    Ok(mirrored(&mut shared, &mut seats, &mut mirror, query))
+}
+
+#[test]
+fn mirror_takes_the_receipt(rt: HostRuntime) -> Result<(), Fail> {
+    let told = mirrored_listen(&rt, rt.alloc())?;
+    assert_eq!(rt; told, (1, 1));
     Ok(())
 }

@@ -1,0 +1,307 @@
+// A client, and the calls of whoever holds its connection.
+use rt_client::{Client, ClientError, MAX_SEATS, Seat, Shared};
+use rt_cover::Kept;
+use rt_mail::Mirror;
+use rt_push::PushError;
+use rt_script::{Fault, Said, Words};
+use rt_wire::{ClientMessage, ServerMessage, WireError};
+use rt_world::{CoreError, Limits, Outcome};
+use std::alloc::{AllocError, Global};
+
+// A seat, and how many items its ring has at least: receipts that nobody took.
+#[derive(Drop)]
+pub(crate) struct Chair {
+    pub(crate) seat: Seat,
+    pub(crate) owed: usize,
+}
+
+// The limits of clients; the client that was opened last; the seats of all, none where one is
+// closed; and a mirror of what was taken.
+#[derive(Drop)]
+pub(crate) struct Held {
+    pub(crate) limits: Limits,
+    pub(crate) client: Option<Client>,
+    pub(crate) chairs: Vec<Option<Chair>>,
+    pub(crate) mirror: Mirror,
+}
+
+impl Held {
+    pub(crate) fn new(alloc: Global) -> Held {
+        Held {
+            limits: Limits::full(),
+            client: None,
+            chairs: Vec::new(alloc),
+            mirror: Mirror::new(alloc),
+        }
+    }
+}
+
+const ERRORS: [ClientError; 6] = [
+    ClientError::Failed,
+    ClientError::WrongSeat,
+    ClientError::MailboxFull,
+    ClientError::TooManySeats,
+    ClientError::Core(CoreError::TooDeep),
+    ClientError::NoMemory,
+];
+
+// The words of the refusal of a number.
+fn error(alloc: Global, words: &mut Words, said: &mut Said) -> Result<(), Fault> {
+    let number = words.number()?;
+    for error in ERRORS {
+        if u64::from(error.code()) == number {
+            said.debug(alloc, &(error.code(), error));
+            said.say(error.name());
+            said.say(": ");
+            said.display(alloc, &error);
+        }
+    }
+    Ok(())
+}
+
+// The name of a refusal, and of the core's own.
+pub(crate) fn say_error(error: ClientError, said: &mut Said) {
+    said.say(error.name());
+    if let ClientError::Core(why) = error {
+        said.say(" ");
+        said.say(why.name());
+    }
+}
+
+fn limits(words: &mut Words) -> Result<Limits, Fault> {
+    Ok(Limits {
+        listeners: words.small_number()?,
+        requests: words.small_number()?,
+        last_number: words.number()?,
+    })
+}
+
+// The capacities to the end of the line.
+fn capacities(alloc: Global, words: &mut Words) -> Result<Vec<usize>, Fault> {
+    let mut capacities = Vec::new(alloc);
+    for _ in 0..words.len() {
+        if words.is_empty() {
+            break;
+        }
+        capacities.push(words.number()? as usize)?;
+    }
+    Ok(capacities)
+}
+
+// Puts seats behind those that are there; there is room for them.
+fn seat_all(chairs: &mut Vec<Option<Chair>>, seats: Vec<Seat>) {
+    for seat in seats {
+        let _ = chairs.push(Some(Chair { seat, owed: 0 }));
+    }
+}
+
+// `open NUMBER CAPACITY ..`: a client in place of the one before, whose seats stay; says how many
+// there are.
+fn open(held: &mut Held, alloc: Global, words: &mut Words, said: &mut Said) -> Result<(), Fault> {
+    let number = words.number()?;
+    let capacities = capacities(alloc, words)?;
+    held.chairs.reserve(capacities.len())?;
+    match Client::open(alloc, number, capacities.as_slice(), held.limits) {
+        Ok((client, seats)) => {
+            held.client = Some(client);
+            seat_all(&mut held.chairs, seats);
+            said.debug(alloc, &held.chairs.len());
+        }
+        Err(ClientError::NoMemory) => return Err(Fault::NoMemory),
+        Err(error) => say_error(error, said),
+    }
+    Ok(())
+}
+
+// Whether an answer is that the client has failed.
+pub(crate) fn is_failed(answer: Option<ClientError>) -> bool {
+    answer == Some(ClientError::Failed)
+}
+
+// Whether a client that lacked memory answers no more than push keys.
+pub(crate) fn has_failed(shared: &mut Shared) -> bool {
+    is_failed(shared.connected().err())
+        && is_failed(shared.disconnected().err())
+        && is_failed(
+            shared
+                .server_message(ServerMessage::Accepted { id: 1 })
+                .err(),
+        )
+        && is_failed(shared.take_outgoing().err())
+        && is_failed(shared.cover().err())
+        && shared.push_key(1, [0; 12]).is_ok()
+}
+
+// Whether a ring gives at least what it is known to hold.
+pub(crate) fn gives_all(chair: &mut Chair) -> bool {
+    for _ in 0..chair.owed {
+        if chair.seat.next().is_none() {
+            return false;
+        }
+    }
+    true
+}
+
+fn give_all(chairs: &mut [Option<Chair>]) -> bool {
+    for chair in chairs {
+        if let Some(chair) = chair {
+            if !gives_all(chair) {
+                return false;
+            }
+        }
+    }
+    true
+}
+
+// A client that lacked memory has failed, and its seats' rings give what they hold.
+fn failed(shared: &mut Shared, chairs: &mut [Option<Chair>]) -> Fault {
+    if has_failed(shared) && give_all(chairs) {
+        Fault::Failed
+    } else {
+        Fault::NoSuchCall
+    }
+}
+
+fn read(alloc: Global, text: &str) -> Result<ServerMessage, Fault> {
+    match ServerMessage::read(alloc, text) {
+        Ok(message) => Ok(message),
+        Err(WireError::NoMemory) => Err(Fault::NoMemory),
+        Err(_) => Err(Fault::NoSuchCall),
+    }
+}
+
+// A step of the connection: `connected`, `disconnected` or `server MESSAGE`.
+fn made(
+    shared: &mut Shared,
+    name: &str,
+    alloc: Global,
+    words: &mut Words,
+) -> Result<Result<Outcome, ClientError>, Fault> {
+    match name {
+        "connected" => Ok(shared.connected()),
+        "disconnected" => Ok(shared.disconnected()),
+        "server" => Ok(shared.server_message(read(alloc, words.next()?)?)),
+        _ => Err(Fault::NoSuchCall),
+    }
+}
+
+fn make(
+    shared: &mut Shared,
+    chairs: &mut [Option<Chair>],
+    name: &str,
+    alloc: Global,
+    words: &mut Words,
+    said: &mut Said,
+) -> Result<(), Fault> {
+    match made(shared, name, alloc, words)? {
+        Ok(outcome) => said.debug(alloc, &outcome),
+        Err(ClientError::NoMemory) => return Err(failed(shared, chairs)),
+        Err(error) => say_error(error, said),
+    }
+    Ok(())
+}
+
+// Says a message. One whose text lacked memory is made once more by the caller.
+fn say_text(made: Result<String, AllocError>, said: &mut Said) -> bool {
+    match made {
+        Ok(text) => said.say(text.as_str()),
+        Err(_) => {
+            said.say("NoMemory\n");
+            return false;
+        }
+    }
+    true
+}
+
+fn say_message(message: Option<&ClientMessage>, alloc: Global, said: &mut Said) {
+    match message {
+        Some(message) => {
+            let _ = say_text(message.text(alloc), said) || say_text(message.text(alloc), said);
+        }
+        None => said.say("none"),
+    }
+}
+
+// The first message that is to be sent, or `none`.
+fn out(shared: &mut Shared, alloc: Global, said: &mut Said) {
+    match shared.take_outgoing() {
+        Ok(message) => say_message(message.as_ref(), alloc, said),
+        Err(error) => say_error(error, said),
+    }
+}
+
+fn say_kept(alloc: Global, listens: &[Kept], said: &mut Said) {
+    if listens.is_empty() {
+        said.say("none");
+    }
+    for kept in listens {
+        said.debug(alloc, &(kept.tag, kept.listener));
+        said.display(alloc, kept.query.path());
+    }
+}
+
+// The listens kept, each with its tag, its listener and its path. A client that lacked memory for it
+// goes on.
+fn cover(shared: &Shared, alloc: Global, said: &mut Said) -> Result<(), Fault> {
+    match shared.cover() {
+        Ok(kept) => say_kept(alloc, kept.as_slice(), said),
+        Err(ClientError::NoMemory) => return Err(Fault::NoMemory),
+        Err(error) => say_error(error, said),
+    }
+    Ok(())
+}
+
+fn say_key(key: Result<[u8; 20], PushError>, said: &mut Said) {
+    match key {
+        Ok(id) => said.say(str::from_utf8(&id).unwrap_or("no text")),
+        Err(error) => said.say(error.name()),
+    }
+}
+
+// `push_key MOMENT DIGIT`: the push id of a moment, and of twelve times that digit.
+fn push_key(shared: &mut Shared, words: &mut Words, said: &mut Said) -> Result<(), Fault> {
+    let moment = words.number()?;
+    let digit = words.next()?.parse().map_err(|_| Fault::NoSuchCall)?;
+    say_key(shared.push_key(moment, [digit; 12]), said);
+    Ok(())
+}
+
+// Calls on the locked value of the client that was opened last.
+fn call_locked(
+    held: &mut Held,
+    name: &str,
+    alloc: Global,
+    words: &mut Words,
+    said: &mut Said,
+) -> Result<(), Fault> {
+    let Some(client) = &mut held.client else {
+        return Err(Fault::NoSuchCall);
+    };
+    let shared = client.shared.get_mut();
+    match name {
+        "out" => out(shared, alloc, said),
+        "cover" => cover(shared, alloc, said)?,
+        "push_key" => push_key(shared, words, said)?,
+        _ => make(shared, held.chairs.as_mut_slice(), name, alloc, words, said)?,
+    }
+    Ok(())
+}
+
+pub(crate) fn call(
+    held: &mut Held,
+    alloc: Global,
+    words: &mut Words,
+    said: &mut Said,
+) -> Result<(), Fault> {
+    match words.next()? {
+        "error" => error(alloc, words, said)?,
+        "most" => said.debug(alloc, &MAX_SEATS),
+        "limits" => {
+            held.limits = limits(words)?;
+            said.debug(alloc, &held.limits);
+        }
+        "open" => open(held, alloc, words, said)?,
+        name => call_locked(held, name, alloc, words, said)?,
+    }
+    Ok(())
+}

@@ -1,0 +1,35 @@
+-- A seat's items given to a sink, turn by turn.
+use Rattle.std.proofs.Common.{◌≡◌, ℕ, ◌+◌, ◌*◌, ◌≤◌, inl, inr, [], ◌++◌, length, sym, ap, subst, ◌∙◌, append_assoc, arith}
+use Rattle.std.proofs.lemmas.List.{length-append}
+use Rattle.std.proofs.lemmas.List.Sums.{fold-append}
+use Rattle.std.specs.List.{fold}
+use Rattle.rt_mail.specs.declared.item.Item.{Item}
+use Rattle.rt_client.specs.Calls.{Seated}
+use Rattle.rt_client.specs.Delivery.{emptied, HandsOut, AfterTurns}
+
+more : (n capacity first rest : ℕ) → first ≤ n * capacity → rest ≤ 1 * capacity → first + rest ≤ (n + 1) * capacity
+more n capacity first rest a b = grind arith
+
+-- after some turns another one
+hands_again : {S : Type 0} (after : S → Item → S) (n : ℕ) (had : Seated) (old : S) (mid : Seated) (between : S) (left : Seated) (new : S)
+    → HandsOut after n had old mid between → HandsOut after 1 mid between left new → HandsOut after (n + 1) had old left new
+hands_again after n had old mid between left new h t =
+    let empty : mid.ring.items ≡ [] = ap (λ s. s.ring.items) h.seat in
+    let fits : length t.came ≤ 1 * had.ring.capacity = subst (λ s. length t.came ≤ 1 * s.ring.capacity) h.seat t.fits in
+    record {
+      came = h.came ++ t.came;
+      fits = subst (λ k. k ≤ (n + 1) * had.ring.capacity) (sym (length-append h.came t.came)) (more n had.ring.capacity (length h.came) (length t.came) h.fits fits);
+      sink =
+          t.sink
+          ∙ ap (λ xs. fold after between (xs ++ t.came)) empty
+          ∙ ap (λ s. fold after s t.came) h.sink
+          ∙ sym (fold-append after old (had.ring.items ++ h.came) t.came)
+          ∙ ap (λ xs. fold after old xs) (append_assoc had.ring.items h.came t.came);
+      seat = t.seat ∙ ap emptied h.seat;
+    }
+
+pub another_turn : {S : Type 0} (after : S → Item → S) (n : ℕ) (had : Seated) (old : S) (mid : Seated) (between : S) (left : Seated) (new : S)
+    → AfterTurns after n had old mid between → HandsOut after 1 mid between left new → AfterTurns after (n + 1) had old left new
+another_turn after n had old mid between left new (inl same) t =
+    inr (omega arith, subst (λ k. HandsOut after (k + 1) had old left new) (sym same.0) (subst (λ s. HandsOut after 1 s old left new) same.1 (subst (λ s. HandsOut after 1 mid s left new) same.2 t)))
+another_turn after n had old mid between left new (inr h) t = inr (omega arith, hands_again after n had old mid between left new h.1 t)

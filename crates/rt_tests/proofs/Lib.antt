@@ -1,0 +1,3 @@
+pub mod Captured
+pub mod Clients
+pub mod Crossing
