@@ -20,10 +20,10 @@ use Rattle.clap.specs.Words.{subcommand_rows, subcommand_rows_of}
 use Rattle.rt_tree.specs.Path.{path_fault, path_keys}
 use Rattle.rt_tree.specs.PathTree.{Path, PathTree}
 use Rattle.rt_tree.specs.declared.error.TreeError.{TreeError}
-use Rattle.rt_console.specs.Words.{Gives, denied_of, number_of, serving_of, tree_of, work_of}
+use Rattle.rt_console.specs.Words.{Gives, denied_of, number_of, other_of, serving_of, tree_of, work_of}
 use Rattle.rt_console.specs.declared.words.Serving.{Serving}
 use Rattle.rt_console.specs.declared.words.Work.{Work}
-use Rattle.rt_console.specs.declared.words.Work.TheVariants.{Script, Serve}
+use Rattle.rt_console.specs.declared.words.Work.TheVariants.{Connect, Script, Serve}
 
 -- the faults of words, by those of clap and by what is asked for
 abbrev pub faults_by : Kinds → Option Work → Kinds
@@ -114,33 +114,51 @@ served_by rows port count tree denied p n e f =
 
 -- ---- the subcommand
 
+same : (a b : List ℕ) → bytes_eq a b ≡ true → a ≡ b
+same a b e = (bytes_eq-Decides a b).0 e
+
 module _ {Z : Type 0} where
-  serve_in : (o : Option (Box SubCommand Z)) (rows : List Row)
-      → option_map (λ b. (out-SubCommand (box_value b)).name.now) o ≡ Some (codes "serve")
-      → option_map (λ p. p.1) (subcommand_rows o) ≡ Some rows → subcommand_rows o ≡ Some (codes "serve", rows)
-  serve_in None rows e f = cc
-  serve_in (Some b) rows e f = cc
+  named_in : (o : Option (Box SubCommand Z)) (name : List ℕ) (rows : List Row)
+      → option_map (λ b. (out-SubCommand (box_value b)).name.now) o ≡ Some name
+      → option_map (λ p. p.1) (subcommand_rows o) ≡ Some rows → subcommand_rows o ≡ Some (name, rows)
+  named_in None name rows e f = cc
+  named_in (Some b) name rows e f = cc
 
   other_in : (o : Option (Box SubCommand Z))
       → (option_map (λ b. (out-SubCommand (box_value b)).name.now) o ≡ Some (codes "serve") → ⊥)
-      → work_of (subcommand_rows o) ≡ Some Script
+      → work_of (subcommand_rows o) ≡ Some (other_of (subcommand_rows o))
   other_in None h = refl
   other_in (Some b) h =
       let name : List ℕ = (out-SubCommand (box_value b)).name.now in
+      let rows : List Row = rows_of (found_of (out-SubCommand (box_value b)).matches) in
       elim (bytes_eq name (codes "serve")) as (λ t. bytes_eq name (codes "serve") ≡ t
-      → (if t then option_map Serve (serving_of (rows_of (found_of (out-SubCommand (box_value b)).matches))) else Some Script)
-      ≡ Some Script) [
-        | true ↦ λ e. absurd (h (ap Some (same name e)))
+      → (if t then option_map Serve (serving_of rows) else Some (other_of (Some (name, rows))))
+      ≡ Some (other_of (Some (name, rows)))) [
+        | true ↦ λ e. absurd (h (ap Some (same name (codes "serve") e)))
         | false ↦ λ e. refl
       ] refl
-    where
-      same : (name : List ℕ) → bytes_eq name (codes "serve") ≡ true → name ≡ codes "serve"
-      same name e = (bytes_eq-Decides name (codes "serve")).0 e
 
-pub serve_entered : (m : ArgMatches) (rows : List Row) → subcommand_name_of m ≡ Some (codes "serve")
-    → option_map (λ p. p.1) (subcommand_rows_of m) ≡ Some rows → subcommand_rows_of m ≡ Some (codes "serve", rows)
-serve_entered m rows e f = serve_in (out-ArgMatches m).subcommand rows e f
+  script_in : (o : Option (Box SubCommand Z))
+      → (option_map (λ b. (out-SubCommand (box_value b)).name.now) o ≡ Some (codes "connect") → ⊥)
+      → other_of (subcommand_rows o) ≡ Script
+  script_in None h = refl
+  script_in (Some b) h =
+      let name : List ℕ = (out-SubCommand (box_value b)).name.now in
+      let rows : List Row = rows_of (found_of (out-SubCommand (box_value b)).matches) in
+      elim (bytes_eq name (codes "connect")) as (λ t. bytes_eq name (codes "connect") ≡ t
+      → (if t then Connect (number_of (one_of (codes "PORT") rows)) else Script) ≡ Script) [
+        | true ↦ λ e. absurd (h (ap Some (same name (codes "connect") e)))
+        | false ↦ λ e. refl
+      ] refl
+
+pub entered : (m : ArgMatches) (name : List ℕ) (rows : List Row) → subcommand_name_of m ≡ Some name
+    → option_map (λ p. p.1) (subcommand_rows_of m) ≡ Some rows → subcommand_rows_of m ≡ Some (name, rows)
+entered m name rows e f = named_in (out-ArgMatches m).subcommand name rows e f
 
 pub other_entered : (m : ArgMatches) → (subcommand_name_of m ≡ Some (codes "serve") → ⊥)
-    → work_of (subcommand_rows_of m) ≡ Some Script
+    → work_of (subcommand_rows_of m) ≡ Some (other_of (subcommand_rows_of m))
 other_entered m h = other_in (out-ArgMatches m).subcommand h
+
+pub script_entered : (m : ArgMatches) → (subcommand_name_of m ≡ Some (codes "connect") → ⊥)
+    → other_of (subcommand_rows_of m) ≡ Script
+script_entered m h = script_in (out-ArgMatches m).subcommand h

@@ -1,10 +1,11 @@
 -- What lines print, which is written in pieces.
 use Rattle.std.proofs.Common.{◌≡◌, ℕ, List, [], ◌∷◌, ◌++◌, Bool, true, false, cond, Option, Some, None, Result, Ok, Err, IfOk, OnOk, string_bytes, refl, sym, ap, subst, ◌∙◌, append-nil, append_assoc}
-use Rattle.std.specs.Io.KnownBytes.{Appends, Keeps}
+use Rattle.std.specs.Io.KnownBytes.{Appends}
+use Rattle.rt_input.specs.Lines.{lines_of}
 use Rattle.rt_lines.specs.State.{State}
 use Rattle.rt_lines.specs.Doing.{bytes_done, is_good}
 use Rattle.rt_console.specs.declared.script.Script.{Script}
-use Rattle.rt_console.specs.Run.{Progress, Ran, after_line, after_lines, lines_of, one_more, start}
+use Rattle.rt_console.specs.Run.{Progress, Ran, after_line, after_lines, one_more, start}
 use Rattle.rt_console.specs.inside.Pieces.{Runs, so_far}
 
 -- ---- answers
@@ -12,10 +13,6 @@ use Rattle.rt_console.specs.inside.Pieces.{Runs, so_far}
 pub on_ok : {A E : Type 0} (P Q : Type 0) (r : Result A E) → (P → Q) → OnOk r P → OnOk r Q
 on_ok P Q (Ok x) f h = f h
 on_ok P Q (Err e) f h = h
-
-pub on_ok_always : {A E : Type 0} (P : Type 0) (r : Result A E) → P → OnOk r P
-on_ok_always P (Ok x) h = h
-on_ok_always P (Err e) h = tt
 
 pub if_ok_three : {A E : Type 0} (P Q : Type 0) (F G : A → Type 0) (r : Result A E) → ((x : A) → P → Q → F x → G x) → OnOk r P → OnOk r Q → IfOk r F → IfOk r G
 if_ok_three P Q F G (Ok x) f p q h = f x p q h
@@ -36,12 +33,6 @@ Appends-trans None b c bs cs p q = tt
 Appends-trans (Some x) None c bs cs p q = absurd p
 Appends-trans (Some x) (Some y) None bs cs p q = absurd q
 Appends-trans (Some x) (Some y) (Some z) bs cs p q = q ∙ ap (λ l. l ++ cs) p ∙ append_assoc x bs cs
-
-pub Appends-kept : (a b c : Option (List ℕ)) (bs : List ℕ) → Appends a b bs → Keeps b c → Appends a c bs
-Appends-kept None b c bs p q = tt
-Appends-kept (Some x) None c bs p q = absurd p
-Appends-kept (Some x) (Some y) None bs p q = absurd q
-Appends-kept (Some x) (Some y) (Some z) bs p q = q ∙ p
 
 -- ---- how far a run is
 
@@ -109,11 +100,11 @@ Ran-whole text n c0 c1 s (w, a, e) nothing counted =
 
 -- ---- a line
 
--- the line that was read is done
-pub line_done : (old new : Script) (bytes : List ℕ) (number : ℕ) → bytes ≡ old.line.items → number ≡ one_more old.lines → new.lines ≡ number → new.state ≡ (bytes_done number bytes old.state).state → string_bytes new.printed ≡ string_bytes old.printed ++ (bytes_done number bytes old.state).printed → new.bad_lines ≡ cond (is_good bytes) old.bad_lines (one_more old.bad_lines) → so_far [] new ≡ after_line old.line.items (so_far [] old)
-line_done old new bytes number same counted lines core printed bad =
-    let done : bytes_done number bytes old.state ≡ bytes_done (one_more old.lines) old.line.items old.state = ap (λ n. bytes_done n bytes old.state) counted ∙ ap (λ b. bytes_done (one_more old.lines) b old.state) same in
-    same_progress new.state _ (string_bytes new.printed) _ new.lines _ new.bad_lines _ (core ∙ ap (λ d. d.state) done) (printed ∙ ap (λ d. string_bytes old.printed ++ d.printed) done) (lines ∙ counted) (bad ∙ ap (λ b. cond (is_good b) old.bad_lines (one_more old.bad_lines)) same)
+-- a line is done
+pub line_done : (old new : Script) (bytes : List ℕ) (number : ℕ) → number ≡ one_more old.lines → new.lines ≡ number → new.state ≡ (bytes_done number bytes old.state).state → string_bytes new.printed ≡ string_bytes old.printed ++ (bytes_done number bytes old.state).printed → new.bad_lines ≡ cond (is_good bytes) old.bad_lines (one_more old.bad_lines) → so_far [] new ≡ after_line bytes (so_far [] old)
+line_done old new bytes number counted lines core printed bad =
+    let done : bytes_done number bytes old.state ≡ bytes_done (one_more old.lines) bytes old.state = ap (λ n. bytes_done n bytes old.state) counted in
+    same_progress new.state _ (string_bytes new.printed) _ new.lines _ new.bad_lines _ (core ∙ ap (λ d. d.state) done) (printed ∙ ap (λ d. string_bytes old.printed ++ d.printed) done) (lines ∙ counted) bad
 
 pub counts-good : (good : Bool) (n m k : ℕ) → good ≡ true → n ≡ m → n ≡ cond good m k
 counts-good true n m k e f = f

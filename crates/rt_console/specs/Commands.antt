@@ -45,6 +45,12 @@ serve_app =
     with_rule (with_rule (with_rule (with_rule (new_app (codes "serve")) port_rule) count_rule) tree_rule)
     deny_rule
 
--- `script` and `serve`
+-- `connect PORT`
+abbrev pub connect_app : App
+connect_app = with_rule (new_app (codes "connect")) port_rule
+
+-- `script`, `serve` and `connect`
 abbrev pub console_app : App
-console_app = with_subcommand (with_subcommand base_app (new_app (codes "script")).top) serve_app.top
+console_app =
+    with_subcommand (with_subcommand (with_subcommand base_app (new_app (codes "script")).top) serve_app.top)
+    connect_app.top

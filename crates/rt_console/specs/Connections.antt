@@ -1,4 +1,4 @@
--- What clients that come one after another leave of a peer.
+-- What clients that come one after another leave of a peer, and how a client ends.
 use Rattle.std.specs.Prelude.{◌≡◌, ◌≤◌, ℕ, suc, Bool, true, ⊤, List, [], ◌∷◌, length, Option, Some, None, Result, Ok, Err}
 use Rattle.std.specs.List.{AllByRecursion, fold}
 use Rattle.rt_tree.specs.PathTree.{Path}
@@ -6,6 +6,9 @@ use Rattle.rt_peer.specs.Peers.{Peer, least_free}
 use Rattle.rt_peer.specs.Runs.{after_all}
 use Rattle.rt_serve.specs.Sessions.{session}
 use Rattle.rt_serve.specs.declared.serve.TheConstants.{MAX_MESSAGES}
+use Rattle.rt_input.specs.Faults.{Counts, Tells}
+use Rattle.rt_console.specs.declared.connect.ConnectFault.{ConnectFault}
+use Rattle.rt_console.specs.declared.connect.ConnectFault.TheVariants.{Ended, NotConnected}
 use Rattle.rt_console.specs.declared.serve.ServeFault.{ServeFault}
 use Rattle.rt_console.specs.declared.serve.ServeFault.TheVariants.{NotBound, NotAccepted, NoMemory}
 
@@ -58,3 +61,11 @@ abbrev pub Stops : ℕ → ServeFault → Bool → Bool → Type 0
 Stops port (NotBound p why) old new = ⊥
 Stops port (NotAccepted p why) old new = (p ≡ port) × (new ≡ true)
 Stops port NoMemory old new = new ≡ old
+
+-- ---- a client
+
+-- a client ends early: no connection to the port is made, and nothing is read or written, or a fault of
+-- the reader or the writer, or want of memory
+abbrev pub EndsBy : ℕ → ConnectFault → Counts → Counts → Type 0
+EndsBy port (NotConnected p why) old new = (p ≡ port) × (new ≡ old)
+EndsBy port (Ended e) old new = Tells e old new

@@ -1,20 +1,12 @@
 -- A run of a script: its lines are done one after another, numbered from 1, on a new core and a
 -- source of push ids that has given none.
-use Rattle.std.specs.Prelude.{◌≡◌, ℕ, ◌+◌, ◌-◌, ◌^◌, ◌==◌, min, if◌then◌else◌, List, [], ◌∷◌, ◌++◌}
+use Rattle.std.specs.Prelude.{◌≡◌, ℕ, ◌+◌, ◌-◌, ◌^◌, min, if◌then◌else◌, List, [], ◌∷◌, ◌++◌}
 use Rattle.std.specs.Prelude.{Option}
 use Rattle.std.specs.Io.KnownBytes.{Appends}
-use Rattle.std.specs.List.{slice_split}
+use Rattle.rt_input.specs.Lines.{lines_of}
 use Rattle.rt_world.specs.World.{limits_from, full_limits}
 use Rattle.rt_lines.specs.State.{State, new_state}
 use Rattle.rt_lines.specs.Doing.{bytes_done, is_good}
-
--- the most bytes of input that a run takes
-abbrev pub most_input : ℕ
-most_input = 67108864
-
--- the lines of a text: its pieces between line feeds
-abbrev pub lines_of : List ℕ → List (List ℕ)
-lines_of text = slice_split (λ b. b == 10) text
 
 -- how far a run is: what its lines act on, what was printed, and how many lines were done and how
 -- many of them were bad

@@ -19,7 +19,7 @@ use Rattle.rt_tree.specs.Trees.{null}
 use Rattle.rt_console.specs.Commands.{console_app}
 use Rattle.rt_console.specs.declared.words.Serving.{Serving}
 use Rattle.rt_console.specs.declared.words.Work.{Work}
-use Rattle.rt_console.specs.declared.words.Work.TheVariants.{Script, Serve}
+use Rattle.rt_console.specs.declared.words.Work.TheVariants.{Connect, Script, Serve}
 
 -- ---- what is asked for
 
@@ -50,11 +50,18 @@ serving_of rows =
       denied = denied;
     }) (denied_of (first_of (codes "deny") rows))) (tree_of (first_of (codes "tree") rows))
 
+-- what a subcommand asks for, by its name and its entries, where it is not `serve`
+abbrev pub other_of : Option (List ℕ × List Row) → Work
+other_of None = Script
+other_of (Some (name, rows)) =
+    if bytes_eq name (codes "connect") then Connect (number_of (one_of (codes "PORT") rows)) else Script
+
 -- what the subcommand asks for, by its name and its entries
 abbrev pub work_of : Option (List ℕ × List Row) → Option Work
 work_of None = Some Script
 work_of (Some (name, rows)) =
-    if bytes_eq name (codes "serve") then option_map Serve (serving_of rows) else Some Script
+    if bytes_eq name (codes "serve") then option_map Serve (serving_of rows)
+    else Some (other_of (Some (name, rows)))
 
 -- what words ask for that are a command to clap
 abbrev pub asked : List (List ℕ) → Option Work

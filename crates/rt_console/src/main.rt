@@ -1,19 +1,21 @@
-//! The console: runs a script of lines over one core, and prints what each line answers.
+//! The console: runs a script of lines over one core, serves a peer, or drives a client by lines.
 #![tactic(auto)]
 
 mod arguments;
-mod error;
+mod connect;
 mod script;
 mod serve;
-mod stream;
 mod words;
 
-use error::ConsoleError;
+use connect::connect;
+use rt_input::{ConsoleError, Reading, Writing};
 use serve::serve;
 use std::alloc::Global;
 use std::fmt::Display;
+use std::net::Net;
 use std::process::ExitCode;
-use stream::{Reading, Writing};
+use std::random::RandomSource;
+use std::sync::Wait;
 use words::{PROGRAM, Serving, Work};
 
 // Runs the script of the standard input.
@@ -46,26 +48,47 @@ fn status_of_serving(rt: &HostRuntime, serving: Serving) -> u8 {
     }
 }
 
+// Connects a client that the lines of the standard input drive, and answers the exit status: 1 where a
+// fault or a bad line was printed. It takes the system twice, since only `main` has it as one that waits.
+fn status_of_connection<R: Net + Wait + RandomSource>(
+    rt: &R,
+    system: &HostRuntime,
+    port: u16,
+) -> u8 {
+    let mut reader = Reading::new(system.stdin());
+    let mut writer = Writing::new(system.stdout());
+    match connect(rt, system.alloc(), port, &mut reader, &mut writer) {
+        Ok(0) => 0,
+        Ok(_) => 1,
+        Err(fault) => say_fault(system, &fault),
+    }
+}
+
 // Does the work, and answers the exit status.
-fn status_of_work(rt: &HostRuntime, work: Work) -> u8 {
+fn status_of_work<R: Net + Wait + RandomSource>(rt: &R, system: &HostRuntime, work: Work) -> u8 {
     match work {
-        Work::Script => status_of_script(rt),
-        Work::Serve(serving) => status_of_serving(rt, serving),
+        Work::Script => status_of_script(system),
+        Work::Serve(serving) => status_of_serving(system, serving),
+        Work::Connect { port } => status_of_connection(rt, system, port),
     }
 }
 
 // Does what the words ask for, and answers the exit status.
-fn status_of_words(rt: &HostRuntime, words: &[String]) -> u8 {
-    match words::read_words(rt.alloc(), words) {
-        Ok(work) => status_of_work(rt, work),
-        Err(ConsoleError::BadWords) => words::explain(rt, rt.alloc(), words),
-        Err(error) => say_fault(rt, &error),
+fn status_of_words<R: Net + Wait + RandomSource>(
+    rt: &R,
+    system: &HostRuntime,
+    words: &[String],
+) -> u8 {
+    match words::read_words(system.alloc(), words) {
+        Ok(work) => status_of_work(rt, system, work),
+        Err(ConsoleError::BadWords) => words::explain(system, system.alloc(), words),
+        Err(error) => say_fault(system, &error),
     }
 }
 
 fn main(rt: HostRuntime) -> ExitCode {
     let status = match arguments::words_of(&rt, rt.alloc()) {
-        Ok(words) => status_of_words(&rt, words.as_slice()),
+        Ok(words) => status_of_words(&rt, &rt, words.as_slice()),
         Err(error) => {
             let _ = eprintln!(&rt; "{PROGRAM}: {error}");
             error.status()

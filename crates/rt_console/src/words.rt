@@ -5,15 +5,15 @@ ghost use Rattle.clap.specs.Words.{app_of, new_app, FailsBy, first_of, found_of,
 ghost use Rattle.clap.specs.Words.{rule_of, subcommand_rows_of};
 ghost use Rattle.clap.specs.Values.{kind_of};
 ghost use Rattle.clap.specs.declared.builder.command.Command.TheViews.{out-Command as fields_of};
-ghost use Rattle.rt_console.specs.Commands.{base_app, console_app, count_rule, deny_rule, port_rule};
-ghost use Rattle.rt_console.specs.Commands.{serve_app, tree_rule, whole};
+ghost use Rattle.rt_console.specs.Commands.{base_app, connect_app, console_app, count_rule, deny_rule};
+ghost use Rattle.rt_console.specs.Commands.{port_rule, serve_app, tree_rule, whole};
 ghost use Rattle.rt_console.specs.Words.{asked, denied_of, faults_of, Gives, IsExplained, number_of};
-ghost use Rattle.rt_console.specs.Words.{serving_of, status_of, tree_of, work_of};
+ghost use Rattle.rt_console.specs.Words.{other_of, serving_of, status_of, tree_of, work_of};
 
-use crate::error::ConsoleError;
 use clap::builder::ValueParser;
 use clap::error::ErrorKind;
 use clap::{Arg, ArgMatches, Command, Error, value_parser};
+use rt_input::ConsoleError;
 use rt_tree::{Path, Tree, TreeError};
 use std::alloc::{AllocError, Global};
 use std::convert::AsStr;
@@ -73,6 +73,23 @@ Exit status: 0 once N clients came and went; 1 a fault, such as a port that is t
 
 Example: kaltewi serve 8080 --count 2 --tree '{\"a\":1}' --deny /secret";
 
+const CONNECT: &str = "\
+Connects a client to 127.0.0.1:PORT over a WebSocket, and drives it by lines from standard input";
+
+const DRIVING: &str = "\
+The client has eight seats, with the numbers 1 to 8. The lines are some of those of 'kaltewi script':
+  listen, unlisten, set, update, remove, onDisconnect, close and cover
+with what they print there, and
+  [\"read\",N]                             reads N messages of the server, from 1 to 1000
+A message prints 'done' or 'stale', or why it can't be read or taken: 'refused LAYER CODE NAME'.
+What a seat is told then, settled, ended or changed, is printed seat by seat.
+Where the connection fails or ends 'disconnected' is printed, and the lines go on.
+A line that is none of these prints 'bad line N', and the run goes on.
+Exit status: 0 done; 1 a fault, or a bad line was printed; 2 a bad command line.
+
+Example: kaltewi serve 8080 in one terminal, and in another
+  printf '%s\\n' '[\"listen\",1,\"/a\",[]]' '[\"read\",1]' | kaltewi connect 8080";
+
 /// What `serve` is to do.
 #[derive(Debug, Drop)]
 pub struct Serving {
@@ -93,6 +110,8 @@ pub enum Work {
     Script,
     /// Serve the peer.
     Serve(Serving),
+    /// Connect a client to the port, and drive it by the lines of the standard input.
+    Connect { port: u16 },
 }
 
 // `script`
@@ -171,6 +190,18 @@ fn serve_command<'a>(alloc: Global) -> Result<Command<'a>, AllocError>
     Ok(command)
 }
 
+// `connect`
+fn connect_command<'a>(alloc: Global) -> Result<Command<'a>, AllocError>
+    ensures app { IfOk result (λ command. app_of command ≡ connect_app) }
+    ensures local { IfOk result (λ command. (fields_of command).has_globals ≡ false) }
+{
+    let command = Command::new(alloc, "connect")
+        .about(CONNECT)
+        .after_help(DRIVING)
+        .arg(port_arg(alloc))?;
+    Ok(command)
+}
+
 // The program, with no subcommand yet.
 fn base_command<'a>(alloc: Global) -> Result<Command<'a>, AllocError>
     ensures app { IfOk result (λ command. app_of command ≡ base_app) }
@@ -190,7 +221,11 @@ fn console_command<'a>(alloc: Global) -> Result<Command<'a>, AllocError>
 {
     let base = base_command(alloc)?;
     let serve = serve_command(alloc)?;
-    let command = base.subcommand(script_command(alloc))?.subcommand(serve)?;
+    let connect = connect_command(alloc)?;
+    let command = base
+        .subcommand(script_command(alloc))?
+        .subcommand(serve)?
+        .subcommand(connect)?;
     Ok(command)
 }
 
@@ -259,13 +294,25 @@ fn read_serving(alloc: Global, entries: &ArgMatches<'_>) -> Result<Serving, Erro
     })
 }
 
-// The work that the subcommand names. There is none but `serve` and `script`.
+// The work that the subcommand names, where it is not `serve`.
+fn read_other(matches: &ArgMatches<'_>) -> Work
+    ensures { result ≡ other_of (subcommand_rows_of matches.now) }
+{
+    match matches.subcommand_matches("connect") {
+        Some(entries) => Work::Connect {
+            port: number(entries, "PORT"),
+        },
+        None => Work::Script,
+    }
+}
+
+// The work that the subcommand names. There is none but `serve`, `connect` and `script`.
 fn read_work(alloc: Global, matches: &ArgMatches<'_>) -> Result<Work, Error>
     ensures { Gives (work_of (subcommand_rows_of matches.now)) result }
 {
     match matches.subcommand_matches("serve") {
         Some(entries) => Ok(Work::Serve(read_serving(alloc, entries)?)),
-        None => Ok(Work::Script),
+        None => Ok(read_other(matches)),
     }
 }
 
@@ -325,7 +372,7 @@ pub(crate) fn explain<'a, R: Print + Eprint, S: AsStr>(rt: &R, alloc: Global, wo
     ensures { IsExplained (faults_of (map S.text words.entry.now)) result }
 {
     match command_line(alloc, words) {
-        Ok(Work::Script | Work::Serve(_)) => 0,
+        Ok(Work::Script | Work::Serve(_) | Work::Connect { .. }) => 0,
         Err(error) => print_error(rt, &error),
     }
 }

@@ -3,7 +3,8 @@
 -- JSON data have the form of a line), Reading (paths, trees and entries, and what refuses them), Drafts
 -- (the query that calls make), Lines (what a line asks for), Refusals (layers, numbers and names of
 -- refusals), Printing (what is printed), State (what lines act on), Doing (what a line does to it, and
--- what it prints).
+-- what it prints),
+-- Orders (what a line asks of a client that is connected).
 -- laws/ has lines and texts that the prover computes.
 pub mod Calls
 pub mod Doing
@@ -12,6 +13,7 @@ pub mod Forms
 pub mod inside
 pub mod laws
 pub mod Lines
+pub mod Orders
 pub mod Printing
 pub mod Reading
 pub mod Refusals

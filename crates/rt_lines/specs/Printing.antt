@@ -93,9 +93,12 @@ abbrev pub report_text : Report → List ℕ
 report_text r = line (outcome_text r.outcome r.given) ++ flat_map note_text r.notes
 
 -- `refused LAYER CODE NAME`
+abbrev pub refused_line : List ℕ → ℕ → List ℕ → List ℕ
+refused_line layer code name =
+    line (codes "refused " ++ layer ++ codes " " ++ decimal code ++ codes " " ++ name)
+
 abbrev pub refusal_text : Refusal → List ℕ
-refusal_text r =
-    line (codes "refused " ++ layer_of r ++ codes " " ++ decimal (code_of r) ++ codes " " ++ name_of r)
+refusal_text r = refused_line (layer_of r) (code_of r) (name_of r)
 
 -- a line of no form
 abbrev pub bad_line : ℕ → List ℕ

@@ -99,7 +99,7 @@ fn write_change_line(
 }
 
 /// Prints the changes of a listener's view, a line each.
-pub(crate) fn write_batch(out: &mut String, alloc: Global, batch: &Batch) -> Result<(), AllocError>
+pub fn write_batch(out: &mut String, alloc: Global, batch: &Batch) -> Result<(), AllocError>
     ensures { OnOk result (Appends out.old out.new (batch_text batch.now)) }
 {
     let listener = batch.listener;

@@ -389,8 +389,12 @@ fn listen<'a>(alloc: Global, words: &'a [Value]) -> Result<Form<'a>, LineError>
     Ok(Form::Listen { seat, path, calls })
 }
 
-// A line of that name.
-fn named<'a>(alloc: Global, name: &str, words: &'a [Value]) -> Result<Form<'a>, LineError>
+/// A line of that name.
+pub(crate) fn named<'a>(
+    alloc: Global,
+    name: &str,
+    words: &'a [Value],
+) -> Result<Form<'a>, LineError>
     ensures ok { IfOk result (λ form. form_named name.now (views words.entry.now)
         ≡ Some (as_form form)) }
     ensures err { IfErr result (λ e.

@@ -19,15 +19,21 @@ mod error;
 pub mod examples;
 mod form;
 mod line;
+mod order;
 mod reading;
 mod report;
 mod show;
 mod state;
 mod word;
 
+pub use change::write_batch;
 pub use doing::{do_bytes, do_line};
 pub use error::{LineError, Refusal};
 pub use line::{Line, step_of};
-pub use report::{write_bad_line, write_id, write_refusal, write_report};
+pub use order::{MOST_READ, Order, SeatCall};
+pub use report::{
+    write_bad_line, write_cancelled, write_id, write_outcome, write_refusal, write_refused,
+    write_report, write_settled,
+};
 pub use show::{write_cover, write_messages, write_view};
 pub use state::State;

@@ -150,8 +150,8 @@ fn line_of_value(alloc: Global, value: &Value) -> Result<Line, LineError>
     line_of(alloc, form_of(alloc, value)?)
 }
 
-// The JSON value of bytes.
-fn value_of(alloc: Global, bytes: &[u8]) -> Result<Value, LineError>
+/// The JSON value of bytes.
+pub(crate) fn value_of(alloc: Global, bytes: &[u8]) -> Result<Value, LineError>
     ensures ok { IfOk result (λ value. data_of_bytes bytes.now ≡ Some (data_of value)) }
     ensures err { IfErr result (λ e. (e ≡ LineError.Bad) × (data_of_bytes bytes.now ≡ None)
         ⊎ (e ≡ LineError.NoMemory)) }

@@ -1,7 +1,7 @@
 // What a step answers, printed.
 ghost use Rattle.std.specs.Prelude.{◌≡◌, ◌++◌, OnOk};
 ghost use Rattle.rt_lines.specs.Printing.{bad_line, body_text, id_line, line, note_text, outcome_text};
-ghost use Rattle.rt_lines.specs.Printing.{refusal_text, report_text};
+ghost use Rattle.rt_lines.specs.Printing.{refusal_text, refused_line, report_text};
 ghost use Rattle.rt_lines.specs.inside.Appending.{Appends};
 
 use crate::change::{json_of, write_batch};
@@ -11,8 +11,8 @@ use rt_world::{Body, Note, Outcome, Report};
 use std::alloc::{AllocError, Global};
 use std::fmt::Write;
 
-// That a request is accepted, or why it is refused.
-fn write_settled(
+/// Prints that a request is accepted, `R<id> ok`, or why it is refused, `R<id> refused WHY`.
+pub fn write_settled(
     out: &mut String,
     alloc: Global,
     id: u64,
@@ -29,8 +29,8 @@ fn write_settled(
     }
 }
 
-// That a listener has ended, and why.
-fn write_cancelled(
+/// Prints that a listener has ended, and why: `L<n> cancelled WHY`.
+pub fn write_cancelled(
     out: &mut String,
     alloc: Global,
     listener: u64,
@@ -52,8 +52,12 @@ fn write_note(out: &mut String, alloc: Global, note: &Note) -> Result<(), AllocE
     }
 }
 
-// `done`, `done N` or `stale`
-fn write_outcome(out: &mut String, outcome: Outcome, given: Option<u64>) -> Result<(), AllocError>
+/// Prints what became of a step: `done`, `done N` where it was given a number, or `stale`.
+pub fn write_outcome(
+    out: &mut String,
+    outcome: Outcome,
+    given: Option<u64>,
+) -> Result<(), AllocError>
     ensures { OnOk result (Appends out.old out.new (line (outcome_text outcome given))) }
 {
     match (outcome, given) {
@@ -80,9 +84,13 @@ pub fn write_report(out: &mut String, alloc: Global, report: &Report) -> Result<
 pub fn write_refusal(out: &mut String, refusal: Refusal) -> Result<(), AllocError>
     ensures { OnOk result (Appends out.old out.new (refusal_text refusal)) }
 {
-    let layer = refusal.layer();
-    let code = refusal.code();
-    let name = refusal.name();
+    write_refused(out, refusal.layer(), refusal.code(), refusal.name())
+}
+
+/// Prints the refusal of that number and name, by that layer: `refused LAYER CODE NAME`.
+pub fn write_refused(out: &mut String, layer: &str, code: u8, name: &str) -> Result<(), AllocError>
+    ensures { OnOk result (Appends out.old out.new (refused_line layer.now code name.now)) }
+{
     writeln!(out, "refused {layer} {code} {name}")
 }
 

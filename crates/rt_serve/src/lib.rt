@@ -11,7 +11,6 @@
 //! sees the peer alone: what any texts leave of it (`specs/Sessions.antt`).
 #![tactic(auto)]
 
-mod counted;
 mod error;
 mod laws;
 mod serve;
@@ -19,7 +18,6 @@ mod socket;
 #[cfg(test)]
 mod tests;
 
-pub use counted::MAX_MESSAGE_BYTES;
 pub use error::ServeError;
 pub use laws::session_law;
 pub use serve::{MAX_MESSAGES, serve_stream};

@@ -6,9 +6,9 @@ ghost use Rattle.rt_peer.specs.Calls.{connected, fault};
 ghost use Rattle.rt_peer.specs.Runs.{after_all};
 ghost use Rattle.rt_serve.specs.Sessions.{call_of, HasServed, HasTaken};
 
-use crate::counted::MAX_MESSAGE_BYTES;
 use crate::error::ServeError;
 use crate::socket::{Heard, Socket, accepted, hear, send_all};
+use rt_input::MAX_MESSAGE_BYTES;
 use rt_peer::{Peer, PeerError};
 use rt_wire::{ClientMessage, WireError};
 use std::alloc::Global;

@@ -1,8 +1,8 @@
 // A server's socket: its handshake, its messages, and what is sent to it.
 ghost use Rattle.std.specs.Prelude.{◌≡◌, IfErr};
 
-use crate::counted::Counted;
 use crate::error::ServeError;
+use rt_input::Counted;
 use rt_peer::Sent;
 use rt_wire::ServerMessage;
 use std::alloc::Global;

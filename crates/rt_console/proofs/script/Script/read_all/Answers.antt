@@ -1,39 +1,46 @@
-use Rattle.std.proofs.Common.{rules, ◌≡◌, ℕ, List, [], ◌++◌, take, arith, refl, ap, subst, ◌∙◌}
-use Rattle.std.proofs.lemmas.Grind.{common_steps}
-use Rattle.rt_console.specs.inside.Pieces.{Takes, resumed, so_far}
-use Rattle.rt_console.specs.Run.{lines_of}
-use Rattle.rt_console.proofs.Runs.{Took, Took-text, Took-end, consumed, at_end}
-use Rattle.rt_console.proofs.Written.{Runs-none}
+use Rattle.std.proofs.Common.{rules, ◌≡◌, ℕ, ◌∷◌, List, [], Bool, true, false, not, Option, Some, OnOk, arith, subst, ◌∙◌, string_bytes}
+use Rattle.std.specs.Io.KnownBytes.{Appends}
+use Rattle.rt_input.specs.Lines.{lines_of}
+use Rattle.rt_console.specs.Run.{Progress}
+use Rattle.rt_console.specs.inside.Pieces.{Runs, so_far}
+use Rattle.rt_console.proofs.Runs.{Did-all, Did-line, not_false, not_true}
+use Rattle.rt_console.proofs.Written.{Runs-written, on_ok}
 use Rattle.rt_console.proofs.script.Script.read_all.Goals as goal
 
-pub input-init : goal.input-init
-input-init g c = (search rules, refl, refl, search rules, omega arith, λ text e. (text, e, ([], refl, Runs-none (g.D.Drain.contents c.args.writer.now) c.args.self.now)))
+pub lines-preserved : goal.lines-preserved
+lines-preserved g c =
+    let goes : c.lines.lines.ended ≡ false =
+    not_true c.in_ok-next.field-0 c.lines.lines.ended c.in_ok-next.ensures.more (search rules) in
+    let before : Option (List ℕ) = g.D.Drain.contents c.lines.writer in
+    let after : Option (List ℕ) = g.D.Drain.contents c.do_line_to.new.writer in
+    let Ran : List ℕ → Type 0 = λ line. Runs (line ∷ []) (so_far [] c.lines.self) before c.do_line_to.new.self after in
+    let ran : Ran c.next.new.self.line = subst Ran (search rules) c.in_ok-do_line_to.ensures.after in (
+      omega (arith, c.in_ok-next.ensures.given, c.lines.invariant.0),
+      c.in_ok-next.ensures.ok ∙ c.lines.invariant.1,
+      c.in_ok-do_line_to.ensures.ok ∙ c.lines.invariant.2,
+      c.in_ok-next.ensures.within,
+      λ e. c.in_ok-next.ensures.end goes e,
+      λ text e.
+          Did-line (lines_of text) (so_far [] c.args.self.now) (g.D.Drain.contents c.args.writer.now) before after
+          (g.S.Source.remaining c.lines.reader) (g.S.Source.remaining c.next.new.reader) c.lines.lines
+          c.next.new.self c.lines.self c.do_line_to.new.self (c.lines.invariant.5 text e) goes
+          c.in_ok-next.ensures.gives ran,
+    )
 
-pub returns-then-count-eq0-clause-ran : goal.returns-then-count-eq0-clause-ran
-returns-then-count-eq0-clause-ran g c = λ text e.
-    let whole : List (List ℕ) = resumed c.args.self.now.line.items (lines_of text) in
-    let known = c.input.invariant.5 text e in
-    let used = consumed (g.S.Source.remaining c.input.reader) (g.S.Source.remaining c.read_some.new.reader) known.0 (take c.in_ok-count.count c.read_some.new.chunk) known.1 c.in_ok-count.ensures.bytes in
-    let none : take c.in_ok-count.count c.read_some.new.chunk ≡ [] = ap (λ n. take n c.read_some.new.chunk) c.if-count-eq0.true in
-    let left : known.0 ≡ [] = used.2 ∙ ap (λ p. p ++ used.0) none ∙ at_end (g.S.Source.remaining c.read_some.new.reader) used.0 used.1 (c.in_ok-count.ensures.end c.if-count-eq0.true) in
-    let P : List ℕ → Type 0 = λ l. Took whole (so_far [] c.args.self.now) (g.D.Drain.contents c.args.writer.now) c.input.self l (g.D.Drain.contents c.input.writer) in
-    Took-end whole _ _ _ _ c.input.self c.finish.new.self (subst P left known.2) c.in_ok-finish.ensures.after
-
-pub input-preserved : goal.input-preserved
-input-preserved g c = (
-  search rules,
-  search rules,
-  search rules,
-  search rules,
-  omega arith,
-  λ text e.
-      let whole : List (List ℕ) = resumed c.args.self.now.line.items (lines_of text) in
-      let known = c.input.invariant.5 text e in
-      let used = consumed (g.S.Source.remaining c.input.reader) (g.S.Source.remaining c.read_some.new.reader) known.0 (take c.in_ok-count.count c.read_some.new.chunk) known.1 c.in_ok-count.ensures.bytes in
-      let P : List ℕ → Type 0 = λ l. Took whole (so_far [] c.args.self.now) (g.D.Drain.contents c.args.writer.now) c.input.self l (g.D.Drain.contents c.input.writer) in
-      let same : take c.in_ok-count.count c.deref.result.now ≡ take c.in_ok-count.count c.read_some.new.chunk = grind (arith, common_steps) in
-      let Q : List ℕ → Type 0 = λ b. Takes c.input.self.line.items b (so_far [] c.input.self) (g.D.Drain.contents c.input.writer) c.take.new.self (g.D.Drain.contents c.take.new.writer) in
-      let takes : Takes c.input.self.line.items (take c.in_ok-count.count c.read_some.new.chunk) (so_far [] c.input.self) (g.D.Drain.contents c.input.writer) c.take.new.self (g.D.Drain.contents c.take.new.writer) =
-      subst Q same c.in_ok-take.ensures.takes in
-      (used.0, used.1, Took-text whole _ _ _ _ c.input.self c.take.new.self (take c.in_ok-count.count c.read_some.new.chunk) used.0 (subst P used.2 known.2) takes),
-)
+pub returns-clause-ran : goal.returns-clause-ran
+returns-clause-ran g c =
+    let ended : c.lines.lines.ended ≡ true =
+    not_false c.in_ok-next.field-0 c.lines.lines.ended c.in_ok-next.ensures.more (search rules) in
+    let old : Progress = so_far [] c.args.self.now in
+    let first : Option (List ℕ) = g.D.Drain.contents c.args.writer.now in
+    let before : Option (List ℕ) = g.D.Drain.contents c.lines.writer in
+    let after : Option (List ℕ) = g.D.Drain.contents c.write_out.new.writer in
+    let Written : Type 0 = Appends before after (string_bytes c.lines.self.printed) in
+    let Done : Type 0 = (text : List ℕ) → g.S.Source.remaining c.args.reader.now ≡ Some text
+    → Runs (lines_of text) old first c.write_out.new.self after in
+    on_ok Written Done c.write_out.result (λ written text e.
+    Runs-written (lines_of text) old first before after c.lines.self c.write_out.new.self
+    (Did-all (lines_of text) old first before (g.S.Source.remaining c.lines.reader) c.lines.lines c.lines.self
+    (c.lines.invariant.5 text e) ended)
+    written c.write_out.ensures.nothing_waits c.write_out.ensures.state c.write_out.ensures.lines
+    c.write_out.ensures.bad_lines) c.write_out.ensures.written

@@ -1,5 +1,0 @@
-use Rattle.rt_console.proofs.Written.{Appends-kept, on_ok_always}
-use Rattle.rt_console.proofs.stream.write_out.Goals as goal
-
-pub returns : goal.returns
-returns g c = on_ok_always _ c.flush.result (Appends-kept _ _ _ c.args.bytes.now c.in_ok-write_all.ensures.bytes c.flush.ensures.bytes)

@@ -1,0 +1,318 @@
+// A client behind a WebSocket, driven by lines.
+ghost use Rattle.std.specs.Prelude.{◌≡◌, ◌+◌, ◌<◌, ◌≤◌, ◌^◌, ℕ, List, Some};
+ghost use Rattle.std.specs.Prelude.{IfOk, IfErr, OnOk, OnErr};
+ghost use Rattle.std.specs.Io.KnownBytes.{IsAtEnd};
+ghost use Rattle.rt_input.specs.Faults.{counts, NoneFailed, Tells, WriteTells};
+ghost use Rattle.rt_input.specs.Lines.{lines_of, most_input};
+ghost use Rattle.rt_lines.specs.Orders.{is_formed, is_good_order, order_of_bytes};
+ghost use Rattle.rt_drive.specs.Run.{bad_among};
+
+use crate::seats::{
+    Seats, close_seat, make_call, open_seats, settle_all, show_cover, take_messages, take_text,
+};
+use crate::socket::{Heard, MAX_PINGS, Socket, close_socket, hear, opened, send_all};
+use crate::tell::write_why;
+use rt_client::{Client, Seat};
+use rt_input::{ConsoleError, Drain, LineReader, Source};
+use rt_lines::{LineError, Order, Refusal, SeatCall, write_bad_line, write_refusal};
+use rt_wire::WireError;
+use rt_world::CoreError;
+use std::alloc::{AllocError, Global};
+use std::io::{Read, Write};
+use std::random::RandomSource;
+use std::sync::Wait;
+
+// A client with its seats, its socket, which is gone once it has failed or closed, and what was printed
+// and is not written yet.
+#[derive(Drop)]
+struct Driven<'a, R, S, N> {
+    rt: &'a R,
+    alloc: Global,
+    client: &'a Client,
+    seats: Seats,
+    socket: Option<Socket<S, N>>,
+    printed: String,
+}
+
+impl<'a, R: Wait, S: Read + Write + Drop, N: RandomSource + Drop> Driven<'a, R, S, N> {
+    // The connection is opened: the client is told of it, and sends what it has to.
+    fn connect(&mut self, random: N, stream: S) -> Result<(), AllocError> {
+        self.socket = opened(self.alloc, random, stream)?;
+        if self.socket.is_none() {
+            return self.printed.push_str("disconnected\n");
+        }
+        self.tell_connected()?;
+        self.send_waiting()
+    }
+
+    fn tell_connected(&mut self) -> Result<(), AllocError> {
+        let mut shared = self.client.shared.lock(self.rt);
+        match shared.connected() {
+            Ok(_) => Ok(()),
+            Err(why) => write_why(&mut self.printed, why),
+        }
+    }
+
+    fn tell_disconnected(&mut self) -> Result<(), AllocError> {
+        let mut shared = self.client.shared.lock(self.rt);
+        match shared.disconnected() {
+            Ok(_) => Ok(()),
+            Err(why) => write_why(&mut self.printed, why),
+        }
+    }
+
+    // The socket is gone.
+    fn lose_socket(&mut self) -> Result<(), AllocError> {
+        drop(self.socket.take());
+        self.printed.push_str("disconnected\n")?;
+        self.tell_disconnected()?;
+        self.settle()
+    }
+
+    // Settles the seats, and prints what they are told.
+    fn settle(&mut self) -> Result<(), AllocError> {
+        let mut shared = self.client.shared.lock(self.rt);
+        settle_all(&mut self.printed, self.alloc, &mut shared, &mut self.seats)
+    }
+
+    // Sends what the client has to send.
+    fn send_waiting(&mut self) -> Result<(), AllocError> {
+        let Some(socket) = &mut self.socket else {
+            return Ok(());
+        };
+        let messages = take_messages(self.alloc, &mut self.client.shared.lock(self.rt))?;
+        if send_all(self.alloc, socket, messages.as_slice())? {
+            return Ok(());
+        }
+        self.lose_socket()
+    }
+
+    // Takes a text of the server.
+    fn take(&mut self, words: &str) -> Result<(), AllocError> {
+        let mut shared = self.client.shared.lock(self.rt);
+        take_text(&mut self.printed, self.alloc, &mut shared, words)
+    }
+
+    // Reads a message, of a socket that stands, and answers whether it stands then.
+    fn read_message(&mut self, pings: &mut u32) -> Result<bool, AllocError> {
+        let Some(socket) = &mut self.socket else {
+            return Ok(false);
+        };
+        match hear(socket, pings)? {
+            Heard::Text(words) => self.take(words.as_str())?,
+            Heard::Binary => write_refusal(&mut self.printed, Refusal::Wire(WireError::NotJson))?,
+            Heard::Ended => {
+                self.lose_socket()?;
+                return Ok(false);
+            }
+        }
+        self.settle()?;
+        Ok(true)
+    }
+
+    // Reads so many messages, and writes what each prints.
+    fn read_messages<D: Drain>(&mut self, times: u64, writer: &mut D) -> Result<(), ConsoleError>
+        requires { D.failures writer.old + 1 < 2 ^ 64 }
+        ensures ok { OnOk result (D.failures writer.new ≡ D.failures writer.old) }
+        ensures fault { IfErr result (λ e.
+            WriteTells e (D.failures writer.old) (D.failures writer.new)) }
+    {
+        if self.socket.is_none() {
+            write_refusal(&mut self.printed, Refusal::Core(CoreError::NotConnected))?;
+            return Ok(());
+        }
+        let mut pings = MAX_PINGS;
+        for _ in 0..times {
+            if !self.read_message(&mut pings)? {
+                return Ok(());
+            }
+            self.write_out(writer)?;
+        }
+        Ok(())
+    }
+
+    // Makes a call of a seat.
+    fn call(&mut self, seat: u64, call: SeatCall) -> Result<(), AllocError> {
+        let mut shared = self.client.shared.lock(self.rt);
+        make_call(&mut self.printed, &mut shared, &mut self.seats, seat, call)
+    }
+
+    // Ends a seat.
+    fn close(&mut self, seat: u64) -> Result<(), AllocError> {
+        let mut shared = self.client.shared.lock(self.rt);
+        close_seat(&mut self.printed, &mut shared, &mut self.seats, seat)
+    }
+
+    // Prints the listens that are kept.
+    fn cover(&mut self) -> Result<(), AllocError> {
+        let shared = self.client.shared.lock(self.rt);
+        show_cover(&mut self.printed, self.alloc, &shared)
+    }
+
+    // Does what a line asks for, and answers whether it is good.
+    fn do_order<D: Drain>(
+        &mut self,
+        number: u64,
+        bytes: &[u8],
+        writer: &mut D,
+    ) -> Result<bool, ConsoleError>
+        requires { D.failures writer.old + 1 < 2 ^ 64 }
+        ensures ok { OnOk result (D.failures writer.new ≡ D.failures writer.old) }
+        ensures fault { IfErr result (λ e.
+            WriteTells e (D.failures writer.old) (D.failures writer.new)) }
+        ensures good { IfOk result (λ good. good ≡ is_formed (order_of_bytes bytes.now)) }
+    {
+        match Order::read(self.alloc, bytes) {
+            Ok(Order::Read { times }) => self.read_messages(times, writer)?,
+            Ok(Order::Seat { seat, call }) => self.call(seat, call)?,
+            Ok(Order::Close { seat }) => self.close(seat)?,
+            Ok(Order::Cover) => self.cover()?,
+            Err(LineError::Refused(refusal)) => write_refusal(&mut self.printed, refusal)?,
+            Err(LineError::Bad) => {
+                write_bad_line(&mut self.printed, number)?;
+                return Ok(false);
+            }
+            Err(LineError::NoMemory) => return Err(ConsoleError::NoMemory),
+        }
+        Ok(true)
+    }
+
+    // Does the line of that number, and answers whether it is good.
+    fn do_line<D: Drain>(
+        &mut self,
+        number: u64,
+        bytes: &[u8],
+        writer: &mut D,
+    ) -> Result<bool, ConsoleError>
+        requires { D.failures writer.old + 1 < 2 ^ 64 }
+        ensures ok { OnOk result (D.failures writer.new ≡ D.failures writer.old) }
+        ensures fault { IfErr result (λ e.
+            WriteTells e (D.failures writer.old) (D.failures writer.new)) }
+        ensures good { IfOk result (λ good. good ≡ is_good_order bytes.now) }
+    {
+        if bytes.is_empty() {
+            return Ok(true);
+        }
+        let is_good = self.do_order(number, bytes, writer)?;
+        self.settle()?;
+        self.send_waiting()?;
+        self.write_out(writer)?;
+        Ok(is_good)
+    }
+
+    // Writes what was printed.
+    fn write_out<D: Drain>(&mut self, writer: &mut D) -> Result<(), ConsoleError>
+        requires { D.failures writer.old + 1 < 2 ^ 64 }
+        ensures ok { OnOk result (D.failures writer.new ≡ D.failures writer.old) }
+        ensures error { IfErr result (λ e. e ≡ ConsoleError.WriteFault) }
+        ensures fault { OnErr result (D.failures writer.new ≡ D.failures writer.old + 1) }
+    {
+        if self.printed.is_empty() {
+            return Ok(());
+        }
+        let outcome = writer.write(self.printed.as_bytes());
+        self.printed.clear();
+        outcome.map_err(|_| ConsoleError::WriteFault)
+    }
+
+    // Does all lines of the input, and answers how many of them were bad.
+    fn run<I: Source, D: Drain>(
+        &mut self,
+        reader: &mut I,
+        writer: &mut D,
+    ) -> Result<u64, ConsoleError>
+        requires bytes { I.given reader.old ≤ 2 ^ 63 }
+        requires reads { I.failures reader.old + 1 < 2 ^ 64 }
+        requires writes { D.failures writer.old + 1 < 2 ^ 64 }
+        ensures end { OnOk result (IsAtEnd (I.remaining reader.new)) }
+        ensures counted { IfOk result (λ bad_lines. (text : List ℕ) → I.remaining reader.old ≡ Some text
+            → bad_lines ≡ bad_among (lines_of text)) }
+        ensures within { OnOk result (I.given reader.new ≤ I.given reader.old + most_input) }
+        ensures ok { OnOk result (NoneFailed
+            (counts (I.given reader.old) (I.failures reader.old) (D.failures writer.old))
+            (counts (I.given reader.new) (I.failures reader.new) (D.failures writer.new))) }
+        ensures fault { IfErr result (λ e. Tells e
+            (counts (I.given reader.old) (I.failures reader.old) (D.failures writer.old))
+            (counts (I.given reader.new) (I.failures reader.new) (D.failures writer.new))) }
+    {
+        let mut lines = LineReader::new(self.alloc)?;
+        let mut number = 0u64;
+        let mut bad_lines = 0u64;
+        self.write_out(writer)?;
+        'lines: while lines.next(reader)? {
+            number = number.saturating_add(1);
+            if !self.do_line(number, lines.line(), writer)? {
+                bad_lines = bad_lines.saturating_add(1);
+            }
+        }
+        Ok(bad_lines)
+    }
+
+    // The socket is closed, and the client is told of it.
+    fn end(&mut self) -> Result<(), AllocError> {
+        let Some(socket) = self.socket.take() else {
+            return Ok(());
+        };
+        let closed = close_socket(socket);
+        self.tell_disconnected()?;
+        closed
+    }
+}
+
+/// Opens a WebSocket as the client over a stream, tells the client that it is connected, and does the
+/// lines that a reader gives: the calls of its seats, by their numbers from 1, the end of a seat, the
+/// listens that are kept, and `["read",n]`, which reads n messages of the server. Writes what lines and
+/// messages print, and what the seats are then told, seat by seat; after each line sends what the client
+/// has to send. Answers the number of bad lines.
+///
+/// Where no handshake comes about, for another cause than memory, and where the socket fails or ends,
+/// `disconnected` is printed, and the lines go on; the client is told of the end of a socket that stood. A
+/// socket has failed too where more than `MAX_MESSAGE_BYTES` of `rt_input` are needed for one message, and
+/// with the last of [`MAX_PINGS`] pings and pongs that come while one line is done. At the end the socket
+/// is closed, and the client told.
+///
+/// The lock is taken for each call and let go before anything is read or sent.
+///
+/// # Errors
+///
+/// A `ReadFault` is a failure of the reader, or more than 67,108,864 bytes of input, and a `WriteFault` a
+/// failure of the writer; a failure of the stream is none. `NoMemory`.
+pub fn drive<R: Wait, N: RandomSource + Drop, S: Read + Write + Drop, I: Source, D: Drain>(
+    rt: &R,
+    alloc: Global,
+    client: &Client,
+    seats: Vec<Seat>,
+    random: N,
+    stream: S,
+    reader: &mut I,
+    writer: &mut D,
+) -> Result<u64, ConsoleError>
+    requires bytes { I.given reader.old ≤ 2 ^ 63 }
+    requires reads { I.failures reader.old + 1 < 2 ^ 64 }
+    requires writes { D.failures writer.old + 1 < 2 ^ 64 }
+    ensures end { OnOk result (IsAtEnd (I.remaining reader.new)) }
+    ensures counted { IfOk result (λ bad_lines. (text : List ℕ) → I.remaining reader.old ≡ Some text
+        → bad_lines ≡ bad_among (lines_of text)) }
+    ensures within { OnOk result (I.given reader.new ≤ I.given reader.old + most_input) }
+    ensures ok { OnOk result (NoneFailed
+        (counts (I.given reader.old) (I.failures reader.old) (D.failures writer.old))
+        (counts (I.given reader.new) (I.failures reader.new) (D.failures writer.new))) }
+    ensures fault { IfErr result (λ e. Tells e
+        (counts (I.given reader.old) (I.failures reader.old) (D.failures writer.old))
+        (counts (I.given reader.new) (I.failures reader.new) (D.failures writer.new))) }
+{
+    let mut driven = Driven {
+        rt,
+        alloc,
+        client,
+        seats: open_seats(alloc, seats)?,
+        socket: None,
+        printed: String::new(alloc),
+    };
+    driven.connect(random, stream)?;
+    let outcome = driven.run(reader, writer);
+    let ended = driven.end();
+    let bad_lines = outcome?;
+    ended?;
+    Ok(bad_lines)
+}

@@ -1,0 +1,200 @@
+// What lines and messages ask of a client's locked value and its seats, and what they print.
+ghost use Rattle.std.specs.Prelude.{◌≡◌, ◌<◌, [], false, true, length, IfOk, IfSome, OnOk};
+ghost use Rattle.rt_lines.specs.inside.Appending.{Appends};
+ghost use Rattle.rt_drive.specs.Printing.{items_text};
+ghost use Rattle.rt_drive.specs.inside.Ahead.{ahead_of, emptied, waiting_of};
+
+use crate::tell::{write_item, write_why};
+use rt_client::{Call, ClientError, Seat, Shared, with_seat};
+use rt_lines::{Refusal, SeatCall, write_cover, write_outcome, write_refusal};
+use rt_wire::{ServerMessage, WireError};
+use rt_world::{ClientMessage, Outcome};
+use std::alloc::{AllocError, Global};
+
+// The client's seats by their numbers, from 1; none where one is closed.
+pub(crate) type Seats = Vec<Option<Seat>>;
+
+// The seats, all of them open.
+pub(crate) fn open_seats(alloc: Global, seats: Vec<Seat>) -> Result<Seats, AllocError> {
+    let mut open = Vec::with_capacity(alloc, seats.len())?;
+    for seat in seats {
+        open.push(Some(seat))?;
+    }
+    Ok(open)
+}
+
+// The place of the seat of that number, if the client has it.
+fn place_of(seats: &Seats, number: u64) -> Option<usize>
+    ensures { IfSome result (λ place. place < length seats.now.items) }
+{
+    if number == 0 || (number - 1) as usize >= seats.len() {
+        return None;
+    }
+    Some((number - 1) as usize)
+}
+
+// A seat's call, as the client takes it.
+fn call_of(call: SeatCall) -> Call {
+    match call {
+        SeatCall::Listen { query } => Call::Listen { query },
+        SeatCall::Unlisten { listener } => Call::Unlisten { listener },
+        SeatCall::Write { action } => Call::Write { action },
+        SeatCall::OnDisconnect { ending } => Call::OnDisconnect { ending },
+    }
+}
+
+// Makes a call of the seat of that number, and prints what became of it.
+pub(crate) fn make_call(
+    out: &mut String,
+    shared: &mut Shared,
+    seats: &mut Seats,
+    number: u64,
+    call: SeatCall,
+) -> Result<(), AllocError> {
+    let call = call_of(call);
+    let made = match place_of(seats, number) {
+        Some(place) => match &mut seats[place] {
+            Some(seat) => with_seat(shared, seat, call),
+            None => Err(ClientError::WrongSeat),
+        },
+        None => Err(ClientError::WrongSeat),
+    };
+    match made {
+        Ok(done) => write_outcome(out, done.outcome, done.given),
+        Err(why) => write_why(out, why),
+    }
+}
+
+// Ends the seat of that number, and prints what became of it.
+pub(crate) fn close_seat(
+    out: &mut String,
+    shared: &mut Shared,
+    seats: &mut Seats,
+    number: u64,
+) -> Result<(), AllocError> {
+    let Some(place) = place_of(seats, number) else {
+        return write_why(out, ClientError::WrongSeat);
+    };
+    let Some(seat) = seats[place].take() else {
+        return write_why(out, ClientError::WrongSeat);
+    };
+    match shared.close_seat(seat) {
+        Ok(()) => write_outcome(out, Outcome::Done, None),
+        Err(unclosed) => {
+            seats[place] = Some(unclosed.seat);
+            write_why(out, unclosed.why)
+        }
+    }
+}
+
+// Prints the listens that are kept.
+pub(crate) fn show_cover(
+    out: &mut String,
+    alloc: Global,
+    shared: &Shared,
+) -> Result<(), AllocError> {
+    match shared.cover() {
+        Ok(kept) => write_cover(out, alloc, kept.as_slice()),
+        Err(why) => write_why(out, why),
+    }
+}
+
+// Takes a text of the server, and prints what became of it.
+pub(crate) fn take_text(
+    out: &mut String,
+    alloc: Global,
+    shared: &mut Shared,
+    words: &str,
+) -> Result<(), AllocError> {
+    let message = match ServerMessage::read(alloc, words) {
+        Ok(message) => message,
+        Err(WireError::NoMemory) => return Err(AllocError),
+        Err(error) => return write_refusal(out, Refusal::Wire(error)),
+    };
+    match shared.server_message(message) {
+        Ok(outcome) => write_outcome(out, outcome, None),
+        Err(why) => write_why(out, why),
+    }
+}
+
+// Takes out the messages that are to be sent; a client that has failed has none.
+#[tactic(auto, using(crate::proofs::Waiting::taken))]
+pub(crate) fn take_messages(
+    alloc: Global,
+    shared: &mut Shared,
+) -> Result<Vec<ClientMessage>, AllocError>
+    ensures { IfOk result (λ messages. messages.items ≡ waiting_of shared.old) }
+{
+    let mut messages = Vec::new(alloc);
+    'messages: loop {
+        match shared.take_outgoing() {
+            Ok(Some(message)) => messages.push(message)?,
+            Ok(None) | Err(_) => return Ok(messages),
+        }
+    }
+}
+
+// Prints all that the seat's ring holds, and answers whether it held anything.
+#[tactic(auto, using(crate::proofs::Telling::told_first, crate::proofs::Telling::told_none, crate::proofs::Waiting::emptied_same))]
+fn tell_ring(out: &mut String, alloc: Global, seat: &mut Seat) -> Result<bool, AllocError>
+    ensures printed { OnOk result (Appends out.old out.new (items_text seat.old.ring.items)) }
+    ensures any { IfOk result (λ any. any ≡ false → seat.old.ring.items ≡ []) }
+    ensures seat { OnOk result (seat.new ≡ emptied seat.old) }
+    ensures told { IfOk result (λ any. any ≡ true → 0 < length seat.old.ring.items) }
+{
+    let mut any = false;
+    'items: while let Some(item) = seat.next() {
+        write_item(out, alloc, &item)?;
+        any = true;
+    }
+    Ok(any)
+}
+
+// Hands over to the seat's ring what waits for it, as far as there is room. A client that has failed and
+// a seat that is not the client's hand over nothing; the call of a line has printed why.
+#[tactic(auto, using(crate::proofs::Waiting::settled_ahead, crate::proofs::Waiting::refused_ahead))]
+fn fill_ring(shared: &mut Shared, seat: &mut Seat) -> Result<(), AllocError>
+    ensures { OnOk result (ahead_of shared.new seat.new ≡ ahead_of shared.old seat.old) }
+{
+    match shared.settle(seat) {
+        Ok(()) => Ok(()),
+        Err(ClientError::NoMemory) => Err(AllocError),
+        Err(
+            ClientError::Failed
+            | ClientError::WrongSeat
+            | ClientError::MailboxFull
+            | ClientError::TooManySeats
+            | ClientError::Core(_),
+        ) => Ok(()),
+    }
+}
+
+// Settles a seat, and prints what it is told, until nothing waits for it.
+fn settle_seat(
+    out: &mut String,
+    alloc: Global,
+    shared: &mut Shared,
+    seat: &mut Seat,
+) -> Result<(), AllocError> {
+    'rounds: loop {
+        fill_ring(shared, seat)?;
+        if !tell_ring(out, alloc, seat)? {
+            return Ok(());
+        }
+    }
+}
+
+// Settles the seats in the order of their numbers, and prints what each is told.
+pub(crate) fn settle_all(
+    out: &mut String,
+    alloc: Global,
+    shared: &mut Shared,
+    seats: &mut Seats,
+) -> Result<(), AllocError> {
+    for seat in seats.iter_mut() {
+        if let Some(seat) = seat {
+            settle_seat(out, alloc, shared, seat)?;
+        }
+    }
+    Ok(())
+}

@@ -1,0 +1,6 @@
+-- In reading order: Lines (the lines of an input), Streams (what a reader and a writer count), Faults
+-- (what an error tells of them), Errors (the number and the name of each).
+pub mod Errors
+pub mod Faults
+pub mod Lines
+pub mod Streams

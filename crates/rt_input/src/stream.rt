@@ -1,0 +1,135 @@
+// Readers and writers that count.
+ghost use Rattle.std.specs.Prelude.{◌≡◌, ◌+◌, ◌<◌, ◌≤◌, ◌^◌, ℕ, List, Option, length, IfOk, OnOk};
+ghost use Rattle.std.specs.Io.KnownBytes.{Appends, ReadConsumes};
+ghost use Rattle.rt_input.specs.Streams.{CountsBytes, CountsFailure};
+
+use std::io::{Read, Write};
+
+/// A read or a write failed.
+#[derive(Clone, Copy, Debug, PartialEq, Eq)]
+pub struct Failed;
+
+/// A reader that counts the bytes that it gave, and its failures.
+pub trait Source {
+    // How many bytes were given.
+    ghost given: { Self → ℕ };
+
+    // How many reads failed.
+    ghost failures: { Self → ℕ };
+
+    // The bytes that are left, where they are known.
+    ghost remaining: { Self → Option (List ℕ) };
+
+    /// Reads into the front of the slice, and answers how many bytes it gave: none only at the end of
+    /// the input, or where the slice is empty.
+    fn read(&mut self, into: &mut [u8]) -> Result<usize, Failed>
+        requires can_count_bytes { given self.old + length into.old < 2 ^ 64 }
+        requires can_count_failures { failures self.old + 1 < 2 ^ 64 }
+        ensures fits { IfOk result (λ n. n ≤ length into.old) }
+        ensures given { CountsBytes result (given self.old) (given self.new) }
+        ensures failures { CountsFailure result (failures self.old) (failures self.new) }
+        ensures bytes { ReadConsumes (remaining self.old) (remaining self.new) result into.new };
+}
+
+/// A writer that counts its failures.
+pub trait Drain {
+    // How many writes failed.
+    ghost failures: { Self → ℕ };
+
+    // The bytes that it holds, where they are known.
+    ghost contents: { Self → Option (List ℕ) };
+
+    /// Writes all of the slice, so that nothing of it waits in a buffer.
+    fn write(&mut self, bytes: &[u8]) -> Result<(), Failed>
+        requires { failures self.old + 1 < 2 ^ 64 }
+        ensures failures { CountsFailure result (failures self.old) (failures self.new) }
+        ensures bytes { OnOk result (Appends (contents self.old) (contents self.new) bytes.now) };
+}
+
+/// A [`Source`] of a reader of std.
+#[derive(Drop)]
+pub struct Reading<R: Read + Drop> {
+    reader: R,
+    given: u64,
+    failures: u64,
+}
+
+impl<R: Read + Drop> Reading<R> {
+    /// Counts from 0.
+    pub fn new(reader: R) -> Reading<R>
+        ensures given { ⟦<Reading<R> as Source>⟧.given result ≡ 0 }
+        ensures failures { ⟦<Reading<R> as Source>⟧.failures result ≡ 0 }
+        ensures remaining { ⟦<Reading<R> as Source>⟧.remaining result ≡ R.remaining reader }
+    {
+        Reading {
+            reader,
+            given: 0,
+            failures: 0,
+        }
+    }
+}
+
+impl<R: Read + Drop> Source for Reading<R> {
+    ghost given = { λ s. s.given };
+
+    ghost failures = { λ s. s.failures };
+
+    ghost remaining = { λ s. R.remaining s.reader };
+
+    fn read(&mut self, into: &mut [u8]) -> Result<usize, Failed> {
+        match self.reader.read(into) {
+            Ok(count) => {
+                self.given += count as u64;
+                Ok(count)
+            }
+            Err(_) => {
+                self.failures += 1;
+                Err(Failed)
+            }
+        }
+    }
+}
+
+/// A [`Drain`] of a writer of std.
+#[derive(Drop)]
+pub struct Writing<W: Write + Drop> {
+    writer: W,
+    failures: u64,
+}
+
+impl<W: Write + Drop> Writing<W> {
+    /// Counts from 0.
+    pub fn new(writer: W) -> Writing<W>
+        ensures failures { ⟦<Writing<W> as Drain>⟧.failures result ≡ 0 }
+        ensures contents { ⟦<Writing<W> as Drain>⟧.contents result ≡ W.contents writer }
+    {
+        Writing {
+            writer,
+            failures: 0,
+        }
+    }
+}
+
+// Writes all of the bytes, and waits for none of them.
+fn write_out<W: Write>(writer: &mut W, bytes: &[u8]) -> std::io::Result<()>
+    ensures { OnOk result (Appends (W.contents writer.old) (W.contents writer.new) bytes.now) }
+{
+    writer.write_all(bytes)?;
+    writer.flush()
+}
+
+impl<W: Write + Drop> Drain for Writing<W> {
+    ghost failures = { λ s. s.failures };
+
+    ghost contents = { λ s. W.contents s.writer };
+
+    fn write(&mut self, bytes: &[u8]) -> Result<(), Failed> {
+        match write_out(&mut self.writer, bytes) {
+            Ok(()) => Ok(()),
+            Err(_) => {
+                self.failures += 1;
+                Err(Failed)
+            }
+        }
+    }
+}

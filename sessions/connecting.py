@@ -1,0 +1,123 @@
+"""What ./check asks of `connect`: the sessions of lines.py and endings.py, and those of here; bad words."""
+import os
+import subprocess
+import threading
+
+import endings
+from frames import SECONDS, Server, free_port
+from lines import ROW, ROW_OUT, ROW_STEPS
+from runs import differs
+from session import SESSIONS, data, goes, hears, listen, ok, put, session, stop
+
+assert endings  # it adds its sessions where it is read
+ROOT = os.path.dirname(os.path.dirname(os.path.realpath(__file__)))
+ENDS = {"stdout": subprocess.PIPE, "stderr": subprocess.PIPE}
+
+# ---- faults, and words
+
+
+READ_FAULT = b"kaltewi: the input can't be read, or has more than 67108864 bytes\n"
+WRITE_FAULT = b"kaltewi: the output can't be written\n"
+
+
+@session(ROW, ROW_OUT, 1, err=READ_FAULT, is_broken=True)
+def broken_input(server):
+    """An input that can't be read ends the run behind what its lines print."""
+    server.welcome()
+    yield hears(server, listen("/a", 1))
+    server.send(data("/a", 1, None))
+    yield hears(server, put(1, "/a/x", 5))
+    server.send(data("/a/x", 1, 5), ok(1))
+    yield from goes(server)
+
+
+@session("x" * 67_108_865, "", 1, err=READ_FAULT)
+def long_input(server):
+    """An input of one byte more than 67,108,864 is a fault."""
+    server.welcome()
+    yield from goes(server)
+
+
+@session(ROW, "", 1, err=WRITE_FAULT, stdout="/dev/full")
+def full_output(server):
+    """An output that can't be written ends the run."""
+    server.welcome()
+    yield from goes(server, listen("/a", 1))
+
+
+def prompt(program):
+    """What a line prints is there before the next one is read."""
+    name, server = "connect, line by line", Server()
+    ran = subprocess.Popen([program, "connect", str(server.port)], stdin=subprocess.PIPE, **ENDS)
+    end = threading.Timer(SECONDS, ran.kill)
+    end.start()
+    try:
+        server.welcome()
+        for line, frames, out in ROW_STEPS:
+            ran.stdin.write(line.encode())
+            ran.stdin.flush()
+            server.send(*frames)
+            printed = ran.stdout.read(len(out)).decode()
+            if printed != out:
+                return f"{name}: {line.strip()} prints {printed!r}, not {out!r}"
+        ran.stdin.close()
+        return differs(name, (ran.wait(SECONDS), ran.stdout.read(), ran.stderr.read()), (0, b"", b""))
+    except (OSError, subprocess.TimeoutExpired) as why:
+        return f"{name}: {why!r}"
+    finally:
+        end.cancel()
+        stop(ran)
+        server.close()
+
+
+def nobody_listens(program):
+    """One line says which port was tried, and why it failed. No line is made."""
+    port = free_port()
+    ran = subprocess.run([program, "connect", str(port)], input=ROW.encode(), timeout=SECONDS, **ENDS)
+    said = f"no connection to port {port} of 127.0.0.1 can be made: Connection refused (os error 111)"
+    wanted = f"kaltewi: {said}\n".encode()
+    return differs("connect, nobody listens", (ran.returncode, ran.stdout, ran.stderr), (1, b"", wanted))
+
+
+def not_shown():
+    """The files that have to show the row, and don't."""
+    shown = {"examples/two_terminals.lines": [ROW], "README.md": [ROW, ROW_OUT], "docs/FORMATS.md": [ROW_OUT]}
+    for file, texts in shown.items():
+        with open(f"{ROOT}/{file}", encoding="utf-8") as it:
+            whole = it.read()
+        if any(text not in whole for text in texts):
+            yield f"{file} doesn't show the row of serve and connect"
+
+
+# bad words, and what is said of them first; behind it stand clap's tips
+WORDS = {
+    (): "error: the following required arguments were not provided:\n  <PORT>\n",
+    ("0",): "error: invalid value '0' for '<PORT>': 0 is not in 1..=65535\n",
+    ("65536",): "error: invalid value '65536' for '<PORT>': 65536 is not in 1..=65535\n",
+    ("-1",): "error: unexpected argument '-1' found\n",
+    ("http",): "error: invalid value 'http' for '<PORT>': invalid digit found in string\n",
+    ("",): "error: invalid value '' for '<PORT>': cannot parse integer from empty string\n",
+    ("8080", "8081"): "error: unexpected argument '8081' found\n",
+    ("8080", "--count", "2"): "error: unexpected argument '--count' found\n",
+    ("--tree", "1", "8080"): "error: unexpected argument '--tree' found\n",
+}
+
+
+def bad_words(program, words, wanted):
+    ran = subprocess.run([program, "connect", *words], input=ROW.encode(), timeout=SECONDS, **ENDS)
+    said = ran.returncode, ran.stdout, ran.stderr[: len(wanted)]
+    return differs(f"connect {' '.join(words)}", said, (2, b"", wanted.encode()))
+
+
+def wrong_of(programs):
+    """What is wrong with these builds of the program, the first few things, and how many runs there were."""
+    runs = [it.wrong for it in SESSIONS] + [prompt, nobody_listens]
+    runs += [lambda program, it=it: bad_words(program, *it) for it in WORDS.items()]
+    wrong, count = list(not_shown()), 0
+    for program in programs:
+        for run in runs:
+            why, count = run(program), count + 1
+            wrong += [f"{why} ({os.path.basename(program)})"] if why else []
+            if len(wrong) == 5:
+                return wrong, count
+    return wrong, count
