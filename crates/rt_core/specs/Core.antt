@@ -32,6 +32,11 @@ world_in core = option_map (λ h. h.world) core
 abbrev pub views_in : Option Held → List (Option View)
 views_in core = option_map_or (λ h. h.views) core []
 
+-- why a core refuses a step, whether it is stale or not; one that has failed says so
+abbrev pub refusal_in : Option World → Step → Option CoreError
+refusal_in None s = Some Failed
+refusal_in (Some w) s = refusal w s
+
 -- for want of memory a step is not made; it is neither refused nor stale then
 pub record LacksMemory (w : World) (s : Step) (answer : Answer) (new : Option World) : Type 0 where
   pub told : answer ≡ Err NoMemory

@@ -14,7 +14,7 @@
 ghost use Rattle.std.specs.Prelude.{◌≡◌, Some};
 ghost use Rattle.rt_world.specs.World.{limits_from};
 ghost use Rattle.rt_core.specs.Core.{Applies, Covers, TakesOut, Views, empty_held};
-ghost use Rattle.rt_core.specs.Core.{views_in, world_in};
+ghost use Rattle.rt_core.specs.Core.{refusal_in, views_in, world_in};
 ghost use Rattle.rt_core.specs.Reads.{Reads};
 
 mod applying;
@@ -90,6 +90,17 @@ impl Core {
         let (state, answer) = state.after(step)?;
         self.state = Some(state);
         answer
+    }
+
+    /// Why [`Core::apply`] refuses such a step; none where the step is due, or is stale. Takes no
+    /// memory.
+    pub fn refusal(&self, step: &Step) -> Option<CoreError>
+        ensures { result ≡ refusal_in (world_in self.now) step.now }
+    {
+        match &self.state {
+            Some(state) => state.refusal(step),
+            None => Some(CoreError::Failed),
+        }
     }
 
     /// The kept listens, by tag, each with the least-numbered listener of its form.

@@ -1,9 +1,11 @@
 -- The headline over every list of steps.
-use Rattle.std.proofs.Common.{◌≡◌, ℕ, ◌≤◌, Bool, true, false, ◌||◌, ◌==◌, ◌⊎◌, inl, inr, List, [], ◌∷◌, ◌++◌, map, refl, sym, ap, subst, ◌∙◌, append-nil, arith, slice_index_or, Option, Some, None, cond}
+use Rattle.std.proofs.Common.{◌≡◌, ℕ, ◌≤◌, Bool, true, false, not, ◌&&◌, ◌||◌, ◌==◌, ◌⊎◌, inl, inr, List, [], ◌∷◌, ◌++◌, map, length, refl, sym, ap, subst, ◌∙◌, append-nil, arith, slice_index_or, Option, Some, None, cond}
 use mathlib.Core.Bool.{true≢false}
+use Rattle.std.specs.Prelude.{drop, is_none}
 use Rattle.std.specs.List.{filter, flat_map, fold, All, Contains}
 use Rattle.std.proofs.lemmas.List.Elements.{All-contains, Contains-get_or}
 use Rattle.std.proofs.lemmas.List.Folds.{Any-from_list_any}
+use Rattle.std.proofs.Math.Seq.{drop-append_seam}
 use Rattle.rt_cover.specs.Cover.{Tagged}
 use Rattle.rt_cover.specs.laws.ShownLaws.{shown_are_fewest, shown_are_certified}
 use Rattle.rt_view.specs.Changes.{Turns}
@@ -13,15 +15,15 @@ use Rattle.rt_world.specs.declared.limits.Limits.{Limits}
 use Rattle.rt_world.specs.declared.step.Step.{Step}
 use Rattle.rt_world.specs.World.{World, Listener, empty_world, pending}
 use Rattle.rt_world.specs.After.{listeners_after, brought_after, requests_after, listener_given, counted}
-use Rattle.rt_world.specs.Messages.{listens, request_message}
+use Rattle.rt_world.specs.Messages.{listens, unlistens, request_message, request_sent, messages_of, outgoing_before, kept_before, heard_by, next}
 use Rattle.rt_world.specs.Refusals.{refusal, is_stale}
 use Rattle.rt_world.specs.Answers.{Answer, step, step_by, answers, world_after, view_before}
-use Rattle.rt_world.specs.Runs.{Opened, Made, events_of, events, heard_after, heard}
-use Rattle.rt_world.specs.Headline.{AreKept, IsKept, IsShown, IsUpToDate, changes_told, Leads, Headline}
+use Rattle.rt_world.specs.Runs.{events_of, events, heard_after}
+use Rattle.rt_world.specs.Headline.{AreKept, IsKept, IsShown, IsUpToDate, changes_told, asks_due, Makes, MakesOrLeaves, Moves, Sends, server_after, Leads, Headline}
 use Rattle.rt_world.specs.Sound.{cover_of, IsSound}
 use Rattle.rt_world.proofs.Listeners.{same_number, has_number, has_number-there, has_number-renewed, not_bound, view_before-there, view_before-none}
 use Rattle.rt_world.proofs.ShowLaws.{left_or_more, first_seen, step_up_to_date, told-absent}
-use Rattle.rt_world.proofs.HeardLaws.{fold-append, heard-opened, heard-step, done_connected}
+use Rattle.rt_world.proofs.HeardLaws.{fold-append, heard-step, heard-done, heard-events, heard_by-append, heard_by-listens, heard_by-requests, done_connected}
 use Rattle.rt_world.proofs.MovesLaws.{moves}
 use Rattle.rt_world.proofs.SoundLaws.{sound_empty, sound_step, sound_run}
 
@@ -35,17 +37,73 @@ heard_all (s ∷ rest) w c h same online =
     fold-append c (events_of w s) (events (step w s).0 rest)
     ∙ heard_all rest (step w s).0 (fold heard_after c (events_of w s)) (sound_step w s (refusal w s) (is_stale w s) h) (heard-step w s c (refusal w s) (is_stale w s) h same) online
 
-opened : (v : World) → v.is_connected ≡ false → heard v (Step.Connected ∷ []) ≡ v.kept
-opened v e =
-    ap (λ b. fold heard_after v.kept (cond b (Opened ∷ map Made (listens v.kept ++ map request_message v.requests)) [] ++ [])) (done_connected v e)
-    ∙ ap (fold heard_after v.kept) (append-nil (Opened ∷ map Made (listens v.kept ++ map request_message v.requests)))
-    ∙ heard-opened v v.kept
-
-is_kept : (w : World) (steps : List Step) → IsSound w → IsKept w steps (world_after w steps)
-is_kept w steps h = record { online = λ e. heard_all steps w w.kept h (λ _. refl) e; offline = λ e. opened (world_after w steps) e }
-
 are_kept : (w : World) → IsSound w → AreKept w
 are_kept w h = record { fewest = shown_are_fewest (cover_of w) h.listens; certified = shown_are_certified (cover_of w) h.listens }
+
+after : (w : World) (s : Step) → IsSound w → IsSound (step w s).0
+after w s h = sound_step w s (refusal w s) (is_stale w s) h
+
+-- what the server keeps after a step is what is kept
+server_step : (w : World) (s : Step) (had : List Tagged) → IsSound w → (w.is_connected ≡ true → had ≡ w.kept)
+    → (step w s).0.is_connected ≡ true → server_after had w s (step w s).0 ≡ (step w s).0.kept
+server_step w s had h same online = at (refusal w s) (is_stale w s) refl refl online
+  where
+    hears : World → List Tagged
+    hears v = fold heard_by (kept_before s had) (drop (length (outgoing_before w s)) v.outgoing)
+
+    at : (o : Option CoreError) (b : Bool) → refusal w s ≡ o → is_stale w s ≡ b → (step_by o b w s).0.is_connected ≡ true
+        → server_after had w s (step_by o b w s).0 ≡ (step_by o b w s).0.kept
+    at (Some e) b r t on = (λ i. cond (is_none (r i) && not (is_stale w s)) (hears w) had) ∙ same on
+    at None true r t on = (λ i. cond (is_none (r i) && not (t i)) (hears w) had) ∙ same on
+    at None false r t on =
+        (λ i. cond (is_none (r i) && not (t i)) (hears (next w s)) had)
+        ∙ ap (fold heard_by (kept_before s had)) (drop-append_seam (outgoing_before w s) (messages_of w s))
+        ∙ sym (heard-events s had (messages_of w s))
+        ∙ heard-done w s had h same on
+
+-- what it keeps after the steps
+abbrev has_after : List Tagged → World → List Step → List Tagged
+has_after had w [] = had
+has_after had w (s ∷ rest) = has_after (server_after had w s (step w s).0) (step w s).0 rest
+
+server_run : (steps : List Step) (w : World) (had : List Tagged) → IsSound w → (w.is_connected ≡ true → had ≡ w.kept)
+    → (world_after w steps).is_connected ≡ true → has_after had w steps ≡ (world_after w steps).kept
+server_run [] w had h same online = same online
+server_run (s ∷ rest) w had h same online =
+    server_run rest (step w s).0 (server_after had w s (step w s).0) (after w s h) (server_step w s had h same) online
+
+-- requests begin and end no listen
+asked_alone : (old : World) (s : Step) (new : World) (c : List Tagged) → old.is_connected ≡ false → fold heard_by c (asks_due old s new) ≡ c
+asked_alone old s new c off =
+    elim new.is_connected as (λ b. fold heard_by c (cond b (cond old.is_connected (request_sent old s) (map request_message new.requests)) []) ≡ c) [
+      | true ↦ (λ i. fold heard_by c (cond (off i) (request_sent old s) (map request_message new.requests))) ∙ heard_by-requests c new.requests
+      | false ↦ refl
+    ]
+
+-- once a connection is opened the server keeps what was kept
+opened : (w : World) (has : List Tagged) → w.is_connected ≡ false → (answer : Answer) (v : World) → Moves w Step.Connected answer v
+    → server_after has w Step.Connected v ≡ w.kept
+opened w has off answer v m =
+    let made : Makes w Step.Connected v = subst (λ d. MakesOrLeaves d w Step.Connected v) (done_connected w off) m.made in
+    let sends : Sends w Step.Connected v = made.sends in
+    let all = sends.opens refl in
+    (λ i. cond (done_connected w off i) (fold heard_by [] v.outgoing) has)
+    ∙ ap (fold heard_by []) sends.outgoing
+    ∙ (λ i. fold heard_by [] (listens (all.0 i) ++ unlistens (all.1 i) ++ asks_due w Step.Connected v))
+    ∙ heard_by-append [] (listens w.kept ++ []) (asks_due w Step.Connected v)
+    ∙ asked_alone w Step.Connected v (fold heard_by [] (listens w.kept ++ [])) off
+    ∙ ap (fold heard_by []) (append-nil (listens w.kept))
+    ∙ heard_by-listens w.kept
+
+is_kept : (w : World) (steps : List Step) → IsSound w → IsKept (has_after w.kept w steps) (world_after w steps)
+is_kept w steps h =
+    let v : World = world_after w steps in
+    let sound = sound_run steps w h in
+    record {
+      online = server_run steps w w.kept h (λ _. refl);
+      opens = λ off. ((step v Step.Connected).1, (step v Step.Connected).0, moves v Step.Connected (are_kept (step v Step.Connected).0 (after v Step.Connected sound)) sound);
+      offline = λ off answer u m. opened v (has_after w.kept w steps) off answer u m;
+    }
 
 -- ---- the views, over a run
 
@@ -163,18 +221,16 @@ shown_all w steps h k d lt =
 -- ---- the headline
 
 -- one step after another leads to the world after them
-leads_on : (steps : List Step) (w : World) → IsSound w → Leads w steps (answers w steps) (world_after w steps)
-leads_on [] w h = refl
-leads_on (s ∷ rest) w h =
-    ((step w s).0, moves w s (are_kept (step w s).0 (after w s h)) h, leads_on rest (step w s).0 (after w s h))
-  where
-    after : (w : World) (s : Step) → IsSound w → IsSound (step w s).0
-    after w s h = sound_step w s (refusal w s) (is_stale w s) h
+leads_on : (steps : List Step) (w : World) (had : List Tagged) → IsSound w → Leads w had steps (answers w steps) (world_after w steps) (has_after had w steps)
+leads_on [] w had h = (refl, refl)
+leads_on (s ∷ rest) w had h =
+    ((step w s).0, moves w s (are_kept (step w s).0 (after w s h)) h, leads_on rest (step w s).0 (server_after had w s (step w s).0) (after w s h))
 
 -- the headline holds of any steps, from a sound world
 pub headline_sound : (w : World) (steps : List Step) → IsSound w → Headline w steps (answers w steps) (world_after w steps)
 headline_sound w steps h = record {
-  leads = leads_on steps w h;
+  has = has_after w.kept w steps;
+  leads = leads_on steps w w.kept h;
   heard = is_kept w steps h;
   kept = are_kept (world_after w steps) (sound_run steps w h);
   shown = shown_all w steps h;

@@ -26,9 +26,10 @@ use Rattle.rt_world.specs.declared.step.Step.{Step}
 use Rattle.rt_world.specs.World.{World, Listener, registered, listen_of}
 use Rattle.rt_world.specs.After.{asked_by, listeners_after, forms_after, kept_after, started_by}
 use Rattle.rt_world.specs.steps.Revoking.{is_cancelled}
-use Rattle.rt_world.specs.Messages.{unrevoked, stopped_by, listens, unlistens, request_message, request_sent, messages_online, messages_of, next}
+use Rattle.rt_world.specs.Messages.{unrevoked, stopped_by, listens, unlistens, request_message, request_sent, messages_online, messages_of, kept_before, heard_by, next}
+use Rattle.rt_world.specs.Refusals.{is_done}
 use Rattle.rt_world.specs.Answers.{step_by}
-use Rattle.rt_world.specs.Runs.{Event, Opened, Made, events_before, heard_after, is_done}
+use Rattle.rt_world.specs.Runs.{Event, Opened, Made, events_before, heard_after}
 use Rattle.rt_world.specs.Sound.{cover_of, IsSound}
 use Rattle.rt_world.proofs.Listeners.{same_number, other_number}
 use Rattle.rt_world.proofs.ShowLaws.{filter_true}
@@ -302,6 +303,44 @@ pub heard-step : (w : World) (s : Step) (c : List Tagged) (o : Option CoreError)
 heard-step w s c (Some e) b h same online = same online
 heard-step w s c None true h same online = same online
 heard-step w s c None false h same online = heard-done w s c h same online
+
+-- ---- step by step
+
+-- messages are heard one after another
+heard-messages : (c : List Tagged) (ms : List ClientMessage) → fold heard_after c (map Made ms) ≡ fold heard_by c ms
+heard-messages c [] = refl
+heard-messages c (m ∷ ms) = heard-messages (heard_by c m) ms
+
+-- before them what the step is besides
+heard-before : (s : Step) (c : List Tagged) → fold heard_after c (events_before s) ≡ kept_before s c
+heard-before Step.Connected c = refl
+heard-before Step.Disconnected c = refl
+heard-before (Step.Revoked tag why) c = refl
+heard-before (Step.Listen seat query) c = refl
+heard-before (Step.Unlisten seat listener) c = refl
+heard-before (Step.Write seat action) c = refl
+heard-before (Step.OnDisconnect seat ending) c = refl
+heard-before (Step.Data tag path tree) c = refl
+heard-before (Step.DataMerge tag entries) c = refl
+heard-before (Step.Accepted id) c = refl
+heard-before (Step.Refused id why) c = refl
+heard-before (Step.CloseSeat seat) c = refl
+
+pub heard-events : (s : Step) (c : List Tagged) (ms : List ClientMessage) → fold heard_after c (events_before s ++ map Made ms) ≡ fold heard_by (kept_before s c) ms
+heard-events s c ms =
+    fold-append c (events_before s) (map Made ms)
+    ∙ heard-messages (fold heard_after c (events_before s)) ms
+    ∙ ap (λ k. fold heard_by k ms) (heard-before s c)
+
+pub heard_by-append : (c : List Tagged) (xs ys : List ClientMessage) → fold heard_by c (xs ++ ys) ≡ fold heard_by (fold heard_by c xs) ys
+heard_by-append c [] ys = refl
+heard_by-append c (x ∷ xs) ys = heard_by-append (heard_by c x) xs ys
+
+pub heard_by-listens : (kept : List Tagged) → fold heard_by [] (listens kept) ≡ kept
+heard_by-listens kept = sym (heard-messages [] (listens kept)) ∙ heard-listens kept []
+
+pub heard_by-requests : (c : List Tagged) (rs : List Request) → fold heard_by c (map request_message rs) ≡ c
+heard_by-requests c rs = sym (heard-messages c (map request_message rs)) ∙ heard-requests c rs
 
 -- to open a connection is done where there is none
 pub done_connected : (w : World) → w.is_connected ≡ false → is_done w Step.Connected ≡ true

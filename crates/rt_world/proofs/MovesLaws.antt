@@ -1,8 +1,8 @@
 -- Each step moves from its world to the next.
-use Rattle.std.proofs.Common.{◌≡◌, ℕ, zero, suc, ◌<◌, Bool, true, false, cond, not, ◌&&◌, ◌||◌, inl, inr, List, [], ◌∷◌, ◌++◌, map, refl, sym, ap, subst, ◌∙◌, append-nil, arith, slice_index_or, Option, Some, None, Ok, Err}
+use Rattle.std.proofs.Common.{◌≡◌, ℕ, zero, suc, ◌<◌, Bool, true, false, cond, not, ◌&&◌, ◌||◌, ◌==◌, inl, inr, List, [], ◌∷◌, ◌++◌, map, refl, sym, ap, subst, ◌∙◌, append-nil, arith, slice_index_or, Option, Some, None, Ok, Err}
 use mathlib.Core.Bool.{true≢false}
 use Rattle.std.specs.Prelude.{is_none}
-use Rattle.std.specs.List.{fold, All, Contains}
+use Rattle.std.specs.List.{find, fold, All, Contains}
 use Rattle.std.specs.Option.{option_map, option_map_or}
 use Rattle.std.proofs.lemmas.List.Elements.{All-contains, All-map, Contains-append_cases, Contains-get_or}
 use Rattle.rt_query.specs.Queries.{Query}
@@ -16,18 +16,21 @@ use Rattle.rt_world.specs.declared.error.CoreError.TheVariants.{AlreadyConnected
 use Rattle.rt_world.specs.declared.step.Step.{Step}
 use Rattle.rt_world.specs.Views.{is_known}
 use Rattle.rt_world.specs.World.{World, Listener, pending}
-use Rattle.rt_world.specs.After.{listeners_after, requests_after, brought_after, kept_after, started_by, pushed, renewed, is_connected_after}
-use Rattle.rt_world.specs.Messages.{listens, unlistens, request_message, request_sent, stopped_by, messages_online, messages_of, outgoing_before, next}
+use Rattle.rt_world.specs.After.{kind, listeners_after, requests_after, brought_after, kept_after, started_by, pushed, renewed, is_connected_after}
+use Rattle.rt_world.specs.Messages.{listens, unlistens, request_message, request_sent, stopped_by, messages_online, messages_of, outgoing_before, kept_before, heard_by, next}
 use Rattle.rt_world.specs.Refusals.{refusal, is_stale}
-use Rattle.rt_world.specs.Answers.{step, step_by, stale_report}
-use Rattle.rt_world.specs.Runs.{Made, events_before, heard_after}
-use Rattle.rt_world.specs.Headline.{AreKept, primed_before, primed_in, unseen, done_answer, asks_due, Sends, Makes, MakesOrLeaves, Moves}
+use Rattle.rt_world.specs.Answers.{step, step_by, stale_report, report_of}
+use Rattle.rt_world.specs.Headline.{AreKept, primed_in, unseen, asks_due, Sends, Makes, MakesOrLeaves, Moves}
 use Rattle.rt_world.specs.Sound.{IsSound}
 use Rattle.rt_world.proofs.Listeners.{find-number, find-no_number, not_bound, number-renewed, primed_view, query-renewed, registered-renewed}
 use Rattle.rt_world.proofs.ShowLaws.{first_seen, left_or_more, step_up_to_date}
-use Rattle.rt_world.proofs.HeardLaws.{heard-done}
+use Rattle.rt_world.proofs.HeardLaws.{heard-done, heard-events}
 
 -- ---- primed marks
+
+-- whether a listener of that number is there, and primed
+abbrev primed_before : List Listener → ℕ → Bool
+primed_before listeners number = option_map_or (λ (l : Listener). l.is_primed) (find (λ (l : Listener). l.number == number) listeners) false
 
 primed_there : (w : World) → IsSound w → (l : Listener) → Contains w.listeners l → primed_before w.listeners l.number ≡ l.is_primed
 primed_there w h l m = ap (λ o. option_map_or (λ (x : Listener). x.is_primed) o false) (find-number w.listeners l h.rises m)
@@ -88,30 +91,34 @@ primed_same w h k d lt =
 
 sends_of : (w : World) (s : Step) → IsSound w → (begun ended : List Tagged)
     → messages_of w s ≡ listens begun ++ unlistens ended ++ asks_due w s (next w s)
+    → ((kind s).opens ≡ true → (begun ≡ w.kept) × (ended ≡ []))
     → (is_connected_after w s ≡ false → (begun ≡ []) × (ended ≡ []))
     → Sends w s (next w s)
-sends_of w s h begun ended messages silent = record {
+sends_of w s h begun ended messages opens silent = record {
   begun = begun;
   ended = ended;
   outgoing = ap (λ m. outgoing_before w s ++ m) messages;
-  heard = λ on. ap (λ m. fold heard_after w.kept (events_before s ++ map Made m)) (sym messages) ∙ heard-done w s w.kept h (λ _. refl) on;
+  heard = λ on. ap (fold heard_by (kept_before s w.kept)) (sym messages) ∙ sym (heard-events s w.kept (messages_of w s)) ∙ heard-done w s w.kept h (λ _. refl) on;
+  opens = opens;
   silent = silent;
 }
 
 -- a step that leaves the connection as it is
-sends_going : (w : World) (s : Step) → IsSound w → is_connected_after w s ≡ w.is_connected
+sends_going : (w : World) (s : Step) → IsSound w → (kind s).opens ≡ false → is_connected_after w s ≡ w.is_connected
     → messages_of w s ≡ cond w.is_connected (messages_online w s) [] → Sends w s (next w s)
-sends_going w s h same messages =
+sends_going w s h opens same messages =
     elim w.is_connected as (λ b. w.is_connected ≡ b → Sends w s (next w s)) [
       | true ↦ λ e.
           sends_of w s h (started_by w s) (stopped_by w s)
           (messages ∙ ap (λ b. cond b (messages_online w s) []) e
           ∙ (λ i. listens (started_by w s) ++ unlistens (stopped_by w s) ++ cond (sym (same ∙ e) i) (cond (sym e i) (request_sent w s) (map request_message (requests_after w s))) []))
+          (λ f. absurd (true≢false (sym f ∙ opens)))
           (λ f. absurd (true≢false (sym (same ∙ e) ∙ f)))
       | false ↦ λ e.
           sends_of w s h [] []
           (messages ∙ ap (λ b. cond b (messages_online w s) []) e
           ∙ (λ i. cond (sym (same ∙ e) i) (cond w.is_connected (request_sent w s) (map request_message (requests_after w s))) []))
+          (λ f. absurd (true≢false (sym f ∙ opens)))
           (λ f. (refl, refl))
     ] refl
 
@@ -129,18 +136,20 @@ was_closed w r =
 sends : (w : World) (s : Step) → IsSound w → refusal w s ≡ None → Sends w s (next w s)
 sends w Step.Connected h r =
     sends_of w Step.Connected h w.kept []
-    (λ i. sym (append-nil (listens w.kept)) i ++ cond (sym (was_closed w r) i) (request_sent w Step.Connected) (map request_message w.requests)) (λ f. absurd (true≢false f))
-sends w Step.Disconnected h r = sends_of w Step.Disconnected h [] [] refl (λ f. (refl, refl))
-sends w (Step.Listen seat query) h r = sends_going w (Step.Listen seat query) h refl refl
-sends w (Step.Unlisten seat listener) h r = sends_going w (Step.Unlisten seat listener) h refl refl
-sends w (Step.Write seat action) h r = sends_going w (Step.Write seat action) h refl refl
-sends w (Step.OnDisconnect seat ending) h r = sends_going w (Step.OnDisconnect seat ending) h refl refl
-sends w (Step.Data tag path tree) h r = sends_going w (Step.Data tag path tree) h refl refl
-sends w (Step.DataMerge tag entries) h r = sends_going w (Step.DataMerge tag entries) h refl refl
-sends w (Step.Accepted id) h r = sends_going w (Step.Accepted id) h refl refl
-sends w (Step.Refused id why) h r = sends_going w (Step.Refused id why) h refl refl
-sends w (Step.Revoked tag why) h r = sends_going w (Step.Revoked tag why) h refl refl
-sends w (Step.CloseSeat seat) h r = sends_going w (Step.CloseSeat seat) h refl refl
+    (λ i. sym (append-nil (listens w.kept)) i ++ cond (sym (was_closed w r) i) (request_sent w Step.Connected) (map request_message w.requests))
+    (λ f. (refl, refl))
+    (λ f. absurd (true≢false f))
+sends w Step.Disconnected h r = sends_of w Step.Disconnected h [] [] refl (λ f. absurd (true≢false (sym f))) (λ f. (refl, refl))
+sends w (Step.Listen seat query) h r = sends_going w (Step.Listen seat query) h refl refl refl
+sends w (Step.Unlisten seat listener) h r = sends_going w (Step.Unlisten seat listener) h refl refl refl
+sends w (Step.Write seat action) h r = sends_going w (Step.Write seat action) h refl refl refl
+sends w (Step.OnDisconnect seat ending) h r = sends_going w (Step.OnDisconnect seat ending) h refl refl refl
+sends w (Step.Data tag path tree) h r = sends_going w (Step.Data tag path tree) h refl refl refl
+sends w (Step.DataMerge tag entries) h r = sends_going w (Step.DataMerge tag entries) h refl refl refl
+sends w (Step.Accepted id) h r = sends_going w (Step.Accepted id) h refl refl refl
+sends w (Step.Refused id why) h r = sends_going w (Step.Refused id why) h refl refl refl
+sends w (Step.Revoked tag why) h r = sends_going w (Step.Revoked tag why) h refl refl refl
+sends w (Step.CloseSeat seat) h r = sends_going w (Step.CloseSeat seat) h refl refl refl
 
 -- ---- what is made
 
@@ -173,21 +182,21 @@ makes w s h r =
 moves_by : (w : World) (s : Step) (o : Option CoreError) (b : Bool) → refusal w s ≡ o → is_stale w s ≡ b → AreKept (step_by o b w s).0 → IsSound w
     → Moves w s (step_by o b w s).1 (step_by o b w s).0
 moves_by w s (Some e) b r t kept h = record {
-  answered = λ i. option_map_or Err (sym r i) (cond (is_stale w s) (Ok stale_report) (done_answer w s w));
+  answered = λ i. option_map_or Err (sym r i) (Ok (cond (is_stale w s) stale_report (report_of w s w.listeners)));
   made = subst (λ d. MakesOrLeaves d w s w) (λ i. is_none (sym r i) && not (is_stale w s)) refl;
   kept = kept;
   primed = primed_same w h;
   shown = step_up_to_date w s (Some e) b h;
 }
 moves_by w s None true r t kept h = record {
-  answered = λ i. option_map_or Err (sym r i) (cond (sym t i) (Ok stale_report) (done_answer w s w));
+  answered = λ i. option_map_or Err (sym r i) (Ok (cond (sym t i) stale_report (report_of w s w.listeners)));
   made = subst (λ d. MakesOrLeaves d w s w) (λ i. is_none (sym r i) && not (sym t i)) refl;
   kept = kept;
   primed = primed_same w h;
   shown = step_up_to_date w s None true h;
 }
 moves_by w s None false r t kept h = record {
-  answered = λ i. option_map_or Err (sym r i) (cond (sym t i) (Ok stale_report) (done_answer w s (next w s)));
+  answered = λ i. option_map_or Err (sym r i) (Ok (cond (sym t i) stale_report (report_of w s (next w s).listeners)));
   made = subst (λ d. MakesOrLeaves d w s (next w s)) (λ i. is_none (sym r i) && not (sym t i)) (makes w s h r);
   kept = kept;
   primed = primed_done w s h;

@@ -58,12 +58,14 @@ abbrev pub view_before : List Listener → ℕ → Option Shown
 view_before listeners number =
     option_and_then (λ l. l.view) (find (λ l. l.number == number) listeners)
 
+-- those who are told of their changes: each listener whose view is another now, by number
+abbrev pub changed_notes : List Listener → List Listener → List Note
+changed_notes old new =
+    filter_map (λ l. batch_note l (batch_from (view_before old l.number) l)) new
+
 -- each listener's batch, by number
 abbrev pub batch_notes : World → Step → List Note
-batch_notes w s =
-    filter_map
-    (λ l. batch_note l (batch_from (view_before w.listeners l.number) l))
-    (renewed_after w s)
+batch_notes w s = changed_notes w.listeners (renewed_after w s)
 
 -- ---- answers
 
@@ -75,13 +77,18 @@ Answer = Result Report CoreError
 abbrev pub stale_report : Report
 stale_report = record { outcome = Stale; given = None; notes = [] }
 
--- the report of a step that is done: settlements, ended listeners, batches
-abbrev pub done_report : World → Step → Report
-done_report w s = record {
+-- the report of a step that is done and leaves these listeners: the number that it gives; who is told
+-- of a settlement, of a listener's end, and of changes
+abbrev pub report_of : World → Step → List Listener → Report
+report_of w s listeners = record {
   outcome = Done;
   given = option_or (listener_given w s) (request_given w s);
-  notes = settled_notes w s ++ cancelled_notes w s ++ batch_notes w s;
+  notes = settled_notes w s ++ cancelled_notes w s ++ changed_notes w.listeners listeners;
 }
+
+-- the report of a step that is done
+abbrev pub done_report : World → Step → Report
+done_report w s = report_of w s (renewed_after w s)
 
 -- the answer and the world after it, by the refusal and whether it is stale
 abbrev pub step_by : Option CoreError → Bool → World → Step → World × Answer

@@ -1,9 +1,10 @@
 -- The fewest listens, and the views over what they brought: what any steps lead to, said of the
 -- worlds before and after, the steps and the answers.
 use Rattle.std.specs.Prelude.{◌≡◌, ℕ, ◌+◌, Bool, true, false, IsTrue, IsFalse, if◌then◌else◌, ◌||◌}
-use Rattle.std.specs.Prelude.{List, [], ◌∷◌, ◌++◌, map, length, ◌==◌, Option, Some, None, Ok, Err}
-use Rattle.std.specs.List.{filter, filter_map, find, flat_map, fold, All}
-use Rattle.std.specs.Option.{option_map_or, option_or}
+use Rattle.std.specs.Prelude.{List, [], ◌∷◌, ◌++◌, map, length, drop, ◌==◌, Option, Some, None, Ok}
+use Rattle.std.specs.Prelude.{Err}
+use Rattle.std.specs.List.{filter, find, flat_map, fold, All}
+use Rattle.std.specs.Option.{option_map_or}
 use Rattle.rt_query.specs.Queries.{Query}
 use Rattle.rt_query.specs.Select.{Shown}
 use Rattle.rt_cache.specs.Recover.{recover}
@@ -14,26 +15,17 @@ use Rattle.rt_view.specs.Changes.{Turns}
 use Rattle.rt_wire.specs.declared.client.ClientMessage.{ClientMessage}
 use Rattle.rt_world.specs.declared.report.Body.{Body}
 use Rattle.rt_world.specs.declared.report.Body.TheVariants.{Settled, Cancelled, Batch}
-use Rattle.rt_world.specs.declared.report.Note.{Note}
-use Rattle.rt_world.specs.declared.report.Outcome.TheVariants.{Done}
 use Rattle.rt_world.specs.declared.step.Step.{Step}
 use Rattle.rt_world.specs.World.{World, Listener, registered, pending, cover}
 use Rattle.rt_world.specs.Views.{is_known, view_of}
-use Rattle.rt_world.specs.After.{listeners_after, requests_after, pushed, is_connected_after}
+use Rattle.rt_world.specs.After.{kind, listeners_after, requests_after, pushed, is_connected_after}
 use Rattle.rt_world.specs.After.{started_by, listener_given, request_given, counted}
 use Rattle.rt_world.specs.Messages.{listens, unlistens, request_message, request_sent}
-use Rattle.rt_world.specs.Messages.{outgoing_before}
-use Rattle.rt_world.specs.Refusals.{refusal, is_stale}
-use Rattle.rt_world.specs.Answers.{Answer, stale_report, settled_notes, cancelled_notes, batch_note}
-use Rattle.rt_world.specs.Answers.{batch_from, view_before}
-use Rattle.rt_world.specs.Runs.{Made, is_done, events_before, heard_after, heard}
+use Rattle.rt_world.specs.Messages.{outgoing_before, kept_before, heard_by}
+use Rattle.rt_world.specs.Refusals.{refusal, is_stale, is_done}
+use Rattle.rt_world.specs.Answers.{Answer, stale_report, report_of, batch_from, view_before}
 
 -- ---- the listens kept
-
--- what the server keeps: while connected what it heard, while disconnected what Connected will send
-pub record IsKept (old : World) (steps : List Step) (new : World) : Type 0 where
-  pub online : IsTrue new.is_connected → heard old steps ≡ new.kept
-  pub offline : IsFalse new.is_connected → heard new (Step.Connected ∷ []) ≡ new.kept
 
 -- these are the fewest registered forms that supply every listener, each shown with the
 -- least-numbered listener of its form, which no other supplies
@@ -46,8 +38,7 @@ pub record AreKept (w : World) : Type 0 where
 -- a primed listener's view is its query over what is brought, overlaid by the pending writes;
 -- another has none
 abbrev pub view_by : Bool → World → Query → Option Shown
-view_by true w q = Some (view_of w.brought (pending w.requests) q)
-view_by false w q = None
+view_by primed w q = if primed then Some (view_of w.brought (pending w.requests) q) else None
 
 -- the changes of a listener in a note's body
 abbrev pub changes_in : ℕ → Body → List Change
@@ -67,15 +58,11 @@ pub record IsUpToDate (old : World) (answer : Answer) (new : World) (l : Listene
   pub batch : changes_told l.number answer ≡ batch_from (view_before old.listeners l.number) l
   pub turned : Turns (view_before old.listeners l.number) (changes_told l.number answer) l.view
 
--- whether a listener of that number is there, and primed
-abbrev pub primed_before : List Listener → ℕ → Bool
-primed_before listeners number =
-    option_map_or (λ l. l.is_primed) (find (λ l. l.number == number) listeners) false
-
--- a listener is primed once it was, or something is known for it
+-- a listener is primed once that of its number was, or something is known for it
 abbrev pub primed_in : World → World → Listener → Bool
 primed_in old new l =
-    primed_before old.listeners l.number || is_known new.brought (pending new.requests) l.query
+    option_map_or (λ m. m.is_primed) (find (λ m. m.number == l.number) old.listeners) false
+    || is_known new.brought (pending new.requests) l.query
 
 -- ---- one step
 
@@ -83,26 +70,11 @@ primed_in old new l =
 abbrev pub unseen : Listener → Listener
 unseen l = record l { is_primed = false; view = None }
 
--- those who are told of their changes: each listener whose view is another now, by number
-abbrev pub changed_notes : World → World → List Note
-changed_notes old new =
-    filter_map (λ l. batch_note l (batch_from (view_before old.listeners l.number) l)) new.listeners
-
--- what a step is answered that is neither refused nor stale: the number that it gives; who is told
--- of a settlement, of a listener's end, and of changes
-abbrev pub done_answer : World → Step → World → Answer
-done_answer old s new =
-    Ok (record {
-      outcome = Done;
-      given = option_or (listener_given old s) (request_given old s);
-      notes = settled_notes old s ++ cancelled_notes old s ++ changed_notes old new;
-    })
-
 -- the answer: the first refusal whose condition holds, else that it is stale, else that it is done
 abbrev pub answer_due : World → Step → World → Answer
 answer_due old s new =
     option_map_or Err (refusal old s)
-    (if is_stale old s then Ok stale_report else done_answer old s new)
+    (Ok (if is_stale old s then stale_report else report_of old s new.listeners))
 
 -- the requests that a step asks the server for: one that opens a connection for all that are
 -- unsettled
@@ -113,15 +85,18 @@ asks_due old s new =
     else []
 
 -- of a step that is done: it begins and ends listens, and then asks; a server that hears this keeps
--- what the core keeps; without a connection nothing is sent
+-- what the core keeps; one that opens a connection begins the kept listens, and nothing else; without
+-- a connection nothing is sent
 pub record Sends (old : World) (s : Step) (new : World) : Type 0 where
   pub begun : List Tagged
   pub ended : List Tagged
   pub outgoing : new.outgoing
       ≡ outgoing_before old s ++ (listens begun ++ unlistens ended ++ asks_due old s new)
-  pub heard : IsTrue new.is_connected → fold heard_after old.kept
-      (events_before s ++ map Made (listens begun ++ unlistens ended ++ asks_due old s new))
+  pub heard : IsTrue new.is_connected
+      → fold heard_by (kept_before s old.kept)
+      (listens begun ++ unlistens ended ++ asks_due old s new)
       ≡ new.kept
+  pub opens : IsTrue (kind s).opens → (begun ≡ old.kept) × (ended ≡ [])
   pub silent : IsFalse new.is_connected → (begun ≡ []) × (ended ≡ [])
 
 -- what a step leaves that is done: its listeners and requests, what is brought once its push is
@@ -153,15 +128,34 @@ pub record Moves (old : World) (s : Step) (answer : Answer) (new : World) : Type
   pub primed : All (λ l. l.is_primed ≡ primed_in old new l) new.listeners
   pub shown : All (IsUpToDate old answer new) new.listeners
 
+-- ---- what the server hears
+
+-- the listens that the server keeps after a step: it hears what is to be sent beyond what was left
+abbrev pub server_after : List Tagged → World → Step → World → List Tagged
+server_after has old s new =
+    if is_done old s
+    then fold heard_by (kept_before s has) (drop (length (outgoing_before old s)) new.outgoing)
+    else has
+
+-- while connected the server keeps the kept listens; while disconnected a connection can be opened,
+-- and whatever world that leads to, the server then keeps them
+pub record IsKept (has : List Tagged) (new : World) : Type 0 where
+  pub online : IsTrue new.is_connected → has ≡ new.kept
+  pub opens : IsFalse new.is_connected
+      → (answer : Answer) × (opened : World) × Moves new Step.Connected answer opened
+  pub offline : IsFalse new.is_connected
+      → (answer : Answer) (opened : World) → Moves new Step.Connected answer opened
+      → server_after has new Step.Connected opened ≡ new.kept
+
 -- ---- many steps
 
--- one step after another leads from world to world
-abbrev pub Leads : World → List Step → List Answer → World → Type 0
-Leads old [] [] new = new ≡ old
-Leads old (s ∷ steps) (a ∷ told) new =
-    (between : World) × Moves old s a between × Leads between steps told new
-Leads old [] (a ∷ told) new = ⊥
-Leads old (s ∷ steps) [] new = ⊥
+-- one step after another leads from world to world, and from what the server keeps to what it keeps
+abbrev pub Leads : World → List Tagged → List Step → List Answer → World → List Tagged → Type 0
+Leads old had [] [] new has = (new ≡ old) × (has ≡ had)
+Leads old had (s ∷ steps) (a ∷ told) new has =
+    (between : World) × Moves old s a between
+    × Leads between (server_after had old s between) steps told new has
+Leads old had _ _ new has = ⊥
 
 -- after steps a listener's view is that of what is brought; all that it was told, played one after
 -- another, turns its view before them into this one
@@ -172,13 +166,14 @@ pub record IsShown (old : World) (told : List Answer) (new : World) (l : Listene
 
 -- ---- the headline
 
--- the steps lead from world to world as their answers say; in the end the server keeps the listens
--- that the core keeps, and these are the fewest that supply every listener; each listener's view is
--- its query over what they brought, overlaid by the pending writes, and turned into it from its view
--- before by all that it was told
+-- the steps lead from world to world as their answers say; in the end the server, which kept the
+-- core's listens before, keeps those that the core keeps, and these are the fewest that supply every
+-- listener; each listener's view is its query over what they brought, overlaid by the pending writes,
+-- and turned into it from its view before by all that it was told
 pub record Headline (old : World) (steps : List Step) (told : List Answer) (new : World)
     : Type 0 where
-  pub leads : Leads old steps told new
-  pub heard : IsKept old steps new
+  pub has : List Tagged
+  pub leads : Leads old old.kept steps told new has
+  pub heard : IsKept has new
   pub kept : AreKept new
   pub shown : All (IsShown old told new) new.listeners

@@ -55,6 +55,17 @@ messages_of w s =
 abbrev pub outgoing_before : World → Step → List ClientMessage
 outgoing_before w s = if (kind s).opens || (kind s).closes then [] else w.outgoing
 
+-- the listens that a server keeps as a step comes: a connection that is opened begins with none, and
+-- a listen that is revoked is gone
+abbrev pub kept_before : Step → List Tagged → List Tagged
+kept_before s kept = if (kind s).opens then [] else unrevoked s kept
+
+-- the listens that it keeps once it hears a message
+abbrev pub heard_by : List Tagged → ClientMessage → List Tagged
+heard_by kept (ClientMessage.Listen tag q) = kept ++ record { tag = tag; form = q } ∷ []
+heard_by kept (ClientMessage.Unlisten tag) = filter (λ k. not (k.tag == tag)) kept
+heard_by kept (ClientMessage.Ask id asked) = kept
+
 -- the world after a step that is neither refused nor stale
 abbrev pub next : World → Step → World
 next w s = record {

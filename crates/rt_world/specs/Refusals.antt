@@ -1,5 +1,5 @@
 -- When a step is refused, and when it is stale: each kind says its part (steps/), and here is the order.
-use Rattle.std.specs.Prelude.{◌+◌, Bool, ◌&&◌, not, List, [], ◌∷◌, length, nat_lt, Option}
+use Rattle.std.specs.Prelude.{◌+◌, Bool, ◌&&◌, not, List, [], ◌∷◌, length, nat_lt, Option, is_none}
 use Rattle.std.specs.List.{find}
 use Rattle.std.specs.Option.{option_map}
 use Rattle.rt_world.specs.declared.error.CoreError.{CoreError}
@@ -41,3 +41,7 @@ refusal w s = option_map (λ c. c.1) (find (λ c. c.0) (conditions w s))
 -- whether the step comes too late
 abbrev pub is_stale : World → Step → Bool
 is_stale w s = (kind s).is_stale w
+
+-- whether the step is neither refused nor stale
+abbrev pub is_done : World → Step → Bool
+is_done w s = is_none (refusal w s) && not (is_stale w s)

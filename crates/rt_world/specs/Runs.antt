@@ -1,6 +1,6 @@
 -- What the steps of a run send, and which listens the server keeps then.
-use Rattle.std.specs.Prelude.{ℕ, Bool, true, false, ◌&&◌, not, if◌then◌else◌, List, [], ◌∷◌, ◌++◌}
-use Rattle.std.specs.Prelude.{map, ◌==◌, is_none}
+use Rattle.std.specs.Prelude.{ℕ, Bool, true, false, not, if◌then◌else◌, List, [], ◌∷◌, ◌++◌, map}
+use Rattle.std.specs.Prelude.{◌==◌}
 use Rattle.std.specs.List.{filter, fold, list_any}
 use Rattle.std.specs.Option.{option_map_or}
 use Rattle.rt_cover.specs.Cover.{Tagged}
@@ -8,8 +8,8 @@ use Rattle.rt_wire.specs.declared.client.ClientMessage.{ClientMessage}
 use Rattle.rt_world.specs.declared.step.Step.{Step}
 use Rattle.rt_world.specs.World.{World}
 use Rattle.rt_world.specs.After.{kind, revoked_by}
-use Rattle.rt_world.specs.Messages.{messages_of}
-use Rattle.rt_world.specs.Refusals.{refusal, is_stale}
+use Rattle.rt_world.specs.Messages.{heard_by, messages_of}
+use Rattle.rt_world.specs.Refusals.{is_done}
 use Rattle.rt_world.specs.Answers.{step}
 
 -- a connection is opened, a message is made, a listen is revoked
@@ -17,10 +17,6 @@ pub data Event : Type 0 where
   Opened : Event
   Made : ClientMessage → Event
   Ended : (tag : ℕ) → Event
-
--- whether the step is neither refused nor stale
-abbrev pub is_done : World → Step → Bool
-is_done w s = is_none (refusal w s) && not (is_stale w s)
 
 -- what a step is besides its messages
 abbrev pub events_before : Step → List Event
@@ -48,9 +44,7 @@ made w steps = fold made_after [] (events w steps)
 
 -- the listens that the server keeps after an event; a connection that is opened begins with none
 abbrev pub heard_after : List Tagged → Event → List Tagged
-heard_after kept (Made (ClientMessage.Listen tag q)) = kept ++ record { tag = tag; form = q } ∷ []
-heard_after kept (Made (ClientMessage.Unlisten tag)) = filter (λ k. not (k.tag == tag)) kept
-heard_after kept (Made (ClientMessage.Ask id asked)) = kept
+heard_after kept (Made m) = heard_by kept m
 heard_after kept (Ended tag) = filter (λ k. not (k.tag == tag)) kept
 heard_after kept Opened = []
 

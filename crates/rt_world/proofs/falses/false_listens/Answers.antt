@@ -1,4 +1,4 @@
-use Rattle.std.proofs.Common.{◌≡◌, ◌==◌, [], List, map, sym, ap, subst, refl, arith}
+use Rattle.std.proofs.Common.{◌≡◌, ◌==◌, [], List, sym, ap, subst, refl, arith}
 use mathlib.Core.Bool.{true≢false}
 use Rattle.std.specs.List.{fold}
 use Rattle.rt_tree.specs.PathTree.{null, of_leaf, is_null, leaf_at, sub, put, with_children, children_alone, levels}
@@ -8,7 +8,7 @@ use Rattle.rt_query.specs.Queries.{plain}
 use Rattle.rt_wire.specs.declared.client.ClientMessage.{ClientMessage}
 use Rattle.rt_world.specs.declared.step.Step.{Step}
 use Rattle.rt_world.specs.Answers.{Answer}
-use Rattle.rt_world.specs.Runs.{Made, heard_after}
+use Rattle.rt_world.specs.Messages.{heard_by}
 use Rattle.rt_world.specs.Headline.{Makes, Sends}
 use Rattle.rt_world.specs.laws.Script.{fresh}
 use Rattle.rt_world.specs.laws.False.{a, connected, listening}
@@ -35,7 +35,7 @@ unfolding null of_leaf is_null leaf_at sub put with_children children_alone leve
 returns-clause-sent c = λ m.
     let made : Makes connected (Step.Listen 1 (plain a)) (record listening { outgoing = [] }) = m.made in
     let sends : Sends connected (Step.Listen 1 (plain a)) (record listening { outgoing = [] }) = made.sends in
-    true≢false (ap is_nil (subst (λ (ms : List ClientMessage). fold heard_after [] (map Made ms) ≡ listening.kept) (sym sends.outgoing) (sends.heard refl)))
+    true≢false (ap is_nil (subst (λ (ms : List ClientMessage). fold heard_by [] ms ≡ listening.kept) (sym sends.outgoing) (sends.heard refl)))
 
 pub returns-clause-kept : goal.returns-clause-kept
 unfolding null of_leaf is_null leaf_at sub put with_children children_alone levels children_of tree_eq

@@ -12,9 +12,8 @@ use Rattle.rt_cover.specs.State.{shown_with}
 use Rattle.rt_world.specs.declared.error.CoreError.{CoreError}
 use Rattle.rt_world.specs.declared.step.Step.{Step}
 use Rattle.rt_world.specs.World.{Listener, World, registered}
-use Rattle.rt_world.specs.Refusals.{refusal}
+use Rattle.rt_world.specs.Refusals.{refusal, is_done}
 use Rattle.rt_world.specs.Answers.{Answer}
-use Rattle.rt_world.specs.Runs.{is_done}
 use Rattle.rt_world.specs.Headline.{AreKept, Leads, Makes, MakesOrLeaves, Moves, unseen}
 use Rattle.rt_world.specs.laws.Script.{fresh, num}
 use Rattle.rt_world.specs.laws.False.{a}
@@ -28,13 +27,13 @@ idle answer m =
     let made : Makes fresh (Step.Listen 1 (plain a)) fresh = m.made in
     true≢false (ap is_nil made.listeners)
 
-does_nothing : (answers : List Answer) → Leads fresh (Step.Listen 1 (plain a) ∷ []) answers fresh → ⊥
-does_nothing [] l = absurd l
-does_nothing (x ∷ []) l = idle x (subst (λ (v : World). Moves fresh (Step.Listen 1 (plain a)) x v) (sym l.2) l.1)
-does_nothing (x ∷ y ∷ rest) l = absurd l.2
+does_nothing : (answers : List Answer) (has : List Tagged) → Leads fresh [] (Step.Listen 1 (plain a) ∷ []) answers fresh has → ⊥
+does_nothing [] has l = absurd l
+does_nothing (x ∷ []) has l = idle x (subst (λ (v : World). Moves fresh (Step.Listen 1 (plain a)) x v) (sym (l.2).0) l.1)
+does_nothing (x ∷ y ∷ rest) has l = absurd l.2
 
 pub returns-clause-nothing : goal.returns-clause-nothing
-returns-clause-nothing c = λ answers h. does_nothing answers h.leads
+returns-clause-nothing c = λ answers h. does_nothing answers h.has h.leads
 
 pub returns-clause-short : goal.returns-clause-short
 returns-clause-short c = λ answer new h. absurd (h.leads).2
@@ -84,16 +83,16 @@ all_stay answer w v m none = at (is_done w (Step.Data 1 a (num 7))) m.made
         nobody_there w.listeners (sym made.listeners ∙ ap (λ (ls : List Listener). map unseen ls) none)
     at false h = ap (λ (x : World). x.listeners) (sym h) ∙ none
 
-registers_nobody : (answers : List Answer) (new : World) → new.listeners ≡ []
-    → Leads fresh (Step.Connected ∷ Step.Listen 1 (plain a) ∷ Step.Data 1 a (num 7) ∷ []) answers new → ⊥
-registers_nobody [] new none l = absurd l
-registers_nobody (x ∷ []) new none l = absurd l.2
-registers_nobody (x ∷ y ∷ []) new none l = absurd (l.2).2
-registers_nobody (x ∷ y ∷ z ∷ []) new none l =
+registers_nobody : (answers : List Answer) (new : World) (has : List Tagged) → new.listeners ≡ []
+    → Leads fresh [] (Step.Connected ∷ Step.Listen 1 (plain a) ∷ Step.Data 1 a (num 7) ∷ []) answers new has → ⊥
+registers_nobody [] new has none l = absurd l
+registers_nobody (x ∷ []) new has none l = absurd l.2
+registers_nobody (x ∷ y ∷ []) new has none l = absurd (l.2).2
+registers_nobody (x ∷ y ∷ z ∷ []) new has none l =
     let m = l.2 in
     let n = m.2 in
-    one_there y l.0 m.0 (not_refused x l.0 l.1) m.1 (all_stay z m.0 n.0 n.1 (ap (λ (v : World). v.listeners) (sym n.2) ∙ none))
-registers_nobody (x ∷ y ∷ z ∷ more ∷ rest) new none l = absurd ((l.2).2).2
+    one_there y l.0 m.0 (not_refused x l.0 l.1) m.1 (all_stay z m.0 n.0 n.1 (ap (λ (v : World). v.listeners) (sym (n.2).0) ∙ none))
+registers_nobody (x ∷ y ∷ z ∷ more ∷ rest) new has none l = absurd ((l.2).2).2
 
 pub returns-clause-nobody : goal.returns-clause-nobody
-returns-clause-nobody c = λ answers new none h. registers_nobody answers new none h.leads
+returns-clause-nobody c = λ answers new none h. registers_nobody answers new h.has none h.leads
