@@ -3,14 +3,13 @@ use Rattle.std.proofs.Common.{◌≡◌, ℕ, zero, suc, ◌≤◌, Bool, true, 
 use mathlib.Core.Bool.{true≢false}
 use Rattle.std.specs.Option.{option_map, option_map_or, option_or}
 use Rattle.rt_world.specs.declared.error.CoreError.{CoreError}
-use Rattle.rt_world.specs.declared.error.CoreError.TheVariants as core
 use Rattle.rt_world.specs.declared.report.Report.{Report}
 use Rattle.rt_world.specs.declared.step.Step.{Step}
 use Rattle.rt_world.specs.World.{World}
 use Rattle.rt_world.specs.After.{listener_given, request_given}
 use Rattle.rt_world.specs.Refusals.{refusal, is_stale}
 use Rattle.rt_world.specs.Answers.{step_by, step, done_report}
-use Rattle.rt_core.specs.Core.{Applies}
+use Rattle.rt_core.specs.Core.{Applies, refusal_in}
 use Rattle.rt_mail.specs.declared.error.MailError.{MailError}
 use Rattle.rt_mail.specs.declared.error.MailError.TheVariants as mail
 use Rattle.rt_mail.specs.declared.item.Item.{Item}
@@ -21,15 +20,16 @@ use Rattle.rt_client.specs.declared.call.Call.{Call}
 use Rattle.rt_client.specs.declared.call.Call.TheVariants as call
 use Rattle.rt_client.specs.declared.done.Done.{Done}
 use Rattle.rt_client.specs.declared.error.ClientError.{ClientError}
+use Rattle.rt_client.specs.declared.error.ClientError.TheVariants as error
 use Rattle.rt_client.specs.declared.error.ClientError.TheVariants.{NoMemory}
-use Rattle.rt_client.specs.Codes.{of_core}
 use Rattle.rt_client.specs.Seats.{told_to, receipt_of, does_close}
 use Rattle.rt_client.specs.Lanes.{lane_of, with_told, HasRoom, signed_ring}
 use Rattle.rt_client.specs.Shared.{Held, signed_by, lane_after}
-use Rattle.rt_client.specs.Calls.{step_of, IsRefused, HandsFirst, HandsSome, Called, RefusesCalled}
+use Rattle.rt_client.specs.Calls.{step_of, LacksMemory, HandsFirst, HandsSome, Called, RefusesCalled}
+use Rattle.rt_client.specs.Calls.{Refuses as RefusesStep}
 use Rattle.rt_client.specs.inside.Receipts.{receipt_with, gives_number, AreSigned}
 use Rattle.rt_client.proofs.Slots.{Lines, at_seat}
-use Rattle.rt_client.proofs.Steps.{is_refusal, refused_core}
+use Rattle.rt_client.proofs.Steps.{done_is_due}
 
 -- ---- receipts
 
@@ -184,16 +184,24 @@ call_made old new lanes told w seat c report r ring left is applies e has signed
 pub call_gave_up : (old new : Option World) (lanes : Lines) (w : World) (seat : ℕ) (c : Call) (report : Report) (r : Receipt) (ring left : Ring)
     → old ≡ Some w → Applies old (step_of seat c) (Ok report) new → r ≡ receipt_with (unwrap_or report.given 0) c
     → (lane : Line) × (lane_of lanes seat ≡ Some lane) × HandsFirst lane r ring left
-    → HandsSome (held_of old lanes) seat ring c left
-call_gave_up old new lanes w seat c report r ring left is applies e hands = record {
-  world = w;
-  core = is;
-  lane = hands.0;
-  is_open = hands.1;
-  receipt = r;
-  signed = receipt_made w seat c report r (done_core old new w (step_of seat c) report is applies).0 e;
-  hands = hands.2;
-}
+    → LacksMemory (held_of old lanes) (step_of seat c) × HandsSome (held_of old lanes) seat ring c left
+call_gave_up old new lanes w seat c report r ring left is applies e hands = (
+  record {
+    world = w;
+    core = is;
+    not_refused = (done_is_due old new w (step_of seat c) report is applies).0;
+    not_stale = not_stale w seat c;
+  },
+  record {
+    world = w;
+    core = is;
+    lane = hands.0;
+    is_open = hands.1;
+    receipt = r;
+    signed = receipt_made w seat c report r (done_core old new w (step_of seat c) report is applies).0 e;
+    hands = hands.2;
+  },
+)
 
 -- or before it
 pub call_not_made : (old : Held) (w : World) (seat : ℕ) (c : Call) (ring : Ring) → old.core ≡ Some w → HasRoom ring (lane_of old.lanes seat) → HandsSome old seat ring c ring
@@ -210,42 +218,24 @@ call_not_made old w seat c ring is has =
       hands = hands_none found.0 r ring ring refl;
     }
 
--- the core refuses
-called_refuses : (e : CoreError) (old new : Held) (seat : ℕ) (c : Call) (ring : Ring) → HandsSome old seat ring c ring
-    → (e ≡ core.NoMemory) ⊎ ((is_refusal e ≡ true) × IsRefused old (step_of seat c) e × (new ≡ old)) → RefusesCalled old seat ring c (of_core e) new ring
-called_refuses core.Failed old new seat c ring some (inl lacks) = cc
-called_refuses core.Failed old new seat c ring some (inr h) = absurd (true≢false (sym h.0))
-called_refuses core.UnknownListener old new seat c ring some (inl lacks) = cc
-called_refuses core.UnknownListener old new seat c ring some (inr h) = (h.1, h.2, refl)
-called_refuses core.TooManyListeners old new seat c ring some (inl lacks) = cc
-called_refuses core.TooManyListeners old new seat c ring some (inr h) = (h.1, h.2, refl)
-called_refuses core.TooManyRequests old new seat c ring some (inl lacks) = cc
-called_refuses core.TooManyRequests old new seat c ring some (inr h) = (h.1, h.2, refl)
-called_refuses core.Overlap old new seat c ring some (inl lacks) = cc
-called_refuses core.Overlap old new seat c ring some (inr h) = (h.1, h.2, refl)
-called_refuses core.EmptyUpdate old new seat c ring some (inl lacks) = cc
-called_refuses core.EmptyUpdate old new seat c ring some (inr h) = (h.1, h.2, refl)
-called_refuses core.TooDeep old new seat c ring some (inl lacks) = cc
-called_refuses core.TooDeep old new seat c ring some (inr h) = (h.1, h.2, refl)
-called_refuses core.BadPush old new seat c ring some (inl lacks) = cc
-called_refuses core.BadPush old new seat c ring some (inr h) = (h.1, h.2, refl)
-called_refuses core.AlreadyConnected old new seat c ring some (inl lacks) = cc
-called_refuses core.AlreadyConnected old new seat c ring some (inr h) = (h.1, h.2, refl)
-called_refuses core.NotConnected old new seat c ring some (inl lacks) = cc
-called_refuses core.NotConnected old new seat c ring some (inr h) = (h.1, h.2, refl)
-called_refuses core.NoMemory old new seat c ring some h = some
+-- a refusal of its step, where the ring stays, is one of the call
+pub called_refuses : (e : ClientError) (old new : Held) (w : World) (seat : ℕ) (c : Call) (ring : Ring) → old.core ≡ Some w → HasRoom ring (lane_of old.lanes seat)
+    → RefusesStep old (step_of seat c) e new → RefusesCalled old seat ring c e new ring
+called_refuses error.Failed old new w seat c ring is has r = r
+called_refuses error.WrongSeat old new w seat c ring is has r = r
+called_refuses error.MailboxFull old new w seat c ring is has r = r
+called_refuses error.TooManySeats old new w seat c ring is has r = r
+called_refuses (error.Core why) old new w seat c ring is has r = (r.0, r.1, refl)
+called_refuses error.NoMemory old new w seat c ring is has r = (r, call_not_made old w seat c ring is has)
 
-pub call_refused : (old new : Option World) (lanes : Lines) (w : World) (seat : ℕ) (c : Call) (ring : Ring) (e : CoreError)
-    → old ≡ Some w → Applies old (step_of seat c) (Err e) new → HasRoom ring (lane_of lanes seat)
-    → RefusesCalled (held_of old lanes) seat ring c (of_core e) (held_of new lanes) ring
-call_refused old new lanes w seat c ring e is applies has =
-    called_refuses e (held_of old lanes) (held_of new lanes) seat c ring (call_not_made (held_of old lanes) w seat c ring is has)
-    (by (refused_core old new w (step_of seat c) e is applies))
-  where
-    by : (e ≡ core.NoMemory) ⊎ ((is_refusal e ≡ true) × ((step w (step_of seat c)).1 ≡ Err e) × (new ≡ old))
-        → (e ≡ core.NoMemory) ⊎ ((is_refusal e ≡ true) × IsRefused (held_of old lanes) (step_of seat c) e × (held_of new lanes ≡ held_of old lanes))
-    by (inl lacks) = inl lacks
-    by (inr h) = inr (h.0, record { world = w; core = is; answer = h.1 }, λ i. held_of (h.2 i) lanes)
+-- a core that is asked in vain why it refuses a call
+pub asked_due : (old : Held) (w : World) (seat : ℕ) (c : Call) → old.core ≡ Some w → None ≡ refusal_in old.core (step_of seat c) → LacksMemory old (step_of seat c)
+asked_due old w seat c is none = record {
+  world = w;
+  core = is;
+  not_refused = sym (none ∙ ap (λ o. refusal_in o (step_of seat c)) is);
+  not_stale = not_stale w seat c;
+}
 
 -- what is said of want of memory
 pub if_no_memory : {X : Type 0} (r : Result X ClientError) (P : ClientError → Type 0) → r ≡ Err NoMemory → P NoMemory → IfErr r P

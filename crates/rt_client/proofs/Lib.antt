@@ -1,6 +1,8 @@
 pub mod Allowed
 pub mod Batches
 pub mod Called
+pub mod ClientCrosses
+pub mod Crosses
 pub mod Delivered
 pub mod Filters
 pub mod Followed

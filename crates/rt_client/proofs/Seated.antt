@@ -47,7 +47,7 @@ pub seat_gave_up : (n : ℕ) (ids : Option Stamp) (client number : ℕ) (ring le
     → HasRoom ring (lane_of before.lanes number) → given_up ≡ None → RefusesCalled before number ring c NoMemory after left
     → RefusesCall (locked_of n ids (Some before)) (seated_of client number ring) c NoMemory (locked_of n ids given_up) (seated_of client number left)
 seat_gave_up n ids client number ring left before after given_up c own has none h =
-    (before, λ i. Some before, subst (HasRoom ring) (own_is n client (lane_of before.lanes number) own) has, left, h, λ i. seated_of client number left, λ i. locked_of n ids (none i))
+    (before, λ i. Some before, subst (HasRoom ring) (own_is n client (lane_of before.lanes number) own) has, h.0, left, h.1, λ i. seated_of client number left, λ i. locked_of n ids (none i))
 
 -- a call that makes a listener or a request is given a number
 pub number_there : (old new : Locked) (seat left : Seated) (c : Call) (done : Done) → IsTrue (gives_number c) → MakesCall old seat c done new left → done.given ≡ None → ⊥

@@ -1,6 +1,6 @@
 -- What calls make of a client's locked value and of the caller's seat.
 use Rattle.std.specs.Prelude.{◌≡◌, ◌≤◌, ℕ, length, [], ◌∷◌, ◌++◌, take, if◌then◌else◌, ◌==◌}
-use Rattle.std.specs.Prelude.{Option, Some, None, Ok, Err}
+use Rattle.std.specs.Prelude.{false, Option, Some, None, Ok, Err}
 use Rattle.rt_push.specs.PushIds.{Stamp}
 use Rattle.rt_wire.specs.declared.server.ServerMessage.{ServerMessage}
 use Rattle.rt_wire.specs.declared.server.ServerMessage.TheVariants as message
@@ -9,6 +9,7 @@ use Rattle.rt_world.specs.declared.report.Outcome.{Outcome}
 use Rattle.rt_world.specs.declared.report.Report.{Report}
 use Rattle.rt_world.specs.declared.step.Step.{Step}
 use Rattle.rt_world.specs.World.{World}
+use Rattle.rt_world.specs.Refusals.{refusal, is_stale}
 use Rattle.rt_world.specs.Answers.{step}
 use Rattle.rt_mail.specs.declared.item.Item.TheVariants as item
 use Rattle.rt_mail.specs.declared.receipt.Receipt.{Receipt}
@@ -98,6 +99,13 @@ pub record IsRefused (old : Held) (s : Step) (why : CoreError) : Type 0 where
   pub core : old.core ≡ Some world
   pub answer : (step world s).1 ≡ Err why
 
+-- want of memory hides no refusal: the world neither refuses the step, nor is it stale
+pub record LacksMemory (old : Held) (s : Step) : Type 0 where
+  pub world : World
+  pub core : old.core ≡ Some world
+  pub not_refused : refusal world s ≡ None
+  pub not_stale : is_stale world s ≡ false
+
 -- a refusal of a step: what is held stays as it is, or memory lacked
 abbrev pub Refuses : Held → Step → ClientError → Held → Type 0
 Refuses old s Failed new = ⊥
@@ -105,7 +113,7 @@ Refuses old s WrongSeat new = ⊥
 Refuses old s MailboxFull new = ⊥
 Refuses old s TooManySeats new = ⊥
 Refuses old s (Core why) new = IsRefused old s why × (new ≡ old)
-Refuses old s NoMemory new = Unit {0}
+Refuses old s NoMemory new = LacksMemory old s
 
 -- the step that an open seat's call is; its ring has all that waited, and then the receipt
 pub record Called (old : Held) (seat : ℕ) (had : Ring) (c : Call) (done : Done) (new : Held)
@@ -140,7 +148,8 @@ RefusesCalled old seat ring c MailboxFull new left = ⊥
 RefusesCalled old seat ring c TooManySeats new left = ⊥
 RefusesCalled old seat ring c (Core why) new left =
     IsRefused old (step_of seat c) why × (new ≡ old) × (left ≡ ring)
-RefusesCalled old seat ring c NoMemory new left = HandsSome old seat ring c left
+RefusesCalled old seat ring c NoMemory new left =
+    LacksMemory old (step_of seat c) × HandsSome old seat ring c left
 
 -- ---- steps on the locked value
 
@@ -160,7 +169,8 @@ RefusesOn old s MailboxFull new = ⊥
 RefusesOn old s TooManySeats new = ⊥
 RefusesOn old s (Core why) new =
     (before : Held) × (old.held ≡ Some before) × IsRefused before s why × (new ≡ old)
-RefusesOn old s NoMemory new = (before : Held) × (old.held ≡ Some before) × Fails old new
+RefusesOn old s NoMemory new =
+    (before : Held) × (old.held ≡ Some before) × LacksMemory before s × Fails old new
 
 -- the step that the call of an open seat is
 pub record MakesCall (old : Locked) (seat : Seated) (c : Call) (done : Done) (new : Locked)
@@ -188,6 +198,7 @@ RefusesCall old seat c (Core why) new left =
     × IsRefused before (step_of seat.number c) why × IsSame old seat new left
 RefusesCall old seat c NoMemory new left =
     (before : Held) × (old.held ≡ Some before) × HasRoom seat.ring (own_lane old before seat)
+    × LacksMemory before (step_of seat.number c)
     × (ring : Ring) × HandsSome before seat.number seat.ring c ring
     × (left ≡ record seat { ring = ring }) × Fails old new
 

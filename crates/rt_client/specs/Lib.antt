@@ -9,8 +9,8 @@
 --     Delivery    what is given to a sink or a mirror, and delivered over turns
 --     Opened      a client as it is opened, and its seats
 -- laws/ has that what a seat is told keeps it up to date (Reflecting), that what the lock keeps is kept
--- (Keeping), that a mirror follows a lane (Following), and what the prover computes of literals (Examples,
--- Telling);
+-- (Keeping), that a mirror follows a lane (Following), what goes to threads (Crossing), and what the prover
+-- computes of literals (Examples, Telling);
 -- inside/ what only the code's own functions need.
 pub mod Calls
 pub mod Codes

@@ -47,6 +47,18 @@ impl Call {
         })
     }
 
+    // The same, of a call that is given up.
+    pub(crate) fn into_step(self, seat: u64) -> Step
+        ensures { result ≡ step_of seat self }
+    {
+        match self {
+            Call::Listen { query } => Step::Listen { seat, query },
+            Call::Unlisten { listener } => Step::Unlisten { seat, listener },
+            Call::Write { action } => Step::Write { seat, action },
+            Call::OnDisconnect { ending } => Step::OnDisconnect { seat, ending },
+        }
+    }
+
     // The receipt of the call, to which its step gave that number.
     pub(crate) fn receipt(self, number: u64) -> Receipt
         ensures { result ≡ receipt_with number self }

@@ -6,7 +6,7 @@ ghost use Rattle.rt_client.specs.Seats.{caller_of, closed_by};
 ghost use Rattle.rt_mail.specs.Lanes.{Line};
 ghost use Rattle.rt_client.specs.Lanes.{lane_of, HasRoom, signed_ring};
 ghost use Rattle.rt_client.specs.inside.Receipts.{AreSigned};
-ghost use Rattle.rt_client.specs.Calls.{HandsFirst, Made, Refuses, Called, RefusesCalled};
+ghost use Rattle.rt_client.specs.Calls.{step_of, HandsFirst, Made, Refuses, Called, RefusesCalled};
 ghost use Rattle.rt_client.specs.Settling.{HandsDue, HandsPart, TakesFirst, HasCover};
 
 use crate::call::Call;
@@ -116,6 +116,20 @@ impl Held {
         }
     }
 
+    // Why a call is refused for whose copy memory lacks: what the core refuses is refused so also then.
+    fn why_uncopied(&self, seat: u64, call: Call) -> ClientError
+        requires { (w : World) × (self.now.core ≡ Some w) }
+        ensures { Refuses self.now (step_of seat call) result self.now }
+    {
+        let step = call.into_step(seat);
+        let refusal = self.core.refusal(&step);
+        drop(step);
+        match refusal {
+            Some(error) => ClientError::from(error),
+            None => ClientError::NoMemory,
+        }
+    }
+
     // One step of the core that is an open seat's call: all that waited in its lane is handed over, and
     // then the receipt, and the step's notes wait in their lanes. After want of memory what is held
     // is given up.
@@ -132,8 +146,7 @@ impl Held {
         ensures refused { IfErr result (λ e. RefusesCalled self.old seat inbox.old call e self.new inbox.new) }
     {
         let Ok(step) = call.step(alloc, seat) else {
-            drop(call);
-            return Err(ClientError::NoMemory);
+            return Err(self.why_uncopied(seat, call));
         };
         match self.core.apply(step) {
             Ok(

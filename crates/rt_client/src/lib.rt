@@ -23,6 +23,8 @@
 //! From December 1993 to May 2109 the keys that one `PushIds` gives rise in key order, by the law
 //! `keys_rise`.
 //!
+//! Threads may share a client, and each may be handed a seat, by the law `crossing_law`.
+//!
 //! A seat is told of each step its own call's receipt and then its notes. One who takes all of that,
 //! in order, knows after any steps just what the core knows of the seat: its listeners with the rows
 //! of their views, and its unsettled requests, by the law `mirror_law`.
@@ -31,6 +33,7 @@
 mod call;
 mod calls;
 mod client;
+mod crossing;
 mod delivery;
 mod done;
 mod error;
@@ -49,6 +52,7 @@ mod tests;
 
 pub use call::Call;
 pub use client::{Client, MAX_SEATS};
+pub use crossing::crossing_law;
 pub use delivery::{Gate, Sink, deliver};
 pub use done::Done;
 pub use error::ClientError;

@@ -15,8 +15,6 @@ mod error;
 mod laws;
 mod serve;
 mod socket;
-#[cfg(test)]
-mod tests;
 
 pub use error::ServeError;
 pub use laws::session_law;

@@ -1,3 +1,1 @@
 pub mod Captured
-pub mod Clients
-pub mod Crossing

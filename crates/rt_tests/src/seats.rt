@@ -1,6 +1,6 @@
 // Two threads on one client, each with a seat of its own, whose work really interleaves: a client
 // whose threads run one after another fails.
-use rt_client::{Client, Gate, Seat, Shared, Sink, deliver};
+use rt_client::{Client, Gate, Seat, Shared, Sink, crossing_law, deliver};
 use rt_mail::Item;
 use rt_query::Query;
 use rt_tree::{Leaf, Path, Tree};
@@ -135,6 +135,8 @@ fn both<R: Threads + Wait + Sync>(
     seats: (&mut Seat, &mut Seat),
     paths: (Path, Path),
 ) -> (bool, bool) {
+    // This states for the prover what may go to another thread.
+    crossing_law();
     let (one, two) = (Side::new(), Side::new());
     let (its, other) = seats;
     let (path, next) = paths;

@@ -1,7 +1,7 @@
 // Streams in memory are served: what clients write, what they are sent, and what the peer then is.
-use crate::serve_stream;
-use crate::socket::{Heard, Socket, accepted, hear};
+use rt_input::MAX_MESSAGE_BYTES;
 use rt_peer::Peer;
+use rt_serve::serve_stream;
 use rt_tree::Tree;
 use std::alloc::Global;
 use std::io;
@@ -315,72 +315,63 @@ fn failing_writes(rt: HostRuntime) -> Result<(), Fail> {
     Ok(())
 }
 
-// How many texts are heard of a socket, of at most ten.
-fn texts<S: Read + Write + Drop>(socket: &mut Socket<S>) -> Result<usize, Fail> {
-    for count in 0..10 {
-        if !matches!(hear(socket)?, Heard::Text(_)) {
-            return Ok(count);
+// Empty parts of a text, one after another.
+#[derive(Debug, Drop)]
+struct EmptyParts;
+
+impl Read for EmptyParts {
+    fn read(&mut self, buf: &mut [u8]) -> io::Result<usize> {
+        let most = buf.len();
+        let mut count: usize = 0;
+        for part in buf.chunks_exact_mut(6) {
+            part.copy_from_slice(&[PART, 0x80, 0, 0, 0, 0]);
+            count = count.saturating_add(6);
         }
-    }
-    Ok(10)
-}
-
-// How many texts are heard of these frames, where at most so many bytes are read for one.
-fn heard(alloc: Global, frames: &[u8], most: usize) -> Result<usize, Fail> {
-    let mut out = Vec::new(alloc);
-    let stream = Duplex {
-        reader: HEAD.chain(frames),
-        writer: &mut out,
-    };
-    match accepted(alloc, stream, most)? {
-        Some(mut socket) => texts(&mut socket),
-        None => Ok(usize::MAX),
+        Ok(count.min(most))
     }
 }
 
-// Two texts that are too long together, and one of so many empty parts.
-fn parts(alloc: Global, count: usize) -> Result<Vec<u8>, Fail> {
-    let words = str::from_utf8(&[b'x'; 120])?;
-    let mut out = frames_of(alloc, &[(TEXT, words), (TEXT, words), (FIRST_PART, "")])?;
-    for _ in 0..count {
-        frame(&mut out, PART, "")?;
-    }
-    frame(&mut out, LAST_PART, "")?;
-    Ok(out)
-}
-
-fn heard_parts(alloc: Global, count: usize) -> Result<usize, Fail> {
-    let frames = parts(alloc, count)?;
-    heard(alloc, &frames, 200)
-}
-
-// The bytes are counted for each message, however few of them are the message's own.
-#[test]
-fn counted(rt: HostRuntime) -> Result<(), Fail> {
-    assert_eq!(rt; heard_parts(rt.alloc(), 10)?, 3);
-    assert_eq!(rt; heard_parts(rt.alloc(), 100)?, 2);
-    Ok(())
-}
-
-// What begins a frame with a text of 17 MiB and 40 bytes, and the text.
+// What begins a frame with a text of 70 MiB and 40 bytes, and the text.
 fn large_head(alloc: Global) -> Result<Vec<u8>, Fail> {
-    let frame = [TEXT, 0xff, 0, 0, 0, 0, 0x01, 0x10, 0, 40, 0, 0, 0, 0];
+    let frame = [TEXT, 0xff, 0, 0, 0, 0, 0x04, 0x60, 0, 40, 0, 0, 0, 0];
     let mut first = Vec::from_slice(alloc, &frame)?;
     first.extend_from_slice(br#"{"id":1,"k":"put","path":"/a","value":5"#)?;
     Ok(first)
 }
 
+// A text in two parts, without the empty ones between them.
+const SPLIT: [(u8, &str); 2] = [
+    (FIRST_PART, r#"{"id":2,"k":"put","path":"/b","value":6}"#),
+    (LAST_PART, ""),
+];
+
+// What a client sees that writes two large texts, and then one with too many bytes of empty parts.
 fn seen_large(alloc: Global) -> Result<Sight, Fail> {
     let first = large_head(alloc)?;
-    let spaces = io::repeat(b' ').take(17 << 20);
-    let text = first.as_slice().chain(spaces).chain(b"}".as_slice());
-    seen(alloc, "null", HEAD.chain(text), usize::MAX)
+    let spaces = io::repeat(b' ').take(70 << 20).chain(b"}".as_slice());
+    let again = io::repeat(b' ').take(70 << 20).chain(b"}".as_slice());
+    let large = first
+        .as_slice()
+        .chain(spaces)
+        .chain(first.as_slice())
+        .chain(again);
+    let begin = frames_of(alloc, &SPLIT[..1])?;
+    let end = frames_of(alloc, &SPLIT[1..])?;
+    let parts = EmptyParts.take(MAX_MESSAGE_BYTES as u64);
+    let split = begin.as_slice().chain(parts).chain(end.as_slice());
+    seen(alloc, "null", HEAD.chain(large).chain(split), usize::MAX)
 }
 
-// A text of 17 MiB is read, which is more than the library's own bound for a frame.
+// A text of 70 MiB is read, which is more than the library's own bound for a frame. The bytes are counted
+// for each message, so that two such texts are read, and one of too many parts is not, however few of
+// their bytes are the message's own.
 #[test]
-fn large_text(rt: HostRuntime) -> Result<(), Fail> {
+fn counted(rt: HostRuntime) -> Result<(), Fail> {
     let seen = seen_large(rt.alloc())?;
+    assert_eq!(rt;
+        behind_head(&seen.out),
+        b"\x81\x11{\"id\":1,\"k\":\"ok\"}\x81\x11{\"id\":1,\"k\":\"ok\"}".as_slice()
+    );
     assert_eq!(rt; seen.state.as_str(), r#"1 {"a":5}"#);
     Ok(())
 }

@@ -1,0 +1,83 @@
+-- A client may be shared by threads, and a seat handed to one: type by type, from what they hold up.
+use denote.Param.Send.{IsSend, IsSync}
+use Rattle.circular_buffer.proofs.Crosses.{Cells-send, Cells-sync, Deed-send, Deed-sync}
+use Rattle.rt_mail.specs.contracts.mirror.Mirror as mirror
+use Rattle.rt_mail.specs.contracts.inbox.Inbox as inbox
+use Rattle.rt_mail.specs.contracts.lane.Lane as lane
+use Rattle.rt_cache.specs.contracts.brought.Brought as brought
+use Rattle.rt_cover.specs.contracts.cover.Cover as cover
+use Rattle.rt_view.specs.contracts.view.View as view
+use Rattle.rt_listeners.specs.contracts.held.Held as listening
+use Rattle.rt_listeners.specs.contracts.listeners.Listeners as listeners
+use Rattle.rt_world.specs.contracts.request.Request as request
+use Rattle.rt_requests.specs.contracts.requests.Requests as requests
+use Rattle.rt_wire.specs.contracts.client.ClientMessage as message
+use Rattle.rt_core.specs.contracts.state.State as state
+use Rattle.rt_core.specs.contracts.Core as core
+use Rattle.rt_client.specs.contracts.seat.Seat as seat
+use Rattle.rt_client.specs.contracts.lanes.Lanes as lanes
+use Rattle.rt_client.specs.contracts.held.Held as held
+use Rattle.rt_client.specs.contracts.shared.Shared as shared
+use Rattle.rt_client.specs.contracts.client.Client as client
+use Rattle.rt_client.proofs.Crosses.{all_cross, calls_cross, item_send, trees_cross}
+
+pub mirror_send : IsSend mirror.the_row
+mirror_send = search trees_cross depth 40 fits 20000
+
+ruleset rings_cross = (Cells-send, Cells-sync, Deed-send, Deed-sync, all_cross)
+
+pub inbox_send : IsSend inbox.the_row
+inbox_send = search (item_send, rings_cross) depth 40 fits 20000
+
+pub seat_send : IsSend seat.the_row
+seat_send = search (inbox_send, all_cross) depth 40 fits 20000
+
+lane_send : IsSend lane.the_row
+lane_send = search (item_send, mirror_send, all_cross) depth 40 fits 20000
+
+lanes_send : IsSend lanes.the_row
+lanes_send = search (lane_send, all_cross) depth 40 fits 20000
+
+-- what the core holds
+brought_send : IsSend brought.the_row
+brought_send = search calls_cross depth 40 fits 20000
+
+cover_send : IsSend cover.the_row
+cover_send = search calls_cross depth 40 fits 20000
+
+view_send : IsSend view.the_row
+view_send = search calls_cross depth 40 fits 20000
+
+listening_send : IsSend listening.the_row
+listening_send = search (view_send, calls_cross) depth 40 fits 20000
+
+listeners_send : IsSend listeners.the_row
+listeners_send = search (listening_send, calls_cross) depth 40 fits 20000
+
+request_send : IsSend request.the_row
+request_send = search calls_cross depth 40 fits 20000
+
+requests_send : IsSend requests.the_row
+requests_send = search (request_send, calls_cross) depth 40 fits 20000
+
+message_send : IsSend message.the_row
+message_send = search calls_cross depth 40 fits 20000
+
+ruleset cores_cross =
+    (brought_send, cover_send, listeners_send, requests_send, message_send, all_cross)
+
+state_send : IsSend state.the_row
+state_send = search cores_cross depth 40 fits 20000
+
+core_send : IsSend core.the_row
+core_send = search (state_send, all_cross) depth 40 fits 20000
+
+-- what the lock keeps
+held_send : IsSend held.the_row
+held_send = search (core_send, lanes_send, all_cross) depth 40 fits 20000
+
+shared_send : IsSend shared.the_row
+shared_send = search (held_send, all_cross) depth 40 fits 20000
+
+pub client_sync : IsSync client.the_row
+client_sync = search (shared_send, all_cross) depth 40 fits 20000

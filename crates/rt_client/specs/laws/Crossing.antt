@@ -1,0 +1,34 @@
+-- What threads may share, and what may be handed to one.
+use denote.Param.Send.{IsSend, IsSync}
+use Rattle.rt_tree.specs.contracts.path.Path as path
+use Rattle.rt_tree.specs.contracts.tree.Tree as tree
+use Rattle.rt_query.specs.contracts.query.Query as query
+use Rattle.rt_mail.specs.contracts.item.Item as item
+use Rattle.rt_mail.specs.contracts.mirror.Mirror as mirror
+use Rattle.rt_client.specs.contracts.seat.Seat as seat
+use Rattle.rt_client.specs.contracts.client.Client as client
+
+-- threads may share a client
+abbrev pub ClientIsShared : Type 0
+ClientIsShared = IsSync client.the_row
+
+-- and each may be handed a seat,
+abbrev pub SeatIsSent : Type 0
+SeatIsSent = IsSend seat.the_row
+
+-- what a seat is told, and who takes it all,
+abbrev pub ItemIsSent : Type 0
+ItemIsSent = IsSend item.the_row
+
+abbrev pub MirrorIsSent : Type 0
+MirrorIsSent = IsSend mirror.the_row
+
+-- and what its calls are made of
+abbrev pub QueryIsSent : Type 0
+QueryIsSent = IsSend query.the_row
+
+abbrev pub PathIsSent : Type 0
+PathIsSent = IsSend path.the_row
+
+abbrev pub TreeIsSent : Type 0
+TreeIsSent = IsSend tree.the_row
