@@ -1,5 +1,5 @@
 -- Known bytes.
-use Rattle.std.proofs.Common.{◌≡◌, ℕ, List, ◌++◌, Option, Some, None, Result, Ok, Err, OnOk, ◌∙◌}
+use Rattle.std.proofs.Common.{ℕ, List, Option, Some, None, Result, Ok, Err, OnOk, ◌∙◌}
 use Rattle.std.specs.Io.KnownBytes.{Appends, Keeps}
 
 pub on_ok_always : {A E : Type 0} (P : Type 0) (r : Result A E) → P → OnOk r P

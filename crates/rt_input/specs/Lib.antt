@@ -1,5 +1,7 @@
 -- In reading order: Lines (the lines of an input), Streams (what a reader and a writer count), Faults
--- (what an error tells of them), Errors (the number and the name of each).
+-- (what an error tells of them), Errors (the number and the name of each), Counted (a stream of which
+-- only so much is read for one message).
+pub mod Counted
 pub mod Errors
 pub mod Faults
 pub mod Lines

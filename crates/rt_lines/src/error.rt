@@ -102,8 +102,16 @@ impl From<QueryError> for LineError {
 
     fn from(error: QueryError) -> LineError {
         match error {
+            QueryError::OrderTwice
+            | QueryError::StartTwice
+            | QueryError::EndTwice
+            | QueryError::LimitTwice
+            | QueryError::LimitZero
+            | QueryError::NeedsText
+            | QueryError::KeyNotAllowed
+            | QueryError::NoOrder
+            | QueryError::BadBoundKey => LineError::Refused(Refusal::Query(error)),
             QueryError::NoMemory => LineError::NoMemory,
-            _ => LineError::Refused(Refusal::Query(error)),
         }
     }
 }
