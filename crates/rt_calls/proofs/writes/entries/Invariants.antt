@@ -1,6 +1,6 @@
 use Rattle.std.specs.List.{All}
 use Rattle.rt_writes.specs.Writes.{IsShallow}
-use Rattle.rt_calls_mid.proofs.writes.entries.Given as goal
+use Rattle.rt_calls.proofs.writes.entries.Given as goal
 
 abbrev pub invariant-loop : goal.invariant-loop
 invariant-loop l = All IsShallow l.entries.items

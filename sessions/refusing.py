@@ -1,0 +1,124 @@
+"""What ./check asks of `serve` and `connect` together where memory lacks: one allocation after another is
+refused, on either side. Where it is one for a field of the handshake's head, tungstenite says that the head is
+bad, so that there is no handshake; else the program says that memory was lacking, behind what it printed."""
+import os
+import socket
+import subprocess
+
+from cutting import ENDS, HANDSHAKE, LINES, WHOLE, Wrong, begun, ended, must, served
+from frames import SECONDS
+from session import stop
+
+MOST = 200  # about so many allocations are refused of each side
+REFUSED = b"refused\n"  # what calls/refuse.c says where it refuses
+LACKING = (b"kaltewi: out of memory\n", b"error: out of memory\n")  # the second is what clap says
+QUIET = 0, b"", b""
+# what `connect` prints where its server goes: of all that it prints where a call of `serve` fails
+CUT_OFF = {out for (side, _), ends in ENDS.items() if side == "serve" for out, _ in ends}
+
+
+def meet(programs, given):
+    """Lets `connect` meet `serve`, each with its environment, and answers how both ended; of `connect`
+    nothing where the other ended before it listened."""
+    server = client = None
+    try:
+        server, port = served(programs["serve"], 1, given.get("serve", {}))
+        if port:
+            client = begun([programs["connect"], "connect", str(port)], LINES, given.get("connect", {}))
+        of_client = ended(client) if client else None
+        if of_client and not of_client[1]:
+            visit(port)  # it may not have come
+        return of_client, ended(server)
+    finally:
+        for ran in (server, client):
+            if ran:
+                stop(ran)
+
+
+def visit(port):
+    """Comes and goes, as a client that `serve` may still wait for."""
+    try:
+        socket.create_connection(("127.0.0.1", port), timeout=SECONDS).close()
+    except OSError:
+        pass  # it waits for nobody any more
+
+
+def must_lack(side, err):
+    """A side says in one line that memory was lacking."""
+    if err.replace(REFUSED, b"", 1) not in LACKING:
+        raise Wrong(f"what {side} says where memory lacks is {err}")
+
+
+def is_refused_to_connect(client, server):
+    """Sees how both sides end, and answers whether an allocation was refused to `connect`."""
+    if REFUSED not in client[2]:
+        return False
+    if client == (0, HANDSHAKE.encode(), REFUSED):
+        return True
+    must_lack("connect", client[2])
+    must("connect's status", client[0], 1)
+    if not WHOLE.encode().startswith(client[1]) or client[1][-1:] not in (b"", b"\n"):
+        raise Wrong(f"what connect prints is {client[1]}")
+    must("what serve ends with, and prints", server, QUIET)
+    return True
+
+
+def is_refused_to_serve(client, server):
+    """Sees how both sides end, and answers whether an allocation was refused to `serve`."""
+    if REFUSED not in server[2]:
+        return False
+    if (client, server) == ((0, HANDSHAKE.encode(), b""), (0, b"", REFUSED)):
+        return True
+    must_lack("serve", server[2])
+    must("serve's status, and what it prints", server[:2], (1, b""))
+    if client:
+        must("connect's status, and what it says", client[::2], (0, b""))
+        if client[1].decode() not in CUT_OFF:
+            raise Wrong(f"what connect prints is {client[1]}")
+    return True
+
+
+SIDES = {"serve": is_refused_to_serve, "connect": is_refused_to_connect}
+
+
+def refused_at(programs, library, side, number):
+    """Refuses an allocation, and answers whether there was such an allocation."""
+    client, server = meet(programs, {side: {"LD_PRELOAD": library, "REFUSED_ALLOCATION": str(number)}})
+    try:
+        if SIDES[side](client, server):
+            return True
+        must("how both end", (client, server), ((0, WHOLE.encode(), b""), QUIET))
+        return False
+    except Wrong as why:
+        raise Wrong(f"{side}, allocation {number} refused: {why}") from why
+
+
+def count_of(programs, library, side):
+    """How many allocations a side makes."""
+    count, step = 0, 1
+    while refused_at(programs, library, side, count + step):
+        count, step = count + step, 2 * step
+    last = count + step
+    while last - count > 1:
+        middle = (count + last) // 2
+        count, last = (middle, last) if refused_at(programs, library, side, middle) else (count, middle)
+    return count
+
+
+def in_turn(programs, library, side):
+    """Refuses one allocation of a side after another, and answers how many, and what is wrong."""
+    try:
+        count = count_of(programs, library, side)
+        numbers = range(1, count + 1, max(1, count // MOST))
+        for number in numbers:
+            refused_at(programs, library, side, number)
+        return len(numbers), "" if numbers else f"{side} takes no memory"
+    except (Wrong, OSError, subprocess.TimeoutExpired) as why:
+        return 1, f"{why} ({os.path.basename(programs[side])})"
+
+
+def wrong_of(programs, library):
+    """What is wrong with these builds of the program, each with itself, and how many were refused: one run after
+    another, since a run's client may take the port of another's server."""
+    ends = [in_turn(dict.fromkeys(SIDES, one), library, side) for one in programs for side in SIDES]
+    return [why for _, why in ends if why], sum(count for count, _ in ends)
