@@ -47,8 +47,6 @@ mod laws;
 mod reflecting;
 mod seat;
 mod shared;
-#[cfg(test)]
-mod tests;
 
 pub use call::Call;
 pub use client::{Client, MAX_SEATS};

@@ -1,12 +1,11 @@
 // Two threads on one client, each with a seat of its own, whose work really interleaves: a client
 // whose threads run one after another fails.
-use rt_client::{Client, Gate, Seat, Shared, Sink, crossing_law, deliver};
+use rt_client::{Client, Gate, Seat, Shared, Sink, crossing_law, deliver, with_core};
 use rt_mail::Item;
 use rt_query::Query;
 use rt_tree::{Leaf, Path, Tree};
 use rt_view::{Batch, Change};
-use rt_wire::ServerMessage;
-use rt_world::Limits;
+use rt_world::{Limits, Step};
 use std::alloc::Global;
 use std::sync::Wait;
 use std::sync::atomic::{AtomicBool, Ordering};
@@ -155,9 +154,7 @@ fn listens(shared: &mut Shared, seat: &mut Seat, path: Path) -> bool {
 // Whether null came on the first listen.
 fn pushes(shared: &mut Shared, path: Path) -> bool {
     let tree = Tree::null();
-    shared
-        .server_message(ServerMessage::Data { tag: 1, path, tree })
-        .is_ok()
+    with_core(shared, Step::Data { tag: 1, path, tree }).is_ok()
 }
 
 fn path(alloc: Global, text: &str) -> Result<Path, Fail> {
