@@ -25,10 +25,18 @@ use std::marker::Model;
 /// Regions stand in the order of their paths, and none is at or above another, so that the one at
 /// or above a path is found by halving. Each tree is a store of its own, so that a tree that a call
 /// doesn't touch is neither copied nor walked.
-#[derive(Drop)]
 pub struct Brought {
     regions: Vec<Region>,
     windows: Vec<Window>,
+}
+
+impl Drop for Brought {
+    fn drop(self) {
+        let Brought {
+            regions: _,
+            windows: _,
+        } = self;
+    }
 }
 
 impl Model for Brought {

@@ -10,9 +10,14 @@ use std::alloc::AllocError;
 use std::marker::Model;
 
 /// Queries of a call.
-#[derive(Drop)]
 pub struct QueryList {
     items: Vec<Query>,
+}
+
+impl Drop for QueryList {
+    fn drop(self) {
+        let QueryList { items: _ } = self;
+    }
 }
 
 impl Model for QueryList {

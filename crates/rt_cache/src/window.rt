@@ -3,9 +3,18 @@ use rt_query::Query;
 use rt_store::Store;
 
 // The known children of a filtered query; whole where they are all that its path has.
-#[derive(Drop)]
 pub(crate) struct Window {
     pub(crate) query: Query,
     pub(crate) children: Store,
     pub(crate) is_whole: bool,
+}
+
+impl Drop for Window {
+    fn drop(self) {
+        let Window {
+            query: _,
+            children: _,
+            is_whole: _,
+        } = self;
+    }
 }

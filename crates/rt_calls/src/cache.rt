@@ -11,10 +11,18 @@ use rt_tree::{MAX_LEVELS, Path, Tree};
 use std::alloc::{AllocError, Global};
 
 // What is brought, and queries whose answers a refusal may not change.
-#[derive(Drop)]
 pub(crate) struct State {
     brought: Brought,
     watched: Vec<Query>,
+}
+
+impl Drop for State {
+    fn drop(self) {
+        let State {
+            brought: _,
+            watched: _,
+        } = self;
+    }
 }
 
 impl State {

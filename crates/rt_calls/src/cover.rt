@@ -5,9 +5,14 @@ use rt_script::{Fault, Said, Words};
 use std::alloc::Global;
 
 // A cover, changed by the lines.
-#[derive(Drop)]
 pub(crate) struct State {
     cover: Cover,
+}
+
+impl Drop for State {
+    fn drop(self) {
+        let State { cover: _ } = self;
+    }
 }
 
 impl State {

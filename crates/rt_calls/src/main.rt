@@ -25,7 +25,6 @@ use std::process::ExitCode;
 
 // What the lines so far have made. There is no ring at first, and the peer has no tree and no denied
 // path; the lane is the ring's, and the mirror is of what is taken from it.
-#[derive(Drop)]
 struct State {
     cache: cache::State,
     cover: cover::State,
@@ -38,6 +37,24 @@ struct State {
     store: store::State,
     tree: tree::State,
     writes: writes::State,
+}
+
+impl Drop for State {
+    fn drop(self) {
+        let State {
+            cache: _,
+            cover: _,
+            inbox: _,
+            lane: _,
+            mirror: _,
+            peer: _,
+            push: _,
+            query: _,
+            store: _,
+            tree: _,
+            writes: _,
+        } = self;
+    }
 }
 
 impl Calls for State {

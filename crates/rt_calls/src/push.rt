@@ -4,9 +4,14 @@ use rt_script::{Fault, Said, Words};
 use std::alloc::Global;
 
 // A source of ids.
-#[derive(Drop)]
 pub(crate) struct State {
     ids: PushIds,
+}
+
+impl Drop for State {
+    fn drop(self) {
+        let State { ids: _ } = self;
+    }
 }
 
 impl State {

@@ -5,9 +5,14 @@ use rt_tree::Path;
 use std::alloc::{AllocError, Global};
 
 // A draft, changed by calls.
-#[derive(Drop)]
 pub(crate) struct State {
     draft: Draft,
+}
+
+impl Drop for State {
+    fn drop(self) {
+        let State { draft: _ } = self;
+    }
 }
 
 impl State {

@@ -5,10 +5,15 @@ use rt_tree::{Path, Tree, TreeError};
 use std::alloc::{AllocError, Global};
 
 // A store, and a node of it that was found before its last changes.
-#[derive(Drop)]
 pub(crate) struct State {
     store: Store,
     node: Option<Node>,
+}
+
+impl Drop for State {
+    fn drop(self) {
+        let State { store: _, node: _ } = self;
+    }
 }
 
 impl State {

@@ -6,10 +6,15 @@ use std::alloc::Global;
 use std::convert::AsStr;
 
 // A tree, changed by puts, and a copy that was made of it.
-#[derive(Drop)]
 pub(crate) struct State {
     tree: Tree,
     copy: Tree,
+}
+
+impl Drop for State {
+    fn drop(self) {
+        let State { tree: _, copy: _ } = self;
+    }
 }
 
 impl State {

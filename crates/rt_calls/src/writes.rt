@@ -9,9 +9,14 @@ use rt_writes::{Entries, Pending, WriteError, is_shallow};
 use std::alloc::Global;
 
 // The writes added and not taken out.
-#[derive(Drop)]
 pub(crate) struct State {
     pending: Pending,
+}
+
+impl Drop for State {
+    fn drop(self) {
+        let State { pending: _ } = self;
+    }
 }
 
 impl State {

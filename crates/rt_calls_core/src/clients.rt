@@ -17,12 +17,22 @@ pub(crate) struct Chair {
 
 // The limits of clients; the client that was opened last; the seats of all, none where one is
 // closed; and a mirror of what was taken.
-#[derive(Drop)]
 pub(crate) struct Held {
     pub(crate) limits: Limits,
     pub(crate) client: Option<Client>,
     pub(crate) chairs: Vec<Option<Chair>>,
     pub(crate) mirror: Mirror,
+}
+
+impl Drop for Held {
+    fn drop(self) {
+        let Held {
+            limits: _,
+            client: _,
+            chairs: _,
+            mirror: _,
+        } = self;
+    }
 }
 
 impl Held {

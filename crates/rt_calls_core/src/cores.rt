@@ -12,9 +12,14 @@ use rt_writes::Entries;
 use std::alloc::{AllocError, Global};
 
 // A core, at first with full limits.
-#[derive(Drop)]
 pub(crate) struct State {
     core: Core,
+}
+
+impl Drop for State {
+    fn drop(self) {
+        let State { core: _ } = self;
+    }
 }
 
 impl State {

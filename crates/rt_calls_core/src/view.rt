@@ -12,11 +12,20 @@ use std::alloc::Global;
 use std::collections::BTreeMap;
 
 // A view, what it told last, and children over which this can be played.
-#[derive(Drop)]
 pub(crate) struct State {
     view: Option<View>,
     told: Batch,
     children: BTreeMap<Key, Tree>,
+}
+
+impl Drop for State {
+    fn drop(self) {
+        let State {
+            view: _,
+            told: _,
+            children: _,
+        } = self;
+    }
 }
 
 impl State {

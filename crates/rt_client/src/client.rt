@@ -15,9 +15,14 @@ use std::sync::Mutex;
 pub const MAX_SEATS: usize = 64;
 
 /// A client, which threads share by reference; each has a seat of its own. Whoever calls it locks it.
-#[derive(Drop)]
 pub struct Client {
     pub shared: Mutex<Shared>,
+}
+
+impl Drop for Client {
+    fn drop(self) {
+        let Client { shared: _ } = self;
+    }
 }
 
 // A seat for each capacity, with numbers from 1.

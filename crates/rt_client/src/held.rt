@@ -21,10 +21,15 @@ use std::alloc::{AllocError, Global};
 use std::marker::Model;
 
 // The core, and a lane per open seat.
-#[derive(Drop)]
 pub(crate) struct Held {
     pub(crate) core: Core,
     pub(crate) lanes: Lanes,
+}
+
+impl Drop for Held {
+    fn drop(self) {
+        let Held { core: _, lanes: _ } = self;
+    }
 }
 
 impl Model for Held {

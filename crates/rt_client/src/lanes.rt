@@ -13,9 +13,14 @@ use std::alloc::{AllocError, Global};
 use std::marker::Model;
 
 // The lanes of a client's seats, that of the first seat first; none where the seat is closed.
-#[derive(Drop)]
 pub(crate) struct Lanes {
     lanes: Vec<Option<Lane>>,
+}
+
+impl Drop for Lanes {
+    fn drop(self) {
+        let Lanes { lanes: _ } = self;
+    }
 }
 
 impl Model for Lanes {

@@ -9,11 +9,20 @@ use rt_mail::{Inbox, Item, MailError, Mirror};
 use std::marker::Model;
 
 /// A thread's own end of a client: its ring. It is shared with nobody.
-#[derive(Drop)]
 pub struct Seat {
     pub(crate) client: u64,
     pub(crate) number: u64,
     pub(crate) inbox: Inbox,
+}
+
+impl Drop for Seat {
+    fn drop(self) {
+        let Seat {
+            client: _,
+            number: _,
+            inbox: _,
+        } = self;
+    }
 }
 
 impl Model for Seat {

@@ -19,12 +19,22 @@ use std::marker::Model;
 
 /// What a client's lock keeps: its core, its push ids, and a lane per open seat. Once a call has
 /// lacked memory the client has failed, and its calls answer nothing else from then on.
-#[derive(Drop)]
 pub struct Shared {
     pub(crate) alloc: Global,
     pub(crate) number: u64,
     pub(crate) ids: PushIds,
     pub(crate) held: Option<Held>,
+}
+
+impl Drop for Shared {
+    fn drop(self) {
+        let Shared {
+            alloc: _,
+            number: _,
+            ids: _,
+            held: _,
+        } = self;
+    }
 }
 
 impl Model for Shared {

@@ -16,7 +16,6 @@ use std::alloc::{AllocError, Global};
 const MUCH: usize = 65_536;
 
 // A core and its push ids, and where its script stands.
-#[derive(Drop)]
 struct Script {
     alloc: Global,
     state: State,
@@ -25,6 +24,18 @@ struct Script {
     bad_lines: u64,
     // What was printed and is not written yet.
     printed: String,
+}
+
+impl Drop for Script {
+    fn drop(self) {
+        let Script {
+            alloc: _,
+            state: _,
+            lines: _,
+            bad_lines: _,
+            printed: _,
+        } = self;
+    }
 }
 
 impl Script {

@@ -39,9 +39,14 @@ use std::marker::Model;
 
 /// The core of a client: takes one step after another. Once a step has lacked memory the core has
 /// failed, and answers nothing else from then on.
-#[derive(Drop)]
 pub struct Core {
     state: Option<State>,
+}
+
+impl Drop for Core {
+    fn drop(self) {
+        let Core { state: _ } = self;
+    }
 }
 
 impl Model for Core {

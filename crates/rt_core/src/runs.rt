@@ -13,9 +13,14 @@ use std::alloc::{AllocError, Global};
 use std::marker::Model;
 
 /// The answers to steps, in order.
-#[derive(Drop)]
 pub struct Answers {
     items: Vec<Result<Report, CoreError>>,
+}
+
+impl Drop for Answers {
+    fn drop(self) {
+        let Answers { items: _ } = self;
+    }
 }
 
 impl Model for Answers {

@@ -25,12 +25,22 @@ use std::marker::Model;
 
 /// The registered listeners, and the listens kept for them: the fewest registered queries that
 /// together supply every listener. Each kept listen has a tag, which no other listen ever gets.
-#[derive(Drop)]
 pub struct Cover {
     listeners: Vec<Listener>,
     kept: Vec<Listen>,
     given: u64,
     last_tag: u64,
+}
+
+impl Drop for Cover {
+    fn drop(self) {
+        let Cover {
+            listeners: _,
+            kept: _,
+            given: _,
+            last_tag: _,
+        } = self;
+    }
 }
 
 impl Model for Cover {

@@ -14,9 +14,14 @@ pub struct Kept {
 }
 
 /// Kept listens, in the order in which they are told.
-#[derive(Drop)]
 pub struct KeptList {
     items: Vec<Kept>,
+}
+
+impl Drop for KeptList {
+    fn drop(self) {
+        let KeptList { items: _ } = self;
+    }
 }
 
 impl Model for KeptList {

@@ -12,10 +12,15 @@ use std::alloc::{AllocError, Global};
 use std::marker::Model;
 
 // A kept form and its tag.
-#[derive(Drop)]
 pub(crate) struct Listen {
     pub(crate) tag: u64,
     pub(crate) form: Query,
+}
+
+impl Drop for Listen {
+    fn drop(self) {
+        let Listen { tag: _, form: _ } = self;
+    }
 }
 
 impl Model for Listen {

@@ -10,10 +10,15 @@ use std::alloc::{AllocError, Global};
 use std::marker::Model;
 
 // A registered listener, with the form that is listened to for it.
-#[derive(Drop)]
 pub(crate) struct Listener {
     pub(crate) number: u64,
     pub(crate) form: Query,
+}
+
+impl Drop for Listener {
+    fn drop(self) {
+        let Listener { number: _, form: _ } = self;
+    }
 }
 
 impl Model for Listener {

@@ -5,9 +5,14 @@ ghost use Rattle.std.specs.List.{filter};
 use std::marker::Model;
 
 /// Numbers of listeners, or tags, in rising order.
-#[derive(Drop)]
 pub struct Numbers {
     items: Vec<u64>,
+}
+
+impl Drop for Numbers {
+    fn drop(self) {
+        let Numbers { items: _ } = self;
+    }
 }
 
 impl Model for Numbers {

@@ -19,7 +19,7 @@ const ADDRESS: &str = "ws://127.0.0.1/";
 pub(crate) type Socket<S, N> = WebSocket<Counted<S>, RandomKeys<N>>;
 
 // What came of a socket.
-#[derive(Debug, Drop)]
+#[derive(Drop)]
 pub(crate) enum Heard {
     Text(Utf8Bytes),
     Binary,

@@ -10,10 +10,15 @@ use std::alloc::Global;
 use std::marker::Model;
 
 /// What the lines of a script act on: a core, and the source of its push ids.
-#[derive(Drop)]
 pub struct State {
     pub(crate) core: Core,
     pub(crate) ids: PushIds,
+}
+
+impl Drop for State {
+    fn drop(self) {
+        let State { core: _, ids: _ } = self;
+    }
 }
 
 impl Model for State {

@@ -7,12 +7,22 @@ use rt_query::Query;
 use rt_view::View;
 
 // A registered listener; it has a view once it is primed.
-#[derive(Drop)]
 pub(crate) struct Held {
     pub(crate) number: u64,
     pub(crate) seat: u64,
     pub(crate) query: Query,
     pub(crate) view: Option<View>,
+}
+
+impl Drop for Held {
+    fn drop(self) {
+        let Held {
+            number: _,
+            seat: _,
+            query: _,
+            view: _,
+        } = self;
+    }
 }
 
 // How many listeners have lesser numbers, by halving.

@@ -30,9 +30,14 @@ use std::mem::replace;
 
 /// The registered listeners, by number. A listener gets a view once something is known for its
 /// query, and keeps it.
-#[derive(Drop)]
 pub struct Listeners {
     held: Vec<Held>,
+}
+
+impl Drop for Listeners {
+    fn drop(self) {
+        let Listeners { held: _ } = self;
+    }
 }
 
 impl Model for Listeners {

@@ -12,9 +12,14 @@ use std::marker::Model;
 pub const MAX_CAPACITY: usize = 65_536;
 
 /// The items that were handed over to a seat and that it has not taken: a ring, its own.
-#[derive(Drop)]
 pub struct Inbox {
     ring: HeapCircularBuffer<Item>,
+}
+
+impl Drop for Inbox {
+    fn drop(self) {
+        let Inbox { ring: _ } = self;
+    }
 }
 
 impl Model for Inbox {

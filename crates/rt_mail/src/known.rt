@@ -17,10 +17,18 @@ use std::collections::BTreeMap;
 use std::marker::Model;
 
 // A listener with its children.
-#[derive(Drop)]
 pub(crate) struct Heard {
     listener: u64,
     children: BTreeMap<Key, Tree>,
+}
+
+impl Drop for Heard {
+    fn drop(self) {
+        let Heard {
+            listener: _,
+            children: _,
+        } = self;
+    }
 }
 
 impl Model for Heard {

@@ -17,10 +17,18 @@ use std::marker::Model;
 
 /// The items that wait for a seat, and a mirror of all that was handed over to it. Once that has
 /// lacked memory the lane has failed, and hands over nothing.
-#[derive(Drop)]
 pub struct Lane {
     waiting: VecDeque<Item>,
     mirror: Mirror,
+}
+
+impl Drop for Lane {
+    fn drop(self) {
+        let Lane {
+            waiting: _,
+            mirror: _,
+        } = self;
+    }
 }
 
 impl Model for Lane {

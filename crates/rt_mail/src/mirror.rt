@@ -14,9 +14,14 @@ use std::marker::Model;
 
 /// What one who takes a seat's items knows: its listeners with their children, and its unsettled
 /// requests. Once it has lacked memory it has failed, and answers nothing else from then on.
-#[derive(Drop)]
 pub struct Mirror {
     known: Option<Known>,
+}
+
+impl Drop for Mirror {
+    fn drop(self) {
+        let Mirror { known: _ } = self;
+    }
 }
 
 impl Model for Mirror {

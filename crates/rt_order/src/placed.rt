@@ -20,10 +20,16 @@ use std::marker::Model;
 /// It is ordered as [`key_cmp`](crate::key_cmp) orders keys, so it keys a map in the order of keys. A
 /// search that has the key but borrowed takes a [`PlacedRef`], or a `PlacedKey` of a copy, which
 /// shares the text.
-#[derive(Debug, Drop)]
+#[derive(Debug)]
 pub struct PlacedKey {
     key: Key,
     number: Option<Number>,
+}
+
+impl Drop for PlacedKey {
+    fn drop(self) {
+        let PlacedKey { key: _, number: _ } = self;
+    }
 }
 
 impl Model for PlacedKey {

@@ -7,9 +7,14 @@ use std::alloc::{AllocError, Global};
 use std::marker::Model;
 
 // The numbers of the known connections, each from 1, which rise.
-#[derive(Drop)]
 pub(crate) struct Connections {
     numbers: Vec<u64>,
+}
+
+impl Drop for Connections {
+    fn drop(self) {
+        let Connections { numbers: _ } = self;
+    }
 }
 
 impl Model for Connections {

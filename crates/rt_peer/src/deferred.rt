@@ -13,11 +13,20 @@ use std::marker::Model;
 
 // What is to be done when a connection ends: whose it is, the number of the request, and its entries,
 // which may be put.
-#[derive(Drop)]
 pub(crate) struct Deferred {
     pub(crate) connection: u64,
     id: u64,
     entries: Entries,
+}
+
+impl Drop for Deferred {
+    fn drop(self) {
+        let Deferred {
+            connection: _,
+            id: _,
+            entries: _,
+        } = self;
+    }
 }
 
 impl Model for Deferred {

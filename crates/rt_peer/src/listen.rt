@@ -8,11 +8,20 @@ use std::alloc::{AllocError, Global};
 use std::marker::Model;
 
 // A listen: whose it is, its tag, and the query that is listened to.
-#[derive(Drop)]
 pub(crate) struct Listen {
     pub(crate) connection: u64,
     pub(crate) tag: u64,
     pub(crate) query: Query,
+}
+
+impl Drop for Listen {
+    fn drop(self) {
+        let Listen {
+            connection: _,
+            tag: _,
+            query: _,
+        } = self;
+    }
 }
 
 impl Model for Listen {

@@ -16,10 +16,18 @@ use std::marker::Model;
 /// listen what changes.
 ///
 /// A contract sees what it holds; none once it has lacked memory.
-#[derive(Drop)]
 pub struct Peer {
     state: State,
     has_failed: bool,
+}
+
+impl Drop for Peer {
+    fn drop(self) {
+        let Peer {
+            state: _,
+            has_failed: _,
+        } = self;
+    }
 }
 
 impl Model for Peer {

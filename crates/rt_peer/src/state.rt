@@ -29,13 +29,24 @@ use std::mem;
 
 // The tree, the denied paths, the known connections, their listens by connection and tag, and what is
 // to be done when they end, by connection and number.
-#[derive(Drop)]
 pub(crate) struct State {
     tree: Tree,
     denied: Vec<Path>,
     connections: Connections,
     listens: Vec<Listen>,
     actions: Vec<Deferred>,
+}
+
+impl Drop for State {
+    fn drop(self) {
+        let State {
+            tree: _,
+            denied: _,
+            connections: _,
+            listens: _,
+            actions: _,
+        } = self;
+    }
 }
 
 impl Model for State {

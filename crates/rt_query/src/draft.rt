@@ -27,12 +27,23 @@ use std::marker::Model;
 ///
 /// A bound names a value, and perhaps a key among the children of that value. In key order it is
 /// given a text and no key, and names the child of that key.
-#[derive(Debug, Drop)]
+#[derive(Debug)]
 pub struct Draft {
     path: Path,
     index: Option<Index>,
     range: Range,
     limit: Option<Limit>,
+}
+
+impl Drop for Draft {
+    fn drop(self) {
+        let Draft {
+            path: _,
+            index: _,
+            range: _,
+            limit: _,
+        } = self;
+    }
 }
 
 impl Model for Draft {
@@ -259,11 +270,17 @@ impl Draft {
     pub fn done(self) -> Query
         ensures { result ≡ finished self }
     {
+        let Draft {
+            path,
+            index,
+            range,
+            limit,
+        } = self;
         Query {
-            path: self.path,
-            index: self.index.unwrap_or(Index::Key),
-            range: self.range,
-            limit: self.limit,
+            path,
+            index: index.unwrap_or(Index::Key),
+            range,
+            limit,
         }
     }
 

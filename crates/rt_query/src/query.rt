@@ -22,12 +22,23 @@ use std::marker::Model;
 
 /// What a listener asks for: the children of a path in an order, of these a range, and of that a
 /// limited number.
-#[derive(Debug, Drop)]
+#[derive(Debug)]
 pub struct Query {
     pub(crate) path: Path,
     pub(crate) index: Index,
     pub(crate) range: Range,
     pub(crate) limit: Option<Limit>,
+}
+
+impl Drop for Query {
+    fn drop(self) {
+        let Query {
+            path: _,
+            index: _,
+            range: _,
+            limit: _,
+        } = self;
+    }
 }
 
 impl Model for Query {

@@ -11,12 +11,18 @@ use std::alloc::{AllocError, Global};
 use std::collections::BTreeMap;
 
 /// A child and its key, as a query shows them.
-#[derive(Debug, Drop)]
+#[derive(Debug)]
 pub struct Row {
     /// The child's key.
     pub key: Key,
     /// What stands at the child.
     pub value: Tree,
+}
+
+impl Drop for Row {
+    fn drop(self) {
+        let Row { key: _, value: _ } = self;
+    }
 }
 
 impl Row {

@@ -12,11 +12,21 @@ use std::marker::Model;
 
 /// What a query shows of a tree: a leaf, or rows in the query's order; neither, where there is
 /// nothing to show.
-#[derive(Debug, Drop)]
+#[derive(Debug)]
 pub struct Shown {
     leaf: Option<Leaf>,
     rows: Vec<Row>,
     tree: Tree,
+}
+
+impl Drop for Shown {
+    fn drop(self) {
+        let Shown {
+            leaf: _,
+            rows: _,
+            tree: _,
+        } = self;
+    }
 }
 
 impl Model for Shown {

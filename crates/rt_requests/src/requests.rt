@@ -20,10 +20,18 @@ use std::alloc::{AllocError, Global};
 use std::marker::Model;
 
 /// The unsettled requests by number, and the pending writes, which are those among them.
-#[derive(Drop)]
 pub struct Requests {
     items: Vec<Request>,
     pending: Pending,
+}
+
+impl Drop for Requests {
+    fn drop(self) {
+        let Requests {
+            items: _,
+            pending: _,
+        } = self;
+    }
 }
 
 impl Model for Requests {

@@ -13,7 +13,7 @@ use tungstenite::{Error, HandshakeError, Message, NoMask, Utf8Bytes, WebSocket, 
 pub(crate) type Socket<S> = WebSocket<Counted<S>, NoMask>;
 
 // What came of a socket.
-#[derive(Debug, Drop)]
+#[derive(Drop)]
 pub(crate) enum Heard {
     Text(Utf8Bytes),
     // A message that is no text.

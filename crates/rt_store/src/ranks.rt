@@ -11,10 +11,16 @@ use std::alloc::{AllocError, Global};
 use std::cmp::Ordering;
 
 // The children of the root, and those of each node by its number.
-#[derive(Debug, Drop)]
+#[derive(Debug)]
 pub(crate) struct Ranks {
     top: Vec<usize>,
     below: Vec<Vec<usize>>,
+}
+
+impl Drop for Ranks {
+    fn drop(self) {
+        let Ranks { top: _, below: _ } = self;
+    }
 }
 
 // How a key stands to that of a node.

@@ -25,7 +25,7 @@ use std::marker::Model;
 /// A tree kept as linked nodes.
 ///
 /// Siblings stand in the order of keys. To find a child costs by the logarithm of their number.
-#[derive(Debug, Drop)]
+#[derive(Debug)]
 pub struct Store {
     nodes: Slab<Slot>,
     // The first child of the root.
@@ -34,6 +34,17 @@ pub struct Store {
     leaf: Option<Leaf>,
     // The children of each node in the order of keys, from which searches begin.
     ranks: Ranks,
+}
+
+impl Drop for Store {
+    fn drop(self) {
+        let Store {
+            nodes: _,
+            first: _,
+            leaf: _,
+            ranks: _,
+        } = self;
+    }
 }
 
 impl Model for Store {

@@ -18,9 +18,15 @@ use std::sync::ArcStr;
 /// `.` `$` `#` `[` `]` `/`, as Firebase has them.
 ///
 /// Keys compare by their bytes. A copy shares its text with the original.
-#[derive(Debug, Drop)]
+#[derive(Debug)]
 pub struct Key {
     text: ArcStr,
+}
+
+impl Drop for Key {
+    fn drop(self) {
+        let Key { text: _ } = self;
+    }
 }
 
 impl Model for Key {

@@ -20,9 +20,15 @@ use std::marker::Model;
 ///
 /// Paths compare key by key, each by its bytes, so that a path stands right before all that lie
 /// under it.
-#[derive(Debug, Drop)]
+#[derive(Debug)]
 pub struct Path {
     keys: Vec<Key>,
+}
+
+impl Drop for Path {
+    fn drop(self) {
+        let Path { keys: _ } = self;
+    }
 }
 
 impl Model for Path {

@@ -42,10 +42,16 @@ impl Sort {
 }
 
 // The entry of a child. Positions compare as entries do.
-#[derive(Debug, Drop)]
+#[derive(Debug)]
 pub struct Position {
     sort: Sort,
     key: Key,
+}
+
+impl Drop for Position {
+    fn drop(self) {
+        let Position { sort: _, key: _ } = self;
+    }
 }
 
 impl Model for Position {

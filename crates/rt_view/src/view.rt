@@ -42,7 +42,6 @@ impl From<AllocError> for ViewError {
 
 /// What a query shows of a tree that changes, kept so that a change of few children costs by these,
 /// and not by all.
-#[derive(Drop)]
 pub struct View {
     query: Query,
     known: Tree,
@@ -51,6 +50,20 @@ pub struct View {
     reads: u64,
     turns: u64,
     failed: bool,
+}
+
+impl Drop for View {
+    fn drop(self) {
+        let View {
+            query: _,
+            known: _,
+            window: _,
+            tree: _,
+            reads: _,
+            turns: _,
+            failed: _,
+        } = self;
+    }
 }
 
 impl Model for View {

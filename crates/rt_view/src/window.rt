@@ -20,11 +20,20 @@ use std::collections::BTreeMap;
 
 // The children in a range, by their entries: those that the limit shows, and the rest, which lies
 // beside them on one side.
-#[derive(Drop)]
 pub struct Window {
     pub limit: Option<Limit>,
     pub shown: BTreeMap<Position, Tree>,
     pub rest: BTreeMap<Position, Tree>,
+}
+
+impl Drop for Window {
+    fn drop(self) {
+        let Window {
+            limit: _,
+            shown: _,
+            rest: _,
+        } = self;
+    }
 }
 
 // `insert`, without the old child.

@@ -5,9 +5,15 @@ use std::alloc::{AllocError, Global};
 use std::marker::Model;
 
 /// Why the server refuses a request or revokes a listen, in its own words.
-#[derive(Debug, Drop)]
+#[derive(Debug)]
 pub struct Reason {
     text: String,
+}
+
+impl Drop for Reason {
+    fn drop(self) {
+        let Reason { text: _ } = self;
+    }
 }
 
 impl Model for Reason {

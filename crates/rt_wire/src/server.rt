@@ -7,6 +7,7 @@ ghost use Rattle.rt_wire.specs.ReadBack.{IsServerMessage, IsServerText};
 ghost use Rattle.rt_wire.specs.inside.StandingServer.{IsStandingMessage};
 ghost use Rattle.rt_wire.specs.Server.{server_message, server_message_in, data_in, data_merge_in};
 ghost use Rattle.rt_wire.specs.Server.{ok_in, no_in, revoke_in};
+ghost use Rattle.rt_wire.specs.declared.server.ServerMessage.TheVariants.{Data as DataMessage, DataMerge};
 
 use crate::entries::entries;
 use crate::error::WireError;
@@ -125,15 +126,8 @@ impl ServerMessage {
         ensures standing { IfOk result (λ _. IsStandingMessage self.now) }
     {
         match self {
-            ServerMessage::Data { tag, path, tree } => {
-                let path = path_value(path)?;
-                let tree = tree_value(alloc, tree)?;
-                json!(in alloc; {"k": "data", "path": path, "tag": *tag, "value": tree})
-            }
-            ServerMessage::DataMerge { tag, entries } => {
-                let entries = entries_value(alloc, entries)?;
-                json!(in alloc; {"entries": entries, "k": "data-merge", "tag": *tag})
-            }
+            ServerMessage::Data { tag, path, tree } => data_value(alloc, *tag, path, tree),
+            ServerMessage::DataMerge { tag, entries } => merge_value(alloc, *tag, entries),
             ServerMessage::Accepted { id } => json!(in alloc; {"id": *id, "k": "ok"}),
             ServerMessage::Refused { id, why } => {
                 json!(in alloc; {"id": *id, "k": "no", "why": why.text()})
@@ -143,4 +137,23 @@ impl ServerMessage {
             }
         }
     }
+}
+
+// A push of a tree.
+fn data_value(alloc: Global, tag: u64, path: &Path, tree: &Tree) -> Result<Value, AllocError>
+    ensures value { IfOk result (λ value. view value ≡ server_data (DataMessage tag path.now tree.now)) }
+    ensures standing { IfOk result (λ _. IsStandingMessage (DataMessage tag path.now tree.now)) }
+{
+    let path = path_value(path)?;
+    let tree = tree_value(alloc, tree)?;
+    json!(in alloc; {"k": "data", "path": path, "tag": tag, "value": tree})
+}
+
+// A push of entries.
+fn merge_value(alloc: Global, tag: u64, entries: &Entries) -> Result<Value, AllocError>
+    ensures value { IfOk result (λ value. view value ≡ server_data (DataMerge tag entries.now)) }
+    ensures standing { IfOk result (λ _. IsStandingMessage (DataMerge tag entries.now)) }
+{
+    let entries = entries_value(alloc, entries)?;
+    json!(in alloc; {"entries": entries, "k": "data-merge", "tag": tag})
 }

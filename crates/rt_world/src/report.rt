@@ -31,9 +31,14 @@ pub struct Note {
 }
 
 /// What the seats are told of a step: settlements, ended listeners, batches, each by number.
-#[derive(Drop)]
 pub struct Notes {
     items: Vec<Note>,
+}
+
+impl Drop for Notes {
+    fn drop(self) {
+        let Notes { items: _ } = self;
+    }
 }
 
 impl Model for Notes {
@@ -64,7 +69,8 @@ impl Notes {
     pub fn into_vec(self) -> Vec<Note>
         ensures { result.items ≡ self }
     {
-        self.items
+        let Notes { items } = self;
+        items
     }
 }
 

@@ -11,9 +11,15 @@ use std::alloc::{AllocError, Global};
 use std::marker::Model;
 
 /// Trees set at paths, in order: what a write sets, or a push brings.
-#[derive(Debug, Drop)]
+#[derive(Debug)]
 pub struct Entries {
     items: Vec<(Path, Tree)>,
+}
+
+impl Drop for Entries {
+    fn drop(self) {
+        let Entries { items: _ } = self;
+    }
 }
 
 impl Model for Entries {
@@ -44,7 +50,8 @@ impl Entries {
     pub fn into_vec(self) -> Vec<(Path, Tree)>
         ensures { result.items ≡ self }
     {
-        self.items
+        let Entries { items } = self;
+        items
     }
 
     /// Equal entries. Their keys and trees are shared.

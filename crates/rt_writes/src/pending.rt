@@ -17,9 +17,15 @@ use std::marker::Model;
 
 /// Pending writes, in order of number. What they set shows over what the server has sent, until
 /// each is settled.
-#[derive(Debug, Drop)]
+#[derive(Debug)]
 pub struct Pending {
     writes: Vec<Write>,
+}
+
+impl Drop for Pending {
+    fn drop(self) {
+        let Pending { writes: _ } = self;
+    }
 }
 
 impl Model for Pending {
