@@ -52,6 +52,33 @@ pub(crate) fn opened<S: Read + Write + Drop, N: RandomSource + Drop>(
     }
 }
 
+// What a message says; none for a ping or a pong.
+fn told_by(message: Message) -> Option<Heard> {
+    match message {
+        Message::Text(words) => Some(Heard::Text(words)),
+        Message::Binary(_) => Some(Heard::Binary),
+        Message::Ping(_) | Message::Pong(_) => None,
+        Message::Close(_) => Some(Heard::Ended),
+    }
+}
+
+// The next message of the socket.
+fn read<S: Read + Write + Drop, N: RandomSource + Drop>(
+    socket: &mut Socket<S, N>,
+) -> Result<Option<Heard>, AllocError> {
+    match socket.read() {
+        Ok(message) => {
+            if message.is_close() {
+                // A close is answered by one, which waits to be sent.
+                let _ = socket.flush();
+            }
+            Ok(told_by(message))
+        }
+        Err(Error::OutOfMemory) => Err(AllocError),
+        Err(_) => Ok(Some(Heard::Ended)),
+    }
+}
+
 // The next message of the socket. Pings and pongs are passed over, so many of them: with the last the
 // socket has failed.
 pub(crate) fn hear<S: Read + Write + Drop, N: RandomSource + Drop>(
@@ -60,18 +87,10 @@ pub(crate) fn hear<S: Read + Write + Drop, N: RandomSource + Drop>(
 ) -> Result<Heard, AllocError> {
     socket.get_mut().await_message();
     'pings: while *pings > 0 {
-        match socket.read() {
-            Ok(Message::Text(words)) => return Ok(Heard::Text(words)),
-            Ok(Message::Binary(_)) => return Ok(Heard::Binary),
-            Ok(Message::Ping(_) | Message::Pong(_)) => *pings -= 1,
-            Ok(Message::Close(_)) => {
-                // A close is answered by one, which waits to be sent.
-                let _ = socket.flush();
-                return Ok(Heard::Ended);
-            }
-            Err(Error::OutOfMemory) => return Err(AllocError),
-            Err(_) => return Ok(Heard::Ended),
+        if let Some(heard) = read(socket)? {
+            return Ok(heard);
         }
+        *pings -= 1;
     }
     Ok(Heard::Ended)
 }
