@@ -44,16 +44,23 @@ pub(crate) fn accepted<S: Read + Write + Drop>(
     }
 }
 
+// What a message says.
+fn told_by(message: Message) -> Heard {
+    match message {
+        Message::Text(words) => Heard::Text(words),
+        Message::Binary(_) | Message::Ping(_) | Message::Pong(_) | Message::Close(_) => {
+            Heard::Other
+        }
+    }
+}
+
 // The next message of the socket.
 pub(crate) fn hear<S: Read + Write + Drop>(socket: &mut Socket<S>) -> Result<Heard, ServeError>
     ensures { IfErr result (λ e. e ≡ ServeError.NoMemory) }
 {
     socket.get_mut().await_message();
     match socket.read() {
-        Ok(Message::Text(words)) => Ok(Heard::Text(words)),
-        Ok(Message::Binary(_) | Message::Ping(_) | Message::Pong(_) | Message::Close(_)) => {
-            Ok(Heard::Other)
-        }
+        Ok(message) => Ok(told_by(message)),
         Err(Error::OutOfMemory) => Err(ServeError::NoMemory),
         Err(_) => Ok(Heard::Ended),
     }
