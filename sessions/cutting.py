@@ -89,10 +89,10 @@ def begun(words, lines, environment):
     return ran
 
 
-def served(program, count, environment):
+def served(program, count, environment, words=()):
     """A program that serves so many clients at a port, once it listens there; no port where it has ended."""
     port = free_port()
-    ran = begun([program, "serve", str(port), "--count", str(count)], "", environment)
+    ran = begun([program, "serve", str(port), "--count", str(count), *words], "", environment)
     until = time.monotonic() + SECONDS
     while ran.poll() is None and time.monotonic() < until:
         with open("/proc/net/tcp") as sockets:

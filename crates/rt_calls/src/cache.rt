@@ -4,10 +4,12 @@ ghost use Rattle.std.specs.List.{All};
 ghost use Rattle.rt_cache.specs.Recover.{do_plains_overlap};
 ghost use Rattle.rt_cache.specs.Runs.{IsAllowed};
 
+use crate::fault::Fault;
+use crate::said::Said;
+use crate::words::Words;
 use rt_cache::{Base, Brought, Call, QueryList};
 use rt_query::Query;
-use rt_script::{Fault, Said, Words};
-use rt_tree::{MAX_LEVELS, Path, Tree};
+use rt_tree::MAX_LEVELS;
 use std::alloc::{AllocError, Global};
 
 // What is brought, and queries whose answers a refusal may not change.
@@ -84,18 +86,12 @@ fn kept(alloc: Global, words: &mut Words) -> Result<Vec<Query>, Fault>
     Ok(kept)
 }
 
-fn entry(alloc: Global, words: &mut Words) -> Result<(Path, Tree), Fault> {
-    let path = words.path(alloc)?;
-    let tree = words.tree(alloc)?;
-    Ok((path, tree))
-}
-
 // A push on the listen of a query, at a path, of a tree.
 fn push(alloc: Global, words: &mut Words) -> Result<Call, Fault>
     ensures { IfOk result (λ call. IsAllowed call) }
 {
     let query = words.query(alloc)?;
-    let (path, tree) = entry(alloc, words)?;
+    let (path, tree) = words.entry(alloc)?;
     if !query.path().is_prefix_of(&path) || path.keys().len() + tree.levels() > MAX_LEVELS {
         return Err(Fault::NoSuchCall);
     }

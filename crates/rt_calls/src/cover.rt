@@ -1,7 +1,9 @@
 // The cover: listeners, and the listens kept for them.
+use crate::fault::Fault;
+use crate::said::Said;
+use crate::words::Words;
 use rt_cover::{Cover, CoverError, Delta, Kept, KeptList};
 use rt_query::Query;
-use rt_script::{Fault, Said, Words};
 use std::alloc::Global;
 
 // A cover, changed by the lines.

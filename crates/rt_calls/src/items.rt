@@ -5,9 +5,10 @@
 // A reason is a JSON string. A change is `removed KEY TREE`, `value TREE`, or `added`, `moved` or
 // `changed` with a key, a tree, and the key of the row before, or `-`. An action is `put PATH TREE`,
 // or `merge` and paths, each with its tree.
+use crate::fault::Fault;
+use crate::words::Words;
 use rt_mail::{Item, Receipt};
-use rt_script::{Fault, Words};
-use rt_tree::{Key, Path, Tree};
+use rt_tree::{Key, Tree};
 use rt_view::{Batch, Change, ChangeList};
 use rt_wire::{Action, Ending, Reason};
 use rt_writes::Entries;
@@ -68,12 +69,6 @@ fn changes(alloc: Global, words: &mut Words) -> Result<ChangeList, Fault> {
     Ok(ChangeList::of(changes))
 }
 
-fn entry(alloc: Global, words: &mut Words) -> Result<(Path, Tree), Fault> {
-    let path = words.path(alloc)?;
-    let tree = words.tree(alloc)?;
-    Ok((path, tree))
-}
-
 // The entries to the end of the line.
 fn entries(alloc: Global, words: &mut Words) -> Result<Entries, Fault> {
     let mut entries = Vec::new(alloc);
@@ -81,15 +76,16 @@ fn entries(alloc: Global, words: &mut Words) -> Result<Entries, Fault> {
         if words.is_empty() {
             break;
         }
-        entries.push(entry(alloc, words)?)?;
+        entries.push(words.entry(alloc)?)?;
     }
     Ok(Entries::of(entries))
 }
 
-fn action(name: &str, alloc: Global, words: &mut Words) -> Result<Action, Fault> {
+// The action of a name.
+pub(crate) fn action(name: &str, alloc: Global, words: &mut Words) -> Result<Action, Fault> {
     match name {
         "put" => {
-            let (path, tree) = entry(alloc, words)?;
+            let (path, tree) = words.entry(alloc)?;
             Ok(Action::Put { path, tree })
         }
         "merge" => Ok(Action::Merge {
@@ -107,12 +103,7 @@ fn ending(alloc: Global, words: &mut Words) -> Result<Ending, Fault> {
 }
 
 // The receipt of a name and a number.
-pub(crate) fn receipt(
-    name: &str,
-    number: u64,
-    alloc: Global,
-    words: &mut Words,
-) -> Result<Receipt, Fault> {
+fn receipt(name: &str, number: u64, alloc: Global, words: &mut Words) -> Result<Receipt, Fault> {
     match name {
         "listened" => Ok(Receipt::Listened {
             listener: number,

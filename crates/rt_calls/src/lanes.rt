@@ -1,8 +1,10 @@
 // A lane and its ring.
+use crate::fault::Fault;
 use crate::items::{item, next_receipt};
-use crate::tell::tell_item;
+use crate::said::Said;
+use crate::tell::tell_next;
+use crate::words::Words;
 use rt_mail::{Inbox, Item, Lane, MAX_CAPACITY, MailError, Receipt, Unqueued};
-use rt_script::{Fault, Said, Words};
 use std::alloc::Global;
 
 // How many items wait, and how many the ring holds.
@@ -133,18 +135,9 @@ fn sign(lane: &mut Lane, inbox: &mut Inbox, alloc: Global, words: &mut Words) ->
     }
 }
 
-fn tell_next(alloc: Global, item: Option<&Item>, said: &mut Said) {
-    match item {
-        Some(item) => tell_item(alloc, item, said),
-        None => said.say("none"),
-    }
-}
-
 // The first item of the ring.
 fn next(inbox: &mut Inbox, alloc: Global, said: &mut Said) {
-    let item = inbox.next();
-    tell_next(alloc, item.as_ref(), said);
-    drop(item);
+    tell_next(alloc, inbox.next(), said);
 }
 
 // Takes so many items out of the ring, unseen.

@@ -1,41 +1,62 @@
-//! Makes calls of the libraries that the core stands on, of mailboxes and of the peer, one a line of
-//! its input, and prints what each answers.
+//! Makes calls of the libraries, one a line of its input, and prints what each answers.
+//!
+//! A line names a library, a call and what is given to it. A call that lacks memory prints
+//! `NoMemory`, and is made once more: since `./check` refuses one allocation of a run, all that is
+//! printed but for this line has to be what is printed with none refused. Empty lines, and those that
+//! begin with `#`, are passed over.
 #![tactic(auto)]
 
 mod cache;
+mod clients;
+mod cores;
 mod cover;
+mod deliveries;
+mod drafts;
+mod fault;
 mod items;
 mod lanes;
+mod lines;
 mod mirrors;
 mod order;
 mod peers;
 mod push;
 mod query;
+mod said;
+mod seats;
 mod store;
 mod tell;
 mod tree;
+mod view;
+mod wire;
+mod words;
 mod writes;
 
-use rt_mail::{Inbox, Lane, Mirror};
+use crate::clients::Held;
+use crate::fault::Fault;
+use crate::said::Said;
+use crate::words::Words;
+use rt_mail::{Inbox, Lane};
 use rt_peer::Peer;
-use rt_script::{Calls, Fault, Said, Words, run};
 use rt_tree::Tree;
 use std::alloc::Global;
 use std::process::ExitCode;
+use std::sync::Wait;
 
-// What the lines so far have made. There is no ring at first, and the peer has no tree and no denied
-// path; the lane is the ring's, and the mirror is of what is taken from it.
+// What the lines so far have made. There is no client and no ring at first, and the peer has no tree
+// and no denied path; the lane is the ring's, and the mirror is of what is taken from it or from seats.
 struct State {
     cache: cache::State,
+    cores: cores::State,
     cover: cover::State,
+    held: Held,
     inbox: Option<Inbox>,
     lane: Lane,
-    mirror: Mirror,
     peer: Peer,
     push: push::State,
     query: query::State,
     store: store::State,
     tree: tree::State,
+    view: view::State,
     writes: writes::State,
 }
 
@@ -43,49 +64,66 @@ impl Drop for State {
     fn drop(self) {
         let State {
             cache: _,
+            cores: _,
             cover: _,
+            held: _,
             inbox: _,
             lane: _,
-            mirror: _,
             peer: _,
             push: _,
             query: _,
             store: _,
             tree: _,
+            view: _,
             writes: _,
         } = self;
     }
 }
 
-impl Calls for State {
+impl State {
+    // What there is before the first line.
     fn new(alloc: Global) -> State {
         State {
             cache: cache::State::new(alloc),
+            cores: cores::State::new(alloc),
             cover: cover::State::new(alloc),
+            held: Held::new(alloc),
             inbox: None,
             lane: Lane::new(alloc),
-            mirror: Mirror::new(alloc),
             peer: Peer::new(Tree::null(), Vec::new(alloc)),
             push: push::State::new(),
             query: query::State::new(alloc),
             store: store::State::new(alloc),
             tree: tree::State::new(),
+            view: view::State::new(alloc),
             writes: writes::State::new(alloc),
         }
     }
 
-    fn call(&mut self, alloc: Global, words: &mut Words, said: &mut Said) -> Result<(), Fault> {
+    // Makes the call of a line, of which the first word is the library, and says what it answers. Where
+    // it lacks memory it has changed nothing, or else has Failed. A delivery may wait, as R may.
+    fn call<R: Wait>(
+        &mut self,
+        alloc: Global,
+        words: &mut Words,
+        said: &mut Said,
+    ) -> Result<(), Fault> {
         match words.next()? {
             "cache" => cache::call(&mut self.cache, alloc, words, said),
+            "client" => clients::call(&mut self.held, alloc, words, said),
+            "core" => cores::call(&mut self.cores, alloc, words, said),
             "cover" => cover::call(&mut self.cover, alloc, words, said),
             "lane" => lanes::call(&mut self.lane, &mut self.inbox, alloc, words, said),
-            "mirror" => mirrors::call(&mut self.mirror, &mut self.inbox, alloc, words, said),
+            "mirror" => mirrors::call(&mut self.held.mirror, &mut self.inbox, alloc, words, said),
             "order" => order::call(alloc, words, said),
             "peer" => peers::call(&mut self.peer, alloc, words, said),
             "push" => push::call(&mut self.push, alloc, words, said),
             "query" => query::call(&mut self.query, alloc, words, said),
+            "seat" => seats::call::<R>(&mut self.held, alloc, words, said),
             "store" => store::call(&mut self.store, alloc, words, said),
             "tree" => tree::call(&mut self.tree, alloc, words, said),
+            "view" => view::call(&mut self.view, alloc, words, said),
+            "wire" => wire::call(alloc, words, said),
             "writes" => writes::call(&mut self.writes, alloc, words, said),
             _ => Err(Fault::NoSuchCall),
         }
@@ -93,5 +131,5 @@ impl Calls for State {
 }
 
 fn main(rt: HostRuntime) -> ExitCode {
-    run::<State>(rt.alloc(), &mut rt.stdin(), &mut rt.stdout())
+    lines::run::<HostRuntime>(rt.alloc(), &mut rt.stdin(), &mut rt.stdout())
 }

@@ -1,8 +1,10 @@
 // A mirror, and copies of what it takes.
+use crate::fault::Fault;
 use crate::items::{next_item, next_receipt};
-use crate::tell::{tell_item, tell_receipt};
+use crate::said::Said;
+use crate::tell::{tell_next, tell_receipt};
+use crate::words::Words;
 use rt_mail::{Inbox, Item, MailError, Mirror, Receipt};
-use rt_script::{Fault, Said, Words};
 use std::alloc::Global;
 
 const ERRORS: [MailError; 2] = [MailError::Failed, MailError::NoMemory];
@@ -26,7 +28,7 @@ fn knows_nothing(mirror: &Mirror) -> bool {
 }
 
 // A mirror that lacked memory has failed for good, and knows nothing.
-fn given_up(mirror: &mut Mirror) -> Fault {
+pub(crate) fn given_up(mirror: &mut Mirror) -> Fault {
     let again = mirror.take(Item::Settled { id: 1, why: None });
     if again == Err(MailError::Failed) && mirror.has_failed() && knows_nothing(mirror) {
         Fault::Failed
@@ -99,9 +101,7 @@ fn copied(alloc: Global, words: &mut Words) -> Result<Item, Fault> {
 
 // A copy of an item.
 fn copy(alloc: Global, words: &mut Words, said: &mut Said) -> Result<(), Fault> {
-    let item = copied(alloc, words)?;
-    tell_item(alloc, &item, said);
-    drop(item);
+    tell_next(alloc, Some(copied(alloc, words)?), said);
     Ok(())
 }
 

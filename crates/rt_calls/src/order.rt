@@ -1,9 +1,11 @@
 // Orders of keys, values and children, and ranges.
+use crate::fault::Fault;
+use crate::said::Said;
+use crate::words::Words;
 use rt_order::{
     Cut, Index, Mark, Place, PlacedKey, PlacedRef, Range, entry_cmp, key_cmp, leaf_cmp, sort_value,
     value_cmp,
 };
-use rt_script::{Fault, Said, Words};
 use rt_tree::{Key, Tree};
 use std::alloc::{AllocError, Global};
 use std::cmp::Ordering;

@@ -1,7 +1,9 @@
 // A peer, its connections, and what it sends: `> N MESSAGE` for each message to connection N, or
 // `nothing`.
+use crate::fault::Fault;
+use crate::said::Said;
+use crate::words::Words;
 use rt_peer::{Peer, PeerError, Sent};
-use rt_script::{Fault, Said, Words};
 use rt_tree::Path;
 use rt_wire::{ClientMessage, WireError};
 use std::alloc::{AllocError, Global};

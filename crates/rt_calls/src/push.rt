@@ -1,6 +1,8 @@
 // Push ids.
+use crate::fault::Fault;
+use crate::said::Said;
+use crate::words::Words;
 use rt_push::{PushError, PushIds};
-use rt_script::{Fault, Said, Words};
 use std::alloc::Global;
 
 // A source of ids.

@@ -1,6 +1,9 @@
 // Drafts, queries and what they show.
+use crate::drafts::make_draft;
+use crate::fault::Fault;
+use crate::said::Said;
+use crate::words::Words;
 use rt_query::{Draft, Query, QueryError, Row, Shown};
-use rt_script::{Fault, Said, Words, make_draft};
 use rt_tree::Path;
 use std::alloc::{AllocError, Global};
 

@@ -1,5 +1,7 @@
 // A store, and its nodes.
-use rt_script::{Fault, Said, Words};
+use crate::fault::Fault;
+use crate::said::Said;
+use crate::words::Words;
 use rt_store::{Change, Node, Store, StoreError};
 use rt_tree::{Path, Tree, TreeError};
 use std::alloc::{AllocError, Global};

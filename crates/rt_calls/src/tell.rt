@@ -1,11 +1,12 @@
-// Items, told in the words that say them: `items` reads these, but for a query, which is told as its
-// path and its text, and a reason, which is told bare.
+// What several libraries hand out, told. Items are told in the words that say them: `items` reads
+// these, but for a query, which is told as its path and its text, and a reason, which is told bare.
+use crate::said::Said;
+use rt_cover::Kept;
 use rt_mail::{Item, Receipt};
 use rt_query::Query;
-use rt_script::Said;
 use rt_tree::{Key, Path, Tree};
 use rt_view::Change;
-use rt_wire::{Action, Ending, Reason, query_text};
+use rt_wire::{Action, ClientMessage, Ending, Reason, query_text};
 use std::alloc::{AllocError, Global};
 
 // The text of a query's order, range and limit, where it has one. One that lacked memory is made
@@ -30,7 +31,7 @@ fn tell_query(alloc: Global, query: &Query, said: &mut Said) {
     let _ = say_text(query_text(alloc, query), said) || say_text(query_text(alloc, query), said);
 }
 
-fn tell_row(alloc: Global, word: &str, key: &Key, value: &Tree, said: &mut Said) {
+pub(crate) fn tell_row(alloc: Global, word: &str, key: &Key, value: &Tree, said: &mut Said) {
     said.say(word);
     said.say(key.text());
     said.say(" ");
@@ -51,6 +52,12 @@ fn tell_change(alloc: Global, change: &Change, said: &mut Said) {
     tell_row(alloc, word, key, value, said);
     said.say(" ");
     said.say(after.map_or("-", |key| key.text()));
+}
+
+pub(crate) fn tell_changes(alloc: Global, changes: &[Change], said: &mut Said) {
+    for change in changes {
+        tell_change(alloc, change, said);
+    }
 }
 
 fn tell_entry(alloc: Global, path: &Path, tree: &Tree, said: &mut Said) {
@@ -80,9 +87,11 @@ fn tell_number(alloc: Global, word: &str, number: u64, said: &mut Said) {
     said.display(alloc, &number);
 }
 
-fn tell_reason(why: &Reason, said: &mut Said) {
-    said.say(" ");
-    said.say(why.text());
+pub(crate) fn tell_reason(why: Option<&Reason>, said: &mut Said) {
+    if let Some(why) = why {
+        said.say(" ");
+        said.say(why.text());
+    }
 }
 
 pub(crate) fn tell_receipt(alloc: Global, receipt: &Receipt, said: &mut Said) {
@@ -114,24 +123,52 @@ fn tell_ending(alloc: Global, ending: &Ending, said: &mut Said) {
     }
 }
 
-pub(crate) fn tell_item(alloc: Global, item: &Item, said: &mut Said) {
+fn tell_item(alloc: Global, item: &Item, said: &mut Said) {
     match item {
         Item::Receipt(receipt) => tell_receipt(alloc, receipt, said),
         Item::Batch(batch) => {
             tell_number(alloc, "batch ", batch.listener, said);
-            for change in batch.changes.as_slice() {
-                tell_change(alloc, change, said);
-            }
+            tell_changes(alloc, batch.changes.as_slice(), said);
         }
         Item::Settled { id, why } => {
             tell_number(alloc, "settled ", *id, said);
-            if let Some(why) = why {
-                tell_reason(why, said);
-            }
+            tell_reason(why.as_ref(), said);
         }
         Item::Cancelled { listener, why } => {
             tell_number(alloc, "cancelled ", *listener, said);
-            tell_reason(why, said);
+            tell_reason(Some(why), said);
         }
+    }
+}
+
+// An item, and that is the end of it; or `none`.
+pub(crate) fn tell_next(alloc: Global, item: Option<Item>, said: &mut Said) {
+    match &item {
+        Some(item) => tell_item(alloc, item, said),
+        None => said.say("none"),
+    }
+    drop(item);
+}
+
+// A message that is to be sent, or `none`. It does not come again: a text that lacked memory is made
+// once more.
+pub(crate) fn tell_message(alloc: Global, message: Option<ClientMessage>, said: &mut Said) {
+    match &message {
+        Some(message) => {
+            let _ = said.made(message.text(alloc)) || said.made(message.text(alloc));
+        }
+        None => said.say("none"),
+    }
+    drop(message);
+}
+
+// The listens kept, each with its tag, a listener that needs it, and its path; or `none`.
+pub(crate) fn tell_kept(alloc: Global, listens: &[Kept], said: &mut Said) {
+    if listens.is_empty() {
+        said.say("none");
+    }
+    for kept in listens {
+        said.debug(alloc, &(kept.tag, kept.listener));
+        said.display(alloc, kept.query.path());
     }
 }

@@ -1,5 +1,7 @@
 // Keys, paths, leaves and trees.
-use rt_script::{Fault, Said, Words};
+use crate::fault::Fault;
+use crate::said::Said;
+use crate::words::Words;
 use rt_tree::{Key, Leaf, Path, Tree, TreeError};
 use serde_json::Value;
 use std::alloc::Global;

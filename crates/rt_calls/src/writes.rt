@@ -3,7 +3,9 @@ ghost use Rattle.std.specs.Prelude.{IfOk};
 ghost use Rattle.std.specs.List.{All};
 ghost use Rattle.rt_writes.specs.Writes.{IsShallow};
 
-use rt_script::{Fault, Said, Words};
+use crate::fault::Fault;
+use crate::said::Said;
+use crate::words::Words;
 use rt_tree::{Path, Tree};
 use rt_writes::{Entries, Pending, WriteError, is_shallow};
 use std::alloc::Global;

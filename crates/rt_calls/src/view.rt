@@ -2,12 +2,13 @@
 ghost use Rattle.std.specs.Prelude.{◌≤◌, All, IfOk};
 ghost use Rattle.rt_tree.specs.PathTree.{levels};
 
-use rt_query::{Query, Row, Shown};
-use rt_script::{Fault, Said, Words};
+use crate::fault::Fault;
+use crate::said::Said;
+use crate::tell::{tell_changes, tell_row};
+use crate::words::Words;
+use rt_query::{Query, Shown};
 use rt_tree::{Key, MAX_KEYS, Tree};
-use rt_view::{
-    Batch, Change, ChangeList, Kinds, View, ViewError, apply_changes, changes, of_kinds,
-};
+use rt_view::{Batch, ChangeList, Kinds, View, ViewError, apply_changes, changes, of_kinds};
 use std::alloc::Global;
 use std::collections::BTreeMap;
 
@@ -49,55 +50,11 @@ fn of_look(error: ViewError) -> Fault {
     }
 }
 
-fn tell_row(alloc: Global, word: &str, key: &Key, value: &Tree, said: &mut Said) {
-    said.say(word);
-    said.say(key.text());
-    said.say(" ");
-    said.tree(alloc, value);
-}
-
-fn tell_after(after: &Option<Key>, said: &mut Said) {
-    said.say(" after ");
-    match after {
-        Some(key) => said.say(key.text()),
-        None => said.say("none"),
-    }
-    said.say("; ");
-}
-
-// A change by its kind, with the key of the row before it.
-fn tell_change(alloc: Global, change: &Change, said: &mut Said) {
-    match change {
-        Change::Removed { key, old } => {
-            tell_row(alloc, "removed ", key, old, said);
-            tell_after(&None, said);
-        }
-        Change::Added { key, value, after } => {
-            tell_row(alloc, "added ", key, value, said);
-            tell_after(after, said);
-        }
-        Change::Moved { key, value, after } => {
-            tell_row(alloc, "moved ", key, value, said);
-            tell_after(after, said);
-        }
-        Change::Changed { key, value, after } => {
-            tell_row(alloc, "changed ", key, value, said);
-            tell_after(after, said);
-        }
-        Change::Value { value } => {
-            said.say("value ");
-            said.tree(alloc, value);
-        }
-    }
-}
-
 fn tell(alloc: Global, changes: &ChangeList, said: &mut Said) {
     if changes.is_empty() {
         said.say("none");
     }
-    for change in changes.as_slice() {
-        tell_change(alloc, change, said);
-    }
+    tell_changes(alloc, changes.as_slice(), said);
 }
 
 // What a query shows of a tree.
@@ -253,14 +210,7 @@ fn renew(
     answered(view, &mut state.told, alloc, answer, said)
 }
 
-fn tell_rows(alloc: Global, rows: &[Row], said: &mut Said) {
-    for row in rows {
-        tell_row(alloc, "row ", &row.key, &row.value, said);
-        said.say("; ");
-    }
-}
-
-// What is shown: whether it is a leaf, its rows, and its tree.
+// What is shown: whether it is a leaf, its tree, and its rows.
 fn shown(state: &State, alloc: Global, said: &mut Said) -> Result<(), Fault> {
     let Some(view) = &state.view else {
         return Err(Fault::NoSuchCall);
@@ -272,10 +222,16 @@ fn shown(state: &State, alloc: Global, said: &mut Said) -> Result<(), Fault> {
     Ok(())
 }
 
-fn tell_shown(alloc: Global, shown: &Shown, said: &mut Said) {
-    said.say(if shown.leaf().is_some() { "leaf; " } else { "" });
-    tell_rows(alloc, shown.rows(), said);
+pub(crate) fn tell_shown(alloc: Global, shown: &Shown, said: &mut Said) {
+    said.say(if shown.leaf().is_some() {
+        "leaf "
+    } else {
+        "rows "
+    });
     said.tree(alloc, shown.tree());
+    for row in shown.rows() {
+        tell_row(alloc, " ", &row.key, &row.value, said);
+    }
 }
 
 // What was told last, played over the children. Where memory lacks, a first part was played, and is
@@ -285,8 +241,7 @@ fn play(state: &mut State, alloc: Global, said: &mut Said) -> Result<(), Fault> 
     let _in_order = state.children.len();
     apply_changes(alloc, &mut state.children, state.told.changes.as_slice())?;
     for (key, value) in &state.children {
-        tell_row(alloc, "child ", key, value, said);
-        said.say("; ");
+        tell_row(alloc, " child ", key, value, said);
     }
     Ok(())
 }

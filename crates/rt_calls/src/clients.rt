@@ -1,12 +1,15 @@
 // A client, and the calls of whoever holds its connection.
+use crate::cores::limits;
+use crate::fault::Fault;
+use crate::said::Said;
+use crate::tell::{tell_kept, tell_message};
+use crate::words::Words;
 use rt_client::{Client, ClientError, MAX_SEATS, Seat, Shared};
-use rt_cover::Kept;
 use rt_mail::Mirror;
 use rt_push::PushError;
-use rt_script::{Fault, Said, Words};
-use rt_wire::{ClientMessage, ServerMessage, WireError};
+use rt_wire::{ServerMessage, WireError};
 use rt_world::{CoreError, Limits, Outcome};
-use std::alloc::{AllocError, Global};
+use std::alloc::Global;
 
 // A seat, and how many items its ring has at least: receipts that nobody took.
 #[derive(Drop)]
@@ -76,14 +79,6 @@ pub(crate) fn say_error(error: ClientError, said: &mut Said) {
         said.say(" ");
         said.say(why.name());
     }
-}
-
-fn limits(words: &mut Words) -> Result<Limits, Fault> {
-    Ok(Limits {
-        listeners: words.small_number()?,
-        requests: words.small_number()?,
-        last_number: words.number()?,
-    })
 }
 
 // The capacities to the end of the line.
@@ -211,50 +206,18 @@ fn make(
     Ok(())
 }
 
-// Says a message. One whose text lacked memory is made once more by the caller.
-fn say_text(made: Result<String, AllocError>, said: &mut Said) -> bool {
-    match made {
-        Ok(text) => said.say(text.as_str()),
-        Err(_) => {
-            said.say("NoMemory\n");
-            return false;
-        }
-    }
-    true
-}
-
-fn say_message(message: Option<&ClientMessage>, alloc: Global, said: &mut Said) {
-    match message {
-        Some(message) => {
-            let _ = say_text(message.text(alloc), said) || say_text(message.text(alloc), said);
-        }
-        None => said.say("none"),
-    }
-}
-
 // The first message that is to be sent, or `none`.
 fn out(shared: &mut Shared, alloc: Global, said: &mut Said) {
     match shared.take_outgoing() {
-        Ok(message) => say_message(message.as_ref(), alloc, said),
+        Ok(message) => tell_message(alloc, message, said),
         Err(error) => say_error(error, said),
     }
 }
 
-fn say_kept(alloc: Global, listens: &[Kept], said: &mut Said) {
-    if listens.is_empty() {
-        said.say("none");
-    }
-    for kept in listens {
-        said.debug(alloc, &(kept.tag, kept.listener));
-        said.display(alloc, kept.query.path());
-    }
-}
-
-// The listens kept, each with its tag, its listener and its path. A client that lacked memory for it
-// goes on.
+// The listens kept. A client that lacked memory for it goes on.
 fn cover(shared: &Shared, alloc: Global, said: &mut Said) -> Result<(), Fault> {
     match shared.cover() {
-        Ok(kept) => say_kept(alloc, kept.as_slice(), said),
+        Ok(kept) => tell_kept(alloc, kept.as_slice(), said),
         Err(ClientError::NoMemory) => return Err(Fault::NoMemory),
         Err(error) => say_error(error, said),
     }

@@ -1,11 +1,15 @@
 // Cores.
 
+use crate::fault::Fault;
+use crate::said::Said;
+use crate::tell::{tell_changes, tell_kept, tell_message, tell_reason};
+use crate::view::tell_shown;
+use crate::words::Words;
 use rt_core::{Answers, Core};
-use rt_cover::{Kept, KeptList};
+use rt_cover::KeptList;
 use rt_query::Shown;
-use rt_script::{Fault, Said, Words};
-use rt_tree::{Key, Tree};
-use rt_view::{Batch, Change};
+use rt_tree::Tree;
+use rt_view::Batch;
 use rt_wire::ClientMessage;
 use rt_world::{Action, Body, CoreError, Limits, Note, Reason, Report, Step};
 use rt_writes::Entries;
@@ -63,16 +67,20 @@ fn error(alloc: Global, words: &mut Words, said: &mut Said) -> Result<(), Fault>
     Ok(())
 }
 
+pub(crate) fn limits(words: &mut Words) -> Result<Limits, Fault> {
+    Ok(Limits {
+        listeners: words.small_number()?,
+        requests: words.small_number()?,
+        last_number: words.number()?,
+    })
+}
+
 // A new core, with these limits, or full ones; says them.
 fn new(core: &mut Core, alloc: Global, words: &mut Words, said: &mut Said) -> Result<(), Fault> {
     let limits = if words.is_empty() {
         Limits::full()
     } else {
-        Limits {
-            listeners: words.small_number()?,
-            requests: words.small_number()?,
-            last_number: words.number()?,
-        }
+        limits(words)?
     };
     *core = Core::new(alloc, limits);
     said.debug(alloc, &limits);
@@ -113,26 +121,14 @@ fn unlisten(words: &mut Words) -> Result<Step, Fault> {
 
 fn write(alloc: Global, words: &mut Words) -> Result<Step, Fault> {
     let seat = words.number()?;
-    let path = words.path(alloc)?;
-    let tree = words.tree(alloc)?;
+    let (path, tree) = words.entry(alloc)?;
     let action = Action::Put { path, tree };
     Ok(Step::Write { seat, action })
 }
 
-// So many trees, each at its path.
-fn entries(alloc: Global, words: &mut Words) -> Result<Entries, Fault> {
-    let mut entries = Vec::new(alloc);
-    for _ in 0..words.number()? {
-        let path = words.path(alloc)?;
-        let tree = words.tree(alloc)?;
-        entries.push((path, tree))?;
-    }
-    Ok(Entries::of(entries))
-}
-
 fn update(alloc: Global, words: &mut Words) -> Result<Step, Fault> {
     let seat = words.number()?;
-    let entries = entries(alloc, words)?;
+    let entries = Entries::of(words.entries(alloc)?);
     let action = Action::Merge { entries };
     Ok(Step::Write { seat, action })
 }
@@ -147,8 +143,7 @@ fn remove(alloc: Global, words: &mut Words) -> Result<Step, Fault> {
 
 fn data(alloc: Global, words: &mut Words) -> Result<Step, Fault> {
     let tag = words.number()?;
-    let path = words.path(alloc)?;
-    let tree = words.tree(alloc)?;
+    let (path, tree) = words.entry(alloc)?;
     Ok(Step::Data { tag, path, tree })
 }
 
@@ -281,72 +276,27 @@ fn say_note(alloc: Global, note: &Note, said: &mut Said) {
         Body::Settled { id, why } => {
             said.debug(alloc, &(note.seat, *id));
             said.say(" settled");
-            say_why(why.as_ref(), said);
+            tell_reason(why.as_ref(), said);
         }
         Body::Cancelled { listener, why } => {
             said.debug(alloc, &(note.seat, *listener));
             said.say(" cancelled");
-            say_why(Some(why), said);
+            tell_reason(Some(why), said);
         }
         Body::Batch(batch) => say_batch(alloc, note.seat, batch, said),
     }
 }
 
-fn say_why(why: Option<&Reason>, said: &mut Said) {
-    if let Some(why) = why {
-        said.say(": ");
-        said.say(why.text());
-    }
-}
-
 fn say_batch(alloc: Global, seat: u64, batch: &Batch, said: &mut Said) {
     said.debug(alloc, &(seat, batch.listener));
-    for change in batch.changes.as_slice() {
-        say_change(alloc, change, said);
-    }
-}
-
-fn say_change(alloc: Global, change: &Change, said: &mut Said) {
-    match change {
-        Change::Removed { key, old } => say_row(alloc, " removed ", key, old, said),
-        Change::Added { key, value, after } => {
-            say_row(alloc, " added ", key, value, said);
-            say_after(alloc, after, said);
-        }
-        Change::Moved { key, value, after } => {
-            say_row(alloc, " moved ", key, value, said);
-            say_after(alloc, after, said);
-        }
-        Change::Changed { key, value, after } => {
-            say_row(alloc, " changed ", key, value, said);
-            say_after(alloc, after, said);
-        }
-        Change::Value { value } => {
-            said.say(" value ");
-            said.tree(alloc, value);
-        }
-    }
-}
-
-fn say_row(alloc: Global, name: &str, key: &Key, tree: &Tree, said: &mut Said) {
-    said.say(name);
-    said.display(alloc, key);
-    said.say(" ");
-    said.tree(alloc, tree);
-}
-
-fn say_after(alloc: Global, after: &Option<Key>, said: &mut Said) {
-    if let Some(key) = after {
-        said.say(" after ");
-        said.display(alloc, key);
-    }
+    tell_changes(alloc, batch.changes.as_slice(), said);
 }
 
 // What the listener of a number shows: a leaf, or rows; or `none`, or the name of a refusal.
 fn view(core: &Core, alloc: Global, words: &mut Words, said: &mut Said) -> Result<(), Fault> {
     let listener = words.number()?;
     match view_of(core, listener) {
-        Ok(Some(shown)) => say_shown(alloc, &shown, said),
+        Ok(Some(shown)) => tell_shown(alloc, &shown, said),
         Ok(None) => said.say("none"),
         Err(CoreError::NoMemory) => return Err(Fault::NoMemory),
         Err(error) => said.say(error.name()),
@@ -354,60 +304,19 @@ fn view(core: &Core, alloc: Global, words: &mut Words, said: &mut Said) -> Resul
     Ok(())
 }
 
-fn say_shown(alloc: Global, shown: &Shown, said: &mut Said) {
-    said.say(if shown.leaf().is_some() {
-        "leaf "
-    } else {
-        "rows "
-    });
-    said.tree(alloc, shown.tree());
-    for row in shown.rows() {
-        say_row(alloc, " ", &row.key, &row.value, said);
-    }
-}
-
-// The listens kept, each with its tag, a listener that needs it, and its path; or the name of a
-// refusal.
+// The listens kept, or the name of a refusal.
 fn cover(core: &Core, alloc: Global, said: &mut Said) -> Result<(), Fault> {
     match cover_of(core) {
-        Ok(list) => say_kept(alloc, list.as_slice(), said),
+        Ok(list) => tell_kept(alloc, list.as_slice(), said),
         Err(CoreError::NoMemory) => return Err(Fault::NoMemory),
         Err(error) => said.say(error.name()),
     }
     Ok(())
 }
 
-fn say_kept(alloc: Global, listens: &[Kept], said: &mut Said) {
-    for kept in listens {
-        said.debug(alloc, &(kept.tag, kept.listener));
-        said.display(alloc, kept.query.path());
-    }
-}
-
 // The first message that is to be sent, or `none`.
 fn sent(core: &mut Core, alloc: Global, said: &mut Said) {
-    match first_message(core) {
-        Some(message) => say_message(alloc, &message, said),
-        None => said.say("none"),
-    }
-}
-
-// A message that is taken out does not come again: a text that lacked memory is made once more.
-fn say_message(alloc: Global, message: &ClientMessage, said: &mut Said) {
-    let _ = say_text(message.text(alloc), said) || say_text(message.text(alloc), said);
-}
-
-fn say_text(text: Result<String, AllocError>, said: &mut Said) -> bool {
-    match text {
-        Ok(text) => {
-            said.say(text.as_str());
-            true
-        }
-        Err(_) => {
-            said.say("NoMemory\n");
-            false
-        }
-    }
+    tell_message(alloc, first_message(core), said);
 }
 
 pub(crate) fn call(

@@ -21,8 +21,8 @@ fn number(text: &str) -> Result<u32, Fault> {
     text.parse().map_err(|_| Fault::NoSuchCall)
 }
 
-/// What a draft answers.
-pub type Answer = Result<(), QueryError>;
+// What a draft answers.
+pub(crate) type Answer = Result<(), QueryError>;
 
 fn bound(draft: &mut Draft, alloc: Global, name: &str, text: &str) -> Result<Answer, Fault> {
     let (text, key) = match text.split_once(',') {
@@ -40,8 +40,8 @@ fn bound(draft: &mut Draft, alloc: Global, name: &str, text: &str) -> Result<Ans
     }
 }
 
-/// Makes one call of a draft, as `limitToFirst=2`; a call that there is not is a NoSuchCall.
-pub fn make_draft(draft: &mut Draft, alloc: Global, call: &str) -> Result<Answer, Fault> {
+// Makes one call of a draft, as `limitToFirst=2`; a call that there is not is a NoSuchCall.
+pub(crate) fn make_draft(draft: &mut Draft, alloc: Global, call: &str) -> Result<Answer, Fault> {
     let (name, text) = call.split_once('=').unwrap_or((call, ""));
     match name {
         "key" => Ok(draft.order_by_key()),
@@ -70,9 +70,9 @@ fn query_of(alloc: Global, path: &str, calls: &str) -> Result<Query, Fault> {
 }
 
 impl<'a> Words<'a> {
-    /// The query that the next word says: a path, and behind a `?` the calls of its draft, with `&`
-    /// between two, as `/a?child=v&startAt="x",k&limitToLast=2`.
-    pub fn query(&mut self, alloc: Global) -> Result<Query, Fault> {
+    // The query that the next word says: a path, and behind a `?` the calls of its draft, with `&`
+    // between two, as `/a?child=v&startAt="x",k&limitToLast=2`.
+    pub(crate) fn query(&mut self, alloc: Global) -> Result<Query, Fault> {
         let word = self.next()?;
         let (path, calls) = word.split_once('?').unwrap_or((word, ""));
         query_of(alloc, path, calls)

@@ -3,12 +3,14 @@ ghost use Rattle.std.specs.Prelude.{[], ◌∷◌, ◌++◌};
 ghost use Rattle.circular_buffer.specs.Buffer.{buffer, keep_last};
 
 use crate::clients::{Chair, say_error};
+use crate::fault::Fault;
+use crate::said::Said;
 use crate::seats::failed;
-use crate::tell::tell_item;
+use crate::tell::tell_next;
+use crate::words::Words;
 use circular_buffer::HeapCircularBuffer;
 use rt_client::{Client, ClientError, Gate, Sink};
 use rt_mail::Item;
-use rt_script::{Fault, Said, Words};
 use std::alloc::Global;
 use std::marker::PhantomData;
 use std::sync::Wait;
@@ -66,8 +68,7 @@ fn tell_all(basket: &mut Basket, alloc: Global, said: &mut Said) {
     for _ in 0..basket.items.len() {
         if let Some(item) = basket.items.pop_front() {
             said.say("; ");
-            tell_item(alloc, &item, said);
-            drop(item);
+            tell_next(alloc, Some(item), said);
         }
     }
 }

@@ -1,6 +1,8 @@
 // Messages of both sides.
+use crate::fault::Fault;
+use crate::said::Said;
+use crate::words::Words;
 use rt_query::Query;
-use rt_script::{Fault, Said, Words};
 use rt_wire::{ClientMessage, Reason, ServerMessage, WireError, query_text};
 use std::alloc::{AllocError, Global};
 

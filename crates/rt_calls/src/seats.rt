@@ -1,14 +1,15 @@
 // A seat's calls on the locked value of the client that was opened last, and what its ring gives.
 use crate::clients::{Chair, Held, gives_all, has_failed, is_failed, say_error};
 use crate::deliveries::{deliver, hand_out};
+use crate::fault::Fault;
+use crate::items::action;
 use crate::mirrors::given_up;
-use crate::tell::tell_item;
+use crate::said::Said;
+use crate::tell::tell_next;
+use crate::words::Words;
 use rt_client::{Client, ClientError, Seat, Shared, Unclosed};
 use rt_mail::{Item, MailError, Mirror};
-use rt_script::{Fault, Said, Words};
-use rt_tree::{Path, Tree};
-use rt_wire::Action;
-use rt_writes::Entries;
+use rt_tree::Path;
 use std::alloc::Global;
 use std::sync::Wait;
 
@@ -48,20 +49,8 @@ fn set(
     alloc: Global,
     words: &mut Words,
 ) -> Result<Answer, Fault> {
-    let path = words.path(alloc)?;
-    let tree = words.tree(alloc)?;
+    let (path, tree) = words.entry(alloc)?;
     Ok(numbered(shared.set(seat, path, tree)))
-}
-
-// So many trees, each at its path.
-fn entries(alloc: Global, words: &mut Words) -> Result<Vec<(Path, Tree)>, Fault> {
-    let mut entries = Vec::new(alloc);
-    for _ in 0..words.number()? {
-        let path = words.path(alloc)?;
-        let tree = words.tree(alloc)?;
-        entries.push((path, tree))?;
-    }
-    Ok(entries)
 }
 
 // `update COUNT` and so many `PATH TREE`.
@@ -71,7 +60,7 @@ fn update(
     alloc: Global,
     words: &mut Words,
 ) -> Result<Answer, Fault> {
-    let entries = entries(alloc, words)?;
+    let entries = words.entries(alloc)?;
     Ok(numbered(shared.update(seat, entries)))
 }
 
@@ -86,20 +75,6 @@ fn remove(
     Ok(numbered(shared.remove(seat, path)))
 }
 
-// `put PATH TREE`, or `merge COUNT` and so many `PATH TREE`.
-fn action(alloc: Global, words: &mut Words) -> Result<Action, Fault> {
-    match words.next()? {
-        "put" => Ok(Action::Put {
-            path: words.path(alloc)?,
-            tree: words.tree(alloc)?,
-        }),
-        "merge" => Ok(Action::Merge {
-            entries: Entries::of(entries(alloc, words)?),
-        }),
-        _ => Err(Fault::NoSuchCall),
-    }
-}
-
 // `on_disconnect ACTION`.
 fn on_disconnect(
     shared: &mut Shared,
@@ -107,7 +82,7 @@ fn on_disconnect(
     alloc: Global,
     words: &mut Words,
 ) -> Result<Answer, Fault> {
-    let action = action(alloc, words)?;
+    let action = action(words.next()?, alloc, words)?;
     Ok(numbered(shared.on_disconnect(seat, action)))
 }
 
@@ -180,19 +155,11 @@ fn make(
     Ok(())
 }
 
-fn tell(item: Option<&Item>, alloc: Global, said: &mut Said) {
-    match item {
-        Some(item) => tell_item(alloc, item, said),
-        None => said.say("none"),
-    }
-}
-
 // The first item of the ring, or `none`.
 fn next(chair: &mut Chair, alloc: Global, said: &mut Said) {
     let item = chair.seat.next();
     chair.owed = chair.owed.saturating_sub(1);
-    tell(item.as_ref(), alloc, said);
-    drop(item);
+    tell_next(alloc, item, said);
 }
 
 // The mirror takes a copy of an item. Where memory lacks, the item is lost, and all is made anew.
@@ -217,8 +184,7 @@ fn take(
     if let Some(item) = &item {
         mirror_item(mirror, item, alloc)?;
     }
-    tell(item.as_ref(), alloc, said);
-    drop(item);
+    tell_next(alloc, item, said);
     Ok(())
 }
 

@@ -3,14 +3,14 @@ use rt_query::QueryError;
 use rt_tree::TreeError;
 use std::alloc::{AllocError, AllocFailed};
 
-/// Why a line said nothing.
+// Why a line said nothing.
 #[derive(Drop)]
-pub enum Fault {
-    /// Memory was lacking, and nothing has changed: the line is made once more.
+pub(crate) enum Fault {
+    // Memory was lacking, and nothing has changed: the line is made once more.
     NoMemory,
-    /// Memory was lacking, and what was called has failed for good, and has said so: all is made anew.
+    // Memory was lacking, and what was called has failed for good, and has said so: all is made anew.
     Failed,
-    /// There is no such call, or a word of it stands for nothing.
+    // There is no such call, or a word of it stands for nothing.
     NoSuchCall,
 }
 
