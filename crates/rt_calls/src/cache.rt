@@ -5,8 +5,7 @@ ghost use Rattle.rt_cache.specs.Recover.{do_plains_overlap};
 ghost use Rattle.rt_cache.specs.Runs.{IsAllowed};
 
 use crate::fault::Fault;
-use crate::said::Said;
-use crate::words::Words;
+use crate::line::Line;
 use rt_cache::{Base, Brought, Call, QueryList};
 use rt_query::Query;
 use rt_tree::MAX_LEVELS;
@@ -65,33 +64,33 @@ fn refused(state: &State, alloc: Global, before: &str) -> Fault {
 }
 
 // So many queries.
-fn queries(alloc: Global, words: &mut Words) -> Result<Vec<Query>, Fault> {
-    let mut queries = Vec::new(alloc);
-    for _ in 0..words.number()? {
-        queries.push(words.query(alloc)?)?;
+fn queries(line: &mut Line) -> Result<Vec<Query>, Fault> {
+    let mut queries = Vec::new(line.alloc);
+    for _ in 0..line.number()? {
+        queries.push(line.query()?)?;
     }
     Ok(queries)
 }
 
 // The listens kept: none, or one.
-fn kept(alloc: Global, words: &mut Words) -> Result<Vec<Query>, Fault>
+fn kept(line: &mut Line) -> Result<Vec<Query>, Fault>
     ensures { IfOk result (λ kept. do_plains_overlap kept.items ≡ false) }
 {
-    let mut kept = Vec::new(alloc);
-    match words.number()? {
+    let mut kept = Vec::new(line.alloc);
+    match line.number()? {
         0 => {}
-        1 => kept.push(words.query(alloc)?)?,
+        1 => kept.push(line.query()?)?,
         _ => return Err(Fault::NoSuchCall),
     }
     Ok(kept)
 }
 
 // A push on the listen of a query, at a path, of a tree.
-fn push(alloc: Global, words: &mut Words) -> Result<Call, Fault>
+fn push(line: &mut Line) -> Result<Call, Fault>
     ensures { IfOk result (λ call. IsAllowed call) }
 {
-    let query = words.query(alloc)?;
-    let (path, tree) = words.entry(alloc)?;
+    let query = line.query()?;
+    let (path, tree) = line.entry()?;
     if !query.path().is_prefix_of(&path) || path.keys().len() + tree.levels() > MAX_LEVELS {
         return Err(Fault::NoSuchCall);
     }
@@ -99,14 +98,14 @@ fn push(alloc: Global, words: &mut Words) -> Result<Call, Fault>
 }
 
 // A push, or a change of cover.
-fn call_of(name: &str, alloc: Global, words: &mut Words) -> Result<Call, Fault>
+fn call_of(name: &str, line: &mut Line) -> Result<Call, Fault>
     ensures { IfOk result (λ call. IsAllowed call) }
 {
     if name == "put" {
-        return push(alloc, words);
+        return push(line);
     }
-    let registered = queries(alloc, words)?;
-    let kept = kept(alloc, words)?;
+    let registered = queries(line)?;
+    let kept = kept(line)?;
     Ok(Call::Recover(QueryList::of(registered), QueryList::of(kept)))
 }
 
@@ -123,48 +122,42 @@ fn make(brought: &mut Brought, call: &Call) -> Result<bool, AllocError>
 }
 
 // Makes a call, and says whether it was taken.
-fn change(
-    state: &mut State,
-    name: &str,
-    alloc: Global,
-    words: &mut Words,
-    said: &mut Said,
-) -> Result<(), Fault> {
-    let call = call_of(name, alloc, words)?;
-    make_watched(state, &call, alloc, said)
+fn change(state: &mut State, name: &str, line: &mut Line) -> Result<(), Fault> {
+    let call = call_of(name, line)?;
+    make_watched(state, &call, line)
 }
 
-fn make_watched(state: &mut State, call: &Call, alloc: Global, said: &mut Said) -> Result<(), Fault>
+fn make_watched(state: &mut State, call: &Call, line: &mut Line) -> Result<(), Fault>
     requires { IsAllowed call.now }
 {
-    let before = watched(state, alloc)?;
+    let before = watched(state, line.alloc)?;
     match make(&mut state.brought, call) {
         Ok(taken) => {
-            said.debug(alloc, &taken);
+            line.debug(&taken);
             Ok(())
         }
-        Err(_) => Err(refused(state, alloc, before.as_str())),
+        Err(_) => Err(refused(state, line.alloc, before.as_str())),
     }
 }
 
 // So many calls.
-fn calls(alloc: Global, words: &mut Words) -> Result<Vec<Call>, Fault>
+fn calls(line: &mut Line) -> Result<Vec<Call>, Fault>
     ensures { IfOk result (λ calls. All IsAllowed calls.items) }
 {
-    let mut calls = Vec::new(alloc);
-    for _ in 0..words.number()? {
-        calls.push(call_of(words.next()?, alloc, words)?)?;
+    let mut calls = Vec::new(line.alloc);
+    for _ in 0..line.number()? {
+        calls.push(call_of(line.next()?, line)?)?;
     }
     Ok(calls)
 }
 
 // Makes calls in one run, and says of each whether it was taken. Where memory lacks, the first of
 // them stay made.
-fn run(state: &mut State, alloc: Global, words: &mut Words, said: &mut Said) -> Result<(), Fault> {
-    let calls = calls(alloc, words)?;
+fn run(state: &mut State, line: &mut Line) -> Result<(), Fault> {
+    let calls = calls(line)?;
     match state.brought.run(&calls) {
         Ok(taken) => {
-            said.debug(alloc, &taken);
+            line.debug(&taken);
             Ok(())
         }
         Err(_) => Err(Fault::Failed),
@@ -172,56 +165,42 @@ fn run(state: &mut State, alloc: Global, words: &mut Words, said: &mut Said) -> 
 }
 
 // What is told of a query, or of a child of it: its tree, and whether that is whole.
-fn tell(base: Option<Base>, alloc: Global, said: &mut Said) {
+fn tell(base: Option<Base>, line: &mut Line) {
     match base {
-        None => said.say("-"),
+        None => line.say("-"),
         Some(base) => {
-            said.say(if base.whole { "whole " } else { "part " });
-            said.tree(alloc, &base.tree);
+            line.say(if base.whole { "whole " } else { "part " });
+            line.say_tree(&base.tree);
         }
     }
 }
 
 // What is brought for a query, or for a child of it where a key is given.
-fn found(
-    brought: &Brought,
-    query: &Query,
-    alloc: Global,
-    words: &mut Words,
-) -> Result<Option<Base>, Fault> {
-    if words.is_empty() {
+fn found(brought: &Brought, query: &Query, line: &mut Line) -> Result<Option<Base>, Fault> {
+    if line.is_empty() {
         return Ok(brought.base(query)?);
     }
-    let key = words.key(alloc)?;
+    let key = line.key()?;
     Ok(brought.base_child(query, &key)?)
 }
 
-fn base(brought: &Brought, alloc: Global, words: &mut Words, said: &mut Said) -> Result<(), Fault> {
-    let query = words.query(alloc)?;
-    tell(found(brought, &query, alloc, words)?, alloc, said);
+fn base(brought: &Brought, line: &mut Line) -> Result<(), Fault> {
+    let query = line.query()?;
+    tell(found(brought, &query, line)?, line);
     Ok(())
 }
 
 // Whether something is brought for a query.
-fn knows(
-    brought: &Brought,
-    alloc: Global,
-    words: &mut Words,
-    said: &mut Said,
-) -> Result<(), Fault> {
-    said.debug(alloc, &brought.knows(&words.query(alloc)?));
+fn knows(brought: &Brought, line: &mut Line) -> Result<(), Fault> {
+    let query = line.query()?;
+    line.debug(&brought.knows(&query));
     Ok(())
 }
 
 // What is brought for a query, as it is printed.
-fn debug(
-    brought: &Brought,
-    alloc: Global,
-    words: &mut Words,
-    said: &mut Said,
-) -> Result<(), Fault> {
-    let found = brought.base(&words.query(alloc)?)?;
-    said.debug(alloc, &found);
+fn debug(brought: &Brought, line: &mut Line) -> Result<(), Fault> {
+    let found = brought.base(&line.query()?)?;
+    line.debug(&found);
     Ok(())
 }
 
@@ -230,26 +209,21 @@ fn renew(brought: &mut Brought, alloc: Global) -> Result<(), Fault> {
     Ok(())
 }
 
-fn watch(state: &mut State, alloc: Global, words: &mut Words) -> Result<(), Fault> {
-    state.watched = queries(alloc, words)?;
+fn watch(state: &mut State, line: &mut Line) -> Result<(), Fault> {
+    state.watched = queries(line)?;
     Ok(())
 }
 
-pub(crate) fn call(
-    state: &mut State,
-    alloc: Global,
-    words: &mut Words,
-    said: &mut Said,
-) -> Result<(), Fault> {
-    match words.next()? {
-        "new" => renew(&mut state.brought, alloc),
-        "watch" => watch(state, alloc, words),
-        "put" => change(state, "put", alloc, words, said),
-        "recover" => change(state, "recover", alloc, words, said),
-        "run" => run(state, alloc, words, said),
-        "base" => base(&state.brought, alloc, words, said),
-        "knows" => knows(&state.brought, alloc, words, said),
-        "debug" => debug(&state.brought, alloc, words, said),
+pub(crate) fn call(state: &mut State, line: &mut Line) -> Result<(), Fault> {
+    match line.next()? {
+        "new" => renew(&mut state.brought, line.alloc),
+        "watch" => watch(state, line),
+        "put" => change(state, "put", line),
+        "recover" => change(state, "recover", line),
+        "run" => run(state, line),
+        "base" => base(&state.brought, line),
+        "knows" => knows(&state.brought, line),
+        "debug" => debug(&state.brought, line),
         _ => Err(Fault::NoSuchCall),
     }
 }

@@ -1,9 +1,8 @@
 // A client, and the calls of whoever holds its connection.
 use crate::cores::limits;
 use crate::fault::Fault;
-use crate::said::Said;
+use crate::line::Line;
 use crate::tell::{tell_kept, tell_message};
-use crate::words::Words;
 use rt_client::{Client, ClientError, MAX_SEATS, Seat, Shared};
 use rt_mail::Mirror;
 use rt_push::PushError;
@@ -59,36 +58,36 @@ const ERRORS: [ClientError; 6] = [
 ];
 
 // The words of the refusal of a number.
-fn error(alloc: Global, words: &mut Words, said: &mut Said) -> Result<(), Fault> {
-    let number = words.number()?;
+fn error(line: &mut Line) -> Result<(), Fault> {
+    let number = line.number()?;
     for error in ERRORS {
         if u64::from(error.code()) == number {
-            said.debug(alloc, &(error.code(), error));
-            said.say(error.name());
-            said.say(": ");
-            said.display(alloc, &error);
+            line.debug(&(error.code(), error));
+            line.say(error.name());
+            line.say(": ");
+            line.display(&error);
         }
     }
     Ok(())
 }
 
 // The name of a refusal, and of the core's own.
-pub(crate) fn say_error(error: ClientError, said: &mut Said) {
-    said.say(error.name());
+pub(crate) fn say_error(error: ClientError, line: &mut Line) {
+    line.say(error.name());
     if let ClientError::Core(why) = error {
-        said.say(" ");
-        said.say(why.name());
+        line.say(" ");
+        line.say(why.name());
     }
 }
 
 // The capacities to the end of the line.
-fn capacities(alloc: Global, words: &mut Words) -> Result<Vec<usize>, Fault> {
-    let mut capacities = Vec::new(alloc);
-    for _ in 0..words.len() {
-        if words.is_empty() {
+fn capacities(line: &mut Line) -> Result<Vec<usize>, Fault> {
+    let mut capacities = Vec::new(line.alloc);
+    for _ in 0..line.len() {
+        if line.is_empty() {
             break;
         }
-        capacities.push(words.number()? as usize)?;
+        capacities.push(line.number()? as usize)?;
     }
     Ok(capacities)
 }
@@ -102,18 +101,18 @@ fn seat_all(chairs: &mut Vec<Option<Chair>>, seats: Vec<Seat>) {
 
 // `open NUMBER CAPACITY ..`: a client in place of the one before, whose seats stay; says how many
 // there are.
-fn open(held: &mut Held, alloc: Global, words: &mut Words, said: &mut Said) -> Result<(), Fault> {
-    let number = words.number()?;
-    let capacities = capacities(alloc, words)?;
+fn open(held: &mut Held, line: &mut Line) -> Result<(), Fault> {
+    let number = line.number()?;
+    let capacities = capacities(line)?;
     held.chairs.reserve(capacities.len())?;
-    match Client::open(alloc, number, capacities.as_slice(), held.limits) {
+    match Client::open(line.alloc, number, capacities.as_slice(), held.limits) {
         Ok((client, seats)) => {
             held.client = Some(client);
             seat_all(&mut held.chairs, seats);
-            said.debug(alloc, &held.chairs.len());
+            line.debug(&held.chairs.len());
         }
         Err(ClientError::NoMemory) => return Err(Fault::NoMemory),
-        Err(error) => say_error(error, said),
+        Err(error) => say_error(error, line),
     }
     Ok(())
 }
@@ -179,13 +178,12 @@ fn read(alloc: Global, text: &str) -> Result<ServerMessage, Fault> {
 fn made(
     shared: &mut Shared,
     name: &str,
-    alloc: Global,
-    words: &mut Words,
+    line: &mut Line,
 ) -> Result<Result<Outcome, ClientError>, Fault> {
     match name {
         "connected" => Ok(shared.connected()),
         "disconnected" => Ok(shared.disconnected()),
-        "server" => Ok(shared.server_message(read(alloc, words.next()?)?)),
+        "server" => Ok(shared.server_message(read(line.alloc, line.next()?)?)),
         _ => Err(Fault::NoSuchCall),
     }
 }
@@ -194,87 +192,74 @@ fn make(
     shared: &mut Shared,
     chairs: &mut [Option<Chair>],
     name: &str,
-    alloc: Global,
-    words: &mut Words,
-    said: &mut Said,
+    line: &mut Line,
 ) -> Result<(), Fault> {
-    match made(shared, name, alloc, words)? {
-        Ok(outcome) => said.debug(alloc, &outcome),
+    match made(shared, name, line)? {
+        Ok(outcome) => line.debug(&outcome),
         Err(ClientError::NoMemory) => return Err(failed(shared, chairs)),
-        Err(error) => say_error(error, said),
+        Err(error) => say_error(error, line),
     }
     Ok(())
 }
 
 // The first message that is to be sent, or `none`.
-fn out(shared: &mut Shared, alloc: Global, said: &mut Said) {
+fn out(shared: &mut Shared, line: &mut Line) {
     match shared.take_outgoing() {
-        Ok(message) => tell_message(alloc, message, said),
-        Err(error) => say_error(error, said),
+        Ok(message) => tell_message(message, line),
+        Err(error) => say_error(error, line),
     }
 }
 
 // The listens kept. A client that lacked memory for it goes on.
-fn cover(shared: &Shared, alloc: Global, said: &mut Said) -> Result<(), Fault> {
+fn cover(shared: &Shared, line: &mut Line) -> Result<(), Fault> {
     match shared.cover() {
-        Ok(kept) => tell_kept(alloc, kept.as_slice(), said),
+        Ok(kept) => tell_kept(kept.as_slice(), line),
         Err(ClientError::NoMemory) => return Err(Fault::NoMemory),
-        Err(error) => say_error(error, said),
+        Err(error) => say_error(error, line),
     }
     Ok(())
 }
 
-fn say_key(key: Result<[u8; 20], PushError>, said: &mut Said) {
+fn say_key(key: Result<[u8; 20], PushError>, line: &mut Line) {
     match key {
-        Ok(id) => said.say(str::from_utf8(&id).unwrap_or("no text")),
-        Err(error) => said.say(error.name()),
+        Ok(id) => line.say(str::from_utf8(&id).unwrap_or("no text")),
+        Err(error) => line.say(error.name()),
     }
 }
 
 // `push_key MOMENT DIGIT`: the push id of a moment, and of twelve times that digit.
-fn push_key(shared: &mut Shared, words: &mut Words, said: &mut Said) -> Result<(), Fault> {
-    let moment = words.number()?;
-    let digit = words.next()?.parse().map_err(|_| Fault::NoSuchCall)?;
-    say_key(shared.push_key(moment, [digit; 12]), said);
+fn push_key(shared: &mut Shared, line: &mut Line) -> Result<(), Fault> {
+    let moment = line.number()?;
+    let digit = line.next()?.parse().map_err(|_| Fault::NoSuchCall)?;
+    say_key(shared.push_key(moment, [digit; 12]), line);
     Ok(())
 }
 
 // Calls on the locked value of the client that was opened last.
-fn call_locked(
-    held: &mut Held,
-    name: &str,
-    alloc: Global,
-    words: &mut Words,
-    said: &mut Said,
-) -> Result<(), Fault> {
+fn call_locked(held: &mut Held, name: &str, line: &mut Line) -> Result<(), Fault> {
     let Some(client) = &mut held.client else {
         return Err(Fault::NoSuchCall);
     };
     let shared = client.shared.get_mut();
     match name {
-        "out" => out(shared, alloc, said),
-        "cover" => cover(shared, alloc, said)?,
-        "push_key" => push_key(shared, words, said)?,
-        _ => make(shared, held.chairs.as_mut_slice(), name, alloc, words, said)?,
+        "out" => out(shared, line),
+        "cover" => cover(shared, line)?,
+        "push_key" => push_key(shared, line)?,
+        _ => make(shared, held.chairs.as_mut_slice(), name, line)?,
     }
     Ok(())
 }
 
-pub(crate) fn call(
-    held: &mut Held,
-    alloc: Global,
-    words: &mut Words,
-    said: &mut Said,
-) -> Result<(), Fault> {
-    match words.next()? {
-        "error" => error(alloc, words, said)?,
-        "most" => said.debug(alloc, &MAX_SEATS),
+pub(crate) fn call(held: &mut Held, line: &mut Line) -> Result<(), Fault> {
+    match line.next()? {
+        "error" => error(line)?,
+        "most" => line.debug(&MAX_SEATS),
         "limits" => {
-            held.limits = limits(words)?;
-            said.debug(alloc, &held.limits);
+            held.limits = limits(line)?;
+            line.debug(&held.limits);
         }
-        "open" => open(held, alloc, words, said)?,
-        name => call_locked(held, name, alloc, words, said)?,
+        "open" => open(held, line)?,
+        name => call_locked(held, name, line)?,
     }
     Ok(())
 }

@@ -1,10 +1,9 @@
 // Cores.
 
 use crate::fault::Fault;
-use crate::said::Said;
+use crate::line::Line;
 use crate::tell::{tell_changes, tell_kept, tell_message, tell_reason};
 use crate::view::tell_shown;
-use crate::words::Words;
 use rt_core::{Answers, Core};
 use rt_cover::KeptList;
 use rt_query::Shown;
@@ -49,118 +48,118 @@ const ERRORS: [CoreError; 11] = [
 ];
 
 // The words of a refusal.
-fn say_error(alloc: Global, error: CoreError, said: &mut Said) {
-    said.debug(alloc, &(error.code(), error));
-    said.say(error.name());
-    said.say(": ");
-    said.display(alloc, &error);
+fn say_error(error: CoreError, line: &mut Line) {
+    line.debug(&(error.code(), error));
+    line.say(error.name());
+    line.say(": ");
+    line.display(&error);
 }
 
 // The words of the refusal of a number.
-fn error(alloc: Global, words: &mut Words, said: &mut Said) -> Result<(), Fault> {
-    let number = words.number()?;
+fn error(line: &mut Line) -> Result<(), Fault> {
+    let number = line.number()?;
     for error in ERRORS {
         if u64::from(error.code()) == number {
-            say_error(alloc, error, said);
+            say_error(error, line);
         }
     }
     Ok(())
 }
 
-pub(crate) fn limits(words: &mut Words) -> Result<Limits, Fault> {
+pub(crate) fn limits(line: &mut Line) -> Result<Limits, Fault> {
     Ok(Limits {
-        listeners: words.small_number()?,
-        requests: words.small_number()?,
-        last_number: words.number()?,
+        listeners: line.small_number()?,
+        requests: line.small_number()?,
+        last_number: line.number()?,
     })
 }
 
 // A new core, with these limits, or full ones; says them.
-fn new(core: &mut Core, alloc: Global, words: &mut Words, said: &mut Said) -> Result<(), Fault> {
-    let limits = if words.is_empty() {
+fn new(core: &mut Core, line: &mut Line) -> Result<(), Fault> {
+    let limits = if line.is_empty() {
         Limits::full()
     } else {
-        limits(words)?
+        limits(line)?
     };
-    *core = Core::new(alloc, limits);
-    said.debug(alloc, &limits);
+    *core = Core::new(line.alloc, limits);
+    line.debug(&limits);
     Ok(())
 }
 
 // `connected`, `disconnected`, `listen SEAT QUERY`, `unlisten SEAT LISTENER`,
 // `write SEAT PATH TREE`, `update SEAT COUNT` and so many `PATH TREE`, `remove SEAT PATH`,
 // `data TAG PATH TREE`, `accepted ID`, `refused ID WHY` or `revoked TAG WHY`.
-fn step(alloc: Global, words: &mut Words) -> Result<Step, Fault> {
-    match words.next()? {
+fn step(line: &mut Line) -> Result<Step, Fault> {
+    match line.next()? {
         "connected" => Ok(Step::Connected),
         "disconnected" => Ok(Step::Disconnected),
-        "listen" => listen(alloc, words),
-        "unlisten" => unlisten(words),
-        "write" => write(alloc, words),
-        "update" => update(alloc, words),
-        "remove" => remove(alloc, words),
-        "data" => data(alloc, words),
-        "accepted" => accepted(words),
-        "refused" => refused(alloc, words),
-        "revoked" => revoked(alloc, words),
+        "listen" => listen(line),
+        "unlisten" => unlisten(line),
+        "write" => write(line),
+        "update" => update(line),
+        "remove" => remove(line),
+        "data" => data(line),
+        "accepted" => accepted(line),
+        "refused" => refused(line),
+        "revoked" => revoked(line),
         _ => Err(Fault::NoSuchCall),
     }
 }
 
-fn listen(alloc: Global, words: &mut Words) -> Result<Step, Fault> {
-    let seat = words.number()?;
-    let query = words.query(alloc)?;
+fn listen(line: &mut Line) -> Result<Step, Fault> {
+    let seat = line.number()?;
+    let query = line.query()?;
     Ok(Step::Listen { seat, query })
 }
 
-fn unlisten(words: &mut Words) -> Result<Step, Fault> {
-    let seat = words.number()?;
-    let listener = words.number()?;
+fn unlisten(line: &mut Line) -> Result<Step, Fault> {
+    let seat = line.number()?;
+    let listener = line.number()?;
     Ok(Step::Unlisten { seat, listener })
 }
 
-fn write(alloc: Global, words: &mut Words) -> Result<Step, Fault> {
-    let seat = words.number()?;
-    let (path, tree) = words.entry(alloc)?;
+fn write(line: &mut Line) -> Result<Step, Fault> {
+    let seat = line.number()?;
+    let (path, tree) = line.entry()?;
     let action = Action::Put { path, tree };
     Ok(Step::Write { seat, action })
 }
 
-fn update(alloc: Global, words: &mut Words) -> Result<Step, Fault> {
-    let seat = words.number()?;
-    let entries = Entries::of(words.entries(alloc)?);
+fn update(line: &mut Line) -> Result<Step, Fault> {
+    let seat = line.number()?;
+    let entries = Entries::of(line.entries()?);
     let action = Action::Merge { entries };
     Ok(Step::Write { seat, action })
 }
 
-fn remove(alloc: Global, words: &mut Words) -> Result<Step, Fault> {
-    let seat = words.number()?;
-    let path = words.path(alloc)?;
+fn remove(line: &mut Line) -> Result<Step, Fault> {
+    let seat = line.number()?;
+    let path = line.path()?;
     let tree = Tree::null();
     let action = Action::Put { path, tree };
     Ok(Step::Write { seat, action })
 }
 
-fn data(alloc: Global, words: &mut Words) -> Result<Step, Fault> {
-    let tag = words.number()?;
-    let (path, tree) = words.entry(alloc)?;
+fn data(line: &mut Line) -> Result<Step, Fault> {
+    let tag = line.number()?;
+    let (path, tree) = line.entry()?;
     Ok(Step::Data { tag, path, tree })
 }
 
-fn accepted(words: &mut Words) -> Result<Step, Fault> {
-    let id = words.number()?;
+fn accepted(line: &mut Line) -> Result<Step, Fault> {
+    let id = line.number()?;
     Ok(Step::Accepted { id })
 }
 
-fn refused(alloc: Global, words: &mut Words) -> Result<Step, Fault> {
-    let id = words.number()?;
-    let why = Reason::of(words.text(alloc)?);
+fn refused(line: &mut Line) -> Result<Step, Fault> {
+    let id = line.number()?;
+    let why = Reason::of(line.text()?);
     Ok(Step::Refused { id, why })
 }
 
-fn revoked(alloc: Global, words: &mut Words) -> Result<Step, Fault> {
-    let tag = words.number()?;
-    let why = Reason::of(words.text(alloc)?);
+fn revoked(line: &mut Line) -> Result<Step, Fault> {
+    let tag = line.number()?;
+    let why = Reason::of(line.text()?);
     Ok(Step::Revoked { tag, why })
 }
 
@@ -208,37 +207,37 @@ fn have_failed(answers: [Option<CoreError>; 3]) -> bool {
 }
 
 // Makes a step, and says what it answers.
-fn make(core: &mut Core, alloc: Global, words: &mut Words, said: &mut Said) -> Result<(), Fault> {
-    let step = step(alloc, words)?;
+fn make(core: &mut Core, line: &mut Line) -> Result<(), Fault> {
+    let step = step(line)?;
     let answer = apply(core, step);
     if let Err(CoreError::NoMemory) = &answer {
         return Err(failed(core));
     }
-    say_answer(alloc, &answer, said);
+    say_answer(&answer, line);
     Ok(())
 }
 
 // The steps to the end of the line.
-fn steps(alloc: Global, words: &mut Words) -> Result<Vec<Step>, Fault> {
-    let mut steps = Vec::new(alloc);
-    'steps: for _ in 0..words.len() {
-        if words.is_empty() {
+fn steps(line: &mut Line) -> Result<Vec<Step>, Fault> {
+    let mut steps = Vec::new(line.alloc);
+    'steps: for _ in 0..line.len() {
+        if line.is_empty() {
             break;
         }
-        steps.push(step(alloc, words)?)?;
+        steps.push(step(line)?)?;
     }
     Ok(steps)
 }
 
 // Makes a run of steps, and says what each answers.
-fn run(core: &mut Core, alloc: Global, words: &mut Words, said: &mut Said) -> Result<(), Fault> {
-    let steps = steps(alloc, words)?;
-    let answers = apply_all(alloc, core, steps)?;
+fn run(core: &mut Core, line: &mut Line) -> Result<(), Fault> {
+    let steps = steps(line)?;
+    let answers = apply_all(line.alloc, core, steps)?;
     if lacked_memory(&answers) {
         return Err(failed(core));
     }
     for answer in answers.as_slice() {
-        say_answer(alloc, answer, said);
+        say_answer(answer, line);
     }
     Ok(())
 }
@@ -254,86 +253,81 @@ fn lacked_memory(answers: &Answers) -> bool {
 
 // `Done` or `Stale`, the number that is given, and what each seat is told; or the name of a
 // refusal.
-fn say_answer(alloc: Global, answer: &Result<Report, CoreError>, said: &mut Said) {
+fn say_answer(answer: &Result<Report, CoreError>, line: &mut Line) {
     match answer {
-        Ok(report) => say_report(alloc, report, said),
-        Err(error) => said.say(error.name()),
+        Ok(report) => say_report(report, line),
+        Err(error) => line.say(error.name()),
     }
-    said.say(".");
+    line.say(".");
 }
 
-fn say_report(alloc: Global, report: &Report, said: &mut Said) {
-    said.debug(alloc, &(report.outcome, report.given));
+fn say_report(report: &Report, line: &mut Line) {
+    line.debug(&(report.outcome, report.given));
     for note in report.notes.as_slice() {
-        say_note(alloc, note, said);
+        say_note(note, line);
     }
 }
 
 // The seat, and the number of its request or listener; then how the request or the listener ended,
 // or the changes.
-fn say_note(alloc: Global, note: &Note, said: &mut Said) {
+fn say_note(note: &Note, line: &mut Line) {
     match &note.body {
         Body::Settled { id, why } => {
-            said.debug(alloc, &(note.seat, *id));
-            said.say(" settled");
-            tell_reason(why.as_ref(), said);
+            line.debug(&(note.seat, *id));
+            line.say(" settled");
+            tell_reason(why.as_ref(), line);
         }
         Body::Cancelled { listener, why } => {
-            said.debug(alloc, &(note.seat, *listener));
-            said.say(" cancelled");
-            tell_reason(Some(why), said);
+            line.debug(&(note.seat, *listener));
+            line.say(" cancelled");
+            tell_reason(Some(why), line);
         }
-        Body::Batch(batch) => say_batch(alloc, note.seat, batch, said),
+        Body::Batch(batch) => say_batch(note.seat, batch, line),
     }
 }
 
-fn say_batch(alloc: Global, seat: u64, batch: &Batch, said: &mut Said) {
-    said.debug(alloc, &(seat, batch.listener));
-    tell_changes(alloc, batch.changes.as_slice(), said);
+fn say_batch(seat: u64, batch: &Batch, line: &mut Line) {
+    line.debug(&(seat, batch.listener));
+    tell_changes(batch.changes.as_slice(), line);
 }
 
 // What the listener of a number shows: a leaf, or rows; or `none`, or the name of a refusal.
-fn view(core: &Core, alloc: Global, words: &mut Words, said: &mut Said) -> Result<(), Fault> {
-    let listener = words.number()?;
+fn view(core: &Core, line: &mut Line) -> Result<(), Fault> {
+    let listener = line.number()?;
     match view_of(core, listener) {
-        Ok(Some(shown)) => tell_shown(alloc, &shown, said),
-        Ok(None) => said.say("none"),
+        Ok(Some(shown)) => tell_shown(&shown, line),
+        Ok(None) => line.say("none"),
         Err(CoreError::NoMemory) => return Err(Fault::NoMemory),
-        Err(error) => said.say(error.name()),
+        Err(error) => line.say(error.name()),
     }
     Ok(())
 }
 
 // The listens kept, or the name of a refusal.
-fn cover(core: &Core, alloc: Global, said: &mut Said) -> Result<(), Fault> {
+fn cover(core: &Core, line: &mut Line) -> Result<(), Fault> {
     match cover_of(core) {
-        Ok(list) => tell_kept(alloc, list.as_slice(), said),
+        Ok(list) => tell_kept(list.as_slice(), line),
         Err(CoreError::NoMemory) => return Err(Fault::NoMemory),
-        Err(error) => said.say(error.name()),
+        Err(error) => line.say(error.name()),
     }
     Ok(())
 }
 
 // The first message that is to be sent, or `none`.
-fn sent(core: &mut Core, alloc: Global, said: &mut Said) {
-    tell_message(alloc, first_message(core), said);
+fn sent(core: &mut Core, line: &mut Line) {
+    tell_message(first_message(core), line);
 }
 
-pub(crate) fn call(
-    state: &mut State,
-    alloc: Global,
-    words: &mut Words,
-    said: &mut Said,
-) -> Result<(), Fault> {
-    match words.next()? {
-        "error" => error(alloc, words, said),
-        "new" => new(&mut state.core, alloc, words, said),
-        "make" => make(&mut state.core, alloc, words, said),
-        "run" => run(&mut state.core, alloc, words, said),
-        "view" => view(&state.core, alloc, words, said),
-        "cover" => cover(&state.core, alloc, said),
+pub(crate) fn call(state: &mut State, line: &mut Line) -> Result<(), Fault> {
+    match line.next()? {
+        "error" => error(line),
+        "new" => new(&mut state.core, line),
+        "make" => make(&mut state.core, line),
+        "run" => run(&mut state.core, line),
+        "view" => view(&state.core, line),
+        "cover" => cover(&state.core, line),
         "sent" => {
-            sent(&mut state.core, alloc, said);
+            sent(&mut state.core, line);
             Ok(())
         }
         _ => Err(Fault::NoSuchCall),

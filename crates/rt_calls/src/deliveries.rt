@@ -4,10 +4,9 @@ ghost use Rattle.circular_buffer.specs.Buffer.{buffer, keep_last};
 
 use crate::clients::{Chair, say_error};
 use crate::fault::Fault;
-use crate::said::Said;
+use crate::line::Line;
 use crate::seats::failed;
 use crate::tell::tell_next;
-use crate::words::Words;
 use circular_buffer::HeapCircularBuffer;
 use rt_client::{Client, ClientError, Gate, Sink};
 use rt_mail::Item;
@@ -64,22 +63,22 @@ fn new_basket(alloc: Global) -> Result<Basket, Fault> {
     Ok(Basket { items })
 }
 
-fn tell_all(basket: &mut Basket, alloc: Global, said: &mut Said) {
+fn tell_all(basket: &mut Basket, line: &mut Line) {
     for _ in 0..basket.items.len() {
         if let Some(item) = basket.items.pop_front() {
-            said.say("; ");
-            tell_next(alloc, Some(item), said);
+            line.say("; ");
+            tell_next(Some(item), line);
         }
     }
 }
 
 // `hand_out`: what the ring holds, in order.
-pub(crate) fn hand_out(chair: &mut Chair, alloc: Global, said: &mut Said) -> Result<(), Fault> {
-    let mut basket = new_basket(alloc)?;
+pub(crate) fn hand_out(chair: &mut Chair, line: &mut Line) -> Result<(), Fault> {
+    let mut basket = new_basket(line.alloc)?;
     chair.seat.hand_out(&mut basket);
     chair.owed = 0;
-    said.say("given");
-    tell_all(&mut basket, alloc, said);
+    line.say("given");
+    tell_all(&mut basket, line);
     Ok(())
 }
 
@@ -88,12 +87,10 @@ pub(crate) fn hand_out(chair: &mut Chair, alloc: Global, said: &mut Said) -> Res
 pub(crate) fn deliver<R: Wait>(
     client: &mut Client,
     chair: &mut Chair,
-    alloc: Global,
-    words: &mut Words,
-    said: &mut Said,
+    line: &mut Line,
 ) -> Result<(), Fault> {
-    let turns = words.number()?;
-    let mut basket = new_basket(alloc)?;
+    let turns = line.number()?;
+    let mut basket = new_basket(line.alloc)?;
     let gate = Asked {
         times: AtomicU64::new(0),
     };
@@ -103,13 +100,13 @@ pub(crate) fn deliver<R: Wait>(
         chair.owed = 0;
     }
     if answer == Err(ClientError::NoMemory) {
-        return Err(failed(client.shared.get_mut(), chair, alloc));
+        return Err(failed(client.shared.get_mut(), chair, line.alloc));
     }
-    said.display(alloc, &gate.times.load(Ordering::SeqCst));
+    line.display(&gate.times.load(Ordering::SeqCst));
     if let Err(error) = answer {
-        said.say(" ");
-        say_error(error, said);
+        line.say(" ");
+        say_error(error, line);
     }
-    tell_all(&mut basket, alloc, said);
+    tell_all(&mut basket, line);
     Ok(())
 }

@@ -3,7 +3,7 @@
 // The calls are `key`, `child=PATH`, `value`; a bound, as `startAt=LEAF` or `startAt=LEAF,KEY`, by
 // JSON; `limitToFirst=N` and `limitToLast=N`.
 use crate::fault::Fault;
-use crate::words::Words;
+use crate::line::Line;
 use rt_order::Mark;
 use rt_query::{Draft, Query, QueryError};
 use rt_tree::{Path, Tree};
@@ -69,12 +69,12 @@ fn query_of(alloc: Global, path: &str, calls: &str) -> Result<Query, Fault> {
     Ok(draft.done())
 }
 
-impl<'a> Words<'a> {
+impl<'a> Line<'a> {
     // The query that the next word says: a path, and behind a `?` the calls of its draft, with `&`
     // between two, as `/a?child=v&startAt="x",k&limitToLast=2`.
-    pub(crate) fn query(&mut self, alloc: Global) -> Result<Query, Fault> {
+    pub(crate) fn query(&mut self) -> Result<Query, Fault> {
         let word = self.next()?;
         let (path, calls) = word.split_once('?').unwrap_or((word, ""));
-        query_of(alloc, path, calls)
+        query_of(self.alloc, path, calls)
     }
 }

@@ -6,35 +6,28 @@
 // `changed` with a key, a tree, and the key of the row before, or `-`. An action is `put PATH TREE`,
 // or `merge` and paths, each with its tree.
 use crate::fault::Fault;
-use crate::words::Words;
+use crate::line::Line;
 use rt_mail::{Item, Receipt};
 use rt_tree::{Key, Tree};
 use rt_view::{Batch, Change, ChangeList};
 use rt_wire::{Action, Ending, Reason};
 use rt_writes::Entries;
-use std::alloc::Global;
 
-fn reason(alloc: Global, words: &mut Words) -> Result<Reason, Fault> {
-    Ok(Reason::of(words.text(alloc)?))
+fn reason(line: &mut Line) -> Result<Reason, Fault> {
+    Ok(Reason::of(line.text()?))
 }
 
 // The key of the row before, or none.
-fn key_before(alloc: Global, words: &mut Words) -> Result<Option<Key>, Fault> {
-    match words.next()? {
+fn key_before(line: &mut Line) -> Result<Option<Key>, Fault> {
+    match line.next()? {
         "-" => Ok(None),
-        text => Ok(Some(Key::parse(alloc, text)?)),
+        text => Ok(Some(Key::parse(line.alloc, text)?)),
     }
 }
 
 // What the row of a key has become.
-fn row_change(
-    name: &str,
-    key: Key,
-    value: Tree,
-    alloc: Global,
-    words: &mut Words,
-) -> Result<Change, Fault> {
-    let after = key_before(alloc, words)?;
+fn row_change(name: &str, key: Key, value: Tree, line: &mut Line) -> Result<Change, Fault> {
+    let after = key_before(line)?;
     match name {
         "added" => Ok(Change::Added { key, value, after }),
         "moved" => Ok(Change::Moved { key, value, after }),
@@ -43,123 +36,118 @@ fn row_change(
     }
 }
 
-fn change(alloc: Global, words: &mut Words) -> Result<Change, Fault> {
-    let name = words.next()?;
+fn change(line: &mut Line) -> Result<Change, Fault> {
+    let name = line.next()?;
     if name == "value" {
-        let value = words.tree(alloc)?;
+        let value = line.tree()?;
         return Ok(Change::Value { value });
     }
-    let key = words.key(alloc)?;
-    let tree = words.tree(alloc)?;
+    let key = line.key()?;
+    let tree = line.tree()?;
     if name == "removed" {
         return Ok(Change::Removed { key, old: tree });
     }
-    row_change(name, key, tree, alloc, words)
+    row_change(name, key, tree, line)
 }
 
 // The changes to the end of the line.
-fn changes(alloc: Global, words: &mut Words) -> Result<ChangeList, Fault> {
-    let mut changes = Vec::new(alloc);
-    for _ in 0..words.len() {
-        if words.is_empty() {
+fn changes(line: &mut Line) -> Result<ChangeList, Fault> {
+    let mut changes = Vec::new(line.alloc);
+    for _ in 0..line.len() {
+        if line.is_empty() {
             break;
         }
-        changes.push(change(alloc, words)?)?;
+        changes.push(change(line)?)?;
     }
     Ok(ChangeList::of(changes))
 }
 
 // The entries to the end of the line.
-fn entries(alloc: Global, words: &mut Words) -> Result<Entries, Fault> {
-    let mut entries = Vec::new(alloc);
-    for _ in 0..words.len() {
-        if words.is_empty() {
+fn entries(line: &mut Line) -> Result<Entries, Fault> {
+    let mut entries = Vec::new(line.alloc);
+    for _ in 0..line.len() {
+        if line.is_empty() {
             break;
         }
-        entries.push(words.entry(alloc)?)?;
+        entries.push(line.entry()?)?;
     }
     Ok(Entries::of(entries))
 }
 
 // The action of a name.
-pub(crate) fn action(name: &str, alloc: Global, words: &mut Words) -> Result<Action, Fault> {
+pub(crate) fn action(name: &str, line: &mut Line) -> Result<Action, Fault> {
     match name {
         "put" => {
-            let (path, tree) = words.entry(alloc)?;
+            let (path, tree) = line.entry()?;
             Ok(Action::Put { path, tree })
         }
         "merge" => Ok(Action::Merge {
-            entries: entries(alloc, words)?,
+            entries: entries(line)?,
         }),
         _ => Err(Fault::NoSuchCall),
     }
 }
 
-fn ending(alloc: Global, words: &mut Words) -> Result<Ending, Fault> {
-    match words.next()? {
-        "cancel" => Ok(Ending::Cancel(words.path(alloc)?)),
-        name => Ok(Ending::Run(action(name, alloc, words)?)),
+fn ending(line: &mut Line) -> Result<Ending, Fault> {
+    match line.next()? {
+        "cancel" => Ok(Ending::Cancel(line.path()?)),
+        name => Ok(Ending::Run(action(name, line)?)),
     }
 }
 
 // The receipt of a name and a number.
-fn receipt(name: &str, number: u64, alloc: Global, words: &mut Words) -> Result<Receipt, Fault> {
+fn receipt(name: &str, number: u64, line: &mut Line) -> Result<Receipt, Fault> {
     match name {
         "listened" => Ok(Receipt::Listened {
             listener: number,
-            query: words.query(alloc)?,
+            query: line.query()?,
         }),
         "unlistened" => Ok(Receipt::Unlistened { listener: number }),
         "wrote" => Ok(Receipt::Wrote {
             id: number,
-            what: action(words.next()?, alloc, words)?,
+            what: action(line.next()?, line)?,
         }),
         "asked" => Ok(Receipt::Asked {
             id: number,
-            what: ending(alloc, words)?,
+            what: ending(line)?,
         }),
         _ => Err(Fault::NoSuchCall),
     }
 }
 
-fn settled(id: u64, alloc: Global, words: &mut Words) -> Result<Item, Fault> {
-    let why = if words.is_empty() {
+fn settled(id: u64, line: &mut Line) -> Result<Item, Fault> {
+    let why = if line.is_empty() {
         None
     } else {
-        Some(reason(alloc, words)?)
+        Some(reason(line)?)
     };
     Ok(Item::Settled { id, why })
 }
 
 // The item of a name and a number.
-pub(crate) fn item(
-    name: &str,
-    number: u64,
-    alloc: Global,
-    words: &mut Words,
-) -> Result<Item, Fault> {
+pub(crate) fn item(name: &str, number: u64, line: &mut Line) -> Result<Item, Fault> {
     match name {
-        "settled" => settled(number, alloc, words),
+        "settled" => settled(number, line),
         "cancelled" => Ok(Item::Cancelled {
             listener: number,
-            why: reason(alloc, words)?,
+            why: reason(line)?,
         }),
         "batch" => Ok(Item::Batch(Batch {
             listener: number,
-            changes: changes(alloc, words)?,
+            changes: changes(line)?,
         })),
-        _ => Ok(Item::Receipt(receipt(name, number, alloc, words)?)),
+        _ => Ok(Item::Receipt(receipt(name, number, line)?)),
     }
 }
 
-pub(crate) fn next_item(alloc: Global, words: &mut Words) -> Result<Item, Fault> {
-    let name = words.next()?;
-    let number = words.number()?;
-    item(name, number, alloc, words)
+pub(crate) fn next_item(line: &mut Line) -> Result<Item, Fault> {
+    let name = line.next()?;
+    let number = line.number()?;
+    item(name, number, line)
 }
 
-pub(crate) fn next_receipt(alloc: Global, words: &mut Words) -> Result<Receipt, Fault> {
-    let name = words.next()?;
-    let number = words.number()?;
-    receipt(name, number, alloc, words)
+pub(crate) fn next_receipt(line: &mut Line) -> Result<Receipt, Fault> {
+    let name = line.next()?;
+    let number = line.number()?;
+    receipt(name, number, line)
 }

@@ -1,15 +1,13 @@
 // A lane and its ring.
 use crate::fault::Fault;
 use crate::items::{item, next_receipt};
-use crate::said::Said;
+use crate::line::Line;
 use crate::tell::tell_next;
-use crate::words::Words;
 use rt_mail::{Inbox, Item, Lane, MAX_CAPACITY, MailError, Receipt, Unqueued};
-use std::alloc::Global;
 
 // How many items wait, and how many the ring holds.
-fn tell_counts(lane: &Lane, inbox: &Inbox, alloc: Global, said: &mut Said) {
-    said.debug(alloc, &(lane.len(), inbox.len()));
+fn tell_counts(lane: &Lane, inbox: &Inbox, line: &mut Line) {
+    line.debug(&(lane.len(), inbox.len()));
 }
 
 fn count(lane: &Lane, inbox: &Inbox) -> usize {
@@ -46,10 +44,10 @@ fn unqueued(refused: &Unqueued, name: &str, number: u64) -> Fault {
     }
 }
 
-fn queue(lane: &mut Lane, alloc: Global, words: &mut Words) -> Result<(), Fault> {
-    let name = words.next()?;
-    let number = words.number()?;
-    match lane.queue(item(name, number, alloc, words)?) {
+fn queue(lane: &mut Lane, line: &mut Line) -> Result<(), Fault> {
+    let name = line.next()?;
+    let number = line.number()?;
+    match lane.queue(item(name, number, line)?) {
         Ok(()) => Ok(()),
         Err(refused) => Err(unqueued(&refused, name, number)),
     }
@@ -64,8 +62,8 @@ fn queue_settled(lane: &mut Lane, id: u64) -> Option<MailError> {
 
 // So many settled requests, by number from 1 on. Where memory lacks, the first of them wait, and all
 // is made anew.
-fn fill(lane: &mut Lane, words: &mut Words) -> Result<(), Fault> {
-    for before in 0..words.number()? {
+fn fill(lane: &mut Lane, line: &mut Line) -> Result<(), Fault> {
+    for before in 0..line.number()? {
         match queue_settled(lane, before + 1) {
             None => {}
             Some(MailError::NoMemory) => return Err(Fault::Failed),
@@ -122,9 +120,9 @@ fn flush(lane: &mut Lane, inbox: &mut Inbox) -> Result<(), Fault> {
 }
 
 // Signs a receipt, where there is room for it.
-fn sign(lane: &mut Lane, inbox: &mut Inbox, alloc: Global, words: &mut Words) -> Result<(), Fault> {
+fn sign(lane: &mut Lane, inbox: &mut Inbox, line: &mut Line) -> Result<(), Fault> {
     let before = count(lane, inbox);
-    let receipt = next_receipt(alloc, words)?;
+    let receipt = next_receipt(line)?;
     if !lane.has_room(inbox) {
         return Err(Fault::NoSuchCall);
     }
@@ -136,36 +134,29 @@ fn sign(lane: &mut Lane, inbox: &mut Inbox, alloc: Global, words: &mut Words) ->
 }
 
 // The first item of the ring.
-fn next(inbox: &mut Inbox, alloc: Global, said: &mut Said) {
-    tell_next(alloc, inbox.next(), said);
+fn next(inbox: &mut Inbox, line: &mut Line) {
+    tell_next(inbox.next(), line);
 }
 
 // Takes so many items out of the ring, unseen.
-fn skip(inbox: &mut Inbox, words: &mut Words) -> Result<(), Fault> {
-    for _ in 0..words.number()? {
+fn skip(inbox: &mut Inbox, line: &mut Line) -> Result<(), Fault> {
+    for _ in 0..line.number()? {
         drop(inbox.next());
     }
     Ok(())
 }
 
 // Changes a lane or its ring, and says how many items wait, and how many the ring holds.
-fn change(
-    lane: &mut Lane,
-    inbox: &mut Inbox,
-    name: &str,
-    alloc: Global,
-    words: &mut Words,
-    said: &mut Said,
-) -> Result<(), Fault> {
+fn change(lane: &mut Lane, inbox: &mut Inbox, name: &str, line: &mut Line) -> Result<(), Fault> {
     match name {
-        "queue" => queue(lane, alloc, words)?,
-        "fill" => fill(lane, words)?,
+        "queue" => queue(lane, line)?,
+        "fill" => fill(lane, line)?,
         "flush" => flush(lane, inbox)?,
-        "sign" => sign(lane, inbox, alloc, words)?,
-        "skip" => skip(inbox, words)?,
+        "sign" => sign(lane, inbox, line)?,
+        "skip" => skip(inbox, line)?,
         _ => return Err(Fault::NoSuchCall),
     }
-    tell_counts(lane, inbox, alloc, said);
+    tell_counts(lane, inbox, line);
     Ok(())
 }
 
@@ -174,39 +165,35 @@ fn call_with_ring(
     lane: &mut Lane,
     inbox: &mut Inbox,
     name: &str,
-    alloc: Global,
-    words: &mut Words,
-    said: &mut Said,
+    line: &mut Line,
 ) -> Result<(), Fault> {
     match name {
-        "room" => said.debug(alloc, &lane.has_room(inbox)),
-        "next" => next(inbox, alloc, said),
-        _ => change(lane, inbox, name, alloc, words, said)?,
+        "room" => line.debug(&lane.has_room(inbox)),
+        "next" => next(inbox, line),
+        _ => change(lane, inbox, name, line)?,
     }
     Ok(())
 }
 
-fn new_ring(alloc: Global, words: &mut Words) -> Result<Inbox, Fault> {
-    let capacity = words.number()?;
-    Ok(Inbox::new(alloc, capacity as usize)?)
+fn new_ring(line: &mut Line) -> Result<Inbox, Fault> {
+    let capacity = line.number()?;
+    Ok(Inbox::new(line.alloc, capacity as usize)?)
 }
 
 pub(crate) fn call(
     lane: &mut Lane,
     inbox: &mut Option<Inbox>,
-    alloc: Global,
-    words: &mut Words,
-    said: &mut Said,
+    line: &mut Line,
 ) -> Result<(), Fault> {
-    match words.next()? {
-        "new" => *lane = Lane::new(alloc),
-        "ring" => *inbox = Some(new_ring(alloc, words)?),
-        "most" => said.debug(alloc, &MAX_CAPACITY),
+    match line.next()? {
+        "new" => *lane = Lane::new(line.alloc),
+        "ring" => *inbox = Some(new_ring(line)?),
+        "most" => line.debug(&MAX_CAPACITY),
         name => {
             let Some(inbox) = inbox else {
                 return Err(Fault::NoSuchCall);
             };
-            call_with_ring(lane, inbox, name, alloc, words, said)?;
+            call_with_ring(lane, inbox, name, line)?;
         }
     }
     Ok(())

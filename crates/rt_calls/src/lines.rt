@@ -1,54 +1,44 @@
 // The lines, one after another.
 use crate::State;
 use crate::fault::Fault;
-use crate::said::Said;
-use crate::words::Words;
+use crate::line::Line;
 use std::alloc::Global;
 use std::io::{Read, Write};
 use std::process::ExitCode;
 use std::sync::Wait;
 
-fn call<R: Wait>(
-    state: &mut State,
-    alloc: Global,
-    line: &str,
-    said: &mut Said,
-) -> Result<(), Fault> {
-    state.call::<R>(alloc, &mut Words::of(line), said)
+fn is_passed_over(text: &str) -> bool {
+    text.is_empty() || text.starts_with('#')
 }
 
-fn is_passed_over(line: &str) -> bool {
-    line.is_empty() || line.starts_with('#')
+fn call<'a, R: Wait>(state: &mut State, text: &'a str, line: &mut Line<'a>) -> Result<(), Fault> {
+    line.begin(text);
+    state.call::<R>(line)
 }
 
 // Makes the call of a line, behind those before it, and once more where memory was lacking.
-fn make<R: Wait>(
-    state: &mut State,
-    alloc: Global,
-    line: &str,
-    said: &mut Said,
-) -> Result<(), Fault> {
-    match call::<R>(state, alloc, line, said) {
+fn make<'a, R: Wait>(state: &mut State, text: &'a str, line: &mut Line<'a>) -> Result<(), Fault> {
+    match call::<R>(state, text, line) {
         Err(Fault::NoMemory) => {
-            said.say("NoMemory\n");
-            call::<R>(state, alloc, line, said)
+            line.say("NoMemory\n");
+            call::<R>(state, text, line)
         }
         answer => answer,
     }
 }
 
-// Makes the first lines anew.
+// Makes the first lines anew, unsaid.
 fn make_anew<R: Wait>(
     state: &mut State,
     alloc: Global,
-    text: &str,
+    texts: &str,
     count: usize,
 ) -> Result<(), Fault> {
-    let mut unsaid = Said::new(alloc)?;
+    let mut line = Line::new(alloc)?;
     *state = State::new(alloc);
-    for line in text.lines().take(count) {
-        if !is_passed_over(line) {
-            let _ = call::<R>(state, alloc, line, &mut unsaid);
+    for text in texts.lines().take(count) {
+        if !is_passed_over(text) {
+            let _ = call::<R>(state, text, &mut line);
         }
     }
     Ok(())
@@ -56,33 +46,32 @@ fn make_anew<R: Wait>(
 
 // Makes the call of a line, behind so many, and where what is called has failed, these and then it
 // once more.
-fn make_line<R: Wait>(
+fn make_line<'a, R: Wait>(
     state: &mut State,
-    alloc: Global,
-    text: &str,
+    texts: &str,
     count: usize,
-    line: &str,
-    said: &mut Said,
+    text: &'a str,
+    line: &mut Line<'a>,
 ) -> Result<(), Fault> {
-    match make::<R>(state, alloc, line, said) {
-        Ok(()) => said.say("\n"),
-        Err(Fault::NoSuchCall) => said.say("NoSuchCall\n"),
+    match make::<R>(state, text, line) {
+        Ok(()) => line.say("\n"),
+        Err(Fault::NoSuchCall) => line.say("NoSuchCall\n"),
         Err(Fault::NoMemory) => return Err(Fault::NoMemory),
         Err(Fault::Failed) => {
-            said.say("NoMemory\n");
-            make_anew::<R>(state, alloc, text, count)?;
-            make::<R>(state, alloc, line, said)?;
-            said.say("\n");
+            line.say("NoMemory\n");
+            make_anew::<R>(state, line.alloc, texts, count)?;
+            make::<R>(state, text, line)?;
+            line.say("\n");
         }
     }
     Ok(())
 }
 
-fn make_lines<R: Wait>(alloc: Global, text: &str, said: &mut Said) -> Result<(), Fault> {
-    let mut state = State::new(alloc);
-    for (count, line) in text.lines().enumerate() {
-        if !is_passed_over(line) {
-            make_line::<R>(&mut state, alloc, text, count, line, said)?;
+fn make_lines<'a, R: Wait>(texts: &'a str, line: &mut Line<'a>) -> Result<(), Fault> {
+    let mut state = State::new(line.alloc);
+    for (count, text) in texts.lines().enumerate() {
+        if !is_passed_over(text) {
+            make_line::<R>(&mut state, texts, count, text, line)?;
         }
     }
     Ok(())
@@ -94,11 +83,11 @@ fn run_through<R: Wait>(
     input: &mut impl Read,
     output: &mut impl Write,
 ) -> Option<()> {
-    let mut text = String::new(alloc);
-    input.read_to_string(&mut text).ok()?;
-    let mut said = Said::new(alloc).ok()?;
-    let made = make_lines::<R>(alloc, text.as_str(), &mut said);
-    output.write_all(said.text().as_bytes()).ok()?;
+    let mut texts = String::new(alloc);
+    input.read_to_string(&mut texts).ok()?;
+    let mut line = Line::new(alloc).ok()?;
+    let made = make_lines::<R>(texts.as_str(), &mut line);
+    output.write_all(line.said().as_bytes()).ok()?;
     made.ok()
 }
 

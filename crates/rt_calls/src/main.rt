@@ -15,26 +15,24 @@ mod drafts;
 mod fault;
 mod items;
 mod lanes;
+mod line;
 mod lines;
 mod mirrors;
 mod order;
 mod peers;
 mod push;
 mod query;
-mod said;
 mod seats;
 mod store;
 mod tell;
 mod tree;
 mod view;
 mod wire;
-mod words;
 mod writes;
 
 use crate::clients::Held;
 use crate::fault::Fault;
-use crate::said::Said;
-use crate::words::Words;
+use crate::line::Line;
 use rt_mail::{Inbox, Lane};
 use rt_peer::Peer;
 use rt_tree::Tree;
@@ -102,29 +100,24 @@ impl State {
 
     // Makes the call of a line, of which the first word is the library, and says what it answers. Where
     // it lacks memory it has changed nothing, or else has Failed. A delivery may wait, as R may.
-    fn call<R: Wait>(
-        &mut self,
-        alloc: Global,
-        words: &mut Words,
-        said: &mut Said,
-    ) -> Result<(), Fault> {
-        match words.next()? {
-            "cache" => cache::call(&mut self.cache, alloc, words, said),
-            "client" => clients::call(&mut self.held, alloc, words, said),
-            "core" => cores::call(&mut self.cores, alloc, words, said),
-            "cover" => cover::call(&mut self.cover, alloc, words, said),
-            "lane" => lanes::call(&mut self.lane, &mut self.inbox, alloc, words, said),
-            "mirror" => mirrors::call(&mut self.held.mirror, &mut self.inbox, alloc, words, said),
-            "order" => order::call(alloc, words, said),
-            "peer" => peers::call(&mut self.peer, alloc, words, said),
-            "push" => push::call(&mut self.push, alloc, words, said),
-            "query" => query::call(&mut self.query, alloc, words, said),
-            "seat" => seats::call::<R>(&mut self.held, alloc, words, said),
-            "store" => store::call(&mut self.store, alloc, words, said),
-            "tree" => tree::call(&mut self.tree, alloc, words, said),
-            "view" => view::call(&mut self.view, alloc, words, said),
-            "wire" => wire::call(alloc, words, said),
-            "writes" => writes::call(&mut self.writes, alloc, words, said),
+    fn call<R: Wait>(&mut self, line: &mut Line) -> Result<(), Fault> {
+        match line.next()? {
+            "cache" => cache::call(&mut self.cache, line),
+            "client" => clients::call(&mut self.held, line),
+            "core" => cores::call(&mut self.cores, line),
+            "cover" => cover::call(&mut self.cover, line),
+            "lane" => lanes::call(&mut self.lane, &mut self.inbox, line),
+            "mirror" => mirrors::call(&mut self.held.mirror, &mut self.inbox, line),
+            "order" => order::call(line),
+            "peer" => peers::call(&mut self.peer, line),
+            "push" => push::call(&mut self.push, line),
+            "query" => query::call(&mut self.query, line),
+            "seat" => seats::call::<R>(&mut self.held, line),
+            "store" => store::call(&mut self.store, line),
+            "tree" => tree::call(&mut self.tree, line),
+            "view" => view::call(&mut self.view, line),
+            "wire" => wire::call(line),
+            "writes" => writes::call(&mut self.writes, line),
             _ => Err(Fault::NoSuchCall),
         }
     }

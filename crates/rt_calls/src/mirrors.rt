@@ -1,23 +1,21 @@
 // A mirror, and copies of what it takes.
 use crate::fault::Fault;
 use crate::items::{next_item, next_receipt};
-use crate::said::Said;
+use crate::line::Line;
 use crate::tell::{tell_next, tell_receipt};
-use crate::words::Words;
 use rt_mail::{Inbox, Item, MailError, Mirror, Receipt};
-use std::alloc::Global;
 
 const ERRORS: [MailError; 2] = [MailError::Failed, MailError::NoMemory];
 
 // The words of the refusal of a number.
-fn error(alloc: Global, words: &mut Words, said: &mut Said) -> Result<(), Fault> {
-    let number = words.number()?;
+fn error(line: &mut Line) -> Result<(), Fault> {
+    let number = line.number()?;
     for error in ERRORS {
         if u64::from(error.code()) == number {
-            said.debug(alloc, &(error.code(), error));
-            said.say(error.name());
-            said.say(": ");
-            said.display(alloc, &error);
+            line.debug(&(error.code(), error));
+            line.say(error.name());
+            line.say(": ");
+            line.display(&error);
         }
     }
     Ok(())
@@ -45,8 +43,8 @@ fn take_item(mirror: &mut Mirror, item: Item) -> Result<(), Fault> {
     }
 }
 
-fn take(mirror: &mut Mirror, alloc: Global, words: &mut Words) -> Result<(), Fault> {
-    take_item(mirror, next_item(alloc, words)?)
+fn take(mirror: &mut Mirror, line: &mut Line) -> Result<(), Fault> {
+    take_item(mirror, next_item(line)?)
 }
 
 // The mirror takes what the ring holds, to its end.
@@ -63,59 +61,54 @@ fn take_all(mirror: &mut Mirror, inbox: &mut Option<Inbox>) -> Result<(), Fault>
 }
 
 // Whether a mirror has failed, its listeners, and its requests.
-fn tell_known(mirror: &Mirror, alloc: Global, said: &mut Said) {
-    said.debug(alloc, &mirror.has_failed());
-    said.say(" ");
-    said.debug(alloc, &mirror.listeners());
-    said.say(" ");
-    said.debug(alloc, &mirror.requests());
+fn tell_known(mirror: &Mirror, line: &mut Line) {
+    line.debug(&mirror.has_failed());
+    line.say(" ");
+    line.debug(&mirror.listeners());
+    line.say(" ");
+    line.debug(&mirror.requests());
 }
 
 // The children of a listener, by their keys.
-fn children(
-    mirror: &Mirror,
-    alloc: Global,
-    words: &mut Words,
-    said: &mut Said,
-) -> Result<(), Fault> {
-    let Some(children) = mirror.children(words.number()?) else {
-        said.say("none");
+fn children(mirror: &Mirror, line: &mut Line) -> Result<(), Fault> {
+    let Some(children) = mirror.children(line.number()?) else {
+        line.say("none");
         return Ok(());
     };
-    said.debug(alloc, &children.len());
+    line.debug(&children.len());
     for (key, value) in children {
-        said.say(" ");
-        said.say(key.text());
-        said.say(" ");
-        said.tree(alloc, value);
+        line.say(" ");
+        line.say(key.text());
+        line.say(" ");
+        line.say_tree(value);
     }
     Ok(())
 }
 
-fn copied(alloc: Global, words: &mut Words) -> Result<Item, Fault> {
-    let item = next_item(alloc, words)?;
-    let copy = item.copy(alloc);
+fn copied(line: &mut Line) -> Result<Item, Fault> {
+    let item = next_item(line)?;
+    let copy = item.copy(line.alloc);
     drop(item);
     Ok(copy?)
 }
 
 // A copy of an item.
-fn copy(alloc: Global, words: &mut Words, said: &mut Said) -> Result<(), Fault> {
-    tell_next(alloc, Some(copied(alloc, words)?), said);
+fn copy(line: &mut Line) -> Result<(), Fault> {
+    tell_next(Some(copied(line)?), line);
     Ok(())
 }
 
-fn copied_receipt(alloc: Global, words: &mut Words) -> Result<Receipt, Fault> {
-    let receipt = next_receipt(alloc, words)?;
-    let copy = receipt.copy(alloc);
+fn copied_receipt(line: &mut Line) -> Result<Receipt, Fault> {
+    let receipt = next_receipt(line)?;
+    let copy = receipt.copy(line.alloc);
     drop(receipt);
     Ok(copy?)
 }
 
 // A copy of a receipt.
-fn copy_receipt(alloc: Global, words: &mut Words, said: &mut Said) -> Result<(), Fault> {
-    let receipt = copied_receipt(alloc, words)?;
-    tell_receipt(alloc, &receipt, said);
+fn copy_receipt(line: &mut Line) -> Result<(), Fault> {
+    let receipt = copied_receipt(line)?;
+    tell_receipt(&receipt, line);
     drop(receipt);
     Ok(())
 }
@@ -123,19 +116,17 @@ fn copy_receipt(alloc: Global, words: &mut Words, said: &mut Said) -> Result<(),
 pub(crate) fn call(
     mirror: &mut Mirror,
     inbox: &mut Option<Inbox>,
-    alloc: Global,
-    words: &mut Words,
-    said: &mut Said,
+    line: &mut Line,
 ) -> Result<(), Fault> {
-    match words.next()? {
-        "error" => error(alloc, words, said)?,
-        "new" => *mirror = Mirror::new(alloc),
-        "take" => take(mirror, alloc, words)?,
+    match line.next()? {
+        "error" => error(line)?,
+        "new" => *mirror = Mirror::new(line.alloc),
+        "take" => take(mirror, line)?,
         "take_all" => take_all(mirror, inbox)?,
-        "known" => tell_known(mirror, alloc, said),
-        "children" => children(mirror, alloc, words, said)?,
-        "copy" => copy(alloc, words, said)?,
-        "copy_receipt" => copy_receipt(alloc, words, said)?,
+        "known" => tell_known(mirror, line),
+        "children" => children(mirror, line)?,
+        "copy" => copy(line)?,
+        "copy_receipt" => copy_receipt(line)?,
         _ => return Err(Fault::NoSuchCall),
     }
     Ok(())

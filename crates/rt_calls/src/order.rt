@@ -1,7 +1,6 @@
 // Orders of keys, values and children, and ranges.
 use crate::fault::Fault;
-use crate::said::Said;
-use crate::words::Words;
+use crate::line::Line;
 use rt_order::{
     Cut, Index, Mark, Place, PlacedKey, PlacedRef, Range, entry_cmp, key_cmp, leaf_cmp, sort_value,
     value_cmp,
@@ -16,35 +15,30 @@ use std::collections::BTreeMap;
 // Two keys: how they compare as they are, with their numbers read, and borrowed so; whether they
 // are equal with their numbers read, and borrowed so; the first as it is lent; how the first prints
 // with its number, and how the other does borrowed.
-fn keys(alloc: Global, words: &mut Words, said: &mut Said) -> Result<(), Fault> {
-    let left = PlacedKey::of(words.key(alloc)?);
-    keys_beside(alloc, &left, words, said)
+fn keys(line: &mut Line) -> Result<(), Fault> {
+    let left = PlacedKey::of(line.key()?);
+    keys_beside(&left, line)
 }
 
-fn keys_beside(
-    alloc: Global,
-    left: &PlacedKey,
-    words: &mut Words,
-    said: &mut Said,
-) -> Result<(), Fault> {
-    let right = PlacedKey::of(words.key(alloc)?);
+fn keys_beside(left: &PlacedKey, line: &mut Line) -> Result<(), Fault> {
+    let right = PlacedKey::of(line.key()?);
     let copy = right.copy()?;
-    tell_keys(alloc, left, &copy, said);
+    tell_keys(left, &copy, line);
     Ok(())
 }
 
-fn tell_keys(alloc: Global, left: &PlacedKey, right: &PlacedKey, said: &mut Said) {
+fn tell_keys(left: &PlacedKey, right: &PlacedKey, line: &mut Line) {
     let (lent, other) = (PlacedRef::of(left.key()), right.borrowed());
     let orders = (
         key_cmp(left.key(), right.key()),
         left.cmp(right),
         lent.cmp(&other),
     );
-    said.debug(alloc, &orders);
-    said.debug(alloc, &(left == right, lent == other));
-    said.display(alloc, lent.key());
-    said.debug(alloc, left);
-    said.debug(alloc, &other);
+    line.debug(&orders);
+    line.debug(&(left == right, lent == other));
+    line.display(lent.key());
+    line.debug(left);
+    line.debug(&other);
 }
 
 fn sign(order: Ordering) -> &'static str {
@@ -56,20 +50,20 @@ fn sign(order: Ordering) -> &'static str {
 }
 
 // How the keys of an object compare, each, in the order of their bytes, with all of them.
-fn matrix(alloc: Global, words: &mut Words, said: &mut Said) -> Result<(), Fault> {
-    let index = index(alloc, words)?;
-    let tree = words.tree(alloc)?;
+fn matrix(line: &mut Line) -> Result<(), Fault> {
+    let index = index(line)?;
+    let tree = line.tree()?;
     match tree.children() {
-        Some(children) => tell_matrix(&index, children, said),
+        Some(children) => tell_matrix(&index, children, line),
         None => return Err(Fault::NoSuchCall),
     }
     Ok(())
 }
 
-fn tell_matrix(index: &Index, children: &BTreeMap<Key, Tree>, said: &mut Said) {
+fn tell_matrix(index: &Index, children: &BTreeMap<Key, Tree>, line: &mut Line) {
     for (key, child) in children {
-        tell_signs(index, key, child, children, said);
-        said.say(" ");
+        tell_signs(index, key, child, children, line);
+        line.say(" ");
     }
 }
 
@@ -78,110 +72,110 @@ fn tell_signs(
     key: &Key,
     child: &Tree,
     children: &BTreeMap<Key, Tree>,
-    said: &mut Said,
+    line: &mut Line,
 ) {
     for (other, beside) in children {
-        said.say(sign(entry_cmp(index, (key, child), (other, beside))));
+        line.say(sign(entry_cmp(index, (key, child), (other, beside))));
     }
 }
 
 // ---- values
 
 // By key, by value, or by the child at a path.
-fn index(alloc: Global, words: &mut Words) -> Result<Index, Fault> {
-    match words.next()? {
+fn index(line: &mut Line) -> Result<Index, Fault> {
+    match line.next()? {
         "key" => Ok(Index::Key),
         "value" => Ok(Index::Value),
-        "child" => Ok(Index::Child(words.path(alloc)?)),
+        "child" => Ok(Index::Child(line.path()?)),
         _ => Err(Fault::NoSuchCall),
     }
 }
 
 // What a tree is sorted by.
-fn sort(alloc: Global, words: &mut Words, said: &mut Said) -> Result<(), Fault> {
-    let index = index(alloc, words)?;
-    let tree = words.tree(alloc)?;
-    said.debug(alloc, &sort_value(&index, &tree));
+fn sort(line: &mut Line) -> Result<(), Fault> {
+    let index = index(line)?;
+    let tree = line.tree()?;
+    line.debug(&sort_value(&index, &tree));
     Ok(())
 }
 
 // How what two trees are sorted by compares, and whether it is equal; and how leaves compare.
-fn values(alloc: Global, words: &mut Words, said: &mut Said) -> Result<(), Fault> {
-    let left = words.tree(alloc)?;
-    let right = words.tree(alloc)?;
-    tell_values(alloc, &left, &right, said);
+fn values(line: &mut Line) -> Result<(), Fault> {
+    let left = line.tree()?;
+    let right = line.tree()?;
+    tell_values(&left, &right, line);
     Ok(())
 }
 
-fn tell_values(alloc: Global, left: &Tree, right: &Tree, said: &mut Said) {
+fn tell_values(left: &Tree, right: &Tree, line: &mut Line) {
     let (a, b) = (
         sort_value(&Index::Value, left),
         sort_value(&Index::Value, right),
     );
-    said.debug(alloc, &(value_cmp(&a, &b), a == b));
+    line.debug(&(value_cmp(&a, &b), a == b));
     if let (Some(a), Some(b)) = (left.as_leaf(), right.as_leaf()) {
-        said.debug(alloc, &leaf_cmp(a, b));
+        line.debug(&leaf_cmp(a, b));
     }
 }
 
 // ---- ranges
 
-fn mark(alloc: Global, words: &mut Words) -> Result<Mark, Fault> {
-    match words.tree(alloc)?.as_leaf() {
+fn mark(line: &mut Line) -> Result<Mark, Fault> {
+    match line.tree()?.as_leaf() {
         None => Ok(Mark::Null),
-        Some(leaf) => Ok(Mark::Leaf(leaf.copy(alloc)?)),
+        Some(leaf) => Ok(Mark::Leaf(leaf.copy(line.alloc)?)),
     }
 }
 
 // A cut at a value: before all or after all of it, or next to a key; or none.
-fn cut(alloc: Global, words: &mut Words) -> Result<Option<Cut>, Fault> {
-    let place = match words.next()? {
+fn cut(line: &mut Line) -> Result<Option<Cut>, Fault> {
+    let place = match line.next()? {
         "none" => return Ok(None),
         "min" => Place::Min,
-        "before" => Place::Before(words.key(alloc)?),
-        "after" => Place::After(words.key(alloc)?),
+        "before" => Place::Before(line.key()?),
+        "after" => Place::After(line.key()?),
         "max" => Place::Max,
         _ => return Err(Fault::NoSuchCall),
     };
-    let value = mark(alloc, words)?;
+    let value = mark(line)?;
     Ok(Some(Cut { value, place }))
 }
 
-fn range(alloc: Global, words: &mut Words) -> Result<Range, Fault> {
-    let lower = cut(alloc, words)?;
-    let upper = cut(alloc, words)?;
+fn range(line: &mut Line) -> Result<Range, Fault> {
+    let lower = cut(line)?;
+    let upper = cut(line)?;
     Ok(Range { lower, upper })
 }
 
 // The keys of the children of a tree that lie in a range of their values.
-fn has(alloc: Global, words: &mut Words, said: &mut Said) -> Result<(), Fault> {
-    let range = range(alloc, words)?;
-    has_in(alloc, &range, words, said)
+fn has(line: &mut Line) -> Result<(), Fault> {
+    let range = range(line)?;
+    has_in(&range, line)
 }
 
-fn has_in(alloc: Global, range: &Range, words: &mut Words, said: &mut Said) -> Result<(), Fault> {
-    let index = index(alloc, words)?;
-    let tree = words.tree(alloc)?;
+fn has_in(range: &Range, line: &mut Line) -> Result<(), Fault> {
+    let index = index(line)?;
+    let tree = line.tree()?;
     match tree.children() {
-        Some(children) => tell_had(range, &index, children, said),
+        Some(children) => tell_had(range, &index, children, line),
         None => return Err(Fault::NoSuchCall),
     }
     Ok(())
 }
 
-fn tell_had(range: &Range, index: &Index, children: &BTreeMap<Key, Tree>, said: &mut Said) {
+fn tell_had(range: &Range, index: &Index, children: &BTreeMap<Key, Tree>, line: &mut Line) {
     for (key, child) in children {
-        tell_if_had(range, index, key, child, said);
+        tell_if_had(range, index, key, child, line);
     }
 }
 
-fn tell_if_had(range: &Range, index: &Index, key: &Key, child: &Tree, said: &mut Said) {
+fn tell_if_had(range: &Range, index: &Index, key: &Key, child: &Tree, line: &mut Line) {
     let is_in = range.has(index, key, child);
     if is_in {
-        said.say(key.text());
+        line.say(key.text());
     }
     if is_in != range.has_entry(&sort_value(index, child), &PlacedRef::of(key)) {
-        said.say("?");
+        line.say("?");
     }
 }
 
@@ -189,25 +183,20 @@ fn tell_if_had(range: &Range, index: &Index, key: &Key, child: &Tree, said: &mut
 
 // Whether two ranges are equal, and whether a copy of the second is equal to either; and how that
 // prints.
-fn ranges(alloc: Global, words: &mut Words, said: &mut Said) -> Result<(), Fault> {
-    let left = range(alloc, words)?;
-    ranges_beside(alloc, &left, words, said)
+fn ranges(line: &mut Line) -> Result<(), Fault> {
+    let left = range(line)?;
+    ranges_beside(&left, line)
 }
 
-fn ranges_beside(
-    alloc: Global,
-    left: &Range,
-    words: &mut Words,
-    said: &mut Said,
-) -> Result<(), Fault> {
-    let right = range(alloc, words)?;
-    tell_ranges(alloc, left, &right, said)
+fn ranges_beside(left: &Range, line: &mut Line) -> Result<(), Fault> {
+    let right = range(line)?;
+    tell_ranges(left, &right, line)
 }
 
-fn tell_ranges(alloc: Global, left: &Range, right: &Range, said: &mut Said) -> Result<(), Fault> {
-    let copy = right.copy(alloc)?;
-    said.debug(alloc, &(left == right, *left == copy, *right == copy));
-    said.debug(alloc, &copy);
+fn tell_ranges(left: &Range, right: &Range, line: &mut Line) -> Result<(), Fault> {
+    let copy = right.copy(line.alloc)?;
+    line.debug(&(left == right, *left == copy, *right == copy));
+    line.debug(&copy);
     Ok(())
 }
 
@@ -224,42 +213,42 @@ fn is_copied(alloc: Global, cut: &Cut) -> Result<bool, AllocError> {
 }
 
 // Whether copies of a cut, of its value and of its place are equal to them.
-fn copied_cut(alloc: Global, words: &mut Words, said: &mut Said) -> Result<(), Fault> {
-    match cut(alloc, words)? {
-        Some(cut) => tell_copied(alloc, &cut, said),
+fn copied_cut(line: &mut Line) -> Result<(), Fault> {
+    match cut(line)? {
+        Some(cut) => tell_copied(&cut, line),
         None => Err(Fault::NoSuchCall),
     }
 }
 
-fn tell_copied(alloc: Global, cut: &Cut, said: &mut Said) -> Result<(), Fault> {
-    let is_cut = is_copied(alloc, cut)?;
-    let is_value = is_copied_value(alloc, &cut.value)?;
-    let is_place = is_copied_place(alloc, &cut.place)?;
-    said.debug(alloc, &(is_cut, is_value, is_place));
+fn tell_copied(cut: &Cut, line: &mut Line) -> Result<(), Fault> {
+    let is_cut = is_copied(line.alloc, cut)?;
+    let is_value = is_copied_value(line.alloc, &cut.value)?;
+    let is_place = is_copied_place(line.alloc, &cut.place)?;
+    line.debug(&(is_cut, is_value, is_place));
     Ok(())
 }
 
 // Whether two indexes are equal, and whether a copy of the second is equal to either; and how that
 // prints.
-fn indexes(alloc: Global, words: &mut Words, said: &mut Said) -> Result<(), Fault> {
-    let left = index(alloc, words)?;
-    let right = index(alloc, words)?;
-    let copy = right.copy(alloc)?;
-    said.debug(alloc, &(left == right, left == copy, right == copy));
-    said.debug(alloc, &copy);
+fn indexes(line: &mut Line) -> Result<(), Fault> {
+    let left = index(line)?;
+    let right = index(line)?;
+    let copy = right.copy(line.alloc)?;
+    line.debug(&(left == right, left == copy, right == copy));
+    line.debug(&copy);
     Ok(())
 }
 
-pub(crate) fn call(alloc: Global, words: &mut Words, said: &mut Said) -> Result<(), Fault> {
-    match words.next()? {
-        "keys" => keys(alloc, words, said),
-        "matrix" => matrix(alloc, words, said),
-        "sort" => sort(alloc, words, said),
-        "values" => values(alloc, words, said),
-        "has" => has(alloc, words, said),
-        "ranges" => ranges(alloc, words, said),
-        "copied_cut" => copied_cut(alloc, words, said),
-        "indexes" => indexes(alloc, words, said),
+pub(crate) fn call(line: &mut Line) -> Result<(), Fault> {
+    match line.next()? {
+        "keys" => keys(line),
+        "matrix" => matrix(line),
+        "sort" => sort(line),
+        "values" => values(line),
+        "has" => has(line),
+        "ranges" => ranges(line),
+        "copied_cut" => copied_cut(line),
+        "indexes" => indexes(line),
         _ => Err(Fault::NoSuchCall),
     }
 }

@@ -1,8 +1,7 @@
 // A peer, its connections, and what it sends: `> N MESSAGE` for each message to connection N, or
 // `nothing`.
 use crate::fault::Fault;
-use crate::said::Said;
-use crate::words::Words;
+use crate::line::Line;
 use rt_peer::{Peer, PeerError, Sent};
 use rt_tree::Path;
 use rt_wire::{ClientMessage, WireError};
@@ -15,35 +14,35 @@ const ERRORS: [PeerError; 3] = [
 ];
 
 // The words of the refusal of a number.
-fn error(alloc: Global, words: &mut Words, said: &mut Said) -> Result<(), Fault> {
-    let number = words.number()?;
+fn error(line: &mut Line) -> Result<(), Fault> {
+    let number = line.number()?;
     for error in ERRORS {
         if u64::from(error.code()) == number {
-            said.debug(alloc, &(error.code(), error));
-            said.say(error.name());
-            said.say(": ");
-            said.display(alloc, &error);
+            line.debug(&(error.code(), error));
+            line.say(error.name());
+            line.say(": ");
+            line.display(&error);
         }
     }
     Ok(())
 }
 
 // The paths to the end of the line.
-fn paths(alloc: Global, words: &mut Words) -> Result<Vec<Path>, Fault> {
-    let mut paths = Vec::new(alloc);
-    for _ in 0..words.len() {
-        if words.is_empty() {
+fn paths(line: &mut Line) -> Result<Vec<Path>, Fault> {
+    let mut paths = Vec::new(line.alloc);
+    for _ in 0..line.len() {
+        if line.is_empty() {
             break;
         }
-        paths.push(words.path(alloc)?)?;
+        paths.push(line.path()?)?;
     }
     Ok(paths)
 }
 
 // A peer of a tree, and of denied paths.
-fn new_peer(alloc: Global, words: &mut Words) -> Result<Peer, Fault> {
-    let tree = words.tree(alloc)?;
-    Ok(Peer::new(tree, paths(alloc, words)?))
+fn new_peer(line: &mut Line) -> Result<Peer, Fault> {
+    let tree = line.tree()?;
+    Ok(Peer::new(tree, paths(line)?))
 }
 
 // Whether a peer that lacked memory has failed for good.
@@ -52,60 +51,60 @@ fn has_failed(peer: &mut Peer) -> bool {
 }
 
 // Says why a call is refused. One that lacked memory is made once more, behind those before it.
-fn refused(peer: &mut Peer, error: PeerError, said: &mut Said) -> Result<(), Fault> {
+fn refused(peer: &mut Peer, error: PeerError, line: &mut Line) -> Result<(), Fault> {
     match error {
         PeerError::NoMemory if has_failed(peer) => return Err(Fault::Failed),
         PeerError::NoMemory => return Err(Fault::NoSuchCall),
-        _ => said.say(error.name()),
+        _ => line.say(error.name()),
     }
     Ok(())
 }
 
 // Says a message. One whose text lacked memory is made once more by the caller.
-fn say_text(made: Result<String, AllocError>, said: &mut Said) -> bool {
+fn say_text(made: Result<String, AllocError>, line: &mut Line) -> bool {
     match made {
-        Ok(text) => said.say(text.as_str()),
+        Ok(text) => line.say(text.as_str()),
         Err(_) => {
-            said.say("NoMemory\n");
+            line.say("NoMemory\n");
             return false;
         }
     }
     true
 }
 
-fn tell_sent(alloc: Global, sent: &[Sent], said: &mut Said) {
+fn tell_sent(sent: &[Sent], line: &mut Line) {
     if sent.is_empty() {
-        said.say("nothing");
+        line.say("nothing");
     }
     let mut between = "";
     for it in sent {
-        said.say(between);
+        line.say(between);
         between = " ";
-        said.say("> ");
-        said.display(alloc, &it.to);
-        said.say(" ");
-        let _ = say_text(it.message.text(alloc), said) || say_text(it.message.text(alloc), said);
+        line.say("> ");
+        line.display(&it.to);
+        line.say(" ");
+        let _ = say_text(it.message.text(line.alloc), line)
+            || say_text(it.message.text(line.alloc), line);
     }
 }
 
 // What a call sent, or why it was refused.
 fn tell(
     peer: &mut Peer,
-    alloc: Global,
     answer: Result<Vec<Sent>, PeerError>,
-    said: &mut Said,
+    line: &mut Line,
 ) -> Result<(), Fault> {
     match answer {
-        Ok(sent) => tell_sent(alloc, sent.as_slice(), said),
-        Err(error) => return refused(peer, error, said),
+        Ok(sent) => tell_sent(sent.as_slice(), line),
+        Err(error) => return refused(peer, error, line),
     }
     Ok(())
 }
 
-fn connect(peer: &mut Peer, alloc: Global, said: &mut Said) -> Result<(), Fault> {
+fn connect(peer: &mut Peer, line: &mut Line) -> Result<(), Fault> {
     match peer.connect() {
-        Ok(number) => said.display(alloc, &number),
-        Err(error) => return refused(peer, error, said),
+        Ok(number) => line.display(&number),
+        Err(error) => return refused(peer, error, line),
     }
     Ok(())
 }
@@ -119,41 +118,26 @@ fn read(alloc: Global, text: &str) -> Result<ClientMessage, Fault> {
 }
 
 // A message of a connection.
-fn message(
-    peer: &mut Peer,
-    alloc: Global,
-    words: &mut Words,
-    said: &mut Said,
-) -> Result<(), Fault> {
-    let connection = words.number()?;
-    let message = read(alloc, words.next()?)?;
+fn message(peer: &mut Peer, line: &mut Line) -> Result<(), Fault> {
+    let connection = line.number()?;
+    let message = read(line.alloc, line.next()?)?;
     let answer = peer.message(connection, message);
-    tell(peer, alloc, answer, said)
+    tell(peer, answer, line)
 }
 
-fn disconnect(
-    peer: &mut Peer,
-    alloc: Global,
-    words: &mut Words,
-    said: &mut Said,
-) -> Result<(), Fault> {
-    let answer = peer.disconnect(words.number()?);
-    tell(peer, alloc, answer, said)
+fn disconnect(peer: &mut Peer, line: &mut Line) -> Result<(), Fault> {
+    let answer = peer.disconnect(line.number()?);
+    tell(peer, answer, line)
 }
 
-pub(crate) fn call(
-    peer: &mut Peer,
-    alloc: Global,
-    words: &mut Words,
-    said: &mut Said,
-) -> Result<(), Fault> {
-    match words.next()? {
-        "error" => error(alloc, words, said)?,
-        "new" => *peer = new_peer(alloc, words)?,
-        "connect" => connect(peer, alloc, said)?,
-        "message" => message(peer, alloc, words, said)?,
-        "disconnect" => disconnect(peer, alloc, words, said)?,
-        "tree" => said.tree(alloc, peer.tree()),
+pub(crate) fn call(peer: &mut Peer, line: &mut Line) -> Result<(), Fault> {
+    match line.next()? {
+        "error" => error(line)?,
+        "new" => *peer = new_peer(line)?,
+        "connect" => connect(peer, line)?,
+        "message" => message(peer, line)?,
+        "disconnect" => disconnect(peer, line)?,
+        "tree" => line.say_tree(peer.tree()),
         _ => return Err(Fault::NoSuchCall),
     }
     Ok(())

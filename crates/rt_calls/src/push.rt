@@ -1,9 +1,7 @@
 // Push ids.
 use crate::fault::Fault;
-use crate::said::Said;
-use crate::words::Words;
+use crate::line::Line;
 use rt_push::{PushError, PushIds};
-use std::alloc::Global;
 
 // A source of ids.
 pub(crate) struct State {
@@ -31,41 +29,36 @@ const REFUSALS: [PushError; 3] = [
 ];
 
 // The number, the name, and the text of each refusal.
-fn refusals(alloc: Global, said: &mut Said) {
+fn refusals(line: &mut Line) {
     for error in REFUSALS {
-        said.debug(alloc, &(error.code(), error));
-        said.say(error.name());
-        said.say(": ");
-        said.display(alloc, &error);
-        said.say("; ");
+        line.debug(&(error.code(), error));
+        line.say(error.name());
+        line.say(": ");
+        line.display(&error);
+        line.say("; ");
     }
 }
 
 // The id of a moment and of twelve digits.
-fn next(ids: &mut PushIds, words: &mut Words, said: &mut Said) -> Result<(), Fault> {
-    let moment = words.number()?;
+fn next(ids: &mut PushIds, line: &mut Line) -> Result<(), Fault> {
+    let moment = line.number()?;
     let mut random = [0; 12];
     for digit in &mut random {
-        *digit = words.next()?.parse().map_err(|_| Fault::NoSuchCall)?;
+        *digit = line.next()?.parse().map_err(|_| Fault::NoSuchCall)?;
     }
     match ids.next(moment, random) {
-        Ok(id) => said.say(str::from_utf8(&id).unwrap_or("no text")),
-        Err(error) => said.say(error.name()),
+        Ok(id) => line.say(str::from_utf8(&id).unwrap_or("no text")),
+        Err(error) => line.say(error.name()),
     }
     Ok(())
 }
 
-pub(crate) fn call(
-    state: &mut State,
-    alloc: Global,
-    words: &mut Words,
-    said: &mut Said,
-) -> Result<(), Fault> {
-    match words.next()? {
-        "refusals" => refusals(alloc, said),
+pub(crate) fn call(state: &mut State, line: &mut Line) -> Result<(), Fault> {
+    match line.next()? {
+        "refusals" => refusals(line),
         "default" => state.ids = PushIds::default(),
-        "next" => return next(&mut state.ids, words, said),
-        "show" => said.debug(alloc, &state.ids),
+        "next" => return next(&mut state.ids, line),
+        "show" => line.debug(&state.ids),
         _ => return Err(Fault::NoSuchCall),
     }
     Ok(())

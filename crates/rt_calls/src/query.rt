@@ -1,8 +1,7 @@
 // Drafts, queries and what they show.
 use crate::drafts::make_draft;
 use crate::fault::Fault;
-use crate::said::Said;
-use crate::words::Words;
+use crate::line::Line;
 use rt_query::{Draft, Query, QueryError, Row, Shown};
 use rt_tree::Path;
 use std::alloc::{AllocError, Global};
@@ -26,175 +25,165 @@ impl State {
     }
 }
 
-fn tell_error(alloc: Global, error: QueryError, said: &mut Said) {
-    said.debug(alloc, &(error.code(), error.name(), error));
-    said.display(alloc, &error);
+fn tell_error(error: QueryError, line: &mut Line) {
+    line.debug(&(error.code(), error.name(), error));
+    line.display(&error);
 }
 
 // Begins a draft.
-fn draft(state: &mut State, alloc: Global, words: &mut Words) -> Result<(), Fault> {
-    state.draft = Query::at(words.path(alloc)?);
+fn draft(state: &mut State, line: &mut Line) -> Result<(), Fault> {
+    state.draft = Query::at(line.path()?);
     Ok(())
 }
 
 // Makes a call of the draft, and says the draft behind it. A refusal changes nothing.
-fn make(draft: &mut Draft, alloc: Global, words: &mut Words, said: &mut Said) -> Result<(), Fault> {
-    match make_draft(draft, alloc, words.next()?)? {
+fn make(draft: &mut Draft, line: &mut Line) -> Result<(), Fault> {
+    match make_draft(draft, line.alloc, line.next()?)? {
         Ok(()) => {}
         Err(QueryError::NoMemory) => return Err(Fault::NoMemory),
-        Err(error) => tell_error(alloc, error, said),
+        Err(error) => tell_error(error, line),
     }
-    said.debug(alloc, draft);
+    line.debug(draft);
     Ok(())
 }
 
-fn tell_query(alloc: Global, query: &Query, said: &mut Said) {
-    said.display(alloc, query.path());
-    said.debug(alloc, &(query.index(), query.range()));
-    said.debug(alloc, &(query.limit(), query.is_filtered()));
-    said.debug(alloc, query);
+fn tell_query(query: &Query, line: &mut Line) {
+    line.display(query.path());
+    line.debug(&(query.index(), query.range()));
+    line.debug(&(query.limit(), query.is_filtered()));
+    line.debug(query);
 }
 
-fn tell_beside(
-    alloc: Global,
-    query: &Query,
-    words: &mut Words,
-    said: &mut Said,
-) -> Result<(), Fault> {
-    let other = words.query(alloc)?;
-    tell_query(alloc, query, said);
-    said.debug(alloc, &(*query == other));
+fn tell_beside(query: &Query, line: &mut Line) -> Result<(), Fault> {
+    let other = line.query()?;
+    tell_query(query, line);
+    line.debug(&(*query == other));
     Ok(())
 }
 
-fn copy_of(alloc: Global, query: &Query, words: &mut Words, said: &mut Said) -> Result<(), Fault> {
+fn copy_of(query: &Query, line: &mut Line) -> Result<(), Fault> {
     let copy = query.copy()?;
-    tell_beside(alloc, &copy, words, said)
+    tell_beside(&copy, line)
 }
 
-fn form_of(alloc: Global, query: &Query, words: &mut Words, said: &mut Said) -> Result<(), Fault> {
+fn form_of(query: &Query, line: &mut Line) -> Result<(), Fault> {
     let form = query.listening_form()?;
-    tell_beside(alloc, &form, words, said)
+    tell_beside(&form, line)
 }
 
 // Says a query, its copy, or its listening form, and whether that is equal to another query.
-fn parts(alloc: Global, words: &mut Words, said: &mut Said) -> Result<(), Fault> {
-    let what = words.next()?;
-    let query = words.query(alloc)?;
+fn parts(line: &mut Line) -> Result<(), Fault> {
+    let what = line.next()?;
+    let query = line.query()?;
     match what {
-        "itself" => tell_beside(alloc, &query, words, said),
-        "copy" => copy_of(alloc, &query, words, said),
-        "form" => form_of(alloc, &query, words, said),
+        "itself" => tell_beside(&query, line),
+        "copy" => copy_of(&query, line),
+        "form" => form_of(&query, line),
         _ => Err(Fault::NoSuchCall),
     }
 }
 
 // What a query shows of a tree.
-fn select(alloc: Global, words: &mut Words) -> Result<Shown, Fault> {
-    let query = words.query(alloc)?;
-    select_by(&query, alloc, words)
+fn select(line: &mut Line) -> Result<Shown, Fault> {
+    let query = line.query()?;
+    select_by(&query, line)
 }
 
-fn select_by(query: &Query, alloc: Global, words: &mut Words) -> Result<Shown, Fault> {
-    let tree = words.tree(alloc)?;
+fn select_by(query: &Query, line: &mut Line) -> Result<Shown, Fault> {
+    let tree = line.tree()?;
     Ok(query.select(&tree)?)
 }
 
-fn tell_shown(alloc: Global, shown: &Shown, said: &mut Said) {
+fn tell_shown(shown: &Shown, line: &mut Line) {
     for row in shown.rows() {
-        said.say(row.key.text());
-        said.say(":");
-        said.tree(alloc, &row.value);
-        said.say(" ");
+        line.say(row.key.text());
+        line.say(":");
+        line.say_tree(&row.value);
+        line.say(" ");
     }
-    said.tree(alloc, shown.tree());
-    said.debug(alloc, &shown.leaf().map(|leaf| leaf.value()));
+    line.say_tree(shown.tree());
+    line.debug(&shown.leaf().map(|leaf| leaf.value()));
 }
 
-fn tell_with_copy(alloc: Global, shown: &Shown, said: &mut Said) -> Result<(), Fault> {
+fn tell_with_copy(shown: &Shown, line: &mut Line) -> Result<(), Fault> {
     let copy = shown.copy()?;
-    tell_shown(alloc, shown, said);
-    tell_shown(alloc, &copy, said);
-    said.debug(alloc, &(copy == *shown));
+    tell_shown(shown, line);
+    tell_shown(&copy, line);
+    line.debug(&(copy == *shown));
     Ok(())
 }
 
 // Says what a query shows, and its copy.
-fn show(alloc: Global, words: &mut Words, said: &mut Said) -> Result<(), Fault> {
-    let shown = select(alloc, words)?;
-    tell_with_copy(alloc, &shown, said)
+fn show(line: &mut Line) -> Result<(), Fault> {
+    let shown = select(line)?;
+    tell_with_copy(&shown, line)
 }
 
-fn compare(alloc: Global, left: &Shown, words: &mut Words, said: &mut Said) -> Result<(), Fault> {
-    let right = select(alloc, words)?;
-    said.debug(alloc, &(*left == right));
+fn compare(left: &Shown, line: &mut Line) -> Result<(), Fault> {
+    let right = select(line)?;
+    line.debug(&(*left == right));
     Ok(())
 }
 
 // Says whether two queries show the same.
-fn same(alloc: Global, words: &mut Words, said: &mut Said) -> Result<(), Fault> {
-    let left = select(alloc, words)?;
-    compare(alloc, &left, words, said)
+fn same(line: &mut Line) -> Result<(), Fault> {
+    let left = select(line)?;
+    compare(&left, line)
 }
 
 // Says the row of a key.
-fn row(alloc: Global, words: &mut Words, said: &mut Said) -> Result<(), Fault> {
-    let shown = select(alloc, words)?;
-    row_of(alloc, &shown, words, said)
+fn row(line: &mut Line) -> Result<(), Fault> {
+    let shown = select(line)?;
+    row_of(&shown, line)
 }
 
-fn row_of(alloc: Global, shown: &Shown, words: &mut Words, said: &mut Said) -> Result<(), Fault> {
-    match shown.row(&words.key(alloc)?) {
-        Some(tree) => said.tree(alloc, tree),
-        None => said.say("none"),
+fn row_of(shown: &Shown, line: &mut Line) -> Result<(), Fault> {
+    match shown.row(&line.key()?) {
+        Some(tree) => line.say_tree(tree),
+        None => line.say("none"),
     }
     Ok(())
 }
 
-fn read_row(alloc: Global, words: &mut Words) -> Result<Row, Fault> {
-    let key = words.key(alloc)?;
-    let value = words.tree(alloc)?;
+fn read_row(line: &mut Line) -> Result<Row, Fault> {
+    let key = line.key()?;
+    let value = line.tree()?;
     Ok(Row { key, value })
 }
 
-fn tell_row(alloc: Global, row: &Row, other: &Row, said: &mut Said) -> Result<(), Fault> {
-    let copy = row.copy(alloc)?;
-    said.say(copy.key.text());
-    said.tree(alloc, &copy.value);
-    said.debug(alloc, &(copy == *row, copy == *other));
+fn tell_row(row: &Row, other: &Row, line: &mut Line) -> Result<(), Fault> {
+    let copy = row.copy(line.alloc)?;
+    line.say(copy.key.text());
+    line.say_tree(&copy.value);
+    line.debug(&(copy == *row, copy == *other));
     Ok(())
 }
 
 // Says the copy of a row, and whether it is that row, and another.
-fn copy(alloc: Global, words: &mut Words, said: &mut Said) -> Result<(), Fault> {
-    let row = read_row(alloc, words)?;
-    let other = read_row(alloc, words)?;
-    tell_row(alloc, &row, &other, said)
+fn copy(line: &mut Line) -> Result<(), Fault> {
+    let row = read_row(line)?;
+    let other = read_row(line)?;
+    tell_row(&row, &other, line)
 }
 
 // Says how what a query shows of a tree prints, and the refusal for want of memory.
-fn debug(alloc: Global, words: &mut Words, said: &mut Said) -> Result<(), Fault> {
-    let shown = select(alloc, words)?;
-    said.debug(alloc, &shown);
-    tell_error(alloc, QueryError::from(AllocError), said);
+fn debug(line: &mut Line) -> Result<(), Fault> {
+    let shown = select(line)?;
+    line.debug(&shown);
+    tell_error(QueryError::from(AllocError), line);
     Ok(())
 }
 
-pub(crate) fn call(
-    state: &mut State,
-    alloc: Global,
-    words: &mut Words,
-    said: &mut Said,
-) -> Result<(), Fault> {
-    match words.next()? {
-        "draft" => draft(state, alloc, words),
-        "make" => make(&mut state.draft, alloc, words, said),
-        "parts" => parts(alloc, words, said),
-        "show" => show(alloc, words, said),
-        "same" => same(alloc, words, said),
-        "row" => row(alloc, words, said),
-        "copy" => copy(alloc, words, said),
-        "debug" => debug(alloc, words, said),
+pub(crate) fn call(state: &mut State, line: &mut Line) -> Result<(), Fault> {
+    match line.next()? {
+        "draft" => draft(state, line),
+        "make" => make(&mut state.draft, line),
+        "parts" => parts(line),
+        "show" => show(line),
+        "same" => same(line),
+        "row" => row(line),
+        "copy" => copy(line),
+        "debug" => debug(line),
         _ => Err(Fault::NoSuchCall),
     }
 }

@@ -3,10 +3,9 @@ use crate::clients::{Chair, Held, gives_all, has_failed, is_failed, say_error};
 use crate::deliveries::{deliver, hand_out};
 use crate::fault::Fault;
 use crate::items::action;
+use crate::line::Line;
 use crate::mirrors::given_up;
-use crate::said::Said;
 use crate::tell::tell_next;
-use crate::words::Words;
 use rt_client::{Client, ClientError, Seat, Shared, Unclosed};
 use rt_mail::{Item, MailError, Mirror};
 use rt_tree::Path;
@@ -26,63 +25,38 @@ fn unnumbered(answer: Result<(), ClientError>) -> Answer {
 }
 
 // `listen QUERY`.
-fn listen(
-    shared: &mut Shared,
-    seat: &mut Seat,
-    alloc: Global,
-    words: &mut Words,
-) -> Result<Answer, Fault> {
-    let query = words.query(alloc)?;
+fn listen(shared: &mut Shared, seat: &mut Seat, line: &mut Line) -> Result<Answer, Fault> {
+    let query = line.query()?;
     Ok(numbered(shared.listen(seat, query)))
 }
 
 // `unlisten LISTENER`.
-fn unlisten(shared: &mut Shared, seat: &mut Seat, words: &mut Words) -> Result<Answer, Fault> {
-    let listener = words.number()?;
+fn unlisten(shared: &mut Shared, seat: &mut Seat, line: &mut Line) -> Result<Answer, Fault> {
+    let listener = line.number()?;
     Ok(unnumbered(shared.unlisten(seat, listener)))
 }
 
 // `set PATH TREE`.
-fn set(
-    shared: &mut Shared,
-    seat: &mut Seat,
-    alloc: Global,
-    words: &mut Words,
-) -> Result<Answer, Fault> {
-    let (path, tree) = words.entry(alloc)?;
+fn set(shared: &mut Shared, seat: &mut Seat, line: &mut Line) -> Result<Answer, Fault> {
+    let (path, tree) = line.entry()?;
     Ok(numbered(shared.set(seat, path, tree)))
 }
 
 // `update COUNT` and so many `PATH TREE`.
-fn update(
-    shared: &mut Shared,
-    seat: &mut Seat,
-    alloc: Global,
-    words: &mut Words,
-) -> Result<Answer, Fault> {
-    let entries = words.entries(alloc)?;
+fn update(shared: &mut Shared, seat: &mut Seat, line: &mut Line) -> Result<Answer, Fault> {
+    let entries = line.entries()?;
     Ok(numbered(shared.update(seat, entries)))
 }
 
 // `remove PATH`.
-fn remove(
-    shared: &mut Shared,
-    seat: &mut Seat,
-    alloc: Global,
-    words: &mut Words,
-) -> Result<Answer, Fault> {
-    let path = words.path(alloc)?;
+fn remove(shared: &mut Shared, seat: &mut Seat, line: &mut Line) -> Result<Answer, Fault> {
+    let path = line.path()?;
     Ok(numbered(shared.remove(seat, path)))
 }
 
 // `on_disconnect ACTION`.
-fn on_disconnect(
-    shared: &mut Shared,
-    seat: &mut Seat,
-    alloc: Global,
-    words: &mut Words,
-) -> Result<Answer, Fault> {
-    let action = action(words.next()?, alloc, words)?;
+fn on_disconnect(shared: &mut Shared, seat: &mut Seat, line: &mut Line) -> Result<Answer, Fault> {
+    let action = action(line.next()?, line)?;
     Ok(numbered(shared.on_disconnect(seat, action)))
 }
 
@@ -90,10 +64,9 @@ fn on_disconnect(
 fn cancel_disconnect(
     shared: &mut Shared,
     seat: &mut Seat,
-    alloc: Global,
-    words: &mut Words,
+    line: &mut Line,
 ) -> Result<Answer, Fault> {
-    let path = words.path(alloc)?;
+    let path = line.path()?;
     Ok(numbered(shared.cancel_disconnect(seat, path)))
 }
 
@@ -101,17 +74,16 @@ fn made(
     shared: &mut Shared,
     seat: &mut Seat,
     name: &str,
-    alloc: Global,
-    words: &mut Words,
+    line: &mut Line,
 ) -> Result<Answer, Fault> {
     match name {
-        "listen" => listen(shared, seat, alloc, words),
-        "unlisten" => unlisten(shared, seat, words),
-        "set" => set(shared, seat, alloc, words),
-        "update" => update(shared, seat, alloc, words),
-        "remove" => remove(shared, seat, alloc, words),
-        "on_disconnect" => on_disconnect(shared, seat, alloc, words),
-        "cancel_disconnect" => cancel_disconnect(shared, seat, alloc, words),
+        "listen" => listen(shared, seat, line),
+        "unlisten" => unlisten(shared, seat, line),
+        "set" => set(shared, seat, line),
+        "update" => update(shared, seat, line),
+        "remove" => remove(shared, seat, line),
+        "on_disconnect" => on_disconnect(shared, seat, line),
+        "cancel_disconnect" => cancel_disconnect(shared, seat, line),
         "settle" => Ok(unnumbered(shared.settle(seat))),
         _ => Err(Fault::NoSuchCall),
     }
@@ -135,31 +107,24 @@ pub(crate) fn failed(shared: &mut Shared, chair: &mut Chair, alloc: Global) -> F
 }
 
 // Makes a seat's call, and says what it answers.
-fn make(
-    shared: &mut Shared,
-    chair: &mut Chair,
-    name: &str,
-    alloc: Global,
-    words: &mut Words,
-    said: &mut Said,
-) -> Result<(), Fault> {
-    match made(shared, &mut chair.seat, name, alloc, words)? {
+fn make(shared: &mut Shared, chair: &mut Chair, name: &str, line: &mut Line) -> Result<(), Fault> {
+    match made(shared, &mut chair.seat, name, line)? {
         Ok(Some(number)) => {
-            said.display(alloc, &number);
+            line.display(&number);
             chair.owed = chair.owed.saturating_add(1);
         }
-        Ok(None) => said.say("ok"),
-        Err(ClientError::NoMemory) => return Err(failed(shared, chair, alloc)),
-        Err(error) => say_error(error, said),
+        Ok(None) => line.say("ok"),
+        Err(ClientError::NoMemory) => return Err(failed(shared, chair, line.alloc)),
+        Err(error) => say_error(error, line),
     }
     Ok(())
 }
 
 // The first item of the ring, or `none`.
-fn next(chair: &mut Chair, alloc: Global, said: &mut Said) {
+fn next(chair: &mut Chair, line: &mut Line) {
     let item = chair.seat.next();
     chair.owed = chair.owed.saturating_sub(1);
-    tell_next(alloc, item, said);
+    tell_next(item, line);
 }
 
 // The mirror takes a copy of an item. Where memory lacks, the item is lost, and all is made anew.
@@ -173,30 +138,20 @@ fn mirror_item(mirror: &mut Mirror, item: &Item, alloc: Global) -> Result<(), Fa
 }
 
 // The first item of the ring, or `none`; the mirror takes it too.
-fn take(
-    chair: &mut Chair,
-    mirror: &mut Mirror,
-    alloc: Global,
-    said: &mut Said,
-) -> Result<(), Fault> {
+fn take(chair: &mut Chair, mirror: &mut Mirror, line: &mut Line) -> Result<(), Fault> {
     let item = chair.seat.next();
     chair.owed = chair.owed.saturating_sub(1);
     if let Some(item) = &item {
-        mirror_item(mirror, item, alloc)?;
+        mirror_item(mirror, item, line.alloc)?;
     }
-    tell_next(alloc, item, said);
+    tell_next(item, line);
     Ok(())
 }
 
 // The mirror takes what the ring holds; says how many items that are.
-fn take_all(
-    chair: &mut Chair,
-    mirror: &mut Mirror,
-    alloc: Global,
-    said: &mut Said,
-) -> Result<(), Fault> {
+fn take_all(chair: &mut Chair, mirror: &mut Mirror, line: &mut Line) -> Result<(), Fault> {
     match chair.seat.mirror(mirror) {
-        Ok(count) => said.debug(alloc, &count),
+        Ok(count) => line.debug(&count),
         Err(MailError::NoMemory) => return Err(given_up(mirror)),
         Err(MailError::Failed) => return Err(Fault::NoSuchCall),
     }
@@ -205,24 +160,19 @@ fn take_all(
 }
 
 // `close`: the seat goes, or is handed back.
-fn close(
-    shared: &mut Shared,
-    place: &mut Option<Chair>,
-    alloc: Global,
-    said: &mut Said,
-) -> Result<(), Fault> {
+fn close(shared: &mut Shared, place: &mut Option<Chair>, line: &mut Line) -> Result<(), Fault> {
     let Some(chair) = place.take() else {
         return Err(Fault::NoSuchCall);
     };
     let owed = chair.owed;
     match shared.close_seat(chair.seat) {
-        Ok(()) => said.say("ok"),
+        Ok(()) => line.say("ok"),
         Err(Unclosed { seat, why }) => {
             let mut chair = Chair { seat, owed };
             if why == ClientError::NoMemory {
-                return Err(failed(shared, &mut chair, alloc));
+                return Err(failed(shared, &mut chair, line.alloc));
             }
-            say_error(why, said);
+            say_error(why, line);
             *place = Some(chair);
         }
     }
@@ -234,17 +184,15 @@ fn call_chair<R: Wait>(
     chair: &mut Chair,
     mirror: &mut Mirror,
     name: &str,
-    alloc: Global,
-    words: &mut Words,
-    said: &mut Said,
+    line: &mut Line,
 ) -> Result<(), Fault> {
     match name {
-        "next" => next(chair, alloc, said),
-        "take" => take(chair, mirror, alloc, said)?,
-        "mirror" => take_all(chair, mirror, alloc, said)?,
-        "hand_out" => hand_out(chair, alloc, said)?,
-        "deliver" => deliver::<R>(client, chair, alloc, words, said)?,
-        _ => make(client.shared.get_mut(), chair, name, alloc, words, said)?,
+        "next" => next(chair, line),
+        "take" => take(chair, mirror, line)?,
+        "mirror" => take_all(chair, mirror, line)?,
+        "hand_out" => hand_out(chair, line)?,
+        "deliver" => deliver::<R>(client, chair, line)?,
+        _ => make(client.shared.get_mut(), chair, name, line)?,
     }
     Ok(())
 }
@@ -253,33 +201,26 @@ fn call_place<R: Wait>(
     client: &mut Client,
     place: &mut Option<Chair>,
     mirror: &mut Mirror,
-    alloc: Global,
-    words: &mut Words,
-    said: &mut Said,
+    line: &mut Line,
 ) -> Result<(), Fault> {
-    let name = words.next()?;
+    let name = line.next()?;
     if name == "close" {
-        return close(client.shared.get_mut(), place, alloc, said);
+        return close(client.shared.get_mut(), place, line);
     }
     match place {
-        Some(chair) => call_chair::<R>(client, chair, mirror, name, alloc, words, said),
+        Some(chair) => call_chair::<R>(client, chair, mirror, name, line),
         None => Err(Fault::NoSuchCall),
     }
 }
 
 // `NUMBER CALL ..`: of the seat of that number, counted from 1 over all clients.
-pub(crate) fn call<R: Wait>(
-    held: &mut Held,
-    alloc: Global,
-    words: &mut Words,
-    said: &mut Said,
-) -> Result<(), Fault> {
-    let number = words.number()? as usize;
+pub(crate) fn call<R: Wait>(held: &mut Held, line: &mut Line) -> Result<(), Fault> {
+    let number = line.number()? as usize;
     let Some(client) = &mut held.client else {
         return Err(Fault::NoSuchCall);
     };
     match held.chairs.get_mut(number.wrapping_sub(1)) {
-        Some(place) => call_place::<R>(client, place, &mut held.mirror, alloc, words, said),
+        Some(place) => call_place::<R>(client, place, &mut held.mirror, line),
         None => Err(Fault::NoSuchCall),
     }
 }

@@ -1,7 +1,6 @@
 // A store, and its nodes.
 use crate::fault::Fault;
-use crate::said::Said;
-use crate::words::Words;
+use crate::line::Line;
 use rt_store::{Change, Node, Store, StoreError};
 use rt_tree::{Path, Tree, TreeError};
 use std::alloc::{AllocError, Global};
@@ -34,9 +33,9 @@ fn fault(error: StoreError) -> Fault {
     }
 }
 
-fn tell_error(alloc: Global, error: StoreError, said: &mut Said) {
-    said.debug(alloc, &(error.code(), error.name(), error));
-    said.display(alloc, &error);
+fn tell_error(error: StoreError, line: &mut Line) {
+    line.debug(&(error.code(), error.name(), error));
+    line.display(&error);
 }
 
 // ---- what stands in a store
@@ -89,64 +88,58 @@ fn nodes(store: &Store, alloc: Global) -> Result<Vec<Node>, AllocError> {
 }
 
 // Says all nodes of a store.
-fn walk(store: &Store, alloc: Global, said: &mut Said) -> Result<(), Fault> {
-    let nodes = nodes(store, alloc)?;
-    let text = known(store, alloc, nodes.as_slice())?;
-    said.say(text.as_str());
+fn walk(store: &Store, line: &mut Line) -> Result<(), Fault> {
+    let nodes = nodes(store, line.alloc)?;
+    let text = known(store, line.alloc, nodes.as_slice())?;
+    line.say(text.as_str());
     Ok(())
 }
 
 // Says the node at a path, which the state keeps.
-fn at(state: &mut State, alloc: Global, words: &mut Words, said: &mut Said) -> Result<(), Fault> {
-    let path = words.path(alloc)?;
+fn at(state: &mut State, line: &mut Line) -> Result<(), Fault> {
+    let path = line.path()?;
     state.node = state.store.at(&path);
-    kept(state, alloc, said)
+    kept(state, line)
 }
 
 // Says what the node that is kept stands for now.
-fn kept(state: &State, alloc: Global, said: &mut Said) -> Result<(), Fault> {
+fn kept(state: &State, line: &mut Line) -> Result<(), Fault> {
     match state.node {
-        Some(node) => said.say(known(&state.store, alloc, &[node])?.as_str()),
-        None => said.say("no node"),
+        Some(node) => line.say(known(&state.store, line.alloc, &[node])?.as_str()),
+        None => line.say("no node"),
     }
     Ok(())
 }
 
 // Says the part at a path, the keys of its children in the order of a walk, and whether something
 // stands there.
-fn part(store: &Store, alloc: Global, words: &mut Words, said: &mut Said) -> Result<(), Fault> {
-    let path = words.path(alloc)?;
-    let part = store.get(alloc, &path)?;
-    let mut nodes = Vec::new(alloc);
+fn part(store: &Store, line: &mut Line) -> Result<(), Fault> {
+    let path = line.path()?;
+    let part = store.get(line.alloc, &path)?;
+    let mut nodes = Vec::new(line.alloc);
     if let Some(node) = store.at(&path) {
         add_children(&mut nodes, store, node)?;
     }
-    said.tree(alloc, &part);
+    line.say_tree(&part);
     for node in nodes.as_slice() {
-        said.say(" ");
-        said.say(key_of(store, Some(*node)));
+        line.say(" ");
+        line.say(key_of(store, Some(*node)));
     }
-    said.debug(alloc, &(store.has(&path), store.is_null()));
+    line.debug(&(store.has(&path), store.is_null()));
     Ok(())
 }
 
 // ---- changes
 
 // Sets a tree. A refusal changes nothing, and each node stands for what it stood for.
-fn set_tree(
-    store: &mut Store,
-    alloc: Global,
-    path: &Path,
-    tree: &Tree,
-    said: &mut Said,
-) -> Result<(), Fault> {
-    let nodes = nodes(store, alloc)?;
-    let before = known(store, alloc, nodes.as_slice())?;
-    let answer = store.set(alloc, path, tree);
-    if answer.is_err() && has_changed(store, alloc, nodes.as_slice(), before.as_str())? {
-        said.say("has changed ");
+fn set_tree(store: &mut Store, path: &Path, tree: &Tree, line: &mut Line) -> Result<(), Fault> {
+    let nodes = nodes(store, line.alloc)?;
+    let before = known(store, line.alloc, nodes.as_slice())?;
+    let answer = store.set(line.alloc, path, tree);
+    if answer.is_err() && has_changed(store, line.alloc, nodes.as_slice(), before.as_str())? {
+        line.say("has changed ");
     }
-    tell_set(alloc, answer, said)
+    tell_set(answer, line)
 }
 
 // Whether something else is known of nodes than before.
@@ -160,44 +153,44 @@ fn has_changed(
     Ok(text.as_str() != before)
 }
 
-fn tell_set(alloc: Global, answer: Result<(), StoreError>, said: &mut Said) -> Result<(), Fault> {
+fn tell_set(answer: Result<(), StoreError>, line: &mut Line) -> Result<(), Fault> {
     match answer {
-        Ok(()) => said.say("Ok"),
+        Ok(()) => line.say("Ok"),
         Err(StoreError::NoMemory) => return Err(Fault::NoMemory),
-        Err(StoreError::TooDeep) => tell_error(alloc, StoreError::TooDeep, said),
+        Err(StoreError::TooDeep) => tell_error(StoreError::TooDeep, line),
     }
     Ok(())
 }
 
-fn set(store: &mut Store, alloc: Global, words: &mut Words, said: &mut Said) -> Result<(), Fault> {
-    let path = words.path(alloc)?;
-    let tree = words.tree(alloc)?;
-    set_tree(store, alloc, &path, &tree, said)
+fn set(store: &mut Store, line: &mut Line) -> Result<(), Fault> {
+    let path = line.path()?;
+    let tree = line.tree()?;
+    set_tree(store, &path, &tree, line)
 }
 
-fn clear(store: &mut Store, alloc: Global, words: &mut Words) -> Result<(), Fault> {
-    store.clear(&words.path(alloc)?);
+fn clear(store: &mut Store, line: &mut Line) -> Result<(), Fault> {
+    store.clear(&line.path()?);
     Ok(())
 }
 
 // ---- runs of changes
 
 // A change: a path and what is set there, or `-` where it is cleared.
-fn change(words: &mut Words, alloc: Global) -> Result<Change, Fault> {
-    let path = words.path(alloc)?;
-    match words.next()? {
+fn change(line: &mut Line) -> Result<Change, Fault> {
+    let path = line.path()?;
+    match line.next()? {
         "-" => Ok(Change::Clear(path)),
-        text => Ok(Change::Set(path, Tree::read(alloc, text)?)),
+        text => Ok(Change::Set(path, Tree::read(line.alloc, text)?)),
     }
 }
 
-fn changes(words: &mut Words, alloc: Global) -> Result<Vec<Change>, Fault> {
-    let mut changes = Vec::new(alloc);
+fn changes(line: &mut Line) -> Result<Vec<Change>, Fault> {
+    let mut changes = Vec::new(line.alloc);
     for _ in 0..1000 {
-        if words.is_empty() {
+        if line.is_empty() {
             break;
         }
-        let change = change(words, alloc)?;
+        let change = change(line)?;
         changes.push(change).map_err(|_| Fault::NoMemory)?;
     }
     Ok(changes)
@@ -228,25 +221,20 @@ fn is_midway(alloc: Global, tree: &Tree, before: &Tree, changes: &[Change]) -> R
 }
 
 // A run that lacks memory has made some of its changes, but not all.
-fn run(store: &mut Store, alloc: Global, words: &mut Words, said: &mut Said) -> Result<(), Fault> {
-    let changes = changes(words, alloc)?;
-    run_changes(store, alloc, changes.as_slice(), said)
+fn run(store: &mut Store, line: &mut Line) -> Result<(), Fault> {
+    let changes = changes(line)?;
+    run_changes(store, changes.as_slice(), line)
 }
 
-fn run_changes(
-    store: &mut Store,
-    alloc: Global,
-    changes: &[Change],
-    said: &mut Said,
-) -> Result<(), Fault> {
-    let before = whole(store, alloc)?;
-    match store.run(alloc, changes) {
+fn run_changes(store: &mut Store, changes: &[Change], line: &mut Line) -> Result<(), Fault> {
+    let before = whole(store, line.alloc)?;
+    match store.run(line.alloc, changes) {
         Ok(()) => {
-            said.say("Ok");
+            line.say("Ok");
             Ok(())
         }
         Err(error) => {
-            tell_midway(store, alloc, &before, changes, said)?;
+            tell_midway(store, &before, changes, line)?;
             Err(fault(error))
         }
     }
@@ -258,25 +246,24 @@ fn whole(store: &Store, alloc: Global) -> Result<Tree, AllocError> {
 
 fn tell_midway(
     store: &Store,
-    alloc: Global,
     before: &Tree,
     changes: &[Change],
-    said: &mut Said,
+    line: &mut Line,
 ) -> Result<(), Fault> {
-    let after = whole(store, alloc)?;
-    if !is_midway(alloc, &after, before, changes)? {
-        said.say("is not midway ");
+    let after = whole(store, line.alloc)?;
+    if !is_midway(line.alloc, &after, before, changes)? {
+        line.say("is not midway ");
     }
     Ok(())
 }
 
 // Says how a store, its node, and the change that clears a path print, and the refusal for want of
 // memory.
-fn debug(state: &State, alloc: Global, words: &mut Words, said: &mut Said) -> Result<(), Fault> {
-    let change = Change::Clear(words.path(alloc)?);
-    said.debug(alloc, &state.store);
-    said.debug(alloc, &(state.node, change));
-    tell_error(alloc, StoreError::from(AllocError), said);
+fn debug(state: &State, line: &mut Line) -> Result<(), Fault> {
+    let change = Change::Clear(line.path()?);
+    line.debug(&state.store);
+    line.debug(&(state.node, change));
+    tell_error(StoreError::from(AllocError), line);
     Ok(())
 }
 
@@ -285,22 +272,17 @@ fn renew(state: &mut State, alloc: Global) -> Result<(), Fault> {
     Ok(())
 }
 
-pub(crate) fn call(
-    state: &mut State,
-    alloc: Global,
-    words: &mut Words,
-    said: &mut Said,
-) -> Result<(), Fault> {
-    match words.next()? {
-        "new" => renew(state, alloc),
-        "set" => set(&mut state.store, alloc, words, said),
-        "clear" => clear(&mut state.store, alloc, words),
-        "run" => run(&mut state.store, alloc, words, said),
-        "part" => part(&state.store, alloc, words, said),
-        "walk" => walk(&state.store, alloc, said),
-        "at" => at(state, alloc, words, said),
-        "kept" => kept(state, alloc, said),
-        "debug" => debug(state, alloc, words, said),
+pub(crate) fn call(state: &mut State, line: &mut Line) -> Result<(), Fault> {
+    match line.next()? {
+        "new" => renew(state, line.alloc),
+        "set" => set(&mut state.store, line),
+        "clear" => clear(&mut state.store, line),
+        "run" => run(&mut state.store, line),
+        "part" => part(&state.store, line),
+        "walk" => walk(&state.store, line),
+        "at" => at(state, line),
+        "kept" => kept(state, line),
+        "debug" => debug(state, line),
         _ => Err(Fault::NoSuchCall),
     }
 }

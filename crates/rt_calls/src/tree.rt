@@ -1,7 +1,6 @@
 // Keys, paths, leaves and trees.
 use crate::fault::Fault;
-use crate::said::Said;
-use crate::words::Words;
+use crate::line::Line;
 use rt_tree::{Key, Leaf, Path, Tree, TreeError};
 use serde_json::Value;
 use std::alloc::Global;
@@ -29,21 +28,21 @@ impl State {
 }
 
 // A refusal is said by its name; where memory lacked, the line is repeated.
-fn refused(error: TreeError, said: &mut Said) -> Result<(), Fault> {
+fn refused(error: TreeError, line: &mut Line) -> Result<(), Fault> {
     match error {
         TreeError::NoMemory => Err(Fault::NoMemory),
         _ => {
-            said.say(error.name());
+            line.say(error.name());
             Ok(())
         }
     }
 }
 
 // Nothing is said of a call that answers nothing and is not refused.
-fn done(answer: Result<(), TreeError>, said: &mut Said) -> Result<(), Fault> {
+fn done(answer: Result<(), TreeError>, line: &mut Line) -> Result<(), Fault> {
     match answer {
         Ok(()) => Ok(()),
-        Err(error) => refused(error, said),
+        Err(error) => refused(error, line),
     }
 }
 
@@ -59,204 +58,201 @@ const REFUSALS: [TreeError; 8] = [
 ];
 
 // The number, the name, and the text of each refusal.
-fn refusals(alloc: Global, said: &mut Said) -> Result<(), Fault> {
+fn refusals(line: &mut Line) -> Result<(), Fault> {
     for error in REFUSALS {
-        said.debug(alloc, &(error.code(), error));
-        said.say(error.name());
-        said.say(": ");
-        said.display(alloc, &error);
-        said.say("; ");
+        line.debug(&(error.code(), error));
+        line.say(error.name());
+        line.say(": ");
+        line.display(&error);
+        line.say("; ");
     }
     Ok(())
 }
 
 // ---- keys and paths
 
-fn key(alloc: Global, words: &mut Words, said: &mut Said) -> Result<(), Fault> {
-    let text = words.repeated(alloc)?;
-    let right = words.key(alloc)?;
-    key_beside(alloc, text.as_str(), &right, said)
+fn key(line: &mut Line) -> Result<(), Fault> {
+    let text = line.repeated()?;
+    let right = line.key()?;
+    key_beside(text.as_str(), &right, line)
 }
 
-fn key_beside(alloc: Global, text: &str, right: &Key, said: &mut Said) -> Result<(), Fault> {
-    match Key::parse(alloc, text) {
+fn key_beside(text: &str, right: &Key, line: &mut Line) -> Result<(), Fault> {
+    match Key::parse(line.alloc, text) {
         Ok(left) => {
-            tell_keys(alloc, &left, right, said);
+            tell_keys(&left, right, line);
             Ok(())
         }
-        Err(error) => refused(error, said),
+        Err(error) => refused(error, line),
     }
 }
 
 // A copy of a key takes no memory.
-fn tell_keys(alloc: Global, left: &Key, right: &Key, said: &mut Said) {
+fn tell_keys(left: &Key, right: &Key, line: &mut Line) {
     let is_same = left.copy().map(|copy| copy == *right);
-    said.debug(alloc, &(left.as_str().len(), left.cmp(right), is_same));
-    said.display(alloc, right);
+    line.debug(&(left.as_str().len(), left.cmp(right), is_same));
+    line.display(right);
 }
 
-fn path(alloc: Global, words: &mut Words, said: &mut Said) -> Result<(), Fault> {
-    let text = words.repeated(alloc)?;
-    let right = words.path(alloc)?;
-    path_beside(alloc, text.as_str(), &right, said)
+fn path(line: &mut Line) -> Result<(), Fault> {
+    let text = line.repeated()?;
+    let right = line.path()?;
+    path_beside(text.as_str(), &right, line)
 }
 
-fn path_beside(alloc: Global, text: &str, right: &Path, said: &mut Said) -> Result<(), Fault> {
-    match Path::parse(alloc, text) {
-        Ok(left) => copied_beside(alloc, &left, right, said),
-        Err(error) => refused(error, said),
+fn path_beside(text: &str, right: &Path, line: &mut Line) -> Result<(), Fault> {
+    match Path::parse(line.alloc, text) {
+        Ok(left) => copied_beside(&left, right, line),
+        Err(error) => refused(error, line),
     }
 }
 
-fn copied_beside(alloc: Global, left: &Path, right: &Path, said: &mut Said) -> Result<(), Fault> {
+fn copied_beside(left: &Path, right: &Path, line: &mut Line) -> Result<(), Fault> {
     let copy = left.copy()?;
-    tell_paths(alloc, &copy, right, said)
+    tell_paths(&copy, right, line)
 }
 
-fn tell_paths(alloc: Global, left: &Path, right: &Path, said: &mut Said) -> Result<(), Fault> {
+fn tell_paths(left: &Path, right: &Path, line: &mut Line) -> Result<(), Fault> {
     let text = left.text()?;
-    said.debug(alloc, &(left.keys().len(), left.cmp(right), left == right));
+    line.debug(&(left.keys().len(), left.cmp(right), left == right));
     let rest = right.strip_prefix(left).map(|rest| rest.len());
-    said.debug(alloc, &(left.is_prefix_of(right), rest));
-    said.display(alloc, right);
-    said.say(" ");
-    said.say(text.as_str());
+    line.debug(&(left.is_prefix_of(right), rest));
+    line.display(right);
+    line.say(" ");
+    line.say(text.as_str());
     Ok(())
 }
 
 // A path and a key below it, and the path of the keys of both.
-fn child(alloc: Global, words: &mut Words, said: &mut Said) -> Result<(), Fault> {
-    let text = words.repeated(alloc)?;
-    let path = Path::parse(alloc, text.as_str())?;
-    child_of(alloc, &path, words, said)
+fn child(line: &mut Line) -> Result<(), Fault> {
+    let text = line.repeated()?;
+    let path = Path::parse(line.alloc, text.as_str())?;
+    child_of(&path, line)
 }
 
-fn child_of(alloc: Global, path: &Path, words: &mut Words, said: &mut Said) -> Result<(), Fault> {
-    let key = words.key(path.allocator())?;
+fn child_of(path: &Path, line: &mut Line) -> Result<(), Fault> {
+    let key = line.key()?;
     match path.child(&key) {
-        Ok(child) => tell_child(alloc, &child, said),
-        Err(error) => refused(error, said),
+        Ok(child) => tell_child(&child, line),
+        Err(error) => refused(error, line),
     }
 }
 
-fn tell_child(alloc: Global, child: &Path, said: &mut Said) -> Result<(), Fault> {
+fn tell_child(child: &Path, line: &mut Line) -> Result<(), Fault> {
     let text = child.text()?;
-    let again = Path::from_keys(alloc, child.keys())?;
-    said.say(text.as_str());
-    said.display(alloc, &again);
-    said.display(alloc, &Path::root(alloc));
-    said.debug(alloc, child);
+    let again = Path::from_keys(line.alloc, child.keys())?;
+    line.say(text.as_str());
+    line.display(&again);
+    line.display(&Path::root(line.alloc));
+    line.debug(child);
     Ok(())
 }
 
-fn many_keys(alloc: Global, words: &mut Words) -> Result<Vec<Key>, Fault> {
-    let mut keys = Vec::new(alloc);
-    for _ in 0..words.number()? {
-        keys.push(Key::parse(alloc, "k")?)?;
+fn many_keys(line: &mut Line) -> Result<Vec<Key>, Fault> {
+    let mut keys = Vec::new(line.alloc);
+    for _ in 0..line.number()? {
+        keys.push(Key::parse(line.alloc, "k")?)?;
     }
     Ok(keys)
 }
 
 // So many keys as a path.
-fn keys(alloc: Global, words: &mut Words, said: &mut Said) -> Result<(), Fault> {
-    let keys = many_keys(alloc, words)?;
-    match Path::from_keys(alloc, keys.as_slice()) {
+fn keys(line: &mut Line) -> Result<(), Fault> {
+    let keys = many_keys(line)?;
+    match Path::from_keys(line.alloc, keys.as_slice()) {
         Ok(path) => {
-            said.display(alloc, &path);
+            line.display(&path);
             Ok(())
         }
-        Err(error) => refused(error, said),
+        Err(error) => refused(error, line),
     }
 }
 
 // ---- leaves
 
-fn leaf(alloc: Global, words: &mut Words, said: &mut Said) -> Result<(), Fault> {
-    match read_leaf(alloc, words)? {
-        Ok(leaf) => tell_leaf(alloc, &leaf, said),
-        Err(error) => refused(error, said),
+fn leaf(line: &mut Line) -> Result<(), Fault> {
+    match read_leaf(line)? {
+        Ok(leaf) => tell_leaf(&leaf, line),
+        Err(error) => refused(error, line),
     }
 }
 
-fn read_leaf(alloc: Global, words: &mut Words) -> Result<Result<Leaf, TreeError>, Fault> {
-    match words.next()? {
-        "truth" => Ok(Ok(Leaf::truth(words.number()? == 1))),
+fn read_leaf(line: &mut Line) -> Result<Result<Leaf, TreeError>, Fault> {
+    match line.next()? {
+        "truth" => Ok(Ok(Leaf::truth(line.number()? == 1))),
         "number" => {
-            let number = words.next()?.parse().map_err(|_| Fault::NoSuchCall)?;
+            let number = line.next()?.parse().map_err(|_| Fault::NoSuchCall)?;
             Ok(Leaf::number(number))
         }
-        "text" => Ok(Leaf::text(words.repeated(alloc)?)),
+        "text" => Ok(Leaf::text(line.repeated()?)),
         _ => Err(Fault::NoSuchCall),
     }
 }
 
 // A copy of the tree of a copy of a leaf: whether its leaf is equal, and whether that is true; what
 // the leaf is as each kind; and the tree.
-fn tell_leaf(alloc: Global, leaf: &Leaf, said: &mut Said) -> Result<(), Fault> {
-    let tree = Tree::leaf(leaf.copy(alloc)?).copy(alloc)?;
-    said.debug(
-        alloc,
-        &(tree.as_leaf() == Some(leaf), *leaf == Leaf::truth(true)),
-    );
-    said.debug(alloc, &(leaf.as_bool(), leaf.as_i64(), leaf.as_str()));
-    said.tree(alloc, &tree);
+fn tell_leaf(leaf: &Leaf, line: &mut Line) -> Result<(), Fault> {
+    let tree = Tree::leaf(leaf.copy(line.alloc)?).copy(line.alloc)?;
+    line.debug(&(tree.as_leaf() == Some(leaf), *leaf == Leaf::truth(true)));
+    line.debug(&(leaf.as_bool(), leaf.as_i64(), leaf.as_str()));
+    line.say_tree(&tree);
     Ok(())
 }
 
 // ---- trees
 
-fn tell(alloc: Global, part: Option<&Tree>, said: &mut Said) {
+fn tell(part: Option<&Tree>, line: &mut Line) {
     let Some(part) = part else {
-        said.say("none");
+        line.say("none");
         return;
     };
     let count = part.children().map(|children| children.len());
     let leaf = part.as_leaf().map(|leaf| leaf.value());
-    said.debug(alloc, &(part.levels(), count, leaf));
-    said.tree(alloc, part);
+    line.debug(&(part.levels(), count, leaf));
+    line.say_tree(part);
 }
 
-fn read(alloc: Global, words: &mut Words, said: &mut Said) -> Result<(), Fault> {
-    match Tree::read(alloc, words.rest()) {
+fn read(line: &mut Line) -> Result<(), Fault> {
+    match Tree::read(line.alloc, line.rest()) {
         Ok(tree) => {
-            said.tree(alloc, &tree);
+            line.say_tree(&tree);
             Ok(())
         }
-        Err(error) => refused(error, said),
+        Err(error) => refused(error, line),
     }
 }
 
 // A text of three pieces, each so many times: the levels of what it is read as, the number of its
 // children, and whether it is null.
-fn long(alloc: Global, words: &mut Words, said: &mut Said) -> Result<(), Fault> {
-    let text = joined(alloc, words)?;
-    match Tree::read(alloc, text.as_str()) {
+fn long(line: &mut Line) -> Result<(), Fault> {
+    let text = joined(line)?;
+    match Tree::read(line.alloc, text.as_str()) {
         Ok(tree) => {
-            tell_size(alloc, &tree, said);
+            tell_size(&tree, line);
             Ok(())
         }
-        Err(error) => refused(error, said),
+        Err(error) => refused(error, line),
     }
 }
 
-fn joined(alloc: Global, words: &mut Words) -> Result<String, Fault> {
-    let mut text = String::new(alloc);
+fn joined(line: &mut Line) -> Result<String, Fault> {
+    let mut text = String::new(line.alloc);
     for _ in 0..3 {
-        text.push_str(words.repeated(alloc)?.as_str())?;
+        text.push_str(line.repeated()?.as_str())?;
     }
     Ok(text)
 }
 
-fn tell_size(alloc: Global, tree: &Tree, said: &mut Said) {
+fn tell_size(tree: &Tree, line: &mut Line) {
     let count = tree.children().map(|children| children.len());
-    said.debug(alloc, &(tree.levels(), count, tree.is_null()));
+    line.debug(&(tree.levels(), count, tree.is_null()));
 }
 
 // What a value is taken as and given again.
-fn value(alloc: Global, words: &mut Words, said: &mut Said) -> Result<(), Fault> {
-    match tree_of_value(alloc, words.rest()) {
-        Ok(tree) => tell_value(alloc, &tree, said),
-        Err(error) => refused(error, said),
+fn value(line: &mut Line) -> Result<(), Fault> {
+    match tree_of_value(line.alloc, line.rest()) {
+        Ok(tree) => tell_value(&tree, line),
+        Err(error) => refused(error, line),
     }
 }
 
@@ -268,85 +264,74 @@ fn tree_of_value(alloc: Global, text: &str) -> Result<Tree, TreeError> {
     }
 }
 
-fn tell_value(alloc: Global, tree: &Tree, said: &mut Said) -> Result<(), Fault> {
-    let text = tree.to_value(alloc)?.to_string(alloc)?;
-    said.say(text.as_str());
+fn tell_value(tree: &Tree, line: &mut Line) -> Result<(), Fault> {
+    let text = tree.to_value(line.alloc)?.to_string(line.alloc)?;
+    line.say(text.as_str());
     Ok(())
 }
 
 // Whether two texts are read as equal trees, and whether a copy of the one is equal to it.
-fn compare(alloc: Global, words: &mut Words, said: &mut Said) -> Result<(), Fault> {
-    let left = words.tree(alloc)?;
-    let right = Tree::read(alloc, words.rest())?;
-    tell_equal(alloc, &left, &right, said)
+fn compare(line: &mut Line) -> Result<(), Fault> {
+    let left = line.tree()?;
+    let right = Tree::read(line.alloc, line.rest())?;
+    tell_equal(&left, &right, line)
 }
 
-fn tell_equal(alloc: Global, left: &Tree, right: &Tree, said: &mut Said) -> Result<(), Fault> {
-    let copy = left.copy(alloc)?;
-    said.debug(alloc, &(left == right, copy == *left));
+fn tell_equal(left: &Tree, right: &Tree, line: &mut Line) -> Result<(), Fault> {
+    let copy = left.copy(line.alloc)?;
+    line.debug(&(left == right, copy == *left));
     Ok(())
 }
 
 // Puts a tree at a path. The next word may be what the whole was before: a put that lacks memory
 // has to leave that.
-fn put(tree: &mut Tree, alloc: Global, words: &mut Words, said: &mut Said) -> Result<(), Fault> {
-    let path = words.path(alloc)?;
-    let part = words.tree(alloc)?;
-    let answer = tree.put(alloc, &path, part);
-    tell_put(tree, alloc, answer, words, said)
+fn put(tree: &mut Tree, line: &mut Line) -> Result<(), Fault> {
+    let path = line.path()?;
+    let part = line.tree()?;
+    let answer = tree.put(line.alloc, &path, part);
+    tell_put(tree, answer, line)
 }
 
-fn tell_put(
-    tree: &Tree,
-    alloc: Global,
-    answer: Result<(), TreeError>,
-    words: &mut Words,
-    said: &mut Said,
-) -> Result<(), Fault> {
-    if answer == Err(TreeError::NoMemory) && !words.is_empty() && words.tree(alloc)? != *tree {
-        said.say("changed");
+fn tell_put(tree: &Tree, answer: Result<(), TreeError>, line: &mut Line) -> Result<(), Fault> {
+    if answer == Err(TreeError::NoMemory) && !line.is_empty() && line.tree()? != *tree {
+        line.say("changed");
     }
-    done(answer, said)
+    done(answer, line)
 }
 
 // Puts a truth value over another in a tree that shares nothing, which takes no memory.
-fn put_in_place(
-    tree: &mut Tree,
-    alloc: Global,
-    words: &mut Words,
-    said: &mut Said,
-) -> Result<(), Fault> {
-    let path = words.path(alloc)?;
+fn put_in_place(tree: &mut Tree, line: &mut Line) -> Result<(), Fault> {
+    let path = line.path()?;
     if tree
-        .put(alloc, &path, Tree::leaf(Leaf::truth(false)))
+        .put(line.alloc, &path, Tree::leaf(Leaf::truth(false)))
         .is_err()
     {
-        said.say("refused");
+        line.say("refused");
     }
     Ok(())
 }
 
 // Pairs of a key and a tree, to the end of the line.
-fn pairs(alloc: Global, words: &mut Words) -> Result<Vec<(Key, Tree)>, Fault> {
-    let mut pairs = Vec::new(alloc);
-    for _ in 0..words.len() {
-        if words.is_empty() {
+fn pairs(line: &mut Line) -> Result<Vec<(Key, Tree)>, Fault> {
+    let mut pairs = Vec::new(line.alloc);
+    for _ in 0..line.len() {
+        if line.is_empty() {
             break;
         }
-        let key = words.key(alloc)?;
-        pairs.push((key, words.tree(alloc)?))?;
+        let key = line.key()?;
+        pairs.push((key, line.tree()?))?;
     }
     Ok(pairs)
 }
 
 // The object of children in turn.
-fn children(alloc: Global, words: &mut Words, said: &mut Said) -> Result<(), Fault> {
-    match Tree::from_children(alloc, pairs(alloc, words)?) {
+fn children(line: &mut Line) -> Result<(), Fault> {
+    match Tree::from_children(line.alloc, pairs(line)?) {
         Ok(tree) => {
-            said.tree(alloc, &tree);
+            line.say_tree(&tree);
             Ok(())
         }
-        Err(error) => refused(error, said),
+        Err(error) => refused(error, line),
     }
 }
 
@@ -372,10 +357,10 @@ fn put_copy(both: &mut Tree, alloc: Global, name: &str, tree: &Tree) -> Result<(
 }
 
 // Keeps a copy, of an object, which takes no memory.
-fn copy(state: &mut State, alloc: Global, said: &mut Said) -> Result<(), Fault> {
-    match state.tree.copy(alloc) {
+fn copy(state: &mut State, line: &mut Line) -> Result<(), Fault> {
+    match state.tree.copy(line.alloc) {
         Ok(copy) => state.copy = copy,
-        Err(_) => said.say("refused"),
+        Err(_) => line.say("refused"),
     }
     Ok(())
 }
@@ -383,16 +368,16 @@ fn copy(state: &mut State, alloc: Global, said: &mut Said) -> Result<(), Fault> 
 // What stands at a path of the tree, by each of two calls; what stands there in the copy, behind
 // whether that is equal to the tree; or how the tree prints. Or the copy and the tree are swapped,
 // or the copy is dropped.
-fn part(state: &mut State, alloc: Global, words: &mut Words, said: &mut Said) -> Result<(), Fault> {
-    let path = words.path(alloc)?;
-    match words.next()? {
-        "tree" => tell(alloc, state.tree.get(&path), said),
-        "keys" => tell(alloc, state.tree.at(path.keys()), said),
+fn part(state: &mut State, line: &mut Line) -> Result<(), Fault> {
+    let path = line.path()?;
+    match line.next()? {
+        "tree" => tell(state.tree.get(&path), line),
+        "keys" => tell(state.tree.at(path.keys()), line),
         "copy" => {
-            said.debug(alloc, &(state.copy == state.tree));
-            tell(alloc, state.copy.at(path.keys()), said);
+            line.debug(&(state.copy == state.tree));
+            tell(state.copy.at(path.keys()), line);
         }
-        "debug" => said.debug(alloc, &state.tree.get(&path)),
+        "debug" => line.debug(&state.tree.get(&path)),
         "swap" => std::mem::swap(&mut state.copy, &mut state.tree),
         "drop" => state.copy = Tree::null(),
         _ => return Err(Fault::NoSuchCall),
@@ -400,29 +385,24 @@ fn part(state: &mut State, alloc: Global, words: &mut Words, said: &mut Said) ->
     Ok(())
 }
 
-pub(crate) fn call(
-    state: &mut State,
-    alloc: Global,
-    words: &mut Words,
-    said: &mut Said,
-) -> Result<(), Fault> {
-    match words.next()? {
-        "refusals" => refusals(alloc, said),
-        "key" => key(alloc, words, said),
-        "path" => path(alloc, words, said),
-        "child" => child(alloc, words, said),
-        "keys" => keys(alloc, words, said),
-        "leaf" => leaf(alloc, words, said),
-        "read" => read(alloc, words, said),
-        "long" => long(alloc, words, said),
-        "value" => value(alloc, words, said),
-        "compare" => compare(alloc, words, said),
-        "children" => children(alloc, words, said),
-        "put" => put(&mut state.tree, alloc, words, said),
-        "put_in_place" => put_in_place(&mut state.tree, alloc, words, said),
-        "double" => double(&mut state.tree, alloc),
-        "copy" => copy(state, alloc, said),
-        "get" => part(state, alloc, words, said),
+pub(crate) fn call(state: &mut State, line: &mut Line) -> Result<(), Fault> {
+    match line.next()? {
+        "refusals" => refusals(line),
+        "key" => key(line),
+        "path" => path(line),
+        "child" => child(line),
+        "keys" => keys(line),
+        "leaf" => leaf(line),
+        "read" => read(line),
+        "long" => long(line),
+        "value" => value(line),
+        "compare" => compare(line),
+        "children" => children(line),
+        "put" => put(&mut state.tree, line),
+        "put_in_place" => put_in_place(&mut state.tree, line),
+        "double" => double(&mut state.tree, line.alloc),
+        "copy" => copy(state, line),
+        "get" => part(state, line),
         _ => Err(Fault::NoSuchCall),
     }
 }

@@ -3,9 +3,8 @@ ghost use Rattle.std.specs.Prelude.{◌≤◌, All, IfOk};
 ghost use Rattle.rt_tree.specs.PathTree.{levels};
 
 use crate::fault::Fault;
-use crate::said::Said;
+use crate::line::Line;
 use crate::tell::{tell_changes, tell_row};
-use crate::words::Words;
 use rt_query::{Query, Shown};
 use rt_tree::{Key, MAX_KEYS, Tree};
 use rt_view::{Batch, ChangeList, Kinds, View, ViewError, apply_changes, changes, of_kinds};
@@ -50,92 +49,76 @@ fn of_look(error: ViewError) -> Fault {
     }
 }
 
-fn tell(alloc: Global, changes: &ChangeList, said: &mut Said) {
+fn tell(changes: &ChangeList, line: &mut Line) {
     if changes.is_empty() {
-        said.say("none");
+        line.say("none");
     }
-    tell_changes(alloc, changes.as_slice(), said);
+    tell_changes(changes.as_slice(), line);
 }
 
 // What a query shows of a tree.
-fn shown_of(query: &Query, alloc: Global, words: &mut Words) -> Result<Shown, Fault> {
-    let tree = words.tree(alloc)?;
+fn shown_of(query: &Query, line: &mut Line) -> Result<Shown, Fault> {
+    let tree = line.tree()?;
     Ok(query.select(&tree)?)
 }
 
 // The changes from what was shown, or from nothing, to what a query shows of a tree.
-fn to_next(
-    query: &Query,
-    old: Option<&Shown>,
-    alloc: Global,
-    words: &mut Words,
-    said: &mut Said,
-) -> Result<(), Fault> {
-    let new = shown_of(query, alloc, words)?;
-    let told = changes(alloc, query.index(), old, &new)?;
-    tell(alloc, &told, said);
+fn to_next(query: &Query, old: Option<&Shown>, line: &mut Line) -> Result<(), Fault> {
+    let new = shown_of(query, line)?;
+    let told = changes(line.alloc, query.index(), old, &new)?;
+    tell(&told, line);
     Ok(())
 }
 
 // The changes from what a query shows of one tree to what it shows of another.
-fn between(alloc: Global, words: &mut Words, said: &mut Said) -> Result<(), Fault> {
-    let query = words.query(alloc)?;
-    between_by(&query, alloc, words, said)
+fn between(line: &mut Line) -> Result<(), Fault> {
+    let query = line.query()?;
+    between_by(&query, line)
 }
 
-fn between_by(
-    query: &Query,
-    alloc: Global,
-    words: &mut Words,
-    said: &mut Said,
-) -> Result<(), Fault> {
-    let old = shown_of(query, alloc, words)?;
-    to_next(query, Some(&old), alloc, words, said)
+fn between_by(query: &Query, line: &mut Line) -> Result<(), Fault> {
+    let old = shown_of(query, line)?;
+    to_next(query, Some(&old), line)
 }
 
 // The changes from nothing to what a query shows of a tree.
-fn at_first(alloc: Global, words: &mut Words, said: &mut Said) -> Result<(), Fault> {
-    to_next(&words.query(alloc)?, None, alloc, words, said)
+fn at_first(line: &mut Line) -> Result<(), Fault> {
+    to_next(&line.query()?, None, line)
 }
 
 // What a view told, which is kept, and its counts since.
-fn turn(alloc: Global, view: &View, told: &mut Batch, changes: ChangeList, said: &mut Said) {
-    tell(alloc, &changes, said);
-    said.say(" reads ");
-    said.display(alloc, &view.reads());
-    said.say(" turns ");
-    said.display(alloc, &view.turns());
+fn turn(view: &View, told: &mut Batch, changes: ChangeList, line: &mut Line) {
+    tell(&changes, line);
+    line.say(" reads ");
+    line.display(&view.reads());
+    line.say(" turns ");
+    line.display(&view.turns());
     told.changes = changes;
 }
 
-fn view_of(alloc: Global, words: &mut Words) -> Result<(View, ChangeList), Fault> {
-    let query = words.query(alloc)?;
-    let known = words.tree(alloc)?;
-    Ok(View::first(alloc, query, known)?)
+fn view_of(line: &mut Line) -> Result<(View, ChangeList), Fault> {
+    let query = line.query()?;
+    let known = line.tree()?;
+    Ok(View::first(line.alloc, query, known)?)
 }
 
 // A view of a query and a tree.
-fn first(
-    state: &mut State,
-    alloc: Global,
-    words: &mut Words,
-    said: &mut Said,
-) -> Result<(), Fault> {
-    let (view, changes) = view_of(alloc, words)?;
-    turn(alloc, &view, &mut state.told, changes, said);
+fn first(state: &mut State, line: &mut Line) -> Result<(), Fault> {
+    let (view, changes) = view_of(line)?;
+    turn(&view, &mut state.told, changes, line);
     state.view = Some(view);
-    state.children = BTreeMap::new(alloc);
+    state.children = BTreeMap::new(line.alloc);
     Ok(())
 }
 
 // So many children, each a key and a tree.
-fn named(alloc: Global, words: &mut Words) -> Result<Vec<(Key, Tree)>, Fault>
+fn named(line: &mut Line) -> Result<Vec<(Key, Tree)>, Fault>
     ensures { IfOk result (λ named. All (λ c. levels c.1 ≤ MAX_KEYS) named.items) }
 {
-    let mut named = Vec::new(alloc);
-    for _ in 0..words.number()? {
-        let key = words.key(alloc)?;
-        let value = words.tree(alloc)?;
+    let mut named = Vec::new(line.alloc);
+    for _ in 0..line.number()? {
+        let key = line.key()?;
+        let value = line.tree()?;
         if value.levels() > MAX_KEYS {
             return Err(Fault::NoSuchCall);
         }
@@ -169,96 +152,89 @@ fn have_failed(answers: [Option<ViewError>; 3]) -> bool {
 fn answered(
     view: &mut View,
     told: &mut Batch,
-    alloc: Global,
     answer: Result<ChangeList, ViewError>,
-    said: &mut Said,
+    line: &mut Line,
 ) -> Result<(), Fault> {
     match answer {
         Ok(changes) => {
-            turn(alloc, view, told, changes, said);
+            turn(view, told, changes, line);
             Ok(())
         }
-        Err(error) => Err(fault(view, alloc, error)),
+        Err(error) => Err(fault(view, line.alloc, error)),
     }
 }
 
 // The view touched by named children.
-fn touch(
-    state: &mut State,
-    alloc: Global,
-    words: &mut Words,
-    said: &mut Said,
-) -> Result<(), Fault> {
+fn touch(state: &mut State, line: &mut Line) -> Result<(), Fault> {
     let Some(view) = &mut state.view else {
         return Err(Fault::NoSuchCall);
     };
-    let answer = view.touch(alloc, named(alloc, words)?);
-    answered(view, &mut state.told, alloc, answer, said)
+    let answer = view.touch(line.alloc, named(line)?);
+    answered(view, &mut state.told, answer, line)
 }
 
 // The view shown of another tree.
-fn renew(
-    state: &mut State,
-    alloc: Global,
-    words: &mut Words,
-    said: &mut Said,
-) -> Result<(), Fault> {
+fn renew(state: &mut State, line: &mut Line) -> Result<(), Fault> {
     let Some(view) = &mut state.view else {
         return Err(Fault::NoSuchCall);
     };
-    let answer = view.renew(alloc, words.tree(alloc)?);
-    answered(view, &mut state.told, alloc, answer, said)
+    let answer = view.renew(line.alloc, line.tree()?);
+    answered(view, &mut state.told, answer, line)
 }
 
 // What is shown: whether it is a leaf, its tree, and its rows.
-fn shown(state: &State, alloc: Global, said: &mut Said) -> Result<(), Fault> {
+fn shown(state: &State, line: &mut Line) -> Result<(), Fault> {
     let Some(view) = &state.view else {
         return Err(Fault::NoSuchCall);
     };
     match view.shown() {
-        Ok(shown) => tell_shown(alloc, &shown, said),
+        Ok(shown) => tell_shown(&shown, line),
         Err(error) => return Err(of_look(error)),
     }
     Ok(())
 }
 
-pub(crate) fn tell_shown(alloc: Global, shown: &Shown, said: &mut Said) {
-    said.say(if shown.leaf().is_some() {
+pub(crate) fn tell_shown(shown: &Shown, line: &mut Line) {
+    line.say(if shown.leaf().is_some() {
         "leaf "
     } else {
         "rows "
     });
-    said.tree(alloc, shown.tree());
+    line.say_tree(shown.tree());
     for row in shown.rows() {
-        tell_row(alloc, " ", &row.key, &row.value, said);
+        tell_row(" ", &row.key, &row.value, line);
     }
 }
 
 // What was told last, played over the children. Where memory lacks, a first part was played, and is
 // played again.
-fn play(state: &mut State, alloc: Global, said: &mut Said) -> Result<(), Fault> {
+fn play(state: &mut State, line: &mut Line) -> Result<(), Fault> {
     // States that they are in order.
     let _in_order = state.children.len();
-    apply_changes(alloc, &mut state.children, state.told.changes.as_slice())?;
+    apply_changes(
+        line.alloc,
+        &mut state.children,
+        state.told.changes.as_slice(),
+    )?;
     for (key, value) in &state.children {
-        tell_row(alloc, " child ", key, value, said);
+        tell_row(" child ", key, value, line);
     }
     Ok(())
 }
 
 // A copy of what was told last, to this listener.
-fn copy(state: &mut State, alloc: Global, words: &mut Words, said: &mut Said) -> Result<(), Fault> {
-    state.told.listener = words.number()?;
+fn copy(state: &mut State, line: &mut Line) -> Result<(), Fault> {
+    state.told.listener = line.number()?;
     let copy = state.told.copy()?;
-    said.display(alloc, &copy.listener);
-    said.say(" ");
-    tell(alloc, &copy.changes, said);
+    line.display(&copy.listener);
+    line.say(" ");
+    tell(&copy.changes, line);
     Ok(())
 }
 
 // Of what was told last, the changes of some kinds, by their first letters.
-fn kinds(told: &Batch, alloc: Global, words: &mut Words, said: &mut Said) -> Result<(), Fault> {
-    let word = words.next()?;
+fn kinds(told: &Batch, line: &mut Line) -> Result<(), Fault> {
+    let word = line.next()?;
     let kinds = Kinds {
         removed: word.contains('r'),
         added: word.contains('a'),
@@ -266,29 +242,24 @@ fn kinds(told: &Batch, alloc: Global, words: &mut Words, said: &mut Said) -> Res
         changed: word.contains('c'),
         value: word.contains('v'),
     };
-    let changes = of_kinds(alloc, told, kinds)?;
-    said.debug(alloc, &kinds);
-    said.say(" ");
-    tell(alloc, &changes, said);
+    let changes = of_kinds(line.alloc, told, kinds)?;
+    line.debug(&kinds);
+    line.say(" ");
+    tell(&changes, line);
     Ok(())
 }
 
-pub(crate) fn call(
-    state: &mut State,
-    alloc: Global,
-    words: &mut Words,
-    said: &mut Said,
-) -> Result<(), Fault> {
-    match words.next()? {
-        "changes" => between(alloc, words, said),
-        "at_first" => at_first(alloc, words, said),
-        "first" => first(state, alloc, words, said),
-        "touch" => touch(state, alloc, words, said),
-        "renew" => renew(state, alloc, words, said),
-        "shown" => shown(state, alloc, said),
-        "play" => play(state, alloc, said),
-        "copy" => copy(state, alloc, words, said),
-        "kinds" => kinds(&state.told, alloc, words, said),
+pub(crate) fn call(state: &mut State, line: &mut Line) -> Result<(), Fault> {
+    match line.next()? {
+        "changes" => between(line),
+        "at_first" => at_first(line),
+        "first" => first(state, line),
+        "touch" => touch(state, line),
+        "renew" => renew(state, line),
+        "shown" => shown(state, line),
+        "play" => play(state, line),
+        "copy" => copy(state, line),
+        "kinds" => kinds(&state.told, line),
         _ => Err(Fault::NoSuchCall),
     }
 }

@@ -1,10 +1,9 @@
 // Messages of both sides.
 use crate::fault::Fault;
-use crate::said::Said;
-use crate::words::Words;
+use crate::line::Line;
 use rt_query::Query;
 use rt_wire::{ClientMessage, Reason, ServerMessage, WireError, query_text};
-use std::alloc::{AllocError, Global};
+use std::alloc::Global;
 
 const ERRORS: [WireError; 5] = [
     WireError::NotJson,
@@ -15,19 +14,19 @@ const ERRORS: [WireError; 5] = [
 ];
 
 // The words of a refusal.
-fn say_error(alloc: Global, error: WireError, said: &mut Said) {
-    said.debug(alloc, &(error.code(), error));
-    said.say(error.name());
-    said.say(": ");
-    said.display(alloc, &error);
+fn say_error(error: WireError, line: &mut Line) {
+    line.debug(&(error.code(), error));
+    line.say(error.name());
+    line.say(": ");
+    line.display(&error);
 }
 
 // The words of the refusal of a number.
-fn error(alloc: Global, words: &mut Words, said: &mut Said) -> Result<(), Fault> {
-    let number = words.number()?;
+fn error(line: &mut Line) -> Result<(), Fault> {
+    let number = line.number()?;
     for error in ERRORS {
         if u64::from(error.code()) == number {
-            say_error(alloc, error, said);
+            say_error(error, line);
         }
     }
     Ok(())
@@ -42,20 +41,20 @@ fn written(alloc: Global, side: &str, text: &str) -> Result<String, WireError> {
 }
 
 // Says a message, or the name of a refusal.
-fn say(message: Result<String, WireError>, said: &mut Said) -> Result<(), Fault> {
+fn say(message: Result<String, WireError>, line: &mut Line) -> Result<(), Fault> {
     match message {
-        Ok(text) => said.say(text.as_str()),
+        Ok(text) => line.say(text.as_str()),
         Err(WireError::NoMemory) => return Err(Fault::NoMemory),
-        Err(error) => said.say(error.name()),
+        Err(error) => line.say(error.name()),
     }
     Ok(())
 }
 
 // A side, and the pieces of a message: what it is read as, written again.
-fn read(alloc: Global, words: &mut Words, said: &mut Said) -> Result<(), Fault> {
-    let side = words.next()?;
-    let text = words.pieces(alloc)?;
-    say(written(alloc, side, text.as_str()), said)
+fn read(line: &mut Line) -> Result<(), Fault> {
+    let side = line.next()?;
+    let text = line.pieces()?;
+    say(written(line.alloc, side, text.as_str()), line)
 }
 
 // How many of the text's proper prefixes are not JSON.
@@ -75,67 +74,67 @@ fn broken_off(alloc: Global, side: &str, text: &str) -> Result<u64, Fault> {
 
 // A side and a message: how many of its proper prefixes are not JSON, and what it is read as,
 // written again.
-fn prefixes(alloc: Global, words: &mut Words, said: &mut Said) -> Result<(), Fault> {
-    let side = words.next()?;
-    let text = words.next()?;
-    let count = broken_off(alloc, side, text)?;
-    say(written(alloc, side, text), said)?;
-    said.debug(alloc, &count);
+fn prefixes(line: &mut Line) -> Result<(), Fault> {
+    let side = line.next()?;
+    let text = line.next()?;
+    let count = broken_off(line.alloc, side, text)?;
+    say(written(line.alloc, side, text), line)?;
+    line.debug(&count);
     Ok(())
 }
 
 // The parts of a message of the server.
-fn server(alloc: Global, words: &mut Words, said: &mut Said) -> Result<(), Fault> {
-    match ServerMessage::read(alloc, words.next()?) {
-        Ok(message) => said.debug(alloc, &message),
-        Err(error) => return say(Err(error), said),
+fn server(line: &mut Line) -> Result<(), Fault> {
+    match ServerMessage::read(line.alloc, line.next()?) {
+        Ok(message) => line.debug(&message),
+        Err(error) => return say(Err(error), line),
     }
     Ok(())
 }
 
 // The parts of a message of the client; of a listen, the text of its `q`.
-fn client(alloc: Global, words: &mut Words, said: &mut Said) -> Result<(), Fault> {
-    match ClientMessage::read(alloc, words.next()?) {
-        Ok(message) => tell_client(alloc, &message, said),
-        Err(error) => say(Err(error), said),
+fn client(line: &mut Line) -> Result<(), Fault> {
+    match ClientMessage::read(line.alloc, line.next()?) {
+        Ok(message) => tell_client(&message, line),
+        Err(error) => say(Err(error), line),
     }
 }
 
-fn tell_client(alloc: Global, message: &ClientMessage, said: &mut Said) -> Result<(), Fault> {
+fn tell_client(message: &ClientMessage, line: &mut Line) -> Result<(), Fault> {
     match message {
-        ClientMessage::Listen { query, .. } => return q(alloc, query, said),
-        ClientMessage::Unlisten { tag } => said.debug(alloc, tag),
-        ClientMessage::Ask { asked, .. } => said.debug(alloc, asked),
+        ClientMessage::Listen { query, .. } => return q(query, line),
+        ClientMessage::Unlisten { tag } => line.debug(tag),
+        ClientMessage::Ask { asked, .. } => line.debug(asked),
     }
     Ok(())
 }
 
 // The text of a query, or `none`.
-fn q(alloc: Global, query: &Query, said: &mut Said) -> Result<(), Fault> {
-    match query_text(alloc, query)? {
-        Some(text) => said.say(text.as_str()),
-        None => said.say("none"),
+fn q(query: &Query, line: &mut Line) -> Result<(), Fault> {
+    match query_text(line.alloc, query)? {
+        Some(text) => line.say(text.as_str()),
+        None => line.say("none"),
     }
     Ok(())
 }
 
 // A copy of the reason with that text.
-fn reason(alloc: Global, words: &mut Words, said: &mut Said) -> Result<(), Fault> {
-    let why = Reason::of(words.text(alloc)?);
-    let copy = why.copy(alloc)?;
-    said.say(copy.text());
-    said.debug(alloc, &copy);
+fn reason(line: &mut Line) -> Result<(), Fault> {
+    let why = Reason::of(line.text()?);
+    let copy = why.copy(line.alloc)?;
+    line.say(copy.text());
+    line.debug(&copy);
     Ok(())
 }
 
-pub(crate) fn call(alloc: Global, words: &mut Words, said: &mut Said) -> Result<(), Fault> {
-    match words.next()? {
-        "error" => error(alloc, words, said),
-        "read" => read(alloc, words, said),
-        "prefixes" => prefixes(alloc, words, said),
-        "server" => server(alloc, words, said),
-        "client" => client(alloc, words, said),
-        "reason" => reason(alloc, words, said),
+pub(crate) fn call(line: &mut Line) -> Result<(), Fault> {
+    match line.next()? {
+        "error" => error(line),
+        "read" => read(line),
+        "prefixes" => prefixes(line),
+        "server" => server(line),
+        "client" => client(line),
+        "reason" => reason(line),
         _ => Err(Fault::NoSuchCall),
     }
 }
