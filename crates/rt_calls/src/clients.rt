@@ -6,8 +6,8 @@ use crate::tell::{tell_kept, tell_message};
 use rt_client::{Client, ClientError, MAX_SEATS, Seat, Shared};
 use rt_mail::Mirror;
 use rt_push::PushError;
-use rt_wire::{ServerMessage, WireError};
-use rt_world::{CoreError, Limits, Outcome};
+use rt_wire::ServerMessage;
+use rt_world::{Limits, Outcome};
 use std::alloc::Global;
 
 // A seat, and how many items its ring has at least: receipts that nobody took.
@@ -46,29 +46,6 @@ impl Held {
             mirror: Mirror::new(alloc),
         }
     }
-}
-
-const ERRORS: [ClientError; 6] = [
-    ClientError::Failed,
-    ClientError::WrongSeat,
-    ClientError::MailboxFull,
-    ClientError::TooManySeats,
-    ClientError::Core(CoreError::TooDeep),
-    ClientError::NoMemory,
-];
-
-// The words of the refusal of a number.
-fn error(line: &mut Line) -> Result<(), Fault> {
-    let number = line.number()?;
-    for error in ERRORS {
-        if u64::from(error.code()) == number {
-            line.debug(&(error.code(), error));
-            line.say(error.name());
-            line.say(": ");
-            line.display(&error);
-        }
-    }
-    Ok(())
 }
 
 // The name of a refusal, and of the core's own.
@@ -166,14 +143,6 @@ fn failed(shared: &mut Shared, chairs: &mut [Option<Chair>]) -> Fault {
     }
 }
 
-fn read(alloc: Global, text: &str) -> Result<ServerMessage, Fault> {
-    match ServerMessage::read(alloc, text) {
-        Ok(message) => Ok(message),
-        Err(WireError::NoMemory) => Err(Fault::NoMemory),
-        Err(_) => Err(Fault::NoSuchCall),
-    }
-}
-
 // A step of the connection: `connected`, `disconnected` or `server MESSAGE`.
 fn made(
     shared: &mut Shared,
@@ -183,7 +152,7 @@ fn made(
     match name {
         "connected" => Ok(shared.connected()),
         "disconnected" => Ok(shared.disconnected()),
-        "server" => Ok(shared.server_message(read(line.alloc, line.next()?)?)),
+        "server" => Ok(shared.server_message(ServerMessage::read(line.alloc, line.next()?)?)),
         _ => Err(Fault::NoSuchCall),
     }
 }
@@ -252,7 +221,6 @@ fn call_locked(held: &mut Held, name: &str, line: &mut Line) -> Result<(), Fault
 
 pub(crate) fn call(held: &mut Held, line: &mut Line) -> Result<(), Fault> {
     match line.next()? {
-        "error" => error(line)?,
         "most" => line.debug(&MAX_SEATS),
         "limits" => {
             held.limits = limits(line)?;

@@ -14,58 +14,6 @@ use rt_world::{Action, Body, CoreError, Limits, Note, Reason, Report, Step};
 use rt_writes::Entries;
 use std::alloc::{AllocError, Global};
 
-// A core, at first with full limits.
-pub(crate) struct State {
-    core: Core,
-}
-
-impl Drop for State {
-    fn drop(self) {
-        let State { core: _ } = self;
-    }
-}
-
-impl State {
-    pub(crate) fn new(alloc: Global) -> State {
-        State {
-            core: Core::new(alloc, Limits::full()),
-        }
-    }
-}
-
-const ERRORS: [CoreError; 11] = [
-    CoreError::Failed,
-    CoreError::UnknownListener,
-    CoreError::TooManyListeners,
-    CoreError::TooManyRequests,
-    CoreError::Overlap,
-    CoreError::EmptyUpdate,
-    CoreError::TooDeep,
-    CoreError::BadPush,
-    CoreError::AlreadyConnected,
-    CoreError::NotConnected,
-    CoreError::NoMemory,
-];
-
-// The words of a refusal.
-fn say_error(error: CoreError, line: &mut Line) {
-    line.debug(&(error.code(), error));
-    line.say(error.name());
-    line.say(": ");
-    line.display(&error);
-}
-
-// The words of the refusal of a number.
-fn error(line: &mut Line) -> Result<(), Fault> {
-    let number = line.number()?;
-    for error in ERRORS {
-        if u64::from(error.code()) == number {
-            say_error(error, line);
-        }
-    }
-    Ok(())
-}
-
 pub(crate) fn limits(line: &mut Line) -> Result<Limits, Fault> {
     Ok(Limits {
         listeners: line.small_number()?,
@@ -318,16 +266,15 @@ fn sent(core: &mut Core, line: &mut Line) {
     tell_message(first_message(core), line);
 }
 
-pub(crate) fn call(state: &mut State, line: &mut Line) -> Result<(), Fault> {
+pub(crate) fn call(core: &mut Core, line: &mut Line) -> Result<(), Fault> {
     match line.next()? {
-        "error" => error(line),
-        "new" => new(&mut state.core, line),
-        "make" => make(&mut state.core, line),
-        "run" => run(&mut state.core, line),
-        "view" => view(&state.core, line),
-        "cover" => cover(&state.core, line),
+        "new" => new(core, line),
+        "make" => make(core, line),
+        "run" => run(core, line),
+        "view" => view(core, line),
+        "cover" => cover(core, line),
         "sent" => {
-            sent(&mut state.core, line);
+            sent(core, line);
             Ok(())
         }
         _ => Err(Fault::NoSuchCall),

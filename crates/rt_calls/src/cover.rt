@@ -3,53 +3,13 @@ use crate::fault::Fault;
 use crate::line::Line;
 use rt_cover::{Cover, CoverError, Delta, Kept, KeptList};
 use rt_query::Query;
-use std::alloc::Global;
-
-// A cover, changed by the lines.
-pub(crate) struct State {
-    cover: Cover,
-}
-
-impl Drop for State {
-    fn drop(self) {
-        let State { cover: _ } = self;
-    }
-}
-
-impl State {
-    pub(crate) fn new(alloc: Global) -> State {
-        State {
-            cover: Cover::new(alloc, 100),
-        }
-    }
-}
-
-// A refusal's number, its name, and the whole text.
-fn tell_error(error: CoverError, line: &mut Line) {
-    line.debug(&(error.code(), error.name(), error));
-    line.say(" ");
-    line.display(&error);
-}
-
-fn errors(line: &mut Line) -> Result<(), Fault> {
-    for error in [
-        CoverError::UnknownListener,
-        CoverError::UnknownTag,
-        CoverError::NoTag,
-        CoverError::NoMemory,
-    ] {
-        tell_error(error, line);
-        line.say(";");
-    }
-    Ok(())
-}
 
 // A refusal is told; where memory lacked, the line is repeated.
 fn refused(error: CoverError, line: &mut Line) -> Result<(), Fault> {
     match error {
         CoverError::NoMemory => Err(Fault::NoMemory),
         CoverError::UnknownListener | CoverError::UnknownTag | CoverError::NoTag => {
-            tell_error(error, line);
+            line.refusal(error.code(), error.name(), &error);
             Ok(())
         }
     }
@@ -212,13 +172,11 @@ fn look(cover: &Cover, name: &str, line: &mut Line) -> Result<(), Fault> {
         "supplier" => supplier(cover, line),
         "lacks_tag" => lacks_tag(cover, line),
         "registered" => registered(cover, line),
-        "errors" => errors(line),
         _ => Err(Fault::NoSuchCall),
     }
 }
 
-pub(crate) fn call(state: &mut State, line: &mut Line) -> Result<(), Fault> {
-    let cover = &mut state.cover;
+pub(crate) fn call(cover: &mut Cover, line: &mut Line) -> Result<(), Fault> {
     match line.next()? {
         "new" => renew(cover, line),
         "add" => add(cover, line),

@@ -1,10 +1,11 @@
 // Why a line said nothing.
 use rt_query::QueryError;
 use rt_tree::TreeError;
+use rt_wire::WireError;
 use std::alloc::{AllocError, AllocFailed};
 
 // Why a line said nothing.
-#[derive(Drop)]
+#[derive(Clone, Copy)]
 pub(crate) enum Fault {
     // Memory was lacking, and nothing has changed: the line is made once more.
     NoMemory,
@@ -41,6 +42,16 @@ impl From<QueryError> for Fault {
     fn from(error: QueryError) -> Fault {
         match error {
             QueryError::NoMemory => Fault::NoMemory,
+            _ => Fault::NoSuchCall,
+        }
+    }
+}
+
+// Of a message that is given to a call.
+impl From<WireError> for Fault {
+    fn from(error: WireError) -> Fault {
+        match error {
+            WireError::NoMemory => Fault::NoMemory,
             _ => Fault::NoSuchCall,
         }
     }

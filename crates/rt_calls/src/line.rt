@@ -180,4 +180,19 @@ impl<'a> Line<'a> {
         let _ = self.made(format!(in alloc; "{value:?}"))
             || self.made(format!(in alloc; "{value:?}"));
     }
+    // Says a refusal: its number and what it is for its programmer, its name, and its text.
+    pub(crate) fn refusal<E: Debug + Display>(&mut self, code: u8, name: &str, error: &E) {
+        let alloc = self.alloc;
+        let _ = self.made(text_of(alloc, code, name, error))
+            || self.made(text_of(alloc, code, name, error));
+    }
+}
+
+fn text_of<E: Debug + Display>(
+    alloc: Global,
+    code: u8,
+    name: &str,
+    error: &E,
+) -> Result<String, AllocError> {
+    format!(in alloc; "({code}, {error:?}){name}: {error}")
 }

@@ -12,6 +12,7 @@ mod cores;
 mod cover;
 mod deliveries;
 mod drafts;
+mod errors;
 mod fault;
 mod items;
 mod lanes;
@@ -33,9 +34,15 @@ mod writes;
 use crate::clients::Held;
 use crate::fault::Fault;
 use crate::line::Line;
+use rt_core::Core;
+use rt_cover::Cover;
 use rt_mail::{Inbox, Lane};
 use rt_peer::Peer;
-use rt_tree::Tree;
+use rt_push::PushIds;
+use rt_query::{Draft, Query};
+use rt_tree::{Path, Tree};
+use rt_world::Limits;
+use rt_writes::Pending;
 use std::alloc::Global;
 use std::process::ExitCode;
 use std::sync::Wait;
@@ -44,32 +51,32 @@ use std::sync::Wait;
 // and no denied path; the lane is the ring's, and the mirror is of what is taken from it or from seats.
 struct State {
     cache: cache::State,
-    cores: cores::State,
-    cover: cover::State,
+    core: Core,
+    cover: Cover,
+    draft: Draft,
     held: Held,
     inbox: Option<Inbox>,
     lane: Lane,
     peer: Peer,
-    push: push::State,
-    query: query::State,
+    ids: PushIds,
     store: store::State,
     tree: tree::State,
     view: view::State,
-    writes: writes::State,
+    writes: Pending,
 }
 
 impl Drop for State {
     fn drop(self) {
         let State {
             cache: _,
-            cores: _,
+            core: _,
             cover: _,
+            draft: _,
             held: _,
             inbox: _,
             lane: _,
             peer: _,
-            push: _,
-            query: _,
+            ids: _,
             store: _,
             tree: _,
             view: _,
@@ -83,18 +90,18 @@ impl State {
     fn new(alloc: Global) -> State {
         State {
             cache: cache::State::new(alloc),
-            cores: cores::State::new(alloc),
-            cover: cover::State::new(alloc),
+            core: Core::new(alloc, Limits::full()),
+            cover: Cover::new(alloc, 100),
+            draft: Query::at(Path::root(alloc)),
             held: Held::new(alloc),
             inbox: None,
             lane: Lane::new(alloc),
             peer: Peer::new(Tree::null(), Vec::new(alloc)),
-            push: push::State::new(),
-            query: query::State::new(alloc),
+            ids: PushIds::new(),
             store: store::State::new(alloc),
             tree: tree::State::new(),
             view: view::State::new(alloc),
-            writes: writes::State::new(alloc),
+            writes: Pending::new(alloc),
         }
     }
 
@@ -104,14 +111,15 @@ impl State {
         match line.next()? {
             "cache" => cache::call(&mut self.cache, line),
             "client" => clients::call(&mut self.held, line),
-            "core" => cores::call(&mut self.cores, line),
+            "core" => cores::call(&mut self.core, line),
             "cover" => cover::call(&mut self.cover, line),
+            "errors" => errors::call(line),
             "lane" => lanes::call(&mut self.lane, &mut self.inbox, line),
             "mirror" => mirrors::call(&mut self.held.mirror, &mut self.inbox, line),
             "order" => order::call(line),
             "peer" => peers::call(&mut self.peer, line),
-            "push" => push::call(&mut self.push, line),
-            "query" => query::call(&mut self.query, line),
+            "push" => push::call(&mut self.ids, line),
+            "query" => query::call(&mut self.draft, line),
             "seat" => seats::call::<R>(&mut self.held, line),
             "store" => store::call(&mut self.store, line),
             "tree" => tree::call(&mut self.tree, line),

@@ -5,22 +5,6 @@ use crate::line::Line;
 use crate::tell::{tell_next, tell_receipt};
 use rt_mail::{Inbox, Item, MailError, Mirror, Receipt};
 
-const ERRORS: [MailError; 2] = [MailError::Failed, MailError::NoMemory];
-
-// The words of the refusal of a number.
-fn error(line: &mut Line) -> Result<(), Fault> {
-    let number = line.number()?;
-    for error in ERRORS {
-        if u64::from(error.code()) == number {
-            line.debug(&(error.code(), error));
-            line.say(error.name());
-            line.say(": ");
-            line.display(&error);
-        }
-    }
-    Ok(())
-}
-
 fn knows_nothing(mirror: &Mirror) -> bool {
     mirror.listeners().is_empty() && mirror.requests().is_empty() && mirror.children(1).is_none()
 }
@@ -119,7 +103,6 @@ pub(crate) fn call(
     line: &mut Line,
 ) -> Result<(), Fault> {
     match line.next()? {
-        "error" => error(line)?,
         "new" => *mirror = Mirror::new(line.alloc),
         "take" => take(mirror, line)?,
         "take_all" => take_all(mirror, inbox)?,

@@ -4,28 +4,7 @@ use crate::fault::Fault;
 use crate::line::Line;
 use rt_peer::{Peer, PeerError, Sent};
 use rt_tree::Path;
-use rt_wire::{ClientMessage, WireError};
-use std::alloc::{AllocError, Global};
-
-const ERRORS: [PeerError; 3] = [
-    PeerError::Failed,
-    PeerError::UnknownConnection,
-    PeerError::NoMemory,
-];
-
-// The words of the refusal of a number.
-fn error(line: &mut Line) -> Result<(), Fault> {
-    let number = line.number()?;
-    for error in ERRORS {
-        if u64::from(error.code()) == number {
-            line.debug(&(error.code(), error));
-            line.say(error.name());
-            line.say(": ");
-            line.display(&error);
-        }
-    }
-    Ok(())
-}
+use rt_wire::ClientMessage;
 
 // The paths to the end of the line.
 fn paths(line: &mut Line) -> Result<Vec<Path>, Fault> {
@@ -60,18 +39,6 @@ fn refused(peer: &mut Peer, error: PeerError, line: &mut Line) -> Result<(), Fau
     Ok(())
 }
 
-// Says a message. One whose text lacked memory is made once more by the caller.
-fn say_text(made: Result<String, AllocError>, line: &mut Line) -> bool {
-    match made {
-        Ok(text) => line.say(text.as_str()),
-        Err(_) => {
-            line.say("NoMemory\n");
-            return false;
-        }
-    }
-    true
-}
-
 fn tell_sent(sent: &[Sent], line: &mut Line) {
     if sent.is_empty() {
         line.say("nothing");
@@ -83,8 +50,7 @@ fn tell_sent(sent: &[Sent], line: &mut Line) {
         line.say("> ");
         line.display(&it.to);
         line.say(" ");
-        let _ = say_text(it.message.text(line.alloc), line)
-            || say_text(it.message.text(line.alloc), line);
+        let _ = line.made(it.message.text(line.alloc)) || line.made(it.message.text(line.alloc));
     }
 }
 
@@ -109,18 +75,10 @@ fn connect(peer: &mut Peer, line: &mut Line) -> Result<(), Fault> {
     Ok(())
 }
 
-fn read(alloc: Global, text: &str) -> Result<ClientMessage, Fault> {
-    match ClientMessage::read(alloc, text) {
-        Ok(message) => Ok(message),
-        Err(WireError::NoMemory) => Err(Fault::NoMemory),
-        Err(_) => Err(Fault::NoSuchCall),
-    }
-}
-
 // A message of a connection.
 fn message(peer: &mut Peer, line: &mut Line) -> Result<(), Fault> {
     let connection = line.number()?;
-    let message = read(line.alloc, line.next()?)?;
+    let message = ClientMessage::read(line.alloc, line.next()?)?;
     let answer = peer.message(connection, message);
     tell(peer, answer, line)
 }
@@ -132,7 +90,6 @@ fn disconnect(peer: &mut Peer, line: &mut Line) -> Result<(), Fault> {
 
 pub(crate) fn call(peer: &mut Peer, line: &mut Line) -> Result<(), Fault> {
     match line.next()? {
-        "error" => error(line)?,
         "new" => *peer = new_peer(line)?,
         "connect" => connect(peer, line)?,
         "message" => message(peer, line)?,

@@ -1,43 +1,7 @@
 // Push ids.
 use crate::fault::Fault;
 use crate::line::Line;
-use rt_push::{PushError, PushIds};
-
-// A source of ids.
-pub(crate) struct State {
-    ids: PushIds,
-}
-
-impl Drop for State {
-    fn drop(self) {
-        let State { ids: _ } = self;
-    }
-}
-
-impl State {
-    pub(crate) fn new() -> State {
-        State {
-            ids: PushIds::new(),
-        }
-    }
-}
-
-const REFUSALS: [PushError; 3] = [
-    PushError::Exhausted,
-    PushError::MomentTooLarge,
-    PushError::RandomOutOfRange,
-];
-
-// The number, the name, and the text of each refusal.
-fn refusals(line: &mut Line) {
-    for error in REFUSALS {
-        line.debug(&(error.code(), error));
-        line.say(error.name());
-        line.say(": ");
-        line.display(&error);
-        line.say("; ");
-    }
-}
+use rt_push::PushIds;
 
 // The id of a moment and of twelve digits.
 fn next(ids: &mut PushIds, line: &mut Line) -> Result<(), Fault> {
@@ -53,12 +17,11 @@ fn next(ids: &mut PushIds, line: &mut Line) -> Result<(), Fault> {
     Ok(())
 }
 
-pub(crate) fn call(state: &mut State, line: &mut Line) -> Result<(), Fault> {
+pub(crate) fn call(ids: &mut PushIds, line: &mut Line) -> Result<(), Fault> {
     match line.next()? {
-        "refusals" => refusals(line),
-        "default" => state.ids = PushIds::default(),
-        "next" => return next(&mut state.ids, line),
-        "show" => line.debug(&state.ids),
+        "default" => *ids = PushIds::default(),
+        "next" => return next(ids, line),
+        "show" => line.debug(ids),
         _ => return Err(Fault::NoSuchCall),
     }
     Ok(())

@@ -3,36 +3,10 @@ use crate::drafts::make_draft;
 use crate::fault::Fault;
 use crate::line::Line;
 use rt_query::{Draft, Query, QueryError, Row, Shown};
-use rt_tree::Path;
-use std::alloc::{AllocError, Global};
-
-// A draft, changed by calls.
-pub(crate) struct State {
-    draft: Draft,
-}
-
-impl Drop for State {
-    fn drop(self) {
-        let State { draft: _ } = self;
-    }
-}
-
-impl State {
-    pub(crate) fn new(alloc: Global) -> State {
-        State {
-            draft: Query::at(Path::root(alloc)),
-        }
-    }
-}
-
-fn tell_error(error: QueryError, line: &mut Line) {
-    line.debug(&(error.code(), error.name(), error));
-    line.display(&error);
-}
 
 // Begins a draft.
-fn draft(state: &mut State, line: &mut Line) -> Result<(), Fault> {
-    state.draft = Query::at(line.path()?);
+fn begin(draft: &mut Draft, line: &mut Line) -> Result<(), Fault> {
+    *draft = Query::at(line.path()?);
     Ok(())
 }
 
@@ -41,7 +15,7 @@ fn make(draft: &mut Draft, line: &mut Line) -> Result<(), Fault> {
     match make_draft(draft, line.alloc, line.next()?)? {
         Ok(()) => {}
         Err(QueryError::NoMemory) => return Err(Fault::NoMemory),
-        Err(error) => tell_error(error, line),
+        Err(error) => line.refusal(error.code(), error.name(), &error),
     }
     line.debug(draft);
     Ok(())
@@ -166,18 +140,17 @@ fn copy(line: &mut Line) -> Result<(), Fault> {
     tell_row(&row, &other, line)
 }
 
-// Says how what a query shows of a tree prints, and the refusal for want of memory.
+// Says how what a query shows of a tree prints.
 fn debug(line: &mut Line) -> Result<(), Fault> {
     let shown = select(line)?;
     line.debug(&shown);
-    tell_error(QueryError::from(AllocError), line);
     Ok(())
 }
 
-pub(crate) fn call(state: &mut State, line: &mut Line) -> Result<(), Fault> {
+pub(crate) fn call(draft: &mut Draft, line: &mut Line) -> Result<(), Fault> {
     match line.next()? {
-        "draft" => draft(state, line),
-        "make" => make(&mut state.draft, line),
+        "draft" => begin(draft, line),
+        "make" => make(draft, line),
         "parts" => parts(line),
         "show" => show(line),
         "same" => same(line),

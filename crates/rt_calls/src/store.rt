@@ -33,11 +33,6 @@ fn fault(error: StoreError) -> Fault {
     }
 }
 
-fn tell_error(error: StoreError, line: &mut Line) {
-    line.debug(&(error.code(), error.name(), error));
-    line.display(&error);
-}
-
 // ---- what stands in a store
 
 fn key_of(store: &Store, node: Option<Node>) -> &str {
@@ -157,7 +152,7 @@ fn tell_set(answer: Result<(), StoreError>, line: &mut Line) -> Result<(), Fault
     match answer {
         Ok(()) => line.say("Ok"),
         Err(StoreError::NoMemory) => return Err(Fault::NoMemory),
-        Err(StoreError::TooDeep) => tell_error(StoreError::TooDeep, line),
+        Err(error) => line.refusal(error.code(), error.name(), &error),
     }
     Ok(())
 }
@@ -257,13 +252,11 @@ fn tell_midway(
     Ok(())
 }
 
-// Says how a store, its node, and the change that clears a path print, and the refusal for want of
-// memory.
+// Says how a store, its node, and the change that clears a path print.
 fn debug(state: &State, line: &mut Line) -> Result<(), Fault> {
     let change = Change::Clear(line.path()?);
     line.debug(&state.store);
     line.debug(&(state.node, change));
-    tell_error(StoreError::from(AllocError), line);
     Ok(())
 }
 

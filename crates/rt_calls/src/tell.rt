@@ -151,8 +151,8 @@ pub(crate) fn tell_next(item: Option<Item>, line: &mut Line) {
     drop(item);
 }
 
-// A message that is to be sent, or `none`. It does not come again: a text that lacked memory is made
-// once more.
+// A message that is to be sent, which does not come again: a text that lacked memory is made once
+// more; or `none`.
 pub(crate) fn tell_message(message: Option<ClientMessage>, line: &mut Line) {
     match &message {
         Some(message) => {

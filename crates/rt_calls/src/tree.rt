@@ -46,29 +46,6 @@ fn done(answer: Result<(), TreeError>, line: &mut Line) -> Result<(), Fault> {
     }
 }
 
-const REFUSALS: [TreeError; 8] = [
-    TreeError::BadKey,
-    TreeError::KeyTooLong,
-    TreeError::TooDeep,
-    TreeError::NotWhole,
-    TreeError::TextTooLong,
-    TreeError::TooManyNodes,
-    TreeError::NotJson,
-    TreeError::NoMemory,
-];
-
-// The number, the name, and the text of each refusal.
-fn refusals(line: &mut Line) -> Result<(), Fault> {
-    for error in REFUSALS {
-        line.debug(&(error.code(), error));
-        line.say(error.name());
-        line.say(": ");
-        line.display(&error);
-        line.say("; ");
-    }
-    Ok(())
-}
-
 // ---- keys and paths
 
 fn key(line: &mut Line) -> Result<(), Fault> {
@@ -387,7 +364,6 @@ fn part(state: &mut State, line: &mut Line) -> Result<(), Fault> {
 
 pub(crate) fn call(state: &mut State, line: &mut Line) -> Result<(), Fault> {
     match line.next()? {
-        "refusals" => refusals(line),
         "key" => key(line),
         "path" => path(line),
         "child" => child(line),

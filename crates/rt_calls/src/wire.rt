@@ -5,39 +5,22 @@ use rt_query::Query;
 use rt_wire::{ClientMessage, Reason, ServerMessage, WireError, query_text};
 use std::alloc::Global;
 
-const ERRORS: [WireError; 5] = [
-    WireError::NotJson,
-    WireError::UnknownKind,
-    WireError::BadField,
-    WireError::BadTree,
-    WireError::NoMemory,
-];
-
-// The words of a refusal.
-fn say_error(error: WireError, line: &mut Line) {
-    line.debug(&(error.code(), error));
-    line.say(error.name());
-    line.say(": ");
-    line.display(&error);
-}
-
-// The words of the refusal of a number.
-fn error(line: &mut Line) -> Result<(), Fault> {
-    let number = line.number()?;
-    for error in ERRORS {
-        if u64::from(error.code()) == number {
-            say_error(error, line);
-        }
-    }
-    Ok(())
-}
-
 // What a text of that side is read as, written again.
 fn written(alloc: Global, side: &str, text: &str) -> Result<String, WireError> {
     match side {
-        "server" => Ok(ServerMessage::read(alloc, text)?.text(alloc)?),
-        _ => Ok(ClientMessage::read(alloc, text)?.text(alloc)?),
+        "server" => of_server(alloc, text),
+        _ => of_client(alloc, text),
     }
+}
+
+fn of_server(alloc: Global, text: &str) -> Result<String, WireError> {
+    let message = ServerMessage::read(alloc, text)?;
+    Ok(message.text(alloc)?)
+}
+
+fn of_client(alloc: Global, text: &str) -> Result<String, WireError> {
+    let message = ClientMessage::read(alloc, text)?;
+    Ok(message.text(alloc)?)
 }
 
 // Says a message, or the name of a refusal.
@@ -129,7 +112,6 @@ fn reason(line: &mut Line) -> Result<(), Fault> {
 
 pub(crate) fn call(line: &mut Line) -> Result<(), Fault> {
     match line.next()? {
-        "error" => error(line),
         "read" => read(line),
         "prefixes" => prefixes(line),
         "server" => server(line),

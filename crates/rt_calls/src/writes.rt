@@ -9,25 +9,6 @@ use rt_tree::{Path, Tree};
 use rt_writes::{Entries, Pending, WriteError, is_shallow};
 use std::alloc::Global;
 
-// The writes added and not taken out.
-pub(crate) struct State {
-    pending: Pending,
-}
-
-impl Drop for State {
-    fn drop(self) {
-        let State { pending: _ } = self;
-    }
-}
-
-impl State {
-    pub(crate) fn new(alloc: Global) -> State {
-        State {
-            pending: Pending::new(alloc),
-        }
-    }
-}
-
 // A path and a tree, together of at most 32 levels of keys.
 fn entry(line: &mut Line) -> Result<(Path, Tree), Fault>
     ensures { IfOk result IsShallow }
@@ -60,25 +41,6 @@ fn tell_entries(entries: &[(Path, Tree)], line: &mut Line) {
     }
 }
 
-// A refusal's number, its name, and the whole text.
-fn tell_error(error: WriteError, line: &mut Line) {
-    line.debug(&(error.code(), error.name(), error));
-    line.say(" ");
-    line.display(&error);
-}
-
-fn errors(line: &mut Line) -> Result<(), Fault> {
-    for error in [
-        WriteError::Overlap,
-        WriteError::EmptyUpdate,
-        WriteError::NoMemory,
-    ] {
-        tell_error(error, line);
-        line.say(";");
-    }
-    Ok(())
-}
-
 // A write of a number above all others: whether it was added, and then how many are pending.
 fn add(pending: &mut Pending, line: &mut Line) -> Result<(), Fault> {
     let id = line.number()?;
@@ -89,8 +51,7 @@ fn add(pending: &mut Pending, line: &mut Line) -> Result<(), Fault> {
     match pending.add(id, entries) {
         Ok(()) => line.say("added"),
         Err(WriteError::NoMemory) => return Err(Fault::NoMemory),
-        Err(WriteError::Overlap) => tell_error(WriteError::Overlap, line),
-        Err(WriteError::EmptyUpdate) => tell_error(WriteError::EmptyUpdate, line),
+        Err(error) => line.refusal(error.code(), error.name(), &error),
     }
     line.say(" ");
     line.debug(&pending.len());
@@ -158,8 +119,7 @@ fn debug(pending: &Pending, line: &mut Line) -> Result<(), Fault> {
     Ok(())
 }
 
-pub(crate) fn call(state: &mut State, line: &mut Line) -> Result<(), Fault> {
-    let pending = &mut state.pending;
+pub(crate) fn call(pending: &mut Pending, line: &mut Line) -> Result<(), Fault> {
     match line.next()? {
         "new" => renew(pending, line.alloc),
         "add" => add(pending, line),
@@ -170,7 +130,6 @@ pub(crate) fn call(state: &mut State, line: &mut Line) -> Result<(), Fault> {
         "debug" => debug(pending, line),
         "shallow" => shallow(line),
         "copy" => copy(line),
-        "errors" => errors(line),
         _ => Err(Fault::NoSuchCall),
     }
 }
