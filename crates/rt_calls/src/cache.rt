@@ -35,41 +35,49 @@ impl State {
     }
 }
 
-fn push_base(text: &mut String, base: Option<Base>) -> Result<(), AllocError> {
-    match base {
-        None => text.push_str("-"),
-        Some(base) => {
-            text.push_str(if base.whole { "whole " } else { "part " })?;
-            text.push_str(base.tree.text(*text.allocator())?.as_str())
-        }
+fn add_base(text: &mut String, base: &Base, line: &mut Line) {
+    line.add(text, if base.whole { "whole " } else { "part " });
+    match base.tree.text(line.alloc) {
+        Ok(tree) => line.add(text, tree.as_str()),
+        Err(_) => line.fail(Fault::NoMemory),
     }
+}
+
+fn add_known(text: &mut String, brought: &Brought, query: &Query, line: &mut Line) {
+    match brought.base(query) {
+        Ok(None) => line.add(text, "-"),
+        Ok(Some(base)) => add_base(text, &base, line),
+        Err(_) => line.fail(Fault::NoMemory),
+    }
+    line.add(text, if brought.knows(query) { ";" } else { "," });
 }
 
 // What each watched query has.
-fn watched(state: &State, alloc: Global) -> Result<String, AllocError> {
-    let mut text = String::new(alloc);
+fn watched(state: &State, line: &mut Line) -> String {
+    let mut text = String::new(line.alloc);
     for query in &state.watched {
-        push_base(&mut text, state.brought.base(query)?)?;
-        text.push_str(if state.brought.knows(query) { ";" } else { "," })?;
+        add_known(&mut text, &state.brought, query, line);
     }
-    Ok(text)
+    text
 }
 
 // What lacked memory is made once more where nothing that is watched has changed.
-fn refused(state: &State, alloc: Global, before: &str) -> Fault {
-    match watched(state, alloc) {
-        Ok(text) if text.as_str() == before => Fault::NoMemory,
-        Ok(_) | Err(_) => Fault::NoSuchCall,
+fn refused(state: &State, before: &str, line: &mut Line) -> Fault {
+    if watched(state, line).as_str() == before {
+        Fault::NoMemory
+    } else {
+        Fault::NoSuchCall
     }
 }
 
 // So many queries.
-fn queries(line: &mut Line) -> Result<Vec<Query>, Fault> {
+fn queries(line: &mut Line) -> Vec<Query> {
     let mut queries = Vec::new(line.alloc);
-    for _ in 0..line.number()? {
-        queries.push(line.query()?)?;
+    for _ in 0..line.number::<u64>() {
+        let query = line.query();
+        line.push(&mut queries, query);
     }
-    Ok(queries)
+    queries
 }
 
 // The listens kept: none, or one.
@@ -77,9 +85,9 @@ fn kept(line: &mut Line) -> Result<Vec<Query>, Fault>
     ensures { IfOk result (λ kept. do_plains_overlap kept.items ≡ false) }
 {
     let mut kept = Vec::new(line.alloc);
-    match line.number()? {
+    match line.number() {
         0 => {}
-        1 => kept.push(line.query()?)?,
+        1 => kept.push(line.query())?,
         _ => return Err(Fault::NoSuchCall),
     }
     Ok(kept)
@@ -89,8 +97,8 @@ fn kept(line: &mut Line) -> Result<Vec<Query>, Fault>
 fn push(line: &mut Line) -> Result<Call, Fault>
     ensures { IfOk result (λ call. IsAllowed call) }
 {
-    let query = line.query()?;
-    let (path, tree) = line.entry()?;
+    let query = line.query();
+    let (path, tree) = line.entry();
     if !query.path().is_prefix_of(&path) || path.keys().len() + tree.levels() > MAX_LEVELS {
         return Err(Fault::NoSuchCall);
     }
@@ -104,7 +112,7 @@ fn call_of(name: &str, line: &mut Line) -> Result<Call, Fault>
     if name == "put" {
         return push(line);
     }
-    let registered = queries(line)?;
+    let registered = queries(line);
     let kept = kept(line)?;
     Ok(Call::Recover(QueryList::of(registered), QueryList::of(kept)))
 }
@@ -122,22 +130,21 @@ fn make(brought: &mut Brought, call: &Call) -> Result<bool, AllocError>
 }
 
 // Makes a call, and says whether it was taken.
-fn change(state: &mut State, name: &str, line: &mut Line) -> Result<(), Fault> {
-    let call = call_of(name, line)?;
-    make_watched(state, &call, line)
-}
-
 fn make_watched(state: &mut State, call: &Call, line: &mut Line) -> Result<(), Fault>
     requires { IsAllowed call.now }
 {
-    let before = watched(state, line.alloc)?;
+    let before = watched(state, line);
+    line.sound()?;
     match make(&mut state.brought, call) {
-        Ok(taken) => {
-            line.debug(&taken);
-            Ok(())
-        }
-        Err(_) => Err(refused(state, line.alloc, before.as_str())),
+        Ok(taken) => line.debug(taken),
+        Err(_) => return Err(refused(state, before.as_str(), line)),
     }
+    Ok(())
+}
+
+fn change(state: &mut State, name: &str, line: &mut Line) -> Result<(), Fault> {
+    let call = call_of(name, line)?;
+    make_watched(state, &call, line)
 }
 
 // So many calls.
@@ -145,8 +152,8 @@ fn calls(line: &mut Line) -> Result<Vec<Call>, Fault>
     ensures { IfOk result (λ calls. All IsAllowed calls.items) }
 {
     let mut calls = Vec::new(line.alloc);
-    for _ in 0..line.number()? {
-        calls.push(call_of(line.next()?, line)?)?;
+    for _ in 0..line.number::<u64>() {
+        calls.push(call_of(line.next(), line)?)?;
     }
     Ok(calls)
 }
@@ -155,13 +162,12 @@ fn calls(line: &mut Line) -> Result<Vec<Call>, Fault>
 // them stay made.
 fn run(state: &mut State, line: &mut Line) -> Result<(), Fault> {
     let calls = calls(line)?;
+    line.sound()?;
     match state.brought.run(&calls) {
-        Ok(taken) => {
-            line.debug(&taken);
-            Ok(())
-        }
-        Err(_) => Err(Fault::Failed),
+        Ok(taken) => line.debug(taken),
+        Err(_) => return Err(Fault::Failed),
     }
+    Ok(())
 }
 
 // What is told of a query, or of a child of it: its tree, and whether that is whole.
@@ -176,31 +182,28 @@ fn tell(base: Option<Base>, line: &mut Line) {
 }
 
 // What is brought for a query, or for a child of it where a key is given.
-fn found(brought: &Brought, query: &Query, line: &mut Line) -> Result<Option<Base>, Fault> {
-    if line.is_empty() {
-        return Ok(brought.base(query)?);
-    }
-    let key = line.key()?;
-    Ok(brought.base_child(query, &key)?)
-}
-
 fn base(brought: &Brought, line: &mut Line) -> Result<(), Fault> {
-    let query = line.query()?;
-    tell(found(brought, &query, line)?, line);
+    let query = line.query();
+    let found = if line.is_empty() {
+        brought.base(&query)?
+    } else {
+        brought.base_child(&query, &line.key()?)?
+    };
+    tell(found, line);
     Ok(())
 }
 
 // Whether something is brought for a query.
 fn knows(brought: &Brought, line: &mut Line) -> Result<(), Fault> {
-    let query = line.query()?;
-    line.debug(&brought.knows(&query));
+    let query = line.query();
+    line.debug(brought.knows(&query));
     Ok(())
 }
 
 // What is brought for a query, as it is printed.
 fn debug(brought: &Brought, line: &mut Line) -> Result<(), Fault> {
-    let found = brought.base(&line.query()?)?;
-    line.debug(&found);
+    let query = line.query();
+    line.debug(brought.base(&query)?);
     Ok(())
 }
 
@@ -210,12 +213,13 @@ fn renew(brought: &mut Brought, alloc: Global) -> Result<(), Fault> {
 }
 
 fn watch(state: &mut State, line: &mut Line) -> Result<(), Fault> {
-    state.watched = queries(line)?;
+    let queries = queries(line);
+    state.watched = line.given(queries)?;
     Ok(())
 }
 
 pub(crate) fn call(state: &mut State, line: &mut Line) -> Result<(), Fault> {
-    match line.next()? {
+    match line.next() {
         "new" => renew(&mut state.brought, line.alloc),
         "watch" => watch(state, line),
         "put" => change(state, "put", line),

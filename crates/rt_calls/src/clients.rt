@@ -5,7 +5,6 @@ use crate::line::Line;
 use crate::tell::{tell_kept, tell_message};
 use rt_client::{Client, ClientError, MAX_SEATS, Seat, Shared};
 use rt_mail::Mirror;
-use rt_push::PushError;
 use rt_wire::ServerMessage;
 use rt_world::{Limits, Outcome};
 use std::alloc::Global;
@@ -58,15 +57,16 @@ pub(crate) fn say_error(error: ClientError, line: &mut Line) {
 }
 
 // The capacities to the end of the line.
-fn capacities(line: &mut Line) -> Result<Vec<usize>, Fault> {
+fn capacities(line: &mut Line) -> Vec<usize> {
     let mut capacities = Vec::new(line.alloc);
     for _ in 0..line.len() {
         if line.is_empty() {
             break;
         }
-        capacities.push(line.number()? as usize)?;
+        let capacity = line.number();
+        line.push(&mut capacities, capacity);
     }
-    Ok(capacities)
+    capacities
 }
 
 // Puts seats behind those that are there; there is room for them.
@@ -79,14 +79,15 @@ fn seat_all(chairs: &mut Vec<Option<Chair>>, seats: Vec<Seat>) {
 // `open NUMBER CAPACITY ..`: a client in place of the one before, whose seats stay; says how many
 // there are.
 fn open(held: &mut Held, line: &mut Line) -> Result<(), Fault> {
-    let number = line.number()?;
-    let capacities = capacities(line)?;
+    let number = line.number();
+    let capacities = capacities(line);
+    line.sound()?;
     held.chairs.reserve(capacities.len())?;
     match Client::open(line.alloc, number, capacities.as_slice(), held.limits) {
         Ok((client, seats)) => {
             held.client = Some(client);
             seat_all(&mut held.chairs, seats);
-            line.debug(&held.chairs.len());
+            line.debug(held.chairs.len());
         }
         Err(ClientError::NoMemory) => return Err(Fault::NoMemory),
         Err(error) => say_error(error, line),
@@ -116,8 +117,9 @@ pub(crate) fn has_failed(shared: &mut Shared) -> bool {
 // Whether a ring gives at least what it is known to hold.
 pub(crate) fn gives_all(chair: &mut Chair) -> bool {
     for _ in 0..chair.owed {
-        if chair.seat.next().is_none() {
-            return false;
+        match chair.seat.next() {
+            Some(item) => drop(item),
+            None => return false,
         }
     }
     true
@@ -152,7 +154,7 @@ fn made(
     match name {
         "connected" => Ok(shared.connected()),
         "disconnected" => Ok(shared.disconnected()),
-        "server" => Ok(shared.server_message(ServerMessage::read(line.alloc, line.next()?)?)),
+        "server" => Ok(shared.server_message(ServerMessage::read(line.alloc, line.next())?)),
         _ => Err(Fault::NoSuchCall),
     }
 }
@@ -164,7 +166,7 @@ fn make(
     line: &mut Line,
 ) -> Result<(), Fault> {
     match made(shared, name, line)? {
-        Ok(outcome) => line.debug(&outcome),
+        Ok(outcome) => line.debug(outcome),
         Err(ClientError::NoMemory) => return Err(failed(shared, chairs)),
         Err(error) => say_error(error, line),
     }
@@ -172,11 +174,12 @@ fn make(
 }
 
 // The first message that is to be sent, or `none`.
-fn out(shared: &mut Shared, line: &mut Line) {
+fn out(shared: &mut Shared, line: &mut Line) -> Result<(), Fault> {
     match shared.take_outgoing() {
         Ok(message) => tell_message(message, line),
         Err(error) => say_error(error, line),
     }
+    Ok(())
 }
 
 // The listens kept. A client that lacked memory for it goes on.
@@ -189,18 +192,15 @@ fn cover(shared: &Shared, line: &mut Line) -> Result<(), Fault> {
     Ok(())
 }
 
-fn say_key(key: Result<[u8; 20], PushError>, line: &mut Line) {
-    match key {
+// `push_key MOMENT DIGIT`: the push id of a moment, and of twelve times that digit.
+fn push_key(shared: &mut Shared, line: &mut Line) -> Result<(), Fault> {
+    let moment = line.number();
+    let digit = line.number();
+    line.sound()?;
+    match shared.push_key(moment, [digit; 12]) {
         Ok(id) => line.say(str::from_utf8(&id).unwrap_or("no text")),
         Err(error) => line.say(error.name()),
     }
-}
-
-// `push_key MOMENT DIGIT`: the push id of a moment, and of twelve times that digit.
-fn push_key(shared: &mut Shared, line: &mut Line) -> Result<(), Fault> {
-    let moment = line.number()?;
-    let digit = line.next()?.parse().map_err(|_| Fault::NoSuchCall)?;
-    say_key(shared.push_key(moment, [digit; 12]), line);
     Ok(())
 }
 
@@ -212,22 +212,29 @@ fn call_locked(held: &mut Held, name: &str, line: &mut Line) -> Result<(), Fault
     let shared = client.shared.get_mut();
     match name {
         "out" => out(shared, line),
-        "cover" => cover(shared, line)?,
-        "push_key" => push_key(shared, line)?,
-        _ => make(shared, held.chairs.as_mut_slice(), name, line)?,
+        "cover" => cover(shared, line),
+        "push_key" => push_key(shared, line),
+        _ => make(shared, held.chairs.as_mut_slice(), name, line),
     }
+}
+
+fn most(line: &mut Line) -> Result<(), Fault> {
+    line.debug(MAX_SEATS);
+    Ok(())
+}
+
+fn limit(held: &mut Held, line: &mut Line) -> Result<(), Fault> {
+    let limits = limits(line);
+    held.limits = line.given(limits)?;
+    line.debug(&held.limits);
     Ok(())
 }
 
 pub(crate) fn call(held: &mut Held, line: &mut Line) -> Result<(), Fault> {
-    match line.next()? {
-        "most" => line.debug(&MAX_SEATS),
-        "limits" => {
-            held.limits = limits(line)?;
-            line.debug(&held.limits);
-        }
-        "open" => open(held, line)?,
-        name => call_locked(held, name, line)?,
+    match line.next() {
+        "most" => most(line),
+        "limits" => limit(held, line),
+        "open" => open(held, line),
+        name => call_locked(held, name, line),
     }
-    Ok(())
 }

@@ -14,12 +14,12 @@ use rt_world::{Action, Body, CoreError, Limits, Note, Reason, Report, Step};
 use rt_writes::Entries;
 use std::alloc::{AllocError, Global};
 
-pub(crate) fn limits(line: &mut Line) -> Result<Limits, Fault> {
-    Ok(Limits {
-        listeners: line.small_number()?,
-        requests: line.small_number()?,
-        last_number: line.number()?,
-    })
+pub(crate) fn limits(line: &mut Line) -> Limits {
+    Limits {
+        listeners: line.number(),
+        requests: line.number(),
+        last_number: line.number(),
+    }
 }
 
 // A new core, with these limits, or full ones; says them.
@@ -27,8 +27,9 @@ fn new(core: &mut Core, line: &mut Line) -> Result<(), Fault> {
     let limits = if line.is_empty() {
         Limits::full()
     } else {
-        limits(line)?
+        limits(line)
     };
+    line.sound()?;
     *core = Core::new(line.alloc, limits);
     line.debug(&limits);
     Ok(())
@@ -37,78 +38,58 @@ fn new(core: &mut Core, line: &mut Line) -> Result<(), Fault> {
 // `connected`, `disconnected`, `listen SEAT QUERY`, `unlisten SEAT LISTENER`,
 // `write SEAT PATH TREE`, `update SEAT COUNT` and so many `PATH TREE`, `remove SEAT PATH`,
 // `data TAG PATH TREE`, `accepted ID`, `refused ID WHY` or `revoked TAG WHY`.
-fn step(line: &mut Line) -> Result<Step, Fault> {
-    match line.next()? {
-        "connected" => Ok(Step::Connected),
-        "disconnected" => Ok(Step::Disconnected),
-        "listen" => listen(line),
-        "unlisten" => unlisten(line),
-        "write" => write(line),
-        "update" => update(line),
-        "remove" => remove(line),
-        "data" => data(line),
-        "accepted" => accepted(line),
-        "refused" => refused(line),
-        "revoked" => revoked(line),
-        _ => Err(Fault::NoSuchCall),
+fn step(line: &mut Line) -> Step {
+    match line.next() {
+        "connected" => Step::Connected,
+        "disconnected" => Step::Disconnected,
+        "listen" => Step::Listen {
+            seat: line.number(),
+            query: line.query(),
+        },
+        "unlisten" => Step::Unlisten {
+            seat: line.number(),
+            listener: line.number(),
+        },
+        "data" => Step::Data {
+            tag: line.number(),
+            path: line.path(),
+            tree: line.tree(),
+        },
+        "accepted" => Step::Accepted { id: line.number() },
+        "refused" => Step::Refused {
+            id: line.number(),
+            why: Reason::of(line.text()),
+        },
+        "revoked" => Step::Revoked {
+            tag: line.number(),
+            why: Reason::of(line.text()),
+        },
+        name => Step::Write {
+            seat: line.number(),
+            action: action(name, line),
+        },
     }
 }
 
-fn listen(line: &mut Line) -> Result<Step, Fault> {
-    let seat = line.number()?;
-    let query = line.query()?;
-    Ok(Step::Listen { seat, query })
-}
-
-fn unlisten(line: &mut Line) -> Result<Step, Fault> {
-    let seat = line.number()?;
-    let listener = line.number()?;
-    Ok(Step::Unlisten { seat, listener })
-}
-
-fn write(line: &mut Line) -> Result<Step, Fault> {
-    let seat = line.number()?;
-    let (path, tree) = line.entry()?;
-    let action = Action::Put { path, tree };
-    Ok(Step::Write { seat, action })
-}
-
-fn update(line: &mut Line) -> Result<Step, Fault> {
-    let seat = line.number()?;
-    let entries = Entries::of(line.entries()?);
-    let action = Action::Merge { entries };
-    Ok(Step::Write { seat, action })
-}
-
-fn remove(line: &mut Line) -> Result<Step, Fault> {
-    let seat = line.number()?;
-    let path = line.path()?;
-    let tree = Tree::null();
-    let action = Action::Put { path, tree };
-    Ok(Step::Write { seat, action })
-}
-
-fn data(line: &mut Line) -> Result<Step, Fault> {
-    let tag = line.number()?;
-    let (path, tree) = line.entry()?;
-    Ok(Step::Data { tag, path, tree })
-}
-
-fn accepted(line: &mut Line) -> Result<Step, Fault> {
-    let id = line.number()?;
-    Ok(Step::Accepted { id })
-}
-
-fn refused(line: &mut Line) -> Result<Step, Fault> {
-    let id = line.number()?;
-    let why = Reason::of(line.text()?);
-    Ok(Step::Refused { id, why })
-}
-
-fn revoked(line: &mut Line) -> Result<Step, Fault> {
-    let tag = line.number()?;
-    let why = Reason::of(line.text()?);
-    Ok(Step::Revoked { tag, why })
+fn action(name: &str, line: &mut Line) -> Action {
+    match name {
+        "write" => Action::Put {
+            path: line.path(),
+            tree: line.tree(),
+        },
+        "update" => Action::Merge {
+            entries: Entries::of(line.entries()),
+        },
+        _ => {
+            if name != "remove" {
+                line.fail(Fault::NoSuchCall);
+            }
+            Action::Put {
+                path: line.path(),
+                tree: Tree::null(),
+            }
+        }
+    }
 }
 
 // Calls of the core. Each promises nothing, so that what a world is stays out of their callers'
@@ -138,10 +119,12 @@ fn failed(core: &mut Core) -> Fault {
     let applied = apply(core, Step::Connected).err();
     let viewed = view_of(core, 1).err();
     let covered = cover_of(core).err();
-    if first_message(core).is_none() && have_failed([applied, viewed, covered]) {
-        Fault::Failed
-    } else {
-        Fault::NoSuchCall
+    match first_message(core) {
+        None if have_failed([applied, viewed, covered]) => Fault::Failed,
+        message => {
+            drop(message);
+            Fault::NoSuchCall
+        }
     }
 }
 
@@ -156,8 +139,8 @@ fn have_failed(answers: [Option<CoreError>; 3]) -> bool {
 
 // Makes a step, and says what it answers.
 fn make(core: &mut Core, line: &mut Line) -> Result<(), Fault> {
-    let step = step(line)?;
-    let answer = apply(core, step);
+    let step = step(line);
+    let answer = apply(core, line.given(step)?);
     if let Err(CoreError::NoMemory) = &answer {
         return Err(failed(core));
     }
@@ -166,21 +149,22 @@ fn make(core: &mut Core, line: &mut Line) -> Result<(), Fault> {
 }
 
 // The steps to the end of the line.
-fn steps(line: &mut Line) -> Result<Vec<Step>, Fault> {
+fn steps(line: &mut Line) -> Vec<Step> {
     let mut steps = Vec::new(line.alloc);
-    'steps: for _ in 0..line.len() {
+    for _ in 0..line.len() {
         if line.is_empty() {
             break;
         }
-        steps.push(step(line)?)?;
+        let step = step(line);
+        line.push(&mut steps, step);
     }
-    Ok(steps)
+    steps
 }
 
 // Makes a run of steps, and says what each answers.
 fn run(core: &mut Core, line: &mut Line) -> Result<(), Fault> {
-    let steps = steps(line)?;
-    let answers = apply_all(line.alloc, core, steps)?;
+    let steps = steps(line);
+    let answers = apply_all(line.alloc, core, line.given(steps)?)?;
     if lacked_memory(&answers) {
         return Err(failed(core));
     }
@@ -210,7 +194,7 @@ fn say_answer(answer: &Result<Report, CoreError>, line: &mut Line) {
 }
 
 fn say_report(report: &Report, line: &mut Line) {
-    line.debug(&(report.outcome, report.given));
+    line.debug((report.outcome, report.given));
     for note in report.notes.as_slice() {
         say_note(note, line);
     }
@@ -221,12 +205,12 @@ fn say_report(report: &Report, line: &mut Line) {
 fn say_note(note: &Note, line: &mut Line) {
     match &note.body {
         Body::Settled { id, why } => {
-            line.debug(&(note.seat, *id));
+            line.debug((note.seat, *id));
             line.say(" settled");
             tell_reason(why.as_ref(), line);
         }
         Body::Cancelled { listener, why } => {
-            line.debug(&(note.seat, *listener));
+            line.debug((note.seat, *listener));
             line.say(" cancelled");
             tell_reason(Some(why), line);
         }
@@ -235,13 +219,13 @@ fn say_note(note: &Note, line: &mut Line) {
 }
 
 fn say_batch(seat: u64, batch: &Batch, line: &mut Line) {
-    line.debug(&(seat, batch.listener));
+    line.debug((seat, batch.listener));
     tell_changes(batch.changes.as_slice(), line);
 }
 
 // What the listener of a number shows: a leaf, or rows; or `none`, or the name of a refusal.
 fn view(core: &Core, line: &mut Line) -> Result<(), Fault> {
-    let listener = line.number()?;
+    let listener = line.number();
     match view_of(core, listener) {
         Ok(Some(shown)) => tell_shown(&shown, line),
         Ok(None) => line.say("none"),
@@ -262,21 +246,19 @@ fn cover(core: &Core, line: &mut Line) -> Result<(), Fault> {
 }
 
 // The first message that is to be sent, or `none`.
-fn sent(core: &mut Core, line: &mut Line) {
+fn sent(core: &mut Core, line: &mut Line) -> Result<(), Fault> {
     tell_message(first_message(core), line);
+    Ok(())
 }
 
 pub(crate) fn call(core: &mut Core, line: &mut Line) -> Result<(), Fault> {
-    match line.next()? {
+    match line.next() {
         "new" => new(core, line),
         "make" => make(core, line),
         "run" => run(core, line),
         "view" => view(core, line),
         "cover" => cover(core, line),
-        "sent" => {
-            sent(core, line);
-            Ok(())
-        }
+        "sent" => sent(core, line),
         _ => Err(Fault::NoSuchCall),
     }
 }

@@ -36,9 +36,9 @@ fn tell_form(form: &Query, line: &mut Line) {
 fn tell_listens(listens: &[Kept], line: &mut Line) {
     for kept in listens {
         line.say(" +");
-        line.debug(&kept.tag);
+        line.debug(kept.tag);
         line.say("@");
-        line.debug(&kept.listener);
+        line.debug(kept.listener);
         tell_form(&kept.query, line);
     }
 }
@@ -52,43 +52,46 @@ fn tell_delta(delta: &Delta, line: &mut Line) {
 fn told(answer: Result<Delta, CoverError>, line: &mut Line) -> Result<(), Fault> {
     match answer {
         Ok(delta) => tell_delta(&delta, line),
-        Err(error) => refused(error, line)?,
+        Err(error) => return refused(error, line),
     }
     Ok(())
 }
 
 // A listener of a number that none has, and its query.
 fn add(cover: &mut Cover, line: &mut Line) -> Result<(), Fault> {
-    let listener = line.number()?;
+    let listener = line.number();
+    let query = line.query();
+    line.sound()?;
     if cover.is_registered(listener) {
         return Err(Fault::NoSuchCall);
     }
-    let query = line.query()?;
     told(cover.add(listener, query), line)
 }
 
 // So many numbers.
-fn numbers(line: &mut Line) -> Result<Vec<u64>, Fault> {
+fn numbers(line: &mut Line) -> Vec<u64> {
     let mut numbers = Vec::new(line.alloc);
-    for _ in 0..line.number()? {
-        numbers.push(line.number()?)?;
+    for _ in 0..line.number::<u64>() {
+        let number = line.number();
+        line.push(&mut numbers, number);
     }
-    Ok(numbers)
+    numbers
 }
 
 fn remove(cover: &mut Cover, line: &mut Line) -> Result<(), Fault> {
-    let listeners = numbers(line)?;
-    told(cover.remove(&listeners), line)
+    let numbers = numbers(line);
+    told(cover.remove(&line.given(numbers)?), line)
 }
 
 // The listeners that end stand before what else a revocation tells.
 fn revoke(cover: &mut Cover, line: &mut Line) -> Result<(), Fault> {
-    match cover.revoke(line.number()?) {
+    let tag = line.number();
+    match cover.revoke(line.given(tag)?) {
         Ok(revoked) => {
             tell_numbers(" end ", revoked.ended.as_slice(), line);
             tell_delta(&revoked.delta, line);
         }
-        Err(error) => refused(error, line)?,
+        Err(error) => return refused(error, line),
     }
     Ok(())
 }
@@ -96,14 +99,14 @@ fn revoke(cover: &mut Cover, line: &mut Line) -> Result<(), Fault> {
 fn tell_kept(list: Result<KeptList, CoverError>, line: &mut Line) -> Result<(), Fault> {
     match list {
         Ok(list) => tell_listens(&list.into_vec(), line),
-        Err(error) => refused(error, line)?,
+        Err(error) => return refused(error, line),
     }
     Ok(())
 }
 
 fn supplier(cover: &Cover, line: &mut Line) -> Result<(), Fault> {
-    let query = line.query()?;
-    line.debug(&cover.supplier(&query));
+    let query = line.query();
+    line.debug(cover.supplier(&query));
     Ok(())
 }
 
@@ -114,14 +117,14 @@ fn tell_forms(forms: Result<Vec<Query>, CoverError>, line: &mut Line) -> Result<
                 tell_form(form, line);
             }
         }
-        Err(error) => refused(error, line)?,
+        Err(error) => return refused(error, line),
     }
     Ok(())
 }
 
 // The form of the listen with a tag.
 fn form_at(cover: &Cover, line: &mut Line) -> Result<(), Fault> {
-    match cover.form_at(line.number()?) {
+    match cover.form_at(line.number()) {
         Some(form) => tell_form(form, line),
         None => line.say("None"),
     }
@@ -130,13 +133,13 @@ fn form_at(cover: &Cover, line: &mut Line) -> Result<(), Fault> {
 
 // Whether a change would need a tag above the last one.
 fn lacks_tag(cover: &Cover, line: &mut Line) -> Result<(), Fault> {
-    let lacks = match line.next()? {
-        "add" => cover.lacks_tag_to_add(&line.query()?),
-        "remove" => cover.lacks_tag_to_remove(&numbers(line)?),
-        "revoke" => cover.lacks_tag_to_revoke(line.number()?),
+    let lacks = match line.next() {
+        "add" => cover.lacks_tag_to_add(&line.query()),
+        "remove" => cover.lacks_tag_to_remove(&numbers(line)),
+        "revoke" => cover.lacks_tag_to_revoke(line.number()),
         _ => return Err(Fault::NoSuchCall),
     };
-    line.debug(&lacks);
+    line.debug(lacks);
     Ok(())
 }
 
@@ -144,20 +147,21 @@ fn lacks_tag(cover: &Cover, line: &mut Line) -> Result<(), Fault> {
 fn copy(cover: &mut Cover, line: &mut Line) -> Result<(), Fault> {
     match cover.copy() {
         Ok(copy) => *cover = copy,
-        Err(error) => refused(error, line)?,
+        Err(error) => return refused(error, line),
     }
     Ok(())
 }
 
 // A new cover with this last tag.
 fn renew(cover: &mut Cover, line: &mut Line) -> Result<(), Fault> {
-    *cover = Cover::new(line.alloc, line.number()?);
+    let last = line.number();
+    *cover = Cover::new(line.alloc, line.given(last)?);
     Ok(())
 }
 
 fn registered(cover: &Cover, line: &mut Line) -> Result<(), Fault> {
-    let listener = line.number()?;
-    line.debug(&cover.is_registered(listener));
+    let listener = line.number();
+    line.debug(cover.is_registered(listener));
     Ok(())
 }
 
@@ -177,7 +181,7 @@ fn look(cover: &Cover, name: &str, line: &mut Line) -> Result<(), Fault> {
 }
 
 pub(crate) fn call(cover: &mut Cover, line: &mut Line) -> Result<(), Fault> {
-    match line.next()? {
+    match line.next() {
         "new" => renew(cover, line),
         "add" => add(cover, line),
         "remove" => remove(cover, line),

@@ -89,7 +89,8 @@ pub(crate) fn deliver<R: Wait>(
     chair: &mut Chair,
     line: &mut Line,
 ) -> Result<(), Fault> {
-    let turns = line.number()?;
+    let turns = line.number();
+    line.sound()?;
     let mut basket = new_basket(line.alloc)?;
     let gate = Asked {
         times: AtomicU64::new(0),

@@ -4,77 +4,73 @@
 // JSON; `limitToFirst=N` and `limitToLast=N`.
 use crate::fault::Fault;
 use crate::line::Line;
-use rt_order::Mark;
 use rt_query::{Draft, Query, QueryError};
-use rt_tree::{Path, Tree};
-use std::alloc::Global;
-
-// The leaf of JSON data, or null.
-fn mark(alloc: Global, text: &str) -> Result<Mark, Fault> {
-    match Tree::read(alloc, text)?.as_leaf() {
-        Some(leaf) => Ok(Mark::Leaf(leaf.copy(alloc)?)),
-        None => Ok(Mark::Null),
-    }
-}
-
-fn number(text: &str) -> Result<u32, Fault> {
-    text.parse().map_err(|_| Fault::NoSuchCall)
-}
 
 // What a draft answers.
 pub(crate) type Answer = Result<(), QueryError>;
 
-fn bound(draft: &mut Draft, alloc: Global, name: &str, text: &str) -> Result<Answer, Fault> {
+fn bound(draft: &mut Draft, name: &str, text: &str, line: &mut Line) -> Answer {
     let (text, key) = match text.split_once(',') {
         Some((text, key)) => (text, Some(key)),
         None => (text, None),
     };
-    let value = mark(alloc, text)?;
+    let value = line.mark_of(text);
+    let Ok(value) = line.given(value) else {
+        return Ok(());
+    };
     match name {
-        "startAt" => Ok(draft.start_at(value, key)),
-        "startAfter" => Ok(draft.start_after(value, key)),
-        "endAt" => Ok(draft.end_at(value, key)),
-        "endBefore" => Ok(draft.end_before(value, key)),
-        "equalTo" => Ok(draft.equal_to(value, key)),
-        _ => Err(Fault::NoSuchCall),
+        "startAt" => draft.start_at(value, key),
+        "startAfter" => draft.start_after(value, key),
+        "endAt" => draft.end_at(value, key),
+        "endBefore" => draft.end_before(value, key),
+        "equalTo" => draft.equal_to(value, key),
+        _ => {
+            line.fail(Fault::NoSuchCall);
+            Ok(())
+        }
     }
 }
 
-// Makes one call of a draft, as `limitToFirst=2`; a call that there is not is a NoSuchCall.
-pub(crate) fn make_draft(draft: &mut Draft, alloc: Global, call: &str) -> Result<Answer, Fault> {
+fn child(draft: &mut Draft, text: &str, line: &mut Line) -> Answer {
+    let path = line.path_of(text);
+    match line.given(path) {
+        Ok(path) => draft.order_by_child(path),
+        Err(_) => Ok(()),
+    }
+}
+
+// Makes one call of a draft, as `limitToFirst=2`. Where the line has failed, it is not made.
+pub(crate) fn make_draft(draft: &mut Draft, call: &str, line: &mut Line) -> Answer {
     let (name, text) = call.split_once('=').unwrap_or((call, ""));
     match name {
-        "key" => Ok(draft.order_by_key()),
-        "child" => Ok(draft.order_by_child(Path::parse(alloc, text)?)),
-        "value" => Ok(draft.order_by_value()),
-        "limitToFirst" => Ok(draft.limit_to_first(number(text)?)),
-        "limitToLast" => Ok(draft.limit_to_last(number(text)?)),
-        _ => bound(draft, alloc, name, text),
+        "key" => draft.order_by_key(),
+        "child" => child(draft, text, line),
+        "value" => draft.order_by_value(),
+        "limitToFirst" => draft.limit_to_first(line.number_of(text)),
+        "limitToLast" => draft.limit_to_last(line.number_of(text)),
+        _ => bound(draft, name, text, line),
     }
 }
 
 // Makes calls in turn, none of which may be refused.
-fn make_all(draft: &mut Draft, alloc: Global, calls: &str) -> Result<(), Fault> {
+fn make_all(draft: &mut Draft, calls: &str, line: &mut Line) {
     for call in calls.split('&') {
-        make_draft(draft, alloc, call)??;
+        if let Err(error) = make_draft(draft, call, line) {
+            line.fail(error.into());
+        }
     }
-    Ok(())
-}
-
-fn query_of(alloc: Global, path: &str, calls: &str) -> Result<Query, Fault> {
-    let mut draft = Query::at(Path::parse(alloc, path)?);
-    if !calls.is_empty() {
-        make_all(&mut draft, alloc, calls)?;
-    }
-    Ok(draft.done())
 }
 
 impl<'a> Line<'a> {
     // The query that the next word says: a path, and behind a `?` the calls of its draft, with `&`
     // between two, as `/a?child=v&startAt="x",k&limitToLast=2`.
-    pub(crate) fn query(&mut self) -> Result<Query, Fault> {
-        let word = self.next()?;
+    pub(crate) fn query(&mut self) -> Query {
+        let word = self.next();
         let (path, calls) = word.split_once('?').unwrap_or((word, ""));
-        query_of(self.alloc, path, calls)
+        let mut draft = Query::at(self.path_of(path));
+        if !calls.is_empty() {
+            make_all(&mut draft, calls, self);
+        }
+        draft.done()
     }
 }

@@ -175,7 +175,7 @@ fn writes(line: &mut Line) {
 }
 
 pub(crate) fn call(line: &mut Line) -> Result<(), Fault> {
-    match line.next()? {
+    match line.next() {
         "client" => client(line),
         "core" => core(line),
         "cover" => cover(line),
@@ -187,7 +187,7 @@ pub(crate) fn call(line: &mut Line) -> Result<(), Fault> {
         "tree" => tree(line),
         "wire" => wire(line),
         "writes" => writes(line),
-        _ => return Err(Fault::NoSuchCall),
+        _ => line.fail(Fault::NoSuchCall),
     }
     Ok(())
 }

@@ -13,141 +13,160 @@ use rt_view::{Batch, Change, ChangeList};
 use rt_wire::{Action, Ending, Reason};
 use rt_writes::Entries;
 
-fn reason(line: &mut Line) -> Result<Reason, Fault> {
-    Ok(Reason::of(line.text()?))
+fn reason(line: &mut Line) -> Reason {
+    Reason::of(line.text())
 }
 
 // The key of the row before, or none.
-fn key_before(line: &mut Line) -> Result<Option<Key>, Fault> {
-    match line.next()? {
-        "-" => Ok(None),
-        text => Ok(Some(Key::parse(line.alloc, text)?)),
+fn key_before(line: &mut Line) -> Option<Key> {
+    match line.next() {
+        "-" => None,
+        text => line.key_of(text),
     }
 }
 
 // What the row of a key has become.
-fn row_change(name: &str, key: Key, value: Tree, line: &mut Line) -> Result<Change, Fault> {
-    let after = key_before(line)?;
+fn row_change(name: &str, key: Key, value: Tree, line: &mut Line) -> Change {
+    let after = key_before(line);
     match name {
-        "added" => Ok(Change::Added { key, value, after }),
-        "moved" => Ok(Change::Moved { key, value, after }),
-        "changed" => Ok(Change::Changed { key, value, after }),
-        _ => Err(Fault::NoSuchCall),
+        "added" => Change::Added { key, value, after },
+        "moved" => Change::Moved { key, value, after },
+        "changed" => Change::Changed { key, value, after },
+        _ => {
+            line.fail(Fault::NoSuchCall);
+            Change::Value { value }
+        }
     }
 }
 
-fn change(line: &mut Line) -> Result<Change, Fault> {
-    let name = line.next()?;
+fn change(line: &mut Line) -> Change {
+    let name = line.next();
     if name == "value" {
-        let value = line.tree()?;
-        return Ok(Change::Value { value });
+        return Change::Value { value: line.tree() };
     }
-    let key = line.key()?;
-    let tree = line.tree()?;
-    if name == "removed" {
-        return Ok(Change::Removed { key, old: tree });
+    let key = line.key_if();
+    let value = line.tree();
+    match key {
+        None => Change::Value { value },
+        Some(key) if name == "removed" => Change::Removed { key, old: value },
+        Some(key) => row_change(name, key, value, line),
     }
-    row_change(name, key, tree, line)
 }
 
 // The changes to the end of the line.
-fn changes(line: &mut Line) -> Result<ChangeList, Fault> {
+fn changes(line: &mut Line) -> ChangeList {
     let mut changes = Vec::new(line.alloc);
     for _ in 0..line.len() {
         if line.is_empty() {
             break;
         }
-        changes.push(change(line)?)?;
+        let change = change(line);
+        line.push(&mut changes, change);
     }
-    Ok(ChangeList::of(changes))
+    ChangeList::of(changes)
 }
 
 // The entries to the end of the line.
-fn entries(line: &mut Line) -> Result<Entries, Fault> {
+fn entries(line: &mut Line) -> Entries {
     let mut entries = Vec::new(line.alloc);
     for _ in 0..line.len() {
         if line.is_empty() {
             break;
         }
-        entries.push(line.entry()?)?;
+        let entry = line.entry();
+        line.push(&mut entries, entry);
     }
-    Ok(Entries::of(entries))
+    Entries::of(entries)
 }
 
 // The action of a name.
-pub(crate) fn action(name: &str, line: &mut Line) -> Result<Action, Fault> {
+fn action_of(name: &str, line: &mut Line) -> Action {
     match name {
-        "put" => {
-            let (path, tree) = line.entry()?;
-            Ok(Action::Put { path, tree })
+        "merge" => Action::Merge {
+            entries: entries(line),
+        },
+        _ => {
+            if name != "put" {
+                line.fail(Fault::NoSuchCall);
+            }
+            Action::Put {
+                path: line.path(),
+                tree: line.tree(),
+            }
         }
-        "merge" => Ok(Action::Merge {
-            entries: entries(line)?,
-        }),
-        _ => Err(Fault::NoSuchCall),
     }
 }
 
-fn ending(line: &mut Line) -> Result<Ending, Fault> {
-    match line.next()? {
-        "cancel" => Ok(Ending::Cancel(line.path()?)),
-        name => Ok(Ending::Run(action(name, line)?)),
+// The next action.
+pub(crate) fn action(line: &mut Line) -> Action {
+    let name = line.next();
+    action_of(name, line)
+}
+
+fn ending(line: &mut Line) -> Ending {
+    match line.next() {
+        "cancel" => Ending::Cancel(line.path()),
+        name => Ending::Run(action_of(name, line)),
     }
 }
 
 // The receipt of a name and a number.
-fn receipt(name: &str, number: u64, line: &mut Line) -> Result<Receipt, Fault> {
+fn receipt(name: &str, number: u64, line: &mut Line) -> Receipt {
     match name {
-        "listened" => Ok(Receipt::Listened {
+        "listened" => Receipt::Listened {
             listener: number,
-            query: line.query()?,
-        }),
-        "unlistened" => Ok(Receipt::Unlistened { listener: number }),
-        "wrote" => Ok(Receipt::Wrote {
+            query: line.query(),
+        },
+        "wrote" => Receipt::Wrote {
             id: number,
-            what: action(line.next()?, line)?,
-        }),
-        "asked" => Ok(Receipt::Asked {
+            what: action(line),
+        },
+        "asked" => Receipt::Asked {
             id: number,
-            what: ending(line)?,
-        }),
-        _ => Err(Fault::NoSuchCall),
+            what: ending(line),
+        },
+        _ => {
+            if name != "unlistened" {
+                line.fail(Fault::NoSuchCall);
+            }
+            Receipt::Unlistened { listener: number }
+        }
     }
 }
 
-fn settled(id: u64, line: &mut Line) -> Result<Item, Fault> {
+fn settled(id: u64, line: &mut Line) -> Item {
     let why = if line.is_empty() {
         None
     } else {
-        Some(reason(line)?)
+        Some(reason(line))
     };
-    Ok(Item::Settled { id, why })
+    Item::Settled { id, why }
 }
 
 // The item of a name and a number.
-pub(crate) fn item(name: &str, number: u64, line: &mut Line) -> Result<Item, Fault> {
+pub(crate) fn item(name: &str, number: u64, line: &mut Line) -> Item {
     match name {
         "settled" => settled(number, line),
-        "cancelled" => Ok(Item::Cancelled {
+        "cancelled" => Item::Cancelled {
             listener: number,
-            why: reason(line)?,
+            why: reason(line),
+        },
+        "batch" => Item::Batch(Batch {
+            listener: number,
+            changes: changes(line),
         }),
-        "batch" => Ok(Item::Batch(Batch {
-            listener: number,
-            changes: changes(line)?,
-        })),
-        _ => Ok(Item::Receipt(receipt(name, number, line)?)),
+        _ => Item::Receipt(receipt(name, number, line)),
     }
 }
 
-pub(crate) fn next_item(line: &mut Line) -> Result<Item, Fault> {
-    let name = line.next()?;
-    let number = line.number()?;
+pub(crate) fn next_item(line: &mut Line) -> Item {
+    let name = line.next();
+    let number = line.number();
     item(name, number, line)
 }
 
-pub(crate) fn next_receipt(line: &mut Line) -> Result<Receipt, Fault> {
-    let name = line.next()?;
-    let number = line.number()?;
+pub(crate) fn next_receipt(line: &mut Line) -> Receipt {
+    let name = line.next();
+    let number = line.number();
     receipt(name, number, line)
 }

@@ -5,11 +5,6 @@ use crate::line::Line;
 use crate::tell::tell_next;
 use rt_mail::{Inbox, Item, Lane, MAX_CAPACITY, MailError, Receipt, Unqueued};
 
-// How many items wait, and how many the ring holds.
-fn tell_counts(lane: &Lane, inbox: &Inbox, line: &mut Line) {
-    line.debug(&(lane.len(), inbox.len()));
-}
-
 fn count(lane: &Lane, inbox: &Inbox) -> usize {
     lane.len().saturating_add(inbox.len())
 }
@@ -34,36 +29,40 @@ fn name_of(item: &Item) -> (&'static str, u64) {
     }
 }
 
-// A lane that lacked memory hands back what it did not queue, and is asked once more.
-fn unqueued(refused: &Unqueued, name: &str, number: u64) -> Fault {
-    let (refused_name, refused_number) = name_of(&refused.item);
-    if refused.why == MailError::NoMemory && refused_name == name && refused_number == number {
-        Fault::NoMemory
-    } else {
-        Fault::NoSuchCall
+// Why a lane did not queue an item, which it hands back, and that item's name and number.
+fn refusal(answer: Result<(), Unqueued>) -> Option<(MailError, &'static str, u64)> {
+    match answer {
+        Ok(()) => None,
+        Err(refused) => {
+            let (name, number) = name_of(&refused.item);
+            Some((refused.why, name, number))
+        }
     }
 }
 
+// A lane that lacked memory hands back what it did not queue, and is asked once more.
 fn queue(lane: &mut Lane, line: &mut Line) -> Result<(), Fault> {
-    let name = line.next()?;
-    let number = line.number()?;
-    match lane.queue(item(name, number, line)?) {
-        Ok(()) => Ok(()),
-        Err(refused) => Err(unqueued(&refused, name, number)),
+    let name = line.next();
+    let number = line.number();
+    let item = item(name, number, line);
+    match refusal(lane.queue(line.given(item)?)) {
+        None => Ok(()),
+        Some((MailError::NoMemory, back, id)) if back == name && id == number => {
+            Err(Fault::NoMemory)
+        }
+        Some(_) => Err(Fault::NoSuchCall),
     }
 }
 
 fn queue_settled(lane: &mut Lane, id: u64) -> Option<MailError> {
-    match lane.queue(Item::Settled { id, why: None }) {
-        Ok(()) => None,
-        Err(refused) => Some(refused.why),
-    }
+    let (why, _, _) = refusal(lane.queue(Item::Settled { id, why: None }))?;
+    Some(why)
 }
 
 // So many settled requests, by number from 1 on. Where memory lacks, the first of them wait, and all
 // is made anew.
 fn fill(lane: &mut Lane, line: &mut Line) -> Result<(), Fault> {
-    for before in 0..line.number()? {
+    for before in 0..line.number() {
         match queue_settled(lane, before + 1) {
             None => {}
             Some(MailError::NoMemory) => return Err(Fault::Failed),
@@ -92,8 +91,9 @@ fn has_failed(lane: &mut Lane, inbox: &mut Inbox) -> bool {
 fn taken_out(inbox: &mut Inbox) -> usize {
     let mut count: usize = 0;
     for _ in 0..inbox.len() {
-        if inbox.next().is_some() {
+        if let Some(item) = inbox.next() {
             count = count.saturating_add(1);
+            drop(item);
         }
     }
     count
@@ -122,11 +122,11 @@ fn flush(lane: &mut Lane, inbox: &mut Inbox) -> Result<(), Fault> {
 // Signs a receipt, where there is room for it.
 fn sign(lane: &mut Lane, inbox: &mut Inbox, line: &mut Line) -> Result<(), Fault> {
     let before = count(lane, inbox);
-    let receipt = next_receipt(line)?;
     if !lane.has_room(inbox) {
         return Err(Fault::NoSuchCall);
     }
-    match lane.sign(inbox, receipt) {
+    let receipt = next_receipt(line);
+    match lane.sign(inbox, line.given(receipt)?) {
         Ok(()) => Ok(()),
         Err(MailError::NoMemory) => Err(failed(lane, inbox, before)),
         Err(MailError::Failed) => Err(Fault::NoSuchCall),
@@ -134,67 +134,90 @@ fn sign(lane: &mut Lane, inbox: &mut Inbox, line: &mut Line) -> Result<(), Fault
 }
 
 // The first item of the ring.
-fn next(inbox: &mut Inbox, line: &mut Line) {
+fn next(inbox: &mut Inbox, line: &mut Line) -> Result<(), Fault> {
     tell_next(inbox.next(), line);
+    Ok(())
 }
 
 // Takes so many items out of the ring, unseen.
 fn skip(inbox: &mut Inbox, line: &mut Line) -> Result<(), Fault> {
-    for _ in 0..line.number()? {
+    for _ in 0..line.number::<u64>() {
         drop(inbox.next());
     }
     Ok(())
 }
 
-// Changes a lane or its ring, and says how many items wait, and how many the ring holds.
-fn change(lane: &mut Lane, inbox: &mut Inbox, name: &str, line: &mut Line) -> Result<(), Fault> {
-    match name {
-        "queue" => queue(lane, line)?,
-        "fill" => fill(lane, line)?,
-        "flush" => flush(lane, inbox)?,
-        "sign" => sign(lane, inbox, line)?,
-        "skip" => skip(inbox, line)?,
-        _ => return Err(Fault::NoSuchCall),
-    }
-    tell_counts(lane, inbox, line);
+fn room(lane: &Lane, inbox: &Inbox, line: &mut Line) -> Result<(), Fault> {
+    line.debug(lane.has_room(inbox));
     Ok(())
 }
 
-// Calls with a ring.
-fn call_with_ring(
+// Changes a lane or its ring.
+fn change(lane: &mut Lane, inbox: &mut Inbox, name: &str, line: &mut Line) -> Result<(), Fault> {
+    match name {
+        "queue" => queue(lane, line),
+        "fill" => fill(lane, line),
+        "flush" => flush(lane, inbox),
+        "sign" => sign(lane, inbox, line),
+        "skip" => skip(inbox, line),
+        _ => Err(Fault::NoSuchCall),
+    }
+}
+
+// Changes a lane or its ring, and says how many items wait, and how many the ring holds.
+fn change_and_tell(
     lane: &mut Lane,
     inbox: &mut Inbox,
     name: &str,
     line: &mut Line,
 ) -> Result<(), Fault> {
-    match name {
-        "room" => line.debug(&lane.has_room(inbox)),
-        "next" => next(inbox, line),
-        _ => change(lane, inbox, name, line)?,
-    }
+    change(lane, inbox, name, line)?;
+    line.debug((lane.len(), inbox.len()));
     Ok(())
 }
 
-fn new_ring(line: &mut Line) -> Result<Inbox, Fault> {
-    let capacity = line.number()?;
-    Ok(Inbox::new(line.alloc, capacity as usize)?)
+// Calls with a ring, where there is one.
+fn call_with_ring(
+    lane: &mut Lane,
+    place: &mut Option<Inbox>,
+    name: &str,
+    line: &mut Line,
+) -> Result<(), Fault> {
+    let Some(inbox) = place else {
+        return Err(Fault::NoSuchCall);
+    };
+    match name {
+        "room" => room(lane, inbox, line),
+        "next" => next(inbox, line),
+        _ => change_and_tell(lane, inbox, name, line),
+    }
+}
+
+fn new(lane: &mut Lane, line: &mut Line) -> Result<(), Fault> {
+    *lane = Lane::new(line.alloc);
+    Ok(())
+}
+
+fn ring(place: &mut Option<Inbox>, line: &mut Line) -> Result<(), Fault> {
+    let capacity = line.number();
+    *place = Some(Inbox::new(line.alloc, line.given(capacity)?)?);
+    Ok(())
+}
+
+fn most(line: &mut Line) -> Result<(), Fault> {
+    line.debug(MAX_CAPACITY);
+    Ok(())
 }
 
 pub(crate) fn call(
     lane: &mut Lane,
-    inbox: &mut Option<Inbox>,
+    place: &mut Option<Inbox>,
     line: &mut Line,
 ) -> Result<(), Fault> {
-    match line.next()? {
-        "new" => *lane = Lane::new(line.alloc),
-        "ring" => *inbox = Some(new_ring(line)?),
-        "most" => line.debug(&MAX_CAPACITY),
-        name => {
-            let Some(inbox) = inbox else {
-                return Err(Fault::NoSuchCall);
-            };
-            call_with_ring(lane, inbox, name, line)?;
-        }
+    match line.next() {
+        "new" => new(lane, line),
+        "ring" => ring(place, line),
+        "most" => most(line),
+        name => call_with_ring(lane, place, name, line),
     }
-    Ok(())
 }

@@ -1,17 +1,26 @@
 // A line of calls: its words, one space between two, and what they stand for; and all that is said.
 use crate::fault::Fault;
-use rt_tree::{Key, Path, Tree};
+use rt_order::Mark;
+use rt_tree::{Key, Leaf, Path, Tree};
 use std::alloc::{AllocError, Global};
 use std::fmt::{Debug, Display};
+use std::num::ParseIntError;
+use std::str::FromStr;
 
 // A line, whose words are read one after another, and what was said of this one and of those before
 // it. The room of what is said is taken before the first call, so that printing takes no memory of
 // its own.
+//
+// Where a word stands for nothing, or memory lacks for what it stands for, the line fails: what is
+// read of it may be empty from then on, and nothing more is said of it. So a call that changes
+// something asks first for what it was given.
 #[derive(Drop)]
 pub(crate) struct Line<'a> {
     pub(crate) alloc: Global,
     rest: &'a str,
     said: String,
+    fault: Option<Fault>,
+    pub(crate) is_quiet: bool,
 }
 
 const ROOM: usize = 1 << 20;
@@ -23,12 +32,55 @@ impl<'a> Line<'a> {
             alloc,
             rest: "",
             said: String::with_capacity(alloc, ROOM)?,
+            fault: None,
+            is_quiet: false,
         })
     }
 
     // The next line.
     pub(crate) fn begin(&mut self, line: &'a str) {
         self.rest = line;
+        self.fault = None;
+    }
+
+    // ---- whether it is sound
+
+    // Fails, unless it has failed before; that memory was lacking counts above all.
+    pub(crate) fn fail(&mut self, fault: Fault) {
+        match fault {
+            Fault::NoSuchCall => self.fault = self.fault.or(Some(fault)),
+            Fault::NoMemory | Fault::Failed => self.fault = Some(fault),
+        }
+    }
+
+    // Why it has failed, if it has.
+    pub(crate) fn sound(&self) -> Result<(), Fault> {
+        match self.fault {
+            Some(fault) => Err(fault),
+            None => Ok(()),
+        }
+    }
+
+    // A value that was read, unless the line has failed.
+    pub(crate) fn given<T: Drop>(&self, value: T) -> Result<T, Fault> {
+        match self.fault {
+            Some(fault) => Err(fault),
+            None => Ok(value),
+        }
+    }
+
+    // Why it has failed, if it has. What is said from then on is said.
+    pub(crate) fn end(&mut self) -> Result<(), Fault> {
+        let answer = self.sound();
+        self.fault = None;
+        answer
+    }
+
+    // Adds a value to those before it.
+    pub(crate) fn push<T: Drop>(&mut self, values: &mut Vec<T>, value: T) {
+        if values.push(value).is_err() {
+            self.fail(Fault::NoMemory);
+        }
     }
 
     // ---- its words
@@ -43,14 +95,14 @@ impl<'a> Line<'a> {
         self.rest.len()
     }
 
-    // The next word; a NoSuchCall behind the last.
-    pub(crate) fn next(&mut self) -> Result<&'a str, Fault> {
+    // The next word; behind the last there is none.
+    pub(crate) fn next(&mut self) -> &'a str {
         if self.rest.is_empty() {
-            return Err(Fault::NoSuchCall);
+            self.fail(Fault::NoSuchCall);
         }
         let (word, rest) = self.rest.split_once(' ').unwrap_or((self.rest, ""));
         self.rest = rest;
-        Ok(word)
+        word
     }
 
     // All that follows.
@@ -58,92 +110,169 @@ impl<'a> Line<'a> {
         self.rest
     }
 
-    // A number below 2^64.
-    pub(crate) fn number(&mut self) -> Result<u64, Fault> {
-        self.next()?.parse().map_err(|_| Fault::NoSuchCall)
+    // The number of a text; 0 where it is none of that type.
+    pub(crate) fn number_of<T: FromStr<Err = ParseIntError> + Default>(&mut self, text: &str) -> T {
+        match text.parse() {
+            Ok(number) => number,
+            Err(_) => {
+                self.fail(Fault::NoSuchCall);
+                T::default()
+            }
+        }
     }
 
-    // A number below 2^32.
-    pub(crate) fn small_number(&mut self) -> Result<u32, Fault> {
-        self.next()?.parse().map_err(|_| Fault::NoSuchCall)
+    // A number of that type.
+    pub(crate) fn number<T: FromStr<Err = ParseIntError> + Default>(&mut self) -> T {
+        let word = self.next();
+        self.number_of(word)
     }
 
-    // A path, as `/a/b`.
-    pub(crate) fn path(&mut self) -> Result<Path, Fault> {
-        Ok(Path::parse(self.alloc, self.next()?)?)
+    // The path of a text, as `/a/b`.
+    pub(crate) fn path_of(&mut self, text: &str) -> Path {
+        match Path::parse(self.alloc, text) {
+            Ok(path) => path,
+            Err(error) => {
+                self.fail(error.into());
+                Path::root(self.alloc)
+            }
+        }
+    }
+
+    // A path.
+    pub(crate) fn path(&mut self) -> Path {
+        let word = self.next();
+        self.path_of(word)
+    }
+
+    // The key of a text; there is no empty one.
+    pub(crate) fn key_of(&mut self, text: &str) -> Option<Key> {
+        match Key::parse(self.alloc, text) {
+            Ok(key) => Some(key),
+            Err(error) => {
+                self.fail(error.into());
+                None
+            }
+        }
+    }
+
+    // A key, where the next word is one.
+    pub(crate) fn key_if(&mut self) -> Option<Key> {
+        let word = self.next();
+        self.key_of(word)
     }
 
     // A key.
     pub(crate) fn key(&mut self) -> Result<Key, Fault> {
-        Ok(Key::parse(self.alloc, self.next()?)?)
+        self.key_if().ok_or(Fault::NoSuchCall)
+    }
+
+    // The tree of JSON data.
+    pub(crate) fn tree_of(&mut self, text: &str) -> Tree {
+        match Tree::read(self.alloc, text) {
+            Ok(tree) => tree,
+            Err(error) => {
+                self.fail(error.into());
+                Tree::null()
+            }
+        }
     }
 
     // The tree of JSON data, of one word.
-    pub(crate) fn tree(&mut self) -> Result<Tree, Fault> {
-        Ok(Tree::read(self.alloc, self.next()?)?)
+    pub(crate) fn tree(&mut self) -> Tree {
+        let word = self.next();
+        self.tree_of(word)
+    }
+
+    // The leaf of JSON data, or null.
+    pub(crate) fn mark_of(&mut self, text: &str) -> Mark {
+        match self.tree_of(text).as_leaf() {
+            None => Mark::Null,
+            Some(leaf) => self.leaf_mark(leaf),
+        }
+    }
+
+    fn leaf_mark(&mut self, leaf: &Leaf) -> Mark {
+        match leaf.copy(self.alloc) {
+            Ok(copy) => Mark::Leaf(copy),
+            Err(error) => {
+                self.fail(error.into());
+                Mark::Null
+            }
+        }
     }
 
     // A path, and the tree that stands or is to stand there.
-    pub(crate) fn entry(&mut self) -> Result<(Path, Tree), Fault> {
-        let path = self.path()?;
-        let tree = self.tree()?;
-        Ok((path, tree))
+    pub(crate) fn entry(&mut self) -> (Path, Tree) {
+        (self.path(), self.tree())
     }
 
     // So many entries.
-    pub(crate) fn entries(&mut self) -> Result<Vec<(Path, Tree)>, Fault> {
+    pub(crate) fn entries(&mut self) -> Vec<(Path, Tree)> {
         let mut entries = Vec::new(self.alloc);
-        for _ in 0..self.number()? {
-            entries.push(self.entry()?)?;
+        for _ in 0..self.number::<u64>() {
+            let entry = self.entry();
+            self.push(&mut entries, entry);
         }
-        Ok(entries)
+        entries
     }
 
     // A text that a JSON string gives.
-    pub(crate) fn text(&mut self) -> Result<String, Fault> {
-        let tree = self.tree()?;
+    pub(crate) fn text(&mut self) -> String {
+        let tree = self.tree();
+        let mut text = String::new(self.alloc);
         match tree.as_leaf().and_then(|leaf| leaf.as_str()) {
-            Some(text) => Ok(String::from_str(self.alloc, text)?),
-            None => Err(Fault::NoSuchCall),
+            Some(piece) => self.add(&mut text, piece),
+            None => self.fail(Fault::NoSuchCall),
         }
+        text
     }
 
     // A text that a JSON string and a number give: the string so many times.
-    pub(crate) fn repeated(&mut self) -> Result<String, Fault> {
-        let piece = self.text()?;
+    pub(crate) fn repeated(&mut self) -> String {
+        let piece = self.text();
         let mut text = String::new(self.alloc);
-        for _ in 0..self.number()? {
-            text.push_str(piece.as_str())?;
+        for _ in 0..self.number::<u64>() {
+            self.add(&mut text, piece.as_str());
         }
-        Ok(text)
+        text
     }
 
     // The text of pieces: a word, and each that follows as many times as the number before it.
-    pub(crate) fn pieces(&mut self) -> Result<String, Fault> {
-        let mut text = String::from_str(self.alloc, self.next()?)?;
+    pub(crate) fn pieces(&mut self) -> String {
+        let mut text = String::new(self.alloc);
+        let first = self.next();
+        self.add(&mut text, first);
         for _ in 0..self.len() {
             if self.is_empty() {
                 break;
             }
-            self.push_piece(&mut text)?;
+            self.add_piece(&mut text);
         }
-        Ok(text)
+        text
     }
 
-    fn push_piece(&mut self, text: &mut String) -> Result<(), Fault> {
-        let count = self.number()?;
-        let piece = self.next()?;
+    fn add_piece(&mut self, text: &mut String) {
+        let count: u64 = self.number();
+        let piece = self.next();
         for _ in 0..count {
-            text.push_str(piece)?;
+            self.add(text, piece);
         }
-        Ok(())
+    }
+
+    // Adds a piece to a text.
+    pub(crate) fn add(&mut self, text: &mut String, piece: &str) {
+        if text.push_str(piece).is_err() {
+            self.fail(Fault::NoMemory);
+        }
     }
 
     // ---- what is said
 
-    // Says a text. Past a room of 2^20 bytes it takes no more, and the row differs.
+    // Says a text, unless it is quiet. Past a room of 2^20 bytes it takes no more, and the row differs.
     pub(crate) fn say(&mut self, text: &str) {
-        let _ = self.said.push_str(text);
+        if self.fault.is_none() && !self.is_quiet {
+            let _ = self.said.push_str(text);
+        }
     }
 
     // All that was said.
@@ -155,12 +284,19 @@ impl<'a> Line<'a> {
     pub(crate) fn made(&mut self, made: Result<String, AllocError>) -> bool {
         match made {
             Ok(text) => self.say(text.as_str()),
-            Err(_) => {
-                self.say("NoMemory\n");
-                return false;
-            }
+            Err(_) => return self.lacks(),
         }
         true
+    }
+
+    // Says that memory was lacking for a text, which is made once more. Where the line has failed,
+    // all of it is.
+    pub(crate) fn lacks(&mut self) -> bool {
+        if self.fault.is_some() {
+            self.fail(Fault::NoMemory);
+        }
+        self.say("NoMemory\n");
+        false
     }
 
     // Says the JSON text of a tree.
@@ -175,7 +311,7 @@ impl<'a> Line<'a> {
     }
 
     // Says what a value is for its programmer.
-    pub(crate) fn debug(&mut self, value: &impl Debug) {
+    pub(crate) fn debug(&mut self, value: impl Debug + Drop) {
         let alloc = self.alloc;
         let _ = self.made(format!(in alloc; "{value:?}"))
             || self.made(format!(in alloc; "{value:?}"));
@@ -183,12 +319,12 @@ impl<'a> Line<'a> {
     // Says a refusal: its number and what it is for its programmer, its name, and its text.
     pub(crate) fn refusal<E: Debug + Display>(&mut self, code: u8, name: &str, error: &E) {
         let alloc = self.alloc;
-        let _ = self.made(text_of(alloc, code, name, error))
-            || self.made(text_of(alloc, code, name, error));
+        let _ = self.made(refusal_of(alloc, code, name, error))
+            || self.made(refusal_of(alloc, code, name, error));
     }
 }
 
-fn text_of<E: Debug + Display>(
+fn refusal_of<E: Debug + Display>(
     alloc: Global,
     code: u8,
     name: &str,

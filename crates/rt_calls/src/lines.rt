@@ -13,7 +13,12 @@ fn is_passed_over(text: &str) -> bool {
 
 fn call<'a, R: Wait>(state: &mut State, text: &'a str, line: &mut Line<'a>) -> Result<(), Fault> {
     line.begin(text);
-    state.call::<R>(line)
+    let answer = state.call::<R>(line);
+    match (line.end(), answer) {
+        (Err(Fault::NoSuchCall), Err(fault)) => Err(fault),
+        (Err(fault), _) => Err(fault),
+        (Ok(()), answer) => answer,
+    }
 }
 
 // Makes the call of a line, behind those before it, and once more where memory was lacking.
@@ -28,27 +33,22 @@ fn make<'a, R: Wait>(state: &mut State, text: &'a str, line: &mut Line<'a>) -> R
 }
 
 // Makes the first lines anew, unsaid.
-fn make_anew<R: Wait>(
-    state: &mut State,
-    alloc: Global,
-    texts: &str,
-    count: usize,
-) -> Result<(), Fault> {
-    let mut line = Line::new(alloc)?;
-    *state = State::new(alloc);
+fn make_anew<'a, R: Wait>(state: &mut State, texts: &'a str, count: usize, line: &mut Line<'a>) {
+    *state = State::new(line.alloc);
+    line.is_quiet = true;
     for text in texts.lines().take(count) {
         if !is_passed_over(text) {
-            let _ = call::<R>(state, text, &mut line);
+            let _ = call::<R>(state, text, line);
         }
     }
-    Ok(())
+    line.is_quiet = false;
 }
 
 // Makes the call of a line, behind so many, and where what is called has failed, these and then it
 // once more.
 fn make_line<'a, R: Wait>(
     state: &mut State,
-    texts: &str,
+    texts: &'a str,
     count: usize,
     text: &'a str,
     line: &mut Line<'a>,
@@ -59,7 +59,7 @@ fn make_line<'a, R: Wait>(
         Err(Fault::NoMemory) => return Err(Fault::NoMemory),
         Err(Fault::Failed) => {
             line.say("NoMemory\n");
-            make_anew::<R>(state, line.alloc, texts, count)?;
+            make_anew::<R>(state, texts, count, line);
             make::<R>(state, text, line)?;
             line.say("\n");
         }

@@ -108,7 +108,7 @@ impl State {
     // Makes the call of a line, of which the first word is the library, and says what it answers. Where
     // it lacks memory it has changed nothing, or else has Failed. A delivery may wait, as R may.
     fn call<R: Wait>(&mut self, line: &mut Line) -> Result<(), Fault> {
-        match line.next()? {
+        match line.next() {
             "cache" => cache::call(&mut self.cache, line),
             "client" => clients::call(&mut self.held, line),
             "core" => cores::call(&mut self.core, line),

@@ -2,8 +2,8 @@
 use crate::fault::Fault;
 use crate::items::{next_item, next_receipt};
 use crate::line::Line;
-use crate::tell::{tell_next, tell_receipt};
-use rt_mail::{Inbox, Item, MailError, Mirror, Receipt};
+use crate::tell::tell_next;
+use rt_mail::{Inbox, Item, MailError, Mirror};
 
 fn knows_nothing(mirror: &Mirror) -> bool {
     mirror.listeners().is_empty() && mirror.requests().is_empty() && mirror.children(1).is_none()
@@ -28,7 +28,8 @@ fn take_item(mirror: &mut Mirror, item: Item) -> Result<(), Fault> {
 }
 
 fn take(mirror: &mut Mirror, line: &mut Line) -> Result<(), Fault> {
-    take_item(mirror, next_item(line)?)
+    let item = next_item(line);
+    take_item(mirror, line.given(item)?)
 }
 
 // The mirror takes what the ring holds, to its end.
@@ -45,21 +46,22 @@ fn take_all(mirror: &mut Mirror, inbox: &mut Option<Inbox>) -> Result<(), Fault>
 }
 
 // Whether a mirror has failed, its listeners, and its requests.
-fn tell_known(mirror: &Mirror, line: &mut Line) {
-    line.debug(&mirror.has_failed());
+fn known(mirror: &Mirror, line: &mut Line) -> Result<(), Fault> {
+    line.debug(mirror.has_failed());
     line.say(" ");
-    line.debug(&mirror.listeners());
+    line.debug(mirror.listeners());
     line.say(" ");
-    line.debug(&mirror.requests());
+    line.debug(mirror.requests());
+    Ok(())
 }
 
 // The children of a listener, by their keys.
 fn children(mirror: &Mirror, line: &mut Line) -> Result<(), Fault> {
-    let Some(children) = mirror.children(line.number()?) else {
+    let Some(children) = mirror.children(line.number()) else {
         line.say("none");
         return Ok(());
     };
-    line.debug(&children.len());
+    line.debug(children.len());
     for (key, value) in children {
         line.say(" ");
         line.say(key.text());
@@ -69,31 +71,26 @@ fn children(mirror: &Mirror, line: &mut Line) -> Result<(), Fault> {
     Ok(())
 }
 
-fn copied(line: &mut Line) -> Result<Item, Fault> {
-    let item = next_item(line)?;
-    let copy = item.copy(line.alloc);
-    drop(item);
-    Ok(copy?)
-}
-
 // A copy of an item.
 fn copy(line: &mut Line) -> Result<(), Fault> {
-    tell_next(Some(copied(line)?), line);
+    let item = next_item(line);
+    let copy = item.copy(line.alloc);
+    drop(item);
+    tell_next(Some(copy?), line);
     Ok(())
-}
-
-fn copied_receipt(line: &mut Line) -> Result<Receipt, Fault> {
-    let receipt = next_receipt(line)?;
-    let copy = receipt.copy(line.alloc);
-    drop(receipt);
-    Ok(copy?)
 }
 
 // A copy of a receipt.
 fn copy_receipt(line: &mut Line) -> Result<(), Fault> {
-    let receipt = copied_receipt(line)?;
-    tell_receipt(&receipt, line);
+    let receipt = next_receipt(line);
+    let copy = receipt.copy(line.alloc);
     drop(receipt);
+    tell_next(Some(Item::Receipt(copy?)), line);
+    Ok(())
+}
+
+fn new(mirror: &mut Mirror, line: &mut Line) -> Result<(), Fault> {
+    *mirror = Mirror::new(line.alloc);
     Ok(())
 }
 
@@ -102,15 +99,14 @@ pub(crate) fn call(
     inbox: &mut Option<Inbox>,
     line: &mut Line,
 ) -> Result<(), Fault> {
-    match line.next()? {
-        "new" => *mirror = Mirror::new(line.alloc),
-        "take" => take(mirror, line)?,
-        "take_all" => take_all(mirror, inbox)?,
-        "known" => tell_known(mirror, line),
-        "children" => children(mirror, line)?,
-        "copy" => copy(line)?,
-        "copy_receipt" => copy_receipt(line)?,
-        _ => return Err(Fault::NoSuchCall),
+    match line.next() {
+        "new" => new(mirror, line),
+        "take" => take(mirror, line),
+        "take_all" => take_all(mirror, inbox),
+        "known" => known(mirror, line),
+        "children" => children(mirror, line),
+        "copy" => copy(line),
+        "copy_receipt" => copy_receipt(line),
+        _ => Err(Fault::NoSuchCall),
     }
-    Ok(())
 }

@@ -6,7 +6,6 @@ use rt_order::{
     value_cmp,
 };
 use rt_tree::{Key, Tree};
-use std::alloc::{AllocError, Global};
 use std::cmp::Ordering;
 use std::collections::BTreeMap;
 
@@ -17,13 +16,8 @@ use std::collections::BTreeMap;
 // with its number, and how the other does borrowed.
 fn keys(line: &mut Line) -> Result<(), Fault> {
     let left = PlacedKey::of(line.key()?);
-    keys_beside(&left, line)
-}
-
-fn keys_beside(left: &PlacedKey, line: &mut Line) -> Result<(), Fault> {
-    let right = PlacedKey::of(line.key()?);
-    let copy = right.copy()?;
-    tell_keys(left, &copy, line);
+    let right = PlacedKey::of(line.key()?).copy()?;
+    tell_keys(&left, &right, line);
     Ok(())
 }
 
@@ -34,11 +28,11 @@ fn tell_keys(left: &PlacedKey, right: &PlacedKey, line: &mut Line) {
         left.cmp(right),
         lent.cmp(&other),
     );
-    line.debug(&orders);
-    line.debug(&(left == right, lent == other));
+    line.debug(orders);
+    line.debug((left == right, lent == other));
     line.display(lent.key());
     line.debug(left);
-    line.debug(&other);
+    line.debug(other);
 }
 
 fn sign(order: Ordering) -> &'static str {
@@ -51,16 +45,16 @@ fn sign(order: Ordering) -> &'static str {
 
 // How the keys of an object compare, each, in the order of their bytes, with all of them.
 fn matrix(line: &mut Line) -> Result<(), Fault> {
-    let index = index(line)?;
-    let tree = line.tree()?;
-    match tree.children() {
-        Some(children) => tell_matrix(&index, children, line),
-        None => return Err(Fault::NoSuchCall),
-    }
+    let index = index(line);
+    let tree = line.tree();
+    tell_matrix(&index, &tree, line);
     Ok(())
 }
 
-fn tell_matrix(index: &Index, children: &BTreeMap<Key, Tree>, line: &mut Line) {
+fn tell_matrix(index: &Index, tree: &Tree, line: &mut Line) {
+    let Some(children) = tree.children() else {
+        return line.fail(Fault::NoSuchCall);
+    };
     for (key, child) in children {
         tell_signs(index, key, child, children, line);
         line.say(" ");
@@ -82,27 +76,30 @@ fn tell_signs(
 // ---- values
 
 // By key, by value, or by the child at a path.
-fn index(line: &mut Line) -> Result<Index, Fault> {
-    match line.next()? {
-        "key" => Ok(Index::Key),
-        "value" => Ok(Index::Value),
-        "child" => Ok(Index::Child(line.path()?)),
-        _ => Err(Fault::NoSuchCall),
+fn index(line: &mut Line) -> Index {
+    match line.next() {
+        "key" => Index::Key,
+        "value" => Index::Value,
+        "child" => Index::Child(line.path()),
+        _ => {
+            line.fail(Fault::NoSuchCall);
+            Index::Key
+        }
     }
 }
 
 // What a tree is sorted by.
 fn sort(line: &mut Line) -> Result<(), Fault> {
-    let index = index(line)?;
-    let tree = line.tree()?;
-    line.debug(&sort_value(&index, &tree));
+    let index = index(line);
+    let tree = line.tree();
+    line.debug(sort_value(&index, &tree));
     Ok(())
 }
 
 // How what two trees are sorted by compares, and whether it is equal; and how leaves compare.
 fn values(line: &mut Line) -> Result<(), Fault> {
-    let left = line.tree()?;
-    let right = line.tree()?;
+    let left = line.tree();
+    let right = line.tree();
     tell_values(&left, &right, line);
     Ok(())
 }
@@ -112,58 +109,57 @@ fn tell_values(left: &Tree, right: &Tree, line: &mut Line) {
         sort_value(&Index::Value, left),
         sort_value(&Index::Value, right),
     );
-    line.debug(&(value_cmp(&a, &b), a == b));
+    line.debug((value_cmp(&a, &b), a == b));
     if let (Some(a), Some(b)) = (left.as_leaf(), right.as_leaf()) {
-        line.debug(&leaf_cmp(a, b));
+        line.debug(leaf_cmp(a, b));
     }
 }
 
 // ---- ranges
 
-fn mark(line: &mut Line) -> Result<Mark, Fault> {
-    match line.tree()?.as_leaf() {
-        None => Ok(Mark::Null),
-        Some(leaf) => Ok(Mark::Leaf(leaf.copy(line.alloc)?)),
+// A place: before all or after all of a value, or next to a key; or none.
+fn place(line: &mut Line) -> Option<Place> {
+    match line.next() {
+        "none" => None,
+        "min" => Some(Place::Min),
+        "before" => line.key_if().map(Place::Before),
+        "after" => line.key_if().map(Place::After),
+        "max" => Some(Place::Max),
+        _ => {
+            line.fail(Fault::NoSuchCall);
+            None
+        }
     }
 }
 
-// A cut at a value: before all or after all of it, or next to a key; or none.
-fn cut(line: &mut Line) -> Result<Option<Cut>, Fault> {
-    let place = match line.next()? {
-        "none" => return Ok(None),
-        "min" => Place::Min,
-        "before" => Place::Before(line.key()?),
-        "after" => Place::After(line.key()?),
-        "max" => Place::Max,
-        _ => return Err(Fault::NoSuchCall),
-    };
-    let value = mark(line)?;
-    Ok(Some(Cut { value, place }))
+// A cut at a value, or none.
+fn cut(line: &mut Line) -> Option<Cut> {
+    let place = place(line)?;
+    let text = line.next();
+    let value = line.mark_of(text);
+    Some(Cut { value, place })
 }
 
-fn range(line: &mut Line) -> Result<Range, Fault> {
-    let lower = cut(line)?;
-    let upper = cut(line)?;
-    Ok(Range { lower, upper })
+fn range(line: &mut Line) -> Range {
+    Range {
+        lower: cut(line),
+        upper: cut(line),
+    }
 }
 
 // The keys of the children of a tree that lie in a range of their values.
 fn has(line: &mut Line) -> Result<(), Fault> {
-    let range = range(line)?;
-    has_in(&range, line)
-}
-
-fn has_in(range: &Range, line: &mut Line) -> Result<(), Fault> {
-    let index = index(line)?;
-    let tree = line.tree()?;
-    match tree.children() {
-        Some(children) => tell_had(range, &index, children, line),
-        None => return Err(Fault::NoSuchCall),
-    }
+    let range = range(line);
+    let index = index(line);
+    let tree = line.tree();
+    tell_had(&range, &index, &tree, line);
     Ok(())
 }
 
-fn tell_had(range: &Range, index: &Index, children: &BTreeMap<Key, Tree>, line: &mut Line) {
+fn tell_had(range: &Range, index: &Index, tree: &Tree, line: &mut Line) {
+    let Some(children) = tree.children() else {
+        return line.fail(Fault::NoSuchCall);
+    };
     for (key, child) in children {
         tell_if_had(range, index, key, child, line);
     }
@@ -184,70 +180,54 @@ fn tell_if_had(range: &Range, index: &Index, key: &Key, child: &Tree, line: &mut
 // Whether two ranges are equal, and whether a copy of the second is equal to either; and how that
 // prints.
 fn ranges(line: &mut Line) -> Result<(), Fault> {
-    let left = range(line)?;
-    ranges_beside(&left, line)
-}
-
-fn ranges_beside(left: &Range, line: &mut Line) -> Result<(), Fault> {
-    let right = range(line)?;
-    tell_ranges(left, &right, line)
+    let left = range(line);
+    let right = range(line);
+    tell_ranges(&left, &right, line)
 }
 
 fn tell_ranges(left: &Range, right: &Range, line: &mut Line) -> Result<(), Fault> {
     let copy = right.copy(line.alloc)?;
-    line.debug(&(left == right, *left == copy, *right == copy));
-    line.debug(&copy);
+    line.debug((left == right, *left == copy, *right == copy));
+    line.debug(copy);
     Ok(())
 }
 
-fn is_copied_value(alloc: Global, value: &Mark) -> Result<bool, AllocError> {
-    Ok(value.copy(alloc)? == *value)
-}
-
-fn is_copied_place(alloc: Global, place: &Place) -> Result<bool, AllocError> {
-    Ok(place.copy(alloc)? == *place)
-}
-
-fn is_copied(alloc: Global, cut: &Cut) -> Result<bool, AllocError> {
-    Ok(cut.copy(alloc)? == *cut)
-}
-
-// Whether copies of a cut, of its value and of its place are equal to them.
-fn copied_cut(line: &mut Line) -> Result<(), Fault> {
-    match cut(line)? {
-        Some(cut) => tell_copied(&cut, line),
+// The copies of a cut, of its value and of its place.
+fn copied(line: &mut Line) -> Result<(), Fault> {
+    match cut(line) {
+        Some(cut) => tell_copies(&cut, line),
         None => Err(Fault::NoSuchCall),
     }
 }
 
-fn tell_copied(cut: &Cut, line: &mut Line) -> Result<(), Fault> {
-    let is_cut = is_copied(line.alloc, cut)?;
-    let is_value = is_copied_value(line.alloc, &cut.value)?;
-    let is_place = is_copied_place(line.alloc, &cut.place)?;
-    line.debug(&(is_cut, is_value, is_place));
+fn tell_copies(cut: &Cut, line: &mut Line) -> Result<(), Fault> {
+    let copy = cut.copy(line.alloc)?;
+    let value = cut.value.copy(line.alloc)?;
+    let place = cut.place.copy(line.alloc)?;
+    line.debug((copy, value, place));
     Ok(())
 }
 
 // Whether two indexes are equal, and whether a copy of the second is equal to either; and how that
 // prints.
 fn indexes(line: &mut Line) -> Result<(), Fault> {
-    let left = index(line)?;
-    let right = index(line)?;
+    let left = index(line);
+    let right = index(line);
     let copy = right.copy(line.alloc)?;
-    line.debug(&(left == right, left == copy, right == copy));
-    line.debug(&copy);
+    line.debug((left == right, left == copy, right == copy));
+    line.debug(copy);
     Ok(())
 }
 
 pub(crate) fn call(line: &mut Line) -> Result<(), Fault> {
-    match line.next()? {
+    match line.next() {
         "keys" => keys(line),
         "matrix" => matrix(line),
         "sort" => sort(line),
         "values" => values(line),
         "has" => has(line),
         "ranges" => ranges(line),
-        "copied_cut" => copied_cut(line),
+        "copied" => copied(line),
         "indexes" => indexes(line),
         _ => Err(Fault::NoSuchCall),
     }

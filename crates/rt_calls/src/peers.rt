@@ -7,21 +7,24 @@ use rt_tree::Path;
 use rt_wire::ClientMessage;
 
 // The paths to the end of the line.
-fn paths(line: &mut Line) -> Result<Vec<Path>, Fault> {
+fn paths(line: &mut Line) -> Vec<Path> {
     let mut paths = Vec::new(line.alloc);
     for _ in 0..line.len() {
         if line.is_empty() {
             break;
         }
-        paths.push(line.path()?)?;
+        let path = line.path();
+        line.push(&mut paths, path);
     }
-    Ok(paths)
+    paths
 }
 
 // A peer of a tree, and of denied paths.
-fn new_peer(line: &mut Line) -> Result<Peer, Fault> {
-    let tree = line.tree()?;
-    Ok(Peer::new(tree, paths(line)?))
+fn new(peer: &mut Peer, line: &mut Line) -> Result<(), Fault> {
+    let given = (line.tree(), paths(line));
+    let (tree, paths) = line.given(given)?;
+    *peer = Peer::new(tree, paths);
+    Ok(())
 }
 
 // Whether a peer that lacked memory has failed for good.
@@ -77,25 +80,31 @@ fn connect(peer: &mut Peer, line: &mut Line) -> Result<(), Fault> {
 
 // A message of a connection.
 fn message(peer: &mut Peer, line: &mut Line) -> Result<(), Fault> {
-    let connection = line.number()?;
-    let message = ClientMessage::read(line.alloc, line.next()?)?;
+    let connection = line.number();
+    line.sound()?;
+    let message = ClientMessage::read(line.alloc, line.next())?;
     let answer = peer.message(connection, message);
     tell(peer, answer, line)
 }
 
 fn disconnect(peer: &mut Peer, line: &mut Line) -> Result<(), Fault> {
-    let answer = peer.disconnect(line.number()?);
+    let connection = line.number();
+    let answer = peer.disconnect(line.given(connection)?);
     tell(peer, answer, line)
 }
 
-pub(crate) fn call(peer: &mut Peer, line: &mut Line) -> Result<(), Fault> {
-    match line.next()? {
-        "new" => *peer = new_peer(line)?,
-        "connect" => connect(peer, line)?,
-        "message" => message(peer, line)?,
-        "disconnect" => disconnect(peer, line)?,
-        "tree" => line.say_tree(peer.tree()),
-        _ => return Err(Fault::NoSuchCall),
-    }
+fn tree(peer: &Peer, line: &mut Line) -> Result<(), Fault> {
+    line.say_tree(peer.tree());
     Ok(())
+}
+
+pub(crate) fn call(peer: &mut Peer, line: &mut Line) -> Result<(), Fault> {
+    match line.next() {
+        "new" => new(peer, line),
+        "connect" => connect(peer, line),
+        "message" => message(peer, line),
+        "disconnect" => disconnect(peer, line),
+        "tree" => tree(peer, line),
+        _ => Err(Fault::NoSuchCall),
+    }
 }

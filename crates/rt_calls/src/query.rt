@@ -6,13 +6,14 @@ use rt_query::{Draft, Query, QueryError, Row, Shown};
 
 // Begins a draft.
 fn begin(draft: &mut Draft, line: &mut Line) -> Result<(), Fault> {
-    *draft = Query::at(line.path()?);
+    let path = line.path();
+    *draft = Query::at(line.given(path)?);
     Ok(())
 }
 
 // Makes a call of the draft, and says the draft behind it. A refusal changes nothing.
 fn make(draft: &mut Draft, line: &mut Line) -> Result<(), Fault> {
-    match make_draft(draft, line.alloc, line.next()?)? {
+    match make_draft(draft, line.next(), line) {
         Ok(()) => {}
         Err(QueryError::NoMemory) => return Err(Fault::NoMemory),
         Err(error) => line.refusal(error.code(), error.name(), &error),
@@ -21,50 +22,33 @@ fn make(draft: &mut Draft, line: &mut Line) -> Result<(), Fault> {
     Ok(())
 }
 
-fn tell_query(query: &Query, line: &mut Line) {
+// A query, and whether it is equal to the next one.
+fn tell_beside(query: &Query, line: &mut Line) {
+    let other = line.query();
     line.display(query.path());
-    line.debug(&(query.index(), query.range()));
-    line.debug(&(query.limit(), query.is_filtered()));
+    line.debug((query.index(), query.range()));
+    line.debug((query.limit(), query.is_filtered()));
     line.debug(query);
-}
-
-fn tell_beside(query: &Query, line: &mut Line) -> Result<(), Fault> {
-    let other = line.query()?;
-    tell_query(query, line);
-    line.debug(&(*query == other));
-    Ok(())
-}
-
-fn copy_of(query: &Query, line: &mut Line) -> Result<(), Fault> {
-    let copy = query.copy()?;
-    tell_beside(&copy, line)
-}
-
-fn form_of(query: &Query, line: &mut Line) -> Result<(), Fault> {
-    let form = query.listening_form()?;
-    tell_beside(&form, line)
+    line.debug((*query == other));
 }
 
 // Says a query, its copy, or its listening form, and whether that is equal to another query.
 fn parts(line: &mut Line) -> Result<(), Fault> {
-    let what = line.next()?;
-    let query = line.query()?;
+    let what = line.next();
+    let query = line.query();
     match what {
         "itself" => tell_beside(&query, line),
-        "copy" => copy_of(&query, line),
-        "form" => form_of(&query, line),
-        _ => Err(Fault::NoSuchCall),
+        "copy" => tell_beside(&query.copy()?, line),
+        "form" => tell_beside(&query.listening_form()?, line),
+        _ => return Err(Fault::NoSuchCall),
     }
+    Ok(())
 }
 
 // What a query shows of a tree.
 fn select(line: &mut Line) -> Result<Shown, Fault> {
-    let query = line.query()?;
-    select_by(&query, line)
-}
-
-fn select_by(query: &Query, line: &mut Line) -> Result<Shown, Fault> {
-    let tree = line.tree()?;
+    let query = line.query();
+    let tree = line.tree();
     Ok(query.select(&tree)?)
 }
 
@@ -76,14 +60,14 @@ fn tell_shown(shown: &Shown, line: &mut Line) {
         line.say(" ");
     }
     line.say_tree(shown.tree());
-    line.debug(&shown.leaf().map(|leaf| leaf.value()));
+    line.debug(shown.leaf().map(|leaf| leaf.value()));
 }
 
 fn tell_with_copy(shown: &Shown, line: &mut Line) -> Result<(), Fault> {
     let copy = shown.copy()?;
     tell_shown(shown, line);
     tell_shown(&copy, line);
-    line.debug(&(copy == *shown));
+    line.debug((copy == *shown));
     Ok(())
 }
 
@@ -93,25 +77,17 @@ fn show(line: &mut Line) -> Result<(), Fault> {
     tell_with_copy(&shown, line)
 }
 
-fn compare(left: &Shown, line: &mut Line) -> Result<(), Fault> {
-    let right = select(line)?;
-    line.debug(&(*left == right));
-    Ok(())
-}
-
 // Says whether two queries show the same.
 fn same(line: &mut Line) -> Result<(), Fault> {
     let left = select(line)?;
-    compare(&left, line)
+    let right = select(line)?;
+    line.debug((left == right));
+    Ok(())
 }
 
 // Says the row of a key.
 fn row(line: &mut Line) -> Result<(), Fault> {
     let shown = select(line)?;
-    row_of(&shown, line)
-}
-
-fn row_of(shown: &Shown, line: &mut Line) -> Result<(), Fault> {
     match shown.row(&line.key()?) {
         Some(tree) => line.say_tree(tree),
         None => line.say("none"),
@@ -120,16 +96,17 @@ fn row_of(shown: &Shown, line: &mut Line) -> Result<(), Fault> {
 }
 
 fn read_row(line: &mut Line) -> Result<Row, Fault> {
-    let key = line.key()?;
-    let value = line.tree()?;
-    Ok(Row { key, value })
+    Ok(Row {
+        key: line.key()?,
+        value: line.tree(),
+    })
 }
 
 fn tell_row(row: &Row, other: &Row, line: &mut Line) -> Result<(), Fault> {
     let copy = row.copy(line.alloc)?;
     line.say(copy.key.text());
     line.say_tree(&copy.value);
-    line.debug(&(copy == *row, copy == *other));
+    line.debug((copy == *row, copy == *other));
     Ok(())
 }
 
@@ -143,12 +120,12 @@ fn copy(line: &mut Line) -> Result<(), Fault> {
 // Says how what a query shows of a tree prints.
 fn debug(line: &mut Line) -> Result<(), Fault> {
     let shown = select(line)?;
-    line.debug(&shown);
+    line.debug(shown);
     Ok(())
 }
 
 pub(crate) fn call(draft: &mut Draft, line: &mut Line) -> Result<(), Fault> {
-    match line.next()? {
+    match line.next() {
         "draft" => begin(draft, line),
         "make" => make(draft, line),
         "parts" => parts(line),

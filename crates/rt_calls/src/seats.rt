@@ -24,52 +24,8 @@ fn unnumbered(answer: Result<(), ClientError>) -> Answer {
     Ok(None)
 }
 
-// `listen QUERY`.
-fn listen(shared: &mut Shared, seat: &mut Seat, line: &mut Line) -> Result<Answer, Fault> {
-    let query = line.query()?;
-    Ok(numbered(shared.listen(seat, query)))
-}
-
-// `unlisten LISTENER`.
-fn unlisten(shared: &mut Shared, seat: &mut Seat, line: &mut Line) -> Result<Answer, Fault> {
-    let listener = line.number()?;
-    Ok(unnumbered(shared.unlisten(seat, listener)))
-}
-
-// `set PATH TREE`.
-fn set(shared: &mut Shared, seat: &mut Seat, line: &mut Line) -> Result<Answer, Fault> {
-    let (path, tree) = line.entry()?;
-    Ok(numbered(shared.set(seat, path, tree)))
-}
-
-// `update COUNT` and so many `PATH TREE`.
-fn update(shared: &mut Shared, seat: &mut Seat, line: &mut Line) -> Result<Answer, Fault> {
-    let entries = line.entries()?;
-    Ok(numbered(shared.update(seat, entries)))
-}
-
-// `remove PATH`.
-fn remove(shared: &mut Shared, seat: &mut Seat, line: &mut Line) -> Result<Answer, Fault> {
-    let path = line.path()?;
-    Ok(numbered(shared.remove(seat, path)))
-}
-
-// `on_disconnect ACTION`.
-fn on_disconnect(shared: &mut Shared, seat: &mut Seat, line: &mut Line) -> Result<Answer, Fault> {
-    let action = action(line.next()?, line)?;
-    Ok(numbered(shared.on_disconnect(seat, action)))
-}
-
-// `cancel_disconnect PATH`.
-fn cancel_disconnect(
-    shared: &mut Shared,
-    seat: &mut Seat,
-    line: &mut Line,
-) -> Result<Answer, Fault> {
-    let path = line.path()?;
-    Ok(numbered(shared.cancel_disconnect(seat, path)))
-}
-
+// `listen QUERY`, `unlisten LISTENER`, `set PATH TREE`, `update COUNT` and so many `PATH TREE`,
+// `remove PATH`, `on_disconnect ACTION`, `cancel_disconnect PATH`, or `settle`.
 fn made(
     shared: &mut Shared,
     seat: &mut Seat,
@@ -77,13 +33,35 @@ fn made(
     line: &mut Line,
 ) -> Result<Answer, Fault> {
     match name {
-        "listen" => listen(shared, seat, line),
-        "unlisten" => unlisten(shared, seat, line),
-        "set" => set(shared, seat, line),
-        "update" => update(shared, seat, line),
-        "remove" => remove(shared, seat, line),
-        "on_disconnect" => on_disconnect(shared, seat, line),
-        "cancel_disconnect" => cancel_disconnect(shared, seat, line),
+        "listen" => {
+            let query = line.query();
+            Ok(numbered(shared.listen(seat, line.given(query)?)))
+        }
+        "unlisten" => {
+            let listener = line.number();
+            Ok(unnumbered(shared.unlisten(seat, line.given(listener)?)))
+        }
+        "set" => {
+            let entry = line.entry();
+            let (path, tree) = line.given(entry)?;
+            Ok(numbered(shared.set(seat, path, tree)))
+        }
+        "update" => {
+            let entries = line.entries();
+            Ok(numbered(shared.update(seat, line.given(entries)?)))
+        }
+        "remove" => {
+            let path = line.path();
+            Ok(numbered(shared.remove(seat, line.given(path)?)))
+        }
+        "on_disconnect" => {
+            let action = action(line);
+            Ok(numbered(shared.on_disconnect(seat, line.given(action)?)))
+        }
+        "cancel_disconnect" => {
+            let path = line.path();
+            Ok(numbered(shared.cancel_disconnect(seat, line.given(path)?)))
+        }
         "settle" => Ok(unnumbered(shared.settle(seat))),
         _ => Err(Fault::NoSuchCall),
     }
@@ -121,19 +99,20 @@ fn make(shared: &mut Shared, chair: &mut Chair, name: &str, line: &mut Line) -> 
 }
 
 // The first item of the ring, or `none`.
-fn next(chair: &mut Chair, line: &mut Line) {
+fn next(chair: &mut Chair, line: &mut Line) -> Result<(), Fault> {
     let item = chair.seat.next();
     chair.owed = chair.owed.saturating_sub(1);
     tell_next(item, line);
+    Ok(())
 }
 
 // The mirror takes a copy of an item. Where memory lacks, the item is lost, and all is made anew.
-fn mirror_item(mirror: &mut Mirror, item: &Item, alloc: Global) -> Result<(), Fault> {
-    let copy = item.copy(alloc).map_err(|_| Fault::Failed)?;
-    match mirror.take(copy) {
-        Ok(()) => Ok(()),
-        Err(MailError::NoMemory) => Err(given_up(mirror)),
-        Err(MailError::Failed) => Err(Fault::NoSuchCall),
+fn mirror_item(mirror: &mut Mirror, item: &Item, line: &mut Line) {
+    match item.copy(line.alloc).map(|copy| mirror.take(copy)) {
+        Ok(Ok(())) => {}
+        Ok(Err(MailError::NoMemory)) => line.fail(given_up(mirror)),
+        Ok(Err(MailError::Failed)) => line.fail(Fault::NoSuchCall),
+        Err(_) => line.fail(Fault::Failed),
     }
 }
 
@@ -142,7 +121,7 @@ fn take(chair: &mut Chair, mirror: &mut Mirror, line: &mut Line) -> Result<(), F
     let item = chair.seat.next();
     chair.owed = chair.owed.saturating_sub(1);
     if let Some(item) = &item {
-        mirror_item(mirror, item, line.alloc)?;
+        mirror_item(mirror, item, line);
     }
     tell_next(item, line);
     Ok(())
@@ -151,7 +130,7 @@ fn take(chair: &mut Chair, mirror: &mut Mirror, line: &mut Line) -> Result<(), F
 // The mirror takes what the ring holds; says how many items that are.
 fn take_all(chair: &mut Chair, mirror: &mut Mirror, line: &mut Line) -> Result<(), Fault> {
     match chair.seat.mirror(mirror) {
-        Ok(count) => line.debug(&count),
+        Ok(count) => line.debug(count),
         Err(MailError::NoMemory) => return Err(given_up(mirror)),
         Err(MailError::Failed) => return Err(Fault::NoSuchCall),
     }
@@ -188,13 +167,12 @@ fn call_chair<R: Wait>(
 ) -> Result<(), Fault> {
     match name {
         "next" => next(chair, line),
-        "take" => take(chair, mirror, line)?,
-        "mirror" => take_all(chair, mirror, line)?,
-        "hand_out" => hand_out(chair, line)?,
-        "deliver" => deliver::<R>(client, chair, line)?,
-        _ => make(client.shared.get_mut(), chair, name, line)?,
+        "take" => take(chair, mirror, line),
+        "mirror" => take_all(chair, mirror, line),
+        "hand_out" => hand_out(chair, line),
+        "deliver" => deliver::<R>(client, chair, line),
+        _ => make(client.shared.get_mut(), chair, name, line),
     }
-    Ok(())
 }
 
 fn call_place<R: Wait>(
@@ -203,7 +181,7 @@ fn call_place<R: Wait>(
     mirror: &mut Mirror,
     line: &mut Line,
 ) -> Result<(), Fault> {
-    let name = line.next()?;
+    let name = line.next();
     if name == "close" {
         return close(client.shared.get_mut(), place, line);
     }
@@ -215,7 +193,7 @@ fn call_place<R: Wait>(
 
 // `NUMBER CALL ..`: of the seat of that number, counted from 1 over all clients.
 pub(crate) fn call<R: Wait>(held: &mut Held, line: &mut Line) -> Result<(), Fault> {
-    let number = line.number()? as usize;
+    let number: usize = line.number();
     let Some(client) = &mut held.client else {
         return Err(Fault::NoSuchCall);
     };

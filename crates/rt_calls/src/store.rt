@@ -42,57 +42,64 @@ fn key_of(store: &Store, node: Option<Node>) -> &str {
 
 // What is known of nodes: of each its leaf, its key, and the keys of its first child and of the
 // sibling behind it.
-fn known(store: &Store, alloc: Global, nodes: &[Node]) -> Result<String, AllocError> {
-    let mut text = String::new(alloc);
+fn known(store: &Store, nodes: &[Node], line: &mut Line) -> String {
+    let mut text = String::new(line.alloc);
     for node in nodes {
         let leaf = store.leaf(*node).map(|leaf| leaf.value());
         let key = key_of(store, Some(*node));
         let first = key_of(store, store.first_child(*node));
         let next = key_of(store, store.next_sibling(*node));
-        write!(text, "{leaf:?}, {key}, {first}, {next}; ")?;
+        if write!(text, "{leaf:?}, {key}, {first}, {next}; ").is_err() {
+            line.fail(Fault::NoMemory);
+        }
     }
-    Ok(text)
+    text
 }
 
 // Adds the children of a node in the order of a walk. At most a thousand.
-fn add_children(nodes: &mut Vec<Node>, store: &Store, node: Node) -> Result<(), AllocError> {
+fn add_children(nodes: &mut Vec<Node>, store: &Store, node: Node, line: &mut Line) {
     let mut next = store.first_child(node);
     for _ in 0..1000 {
         let Some(node) = next else {
             break;
         };
-        nodes.push(node)?;
+        line.push(nodes, node);
         next = store.next_sibling(node);
     }
-    Ok(())
 }
 
 // All nodes that a walk comes to, those of a level before those below it. At most some thousand.
-fn nodes(store: &Store, alloc: Global) -> Result<Vec<Node>, AllocError> {
-    let mut nodes = Vec::new(alloc);
-    if let Some(root) = store.at(&Path::root(alloc)) {
-        nodes.push(root)?;
+fn nodes(store: &Store, line: &mut Line) -> Vec<Node> {
+    let mut nodes = Vec::new(line.alloc);
+    if let Some(root) = store.at(&Path::root(line.alloc)) {
+        line.push(&mut nodes, root);
     }
     for place in 0..1000usize {
         let Some(node) = nodes.get(place).copied() else {
             break;
         };
-        add_children(&mut nodes, store, node)?;
+        add_children(&mut nodes, store, node, line);
     }
-    Ok(nodes)
+    nodes
+}
+
+// Says what is known of nodes.
+fn say_known(store: &Store, nodes: &[Node], line: &mut Line) {
+    let text = known(store, nodes, line);
+    line.say(text.as_str());
 }
 
 // Says all nodes of a store.
 fn walk(store: &Store, line: &mut Line) -> Result<(), Fault> {
-    let nodes = nodes(store, line.alloc)?;
-    let text = known(store, line.alloc, nodes.as_slice())?;
-    line.say(text.as_str());
+    let nodes = nodes(store, line);
+    say_known(store, &nodes, line);
     Ok(())
 }
 
 // Says the node at a path, which the state keeps.
 fn at(state: &mut State, line: &mut Line) -> Result<(), Fault> {
-    let path = line.path()?;
+    let path = line.path();
+    line.sound()?;
     state.node = state.store.at(&path);
     kept(state, line)
 }
@@ -100,27 +107,35 @@ fn at(state: &mut State, line: &mut Line) -> Result<(), Fault> {
 // Says what the node that is kept stands for now.
 fn kept(state: &State, line: &mut Line) -> Result<(), Fault> {
     match state.node {
-        Some(node) => line.say(known(&state.store, line.alloc, &[node])?.as_str()),
+        Some(node) => say_known(&state.store, &[node], line),
         None => line.say("no node"),
     }
     Ok(())
 }
 
+// The children of the node at a path, in the order of a walk.
+fn children(store: &Store, path: &Path, line: &mut Line) -> Vec<Node> {
+    let mut nodes = Vec::new(line.alloc);
+    if let Some(node) = store.at(path) {
+        add_children(&mut nodes, store, node, line);
+    }
+    nodes
+}
+
 // Says the part at a path, the keys of its children in the order of a walk, and whether something
 // stands there.
 fn part(store: &Store, line: &mut Line) -> Result<(), Fault> {
-    let path = line.path()?;
-    let part = store.get(line.alloc, &path)?;
-    let mut nodes = Vec::new(line.alloc);
-    if let Some(node) = store.at(&path) {
-        add_children(&mut nodes, store, node)?;
+    let path = line.path();
+    let nodes = children(store, &path, line);
+    match store.get(line.alloc, &path) {
+        Ok(part) => line.say_tree(&part),
+        Err(_) => return Err(Fault::NoMemory),
     }
-    line.say_tree(&part);
     for node in nodes.as_slice() {
         line.say(" ");
         line.say(key_of(store, Some(*node)));
     }
-    line.debug(&(store.has(&path), store.is_null()));
+    line.debug((store.has(&path), store.is_null()));
     Ok(())
 }
 
@@ -128,24 +143,19 @@ fn part(store: &Store, line: &mut Line) -> Result<(), Fault> {
 
 // Sets a tree. A refusal changes nothing, and each node stands for what it stood for.
 fn set_tree(store: &mut Store, path: &Path, tree: &Tree, line: &mut Line) -> Result<(), Fault> {
-    let nodes = nodes(store, line.alloc)?;
-    let before = known(store, line.alloc, nodes.as_slice())?;
+    let nodes = nodes(store, line);
+    let before = known(store, &nodes, line);
+    line.sound()?;
     let answer = store.set(line.alloc, path, tree);
-    if answer.is_err() && has_changed(store, line.alloc, nodes.as_slice(), before.as_str())? {
+    if answer.is_err() && known(store, &nodes, line) != before {
         line.say("has changed ");
     }
     tell_set(answer, line)
 }
 
-// Whether something else is known of nodes than before.
-fn has_changed(
-    store: &Store,
-    alloc: Global,
-    nodes: &[Node],
-    before: &str,
-) -> Result<bool, AllocError> {
-    let text = known(store, alloc, nodes)?;
-    Ok(text.as_str() != before)
+fn set(store: &mut Store, line: &mut Line) -> Result<(), Fault> {
+    let (path, tree) = line.entry();
+    set_tree(store, &path, &tree, line)
 }
 
 fn tell_set(answer: Result<(), StoreError>, line: &mut Line) -> Result<(), Fault> {
@@ -157,38 +167,33 @@ fn tell_set(answer: Result<(), StoreError>, line: &mut Line) -> Result<(), Fault
     Ok(())
 }
 
-fn set(store: &mut Store, line: &mut Line) -> Result<(), Fault> {
-    let path = line.path()?;
-    let tree = line.tree()?;
-    set_tree(store, &path, &tree, line)
-}
-
 fn clear(store: &mut Store, line: &mut Line) -> Result<(), Fault> {
-    store.clear(&line.path()?);
+    let path = line.path();
+    store.clear(&line.given(path)?);
     Ok(())
 }
 
 // ---- runs of changes
 
 // A change: a path and what is set there, or `-` where it is cleared.
-fn change(line: &mut Line) -> Result<Change, Fault> {
-    let path = line.path()?;
-    match line.next()? {
-        "-" => Ok(Change::Clear(path)),
-        text => Ok(Change::Set(path, Tree::read(line.alloc, text)?)),
+fn change(line: &mut Line) -> Change {
+    let path = line.path();
+    match line.next() {
+        "-" => Change::Clear(path),
+        text => Change::Set(path, line.tree_of(text)),
     }
 }
 
-fn changes(line: &mut Line) -> Result<Vec<Change>, Fault> {
+fn changes(line: &mut Line) -> Vec<Change> {
     let mut changes = Vec::new(line.alloc);
     for _ in 0..1000 {
         if line.is_empty() {
             break;
         }
-        let change = change(line)?;
-        changes.push(change).map_err(|_| Fault::NoMemory)?;
+        let change = change(line);
+        line.push(&mut changes, change);
     }
-    Ok(changes)
+    changes
 }
 
 // Makes a change of a tree, unless it is too deep.
@@ -203,60 +208,54 @@ fn make(tree: &mut Tree, alloc: Global, change: &Change) -> Result<(), Fault> {
     }
 }
 
-// Whether a tree is what some of the changes, but not all, make of the tree before them.
-fn is_midway(alloc: Global, tree: &Tree, before: &Tree, changes: &[Change]) -> Result<bool, Fault> {
-    let mut made = before.copy(alloc)?;
+// Whether a tree is what some of the changes, but not all, make of the tree before them, which is
+// changed.
+fn is_midway(tree: &Tree, before: &mut Tree, changes: &[Change], line: &mut Line) -> bool {
     for change in changes {
-        if made == *tree {
-            return Ok(true);
+        if *before == *tree {
+            return true;
         }
-        make(&mut made, alloc, change)?;
+        if let Err(fault) = make(before, line.alloc, change) {
+            line.fail(fault);
+        }
     }
-    Ok(false)
+    false
 }
 
 // A run that lacks memory has made some of its changes, but not all.
 fn run(store: &mut Store, line: &mut Line) -> Result<(), Fault> {
-    let changes = changes(line)?;
-    run_changes(store, changes.as_slice(), line)
-}
-
-fn run_changes(store: &mut Store, changes: &[Change], line: &mut Line) -> Result<(), Fault> {
+    let changes = changes(line);
     let before = whole(store, line.alloc)?;
-    match store.run(line.alloc, changes) {
-        Ok(()) => {
-            line.say("Ok");
-            Ok(())
-        }
-        Err(error) => {
-            tell_midway(store, &before, changes, line)?;
-            Err(fault(error))
-        }
+    line.sound()?;
+    match store.run(line.alloc, &changes) {
+        Ok(()) => line.say("Ok"),
+        Err(error) => return Err(midway(error, store, before, &changes, line)),
     }
+    Ok(())
 }
 
 fn whole(store: &Store, alloc: Global) -> Result<Tree, AllocError> {
     store.get(alloc, &Path::root(alloc))
 }
 
-fn tell_midway(
+fn midway(
+    error: StoreError,
     store: &Store,
-    before: &Tree,
+    mut before: Tree,
     changes: &[Change],
     line: &mut Line,
-) -> Result<(), Fault> {
-    let after = whole(store, line.alloc)?;
-    if !is_midway(line.alloc, &after, before, changes)? {
-        line.say("is not midway ");
+) -> Fault {
+    match whole(store, line.alloc) {
+        Ok(after) if is_midway(&after, &mut before, changes, line) => fault(error),
+        Ok(_) | Err(_) => Fault::NoSuchCall,
     }
-    Ok(())
 }
 
 // Says how a store, its node, and the change that clears a path print.
 fn debug(state: &State, line: &mut Line) -> Result<(), Fault> {
-    let change = Change::Clear(line.path()?);
+    let change = Change::Clear(line.path());
     line.debug(&state.store);
-    line.debug(&(state.node, change));
+    line.debug((state.node, change));
     Ok(())
 }
 
@@ -266,7 +265,7 @@ fn renew(state: &mut State, alloc: Global) -> Result<(), Fault> {
 }
 
 pub(crate) fn call(state: &mut State, line: &mut Line) -> Result<(), Fault> {
-    match line.next()? {
+    match line.next() {
         "new" => renew(state, line.alloc),
         "set" => set(&mut state.store, line),
         "clear" => clear(&mut state.store, line),

@@ -18,10 +18,7 @@ fn say_text(made: Result<Option<String>, AllocError>, line: &mut Line) -> bool {
             line.say(text.as_str());
         }
         Ok(None) => {}
-        Err(_) => {
-            line.say("NoMemory\n");
-            return false;
-        }
+        Err(_) => return line.lacks(),
     }
     true
 }
@@ -95,7 +92,7 @@ pub(crate) fn tell_reason(why: Option<&Reason>, line: &mut Line) {
     }
 }
 
-pub(crate) fn tell_receipt(receipt: &Receipt, line: &mut Line) {
+fn tell_receipt(receipt: &Receipt, line: &mut Line) {
     match receipt {
         Receipt::Listened { listener, query } => {
             tell_number("listened ", *listener, line);
@@ -169,7 +166,7 @@ pub(crate) fn tell_kept(listens: &[Kept], line: &mut Line) {
         line.say("none");
     }
     for kept in listens {
-        line.debug(&(kept.tag, kept.listener));
+        line.debug((kept.tag, kept.listener));
         line.display(kept.query.path());
     }
 }

@@ -49,51 +49,37 @@ fn done(answer: Result<(), TreeError>, line: &mut Line) -> Result<(), Fault> {
 // ---- keys and paths
 
 fn key(line: &mut Line) -> Result<(), Fault> {
-    let text = line.repeated()?;
+    let text = line.repeated();
     let right = line.key()?;
-    key_beside(text.as_str(), &right, line)
-}
-
-fn key_beside(text: &str, right: &Key, line: &mut Line) -> Result<(), Fault> {
-    match Key::parse(line.alloc, text) {
-        Ok(left) => {
-            tell_keys(&left, right, line);
-            Ok(())
-        }
-        Err(error) => refused(error, line),
+    match Key::parse(line.alloc, text.as_str()) {
+        Ok(left) => tell_keys(&left, &right, line),
+        Err(error) => return refused(error, line),
     }
+    Ok(())
 }
 
 // A copy of a key takes no memory.
 fn tell_keys(left: &Key, right: &Key, line: &mut Line) {
     let is_same = left.copy().map(|copy| copy == *right);
-    line.debug(&(left.as_str().len(), left.cmp(right), is_same));
+    line.debug((left.as_str().len(), left.cmp(right), is_same));
     line.display(right);
 }
 
 fn path(line: &mut Line) -> Result<(), Fault> {
-    let text = line.repeated()?;
-    let right = line.path()?;
-    path_beside(text.as_str(), &right, line)
-}
-
-fn path_beside(text: &str, right: &Path, line: &mut Line) -> Result<(), Fault> {
-    match Path::parse(line.alloc, text) {
-        Ok(left) => copied_beside(&left, right, line),
+    let text = line.repeated();
+    let right = line.path();
+    match Path::parse(line.alloc, text.as_str()) {
+        Ok(left) => tell_paths(&left, &right, line),
         Err(error) => refused(error, line),
     }
 }
 
-fn copied_beside(left: &Path, right: &Path, line: &mut Line) -> Result<(), Fault> {
-    let copy = left.copy()?;
-    tell_paths(&copy, right, line)
-}
-
 fn tell_paths(left: &Path, right: &Path, line: &mut Line) -> Result<(), Fault> {
-    let text = left.text()?;
-    line.debug(&(left.keys().len(), left.cmp(right), left == right));
-    let rest = right.strip_prefix(left).map(|rest| rest.len());
-    line.debug(&(left.is_prefix_of(right), rest));
+    let copy = left.copy()?;
+    let text = copy.text()?;
+    line.debug((copy.keys().len(), copy.cmp(right), copy == *right));
+    let rest = right.strip_prefix(&copy).map(|rest| rest.len());
+    line.debug((copy.is_prefix_of(right), rest));
     line.display(right);
     line.say(" ");
     line.say(text.as_str());
@@ -102,13 +88,9 @@ fn tell_paths(left: &Path, right: &Path, line: &mut Line) -> Result<(), Fault> {
 
 // A path and a key below it, and the path of the keys of both.
 fn child(line: &mut Line) -> Result<(), Fault> {
-    let text = line.repeated()?;
-    let path = Path::parse(line.alloc, text.as_str())?;
-    child_of(&path, line)
-}
-
-fn child_of(path: &Path, line: &mut Line) -> Result<(), Fault> {
+    let text = line.repeated();
     let key = line.key()?;
+    let path = Path::parse(line.alloc, text.as_str())?;
     match path.child(&key) {
         Ok(child) => tell_child(&child, line),
         Err(error) => refused(error, line),
@@ -127,8 +109,9 @@ fn tell_child(child: &Path, line: &mut Line) -> Result<(), Fault> {
 
 fn many_keys(line: &mut Line) -> Result<Vec<Key>, Fault> {
     let mut keys = Vec::new(line.alloc);
-    for _ in 0..line.number()? {
-        keys.push(Key::parse(line.alloc, "k")?)?;
+    for _ in 0..line.number::<u64>() {
+        let key = Key::parse(line.alloc, "k")?;
+        line.push(&mut keys, key);
     }
     Ok(keys)
 }
@@ -137,43 +120,44 @@ fn many_keys(line: &mut Line) -> Result<Vec<Key>, Fault> {
 fn keys(line: &mut Line) -> Result<(), Fault> {
     let keys = many_keys(line)?;
     match Path::from_keys(line.alloc, keys.as_slice()) {
-        Ok(path) => {
-            line.display(&path);
-            Ok(())
-        }
-        Err(error) => refused(error, line),
+        Ok(path) => line.display(&path),
+        Err(error) => return refused(error, line),
     }
+    Ok(())
 }
 
 // ---- leaves
 
 fn leaf(line: &mut Line) -> Result<(), Fault> {
-    match read_leaf(line)? {
+    match read_leaf(line) {
         Ok(leaf) => tell_leaf(&leaf, line),
         Err(error) => refused(error, line),
     }
 }
 
-fn read_leaf(line: &mut Line) -> Result<Result<Leaf, TreeError>, Fault> {
-    match line.next()? {
-        "truth" => Ok(Ok(Leaf::truth(line.number()? == 1))),
-        "number" => {
-            let number = line.next()?.parse().map_err(|_| Fault::NoSuchCall)?;
-            Ok(Leaf::number(number))
-        }
-        "text" => Ok(Leaf::text(line.repeated()?)),
-        _ => Err(Fault::NoSuchCall),
+fn read_leaf(line: &mut Line) -> Result<Leaf, TreeError> {
+    match line.next() {
+        "truth" => Ok(Leaf::truth(line.number::<u8>() == 1)),
+        "number" => Leaf::number(line.number()),
+        _ => Leaf::text(line.repeated()),
     }
 }
 
 // A copy of the tree of a copy of a leaf: whether its leaf is equal, and whether that is true; what
 // the leaf is as each kind; and the tree.
 fn tell_leaf(leaf: &Leaf, line: &mut Line) -> Result<(), Fault> {
-    let tree = Tree::leaf(leaf.copy(line.alloc)?).copy(line.alloc)?;
-    line.debug(&(tree.as_leaf() == Some(leaf), *leaf == Leaf::truth(true)));
-    line.debug(&(leaf.as_bool(), leaf.as_i64(), leaf.as_str()));
-    line.say_tree(&tree);
+    let tree = Tree::leaf(leaf.copy(line.alloc)?);
+    let copy = tree.copy(line.alloc);
+    drop(tree);
+    tell_leaf_tree(leaf, copy?, line);
     Ok(())
+}
+
+fn tell_leaf_tree(leaf: &Leaf, tree: Tree, line: &mut Line) {
+    line.debug((tree.as_leaf() == Some(leaf), *leaf == Leaf::truth(true)));
+    line.debug((leaf.as_bool(), leaf.as_i64(), leaf.as_str()));
+    line.say_tree(&tree);
+    drop(tree);
 }
 
 // ---- trees
@@ -185,44 +169,41 @@ fn tell(part: Option<&Tree>, line: &mut Line) {
     };
     let count = part.children().map(|children| children.len());
     let leaf = part.as_leaf().map(|leaf| leaf.value());
-    line.debug(&(part.levels(), count, leaf));
+    line.debug((part.levels(), count, leaf));
     line.say_tree(part);
 }
 
 fn read(line: &mut Line) -> Result<(), Fault> {
     match Tree::read(line.alloc, line.rest()) {
-        Ok(tree) => {
-            line.say_tree(&tree);
-            Ok(())
-        }
-        Err(error) => refused(error, line),
+        Ok(tree) => line.say_tree(&tree),
+        Err(error) => return refused(error, line),
     }
+    Ok(())
 }
 
 // A text of three pieces, each so many times: the levels of what it is read as, the number of its
 // children, and whether it is null.
 fn long(line: &mut Line) -> Result<(), Fault> {
-    let text = joined(line)?;
+    let text = joined(line);
     match Tree::read(line.alloc, text.as_str()) {
-        Ok(tree) => {
-            tell_size(&tree, line);
-            Ok(())
-        }
-        Err(error) => refused(error, line),
+        Ok(tree) => tell_size(&tree, line),
+        Err(error) => return refused(error, line),
     }
+    Ok(())
 }
 
-fn joined(line: &mut Line) -> Result<String, Fault> {
+fn joined(line: &mut Line) -> String {
     let mut text = String::new(line.alloc);
     for _ in 0..3 {
-        text.push_str(line.repeated()?.as_str())?;
+        let piece = line.repeated();
+        line.add(&mut text, piece.as_str());
     }
-    Ok(text)
+    text
 }
 
 fn tell_size(tree: &Tree, line: &mut Line) {
     let count = tree.children().map(|children| children.len());
-    line.debug(&(tree.levels(), count, tree.is_null()));
+    line.debug((tree.levels(), count, tree.is_null()));
 }
 
 // What a value is taken as and given again.
@@ -249,28 +230,26 @@ fn tell_value(tree: &Tree, line: &mut Line) -> Result<(), Fault> {
 
 // Whether two texts are read as equal trees, and whether a copy of the one is equal to it.
 fn compare(line: &mut Line) -> Result<(), Fault> {
-    let left = line.tree()?;
-    let right = Tree::read(line.alloc, line.rest())?;
-    tell_equal(&left, &right, line)
-}
-
-fn tell_equal(left: &Tree, right: &Tree, line: &mut Line) -> Result<(), Fault> {
-    let copy = left.copy(line.alloc)?;
-    line.debug(&(left == right, copy == *left));
+    let left = line.tree();
+    let right = line.tree_of(line.rest());
+    match left.copy(line.alloc) {
+        Ok(copy) => line.debug((left == right, copy == left)),
+        Err(_) => line.fail(Fault::NoMemory),
+    }
     Ok(())
 }
 
 // Puts a tree at a path. The next word may be what the whole was before: a put that lacks memory
 // has to leave that.
 fn put(tree: &mut Tree, line: &mut Line) -> Result<(), Fault> {
-    let path = line.path()?;
-    let part = line.tree()?;
+    let entry = line.entry();
+    let (path, part) = line.given(entry)?;
     let answer = tree.put(line.alloc, &path, part);
     tell_put(tree, answer, line)
 }
 
 fn tell_put(tree: &Tree, answer: Result<(), TreeError>, line: &mut Line) -> Result<(), Fault> {
-    if answer == Err(TreeError::NoMemory) && !line.is_empty() && line.tree()? != *tree {
+    if answer == Err(TreeError::NoMemory) && !line.is_empty() && line.tree() != *tree {
         line.say("changed");
     }
     done(answer, line)
@@ -278,11 +257,10 @@ fn tell_put(tree: &Tree, answer: Result<(), TreeError>, line: &mut Line) -> Resu
 
 // Puts a truth value over another in a tree that shares nothing, which takes no memory.
 fn put_in_place(tree: &mut Tree, line: &mut Line) -> Result<(), Fault> {
-    let path = line.path()?;
-    if tree
-        .put(line.alloc, &path, Tree::leaf(Leaf::truth(false)))
-        .is_err()
-    {
+    let path = line.path();
+    line.sound()?;
+    let leaf = Tree::leaf(Leaf::truth(false));
+    if tree.put(line.alloc, &path, leaf).is_err() {
         line.say("refused");
     }
     Ok(())
@@ -295,8 +273,8 @@ fn pairs(line: &mut Line) -> Result<Vec<(Key, Tree)>, Fault> {
         if line.is_empty() {
             break;
         }
-        let key = line.key()?;
-        pairs.push((key, line.tree()?))?;
+        let pair = (line.key()?, line.tree());
+        line.push(&mut pairs, pair);
     }
     Ok(pairs)
 }
@@ -304,32 +282,30 @@ fn pairs(line: &mut Line) -> Result<Vec<(Key, Tree)>, Fault> {
 // The object of children in turn.
 fn children(line: &mut Line) -> Result<(), Fault> {
     match Tree::from_children(line.alloc, pairs(line)?) {
-        Ok(tree) => {
-            line.say_tree(&tree);
-            Ok(())
-        }
-        Err(error) => refused(error, line),
+        Ok(tree) => line.say_tree(&tree),
+        Err(error) => return refused(error, line),
     }
-}
-
-// The tree {"a": tree, "b": tree}.
-fn double(tree: &mut Tree, alloc: Global) -> Result<(), Fault> {
-    let both = doubled(tree, alloc)?;
-    *tree = both;
     Ok(())
 }
 
-fn doubled(tree: &Tree, alloc: Global) -> Result<Tree, Fault> {
-    let mut both = Tree::null();
-    put_copy(&mut both, alloc, "a", tree)?;
-    put_copy(&mut both, alloc, "b", tree)?;
-    Ok(both)
+// The tree {"a": tree, "b": tree}.
+fn double(tree: &mut Tree, line: &mut Line) -> Result<(), Fault> {
+    let mut pairs = Vec::new(line.alloc);
+    add_copy(&mut pairs, "a", tree, line)?;
+    add_copy(&mut pairs, "b", tree, line)?;
+    *tree = Tree::from_children(line.alloc, line.given(pairs)?)?;
+    Ok(())
 }
 
-fn put_copy(both: &mut Tree, alloc: Global, name: &str, tree: &Tree) -> Result<(), Fault> {
-    let path = Path::parse(alloc, name)?;
-    let copy = tree.copy(alloc)?;
-    both.put(alloc, &path, copy)?;
+fn add_copy(
+    pairs: &mut Vec<(Key, Tree)>,
+    name: &str,
+    tree: &Tree,
+    line: &mut Line,
+) -> Result<(), Fault> {
+    let key = Key::parse(line.alloc, name)?;
+    let copy = tree.copy(line.alloc)?;
+    line.push(pairs, (key, copy));
     Ok(())
 }
 
@@ -346,15 +322,16 @@ fn copy(state: &mut State, line: &mut Line) -> Result<(), Fault> {
 // whether that is equal to the tree; or how the tree prints. Or the copy and the tree are swapped,
 // or the copy is dropped.
 fn part(state: &mut State, line: &mut Line) -> Result<(), Fault> {
-    let path = line.path()?;
-    match line.next()? {
+    let path = line.path();
+    line.sound()?;
+    match line.next() {
         "tree" => tell(state.tree.get(&path), line),
         "keys" => tell(state.tree.at(path.keys()), line),
         "copy" => {
-            line.debug(&(state.copy == state.tree));
+            line.debug((state.copy == state.tree));
             tell(state.copy.at(path.keys()), line);
         }
-        "debug" => line.debug(&state.tree.get(&path)),
+        "debug" => line.debug(state.tree.get(&path)),
         "swap" => std::mem::swap(&mut state.copy, &mut state.tree),
         "drop" => state.copy = Tree::null(),
         _ => return Err(Fault::NoSuchCall),
@@ -363,7 +340,7 @@ fn part(state: &mut State, line: &mut Line) -> Result<(), Fault> {
 }
 
 pub(crate) fn call(state: &mut State, line: &mut Line) -> Result<(), Fault> {
-    match line.next()? {
+    match line.next() {
         "key" => key(line),
         "path" => path(line),
         "child" => child(line),
@@ -376,7 +353,7 @@ pub(crate) fn call(state: &mut State, line: &mut Line) -> Result<(), Fault> {
         "children" => children(line),
         "put" => put(&mut state.tree, line),
         "put_in_place" => put_in_place(&mut state.tree, line),
-        "double" => double(&mut state.tree, line.alloc),
+        "double" => double(&mut state.tree, line),
         "copy" => copy(state, line),
         "get" => part(state, line),
         _ => Err(Fault::NoSuchCall),

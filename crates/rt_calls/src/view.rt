@@ -58,7 +58,7 @@ fn tell(changes: &ChangeList, line: &mut Line) {
 
 // What a query shows of a tree.
 fn shown_of(query: &Query, line: &mut Line) -> Result<Shown, Fault> {
-    let tree = line.tree()?;
+    let tree = line.tree();
     Ok(query.select(&tree)?)
 }
 
@@ -72,18 +72,15 @@ fn to_next(query: &Query, old: Option<&Shown>, line: &mut Line) -> Result<(), Fa
 
 // The changes from what a query shows of one tree to what it shows of another.
 fn between(line: &mut Line) -> Result<(), Fault> {
-    let query = line.query()?;
-    between_by(&query, line)
-}
-
-fn between_by(query: &Query, line: &mut Line) -> Result<(), Fault> {
-    let old = shown_of(query, line)?;
-    to_next(query, Some(&old), line)
+    let query = line.query();
+    let old = shown_of(&query, line)?;
+    to_next(&query, Some(&old), line)
 }
 
 // The changes from nothing to what a query shows of a tree.
 fn at_first(line: &mut Line) -> Result<(), Fault> {
-    to_next(&line.query()?, None, line)
+    let query = line.query();
+    to_next(&query, None, line)
 }
 
 // What a view told, which is kept, and its counts since.
@@ -96,15 +93,11 @@ fn turn(view: &View, told: &mut Batch, changes: ChangeList, line: &mut Line) {
     told.changes = changes;
 }
 
-fn view_of(line: &mut Line) -> Result<(View, ChangeList), Fault> {
-    let query = line.query()?;
-    let known = line.tree()?;
-    Ok(View::first(line.alloc, query, known)?)
-}
-
 // A view of a query and a tree.
 fn first(state: &mut State, line: &mut Line) -> Result<(), Fault> {
-    let (view, changes) = view_of(line)?;
+    let given = (line.query(), line.tree());
+    let (query, known) = line.given(given)?;
+    let (view, changes) = View::first(line.alloc, query, known)?;
     turn(&view, &mut state.told, changes, line);
     state.view = Some(view);
     state.children = BTreeMap::new(line.alloc);
@@ -116,9 +109,9 @@ fn named(line: &mut Line) -> Result<Vec<(Key, Tree)>, Fault>
     ensures { IfOk result (λ named. All (λ c. levels c.1 ≤ MAX_KEYS) named.items) }
 {
     let mut named = Vec::new(line.alloc);
-    for _ in 0..line.number()? {
+    for _ in 0..line.number::<u64>() {
         let key = line.key()?;
-        let value = line.tree()?;
+        let value = line.tree();
         if value.levels() > MAX_KEYS {
             return Err(Fault::NoSuchCall);
         }
@@ -156,12 +149,10 @@ fn answered(
     line: &mut Line,
 ) -> Result<(), Fault> {
     match answer {
-        Ok(changes) => {
-            turn(view, told, changes, line);
-            Ok(())
-        }
-        Err(error) => Err(fault(view, line.alloc, error)),
+        Ok(changes) => turn(view, told, changes, line),
+        Err(error) => return Err(fault(view, line.alloc, error)),
     }
+    Ok(())
 }
 
 // The view touched by named children.
@@ -169,7 +160,9 @@ fn touch(state: &mut State, line: &mut Line) -> Result<(), Fault> {
     let Some(view) = &mut state.view else {
         return Err(Fault::NoSuchCall);
     };
-    let answer = view.touch(line.alloc, named(line)?);
+    let named = named(line)?;
+    line.sound()?;
+    let answer = view.touch(line.alloc, named);
     answered(view, &mut state.told, answer, line)
 }
 
@@ -178,7 +171,8 @@ fn renew(state: &mut State, line: &mut Line) -> Result<(), Fault> {
     let Some(view) = &mut state.view else {
         return Err(Fault::NoSuchCall);
     };
-    let answer = view.renew(line.alloc, line.tree()?);
+    let tree = line.tree();
+    let answer = view.renew(line.alloc, line.given(tree)?);
     answered(view, &mut state.told, answer, line)
 }
 
@@ -224,7 +218,8 @@ fn play(state: &mut State, line: &mut Line) -> Result<(), Fault> {
 
 // A copy of what was told last, to this listener.
 fn copy(state: &mut State, line: &mut Line) -> Result<(), Fault> {
-    state.told.listener = line.number()?;
+    let listener = line.number();
+    state.told.listener = line.given(listener)?;
     let copy = state.told.copy()?;
     line.display(&copy.listener);
     line.say(" ");
@@ -234,7 +229,7 @@ fn copy(state: &mut State, line: &mut Line) -> Result<(), Fault> {
 
 // Of what was told last, the changes of some kinds, by their first letters.
 fn kinds(told: &Batch, line: &mut Line) -> Result<(), Fault> {
-    let word = line.next()?;
+    let word = line.next();
     let kinds = Kinds {
         removed: word.contains('r'),
         added: word.contains('a'),
@@ -243,14 +238,14 @@ fn kinds(told: &Batch, line: &mut Line) -> Result<(), Fault> {
         value: word.contains('v'),
     };
     let changes = of_kinds(line.alloc, told, kinds)?;
-    line.debug(&kinds);
+    line.debug(kinds);
     line.say(" ");
     tell(&changes, line);
     Ok(())
 }
 
 pub(crate) fn call(state: &mut State, line: &mut Line) -> Result<(), Fault> {
-    match line.next()? {
+    match line.next() {
         "changes" => between(line),
         "at_first" => at_first(line),
         "first" => first(state, line),

@@ -15,12 +15,16 @@ fn written(alloc: Global, side: &str, text: &str) -> Result<String, WireError> {
 
 fn of_server(alloc: Global, text: &str) -> Result<String, WireError> {
     let message = ServerMessage::read(alloc, text)?;
-    Ok(message.text(alloc)?)
+    let again = message.text(alloc);
+    drop(message);
+    Ok(again?)
 }
 
 fn of_client(alloc: Global, text: &str) -> Result<String, WireError> {
     let message = ClientMessage::read(alloc, text)?;
-    Ok(message.text(alloc)?)
+    let again = message.text(alloc);
+    drop(message);
+    Ok(again?)
 }
 
 // Says a message, or the name of a refusal.
@@ -35,8 +39,8 @@ fn say(message: Result<String, WireError>, line: &mut Line) -> Result<(), Fault>
 
 // A side, and the pieces of a message: what it is read as, written again.
 fn read(line: &mut Line) -> Result<(), Fault> {
-    let side = line.next()?;
-    let text = line.pieces()?;
+    let side = line.next();
+    let text = line.pieces();
     say(written(line.alloc, side, text.as_str()), line)
 }
 
@@ -58,18 +62,18 @@ fn broken_off(alloc: Global, side: &str, text: &str) -> Result<u64, Fault> {
 // A side and a message: how many of its proper prefixes are not JSON, and what it is read as,
 // written again.
 fn prefixes(line: &mut Line) -> Result<(), Fault> {
-    let side = line.next()?;
-    let text = line.next()?;
+    let side = line.next();
+    let text = line.next();
     let count = broken_off(line.alloc, side, text)?;
     say(written(line.alloc, side, text), line)?;
-    line.debug(&count);
+    line.debug(count);
     Ok(())
 }
 
 // The parts of a message of the server.
 fn server(line: &mut Line) -> Result<(), Fault> {
-    match ServerMessage::read(line.alloc, line.next()?) {
-        Ok(message) => line.debug(&message),
+    match ServerMessage::read(line.alloc, line.next()) {
+        Ok(message) => line.debug(message),
         Err(error) => return say(Err(error), line),
     }
     Ok(())
@@ -77,8 +81,12 @@ fn server(line: &mut Line) -> Result<(), Fault> {
 
 // The parts of a message of the client; of a listen, the text of its `q`.
 fn client(line: &mut Line) -> Result<(), Fault> {
-    match ClientMessage::read(line.alloc, line.next()?) {
-        Ok(message) => tell_client(&message, line),
+    match ClientMessage::read(line.alloc, line.next()) {
+        Ok(message) => {
+            let told = tell_client(&message, line);
+            drop(message);
+            told
+        }
         Err(error) => say(Err(error), line),
     }
 }
@@ -103,15 +111,15 @@ fn q(query: &Query, line: &mut Line) -> Result<(), Fault> {
 
 // A copy of the reason with that text.
 fn reason(line: &mut Line) -> Result<(), Fault> {
-    let why = Reason::of(line.text()?);
+    let why = Reason::of(line.text());
     let copy = why.copy(line.alloc)?;
     line.say(copy.text());
-    line.debug(&copy);
+    line.debug(copy);
     Ok(())
 }
 
 pub(crate) fn call(line: &mut Line) -> Result<(), Fault> {
-    match line.next()? {
+    match line.next() {
         "read" => read(line),
         "prefixes" => prefixes(line),
         "server" => server(line),

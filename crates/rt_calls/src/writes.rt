@@ -13,8 +13,7 @@ use std::alloc::Global;
 fn entry(line: &mut Line) -> Result<(Path, Tree), Fault>
     ensures { IfOk result IsShallow }
 {
-    let path = line.path()?;
-    let tree = line.tree()?;
+    let (path, tree) = line.entry();
     if !is_shallow(&path, &tree) {
         return Err(Fault::NoSuchCall);
     }
@@ -26,7 +25,7 @@ fn entries(line: &mut Line) -> Result<Vec<(Path, Tree)>, Fault>
     ensures { IfOk result (λ entries. All IsShallow entries.items) }
 {
     let mut entries = Vec::new(line.alloc);
-    for _ in 0..line.number()? {
+    for _ in 0..line.number::<u64>() {
         entries.push(entry(line)?)?;
     }
     Ok(entries)
@@ -43,24 +42,26 @@ fn tell_entries(entries: &[(Path, Tree)], line: &mut Line) {
 
 // A write of a number above all others: whether it was added, and then how many are pending.
 fn add(pending: &mut Pending, line: &mut Line) -> Result<(), Fault> {
-    let id = line.number()?;
+    let id = line.number();
+    let entries = entries(line)?;
+    line.sound()?;
     if !pending.is_above_all(id) {
         return Err(Fault::NoSuchCall);
     }
-    let entries = entries(line)?;
     match pending.add(id, entries) {
         Ok(()) => line.say("added"),
         Err(WriteError::NoMemory) => return Err(Fault::NoMemory),
         Err(error) => line.refusal(error.code(), error.name(), &error),
     }
     line.say(" ");
-    line.debug(&pending.len());
+    line.debug(pending.len());
     Ok(())
 }
 
 // The entries of the write of a number, which is taken out.
 fn take(pending: &mut Pending, line: &mut Line) -> Result<(), Fault> {
-    match pending.take(line.number()?)? {
+    let id = line.number();
+    match pending.take(line.given(id)?)? {
         Some(entries) => tell_entries(&entries, line),
         None => line.say("none"),
     }
@@ -77,25 +78,24 @@ fn show(pending: &Pending, line: &mut Line) -> Result<(), Fault> {
 
 // Whether a path is set whole, and whether its child of a key is.
 fn whole(pending: &Pending, line: &mut Line) -> Result<(), Fault> {
-    let path = line.path()?;
+    let path = line.path();
     let key = line.key()?;
     let is_child_set = pending.sets_child_whole(&path, &key);
-    line.debug(&(pending.sets_whole(&path), is_child_set));
+    line.debug((pending.sets_whole(&path), is_child_set));
     Ok(())
 }
 
 // How many writes are pending, whether none is, and whether a number is above all of theirs.
 fn count(pending: &Pending, line: &mut Line) -> Result<(), Fault> {
-    let is_above_all = pending.is_above_all(line.number()?);
-    line.debug(&(pending.len(), pending.is_empty(), is_above_all));
+    let is_above_all = pending.is_above_all(line.number());
+    line.debug((pending.len(), pending.is_empty(), is_above_all));
     Ok(())
 }
 
 // Whether a path and a tree together have at most 32 levels of keys.
 fn shallow(line: &mut Line) -> Result<(), Fault> {
-    let path = line.path()?;
-    let tree = line.tree()?;
-    line.debug(&is_shallow(&path, &tree));
+    let (path, tree) = line.entry();
+    line.debug(is_shallow(&path, &tree));
     Ok(())
 }
 
@@ -104,7 +104,7 @@ fn copy(line: &mut Line) -> Result<(), Fault> {
     let entries = Entries::of(entries(line)?);
     let copies = entries.copy()?;
     let is_same = copies.as_slice() == entries.as_slice();
-    line.debug(&(entries.have_overlap(), is_same));
+    line.debug((entries.have_overlap(), is_same));
     tell_entries(&copies.into_vec(), line);
     Ok(())
 }
@@ -120,7 +120,7 @@ fn debug(pending: &Pending, line: &mut Line) -> Result<(), Fault> {
 }
 
 pub(crate) fn call(pending: &mut Pending, line: &mut Line) -> Result<(), Fault> {
-    match line.next()? {
+    match line.next() {
         "new" => renew(pending, line.alloc),
         "add" => add(pending, line),
         "take" => take(pending, line),
