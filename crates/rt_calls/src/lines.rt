@@ -11,6 +11,8 @@ fn is_passed_over(text: &str) -> bool {
     text.is_empty() || text.starts_with('#')
 }
 
+// Makes the call of a line. Why the line failed counts above what the call answers, but for a word
+// that stands for nothing, beside which memory may have lacked.
 fn call<'a, R: Wait>(state: &mut State, text: &'a str, line: &mut Line<'a>) -> Result<(), Fault> {
     line.begin(text);
     let answer = state.call::<R>(line);
