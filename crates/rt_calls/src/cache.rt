@@ -5,7 +5,7 @@ ghost use Rattle.rt_cache.specs.Recover.{do_plains_overlap};
 ghost use Rattle.rt_cache.specs.Runs.{IsAllowed};
 
 use crate::fault::Fault;
-use crate::line::Line;
+use crate::line::{Line, Word};
 use rt_cache::{Base, Brought, Call, QueryList};
 use rt_query::Query;
 use rt_tree::MAX_LEVELS;
@@ -106,10 +106,10 @@ fn push(line: &mut Line) -> Result<Call, Fault>
 }
 
 // A push, or a change of cover.
-fn call_of(name: &str, line: &mut Line) -> Result<Call, Fault>
+fn call_of(name: Word, line: &mut Line) -> Result<Call, Fault>
     ensures { IfOk result (λ call. IsAllowed call) }
 {
-    if name == "put" {
+    if line.at(name) == "put" {
         return push(line);
     }
     let registered = queries(line);
@@ -142,7 +142,7 @@ fn make_watched(state: &mut State, call: &Call, line: &mut Line) -> Result<(), F
     Ok(())
 }
 
-fn change(state: &mut State, name: &str, line: &mut Line) -> Result<(), Fault> {
+fn change(state: &mut State, name: Word, line: &mut Line) -> Result<(), Fault> {
     let call = call_of(name, line)?;
     make_watched(state, &call, line)
 }
@@ -153,7 +153,8 @@ fn calls(line: &mut Line) -> Result<Vec<Call>, Fault>
 {
     let mut calls = Vec::new(line.alloc);
     for _ in 0..line.number::<u64>() {
-        calls.push(call_of(line.next(), line)?)?;
+        let name = line.word();
+        calls.push(call_of(name, line)?)?;
     }
     Ok(calls)
 }
@@ -219,11 +220,12 @@ fn watch(state: &mut State, line: &mut Line) -> Result<(), Fault> {
 }
 
 pub(crate) fn call(state: &mut State, line: &mut Line) -> Result<(), Fault> {
-    match line.next() {
+    let name = line.word();
+    match line.at(name) {
         "new" => renew(&mut state.brought, line.alloc),
         "watch" => watch(state, line),
-        "put" => change(state, "put", line),
-        "recover" => change(state, "recover", line),
+        "put" => change(state, name, line),
+        "recover" => change(state, name, line),
         "run" => run(state, line),
         "base" => base(&state.brought, line),
         "knows" => knows(&state.brought, line),

@@ -1,7 +1,7 @@
 // A client, and the calls of whoever holds its connection.
 use crate::cores::limits;
 use crate::fault::Fault;
-use crate::line::Line;
+use crate::line::{Line, Word};
 use crate::tell::{tell_kept, tell_message};
 use rt_client::{Client, ClientError, MAX_SEATS, Seat, Shared};
 use rt_mail::Mirror;
@@ -148,10 +148,10 @@ fn failed(shared: &mut Shared, chairs: &mut [Option<Chair>]) -> Fault {
 // A step of the connection: `connected`, `disconnected` or `server MESSAGE`.
 fn made(
     shared: &mut Shared,
-    name: &str,
+    name: Word,
     line: &mut Line,
 ) -> Result<Result<Outcome, ClientError>, Fault> {
-    match name {
+    match line.at(name) {
         "connected" => Ok(shared.connected()),
         "disconnected" => Ok(shared.disconnected()),
         "server" => Ok(shared.server_message(ServerMessage::read(line.alloc, line.next())?)),
@@ -162,7 +162,7 @@ fn made(
 fn make(
     shared: &mut Shared,
     chairs: &mut [Option<Chair>],
-    name: &str,
+    name: Word,
     line: &mut Line,
 ) -> Result<(), Fault> {
     match made(shared, name, line)? {
@@ -205,12 +205,12 @@ fn push_key(shared: &mut Shared, line: &mut Line) -> Result<(), Fault> {
 }
 
 // Calls on the locked value of the client that was opened last.
-fn call_locked(held: &mut Held, name: &str, line: &mut Line) -> Result<(), Fault> {
+fn call_locked(held: &mut Held, name: Word, line: &mut Line) -> Result<(), Fault> {
     let Some(client) = &mut held.client else {
         return Err(Fault::NoSuchCall);
     };
     let shared = client.shared.get_mut();
-    match name {
+    match line.at(name) {
         "out" => out(shared, line),
         "cover" => cover(shared, line),
         "push_key" => push_key(shared, line),
@@ -231,10 +231,11 @@ fn limit(held: &mut Held, line: &mut Line) -> Result<(), Fault> {
 }
 
 pub(crate) fn call(held: &mut Held, line: &mut Line) -> Result<(), Fault> {
-    match line.next() {
+    let name = line.word();
+    match line.at(name) {
         "most" => most(line),
         "limits" => limit(held, line),
         "open" => open(held, line),
-        name => call_locked(held, name, line),
+        _ => call_locked(held, name, line),
     }
 }

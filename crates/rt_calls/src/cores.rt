@@ -1,7 +1,7 @@
 // Cores.
 
 use crate::fault::Fault;
-use crate::line::Line;
+use crate::line::{Line, Word};
 use crate::tell::{tell_changes, tell_kept, tell_message, tell_reason};
 use crate::view::tell_shown;
 use rt_core::{Answers, Core};
@@ -39,7 +39,8 @@ fn new(core: &mut Core, line: &mut Line) -> Result<(), Fault> {
 // `write SEAT PATH TREE`, `update SEAT COUNT` and so many `PATH TREE`, `remove SEAT PATH`,
 // `data TAG PATH TREE`, `accepted ID`, `refused ID WHY` or `revoked TAG WHY`.
 fn step(line: &mut Line) -> Step {
-    match line.next() {
+    let name = line.word();
+    match line.at(name) {
         "connected" => Step::Connected,
         "disconnected" => Step::Disconnected,
         "listen" => Step::Listen {
@@ -64,15 +65,15 @@ fn step(line: &mut Line) -> Step {
             tag: line.number(),
             why: Reason::of(line.text()),
         },
-        name => Step::Write {
+        _ => Step::Write {
             seat: line.number(),
             action: action(name, line),
         },
     }
 }
 
-fn action(name: &str, line: &mut Line) -> Action {
-    match name {
+fn action(name: Word, line: &mut Line) -> Action {
+    match line.at(name) {
         "write" => Action::Put {
             path: line.path(),
             tree: line.tree(),
@@ -81,7 +82,7 @@ fn action(name: &str, line: &mut Line) -> Action {
             entries: Entries::of(line.entries()),
         },
         _ => {
-            if name != "remove" {
+            if line.at(name) != "remove" {
                 line.fail(Fault::NoSuchCall);
             }
             Action::Put {

@@ -1,6 +1,6 @@
 // The cover: listeners, and the listens kept for them.
 use crate::fault::Fault;
-use crate::line::Line;
+use crate::line::{Line, Word};
 use rt_cover::{Cover, CoverError, Delta, Kept, KeptList};
 use rt_query::Query;
 
@@ -166,8 +166,8 @@ fn registered(cover: &Cover, line: &mut Line) -> Result<(), Fault> {
 }
 
 // The calls that change nothing.
-fn look(cover: &Cover, name: &str, line: &mut Line) -> Result<(), Fault> {
-    match name {
+fn look(cover: &Cover, name: Word, line: &mut Line) -> Result<(), Fault> {
+    match line.at(name) {
         "open" => tell_kept(cover.open(), line),
         "certificate" => tell_kept(cover.certificate(), line),
         "forms" => tell_forms(cover.forms(), line),
@@ -181,12 +181,13 @@ fn look(cover: &Cover, name: &str, line: &mut Line) -> Result<(), Fault> {
 }
 
 pub(crate) fn call(cover: &mut Cover, line: &mut Line) -> Result<(), Fault> {
-    match line.next() {
+    let name = line.word();
+    match line.at(name) {
         "new" => renew(cover, line),
         "add" => add(cover, line),
         "remove" => remove(cover, line),
         "revoke" => revoke(cover, line),
         "copy" => copy(cover, line),
-        name => look(cover, name, line),
+        _ => look(cover, name, line),
     }
 }

@@ -3,22 +3,20 @@
 // The calls are `key`, `child=PATH`, `value`; a bound, as `startAt=LEAF` or `startAt=LEAF,KEY`, by
 // JSON; `limitToFirst=N` and `limitToLast=N`.
 use crate::fault::Fault;
-use crate::line::Line;
+use crate::line::{Line, Word};
 use rt_query::{Draft, Query, QueryError};
 
 // What a draft answers.
 pub(crate) type Answer = Result<(), QueryError>;
 
-fn bound(draft: &mut Draft, name: &str, text: &str, line: &mut Line) -> Answer {
-    let (text, key) = match text.split_once(',') {
-        Some((text, key)) => (text, Some(key)),
-        None => (text, None),
-    };
-    let value = line.mark_of(text);
+fn bound(draft: &mut Draft, name: Word, text: Word, line: &mut Line) -> Answer {
+    let (value, _) = line.parts(text, ',');
+    let value = line.mark_of(value);
     let Ok(value) = line.given(value) else {
         return Ok(());
     };
-    match name {
+    let key = line.behind(text, ',');
+    match line.at(name) {
         "startAt" => draft.start_at(value, key),
         "startAfter" => draft.start_after(value, key),
         "endAt" => draft.end_at(value, key),
@@ -31,7 +29,7 @@ fn bound(draft: &mut Draft, name: &str, text: &str, line: &mut Line) -> Answer {
     }
 }
 
-fn child(draft: &mut Draft, text: &str, line: &mut Line) -> Answer {
+fn child(draft: &mut Draft, text: Word, line: &mut Line) -> Answer {
     let path = line.path_of(text);
     match line.given(path) {
         Ok(path) => draft.order_by_child(path),
@@ -40,9 +38,9 @@ fn child(draft: &mut Draft, text: &str, line: &mut Line) -> Answer {
 }
 
 // Makes one call of a draft, as `limitToFirst=2`. Where the line has failed, it is not made.
-pub(crate) fn make_draft(draft: &mut Draft, call: &str, line: &mut Line) -> Answer {
-    let (name, text) = call.split_once('=').unwrap_or((call, ""));
-    match name {
+pub(crate) fn make_draft(draft: &mut Draft, call: Word, line: &mut Line) -> Answer {
+    let (name, text) = line.parts(call, '=');
+    match line.at(name) {
         "key" => draft.order_by_key(),
         "child" => child(draft, text, line),
         "value" => draft.order_by_value(),
@@ -53,24 +51,27 @@ pub(crate) fn make_draft(draft: &mut Draft, call: &str, line: &mut Line) -> Answ
 }
 
 // Makes calls in turn, none of which may be refused.
-fn make_all(draft: &mut Draft, calls: &str, line: &mut Line) {
-    for call in calls.split('&') {
+fn make_all(draft: &mut Draft, mut calls: Word, line: &mut Line) {
+    for _ in 0..calls.len() {
+        if calls.is_empty() {
+            break;
+        }
+        let (call, rest) = line.parts(calls, '&');
         if let Err(error) = make_draft(draft, call, line) {
             line.fail(error.into());
         }
+        calls = rest;
     }
 }
 
-impl<'a> Line<'a> {
+impl Line {
     // The query that the next word says: a path, and behind a `?` the calls of its draft, with `&`
     // between two, as `/a?child=v&startAt="x",k&limitToLast=2`.
     pub(crate) fn query(&mut self) -> Query {
-        let word = self.next();
-        let (path, calls) = word.split_once('?').unwrap_or((word, ""));
+        let word = self.word();
+        let (path, calls) = self.parts(word, '?');
         let mut draft = Query::at(self.path_of(path));
-        if !calls.is_empty() {
-            make_all(&mut draft, calls, self);
-        }
+        make_all(&mut draft, calls, self);
         draft.done()
     }
 }

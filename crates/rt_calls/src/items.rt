@@ -6,7 +6,7 @@
 // `changed` with a key, a tree, and the key of the row before, or `-`. An action is `put PATH TREE`,
 // or `merge` and paths, each with its tree.
 use crate::fault::Fault;
-use crate::line::Line;
+use crate::line::{Line, Word};
 use rt_mail::{Item, Receipt};
 use rt_tree::{Key, Tree};
 use rt_view::{Batch, Change, ChangeList};
@@ -19,16 +19,17 @@ fn reason(line: &mut Line) -> Reason {
 
 // The key of the row before, or none.
 fn key_before(line: &mut Line) -> Option<Key> {
-    match line.next() {
+    let word = line.word();
+    match line.at(word) {
         "-" => None,
-        text => line.key_of(text),
+        _ => line.key_of(word),
     }
 }
 
 // What the row of a key has become.
-fn row_change(name: &str, key: Key, value: Tree, line: &mut Line) -> Change {
+fn row_change(name: Word, key: Key, value: Tree, line: &mut Line) -> Change {
     let after = key_before(line);
-    match name {
+    match line.at(name) {
         "added" => Change::Added { key, value, after },
         "moved" => Change::Moved { key, value, after },
         "changed" => Change::Changed { key, value, after },
@@ -40,15 +41,15 @@ fn row_change(name: &str, key: Key, value: Tree, line: &mut Line) -> Change {
 }
 
 fn change(line: &mut Line) -> Change {
-    let name = line.next();
-    if name == "value" {
+    let name = line.word();
+    if line.at(name) == "value" {
         return Change::Value { value: line.tree() };
     }
     let key = line.key_if();
     let value = line.tree();
     match key {
         None => Change::Value { value },
-        Some(key) if name == "removed" => Change::Removed { key, old: value },
+        Some(key) if line.at(name) == "removed" => Change::Removed { key, old: value },
         Some(key) => row_change(name, key, value, line),
     }
 }
@@ -80,13 +81,13 @@ fn entries(line: &mut Line) -> Entries {
 }
 
 // The action of a name.
-fn action_of(name: &str, line: &mut Line) -> Action {
-    match name {
+fn action_of(name: Word, line: &mut Line) -> Action {
+    match line.at(name) {
         "merge" => Action::Merge {
             entries: entries(line),
         },
         _ => {
-            if name != "put" {
+            if line.at(name) != "put" {
                 line.fail(Fault::NoSuchCall);
             }
             Action::Put {
@@ -99,20 +100,21 @@ fn action_of(name: &str, line: &mut Line) -> Action {
 
 // The next action.
 pub(crate) fn action(line: &mut Line) -> Action {
-    let name = line.next();
+    let name = line.word();
     action_of(name, line)
 }
 
 fn ending(line: &mut Line) -> Ending {
-    match line.next() {
+    let name = line.word();
+    match line.at(name) {
         "cancel" => Ending::Cancel(line.path()),
-        name => Ending::Run(action_of(name, line)),
+        _ => Ending::Run(action_of(name, line)),
     }
 }
 
 // The receipt of a name and a number.
-fn receipt(name: &str, number: u64, line: &mut Line) -> Receipt {
-    match name {
+fn receipt(name: Word, number: u64, line: &mut Line) -> Receipt {
+    match line.at(name) {
         "listened" => Receipt::Listened {
             listener: number,
             query: line.query(),
@@ -126,7 +128,7 @@ fn receipt(name: &str, number: u64, line: &mut Line) -> Receipt {
             what: ending(line),
         },
         _ => {
-            if name != "unlistened" {
+            if line.at(name) != "unlistened" {
                 line.fail(Fault::NoSuchCall);
             }
             Receipt::Unlistened { listener: number }
@@ -144,8 +146,8 @@ fn settled(id: u64, line: &mut Line) -> Item {
 }
 
 // The item of a name and a number.
-pub(crate) fn item(name: &str, number: u64, line: &mut Line) -> Item {
-    match name {
+pub(crate) fn item(name: Word, number: u64, line: &mut Line) -> Item {
+    match line.at(name) {
         "settled" => settled(number, line),
         "cancelled" => Item::Cancelled {
             listener: number,
@@ -160,13 +162,13 @@ pub(crate) fn item(name: &str, number: u64, line: &mut Line) -> Item {
 }
 
 pub(crate) fn next_item(line: &mut Line) -> Item {
-    let name = line.next();
+    let name = line.word();
     let number = line.number();
     item(name, number, line)
 }
 
 pub(crate) fn next_receipt(line: &mut Line) -> Receipt {
-    let name = line.next();
+    let name = line.word();
     let number = line.number();
     receipt(name, number, line)
 }

@@ -1,7 +1,7 @@
 // A lane and its ring.
 use crate::fault::Fault;
 use crate::items::{item, next_receipt};
-use crate::line::Line;
+use crate::line::{Line, Word};
 use crate::tell::tell_next;
 use rt_mail::{Inbox, Item, Lane, MAX_CAPACITY, MailError, Receipt, Unqueued};
 
@@ -42,12 +42,12 @@ fn refusal(answer: Result<(), Unqueued>) -> Option<(MailError, &'static str, u64
 
 // A lane that lacked memory hands back what it did not queue, and is asked once more.
 fn queue(lane: &mut Lane, line: &mut Line) -> Result<(), Fault> {
-    let name = line.next();
+    let name = line.word();
     let number = line.number();
     let item = item(name, number, line);
     match refusal(lane.queue(line.given(item)?)) {
         None => Ok(()),
-        Some((MailError::NoMemory, back, id)) if back == name && id == number => {
+        Some((MailError::NoMemory, back, id)) if back == line.at(name) && id == number => {
             Err(Fault::NoMemory)
         }
         Some(_) => Err(Fault::NoSuchCall),
@@ -153,8 +153,8 @@ fn room(lane: &Lane, inbox: &Inbox, line: &mut Line) -> Result<(), Fault> {
 }
 
 // Changes a lane or its ring.
-fn change(lane: &mut Lane, inbox: &mut Inbox, name: &str, line: &mut Line) -> Result<(), Fault> {
-    match name {
+fn change(lane: &mut Lane, inbox: &mut Inbox, name: Word, line: &mut Line) -> Result<(), Fault> {
+    match line.at(name) {
         "queue" => queue(lane, line),
         "fill" => fill(lane, line),
         "flush" => flush(lane, inbox),
@@ -168,7 +168,7 @@ fn change(lane: &mut Lane, inbox: &mut Inbox, name: &str, line: &mut Line) -> Re
 fn change_and_tell(
     lane: &mut Lane,
     inbox: &mut Inbox,
-    name: &str,
+    name: Word,
     line: &mut Line,
 ) -> Result<(), Fault> {
     change(lane, inbox, name, line)?;
@@ -180,13 +180,13 @@ fn change_and_tell(
 fn call_with_ring(
     lane: &mut Lane,
     place: &mut Option<Inbox>,
-    name: &str,
+    name: Word,
     line: &mut Line,
 ) -> Result<(), Fault> {
     let Some(inbox) = place else {
         return Err(Fault::NoSuchCall);
     };
-    match name {
+    match line.at(name) {
         "room" => room(lane, inbox, line),
         "next" => next(inbox, line),
         _ => change_and_tell(lane, inbox, name, line),
@@ -214,10 +214,11 @@ pub(crate) fn call(
     place: &mut Option<Inbox>,
     line: &mut Line,
 ) -> Result<(), Fault> {
-    match line.next() {
+    let name = line.word();
+    match line.at(name) {
         "new" => new(lane, line),
         "ring" => ring(place, line),
         "most" => most(line),
-        name => call_with_ring(lane, place, name, line),
+        _ => call_with_ring(lane, place, name, line),
     }
 }

@@ -7,17 +7,36 @@ use std::fmt::{Debug, Display};
 use std::num::ParseIntError;
 use std::str::FromStr;
 
+// Where a word stands in its line. It has no borrow of the line, since a borrow that a value holds is
+// dear to prove wherever the value is passed on.
+#[derive(Clone, Copy, Drop)]
+pub(crate) struct Word {
+    from: usize,
+    to: usize,
+}
+
+impl Word {
+    pub(crate) fn len(self) -> usize {
+        self.to.saturating_sub(self.from)
+    }
+
+    pub(crate) fn is_empty(self) -> bool {
+        self.len() == 0
+    }
+}
+
 // A line, whose words are read one after another, and what was said of this one and of those before
-// it. The room of what is said is taken before the first call, so that printing takes no memory of
-// its own.
+// it. The room of both is taken before the first call, so that reading and printing take no memory
+// of their own.
 //
 // Where a word stands for nothing, or memory lacks for what it stands for, the line fails: what is
 // read of it may be empty from then on, and nothing more is said of it. So a call that changes
 // something asks first for what it was given.
 #[derive(Drop)]
-pub(crate) struct Line<'a> {
+pub(crate) struct Line {
     pub(crate) alloc: Global,
-    rest: &'a str,
+    text: String,
+    from: usize,
     said: String,
     fault: Option<Fault>,
     pub(crate) is_quiet: bool,
@@ -25,12 +44,13 @@ pub(crate) struct Line<'a> {
 
 const ROOM: usize = 1 << 20;
 
-impl<'a> Line<'a> {
-    // An empty line, and nothing said yet.
-    pub(crate) fn new(alloc: Global) -> Result<Line<'a>, AllocError> {
+impl Line {
+    // An empty line, with room for one of so many bytes, and nothing said yet.
+    pub(crate) fn new(alloc: Global, room: usize) -> Result<Line, AllocError> {
         Ok(Line {
             alloc,
-            rest: "",
+            text: String::with_capacity(alloc, room)?,
+            from: 0,
             said: String::with_capacity(alloc, ROOM)?,
             fault: None,
             is_quiet: false,
@@ -38,9 +58,13 @@ impl<'a> Line<'a> {
     }
 
     // The next line.
-    pub(crate) fn begin(&mut self, line: &'a str) {
-        self.rest = line;
+    pub(crate) fn begin(&mut self, line: &str) {
         self.fault = None;
+        self.from = 0;
+        self.text.clear();
+        if self.text.push_str(line).is_err() {
+            self.fail(Fault::NoMemory);
+        }
     }
 
     // ---- whether it is sound
@@ -87,32 +111,63 @@ impl<'a> Line<'a> {
 
     // Whether all words are read.
     pub(crate) fn is_empty(&self) -> bool {
-        self.rest.is_empty()
+        self.len() == 0
     }
 
     // How many bytes are not read yet: no fewer than there are words.
     pub(crate) fn len(&self) -> usize {
-        self.rest.len()
-    }
-
-    // The next word; behind the last there is none.
-    pub(crate) fn next(&mut self) -> &'a str {
-        if self.rest.is_empty() {
-            self.fail(Fault::NoSuchCall);
-        }
-        let (word, rest) = self.rest.split_once(' ').unwrap_or((self.rest, ""));
-        self.rest = rest;
-        word
+        self.text.len().saturating_sub(self.from)
     }
 
     // All that follows.
-    pub(crate) fn rest(&self) -> &'a str {
-        self.rest
+    pub(crate) fn rest(&self) -> Word {
+        Word {
+            from: self.from,
+            to: self.text.len(),
+        }
     }
 
-    // The number of a text; 0 where it is none of that type.
-    pub(crate) fn number_of<T: FromStr<Err = ParseIntError> + Default>(&mut self, text: &str) -> T {
-        match text.parse() {
+    // The text of a word.
+    pub(crate) fn at(&self, word: Word) -> &str {
+        self.text.as_str().get(word.from..word.to).unwrap_or("")
+    }
+
+    // A word in two, at the first of these characters; the second is empty where there is none.
+    pub(crate) fn parts(&self, word: Word, between: char) -> (Word, Word) {
+        let text = self.at(word);
+        let (front, back) = text.split_once(between).unwrap_or((text, ""));
+        let to = word.from.saturating_add(front.len());
+        let from = word.to.saturating_sub(back.len());
+        (Word { to, ..word }, Word { from, ..word })
+    }
+
+    // What is behind the first of these characters in a word, where there is one.
+    pub(crate) fn behind(&self, word: Word, between: char) -> Option<&str> {
+        match self.at(word).split_once(between) {
+            Some((_, back)) => Some(back),
+            None => None,
+        }
+    }
+
+    // Where the next word stands; behind the last there is none.
+    pub(crate) fn word(&mut self) -> Word {
+        if self.is_empty() {
+            self.fail(Fault::NoSuchCall);
+        }
+        let (word, rest) = self.parts(self.rest(), ' ');
+        self.from = rest.from;
+        word
+    }
+
+    // The next word.
+    pub(crate) fn next(&mut self) -> &str {
+        let word = self.word();
+        self.at(word)
+    }
+
+    // The number of a word; 0 where it is none of that type.
+    pub(crate) fn number_of<T: FromStr<Err = ParseIntError> + Default>(&mut self, word: Word) -> T {
+        match self.at(word).parse() {
             Ok(number) => number,
             Err(_) => {
                 self.fail(Fault::NoSuchCall);
@@ -123,13 +178,13 @@ impl<'a> Line<'a> {
 
     // A number of that type.
     pub(crate) fn number<T: FromStr<Err = ParseIntError> + Default>(&mut self) -> T {
-        let word = self.next();
+        let word = self.word();
         self.number_of(word)
     }
 
-    // The path of a text, as `/a/b`.
-    pub(crate) fn path_of(&mut self, text: &str) -> Path {
-        match Path::parse(self.alloc, text) {
+    // The path of a word, as `/a/b`.
+    pub(crate) fn path_of(&mut self, word: Word) -> Path {
+        match Path::parse(self.alloc, self.at(word)) {
             Ok(path) => path,
             Err(error) => {
                 self.fail(error.into());
@@ -140,13 +195,13 @@ impl<'a> Line<'a> {
 
     // A path.
     pub(crate) fn path(&mut self) -> Path {
-        let word = self.next();
+        let word = self.word();
         self.path_of(word)
     }
 
-    // The key of a text; there is no empty one.
-    pub(crate) fn key_of(&mut self, text: &str) -> Option<Key> {
-        match Key::parse(self.alloc, text) {
+    // The key of a word; there is no empty one.
+    pub(crate) fn key_of(&mut self, word: Word) -> Option<Key> {
+        match Key::parse(self.alloc, self.at(word)) {
             Ok(key) => Some(key),
             Err(error) => {
                 self.fail(error.into());
@@ -157,7 +212,7 @@ impl<'a> Line<'a> {
 
     // A key, where the next word is one.
     pub(crate) fn key_if(&mut self) -> Option<Key> {
-        let word = self.next();
+        let word = self.word();
         self.key_of(word)
     }
 
@@ -167,8 +222,8 @@ impl<'a> Line<'a> {
     }
 
     // The tree of JSON data.
-    pub(crate) fn tree_of(&mut self, text: &str) -> Tree {
-        match Tree::read(self.alloc, text) {
+    pub(crate) fn tree_of(&mut self, word: Word) -> Tree {
+        match Tree::read(self.alloc, self.at(word)) {
             Ok(tree) => tree,
             Err(error) => {
                 self.fail(error.into());
@@ -179,13 +234,13 @@ impl<'a> Line<'a> {
 
     // The tree of JSON data, of one word.
     pub(crate) fn tree(&mut self) -> Tree {
-        let word = self.next();
+        let word = self.word();
         self.tree_of(word)
     }
 
     // The leaf of JSON data, or null.
-    pub(crate) fn mark_of(&mut self, text: &str) -> Mark {
-        match self.tree_of(text).as_leaf() {
+    pub(crate) fn mark_of(&mut self, word: Word) -> Mark {
+        match self.tree_of(word).as_leaf() {
             None => Mark::Null,
             Some(leaf) => self.leaf_mark(leaf),
         }
@@ -240,8 +295,8 @@ impl<'a> Line<'a> {
     // The text of pieces: a word, and each that follows as many times as the number before it.
     pub(crate) fn pieces(&mut self) -> String {
         let mut text = String::new(self.alloc);
-        let first = self.next();
-        self.add(&mut text, first);
+        let first = self.word();
+        self.add_word(&mut text, first);
         for _ in 0..self.len() {
             if self.is_empty() {
                 break;
@@ -253,9 +308,16 @@ impl<'a> Line<'a> {
 
     fn add_piece(&mut self, text: &mut String) {
         let count: u64 = self.number();
-        let piece = self.next();
+        let piece = self.word();
         for _ in 0..count {
-            self.add(text, piece);
+            self.add_word(text, piece);
+        }
+    }
+
+    // Adds a word to a text.
+    fn add_word(&mut self, text: &mut String, word: Word) {
+        if text.push_str(self.at(word)).is_err() {
+            self.fail(Fault::NoMemory);
         }
     }
 

@@ -13,7 +13,7 @@ fn is_passed_over(text: &str) -> bool {
 
 // Makes the call of a line. Why the line failed counts above what the call answers, but for a word
 // that stands for nothing, beside which memory may have lacked.
-fn call<'a, R: Wait>(state: &mut State, text: &'a str, line: &mut Line<'a>) -> Result<(), Fault> {
+fn call<R: Wait>(state: &mut State, text: &str, line: &mut Line) -> Result<(), Fault> {
     line.begin(text);
     let answer = state.call::<R>(line);
     match (line.end(), answer) {
@@ -24,7 +24,7 @@ fn call<'a, R: Wait>(state: &mut State, text: &'a str, line: &mut Line<'a>) -> R
 }
 
 // Makes the call of a line, behind those before it, and once more where memory was lacking.
-fn make<'a, R: Wait>(state: &mut State, text: &'a str, line: &mut Line<'a>) -> Result<(), Fault> {
+fn make<R: Wait>(state: &mut State, text: &str, line: &mut Line) -> Result<(), Fault> {
     match call::<R>(state, text, line) {
         Err(Fault::NoMemory) => {
             line.say("NoMemory\n");
@@ -35,7 +35,7 @@ fn make<'a, R: Wait>(state: &mut State, text: &'a str, line: &mut Line<'a>) -> R
 }
 
 // Makes the first lines anew, unsaid.
-fn make_anew<'a, R: Wait>(state: &mut State, texts: &'a str, count: usize, line: &mut Line<'a>) {
+fn make_anew<R: Wait>(state: &mut State, texts: &str, count: usize, line: &mut Line) {
     *state = State::new(line.alloc);
     line.is_quiet = true;
     for text in texts.lines().take(count) {
@@ -48,12 +48,12 @@ fn make_anew<'a, R: Wait>(state: &mut State, texts: &'a str, count: usize, line:
 
 // Makes the call of a line, behind so many, and where what is called has failed, these and then it
 // once more.
-fn make_line<'a, R: Wait>(
+fn make_line<R: Wait>(
     state: &mut State,
-    texts: &'a str,
+    texts: &str,
     count: usize,
-    text: &'a str,
-    line: &mut Line<'a>,
+    text: &str,
+    line: &mut Line,
 ) -> Result<(), Fault> {
     match make::<R>(state, text, line) {
         Ok(()) => line.say("\n"),
@@ -69,7 +69,7 @@ fn make_line<'a, R: Wait>(
     Ok(())
 }
 
-fn make_lines<'a, R: Wait>(texts: &'a str, line: &mut Line<'a>) -> Result<(), Fault> {
+fn make_lines<R: Wait>(texts: &str, line: &mut Line) -> Result<(), Fault> {
     let mut state = State::new(line.alloc);
     for (count, text) in texts.lines().enumerate() {
         if !is_passed_over(text) {
@@ -87,7 +87,7 @@ fn run_through<R: Wait>(
 ) -> Option<()> {
     let mut texts = String::new(alloc);
     input.read_to_string(&mut texts).ok()?;
-    let mut line = Line::new(alloc).ok()?;
+    let mut line = Line::new(alloc, texts.len()).ok()?;
     let made = make_lines::<R>(texts.as_str(), &mut line);
     output.write_all(line.said().as_bytes()).ok()?;
     made.ok()

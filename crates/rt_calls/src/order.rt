@@ -135,8 +135,8 @@ fn place(line: &mut Line) -> Option<Place> {
 // A cut at a value, or none.
 fn cut(line: &mut Line) -> Option<Cut> {
     let place = place(line)?;
-    let text = line.next();
-    let value = line.mark_of(text);
+    let word = line.word();
+    let value = line.mark_of(word);
     Some(Cut { value, place })
 }
 

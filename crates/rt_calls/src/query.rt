@@ -13,7 +13,8 @@ fn begin(draft: &mut Draft, line: &mut Line) -> Result<(), Fault> {
 
 // Makes a call of the draft, and says the draft behind it. A refusal changes nothing.
 fn make(draft: &mut Draft, line: &mut Line) -> Result<(), Fault> {
-    match make_draft(draft, line.next(), line) {
+    let call = line.word();
+    match make_draft(draft, call, line) {
         Ok(()) => {}
         Err(QueryError::NoMemory) => return Err(Fault::NoMemory),
         Err(error) => line.refusal(error.code(), error.name(), &error),
@@ -34,9 +35,9 @@ fn tell_beside(query: &Query, line: &mut Line) {
 
 // Says a query, its copy, or its listening form, and whether that is equal to another query.
 fn parts(line: &mut Line) -> Result<(), Fault> {
-    let what = line.next();
+    let what = line.word();
     let query = line.query();
-    match what {
+    match line.at(what) {
         "itself" => tell_beside(&query, line),
         "copy" => tell_beside(&query.copy()?, line),
         "form" => tell_beside(&query.listening_form()?, line),

@@ -3,7 +3,7 @@ use crate::clients::{Chair, Held, gives_all, has_failed, is_failed, say_error};
 use crate::deliveries::{deliver, hand_out};
 use crate::fault::Fault;
 use crate::items::action;
-use crate::line::Line;
+use crate::line::{Line, Word};
 use crate::mirrors::given_up;
 use crate::tell::tell_next;
 use rt_client::{Client, ClientError, Seat, Shared, Unclosed};
@@ -29,10 +29,10 @@ fn unnumbered(answer: Result<(), ClientError>) -> Answer {
 fn made(
     shared: &mut Shared,
     seat: &mut Seat,
-    name: &str,
+    name: Word,
     line: &mut Line,
 ) -> Result<Answer, Fault> {
-    match name {
+    match line.at(name) {
         "listen" => {
             let query = line.query();
             Ok(numbered(shared.listen(seat, line.given(query)?)))
@@ -85,7 +85,7 @@ pub(crate) fn failed(shared: &mut Shared, chair: &mut Chair, alloc: Global) -> F
 }
 
 // Makes a seat's call, and says what it answers.
-fn make(shared: &mut Shared, chair: &mut Chair, name: &str, line: &mut Line) -> Result<(), Fault> {
+fn make(shared: &mut Shared, chair: &mut Chair, name: Word, line: &mut Line) -> Result<(), Fault> {
     match made(shared, &mut chair.seat, name, line)? {
         Ok(Some(number)) => {
             line.display(&number);
@@ -162,10 +162,10 @@ fn call_chair<R: Wait>(
     client: &mut Client,
     chair: &mut Chair,
     mirror: &mut Mirror,
-    name: &str,
+    name: Word,
     line: &mut Line,
 ) -> Result<(), Fault> {
-    match name {
+    match line.at(name) {
         "next" => next(chair, line),
         "take" => take(chair, mirror, line),
         "mirror" => take_all(chair, mirror, line),
@@ -181,8 +181,8 @@ fn call_place<R: Wait>(
     mirror: &mut Mirror,
     line: &mut Line,
 ) -> Result<(), Fault> {
-    let name = line.next();
-    if name == "close" {
+    let name = line.word();
+    if line.at(name) == "close" {
         return close(client.shared.get_mut(), place, line);
     }
     match place {

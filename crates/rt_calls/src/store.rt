@@ -178,9 +178,10 @@ fn clear(store: &mut Store, line: &mut Line) -> Result<(), Fault> {
 // A change: a path and what is set there, or `-` where it is cleared.
 fn change(line: &mut Line) -> Change {
     let path = line.path();
-    match line.next() {
+    let word = line.word();
+    match line.at(word) {
         "-" => Change::Clear(path),
-        text => Change::Set(path, line.tree_of(text)),
+        _ => Change::Set(path, line.tree_of(word)),
     }
 }
 

@@ -174,7 +174,7 @@ fn tell(part: Option<&Tree>, line: &mut Line) {
 }
 
 fn read(line: &mut Line) -> Result<(), Fault> {
-    match Tree::read(line.alloc, line.rest()) {
+    match Tree::read(line.alloc, line.at(line.rest())) {
         Ok(tree) => line.say_tree(&tree),
         Err(error) => return refused(error, line),
     }
@@ -208,7 +208,7 @@ fn tell_size(tree: &Tree, line: &mut Line) {
 
 // What a value is taken as and given again.
 fn value(line: &mut Line) -> Result<(), Fault> {
-    match tree_of_value(line.alloc, line.rest()) {
+    match tree_of_value(line.alloc, line.at(line.rest())) {
         Ok(tree) => tell_value(&tree, line),
         Err(error) => refused(error, line),
     }

@@ -39,9 +39,9 @@ fn say(message: Result<String, WireError>, line: &mut Line) -> Result<(), Fault>
 
 // A side, and the pieces of a message: what it is read as, written again.
 fn read(line: &mut Line) -> Result<(), Fault> {
-    let side = line.next();
+    let side = line.word();
     let text = line.pieces();
-    say(written(line.alloc, side, text.as_str()), line)
+    say(written(line.alloc, line.at(side), text.as_str()), line)
 }
 
 // How many of the text's proper prefixes are not JSON.
@@ -62,10 +62,10 @@ fn broken_off(alloc: Global, side: &str, text: &str) -> Result<u64, Fault> {
 // A side and a message: how many of its proper prefixes are not JSON, and what it is read as,
 // written again.
 fn prefixes(line: &mut Line) -> Result<(), Fault> {
-    let side = line.next();
-    let text = line.next();
-    let count = broken_off(line.alloc, side, text)?;
-    say(written(line.alloc, side, text), line)?;
+    let side = line.word();
+    let text = line.word();
+    let count = broken_off(line.alloc, line.at(side), line.at(text))?;
+    say(written(line.alloc, line.at(side), line.at(text)), line)?;
     line.debug(count);
     Ok(())
 }
