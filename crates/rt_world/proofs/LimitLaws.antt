@@ -70,7 +70,7 @@ pub record Counts (w : World) (s : Step) : Type 0 where
 no_tag : (w : World) (s : Step) → IsSound w → IsWithin w → listeners_after w s ≡ w.listeners → w.next_tag + length (started_by w s) ≤ w.limits.last_number + 1
 no_tag w s h i e = let none : length (started_by w s) ≡ 0 = ap length (started-same w s h e) in omega (arith, none, i.next_tag)
 
-tag : (w : World) (s : Step) → needs_tag w s ≡ false → w.next_tag + length (started_by w s) ≤ w.limits.last_number + 1
+pub tag : (w : World) (s : Step) → needs_tag w s ≡ false → w.next_tag + length (started_by w s) ≤ w.limits.last_number + 1
 tag w s e = ltb-false (w.limits.last_number + 1) (w.next_tag + length (started_by w s)) e
 
 one_more : {X : Type 0} (xs : List X) (x : X) (most : ℕ) → nat_le most (length xs) ≡ false → length (xs ++ x ∷ []) ≤ most
