@@ -1,0 +1,87 @@
+"""The page of the theorem: what its script reads of a file of definitions, put together, is that file."""
+import glob
+import importlib.machinery
+import importlib.util
+import os
+import re
+import tempfile
+import unittest
+
+ROOT = os.path.realpath(f"{os.path.dirname(os.path.realpath(__file__))}/../..")
+
+
+def loaded(name):
+    """A script without an ending, as a module."""
+    loader = importlib.machinery.SourceFileLoader(name, f"{ROOT}/{name}")
+    module = importlib.util.module_from_spec(importlib.util.spec_from_loader(name, loader))
+    loader.exec_module(module)
+    return module
+
+
+theorem = loaded("theorem")
+
+
+def lines_of(text):
+    """The lines of a text but for imports, comments, heads of modules and empty lines, each without the blanks at its ends."""
+    text = re.sub(r"(?m)^ *((pub|unfoldable) )*(use|mod|open) .*(\n +.*)*", "", text)
+    lines = (line.strip() for line in text.splitlines())
+    return [it for it in lines if it and it[:2] != "--" and not re.match(r"module .* where$", it)]
+
+
+def put_together(file):
+    """The lines of the definitions that the script reads of a file, in their order."""
+    found = dict.fromkeys(theorem.Module(file).definitions.values())
+    return [line for it in found for line in lines_of(it.text)]
+
+
+def of_text(text):
+    """The definitions that the script reads of a text."""
+    with tempfile.TemporaryDirectory() as room:
+        with open(f"{room}/It.antt", "w", encoding="utf-8") as it:
+            it.write(text)
+        return theorem.Module(f"{room}/It.antt").definitions
+
+
+RECORD = """-- what is kept
+abbrev pub kept : World
+kept = record {
+  listens = [];
+}
+
+-- how many there are
+abbrev pub count : World → ℕ
+count w = length w.listens
+"""
+
+
+class Definitions(unittest.TestCase):
+    def test_files_are_their_definitions(self):
+        files = sorted(glob.glob(f"{ROOT}/crates/*/specs/**/*.antt", recursive=True))
+        self.assertGreater(len(files), 100)
+        for file in files:
+            with self.subTest(os.path.relpath(file, ROOT)):
+                with open(file, encoding="utf-8") as it:
+                    self.assertEqual(put_together(file), lines_of(it.read()))
+
+    def test_brackets_close(self):
+        for file in glob.glob(f"{ROOT}/crates/*/specs/**/*.antt", recursive=True):
+            for name, it in theorem.Module(file).definitions.items():
+                with self.subTest(f"{os.path.relpath(file, ROOT)}, {name}"):
+                    words = list(theorem.words_of(re.sub(r'"[^"]*"', "", it.text)))
+                    for opens, closes in zip(theorem.OPEN, theorem.CLOSE):
+                        self.assertEqual(words.count(opens), words.count(closes))
+
+    def test_a_bracket_at_the_left_edge_goes_on(self):
+        found = of_text(RECORD)
+        self.assertEqual(list(found), ["kept", "count"])
+        self.assertTrue(found["kept"].text.endswith("  listens = [];\n}\n"))
+        self.assertTrue(found["kept"].printed().endswith("  listens = [];\n}\n"))
+
+    def test_text_behind_a_bracket_stays(self):
+        found = of_text(RECORD.replace("\n}\n", "\n} with_none\n"))
+        self.assertIn("} with_none", found["kept"].text)
+        self.assertEqual(len(found["kept"].clauses), 1)
+
+
+if __name__ == "__main__":
+    unittest.main()
