@@ -16,18 +16,15 @@ use Rattle.rt_cover.specs.laws.FormLaws.{same_tests}
 use Rattle.rt_cover.specs.laws.KeepLaws.{Contains-map, Contains-from_map, length_of_map}
 use Rattle.rt_cover.specs.laws.Pairs.{filter_none, filter_all}
 use Rattle.rt_world.specs.declared.step.Step.{Step}
-use Rattle.rt_world.specs.World.{World, Listener, empty_world, registered, pending}
+use Rattle.rt_world.specs.World.{World, Listener, registered, pending}
 use Rattle.rt_world.specs.steps.Revoking.{is_cancelled}
 use Rattle.rt_world.specs.After.{listeners_after, requests_after, brought_after, started_by}
 use Rattle.rt_world.specs.Messages.{next}
-use Rattle.rt_world.specs.Answers.{world_after}
 use Rattle.rt_world.specs.Sound.{IsSound}
 use Rattle.rt_world.specs.Covering.{cover_in, numbers_of, cover_after}
-use Rattle.rt_world.specs.laws.World.{CoverTakesChanges}
 use Rattle.rt_world.proofs.Listeners.{same_number, registered-renewed}
 use Rattle.rt_world.proofs.ShowLaws.{filter_true}
 use Rattle.rt_world.proofs.HeardLaws.{map-append, kept-same, started-same}
-use Rattle.rt_world.proofs.SoundLaws.{sound_empty, sound_run}
 use Rattle.rt_world.proofs.Numbers.{one_number}
 
 -- the registered ones of those listeners that pass
@@ -134,8 +131,3 @@ follows w (Step.Accepted id) h = unchanged w (Step.Accepted id) h refl
 follows w (Step.Refused id why) h = unchanged w (Step.Refused id why) h refl
 follows w Step.Connected h = unchanged w Step.Connected h refl
 follows w Step.Disconnected h = unchanged w Step.Disconnected h refl
-
-pub cover_takes_changes : CoverTakesChanges
-cover_takes_changes limits before s =
-    let w = world_after (empty_world limits) before in
-    follows w s (sound_run before (empty_world limits) (sound_empty limits))

@@ -8,15 +8,12 @@ use Rattle.rt_cover.specs.State.{shown_with, with_listeners, difference, without
 use Rattle.rt_cover.specs.Runs.{Change, told}
 use Rattle.rt_cover.specs.laws.SoundLaws.{told_exactly}
 use Rattle.rt_world.specs.declared.step.Step.{Step}
-use Rattle.rt_world.specs.World.{World, Listener, empty_world, registered}
+use Rattle.rt_world.specs.World.{World, Listener, registered}
 use Rattle.rt_world.specs.After.{listeners_after, started_by}
 use Rattle.rt_world.specs.Messages.{stopped_by}
-use Rattle.rt_world.specs.Answers.{world_after}
 use Rattle.rt_world.specs.Sound.{cover_of, IsSound}
 use Rattle.rt_world.specs.Covering.{cover_in, change_by, delta_by}
-use Rattle.rt_world.specs.laws.World.{DeltaIsSent}
 use Rattle.rt_world.proofs.HeardLaws.{map-append, stays, stopped_are}
-use Rattle.rt_world.proofs.SoundLaws.{sound_empty, sound_run}
 use Rattle.rt_world.proofs.CoveringLaws.{one_more, revoked_left, unlistened, closed}
 
 map-filter : {X Y : Type 0} (f : X → Y) (q : Y → Bool) (xs : List X) → filter q (map f xs) ≡ map f (filter (λ x. q (f x)) xs)
@@ -67,8 +64,3 @@ delta w (Step.Accepted id) h change e = cc
 delta w (Step.Refused id why) h change e = cc
 delta w Step.Connected h change e = cc
 delta w Step.Disconnected h change e = cc
-
-pub delta_is_sent : DeltaIsSent
-delta_is_sent limits before s =
-    let w = world_after (empty_world limits) before in
-    delta w s (sound_run before (empty_world limits) (sound_empty limits))

@@ -1,5 +1,5 @@
 -- The headline over every list of steps.
-use Rattle.std.proofs.Common.{◌≡◌, ℕ, ◌≤◌, Bool, true, false, not, ◌&&◌, ◌||◌, ◌==◌, ◌⊎◌, inl, inr, List, [], ◌∷◌, ◌++◌, map, length, refl, sym, ap, subst, ◌∙◌, append-nil, arith, slice_index_or, Option, Some, None, cond}
+use Rattle.std.proofs.Common.{◌≡◌, ℕ, ◌≤◌, Bool, true, false, not, ◌&&◌, ◌||◌, ◌==◌, ◌⊎◌, inl, inr, List, [], ◌∷◌, ◌++◌, map, length, refl, sym, ap, subst, ◌∙◌, arith, slice_index_or, Option, Some, None, cond}
 use mathlib.Core.Bool.{true≢false}
 use Rattle.std.specs.Prelude.{drop, is_none}
 use Rattle.std.specs.List.{filter, flat_map, fold, All, Contains}
@@ -12,6 +12,7 @@ use Rattle.rt_view.specs.Changes.{Turns}
 use Rattle.rt_view.proofs.TurnLaws.{turns_not, turns-append}
 use Rattle.rt_world.specs.declared.error.CoreError.{CoreError}
 use Rattle.rt_world.specs.declared.limits.Limits.{Limits}
+use Rattle.rt_wire.specs.declared.client.ClientMessage.{ClientMessage}
 use Rattle.rt_world.specs.declared.step.Step.{Step}
 use Rattle.rt_world.specs.World.{World, Listener, empty_world, pending}
 use Rattle.rt_world.specs.After.{listeners_after, brought_after, requests_after, listener_given, counted}
@@ -19,7 +20,7 @@ use Rattle.rt_world.specs.Messages.{listens, unlistens, request_message, request
 use Rattle.rt_world.specs.Refusals.{refusal, is_stale}
 use Rattle.rt_world.specs.Answers.{Answer, step, step_by, answers, world_after, view_before}
 use Rattle.rt_world.specs.Runs.{events_of, events, heard_after}
-use Rattle.rt_world.specs.Headline.{AreKept, IsKept, IsShown, IsUpToDate, changes_told, asks_due, Makes, MakesOrLeaves, Moves, Sends, server_after, Leads, Headline}
+use Rattle.rt_world.specs.Headline.{AreKept, IsKept, IsShown, IsUpToDate, changes_told, begun, ended, Makes, MakesOrLeaves, Moves, Sends, server_after, Leads, Headline}
 use Rattle.rt_world.specs.Sound.{cover_of, IsSound}
 use Rattle.rt_world.proofs.Listeners.{same_number, has_number, has_number-there, has_number-renewed, not_bound, view_before-there, view_before-none}
 use Rattle.rt_world.proofs.ShowLaws.{left_or_more, first_seen, step_up_to_date, told-absent}
@@ -72,28 +73,24 @@ server_run [] w had h same online = same online
 server_run (s ∷ rest) w had h same online =
     server_run rest (step w s).0 (server_after had w s (step w s).0) (after w s h) (server_step w s had h same) online
 
--- requests begin and end no listen
-asked_alone : (old : World) (s : Step) (new : World) (c : List Tagged) → old.is_connected ≡ false → fold heard_by c (asks_due old s new) ≡ c
-asked_alone old s new c off =
-    elim new.is_connected as (λ b. fold heard_by c (cond b (cond old.is_connected (request_sent old s) (map request_message new.requests)) []) ≡ c) [
-      | true ↦ (λ i. fold heard_by c (cond (off i) (request_sent old s) (map request_message new.requests))) ∙ heard_by-requests c new.requests
-      | false ↦ refl
-    ]
-
 -- once a connection is opened the server keeps what was kept
 opened : (w : World) (has : List Tagged) → w.is_connected ≡ false → (answer : Answer) (v : World) → Moves w Step.Connected answer v
     → server_after has w Step.Connected v ≡ w.kept
 opened w has off answer v m =
     let made : Makes w Step.Connected v = subst (λ d. MakesOrLeaves d w Step.Connected v) (done_connected w off) m.made in
     let sends : Sends w Step.Connected v = made.sends in
-    let all = sends.opens refl in
     (λ i. cond (done_connected w off i) (fold heard_by [] v.outgoing) has)
     ∙ ap (fold heard_by []) sends.outgoing
-    ∙ (λ i. fold heard_by [] (listens (all.0 i) ++ unlistens (all.1 i) ++ asks_due w Step.Connected v))
-    ∙ heard_by-append [] (listens w.kept ++ []) (asks_due w Step.Connected v)
-    ∙ asked_alone w Step.Connected v (fold heard_by [] (listens w.kept ++ [])) off
-    ∙ ap (fold heard_by []) (append-nil (listens w.kept))
+    ∙ (λ i. fold heard_by [] (cond (made.connected i) (cond (off i) (going v) (all v)) []))
+    ∙ heard_by-append [] (listens w.kept) (map request_message v.requests)
+    ∙ heard_by-requests (fold heard_by [] (listens w.kept)) v.requests
     ∙ heard_by-listens w.kept
+  where
+    going : World → List ClientMessage
+    going u = listens (begun w u) ++ unlistens (ended w Step.Connected u) ++ request_sent w Step.Connected
+
+    all : World → List ClientMessage
+    all u = listens w.kept ++ map request_message u.requests
 
 is_kept : (w : World) (steps : List Step) → IsSound w → IsKept (has_after w.kept w steps) (world_after w steps)
 is_kept w steps h =

@@ -6,6 +6,7 @@ pub mod DeltaLaws
 pub mod HeadlineLaws
 pub mod HeardLaws
 pub mod HoldsLaws
+pub mod KeepsLaws
 pub mod KeptLaws
 pub mod LimitLaws
 pub mod ListenedLaws

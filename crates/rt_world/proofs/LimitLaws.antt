@@ -7,7 +7,7 @@ use Rattle.rt_cover.specs.laws.KeepLaws.{length_of_map}
 use Rattle.rt_world.specs.declared.error.CoreError.{CoreError}
 use Rattle.rt_world.specs.declared.request.Request.{Request}
 use Rattle.rt_world.specs.declared.step.Step.{Step}
-use Rattle.rt_world.specs.World.{World, Listener, empty_world, pending}
+use Rattle.rt_world.specs.World.{World, Listener, pending}
 use Rattle.rt_world.specs.steps.Revoking.{is_cancelled}
 use Rattle.rt_world.specs.After.{listeners_after, requests_after, brought_after, renewed, started_by, listener_given, request_given, counted}
 use Rattle.rt_world.specs.steps.Closing.{unseated}
@@ -19,7 +19,7 @@ use Rattle.rt_world.specs.Limited.{IsWithin, IsAllowed}
 use Rattle.rt_world.specs.laws.World.{NumbersStayWithin}
 use Rattle.rt_world.proofs.Listeners.{or_false_left, or_false_right}
 use Rattle.rt_world.proofs.HeardLaws.{started-same}
-use Rattle.rt_world.proofs.SoundLaws.{sound_empty, sound_step}
+use Rattle.rt_world.proofs.SoundLaws.{sound_step}
 
 -- ---- a step that is not refused
 
@@ -70,7 +70,7 @@ pub record Counts (w : World) (s : Step) : Type 0 where
 no_tag : (w : World) (s : Step) → IsSound w → IsWithin w → listeners_after w s ≡ w.listeners → w.next_tag + length (started_by w s) ≤ w.limits.last_number + 1
 no_tag w s h i e = let none : length (started_by w s) ≡ 0 = ap length (started-same w s h e) in omega (arith, none, i.next_tag)
 
-tag : (w : World) (s : Step) → needs_tag w s ≡ false → w.next_tag + length (started_by w s) ≤ w.limits.last_number + 1
+pub tag : (w : World) (s : Step) → needs_tag w s ≡ false → w.next_tag + length (started_by w s) ≤ w.limits.last_number + 1
 tag w s e = ltb-false (w.limits.last_number + 1) (w.next_tag + length (started_by w s)) e
 
 one_more : {X : Type 0} (xs : List X) (x : X) (most : ℕ) → nat_le most (length xs) ≡ false → length (xs ++ x ∷ []) ≤ most
@@ -171,6 +171,4 @@ within_run (s ∷ rest) w h i =
     within_run rest (step w s).0 (sound_step w s (refusal w s) (is_stale w s) h) (within_step w s (refusal w s) (is_stale w s) h i (allowed w s))
 
 pub numbers_stay_within : NumbersStayWithin
-numbers_stay_within limits steps =
-    within_run steps (empty_world limits) (sound_empty limits)
-    (record { listeners = omega arith; requests = omega arith; next_listener = omega arith; next_request = omega arith; next_tag = omega arith })
+numbers_stay_within w steps = within_run steps w

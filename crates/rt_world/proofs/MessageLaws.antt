@@ -5,7 +5,7 @@ use Rattle.std.specs.List.{fold, list_any}
 use Rattle.rt_world.specs.declared.error.CoreError.{CoreError}
 use Rattle.rt_wire.specs.declared.client.ClientMessage.{ClientMessage}
 use Rattle.rt_world.specs.declared.step.Step.{Step}
-use Rattle.rt_world.specs.World.{World, empty_world}
+use Rattle.rt_world.specs.World.{World}
 use Rattle.rt_world.specs.Messages.{listens, request_message, messages_of, outgoing_before, next}
 use Rattle.rt_world.specs.Refusals.{refusal, is_stale}
 use Rattle.rt_world.specs.Answers.{step, step_by, world_after}
@@ -13,7 +13,7 @@ use Rattle.rt_world.specs.Runs.{Event, Opened, Made, Ended, events_before, event
 use Rattle.rt_world.specs.Sound.{IsSound}
 use Rattle.rt_world.specs.laws.World.{MessagesAreHeard, SendsAll, ConnectedSendsAll}
 use Rattle.rt_world.proofs.HeardLaws.{kept-same}
-use Rattle.rt_world.proofs.SoundLaws.{sound_empty, sound_next, sound_run}
+use Rattle.rt_world.proofs.SoundLaws.{sound_next}
 use Rattle.rt_world.proofs.HeadlineLaws.{heard_all}
 
 made-append : (c : List ClientMessage) (xs ys : List Event) → fold made_after c (xs ++ ys) ≡ fold made_after (fold made_after c xs) ys
@@ -76,9 +76,7 @@ made-from c (Made m ∷ es) =
     in_front false = append_assoc c (m ∷ []) (fold made_after [] es)
 
 pub messages_are_heard : MessagesAreHeard
-messages_are_heard limits before steps online =
-    let w = world_after (empty_world limits) before in
-    let h = sound_run before (empty_world limits) (sound_empty limits) in
+messages_are_heard w steps h online =
     record {
       sent = sym (made_all steps w w.outgoing (λ _. refl) online) ∙ made-from w.outgoing (events w steps);
       heard = heard_all steps w w.kept h (λ _. refl) online;
@@ -94,6 +92,4 @@ connected_sends w h =
     }
 
 pub connected_sends_all : ConnectedSendsAll
-connected_sends_all limits before ok =
-    let w = world_after (empty_world limits) before in
-    subst (λ o. SendsAll (step_by o false w Step.Connected).0) (sym ok) (connected_sends w (sound_run before (empty_world limits) (sound_empty limits)))
+connected_sends_all w h ok = subst (λ o. SendsAll (step_by o false w Step.Connected).0) (sym ok) (connected_sends w h)

@@ -1,6 +1,5 @@
 -- Each step moves from its world to the next.
-use Rattle.std.proofs.Common.{◌≡◌, ℕ, zero, suc, ◌<◌, Bool, true, false, cond, not, ◌&&◌, ◌||◌, ◌==◌, inl, inr, List, [], ◌∷◌, ◌++◌, map, refl, sym, ap, subst, ◌∙◌, append-nil, arith, slice_index_or, Option, Some, None, Ok, Err}
-use mathlib.Core.Bool.{true≢false}
+use Rattle.std.proofs.Common.{◌≡◌, ℕ, zero, suc, ◌<◌, Bool, true, false, cond, not, ◌&&◌, ◌||◌, ◌==◌, inl, inr, List, [], ◌∷◌, ◌++◌, map, refl, sym, ap, subst, ◌∙◌, arith, slice_index_or, Option, Some, None, Ok, Err}
 use Rattle.std.specs.Prelude.{is_none}
 use Rattle.std.specs.List.{find, fold, All, Contains}
 use Rattle.std.specs.Option.{option_map, option_map_or}
@@ -13,18 +12,20 @@ use Rattle.rt_cover.specs.Cover.{Tagged, forms}
 use Rattle.rt_cover.specs.laws.CoverLaws.{Contains-from_filter}
 use Rattle.rt_world.specs.declared.error.CoreError.{CoreError}
 use Rattle.rt_world.specs.declared.error.CoreError.TheVariants.{AlreadyConnected}
+use Rattle.rt_wire.specs.declared.client.ClientMessage.{ClientMessage}
 use Rattle.rt_world.specs.declared.step.Step.{Step}
 use Rattle.rt_world.specs.Views.{is_known}
 use Rattle.rt_world.specs.World.{World, Listener, pending}
-use Rattle.rt_world.specs.After.{kind, listeners_after, requests_after, brought_after, kept_after, started_by, pushed, renewed, is_connected_after}
+use Rattle.rt_world.specs.After.{listeners_after, requests_after, brought_after, kept_after, pushed, renewed, is_connected_after}
 use Rattle.rt_world.specs.Messages.{listens, unlistens, request_message, request_sent, stopped_by, messages_online, messages_of, outgoing_before, kept_before, heard_by, next}
 use Rattle.rt_world.specs.Refusals.{refusal, is_stale}
 use Rattle.rt_world.specs.Answers.{step, step_by, stale_report, report_of}
-use Rattle.rt_world.specs.Headline.{AreKept, primed_in, unseen, asks_due, Sends, Makes, MakesOrLeaves, Moves}
+use Rattle.rt_world.specs.Headline.{AreKept, primed_in, unseen, begun, ended, sent_due, Sends, Makes, MakesOrLeaves, Moves}
 use Rattle.rt_world.specs.Sound.{IsSound}
 use Rattle.rt_world.proofs.Listeners.{find-number, find-no_number, not_bound, number-renewed, primed_view, query-renewed, registered-renewed}
 use Rattle.rt_world.proofs.ShowLaws.{first_seen, left_or_more, step_up_to_date}
 use Rattle.rt_world.proofs.HeardLaws.{heard-done, heard-events}
+use Rattle.rt_world.proofs.KeepsLaws.{begun_are, keeps}
 
 -- ---- primed marks
 
@@ -89,38 +90,28 @@ primed_same w h k d lt =
 
 -- ---- messages
 
-sends_of : (w : World) (s : Step) → IsSound w → (begun ended : List Tagged)
-    → messages_of w s ≡ listens begun ++ unlistens ended ++ asks_due w s (next w s)
-    → ((kind s).opens ≡ true → (begun ≡ w.kept) × (ended ≡ []))
-    → (is_connected_after w s ≡ false → (begun ≡ []) × (ended ≡ []))
-    → Sends w s (next w s)
-sends_of w s h begun ended messages opens silent = record {
-  begun = begun;
-  ended = ended;
+sends_of : (w : World) (s : Step) → IsSound w → messages_of w s ≡ sent_due w s (next w s) → Sends w s (next w s)
+sends_of w s h messages = record {
   outgoing = ap (λ m. outgoing_before w s ++ m) messages;
   heard = λ on. ap (fold heard_by (kept_before s w.kept)) (sym messages) ∙ sym (heard-events s w.kept (messages_of w s)) ∙ heard-done w s w.kept h (λ _. refl) on;
-  opens = opens;
-  silent = silent;
 }
 
 -- a step that leaves the connection as it is
-sends_going : (w : World) (s : Step) → IsSound w → (kind s).opens ≡ false → is_connected_after w s ≡ w.is_connected
+sends_going : (w : World) (s : Step) → IsSound w → is_connected_after w s ≡ w.is_connected
     → messages_of w s ≡ cond w.is_connected (messages_online w s) [] → Sends w s (next w s)
-sends_going w s h opens same messages =
-    elim w.is_connected as (λ b. w.is_connected ≡ b → Sends w s (next w s)) [
-      | true ↦ λ e.
-          sends_of w s h (started_by w s) (stopped_by w s)
-          (messages ∙ ap (λ b. cond b (messages_online w s) []) e
-          ∙ (λ i. listens (started_by w s) ++ unlistens (stopped_by w s) ++ cond (sym (same ∙ e) i) (cond (sym e i) (request_sent w s) (map request_message (requests_after w s))) []))
-          (λ f. absurd (true≢false (sym f ∙ opens)))
-          (λ f. absurd (true≢false (sym (same ∙ e) ∙ f)))
-      | false ↦ λ e.
-          sends_of w s h [] []
-          (messages ∙ ap (λ b. cond b (messages_online w s) []) e
-          ∙ (λ i. cond (sym (same ∙ e) i) (cond w.is_connected (request_sent w s) (map request_message (requests_after w s))) []))
-          (λ f. absurd (true≢false (sym f ∙ opens)))
-          (λ f. (refl, refl))
-    ] refl
+sends_going w s h same messages =
+    sends_of w s h
+    (messages
+    ∙ ap (λ ks. cond w.is_connected (listens ks ++ unlistens (stopped_by w s) ++ request_sent w s) []) (sym (begun_are w s h))
+    ∙ twice w.is_connected online (listens w.kept ++ map request_message (requests_after w s))
+    ∙ (λ i. cond (sym same i) (cond w.is_connected online (listens w.kept ++ map request_message (requests_after w s))) []))
+  where
+    online : List ClientMessage
+    online = listens (begun w (next w s)) ++ unlistens (ended w s (next w s)) ++ request_sent w s
+
+    twice : (b : Bool) (xs ys : List ClientMessage) → cond b xs [] ≡ cond b (cond b xs ys) []
+    twice true xs ys = refl
+    twice false xs ys = refl
 
 -- one that opens a connection found none
 was_closed : (w : World) → refusal w Step.Connected ≡ None → w.is_connected ≡ false
@@ -135,21 +126,18 @@ was_closed w r =
 
 sends : (w : World) (s : Step) → IsSound w → refusal w s ≡ None → Sends w s (next w s)
 sends w Step.Connected h r =
-    sends_of w Step.Connected h w.kept []
-    (λ i. sym (append-nil (listens w.kept)) i ++ cond (sym (was_closed w r) i) (request_sent w Step.Connected) (map request_message w.requests))
-    (λ f. (refl, refl))
-    (λ f. absurd (true≢false f))
-sends w Step.Disconnected h r = sends_of w Step.Disconnected h [] [] refl (λ f. absurd (true≢false (sym f))) (λ f. (refl, refl))
-sends w (Step.Listen seat query) h r = sends_going w (Step.Listen seat query) h refl refl refl
-sends w (Step.Unlisten seat listener) h r = sends_going w (Step.Unlisten seat listener) h refl refl refl
-sends w (Step.Write seat action) h r = sends_going w (Step.Write seat action) h refl refl refl
-sends w (Step.OnDisconnect seat ending) h r = sends_going w (Step.OnDisconnect seat ending) h refl refl refl
-sends w (Step.Data tag path tree) h r = sends_going w (Step.Data tag path tree) h refl refl refl
-sends w (Step.DataMerge tag entries) h r = sends_going w (Step.DataMerge tag entries) h refl refl refl
-sends w (Step.Accepted id) h r = sends_going w (Step.Accepted id) h refl refl refl
-sends w (Step.Refused id why) h r = sends_going w (Step.Refused id why) h refl refl refl
-sends w (Step.Revoked tag why) h r = sends_going w (Step.Revoked tag why) h refl refl refl
-sends w (Step.CloseSeat seat) h r = sends_going w (Step.CloseSeat seat) h refl refl refl
+    sends_of w Step.Connected h (λ i. cond (sym (was_closed w r) i) (listens (begun w (next w Step.Connected)) ++ unlistens (ended w Step.Connected (next w Step.Connected)) ++ request_sent w Step.Connected) (listens w.kept ++ map request_message w.requests))
+sends w Step.Disconnected h r = sends_of w Step.Disconnected h refl
+sends w (Step.Listen seat query) h r = sends_going w (Step.Listen seat query) h refl refl
+sends w (Step.Unlisten seat listener) h r = sends_going w (Step.Unlisten seat listener) h refl refl
+sends w (Step.Write seat action) h r = sends_going w (Step.Write seat action) h refl refl
+sends w (Step.OnDisconnect seat ending) h r = sends_going w (Step.OnDisconnect seat ending) h refl refl
+sends w (Step.Data tag path tree) h r = sends_going w (Step.Data tag path tree) h refl refl
+sends w (Step.DataMerge tag entries) h r = sends_going w (Step.DataMerge tag entries) h refl refl
+sends w (Step.Accepted id) h r = sends_going w (Step.Accepted id) h refl refl
+sends w (Step.Refused id why) h r = sends_going w (Step.Refused id why) h refl refl
+sends w (Step.Revoked tag why) h r = sends_going w (Step.Revoked tag why) h refl refl
+sends w (Step.CloseSeat seat) h r = sends_going w (Step.CloseSeat seat) h refl refl
 
 -- ---- what is made
 
@@ -171,9 +159,9 @@ makes w s h r =
       brought = ap (λ rs. recover (forms rs) (map (λ (k : Tagged). k.form) (kept_after w s)) (pushed w s)) (sym (registered-renewed b ws (listeners_after w s)));
       connected = refl;
       sends = sends w s h r;
+      keeps = keeps w s h r;
       next_listener = refl;
       next_request = refl;
-      next_tag = refl;
     }
 
 -- ---- one step

@@ -21,23 +21,22 @@ use Rattle.rt_view.specs.Views.{with_named}
 use Rattle.rt_world.specs.declared.error.CoreError.{CoreError}
 use Rattle.rt_world.specs.declared.step.Step.{Step}
 use Rattle.rt_world.specs.Views.{is_known, base_tree, is_base_whole, is_child_known, seen_over, view_of}
-use Rattle.rt_world.specs.World.{World, Listener, empty_world, pending, listen_of}
+use Rattle.rt_world.specs.World.{World, Listener, pending, listen_of}
 use Rattle.rt_world.specs.steps.Kind.{Part}
 use Rattle.rt_world.specs.After.{parts_of, requests_after, forms_after, part_pushed, pushed, brought_after, listeners_after}
 use Rattle.rt_world.specs.Messages.{next}
 use Rattle.rt_world.specs.Refusals.{refusal, is_stale}
-use Rattle.rt_world.specs.Answers.{step, step_by, world_after}
+use Rattle.rt_world.specs.Answers.{step, step_by}
 use Rattle.rt_world.specs.Touched.{entries_by, named_by, children_named, is_named, is_covered, seen, children_at, IsInBoth}
 use Rattle.rt_world.specs.Called.{IsCalled}
 use Rattle.rt_world.specs.Sound.{IsSound}
 use Rattle.rt_world.specs.laws.Steps.{UnmetStays}
 use Rattle.rt_world.specs.laws.World.{OnlyNamedChange, LeafNamesAll, LeafReadsNamed, TouchedIsSeen, OthersKeepViews}
-use Rattle.rt_world.proofs.CalledLaws.{called_pushed, called_world}
+use Rattle.rt_world.proofs.CalledLaws.{called_pushed}
 use Rattle.rt_world.proofs.CountLaws.{no_more_children}
 use Rattle.rt_world.proofs.Listeners.{or_false_left, or_false_right}
 use Rattle.rt_world.proofs.Reaching.{form_stays}
 use Rattle.rt_world.proofs.PushLaws.{AreApart, apart_of, apart_below, AlikeAt, alike_same, alike_trans, pushes_alike}
-use Rattle.rt_world.proofs.SoundLaws.{sound_empty, sound_run}
 use Rattle.rt_world.proofs.StayLaws.{LooksSame, same_select, recover_same, renewed_same, same_world, has_stayed}
 use Rattle.rt_world.proofs.TouchingLaws.{misses, SameAt, writes_same}
 
@@ -219,9 +218,7 @@ child_by_step w s None false f h g l m both c k u =
     child_next w s l.query h g f (form_stays (listeners_after w s) l x.stayed) k (misses_unnamed l.query.path k (entries_by w s) c u)
 
 pub only_named_change : OnlyNamedChange
-only_named_change limits before s =
-    let w = world_after (empty_world limits) before in
-    child_by_step w s (refusal w s) (is_stale w s) refl (sound_run before (empty_world limits) (sound_empty limits)) (called_world limits before)
+only_named_change w s h called = child_by_step w s (refusal w s) (is_stale w s) refl h called
 
 -- a leaf has no children
 pub under_leaf : (t : PathTree) (k : Key) → is_some (leaf_of t) ≡ true → child t k ≡ null
@@ -235,9 +232,8 @@ under_leaf t k e = at (leaf_of t) refl
     at (Some l) f = ap (λ u. child u k) (leaf_of_root t l f) ∙ below l
 
 pub leaf_names_all : LeafNamesAll
-leaf_names_all limits before s l m both c leaf k u =
-    let w = world_after (empty_world limits) before in
-    let same = only_named_change limits before s l m both c k u in
+leaf_names_all w s h called l m both c leaf k u =
+    let same = only_named_change w s h called l m both c k u in
     elim leaf [
       | inl old ↦ let gone = under_leaf (seen w l.query) k old in (gone, same ∙ gone)
       | inr new ↦ let gone = under_leaf (seen (step w s).0 l.query) k new in (sym same ∙ gone, gone)
@@ -245,12 +241,11 @@ leaf_names_all limits before s l m both c leaf k u =
 
 -- so all children of the one that has some are named
 pub leaf_reads_named : LeafReadsNamed
-leaf_reads_named limits before s l m both c leaf =
-    let w = world_after (empty_world limits) before in
+leaf_reads_named w s h called l m both c leaf =
     let old = seen w l.query in
     let new = seen (step w s).0 l.query in
     let names = children_named l.query.path (entries_by w s) in
-    let named = leaf_names_all limits before s l m both c leaf in
+    let named = leaf_names_all w s h called l m both c leaf in
     let earlier = no_more_children old names (λ k u. (named k u).0) in
     let later = no_more_children new names (λ k u. (named k u).1) in
     elim leaf [
@@ -313,9 +308,8 @@ touched_same old new keys leaf same =
     ] refl)
 
 pub touched_is_seen : TouchedIsSeen
-touched_is_seen limits before s l m both c leaf =
-    let w = world_after (empty_world limits) before in
-    touched_same (seen w l.query) (seen (step w s).0 l.query) (children_named l.query.path (entries_by w s)) leaf (only_named_change limits before s l m both c)
+touched_is_seen w s h called l m both c leaf =
+    touched_same (seen w l.query) (seen (step w s).0 l.query) (children_named l.query.path (entries_by w s)) leaf (only_named_change w s h called l m both c)
 
 -- ---- a listener elsewhere
 
@@ -329,9 +323,7 @@ view_by_step w s None false f h g l m both u =
     x.renewed ∙ renewed_same w (brought_after w s) (pending (requests_after w s)) l h both.before (view_next w s l.query h g f r u) (known_next w s l.query h g f r u)
 
 pub others_keep_views : OthersKeepViews
-others_keep_views limits before s =
-    let w = world_after (empty_world limits) before in
-    view_by_step w s (refusal w s) (is_stale w s) refl (sound_run before (empty_world limits) (sound_empty limits)) (called_world limits before)
+others_keep_views w s h called = view_by_step w s (refusal w s) (is_stale w s) refl h called
 
 -- it is renewed to itself
 pub unmet_stays : UnmetStays

@@ -1,15 +1,15 @@
 -- What runs write and bring.
-use Rattle.std.proofs.Common.{◌≡◌, List, [], ◌∷◌, refl, ap, ◌∙◌, arith}
+use Rattle.std.proofs.Common.{◌≡◌, List, [], ◌∷◌, refl, ap, ◌∙◌}
 use Rattle.std.specs.List.{All}
 use Rattle.std.proofs.lemmas.List.Elements.{All-head, All-tail}
 use Rattle.rt_world.specs.declared.step.Step.{Step}
-use Rattle.rt_world.specs.World.{World, empty_world, pending}
+use Rattle.rt_world.specs.World.{World, pending}
 use Rattle.rt_world.specs.Refusals.{refusal, is_stale}
 use Rattle.rt_world.specs.Answers.{step, answers, world_after}
 use Rattle.rt_world.specs.Plain.{IsPlainStep, fold_both, writes_by, brought_by}
 use Rattle.rt_world.specs.laws.Holds.{IsSteady}
 use Rattle.rt_world.specs.laws.World.{IsWritten, IsBrought}
-use Rattle.rt_world.proofs.HoldsLaws.{steady_step, worlds_are_steady}
+use Rattle.rt_world.proofs.HoldsLaws.{steady_step}
 use Rattle.rt_world.proofs.PlainLaws.{AreUnfiltered, unfiltered_step, brought_step}
 use Rattle.rt_world.proofs.WrittenLaws.{written_step}
 
@@ -24,15 +24,8 @@ brought_run (s ∷ steps) w h p all =
     brought_run steps (step w s).0 (steady_step w s h) (unfiltered_step w s p u) (All-tail IsPlainStep s steps all)
     ∙ ap (λ b. fold_both brought_by b steps (answers (step w s).0 steps)) (brought_step w s h p u)
 
-unfiltered_run : (steps : List Step) (w : World) → AreUnfiltered w.listeners → All IsPlainStep steps → AreUnfiltered (world_after w steps).listeners
-unfiltered_run [] w p all = p
-unfiltered_run (s ∷ steps) w p all =
-    unfiltered_run steps (step w s).0 (unfiltered_step w s p (All-head IsPlainStep s steps all)) (All-tail IsPlainStep s steps all)
-
 pub is_written : IsWritten
-is_written limits before steps = written_run steps (world_after (empty_world limits) before)
+is_written w steps = written_run steps w
 
 pub is_brought : IsBrought
-is_brought limits before steps first all =
-    let w = world_after (empty_world limits) before in
-    brought_run steps w (worlds_are_steady limits before) (unfiltered_run before (empty_world limits) (λ k d lt. absurd (omega arith)) first) all
+is_brought w steps h plain all = brought_run steps w h plain all

@@ -23,23 +23,22 @@ use Rattle.rt_cover.specs.laws.Paths.{is_at_or_above-same}
 use Rattle.rt_world.specs.declared.error.CoreError.{CoreError}
 use Rattle.rt_world.specs.declared.step.Step.{Step}
 use Rattle.rt_world.specs.Views.{is_known, seen_over, view_of}
-use Rattle.rt_world.specs.World.{World, Listener, empty_world, pending}
+use Rattle.rt_world.specs.World.{World, Listener, pending}
 use Rattle.rt_world.specs.After.{listeners_after, requests_after, forms_after, kept_after, pushed, brought_after, renewed, renewed_after}
 use Rattle.rt_world.specs.Messages.{next}
 use Rattle.rt_world.specs.Refusals.{refusal, is_stale}
-use Rattle.rt_world.specs.Answers.{step_by, world_after}
+use Rattle.rt_world.specs.Answers.{step_by}
 use Rattle.rt_world.specs.Headline.{view_by}
 use Rattle.rt_world.specs.Touched.{IsInBoth}
 use Rattle.rt_world.specs.Called.{IsCalled}
 use Rattle.rt_world.specs.Sound.{IsSound}
 use Rattle.rt_world.specs.laws.World.{changes_listeners, StayAsTheyWere, CoverChangesNoView}
-use Rattle.rt_world.proofs.CalledLaws.{kept_apart, called_world}
+use Rattle.rt_world.proofs.CalledLaws.{kept_apart}
 use Rattle.rt_world.proofs.Listeners.{number-renewed, primed_view}
 use Rattle.rt_world.proofs.Numbers.{one_number}
 use Rattle.rt_world.proofs.Reaching.{forms_kept, form_stays, reached_form}
 use Rattle.rt_world.proofs.RecoverLaws.{whole, region_after, window_after}
 use Rattle.rt_world.proofs.ShowLaws.{left_or_more, first_seen}
-use Rattle.rt_world.proofs.SoundLaws.{sound_empty, sound_run}
 use Rattle.rt_world.proofs.WrittenLaws.{pending-unseated}
 
 -- ---- views of trees with the same children
@@ -253,6 +252,4 @@ step_same w s None false h called c l m both =
     x.renewed ∙ stays_same w s h called c l both.before x.stayed
 
 pub cover_changes_no_view : CoverChangesNoView
-cover_changes_no_view limits before s c =
-    let w = world_after (empty_world limits) before in
-    step_same w s (refusal w s) (is_stale w s) (sound_run before (empty_world limits) (sound_empty limits)) (called_world limits before) c
+cover_changes_no_view w s h called c = step_same w s (refusal w s) (is_stale w s) h called c

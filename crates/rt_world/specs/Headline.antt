@@ -1,14 +1,15 @@
 -- The fewest listens, and the views over what they brought: what any steps lead to, said of the
 -- worlds before and after, the steps and the answers.
-use Rattle.std.specs.Prelude.{◌≡◌, ℕ, ◌+◌, Bool, true, false, IsTrue, IsFalse, if◌then◌else◌, ◌||◌}
-use Rattle.std.specs.Prelude.{List, [], ◌∷◌, ◌++◌, map, length, drop, ◌==◌, Option, Some, None, Ok}
-use Rattle.std.specs.Prelude.{Err}
-use Rattle.std.specs.List.{filter, find, flat_map, fold, All}
+use Rattle.std.specs.Prelude.{◌≡◌, ℕ, ◌+◌, ◌<◌, ◌≤◌, Bool, true, false, IsTrue, IsFalse, if◌then◌else◌}
+use Rattle.std.specs.Prelude.{◌||◌, List, [], ◌∷◌, ◌++◌, map, length, drop, ◌==◌, Option, Some, None}
+use Rattle.std.specs.Prelude.{Ok, Err}
+use Rattle.std.specs.List.{filter, find, flat_map, fold, All, AllPairs}
 use Rattle.std.specs.Option.{option_map_or}
 use Rattle.rt_query.specs.Queries.{Query}
 use Rattle.rt_query.specs.Select.{Shown}
 use Rattle.rt_cache.specs.Recover.{recover}
-use Rattle.rt_cover.specs.Cover.{Tagged, forms}
+use Rattle.rt_cover.specs.Cover.{Tagged, forms, kept_for}
+use Rattle.rt_cover.specs.State.{beyond, shown_with}
 use Rattle.rt_cover.specs.Shown.{AreFewest, IsCertified}
 use Rattle.rt_view.specs.declared.change.Change.{Change}
 use Rattle.rt_view.specs.Changes.{Turns}
@@ -18,9 +19,9 @@ use Rattle.rt_world.specs.declared.report.Body.TheVariants.{Settled, Cancelled, 
 use Rattle.rt_world.specs.declared.step.Step.{Step}
 use Rattle.rt_world.specs.World.{World, Listener, registered, pending, cover}
 use Rattle.rt_world.specs.Views.{is_known, view_of}
-use Rattle.rt_world.specs.After.{kind, listeners_after, requests_after, pushed, is_connected_after}
-use Rattle.rt_world.specs.After.{started_by, listener_given, request_given, counted}
-use Rattle.rt_world.specs.Messages.{listens, unlistens, request_message, request_sent}
+use Rattle.rt_world.specs.After.{listeners_after, requests_after, pushed, is_connected_after}
+use Rattle.rt_world.specs.After.{listener_given, request_given, counted}
+use Rattle.rt_world.specs.Messages.{unrevoked, listens, unlistens, request_message, request_sent}
 use Rattle.rt_world.specs.Messages.{outgoing_before, kept_before, heard_by}
 use Rattle.rt_world.specs.Refusals.{refusal, is_stale, is_done}
 use Rattle.rt_world.specs.Answers.{Answer, stale_report, report_of, batch_from, view_before}
@@ -76,31 +77,44 @@ answer_due old s new =
     option_map_or Err (refusal old s)
     (Ok (if is_stale old s then stale_report else report_of old s new.listeners))
 
--- the requests that a step asks the server for: one that opens a connection for all that are
--- unsettled
-abbrev pub asks_due : World → Step → World → List ClientMessage
-asks_due old s new =
+-- the listens that a step begins: those that are kept now, and were not before
+abbrev pub begun : World → World → List Tagged
+begun old new = beyond new.kept old.kept
+
+-- those that it ends: those that were kept before, and are not now; who revoked one knows that it
+-- stops
+abbrev pub ended : World → Step → World → List Tagged
+ended old s new = unrevoked s (beyond old.kept new.kept)
+
+-- what a step has to send: the listens that it begins, those that it ends, and its request; one that
+-- opens a connection sends all that is kept and unsettled; without a connection nothing is sent
+abbrev pub sent_due : World → Step → World → List ClientMessage
+sent_due old s new =
     if new.is_connected
-    then (if old.is_connected then request_sent old s else map request_message new.requests)
+    then (if old.is_connected
+    then listens (begun old new) ++ unlistens (ended old s new) ++ request_sent old s
+    else listens old.kept ++ map request_message new.requests)
     else []
 
--- of a step that is done: it begins and ends listens, and then asks; a server that hears this keeps
--- what the core keeps; one that opens a connection begins the kept listens, and nothing else; without
--- a connection nothing is sent
+-- of a step that is done: it sends just that, and a server that hears it keeps what the core keeps
 pub record Sends (old : World) (s : Step) (new : World) : Type 0 where
-  pub begun : List Tagged
-  pub ended : List Tagged
-  pub outgoing : new.outgoing
-      ≡ outgoing_before old s ++ (listens begun ++ unlistens ended ++ asks_due old s new)
+  pub outgoing : new.outgoing ≡ outgoing_before old s ++ sent_due old s new
   pub heard : IsTrue new.is_connected
-      → fold heard_by (kept_before s old.kept)
-      (listens begun ++ unlistens ended ++ asks_due old s new)
-      ≡ new.kept
-  pub opens : IsTrue (kind s).opens → (begun ≡ old.kept) × (ended ≡ [])
-  pub silent : IsFalse new.is_connected → (begun ≡ []) × (ended ≡ [])
+      → fold heard_by (kept_before s old.kept) (sent_due old s new) ≡ new.kept
+
+-- with a connection or without: of the listens kept before those stay, under their tags, whose forms
+-- are kept now; then come those that begin, under the next tags, in order of the listeners that they
+-- are shown with, and none above the last number
+pub record Keeps (old new : World) : Type 0 where
+  pub kept : new.kept ≡ kept_for old.next_tag old.kept (map (λ k. k.form) new.kept)
+  pub order : AllPairs (λ j k. j.listener < k.listener)
+      (map (shown_with (registered new.listeners)) (begun old new))
+  pub last : All (λ k. k.tag ≤ old.limits.last_number) (begun old new)
+  pub next : new.next_tag ≡ old.next_tag + length (begun old new)
 
 -- what a step leaves that is done: its listeners and requests, what is brought once its push is
--- taken and what no listen reaches is lost, the connection, and the next numbers
+-- taken and what no listen reaches is lost, the connection, the listens with their tags, and the next
+-- numbers
 pub record Makes (old : World) (s : Step) (new : World) : Type 0 where
   pub limits : new.limits ≡ old.limits
   pub listeners : map unseen new.listeners ≡ map unseen (listeners_after old s)
@@ -109,9 +123,9 @@ pub record Makes (old : World) (s : Step) (new : World) : Type 0 where
       ≡ recover (forms (registered new.listeners)) (map (λ k. k.form) new.kept) (pushed old s)
   pub connected : new.is_connected ≡ is_connected_after old s
   pub sends : Sends old s new
+  pub keeps : Keeps old new
   pub next_listener : new.next_listener ≡ counted old.next_listener (listener_given old s)
   pub next_request : new.next_request ≡ counted old.next_request (request_given old s)
-  pub next_tag : new.next_tag ≡ old.next_tag + length (started_by old s)
 
 -- one that is done makes this, and another leaves all as it is
 abbrev pub MakesOrLeaves : Bool → World → Step → World → Type 0

@@ -7,7 +7,9 @@ ghost use Rattle.rt_world.specs.laws.False.{PushIsDropped, PushIsStale, PushIsNo
 ghost use Rattle.rt_world.specs.laws.False.{PushIsToldToAnother, PushShowsAnother, PushPrimesNobody};
 ghost use Rattle.rt_world.specs.laws.False.{WriteShowsNothing, WriteIsForgotten, SettledIsPending};
 ghost use Rattle.rt_world.specs.laws.False.{RefusedStillShows, RunDoesNothing, RunStopsShort};
-ghost use Rattle.rt_world.specs.laws.False.{RunRegistersNobody};
+ghost use Rattle.rt_world.specs.laws.False.{RunRegistersNobody, WriteBeginsListen, ListenGetsAnyTag};
+ghost use Rattle.rt_world.specs.laws.False.{PushRestartsListen, WriteChangesTag, UnlistenSwapsTags};
+ghost use Rattle.rt_world.specs.laws.False.{NextTagLags, EndPassesLastTag, WritePassesLastTag};
 
 /// A listen that leaves nothing, comes too late, is refused, is not sent or not kept; another seat
 /// that is told of an end.
@@ -44,4 +46,19 @@ pub fn false_runs()
     ensures nothing { RunDoesNothing }
     ensures short { RunStopsShort }
     ensures nobody { RunRegistersNobody }
+{}
+
+/// A write that begins and ends a listen of nobody's, a listen under another tag than the next one, a
+/// push that restarts a listen, a write without a connection that changes a tag, listens that begin in
+/// another order than their listeners', a next tag that lags, and an end and a write that begin a
+/// listen under a tag above the last number.
+pub fn false_tags()
+    ensures listen { WriteBeginsListen }
+    ensures tag { ListenGetsAnyTag }
+    ensures restart { PushRestartsListen }
+    ensures changed { WriteChangesTag }
+    ensures order { UnlistenSwapsTags }
+    ensures next { NextTagLags }
+    ensures last { EndPassesLastTag }
+    ensures lost { WritePassesLastTag }
 {}

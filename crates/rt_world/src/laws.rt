@@ -1,11 +1,12 @@
 // The laws of the world.
-ghost use Rattle.rt_world.specs.laws.World.{HeadlineHolds, CoverTakesChanges, DeltaIsSent};
-ghost use Rattle.rt_world.specs.laws.World.{CoverChangesNoView, OnlyNamedChange, LeafNamesAll};
+ghost use Rattle.rt_world.specs.laws.World.{HeadlineHolds, CoverChangesNoView};
+ghost use Rattle.rt_world.specs.laws.World.{OnlyNamedChange, LeafNamesAll};
 ghost use Rattle.rt_world.specs.laws.World.{LeafReadsNamed, TouchedIsSeen, OthersKeepViews};
 ghost use Rattle.rt_world.specs.laws.World.{MessagesAreHeard, ConnectedSendsAll, NumbersStayWithin};
 ghost use Rattle.rt_world.specs.laws.World.{IsWritten, IsBrought};
 ghost use Rattle.rt_world.specs.laws.Touch.{SeenAreChildren, UnmetAreSeen, UnnamedAreSeen};
 ghost use Rattle.rt_world.specs.laws.Touch.{TouchIsEnough, ElseFewAreSeen};
+ghost use Rattle.rt_world.specs.laws.Holds.{CoverFollows, DeltaFollows};
 ghost use Rattle.rt_world.specs.laws.Steps.{WorldsAreSound, WorldsAreCalled, StaysSound};
 ghost use Rattle.rt_world.specs.laws.Steps.{NotRefusedIsAllowed};
 ghost use Rattle.rt_world.specs.laws.Steps.{ListensStay, UnmetStays, RenewedIsOne};
@@ -20,18 +21,19 @@ pub fn headline_law()
     ensures { HeadlineHolds }
 {}
 
-/// A step that registers or ends listeners changes the cover as rt_cover says, starts and stops the
-/// listens that this tells, and changes the view and the primed mark of no listener that stays.
+/// In a sound world a step that registers or ends listeners changes the cover as rt_cover says, starts
+/// and stops the listens that this tells, and changes the view and the primed mark of no listener that
+/// stays.
 pub fn cover_law()
-    ensures changes { CoverTakesChanges }
-    ensures told { DeltaIsSent }
+    ensures changes { CoverFollows }
+    ensures told { DeltaFollows }
     ensures views { CoverChangesNoView }
 {}
 
-/// Of what a listener sees a step changes the children that its entries name, unless one of them sits
-/// at or above the listener's path: a view that is touched with these is the view from scratch, and
-/// where a leaf comes or goes, one that takes all its children anew reads no more. A listener whose
-/// path no entry overlaps stays as it was.
+/// Between steps: of what a listener sees a step changes the children that its entries name, unless
+/// one of them sits at or above the listener's path. A view that is touched with these is the view
+/// from scratch, and where a leaf comes or goes, one that takes all its children anew reads no more. A
+/// listener whose path no entry overlaps stays as it was.
 pub fn named_law()
     ensures named { OnlyNamedChange }
     ensures leaf { LeafNamesAll }
@@ -51,22 +53,24 @@ pub fn touch_law()
     ensures few { ElseFewAreSeen }
 {}
 
-/// The messages to be sent are those that the steps made, and the server that hears them keeps just
-/// the kept listens; once a connection is opened they are all listens by tag, and then all unsettled
-/// requests by number.
+/// From a sound world: the messages to be sent are those that were left and those that the steps made,
+/// and the server that hears them keeps just the kept listens; once a connection is opened they are
+/// all listens by tag, and then all unsettled requests by number.
 pub fn message_law()
     ensures heard { MessagesAreHeard }
     ensures connected { ConnectedSendsAll }
 {}
 
-/// No more listeners and requests than the limits say, and no number above the last one.
+/// Steps lead from a sound world within its limits to one: no more listeners and requests than the
+/// limits say, and no number above the last one.
 pub fn limit_law()
     ensures { NumbersStayWithin }
 {}
 
-/// After any steps the pending writes are those of before, with those that the steps made and without
-/// those that they settled; and what plain listens brought is that of before with the pushes that the
-/// steps took in, as long as no listen is lost.
+/// After any steps, from any world, the pending writes are those of before, with those that the steps
+/// made and without those that they settled; and between steps, where all listeners are plain, what
+/// they brought is that of before with the pushes that the steps took in, as long as no listen is
+/// lost.
 pub fn plain_law()
     ensures written { IsWritten }
     ensures brought { IsBrought }

@@ -1,17 +1,20 @@
 -- Steps and runs as they must not be: the headline is met by none of these.
-use Rattle.std.specs.Prelude.{◌≡◌, ℕ, true, List, [], ◌∷◌, Option, Some, None, Ok, Err, codes, pos}
+use Rattle.std.specs.Prelude.{◌≡◌, ℕ, true, List, [], ◌∷◌, ◌++◌, Option, Some, None, Ok, Err, codes}
+use Rattle.std.specs.Prelude.{pos}
 use Rattle.rt_tree.specs.Leaf.{number}
 use Rattle.rt_tree.specs.Path.{path_keys}
 use Rattle.rt_tree.specs.PathTree.{Path}
 use Rattle.rt_query.specs.Queries.{plain}
 use Rattle.rt_view.specs.declared.change.Change.TheVariants.{Value}
+use Rattle.rt_wire.specs.declared.client.ClientMessage.{ClientMessage}
 use Rattle.rt_wire.specs.declared.request.Action.TheVariants.{Put}
 use Rattle.rt_world.specs.declared.error.CoreError.TheVariants.{TooManyListeners}
 use Rattle.rt_world.specs.declared.report.Body.TheVariants.{Settled, Cancelled}
 use Rattle.rt_world.specs.declared.report.Note.{Note}
 use Rattle.rt_world.specs.declared.report.Outcome.TheVariants.{Done}
 use Rattle.rt_world.specs.declared.step.Step.{Step}
-use Rattle.rt_world.specs.World.{World, Listener}
+use Rattle.rt_world.specs.World.{World, Listener, empty_world}
+use Rattle.rt_world.specs.Messages.{next}
 use Rattle.rt_world.specs.Answers.{Answer, stale_report, step, world_after}
 use Rattle.rt_world.specs.Headline.{Moves, Headline}
 use Rattle.rt_world.specs.laws.Script.{fresh, num, told, batch, shown_leaf}
@@ -156,3 +159,103 @@ RunRegistersNobody =
     (answers : List Answer) (new : World) → new.listeners ≡ []
     → let steps = Step.Connected ∷ Step.Listen 1 (plain a) ∷ Step.Data 1 a (num 7) ∷ [] in
     Headline fresh steps answers new → ⊥
+
+-- ---- listens and tags
+
+-- one step does not lead there, whatever it answers
+abbrev pub NeverLeads : World → Step → World → Type 0
+NeverLeads old s new = (answer : Answer) → Headline old (s ∷ []) (answer ∷ []) new → ⊥
+
+-- the same, but that /a is listened to under that tag, and nothing else is
+abbrev pub kept_as : ℕ → World → World
+kept_as tag w = record w { kept = record { tag = tag; form = plain a } ∷ [] }
+
+abbrev pub set_a : Step
+set_a = Step.Write 1 (Put a (num 8))
+
+-- a write begins and ends a listen of nobody's
+abbrev pub noisy : World
+noisy = record (step connected set_a).0 {
+  outgoing =
+      ClientMessage.Listen 99 (plain []) ∷ ClientMessage.Unlisten 99
+      ∷ (step connected set_a).0.outgoing;
+}
+
+abbrev pub WriteBeginsListen : Type 0
+WriteBeginsListen = NeverLeads connected set_a noisy
+
+-- a listen gets another tag than the next one
+abbrev pub mistagged : World
+mistagged = record (kept_as 77 listening) { outgoing = ClientMessage.Listen 77 (plain a) ∷ [] }
+
+abbrev pub ListenGetsAnyTag : Type 0
+ListenGetsAnyTag = NeverLeads connected (Step.Listen 1 (plain a)) mistagged
+
+-- a push ends a listen and begins it again
+abbrev pub restarted : World
+restarted = record (kept_as 9007199254740992 seeing) {
+  outgoing =
+      listening.outgoing
+      ++ ClientMessage.Listen 9007199254740992 (plain a) ∷ ClientMessage.Unlisten 1 ∷ [];
+}
+
+abbrev pub PushRestartsListen : Type 0
+PushRestartsListen = NeverLeads listening (Step.Data 1 a (num 7)) restarted
+
+-- without a connection a kept listen gets the next tag
+abbrev pub offline : World
+offline = (step seeing Step.Disconnected).0
+
+abbrev pub retagged : World
+retagged = record (kept_as 2 (step offline set_a).0) { next_tag = 3 }
+
+abbrev pub WriteChangesTag : Type 0
+WriteChangesTag = NeverLeads offline set_a retagged
+
+-- the end of a listener begins the listens of two others, the later one's first
+abbrev pub b : Path
+b = path_keys (codes "/a/b")
+
+abbrev pub c : Path
+c = path_keys (codes "/a/c")
+
+abbrev pub three : World
+three =
+    world_after connected
+    (Step.Listen 1 (plain a) ∷ Step.Listen 1 (plain b) ∷ Step.Listen 1 (plain c) ∷ [])
+
+abbrev pub swapped : World
+swapped = record (step three (Step.Unlisten 1 1)).0 {
+  kept = record { tag = 2; form = plain c } ∷ record { tag = 3; form = plain b } ∷ [];
+  outgoing =
+      three.outgoing
+      ++ ClientMessage.Listen 2 (plain c) ∷ ClientMessage.Listen 3 (plain b) ∷ ClientMessage.Unlisten 1
+      ∷ [];
+}
+
+abbrev pub UnlistenSwapsTags : Type 0
+UnlistenSwapsTags = NeverLeads three (Step.Unlisten 1 1) swapped
+
+-- the next tag is one that a listen just got
+abbrev pub lagging : World
+lagging = record listening { next_tag = 1 }
+
+abbrev pub NextTagLags : Type 0
+NextTagLags = NeverLeads connected (Step.Listen 1 (plain a)) lagging
+
+-- with no number above 2 both tags are given: to /a/b, and to /a, which takes over its listen
+abbrev pub spent : World
+spent =
+    world_after (empty_world (record { listeners = 2; requests = 2; last_number = 2 }))
+    (Step.Connected ∷ Step.Listen 1 (plain b) ∷ Step.Listen 1 (plain a) ∷ [])
+
+-- the end of /a begins /a/b again, under tag 3
+abbrev pub EndPassesLastTag : Type 0
+EndPassesLastTag = NeverLeads spent (Step.Unlisten 1 2) (next spent (Step.Unlisten 1 2))
+
+-- where the listen of /a was lost, a write begins it again, under tag 3
+abbrev pub bare : World
+bare = record spent { kept = [] }
+
+abbrev pub WritePassesLastTag : Type 0
+WritePassesLastTag = NeverLeads bare set_a (step bare set_a).0

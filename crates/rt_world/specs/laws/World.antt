@@ -1,25 +1,28 @@
--- Laws of the world.
+-- Laws of the world. Those of worlds between steps ask for what holds there (IsSound, IsCalled), or for
+-- a part of it: so each holds also where messages were taken out.
 use Rattle.std.specs.Prelude.{◌≡◌, ◌<◌, ◌≤◌, ◌+◌, ◌⊎◌, Bool, true, false, List, ◌++◌, map, length}
-use Rattle.std.specs.Prelude.{Some, None, is_some}
+use Rattle.std.specs.Prelude.{None, is_some}
 use Rattle.std.specs.List.{list_any, All, AllPairs}
 use Rattle.rt_tree.specs.PathTree.{Key, null, leaf_of, child}
 use Rattle.rt_tree.specs.Children.{children_of}
 use Rattle.rt_tree.specs.Assignments.{do_overlap}
+use Rattle.rt_query.specs.Queries.{is_filtered}
 use Rattle.rt_cover.specs.Cover.{Tagged}
-use Rattle.rt_cover.specs.Runs.{Change, told}
 use Rattle.rt_view.specs.Views.{with_named}
 use Rattle.rt_world.specs.declared.limits.Limits.{Limits}
 use Rattle.rt_world.specs.declared.request.Request.{Request}
 use Rattle.rt_world.specs.declared.step.Step.{Step}
 use Rattle.rt_world.specs.Plain.{IsPlainStep, fold_both, writes_by, brought_by}
 use Rattle.rt_world.specs.World.{Listener, World, empty_world, pending}
-use Rattle.rt_world.specs.Messages.{listens, request_message, next}
+use Rattle.rt_world.specs.Messages.{listens, request_message}
 use Rattle.rt_world.specs.Refusals.{refusal}
 use Rattle.rt_world.specs.Answers.{step, answers, world_after}
 use Rattle.rt_world.specs.Runs.{made, heard, left_to_send}
-use Rattle.rt_world.specs.Covering.{cover_in, cover_after, change_by, delta_by}
+use Rattle.rt_world.specs.Called.{IsCalled}
 use Rattle.rt_world.specs.Limited.{IsWithin}
 use Rattle.rt_world.specs.Headline.{Headline}
+use Rattle.rt_world.specs.Sound.{IsSound}
+use Rattle.rt_world.specs.laws.Holds.{IsSteady}
 use Rattle.rt_world.specs.Touched.{entries_by, is_covered, children_named, is_named, seen}
 use Rattle.rt_world.specs.Touched.{children_at, IsInBoth}
 
@@ -31,18 +34,6 @@ HeadlineHolds =
     Headline w steps (answers w steps) (world_after w steps)
 
 -- ---- listens
-
--- a step that is done takes the cover to what its change of listeners makes of it
-abbrev pub CoverTakesChanges : Type 0
-CoverTakesChanges = (limits : Limits) (before : List Step) (s : Step)
-    → let w = world_after (empty_world limits) before in
-    cover_in (next w s) ≡ cover_after w s
-
--- and starts and stops what that change tells
-abbrev pub DeltaIsSent : Type 0
-DeltaIsSent = (limits : Limits) (before : List Step) (s : Step)
-    → let w = world_after (empty_world limits) before in
-    (change : Change) → change_by w s ≡ Some change → told (cover_in w) change ≡ delta_by w s
 
 -- whether a step registers or ends listeners
 abbrev pub changes_listeners : Step → Bool
@@ -65,18 +56,16 @@ StayAsTheyWere old new = (l m : Listener) → IsInBoth old new l m → m ≡ l
 
 -- so they are after such a step, which changes the listens kept and what they brought
 abbrev pub CoverChangesNoView : Type 0
-CoverChangesNoView = (limits : Limits) (before : List Step) (s : Step)
-    → let w = world_after (empty_world limits) before in
-    changes_listeners s ≡ true → StayAsTheyWere w (step w s).0
+CoverChangesNoView = (w : World) (s : Step) → IsSound w → IsCalled w.brought
+    → changes_listeners s ≡ true → StayAsTheyWere w (step w s).0
 
 -- ---- children
 
 -- where no entry of the step sits at or above a listener's path, a child that none names is seen as
 -- before
 abbrev pub OnlyNamedChange : Type 0
-OnlyNamedChange = (limits : Limits) (before : List Step) (s : Step)
-    → let w = world_after (empty_world limits) before in
-    let v = (step w s).0 in
+OnlyNamedChange = (w : World) (s : Step) → IsSound w → IsCalled w.brought
+    → let v = (step w s).0 in
     (l m : Listener) → IsInBoth w v l m
     → let p = l.query.path in
     let entries = entries_by w s in
@@ -87,9 +76,8 @@ OnlyNamedChange = (limits : Limits) (before : List Step) (s : Step)
 -- so where a leaf stands at the path before or after, all children that are seen before or after are
 -- named
 abbrev pub LeafNamesAll : Type 0
-LeafNamesAll = (limits : Limits) (before : List Step) (s : Step)
-    → let w = world_after (empty_world limits) before in
-    let v = (step w s).0 in
+LeafNamesAll = (w : World) (s : Step) → IsSound w → IsCalled w.brought
+    → let v = (step w s).0 in
     (l m : Listener) → IsInBoth w v l m
     → let p = l.query.path in
     let entries = entries_by w s in
@@ -100,9 +88,8 @@ LeafNamesAll = (limits : Limits) (before : List Step) (s : Step)
 
 -- and a view that takes all its children anew there reads no more of them than are named
 abbrev pub LeafReadsNamed : Type 0
-LeafReadsNamed = (limits : Limits) (before : List Step) (s : Step)
-    → let w = world_after (empty_world limits) before in
-    let v = (step w s).0 in
+LeafReadsNamed = (w : World) (s : Step) → IsSound w → IsCalled w.brought
+    → let v = (step w s).0 in
     (l m : Listener) → IsInBoth w v l m
     → let p = l.query.path in
     let entries = entries_by w s in
@@ -114,9 +101,8 @@ LeafReadsNamed = (limits : Limits) (before : List Step) (s : Step)
 -- where the leaf at the path stays, or there is none before and after, what is seen is what was
 -- seen with the named children put into it, as a view is touched
 abbrev pub TouchedIsSeen : Type 0
-TouchedIsSeen = (limits : Limits) (before : List Step) (s : Step)
-    → let w = world_after (empty_world limits) before in
-    let v = (step w s).0 in
+TouchedIsSeen = (w : World) (s : Step) → IsSound w → IsCalled w.brought
+    → let v = (step w s).0 in
     (l m : Listener) → IsInBoth w v l m
     → let p = l.query.path in
     let entries = entries_by w s in
@@ -127,9 +113,8 @@ TouchedIsSeen = (limits : Limits) (before : List Step) (s : Step)
 
 -- a listener is as it was where no entry of the step sits at, above or below its path
 abbrev pub OthersKeepViews : Type 0
-OthersKeepViews = (limits : Limits) (before : List Step) (s : Step)
-    → let w = world_after (empty_world limits) before in
-    (l m : Listener) → IsInBoth w (step w s).0 l m
+OthersKeepViews = (w : World) (s : Step) → IsSound w → IsCalled w.brought
+    → (l m : Listener) → IsInBoth w (step w s).0 l m
     → list_any (λ a. do_overlap a.0 l.query.path) (entries_by w s) ≡ false
     → m ≡ l
 
@@ -142,9 +127,8 @@ pub record SendsWhatIsMade (old : World) (steps : List Step) (new : World) : Typ
   pub heard : heard old steps ≡ new.kept
 
 abbrev pub MessagesAreHeard : Type 0
-MessagesAreHeard = (limits : Limits) (before steps : List Step)
-    → let w = world_after (empty_world limits) before in
-    (world_after w steps).is_connected ≡ true → SendsWhatIsMade w steps (world_after w steps)
+MessagesAreHeard = (w : World) (steps : List Step) → IsSound w
+    → (world_after w steps).is_connected ≡ true → SendsWhatIsMade w steps (world_after w steps)
 
 -- the messages to be sent are the kept listens by tag, and then the unsettled requests by number
 pub record SendsAll (w : World) : Type 0 where
@@ -154,16 +138,15 @@ pub record SendsAll (w : World) : Type 0 where
 
 -- so it is once a connection is opened
 abbrev pub ConnectedSendsAll : Type 0
-ConnectedSendsAll = (limits : Limits) (before : List Step)
-    → let w = world_after (empty_world limits) before in
-    refusal w Step.Connected ≡ None → SendsAll (step w Step.Connected).0
+ConnectedSendsAll = (w : World) → IsSound w
+    → refusal w Step.Connected ≡ None → SendsAll (step w Step.Connected).0
 
 -- ---- limits
 
 -- no steps lead past the limits
 abbrev pub NumbersStayWithin : Type 0
 NumbersStayWithin =
-    (limits : Limits) (steps : List Step) → IsWithin (world_after (empty_world limits) steps)
+    (w : World) (steps : List Step) → IsSound w → IsWithin w → IsWithin (world_after w steps)
 
 -- ---- what is written and brought
 
@@ -171,14 +154,14 @@ NumbersStayWithin =
 -- they settled
 abbrev pub IsWritten : Type 0
 IsWritten =
-    (limits : Limits) (before steps : List Step)
-    → let w = world_after (empty_world limits) before in
-    pending (world_after w steps).requests
+    (w : World) (steps : List Step)
+    → pending (world_after w steps).requests
     ≡ fold_both writes_by (pending w.requests) steps (answers w steps)
 
--- what plain listens brought is that of before with the pushes that the steps took in
+-- where no listener's query is filtered, what plain listens brought is that of before with the pushes
+-- that the steps took in
 abbrev pub IsBrought : Type 0
 IsBrought =
-    (limits : Limits) (before steps : List Step) → All IsPlainStep before → All IsPlainStep steps
-    → let w = world_after (empty_world limits) before in
-    (world_after w steps).brought ≡ fold_both brought_by w.brought steps (answers w steps)
+    (w : World) (steps : List Step) → IsSteady w
+    → All (λ l. is_filtered l.query ≡ false) w.listeners → All IsPlainStep steps
+    → (world_after w steps).brought ≡ fold_both brought_by w.brought steps (answers w steps)

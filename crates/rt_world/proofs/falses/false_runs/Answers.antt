@@ -1,4 +1,4 @@
-use Rattle.std.proofs.Common.{◌≡◌, ◌&&◌, Bool, true, false, List, [], ◌∷◌, ◌++◌, map, Option, None, refl, sym, ap, subst, ◌∙◌, arith}
+use Rattle.std.proofs.Common.{◌≡◌, ◌+◌, ◌&&◌, Bool, true, false, List, [], ◌∷◌, ◌++◌, map, length, Option, None, refl, sym, ap, subst, ◌∙◌, arith}
 use mathlib.Core.Bool.{true≢false}
 use Rattle.std.specs.Prelude.{is_none}
 use Rattle.std.specs.List.{All, Contains}
@@ -8,7 +8,7 @@ use Rattle.rt_tree.specs.TreeEq.{tree_eq}
 use Rattle.rt_query.specs.Queries.{plain}
 use Rattle.rt_cover.specs.declared.kept.Kept.{Kept}
 use Rattle.rt_cover.specs.Cover.{Tagged, forms}
-use Rattle.rt_cover.specs.State.{shown_with}
+use Rattle.rt_cover.specs.State.{shown_with, beyond}
 use Rattle.rt_world.specs.declared.error.CoreError.{CoreError}
 use Rattle.rt_world.specs.declared.step.Step.{Step}
 use Rattle.rt_world.specs.World.{Listener, World, registered}
@@ -60,7 +60,8 @@ not_refused answer w m =
     let made : Makes fresh Step.Connected w = m.made in
     let none : w.listeners ≡ [] = nobody_there w.listeners made.listeners in
     let kept : w.kept ≡ [] = none_kept w none m.kept in
-    λ i. refusal (record w { limits = made.limits i; listeners = none i; kept = kept i; next_listener = made.next_listener i; next_tag = made.next_tag i }) (Step.Listen 1 (plain a))
+    let tag : w.next_tag ≡ 1 = (made.keeps).next ∙ ap (λ (ks : List Tagged). 1 + length (beyond ks [])) kept in
+    λ i. refusal (record w { limits = made.limits i; listeners = none i; kept = kept i; next_listener = made.next_listener i; next_tag = tag i }) (Step.Listen 1 (plain a))
 
 -- so it registers a listener
 one_there : (answer : Answer) (w v : World) → refusal w (Step.Listen 1 (plain a)) ≡ None → Moves w (Step.Listen 1 (plain a)) answer v → v.listeners ≡ [] → ⊥
