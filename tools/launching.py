@@ -1,5 +1,5 @@
 """Runs of ./kaltewi: of the proved program, and, where none is there, of a stand-in for the toolchain's command, which says of a run
-what rt try says. That rt try runs the program is not tried here, since it takes minutes."""
+what rt try says, and of a build what rt ci does. That these run and prove the program is not tried here, since it takes minutes."""
 import os
 import pty
 import shutil
@@ -7,6 +7,14 @@ import subprocess
 import tempfile
 
 STAND_IN = r"""#!/bin/bash
+if [ "$1" = ci ]; then
+    [ -z "${STAND_IN_FAILS-}" ] || { echo "== rt_tree"; echo "a goal"; echo "rt: rt_tree NOT PROVED"; exit 1; }
+    mkdir -p crates/rt_console/out
+    printf '#!/bin/bash\necho built\n' > crates/rt_console/out/rt_console
+    chmod +x crates/rt_console/out/rt_console
+    echo "rt: rt_tree proved"
+    exit
+fi
 [ "$1" = try ] || exit 9
 echo "${@: -1}"
 cat
@@ -50,12 +58,22 @@ def wrong_of(copy, script, out):
         unproved_runs(runs, script)
         for environment, line in (({"PATH": ""}, "is not on the PATH"), ({**runs.stand_in, "TMPDIR": "/nowhere"}, "TMPDIR=/nowhere")):
             runs.says(line, ["script"], script, 1, b"", line, environment=environment)
+        build_runs(runs)
         shutil.rmtree(f"{copy}/crates/rt_console/out")
         with open(f"{copy}/crates/rt_console/out", "w", encoding="utf-8") as it:
             it.write("no folder")
         runs.says("no place for the program", ["build"], b"", 1, b"", "crates/rt_console/out can't be written")
         runs.says("no place, unproved", ["script"], script, 1, b"script\n" + script, UNPROVED, "a fault", environment=runs.stand_in)
         return runs.wrong, runs.count
+
+
+def build_runs(runs):
+    """A build leaves the program, which is then used; one that fails says all that was said of what is not proved, and leaves none."""
+    fails = {**runs.stand_in, "STAND_IN_FAILS": "1"}
+    lines = ("crates are proved and built", "== rt_tree", "a goal", "NOT PROVED", "the console was not built")
+    runs.says("a build that fails", ["build"], b"", 1, b"", *lines, environment=fails)
+    runs.says("a build", ["build"], b"", 0, b"", "crates are proved and built", "rt_tree is proved", "built in", environment=runs.stand_in)
+    runs.says("what was built", ["script"], b"", 0, b"built\n")
 
 
 def unproved_runs(runs, script):
