@@ -40,10 +40,14 @@ class Runs:
     def says(self, name, words, given, status, out, *lines, environment=()):
         """A run with these words and this input has this status and output, and of standard error as many lines, each with its text."""
         stdin = {"stdin": given} if isinstance(given, int) else {"input": given}
-        ran = subprocess.run([f"{self.copy}/kaltewi", *words], capture_output=True, timeout=60, env={**os.environ, **dict(environment)}, **stdin)
+        self.count += 1
+        try:
+            ran = subprocess.run([f"{self.copy}/kaltewi", *words], capture_output=True, timeout=60, env={**os.environ, **dict(environment)}, **stdin)
+        except subprocess.TimeoutExpired:
+            self.wrong.append(f"{name}: it does not end")
+            return
         said = ran.stderr.decode(errors="replace").splitlines()
         is_said = len(said) == len(lines) and all(text in line for text, line in zip(lines, said))
-        self.count += 1
         if (ran.returncode, ran.stdout) != (status, out) or not is_said:
             self.wrong.append(f"{name}: status {ran.returncode}, {ran.stdout[:80]}, {said[:3]}")
 
