@@ -8,7 +8,8 @@ Usage: tools/pages.py            says which lines don't keep to the rules, and f
               What stands in italics is a quotation, and in a code block no sentence
   paragraphs  and items of a list have less than 6 lines of 110 characters
   dates       stand in docs/BENCHMARKS.md and docs/GATE.md alone, which have figures, and once in each
-  PROOFS.md   has at most 150 lines, none over 400 characters, and no word of how long anything took
+  PROOFS.md   has at most 150 lines, none over 400 characters, and no word of how long anything took; what its table names as a contract
+              of a crate stands in the crate's src/
   arrows      docs/ARCHITECTURE.md has for each crate what crates.txt has, but for the two crates of errors: behind a solid arrow what its
               code names, behind a dotted one what its contracts alone name
 
@@ -104,7 +105,31 @@ def wrong_proofs(name, page):
             yield f"{name}:{number}: how long something takes: {it[0]}"
 
 
+def named_contracts(page):
+    """The names in the last column of the table of contracts, each with its crate and its line."""
+    crate = None
+    for number, line in enumerate(page.splitlines(), 1):
+        cells = [it.strip() for it in line.strip().strip("|").split("|")] if line.startswith("|") else []
+        if len(cells) == 3:
+            crate = cells[0].strip("`") or crate
+            for it in re.findall(r"`([^`]+)`", cells[2]) if crate and crate.startswith("rt_") else []:
+                yield number, crate, [word for word in re.findall(r"\w+", it.removesuffix(".rt")) if not word.isdigit()]
+
+
+def wrong_names(root, page):
+    texts = {crate: "".join(map(read, sources(root, crate))) for crate in crates(root)}
+    for number, crate, words in named_contracts(page):
+        lost = [it for it in words if not re.search(rf"\b{it}\b", texts.get(crate, ""))]
+        if lost:
+            yield f"{PROOFS}:{number}: {crate} has no {' '.join(lost)}"
+
+
 # ---- arrows
+
+
+def sources(root, crate):
+    files = [f"{at}/{name}" for at, _, names in os.walk(f"{root}/crates/{crate}/src") for name in names]
+    return sorted(it for it in files if it.endswith(".rt"))
 
 
 def crates(root):
@@ -116,12 +141,8 @@ def is_called(root, crate, library):
     """Whether the code of a crate names a library, or its contracts alone do. A library of the toolchain counts as called."""
     if not os.path.isdir(f"{root}/crates/{library}"):
         return True
-    for at, _, names in os.walk(f"{root}/crates/{crate}/src"):
-        for name in names:
-            text = re.sub(r"(?ms)^\s*ghost use .*?;$|//.*?$", "", read(f"{at}/{name}"))
-            if re.search(rf"\b{library}::", text):
-                return True
-    return False
+    texts = (re.sub(r"(?ms)^\s*ghost use .*?;$|//.*?$", "", read(it)) for it in sources(root, crate))
+    return any(re.search(rf"\b{library}::", it) for it in texts)
 
 
 def arrows(root):
@@ -161,7 +182,7 @@ def wrong_of(root):
         page = read(f"{root}/{name}")
         wrong += [] if name == WRITTEN else wrong_texts(name, page)
         wrong += wrong_dates(name, page)
-        wrong += wrong_proofs(name, page) if name == PROOFS else []
+        wrong += [*wrong_proofs(name, page), *wrong_names(root, page)] if name == PROOFS else []
     return wrong, len(names)
 
 

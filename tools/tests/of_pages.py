@@ -82,6 +82,13 @@ class Rules(unittest.TestCase):
         self.assertEqual(len(list(pages.wrong_proofs("docs/PROOFS.md", "x\n" * 151))), 1)
         self.assertEqual(len(list(pages.wrong_proofs("docs/PROOFS.md", "it took 12 minutes"))), 1)
 
+    def test_named_contracts(self):
+        page = "| Crate | Promise | The contract |\n|---|---|---|\n| `rt_low` | it is so | `Low::new`, `put` (`ok`); `laws.rt` |\n| | and so | `low` |\n"
+        self.assertEqual(
+            list(pages.named_contracts(page)),
+            [(3, "rt_low", ["Low", "new"]), (3, "rt_low", ["put"]), (3, "rt_low", ["ok"]), (3, "rt_low", ["laws"]), (4, "rt_low", ["low"])],
+        )
+
 
 class Arrows(unittest.TestCase):
     def made(self, block):
@@ -105,6 +112,11 @@ class Arrows(unittest.TestCase):
         root = self.made(due)
         self.assertEqual(pages.arrows(root), due)
         self.assertEqual(list(pages.wrong_arrows(root)), [])
+
+    def test_names(self):
+        root = self.made("rt_low\n")
+        page = "| `rt_low` | it is so | `low` |\n| | and so | `low`, `high` |\n"
+        self.assertEqual(list(pages.wrong_names(root, page)), ["docs/PROOFS.md:2: rt_low has no high"])
 
     def test_other_arrows(self):
         root = self.made("rt_low\nrt_mid --> rt_low\nrt_top --> rt_mid, slab, rt_low\n")
