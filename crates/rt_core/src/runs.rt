@@ -4,7 +4,7 @@ ghost use Rattle.std.specs.List.{All};
 ghost use Rattle.std.specs.Option.{IfSome};
 ghost use Rattle.rt_world.specs.World.{World};
 ghost use Rattle.rt_world.specs.Headline.{Headline};
-ghost use Rattle.rt_core.specs.Core.{AppliesAll, MakesAll, world_in};
+ghost use Rattle.rt_core.specs.Core.{AppliesAll, world_in};
 ghost use Rattle.rt_core.specs.inside.Viewed.{HoldsWell};
 
 use crate::Core;
@@ -62,8 +62,6 @@ pub fn run(alloc: Global, core: &mut Core, steps: Vec<Step>) -> Result<Answers, 
     ensures nothing { steps.items ≡ [] → IsOk result }
     ensures answered { IfOk result (λ answers.
         AppliesAll (world_in core.old) steps.items answers (world_in core.new)) }
-    ensures made { IfOk result (λ answers. (w v : World) → world_in core.old ≡ Some w
-        → world_in core.new ≡ Some v → MakesAll w steps.items answers v) }
     ensures headline { IfOk result (λ answers. (w v : World) → world_in core.old ≡ Some w
         → world_in core.new ≡ Some v → Headline w steps.items answers v) }
 {

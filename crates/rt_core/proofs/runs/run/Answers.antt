@@ -41,13 +41,6 @@ returns-clause-answered c =
     all_told (world_in c.args.core.now) (world_in c.loop-step.core) c.args.steps.items (into_iter_items c.loop-step.step-iterator) c.loop-step.items.items c.loop-step.invariant.1
     (sym c.loop-step.invariant.2 ∙ c.in-None.ensures.steps.0)
 
-pub returns-clause-made : goal.returns-clause-made
-returns-clause-made c w v e f =
-    let applied = all_told (world_in c.args.core.now) (world_in c.loop-step.core) c.args.steps.items (into_iter_items c.loop-step.step-iterator) c.loop-step.items.items c.loop-step.invariant.1
-    (sym c.loop-step.invariant.2 ∙ c.in-None.ensures.steps.0) in
-    makes_all c.args.steps.items c.loop-step.items.items w v
-    (subst (λ (x : Option World × Option World). AppliesAll x.0 c.args.steps.items c.loop-step.items.items x.1) (λ i. (e i, f i)) applied)
-
 -- the world of a core that holds well
 good_world : (core : Option Held) → IfSome core HoldsWell → (w : World) → world_in core ≡ Some w → IsGood w
 good_world None h w e = cc
@@ -63,7 +56,8 @@ good_world (Some k) h w e = subst IsGood (some_same k.world w e) h.good
 -- of a good world
 pub returns-clause-headline : goal.returns-clause-headline
 returns-clause-headline c w v e f =
-    let m = returns-clause-made c w v e f in
+    let m = makes_all c.args.steps.items c.loop-step.items.items w v
+    (subst (λ (x : Option World × Option World). AppliesAll x.0 c.args.steps.items c.loop-step.items.items x.1) (λ i. (e i, f i)) (returns-clause-answered c)) in
     let good : IsGood w = good_world c.args.core.now c.holds.ensures w e in
     subst (λ (x : List Answer × World). Headline w c.args.steps.items x.0 x.1) (λ i. (sym m.answers i, sym m.world i))
     (c.holding_law.ensures.headline w c.args.steps.items good.sound)
