@@ -34,7 +34,7 @@ use rt_world::{
     ClientMessage, CoreError, Limits, Report, Step, answer_law, holding_law, sending_law,
     steady_law,
 };
-pub use runs::{Answers, run};
+pub use runs::{Answers, Room, run, run_in};
 use state::State;
 use std::alloc::Global;
 use std::marker::Model;

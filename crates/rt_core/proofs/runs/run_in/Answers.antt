@@ -10,7 +10,7 @@ use Rattle.rt_core.specs.Core.{AppliesAll, Held, world_in}
 use Rattle.rt_core.specs.inside.Due.{IsGood}
 use Rattle.rt_core.specs.inside.Viewed.{HoldsWell}
 use Rattle.rt_core.proofs.AppliedAll.{Continues, continues_more, makes_all}
-use Rattle.rt_core.proofs.runs.run.Goals as goal
+use Rattle.rt_core.proofs.runs.run_in.Goals as goal
 
 nothing_left : {X : Type 0} (xs : List X) → length xs ≡ 0 → xs ≡ []
 nothing_left [] e = refl
