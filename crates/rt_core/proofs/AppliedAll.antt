@@ -3,7 +3,8 @@ use Rattle.std.proofs.Common.{◌≡◌, inl, inr, List, [], ◌∷◌, ◌++◌
 use Rattle.rt_world.specs.declared.step.Step.{Step}
 use Rattle.rt_world.specs.World.{World}
 use Rattle.rt_world.specs.Answers.{Answer, step}
-use Rattle.rt_core.specs.Core.{Applies, AppliesAll, MakesAll}
+use Rattle.rt_core.specs.Core.{Applies, AppliesAll}
+use Rattle.rt_core.specs.laws.Runs.{MakesAll}
 
 -- what later answers make of the core now, all answers make of the core before
 abbrev pub Continues : Option World → List Step → List Answer → Option World → List Step → Type 0

@@ -1,6 +1,5 @@
 -- What is answered of a listener's view.
-use Rattle.std.proofs.Common.{◌≡◌, true, refl, sym, ap, Option, Some, None, Result, Ok, Err}
-use Rattle.std.specs.Prelude.{is_some}
+use Rattle.std.proofs.Common.{◌≡◌, refl, sym, ap, Option, Some, None, Result, Ok, Err}
 use Rattle.std.specs.Option.{option_and_then, option_map_or}
 use Rattle.rt_query.specs.Select.{Shown}
 use Rattle.rt_world.specs.declared.error.CoreError.{CoreError}

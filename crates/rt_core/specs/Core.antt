@@ -1,5 +1,5 @@
 -- What a core holds, what it answers to steps, and what it becomes.
-use Rattle.std.specs.Prelude.{◌≡◌, ◌≢◌, ◌==◌, ℕ, true, false, ◌⊎◌, List, [], ◌∷◌, drop}
+use Rattle.std.specs.Prelude.{◌≡◌, ◌≢◌, ◌==◌, ℕ, false, ◌⊎◌, List, [], ◌∷◌, drop}
 use Rattle.std.specs.Prelude.{Option, Some, None, Result, Ok, Err}
 use Rattle.std.specs.List.{find}
 use Rattle.std.specs.Option.{option_map, option_map_or}
@@ -12,8 +12,9 @@ use Rattle.rt_world.specs.declared.error.CoreError.TheVariants.{Failed, NoMemory
 use Rattle.rt_world.specs.declared.limits.Limits.{Limits}
 use Rattle.rt_world.specs.declared.step.Step.{Step}
 use Rattle.rt_world.specs.World.{World, cover, empty_world}
+use Rattle.rt_world.specs.After.{kind}
 use Rattle.rt_world.specs.Refusals.{refusal, is_stale}
-use Rattle.rt_world.specs.Answers.{Answer, answers, step, view_before, world_after}
+use Rattle.rt_world.specs.Answers.{Answer, step, view_before}
 
 -- a world, and of each of its listeners, in their order, the view that is held; none where it has none
 pub record Held : Type 0 where
@@ -37,12 +38,14 @@ abbrev pub refusal_in : Option World → Step → Option CoreError
 refusal_in None s = Some Failed
 refusal_in (Some w) s = refusal w s
 
--- for want of memory a step is not made; it is neither refused nor stale then
+-- for want of memory a step is not made; it is neither refused nor stale then, and no connection ends,
+-- which takes no memory
 pub record LacksMemory (w : World) (s : Step) (answer : Answer) (new : Option World) : Type 0 where
   pub told : answer ≡ Err NoMemory
   pub failed : new ≡ None
   pub not_refused : refusal w s ≡ None
   pub not_stale : is_stale w s ≡ false
+  pub not_closing : (kind s).closes ≡ false
 
 -- the world's step is made and answered
 pub record MakesStep (w : World) (s : Step) (answer : Answer) (new : Option World) : Type 0 where
@@ -62,11 +65,6 @@ AppliesAll old (s ∷ steps) (a ∷ told) new =
     (between : Option World) × Applies old s a between × AppliesAll between steps told new
 AppliesAll old [] (a ∷ told) new = ⊥
 AppliesAll old (s ∷ steps) [] new = ⊥
-
--- the world's steps are made and answered, one after another
-pub record MakesAll (w : World) (steps : List Step) (told : List Answer) (v : World) : Type 0 where
-  pub answers : told ≡ answers w steps
-  pub world : v ≡ world_after w steps
 
 -- what a core answers of its kept listens: they are the world's, by tag; it may lack memory for them,
 -- and one that has failed says so

@@ -31,6 +31,7 @@ fn stale_report(alloc: Global) -> Report
 }
 
 impl State {
+    ghost use Rattle.rt_world.specs.After.{kind};
     ghost use Rattle.rt_world.specs.Refusals.{refusal, is_stale};
     ghost use Rattle.rt_world.specs.Answers.{step as the_step};
     ghost use Rattle.rt_core.specs.inside.Due.{IsGood, IsDue, IsNext};
@@ -42,6 +43,7 @@ impl State {
         requires viewed { AreViewed self }
         ensures made { IfOk result (λ made. IsNext self.world step (made.0.world, made.1)) }
         ensures views { IfOk result (λ made. HasViews self step made.0) }
+        ensures not_closing { OnErr result ((kind step).closes ≡ false) }
     {
         match step {
             Step::Write { seat, action } => self.write(seat, action),
@@ -68,6 +70,7 @@ impl State {
             the_step self.world step ≡ (made.0.world, Ok made.1)) }
         ensures views { IfOk result (λ made. FollowsStep self step made.0) }
         ensures not_stale { OnErr result (is_stale self.world step ≡ false) }
+        ensures not_closing { OnErr result ((kind step).closes ≡ false) }
     {
         // State what a step answers that is not refused, and which children it changes.
         answer_law();
@@ -89,6 +92,7 @@ impl State {
         ensures views { IfOk result (λ made. FollowsStep self step made.0) }
         ensures not_refused { OnErr result (refusal self.world step ≡ None) }
         ensures not_stale { OnErr result (is_stale self.world step ≡ false) }
+        ensures not_closing { OnErr result ((kind step).closes ≡ false) }
     {
         // State what a refused step answers.
         answer_law();

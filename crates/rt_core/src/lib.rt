@@ -18,6 +18,7 @@ ghost use Rattle.rt_core.specs.Core.{refusal_in, views_in, world_in};
 ghost use Rattle.rt_core.specs.Reads.{Reads};
 
 mod applying;
+mod laws;
 mod refusal;
 mod runs;
 mod sending;
@@ -26,13 +27,14 @@ mod state;
 mod steps;
 mod told;
 
+pub use laws::run_law;
 use rt_cover::KeptList;
 use rt_query::Shown;
 use rt_world::{
     ClientMessage, CoreError, Limits, Report, Step, answer_law, holding_law, sending_law,
     steady_law,
 };
-pub use runs::{Answers, run};
+pub use runs::{Answers, Room, run, run_in};
 use state::State;
 use std::alloc::Global;
 use std::marker::Model;
@@ -76,7 +78,7 @@ impl Core {
     }
 
     /// Makes one step. Refused and stale steps change nothing; a step that lacks memory is not
-    /// made, and the core has failed then.
+    /// made, and the core has failed then. The end of a connection takes no memory, and lacks none.
     ///
     /// # Errors
     ///

@@ -1,10 +1,10 @@
 // Many steps, one after another.
-ghost use Rattle.std.specs.Prelude.{◌≡◌, [], Some, IfOk, IsOk, OnErr};
+ghost use Rattle.std.specs.Prelude.{◌≡◌, ◌≤◌, [], length, Some, IfOk, IsOk, OnErr};
 ghost use Rattle.std.specs.List.{All};
 ghost use Rattle.std.specs.Option.{IfSome};
 ghost use Rattle.rt_world.specs.World.{World};
 ghost use Rattle.rt_world.specs.Headline.{Headline};
-ghost use Rattle.rt_core.specs.Core.{AppliesAll, MakesAll, world_in};
+ghost use Rattle.rt_core.specs.Core.{AppliesAll, world_in};
 ghost use Rattle.rt_core.specs.inside.Viewed.{HoldsWell};
 
 use crate::Core;
@@ -41,6 +41,37 @@ impl Answers {
     }
 }
 
+/// Room for answers: what a run reserves before its first step.
+#[derive(Drop)]
+pub struct Room {
+    items: Vec<Result<Report, CoreError>>,
+}
+
+impl Model for Room {
+    ghost use Rattle.std.specs.Prelude.{◌≡◌, ℕ, [], vec_capacity};
+
+    ghost Value = { ℕ };
+
+    ghost view = { λ a. vec_capacity a.items };
+
+    ghost invariant = { λ a. a.items.items ≡ [] };
+}
+
+impl Room {
+    /// Room for the answers to so many steps.
+    ///
+    /// # Errors
+    ///
+    /// Want of memory, where there is a step.
+    pub fn new(alloc: Global, steps: usize) -> Result<Room, AllocError>
+        ensures room { IfOk result (λ room. steps ≤ room) }
+        ensures none { steps ≡ 0 → IsOk result }
+    {
+        let items = Vec::with_capacity(alloc, steps)?;
+        Ok(Room { items })
+    }
+}
+
 impl Core {
     // For the prover: what holds of a core between steps.
     fn holds(&self)
@@ -56,23 +87,32 @@ impl Core {
 ///
 /// # Errors
 ///
-/// Only the list of answers can be refused, and then no step is made.
+/// Only room for the answers can be refused ([`Room::new`]), and then no step is made.
 pub fn run(alloc: Global, core: &mut Core, steps: Vec<Step>) -> Result<Answers, AllocError>
     ensures unchanged { OnErr result (core.new ≡ core.old) }
     ensures nothing { steps.items ≡ [] → IsOk result }
     ensures answered { IfOk result (λ answers.
         AppliesAll (world_in core.old) steps.items answers (world_in core.new)) }
-    ensures made { IfOk result (λ answers. (w v : World) → world_in core.old ≡ Some w
-        → world_in core.new ≡ Some v → MakesAll w steps.items answers v) }
     ensures headline { IfOk result (λ answers. (w v : World) → world_in core.old ≡ Some w
         → world_in core.new ≡ Some v → Headline w steps.items answers v) }
+{
+    let room = Room::new(alloc, steps.len())?;
+    Ok(run_in(room, core, steps))
+}
+
+/// The same with room for the answers: nothing is refused then, and every step is made or answered.
+pub fn run_in(room: Room, core: &mut Core, steps: Vec<Step>) -> Answers
+    requires { length steps.items ≤ room }
+    ensures answered { AppliesAll (world_in core.old) steps.items result (world_in core.new) }
+    ensures headline { (w v : World) → world_in core.old ≡ Some w
+        → world_in core.new ≡ Some v → Headline w steps.items result v }
 {
     // State what any steps lead to from a core between steps.
     core.holds();
     holding_law();
-    let mut items = Vec::with_capacity(alloc, steps.len())?;
+    let Room { mut items } = room;
     for step in steps {
         items.push_reserved(core.apply(step));
     }
-    Ok(Answers { items })
+    Answers { items }
 }

@@ -20,7 +20,7 @@ use Rattle.rt_world.specs.Messages.{listens, unlistens, request_message, request
 use Rattle.rt_world.specs.Refusals.{refusal, is_stale}
 use Rattle.rt_world.specs.Answers.{Answer, step, step_by, answers, world_after, view_before}
 use Rattle.rt_world.specs.Runs.{events_of, events, heard_after}
-use Rattle.rt_world.specs.Headline.{AreKept, IsKept, IsShown, IsUpToDate, changes_told, begun, ended, Makes, MakesOrLeaves, Moves, Sends, server_after, Leads, Headline}
+use Rattle.rt_world.specs.Headline.{AreKept, IsKept, IsShown, IsUpToDate, changes_told, begun, ended, Moves, Sends, server_after, Leads, Headline}
 use Rattle.rt_world.specs.Sound.{cover_of, IsSound}
 use Rattle.rt_world.proofs.Listeners.{same_number, has_number, has_number-there, has_number-renewed, not_bound, view_before-there, view_before-none}
 use Rattle.rt_world.proofs.ShowLaws.{left_or_more, first_seen, step_up_to_date, told-absent}
@@ -73,15 +73,23 @@ server_run [] w had h same online = same online
 server_run (s ∷ rest) w had h same online =
     server_run rest (step w s).0 (server_after had w s (step w s).0) (after w s h) (server_step w s had h same) online
 
+-- a connection is opened where there was none
+connected_on : (w : World) → w.is_connected ≡ false → (step w Step.Connected).0.is_connected ≡ true
+connected_on w off = at (refusal w Step.Connected) refl
+  where
+    at : (o : Option CoreError) → refusal w Step.Connected ≡ o → (step_by o false w Step.Connected).0.is_connected ≡ true
+    at None r = refl
+    at (Some e) r = absurd (true≢false (sym (done_connected w off) ∙ (λ i. is_none (r i) && true)))
+
 -- once a connection is opened the server keeps what was kept
 opened : (w : World) (has : List Tagged) → w.is_connected ≡ false → (answer : Answer) (v : World) → Moves w Step.Connected answer v
     → server_after has w Step.Connected v ≡ w.kept
 opened w has off answer v m =
-    let made : Makes w Step.Connected v = subst (λ d. MakesOrLeaves d w Step.Connected v) (done_connected w off) m.made in
-    let sends : Sends w Step.Connected v = made.sends in
+    let sends : Sends w Step.Connected v = m.sends (done_connected w off) in
+    let on : v.is_connected ≡ true = ap (λ (u : World). u.is_connected) m.made ∙ connected_on w off in
     (λ i. cond (done_connected w off i) (fold heard_by [] v.outgoing) has)
     ∙ ap (fold heard_by []) sends.outgoing
-    ∙ (λ i. fold heard_by [] (cond (made.connected i) (cond (off i) (going v) (all v)) []))
+    ∙ (λ i. fold heard_by [] (cond (on i) (cond (off i) (going v) (all v)) []))
     ∙ heard_by-append [] (listens w.kept) (map request_message v.requests)
     ∙ heard_by-requests (fold heard_by [] (listens w.kept)) v.requests
     ∙ heard_by-listens w.kept
@@ -98,8 +106,9 @@ is_kept w steps h =
     let sound = sound_run steps w h in
     record {
       online = server_run steps w w.kept h (λ _. refl);
-      opens = λ off. ((step v Step.Connected).1, (step v Step.Connected).0, moves v Step.Connected (are_kept (step v Step.Connected).0 (after v Step.Connected sound)) sound);
-      offline = λ off answer u m. opened v (has_after w.kept w steps) off answer u m;
+      offline = λ off.
+          let m = moves v Step.Connected (are_kept (step v Step.Connected).0 (after v Step.Connected sound)) sound in
+          (connected_on v off, opened v (has_after w.kept w steps) off (step v Step.Connected).1 (step v Step.Connected).0 m);
     }
 
 -- ---- the views, over a run

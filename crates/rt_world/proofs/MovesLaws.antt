@@ -1,5 +1,6 @@
 -- Each step moves from its world to the next.
 use Rattle.std.proofs.Common.{◌≡◌, ℕ, zero, suc, ◌<◌, Bool, true, false, cond, not, ◌&&◌, ◌||◌, ◌==◌, inl, inr, List, [], ◌∷◌, ◌++◌, map, refl, sym, ap, subst, ◌∙◌, arith, slice_index_or, Option, Some, None, Ok, Err}
+use mathlib.Core.Bool.{true≢false}
 use Rattle.std.specs.Prelude.{is_none}
 use Rattle.std.specs.List.{find, fold, All, Contains}
 use Rattle.std.specs.Option.{option_map, option_map_or}
@@ -18,9 +19,10 @@ use Rattle.rt_world.specs.Views.{is_known}
 use Rattle.rt_world.specs.World.{World, Listener, pending}
 use Rattle.rt_world.specs.After.{listeners_after, requests_after, brought_after, kept_after, pushed, renewed, is_connected_after}
 use Rattle.rt_world.specs.Messages.{listens, unlistens, request_message, request_sent, stopped_by, messages_online, messages_of, outgoing_before, kept_before, heard_by, next}
-use Rattle.rt_world.specs.Refusals.{refusal, is_stale}
+use Rattle.rt_world.specs.Refusals.{refusal, is_stale, is_done}
 use Rattle.rt_world.specs.Answers.{step, step_by, stale_report, report_of}
-use Rattle.rt_world.specs.Headline.{AreKept, primed_in, unseen, begun, ended, sent_due, Sends, Makes, MakesOrLeaves, Moves}
+use Rattle.rt_world.specs.Headline.{AreKept, begun, ended, sent_due, Sends, Keeps, Moves}
+use Rattle.rt_world.specs.laws.Makes.{primed_in, unseen, Makes, MakesOrLeaves, Tells, StepTells}
 use Rattle.rt_world.specs.Sound.{IsSound}
 use Rattle.rt_world.proofs.Listeners.{find-number, find-no_number, not_bound, number-renewed, primed_view, query-renewed, registered-renewed}
 use Rattle.rt_world.proofs.ShowLaws.{first_seen, left_or_more, step_up_to_date}
@@ -148,8 +150,8 @@ unseen_renewed b ws (l ∷ ls) = λ i. one i ∷ unseen_renewed b ws ls i
     one : unseen (renewed b ws l) ≡ unseen l
     one = elim (l.is_primed || is_known b ws l.query) as (λ k. unseen (cond k (primed_view b ws l) l) ≡ unseen l) [ true ↦ refl | false ↦ refl ]
 
-makes : (w : World) (s : Step) → IsSound w → refusal w s ≡ None → Makes w s (next w s)
-makes w s h r =
+makes : (w : World) (s : Step) → Makes w s (next w s)
+makes w s =
     let b = brought_after w s in
     let ws = pending (requests_after w s) in
     record {
@@ -158,39 +160,47 @@ makes w s h r =
       requests = refl;
       brought = ap (λ rs. recover (forms rs) (map (λ (k : Tagged). k.form) (kept_after w s)) (pushed w s)) (sym (registered-renewed b ws (listeners_after w s)));
       connected = refl;
-      sends = sends w s h r;
-      keeps = keeps w s h r;
       next_listener = refl;
       next_request = refl;
     }
 
 -- ---- one step
 
--- the step, whichever it is
-moves_by : (w : World) (s : Step) (o : Option CoreError) (b : Bool) → refusal w s ≡ o → is_stale w s ≡ b → AreKept (step_by o b w s).0 → IsSound w
-    → Moves w s (step_by o b w s).1 (step_by o b w s).0
-moves_by w s (Some e) b r t kept h = record {
+-- what the step makes and answers, whichever it is
+tells_by : (w : World) (s : Step) (o : Option CoreError) (b : Bool) → refusal w s ≡ o → is_stale w s ≡ b → IsSound w → Tells w s (step_by o b w s).1 (step_by o b w s).0
+tells_by w s (Some e) b r t h = record {
   answered = λ i. option_map_or Err (sym r i) (Ok (cond (is_stale w s) stale_report (report_of w s w.listeners)));
   made = subst (λ d. MakesOrLeaves d w s w) (λ i. is_none (sym r i) && not (is_stale w s)) refl;
-  kept = kept;
   primed = primed_same w h;
-  shown = step_up_to_date w s (Some e) b h;
 }
-moves_by w s None true r t kept h = record {
+tells_by w s None true r t h = record {
   answered = λ i. option_map_or Err (sym r i) (Ok (cond (sym t i) stale_report (report_of w s w.listeners)));
   made = subst (λ d. MakesOrLeaves d w s w) (λ i. is_none (sym r i) && not (sym t i)) refl;
-  kept = kept;
   primed = primed_same w h;
-  shown = step_up_to_date w s None true h;
 }
-moves_by w s None false r t kept h = record {
+tells_by w s None false r t h = record {
   answered = λ i. option_map_or Err (sym r i) (Ok (cond (sym t i) stale_report (report_of w s (next w s).listeners)));
-  made = subst (λ d. MakesOrLeaves d w s (next w s)) (λ i. is_none (sym r i) && not (sym t i)) (makes w s h r);
-  kept = kept;
+  made = subst (λ d. MakesOrLeaves d w s (next w s)) (λ i. is_none (sym r i) && not (sym t i)) (makes w s);
   primed = primed_done w s h;
-  shown = step_up_to_date w s None false h;
 }
+
+pub step_tells : StepTells
+step_tells w s h = tells_by w s (refusal w s) (is_stale w s) refl refl h
+
+-- what it sends and keeps, where it is done
+done_by : (w : World) (s : Step) (o : Option CoreError) (b : Bool) → refusal w s ≡ o → is_stale w s ≡ b → IsSound w → is_done w s ≡ true
+    → Sends w s (step_by o b w s).0 × Keeps w (step_by o b w s).0
+done_by w s (Some e) b r t h d = absurd (true≢false (sym d ∙ (λ i. is_none (r i) && not (is_stale w s))))
+done_by w s None true r t h d = absurd (true≢false (sym d ∙ (λ i. is_none (r i) && not (t i))))
+done_by w s None false r t h d = (sends w s h r, keeps w s h r)
 
 -- a step of a sound world
 pub moves : (w : World) (s : Step) → AreKept (step w s).0 → IsSound w → Moves w s (step w s).1 (step w s).0
-moves w s kept h = moves_by w s (refusal w s) (is_stale w s) refl refl kept h
+moves w s kept h = record {
+  made = refl;
+  answered = refl;
+  sends = λ d. (done_by w s (refusal w s) (is_stale w s) refl refl h d).0;
+  keeps = λ d. (done_by w s (refusal w s) (is_stale w s) refl refl h d).1;
+  kept = kept;
+  shown = step_up_to_date w s (refusal w s) (is_stale w s) h;
+}

@@ -1,5 +1,5 @@
 -- What tells two answers, or two views, apart.
-use Rattle.std.proofs.Common.{ℕ, Bool, true, false, List, [], ◌∷◌, Option, Ok, Err}
+use Rattle.std.proofs.Common.{ℕ, Bool, true, false, ◌&&◌, List, [], ◌∷◌, Option, Ok, Err}
 use Rattle.std.specs.Option.{option_map_or}
 use Rattle.rt_tree.specs.PathTree.{of_leaf}
 use Rattle.rt_tree.specs.TreeEq.{tree_eq}
@@ -7,6 +7,7 @@ use Rattle.rt_query.specs.Select.{Shown}
 use Rattle.rt_world.specs.declared.report.Note.{Note}
 use Rattle.rt_world.specs.declared.report.Outcome.{Outcome}
 use Rattle.rt_world.specs.declared.report.Outcome.TheVariants.{Done, Stale}
+use Rattle.rt_world.specs.World.{Listener}
 use Rattle.rt_world.specs.Answers.{Answer}
 use Rattle.rt_world.specs.laws.Script.{num}
 
@@ -30,6 +31,11 @@ notes_of (Err e) = []
 abbrev pub seat_of : List Note → ℕ
 seat_of [] = 0
 seat_of (n ∷ rest) = n.seat
+
+-- whether all are primed
+abbrev pub are_primed : List Listener → Bool
+are_primed [] = true
+are_primed (l ∷ ls) = l.is_primed && are_primed ls
 
 -- whether 8 is shown
 abbrev pub shows_eight : Option Shown → Bool

@@ -1,14 +1,11 @@
 -- The fewest listens, and the views over what they brought: what any steps lead to, said of the
 -- worlds before and after, the steps and the answers.
-use Rattle.std.specs.Prelude.{◌≡◌, ℕ, ◌+◌, ◌<◌, ◌≤◌, Bool, true, false, IsTrue, IsFalse, if◌then◌else◌}
-use Rattle.std.specs.Prelude.{◌||◌, List, [], ◌∷◌, ◌++◌, map, length, drop, ◌==◌, Option, Some, None}
-use Rattle.std.specs.Prelude.{Ok, Err}
-use Rattle.std.specs.List.{filter, find, flat_map, fold, All, AllPairs}
-use Rattle.std.specs.Option.{option_map_or}
+use Rattle.std.specs.Prelude.{◌≡◌, ℕ, ◌+◌, ◌<◌, ◌≤◌, Bool, IsTrue, IsFalse, if◌then◌else◌, List, []}
+use Rattle.std.specs.Prelude.{◌∷◌, ◌++◌, map, length, drop, ◌==◌, Option, Some, None, Ok, Err}
+use Rattle.std.specs.List.{filter, flat_map, fold, All, AllPairs}
 use Rattle.rt_query.specs.Queries.{Query}
 use Rattle.rt_query.specs.Select.{Shown}
-use Rattle.rt_cache.specs.Recover.{recover}
-use Rattle.rt_cover.specs.Cover.{Tagged, forms, kept_for}
+use Rattle.rt_cover.specs.Cover.{Tagged, kept_for}
 use Rattle.rt_cover.specs.State.{beyond, shown_with}
 use Rattle.rt_cover.specs.Shown.{AreFewest, IsCertified}
 use Rattle.rt_view.specs.declared.change.Change.{Change}
@@ -18,13 +15,11 @@ use Rattle.rt_world.specs.declared.report.Body.{Body}
 use Rattle.rt_world.specs.declared.report.Body.TheVariants.{Settled, Cancelled, Batch}
 use Rattle.rt_world.specs.declared.step.Step.{Step}
 use Rattle.rt_world.specs.World.{World, Listener, registered, pending, cover}
-use Rattle.rt_world.specs.Views.{is_known, view_of}
-use Rattle.rt_world.specs.After.{listeners_after, requests_after, pushed, is_connected_after}
-use Rattle.rt_world.specs.After.{listener_given, request_given, counted}
+use Rattle.rt_world.specs.Views.{view_of}
 use Rattle.rt_world.specs.Messages.{unrevoked, listens, unlistens, request_message, request_sent}
 use Rattle.rt_world.specs.Messages.{outgoing_before, kept_before, heard_by}
-use Rattle.rt_world.specs.Refusals.{refusal, is_stale, is_done}
-use Rattle.rt_world.specs.Answers.{Answer, stale_report, report_of, batch_from, view_before}
+use Rattle.rt_world.specs.Refusals.{is_done}
+use Rattle.rt_world.specs.Answers.{Answer, step, batch_from, view_before}
 
 -- ---- the listens kept
 
@@ -59,23 +54,7 @@ pub record IsUpToDate (old : World) (answer : Answer) (new : World) (l : Listene
   pub batch : changes_told l.number answer ≡ batch_from (view_before old.listeners l.number) l
   pub turned : Turns (view_before old.listeners l.number) (changes_told l.number answer) l.view
 
--- a listener is primed once that of its number was, or something is known for it
-abbrev pub primed_in : World → World → Listener → Bool
-primed_in old new l =
-    option_map_or (λ m. m.is_primed) (find (λ m. m.number == l.number) old.listeners) false
-    || is_known new.brought (pending new.requests) l.query
-
 -- ---- one step
-
--- a listener without what it was shown
-abbrev pub unseen : Listener → Listener
-unseen l = record l { is_primed = false; view = None }
-
--- the answer: the first refusal whose condition holds, else that it is stale, else that it is done
-abbrev pub answer_due : World → Step → World → Answer
-answer_due old s new =
-    option_map_or Err (refusal old s)
-    (Ok (if is_stale old s then stale_report else report_of old s new.listeners))
 
 -- the listens that a step begins: those that are kept now, and were not before
 abbrev pub begun : World → World → List Tagged
@@ -112,34 +91,15 @@ pub record Keeps (old new : World) : Type 0 where
   pub last : All (λ k. k.tag ≤ old.limits.last_number) (begun old new)
   pub next : new.next_tag ≡ old.next_tag + length (begun old new)
 
--- what a step leaves that is done: its listeners and requests, what is brought once its push is
--- taken and what no listen reaches is lost, the connection, the listens with their tags, and the next
--- numbers
-pub record Makes (old : World) (s : Step) (new : World) : Type 0 where
-  pub limits : new.limits ≡ old.limits
-  pub listeners : map unseen new.listeners ≡ map unseen (listeners_after old s)
-  pub requests : new.requests ≡ requests_after old s
-  pub brought : new.brought
-      ≡ recover (forms (registered new.listeners)) (map (λ k. k.form) new.kept) (pushed old s)
-  pub connected : new.is_connected ≡ is_connected_after old s
-  pub sends : Sends old s new
-  pub keeps : Keeps old new
-  pub next_listener : new.next_listener ≡ counted old.next_listener (listener_given old s)
-  pub next_request : new.next_request ≡ counted old.next_request (request_given old s)
-
--- one that is done makes this, and another leaves all as it is
-abbrev pub MakesOrLeaves : Bool → World → Step → World → Type 0
-MakesOrLeaves true old s new = Makes old s new
-MakesOrLeaves false old s new = new ≡ old
-
--- a step from one world to the next: its answer; what it makes; the fewest listens are kept; those
--- are primed for which something is known; each listener's view is its query over what is brought,
--- overlaid by the pending writes, and turns from its view before by what it is told
+-- a step from one world to the next: it is made and answered as the world's; one that is done sends
+-- and keeps listens so; the fewest listens are kept; each listener's view is its query over what is
+-- brought, overlaid by the pending writes, and turns from its view before by what it is told
 pub record Moves (old : World) (s : Step) (answer : Answer) (new : World) : Type 0 where
-  pub answered : answer ≡ answer_due old s new
-  pub made : MakesOrLeaves (is_done old s) old s new
+  pub made : new ≡ (step old s).0
+  pub answered : answer ≡ (step old s).1
+  pub sends : IsTrue (is_done old s) → Sends old s new
+  pub keeps : IsTrue (is_done old s) → Keeps old new
   pub kept : AreKept new
-  pub primed : All (λ l. l.is_primed ≡ primed_in old new l) new.listeners
   pub shown : All (IsUpToDate old answer new) new.listeners
 
 -- ---- what the server hears
@@ -151,15 +111,13 @@ server_after has old s new =
     then fold heard_by (kept_before s has) (drop (length (outgoing_before old s)) new.outgoing)
     else has
 
--- while connected the server keeps the kept listens; while disconnected a connection can be opened,
--- and whatever world that leads to, the server then keeps them
+-- while connected the server keeps the kept listens; while disconnected it keeps them once a
+-- connection is opened
 pub record IsKept (has : List Tagged) (new : World) : Type 0 where
   pub online : IsTrue new.is_connected → has ≡ new.kept
-  pub opens : IsFalse new.is_connected
-      → (answer : Answer) × (opened : World) × Moves new Step.Connected answer opened
   pub offline : IsFalse new.is_connected
-      → (answer : Answer) (opened : World) → Moves new Step.Connected answer opened
-      → server_after has new Step.Connected opened ≡ new.kept
+      → let opened = (step new Step.Connected).0 in
+      IsTrue opened.is_connected × (server_after has new Step.Connected opened ≡ new.kept)
 
 -- ---- many steps
 

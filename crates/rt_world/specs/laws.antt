@@ -5,6 +5,7 @@ pub mod False
 pub mod Holds
 pub mod Listened
 pub mod Made
+pub mod Makes
 pub mod Refused
 pub mod Script
 pub mod Steps

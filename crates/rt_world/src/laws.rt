@@ -7,6 +7,7 @@ ghost use Rattle.rt_world.specs.laws.World.{IsWritten, IsBrought};
 ghost use Rattle.rt_world.specs.laws.Touch.{SeenAreChildren, UnmetAreSeen, UnnamedAreSeen};
 ghost use Rattle.rt_world.specs.laws.Touch.{TouchIsEnough, ElseFewAreSeen};
 ghost use Rattle.rt_world.specs.laws.Holds.{CoverFollows, DeltaFollows};
+ghost use Rattle.rt_world.specs.laws.Makes.{StepTells};
 ghost use Rattle.rt_world.specs.laws.Steps.{WorldsAreSound, WorldsAreCalled, StaysSound};
 ghost use Rattle.rt_world.specs.laws.Steps.{NotRefusedIsAllowed};
 ghost use Rattle.rt_world.specs.laws.Steps.{ListensStay, UnmetStays, RenewedIsOne};
@@ -16,9 +17,11 @@ ghost use Rattle.rt_world.specs.laws.Steps.{SettledIsNotPending, UnseatedIsPendi
 ghost use Rattle.rt_world.specs.laws.Steps.{SettledOnceTold, BatchesAreNotes, StillIsQuiet};
 
 /// After any steps the fewest listens are kept, and each listener's view is its query over what they
-/// brought, overlaid by the pending writes, and turns by what is told of it.
+/// brought, overlaid by the pending writes, and turns by what is told of it. Of one step of a sound
+/// world: what it answers and leaves, said of the worlds before and after.
 pub fn headline_law()
-    ensures { HeadlineHolds }
+    ensures runs { HeadlineHolds }
+    ensures steps { StepTells }
 {}
 
 /// In a sound world a step that registers or ends listeners changes the cover as rt_cover says, starts

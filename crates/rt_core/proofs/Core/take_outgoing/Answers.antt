@@ -1,6 +1,6 @@
 use Rattle.std.proofs.Common.{◌≡◌, sym, subst, Some, rules}
 use Rattle.std.specs.Option.{IfSome}
-use Rattle.rt_core.specs.Core.{Held, without_first}
+use Rattle.rt_core.specs.Core.{without_first}
 use Rattle.rt_core.specs.inside.Viewed.{HoldsWell}
 use Rattle.rt_core.proofs.GoodWorlds.{good_sent}
 use Rattle.rt_core.proofs.Viewed.{sent_viewed}

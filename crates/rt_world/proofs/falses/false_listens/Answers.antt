@@ -7,19 +7,17 @@ use Rattle.rt_tree.specs.TreeEq.{tree_eq}
 use Rattle.rt_query.specs.Queries.{plain}
 use Rattle.rt_wire.specs.declared.client.ClientMessage.{ClientMessage}
 use Rattle.rt_world.specs.declared.step.Step.{Step}
+use Rattle.rt_world.specs.World.{World}
 use Rattle.rt_world.specs.Answers.{Answer}
 use Rattle.rt_world.specs.Messages.{heard_by}
-use Rattle.rt_world.specs.Headline.{Makes, Sends}
-use Rattle.rt_world.specs.laws.Script.{fresh}
+use Rattle.rt_world.specs.Headline.{Sends}
 use Rattle.rt_world.specs.laws.False.{a, connected, listening}
 use Rattle.rt_world.proofs.Seen.{is_nil, notes_of, seat_of, was_done}
 use Rattle.rt_world.proofs.falses.false_listens.Goals as goal
 
 pub returns-clause-nothing : goal.returns-clause-nothing
 unfolding null of_leaf is_null leaf_at sub put with_children children_alone levels children_of tree_eq
-returns-clause-nothing c = λ m.
-    let made : Makes fresh (Step.Listen 1 (plain a)) fresh = m.made in
-    true≢false (ap is_nil made.listeners)
+returns-clause-nothing c = λ m. true≢false (ap (λ (w : World). is_nil w.listeners) m.made)
 
 pub returns-clause-stale : goal.returns-clause-stale
 unfolding null of_leaf is_null leaf_at sub put with_children children_alone levels children_of tree_eq
@@ -33,8 +31,7 @@ returns-clause-refused c = λ m. true≢false (sym (ap was_done m.answered))
 pub returns-clause-sent : goal.returns-clause-sent
 unfolding null of_leaf is_null leaf_at sub put with_children children_alone levels children_of tree_eq
 returns-clause-sent c = λ m.
-    let made : Makes connected (Step.Listen 1 (plain a)) (record listening { outgoing = [] }) = m.made in
-    let sends : Sends connected (Step.Listen 1 (plain a)) (record listening { outgoing = [] }) = made.sends in
+    let sends : Sends connected (Step.Listen 1 (plain a)) (record listening { outgoing = [] }) = m.sends refl in
     true≢false (ap is_nil (subst (λ (ms : List ClientMessage). fold heard_by [] ms ≡ listening.kept) (sym sends.outgoing) (sends.heard refl)))
 
 pub returns-clause-kept : goal.returns-clause-kept

@@ -3,20 +3,15 @@ use mathlib.Core.Bool.{true≢false}
 use Rattle.rt_tree.specs.PathTree.{null, of_leaf, is_null, leaf_at, sub, put, with_children, children_alone, levels}
 use Rattle.rt_tree.specs.Children.{children_of}
 use Rattle.rt_tree.specs.TreeEq.{tree_eq}
-use Rattle.rt_cache.specs.Brought.{Brought}
-use Rattle.rt_world.specs.declared.step.Step.{Step}
+use Rattle.rt_world.specs.World.{World}
 use Rattle.rt_world.specs.Answers.{Answer}
-use Rattle.rt_world.specs.Headline.{Makes}
-use Rattle.rt_world.specs.laws.Script.{num}
-use Rattle.rt_world.specs.laws.False.{a, listening, showing}
-use Rattle.rt_world.proofs.Seen.{is_nil, notes_of, seat_of, shows_eight, was_done}
+use Rattle.rt_world.specs.laws.False.{showing}
+use Rattle.rt_world.proofs.Seen.{are_primed, is_nil, notes_of, seat_of, shows_eight, was_done}
 use Rattle.rt_world.proofs.falses.false_pushes.Goals as goal
 
 pub returns-clause-dropped : goal.returns-clause-dropped
 unfolding null of_leaf is_null leaf_at sub put with_children children_alone levels children_of tree_eq
-returns-clause-dropped c = λ m.
-    let made : Makes listening (Step.Data 1 a (num 7)) listening = m.made in
-    true≢false (ap (λ (b : Brought). is_nil b.regions) made.brought)
+returns-clause-dropped c = λ m. true≢false (ap (λ (w : World). is_nil (w.brought).regions) m.made)
 
 pub returns-clause-stale : goal.returns-clause-stale
 unfolding null of_leaf is_null leaf_at sub put with_children children_alone levels children_of tree_eq
@@ -37,4 +32,4 @@ returns-clause-shown c = λ m. true≢false (ap shows_eight (m.shown 0 (showing 
 -- what is brought is known
 pub returns-clause-primed : goal.returns-clause-primed
 unfolding null of_leaf is_null leaf_at sub put with_children children_alone levels children_of tree_eq
-returns-clause-primed c = λ m. true≢false (sym (m.primed 0 (showing 7) (omega arith)))
+returns-clause-primed c = λ m. true≢false (sym (ap (λ (w : World). are_primed w.listeners) m.made))

@@ -1,4 +1,4 @@
-use Rattle.std.proofs.Common.{◌≡◌, ℕ, ◌<◌, ◌≤◌, List, [], ◌∷◌, length, sym, ap, subst, arith}
+use Rattle.std.proofs.Common.{◌≡◌, ℕ, ◌<◌, ◌≤◌, List, [], ◌∷◌, length, refl, sym, ap, subst, arith}
 use Rattle.rt_tree.specs.PathTree.{null, of_leaf, is_null, leaf_at, sub, put, with_children, children_alone, levels}
 use Rattle.rt_tree.specs.Children.{children_of}
 use Rattle.rt_tree.specs.TreeEq.{tree_eq}
@@ -8,7 +8,7 @@ use Rattle.rt_world.specs.declared.step.Step.{Step}
 use Rattle.rt_world.specs.World.{World}
 use Rattle.rt_world.specs.Messages.{next}
 use Rattle.rt_world.specs.Answers.{Answer, step}
-use Rattle.rt_world.specs.Headline.{Headline, Keeps, Makes, Moves, Sends}
+use Rattle.rt_world.specs.Headline.{Headline, Keeps, Moves, Sends}
 use Rattle.rt_world.specs.laws.Script.{num}
 use Rattle.rt_world.specs.laws.False.{a, connected, listening, offline, three, spent, bare, set_a, noisy, mistagged, restarted, retagged, swapped, lagging}
 use Rattle.rt_world.proofs.falses.false_tags.Goals as goal
@@ -27,8 +27,7 @@ pub returns-clause-listen : goal.returns-clause-listen
 unfolding null of_leaf is_null leaf_at sub put with_children children_alone levels children_of tree_eq
 returns-clause-listen c = λ answer h.
     let m : Moves connected set_a answer noisy = one_step connected set_a answer noisy h in
-    let made : Makes connected set_a noisy = m.made in
-    let sends : Sends connected set_a noisy = made.sends in
+    let sends : Sends connected set_a noisy = m.sends refl in
     let same : ◌≡◌ {A = ℕ} 3 1 = ap length sends.outgoing in
     absurd (omega (arith, same))
 
@@ -37,8 +36,7 @@ pub returns-clause-tag : goal.returns-clause-tag
 unfolding null of_leaf is_null leaf_at sub put with_children children_alone levels children_of tree_eq first
 returns-clause-tag c = λ answer h.
     let m : Moves connected (Step.Listen 1 (plain a)) answer mistagged = one_step connected (Step.Listen 1 (plain a)) answer mistagged h in
-    let made : Makes connected (Step.Listen 1 (plain a)) mistagged = m.made in
-    let keeps : Keeps connected mistagged = made.keeps in
+    let keeps : Keeps connected mistagged = m.keeps refl in
     let same : ◌≡◌ {A = ℕ} 77 1 = ap first keeps.kept in
     absurd (omega (arith, same))
 
@@ -47,8 +45,7 @@ pub returns-clause-restart : goal.returns-clause-restart
 unfolding null of_leaf is_null leaf_at sub put with_children children_alone levels children_of tree_eq first
 returns-clause-restart c = λ answer h.
     let m : Moves listening (Step.Data 1 a (num 7)) answer restarted = one_step listening (Step.Data 1 a (num 7)) answer restarted h in
-    let made : Makes listening (Step.Data 1 a (num 7)) restarted = m.made in
-    let keeps : Keeps listening restarted = made.keeps in
+    let keeps : Keeps listening restarted = m.keeps refl in
     let same : ◌≡◌ {A = ℕ} 9007199254740992 1 = ap first keeps.kept in
     absurd (omega (arith, same))
 
@@ -56,8 +53,7 @@ pub returns-clause-changed : goal.returns-clause-changed
 unfolding null of_leaf is_null leaf_at sub put with_children children_alone levels children_of tree_eq first
 returns-clause-changed c = λ answer h.
     let m : Moves offline set_a answer retagged = one_step offline set_a answer retagged h in
-    let made : Makes offline set_a retagged = m.made in
-    let keeps : Keeps offline retagged = made.keeps in
+    let keeps : Keeps offline retagged = m.keeps refl in
     let same : ◌≡◌ {A = ℕ} 2 1 = ap first keeps.kept in
     absurd (omega (arith, same))
 
@@ -66,8 +62,7 @@ pub returns-clause-order : goal.returns-clause-order
 unfolding null of_leaf is_null leaf_at sub put with_children children_alone levels children_of tree_eq
 returns-clause-order c = λ answer h.
     let m : Moves three (Step.Unlisten 1 1) answer swapped = one_step three (Step.Unlisten 1 1) answer swapped h in
-    let made : Makes three (Step.Unlisten 1 1) swapped = m.made in
-    let keeps : Keeps three swapped = made.keeps in
+    let keeps : Keeps three swapped = m.keeps refl in
     let there : 1 < 2 = omega arith in
     let less : 3 < 2 = keeps.order 0 1 (record { tag = 0; query = plain a; listener = 0 }) (omega arith) there in
     absurd (omega (arith, less))
@@ -77,8 +72,7 @@ pub returns-clause-next : goal.returns-clause-next
 unfolding null of_leaf is_null leaf_at sub put with_children children_alone levels children_of tree_eq
 returns-clause-next c = λ answer h.
     let m : Moves connected (Step.Listen 1 (plain a)) answer lagging = one_step connected (Step.Listen 1 (plain a)) answer lagging h in
-    let made : Makes connected (Step.Listen 1 (plain a)) lagging = m.made in
-    let keeps : Keeps connected lagging = made.keeps in
+    let keeps : Keeps connected lagging = m.keeps refl in
     let same : ◌≡◌ {A = ℕ} 1 2 = keeps.next in
     absurd (omega (arith, same))
 
@@ -96,7 +90,6 @@ pub returns-clause-lost : goal.returns-clause-lost
 unfolding null of_leaf is_null leaf_at sub put with_children children_alone levels children_of tree_eq
 returns-clause-lost c = λ answer h.
     let m : Moves bare set_a answer (step bare set_a).0 = one_step bare set_a answer (step bare set_a).0 h in
-    let made : Makes bare set_a (step bare set_a).0 = m.made in
-    let keeps : Keeps bare (step bare set_a).0 = made.keeps in
+    let keeps : Keeps bare (step bare set_a).0 = m.keeps refl in
     let low : 3 ≤ 2 = keeps.last 0 (record { tag = 0; form = plain a }) (omega arith) in
     absurd (omega (arith, low))

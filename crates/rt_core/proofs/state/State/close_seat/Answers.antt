@@ -13,7 +13,6 @@ use Rattle.rt_core.proofs.Listened.{close_made, closed_is, tied_next}
 use Rattle.rt_core.proofs.NextWorlds.{along}
 use Rattle.rt_core.proofs.TagLaws.{cover_tied}
 use Rattle.std.specs.Prelude.{◌==◌}
-use Rattle.rt_core.specs.inside.Viewed.{KeepsViews}
 use Rattle.rt_core.proofs.state.State.close_seat.Goals as goal
 
 pub uncover-requires : goal.uncover-requires

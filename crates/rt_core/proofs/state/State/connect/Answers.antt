@@ -1,11 +1,10 @@
-use Rattle.std.proofs.Common.{◌≡◌, ◌++◌, map, refl, rules, subst, ap}
+use Rattle.std.proofs.Common.{◌≡◌, ◌++◌, map, refl, rules, ap}
 use Rattle.rt_cover.specs.State.{shown}
 use Rattle.rt_world.specs.declared.step.Step.{Step}
 use Rattle.rt_world.specs.Messages.{request_message}
 use Rattle.rt_core.specs.Core.{Held}
 use Rattle.rt_core.specs.inside.Parts.{listens_shown}
 use Rattle.rt_core.proofs.NextWorlds.{along, connect_made}
-use Rattle.rt_core.specs.inside.Viewed.{SameViews}
 use Rattle.rt_core.proofs.state.State.connect.Goals as goal
 
 pub returns-clause-made : goal.returns-clause-made

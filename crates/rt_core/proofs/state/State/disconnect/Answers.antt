@@ -1,8 +1,7 @@
-use Rattle.std.proofs.Common.{refl, subst, ap}
+use Rattle.std.proofs.Common.{refl, ap}
 use Rattle.rt_world.specs.declared.step.Step.{Step}
 use Rattle.rt_core.specs.Core.{Held}
 use Rattle.rt_core.proofs.NextWorlds.{along, disconnect_made}
-use Rattle.rt_core.specs.inside.Viewed.{SameViews}
 use Rattle.rt_core.proofs.state.State.disconnect.Goals as goal
 
 pub returns-clause-made : goal.returns-clause-made

@@ -12,7 +12,6 @@ use Rattle.rt_core.specs.inside.Due.{IsDue, IsNext}
 use Rattle.rt_core.specs.inside.StateView.{world_of}
 use Rattle.rt_core.proofs.Listened.{added_is, listen_made, tied_next}
 use Rattle.rt_core.proofs.NextWorlds.{along}
-use Rattle.rt_core.specs.inside.Viewed.{AddsView}
 use Rattle.rt_core.proofs.state.State.listen.Goals as goal
 
 pub returns-clause-made : goal.returns-clause-made

@@ -1,4 +1,4 @@
-use Rattle.std.proofs.Common.{◌≡◌, ◌∙◌, Ok, sym}
+use Rattle.std.proofs.Common.{◌∙◌, Ok, sym}
 use Rattle.rt_world.specs.declared.report.Outcome.TheVariants.{Done}
 use Rattle.rt_core.specs.inside.Due.{IsDue}
 use Rattle.rt_core.proofs.Viewed.{TouchLaws, follow_step, unchanged}

@@ -7,4 +7,5 @@ pub returns-in-Disconnected : goal.returns-in-Disconnected
 returns-in-Disconnected c = record {
   made = subst (λ s. IsNext (c.args.self).world s ((c.disconnect.result.0).world, c.disconnect.result.1)) (sym c.in-Disconnected.is) c.disconnect.ensures.made;
   views = subst (λ s. HasViews c.args.self s c.disconnect.result.0) (sym c.in-Disconnected.is) c.disconnect.ensures.views;
+  not_closing = tt;
 }

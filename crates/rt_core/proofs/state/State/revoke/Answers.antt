@@ -1,4 +1,4 @@
-use Rattle.std.proofs.Common.{◌≡◌, ◌++◌, None, ◌∙◌, ap, map, sym, subst, refl, not, false, Bool, Some}
+use Rattle.std.proofs.Common.{◌≡◌, ◌++◌, None, ◌∙◌, ap, map, sym, subst, refl, not, false, Some}
 use Rattle.std.specs.List.{filter}
 use Rattle.rt_query.specs.QueryEq.{query_eq}
 use Rattle.rt_query.specs.Supply.{form}
@@ -15,10 +15,8 @@ use Rattle.rt_core.proofs.Listened.{revoke_made, revoked_is, tied_next}
 use Rattle.rt_core.proofs.NextWorlds.{along}
 use Rattle.rt_core.proofs.TagLaws.{cover_tied}
 use Rattle.std.specs.Option.{option_map, option_map_or}
-use Rattle.rt_query.specs.Queries.{Query}
 use Rattle.rt_cover.specs.Cover.{Tagged}
 use Rattle.rt_world.specs.steps.Revoking.{is_cancelled}
-use Rattle.rt_core.specs.inside.Viewed.{KeepsViews}
 use Rattle.rt_core.proofs.state.State.revoke.Goals as goal
 
 pub uncover_revoked-requires : goal.uncover_revoked-requires

@@ -13,7 +13,7 @@ use Rattle.rt_core.specs.inside.Due.{settling, IsDue}
 use Rattle.rt_core.proofs.NextWorlds.{along, seat_left, settle_made, settled_entries, tied_after, w}
 use Rattle.rt_listeners.specs.Refreshed.{view_met}
 use Rattle.rt_world.specs.Touched.{entries_settled}
-use Rattle.rt_core.specs.inside.Viewed.{AreViewed, RefreshesViews}
+use Rattle.rt_core.specs.inside.Viewed.{AreViewed}
 use Rattle.rt_core.specs.inside.StateView.{world_of}
 use Rattle.rt_core.proofs.Viewed.{TouchLaws, follows_settled}
 use Rattle.rt_core.proofs.state.State.settle.Goals as goal

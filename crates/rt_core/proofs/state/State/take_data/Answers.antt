@@ -1,4 +1,4 @@
-use Rattle.std.proofs.Common.{◌≡◌, ◌∷◌, [], IfOk, Result, Ok, Err, sym, subst}
+use Rattle.std.proofs.Common.{◌∷◌, [], IfOk, Result, Ok, Err, sym, subst}
 use Rattle.rt_world.specs.declared.step.Step.{Step}
 use Rattle.rt_core.specs.inside.Due.{IsDue, IsNext}
 use Rattle.rt_core.specs.inside.Viewed.{RefreshesViews}

@@ -1,4 +1,4 @@
-use Rattle.std.proofs.Common.{◌≡◌, ◌++◌, [], map, sym, ap, subst, ◌∙◌, refl, rules}
+use Rattle.std.proofs.Common.{◌≡◌, ◌++◌, map, sym, ap, subst, ◌∙◌, refl, rules}
 use Rattle.std.specs.List.{All, fold, zip}
 use Rattle.std.specs.Option.{option_map, option_map_or}
 use Rattle.rt_cache.specs.Brought.{push}
@@ -13,7 +13,7 @@ use Rattle.rt_core.specs.inside.Due.{IsDue}
 use Rattle.rt_core.specs.inside.StateView.{world_of}
 use Rattle.rt_core.proofs.NextWorlds.{along, merge_made, tied_after}
 use Rattle.rt_listeners.specs.Refreshed.{view_met}
-use Rattle.rt_core.specs.inside.Viewed.{AreViewed, RefreshesViews}
+use Rattle.rt_core.specs.inside.Viewed.{AreViewed}
 use Rattle.rt_core.proofs.Viewed.{TouchLaws, follows_at}
 use Rattle.rt_core.proofs.state.State.take_merge.Goals as goal
 

@@ -10,7 +10,6 @@ use Rattle.rt_core.specs.inside.StateView.{world_of}
 use Rattle.rt_core.proofs.Listened.{removed_is, unlisten_made, tied_next}
 use Rattle.rt_core.proofs.NextWorlds.{along}
 use Rattle.std.specs.Prelude.{◌==◌}
-use Rattle.rt_core.specs.inside.Viewed.{KeepsViews}
 use Rattle.rt_core.proofs.state.State.unlisten.Goals as goal
 
 pub returns-clause-made : goal.returns-clause-made

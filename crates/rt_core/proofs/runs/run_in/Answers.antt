@@ -10,7 +10,7 @@ use Rattle.rt_core.specs.Core.{AppliesAll, Held, world_in}
 use Rattle.rt_core.specs.inside.Due.{IsGood}
 use Rattle.rt_core.specs.inside.Viewed.{HoldsWell}
 use Rattle.rt_core.proofs.AppliedAll.{Continues, continues_more, makes_all}
-use Rattle.rt_core.proofs.runs.run.Goals as goal
+use Rattle.rt_core.proofs.runs.run_in.Goals as goal
 
 nothing_left : {X : Type 0} (xs : List X) → length xs ≡ 0 → xs ≡ []
 nothing_left [] e = refl
@@ -41,13 +41,6 @@ returns-clause-answered c =
     all_told (world_in c.args.core.now) (world_in c.loop-step.core) c.args.steps.items (into_iter_items c.loop-step.step-iterator) c.loop-step.items.items c.loop-step.invariant.1
     (sym c.loop-step.invariant.2 ∙ c.in-None.ensures.steps.0)
 
-pub returns-clause-made : goal.returns-clause-made
-returns-clause-made c w v e f =
-    let applied = all_told (world_in c.args.core.now) (world_in c.loop-step.core) c.args.steps.items (into_iter_items c.loop-step.step-iterator) c.loop-step.items.items c.loop-step.invariant.1
-    (sym c.loop-step.invariant.2 ∙ c.in-None.ensures.steps.0) in
-    makes_all c.args.steps.items c.loop-step.items.items w v
-    (subst (λ (x : Option World × Option World). AppliesAll x.0 c.args.steps.items c.loop-step.items.items x.1) (λ i. (e i, f i)) applied)
-
 -- the world of a core that holds well
 good_world : (core : Option Held) → IfSome core HoldsWell → (w : World) → world_in core ≡ Some w → IsGood w
 good_world None h w e = cc
@@ -63,7 +56,8 @@ good_world (Some k) h w e = subst IsGood (some_same k.world w e) h.good
 -- of a good world
 pub returns-clause-headline : goal.returns-clause-headline
 returns-clause-headline c w v e f =
-    let m = returns-clause-made c w v e f in
+    let m = makes_all c.args.steps.items c.loop-step.items.items w v
+    (subst (λ (x : Option World × Option World). AppliesAll x.0 c.args.steps.items c.loop-step.items.items x.1) (λ i. (e i, f i)) (returns-clause-answered c)) in
     let good : IsGood w = good_world c.args.core.now c.holds.ensures w e in
     subst (λ (x : List Answer × World). Headline w c.args.steps.items x.0 x.1) (λ i. (sym m.answers i, sym m.world i))
     (c.holding_law.ensures.headline w c.args.steps.items good.sound)

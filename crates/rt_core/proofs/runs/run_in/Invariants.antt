@@ -3,7 +3,7 @@ use Rattle.std.specs.Vec.{vec_capacity, vec_len}
 use Rattle.std.specs.Vec.Iter.{into_iter_items, into_iter_len}
 use Rattle.rt_core.specs.Core.{world_in}
 use Rattle.rt_core.proofs.AppliedAll.{Continues}
-use Rattle.rt_core.proofs.runs.run.Given as goal
+use Rattle.rt_core.proofs.runs.run_in.Given as goal
 
 -- there is room for the answers to what is left; and what they make of the core now, all answers make of the core before
 abbrev pub invariant-loop-step : goal.invariant-loop-step

@@ -1,0 +1,2 @@
+-- Laws stated for callers.
+pub mod Runs
