@@ -1,4 +1,5 @@
 """Wrong bodies: what an edit changes, what a check says of it, and which answers no longer fit."""
+import argparse
 import os
 import sys
 import tempfile
@@ -193,6 +194,39 @@ class Verdicts(unittest.TestCase):
 
     def test_what_says_nothing(self):
         self.assertEqual(self.verdict({}), bodies.UNTOLD)
+
+
+class Judging(unittest.TestCase):
+    """Checks that are answered by a script of what rt says, turn after turn."""
+
+    FILE = "proofs/lane/filled/Answers.antt"
+    STALE = f"./{FILE}:13:9: error: `returns`: expected type\nfn rt_mail::lane::filled: not proved\nonly=1 proved=0\n"
+    OPEN = "fn rt_mail::lane::filled: no proof: expected answers in ./x; `search` did not prove `returns`\nonly=1 proved=0\n"
+    PROVED = "fn rt_mail::lane::filled: proved\nonly=1 proved=1\n"
+
+    def judged(self, *said):
+        with tempfile.TemporaryDirectory() as room:
+            for file, text in (("src/lane.rt", CODE), (self.FILE, ANSWERS)):
+                os.makedirs(os.path.dirname(f"{room}/{file}"), exist_ok=True)
+                bodies.write(f"{room}/{file}", text)
+            turns, real = iter(said), bodies.run
+            bodies.run = lambda words, folder: argparse.Namespace(stdout=next(turns))
+            try:
+                found = bodies.judged("rt_mail", ["lane::filled"], room, [])
+            finally:
+                bodies.run = real
+            self.assertEqual(bodies.read(f"{room}/{self.FILE}"), ANSWERS)
+            self.assertEqual(list(turns), [])
+            return found and found["lane::filled"]
+
+    def test_verdicts(self):
+        self.assertEqual(self.judged(self.PROVED), bodies.PROVED)
+        self.assertEqual(self.judged(self.OPEN), bodies.REFUSED)
+        self.assertEqual(self.judged(self.STALE, self.PROVED), bodies.ANSWER)
+        self.assertEqual(self.judged(self.STALE, self.OPEN), bodies.OPEN)
+        self.assertEqual(self.judged(self.STALE, self.OPEN.replace("returns", "put-requires")), bodies.REFUSED)
+        self.assertEqual(self.judged("fn rt_mail::lane::filled: not proved; it calls `x`, which is not proved\nonly=1 proved=0\n"), bodies.UNTOLD)
+        self.assertIsNone(self.judged("src/lane.rt:3:1: error: [borrow-e0382]\n"))
 
 
 class Edits(unittest.TestCase):

@@ -27,7 +27,7 @@ impl<T: Drop> From<AllocFailed<T>> for Fault {
     }
 }
 
-// Of what is given to a call; what the call itself refuses is said.
+// The fault of what is given to a call; what the call itself refuses is said.
 impl From<TreeError> for Fault {
     fn from(error: TreeError) -> Fault {
         match error {
@@ -37,7 +37,7 @@ impl From<TreeError> for Fault {
     }
 }
 
-// Of a query that is not itself what is tested.
+// The fault of a query that is not itself what is tested.
 impl From<QueryError> for Fault {
     fn from(error: QueryError) -> Fault {
         match error {
@@ -47,7 +47,7 @@ impl From<QueryError> for Fault {
     }
 }
 
-// Of a message that is given to a call.
+// The fault of a message that is given to a call.
 impl From<WireError> for Fault {
     fn from(error: WireError) -> Fault {
         match error {

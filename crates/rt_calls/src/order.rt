@@ -43,7 +43,7 @@ fn sign(order: Ordering) -> &'static str {
     }
 }
 
-// How the keys of an object compare, each, in the order of their bytes, with all of them.
+// How each key of an object compares with all of them, in the order of their bytes.
 fn matrix(line: &mut Line) -> Result<(), Fault> {
     let index = index(line);
     let tree = line.tree();

@@ -309,7 +309,7 @@ fn add_copy(
     Ok(())
 }
 
-// Keeps a copy, of an object, which takes no memory.
+// Keeps a copy of an object, which takes no memory.
 fn copy(state: &mut State, line: &mut Line) -> Result<(), Fault> {
     match state.tree.copy(line.alloc) {
         Ok(copy) => state.copy = copy,

@@ -41,7 +41,7 @@ impl State {
     }
 }
 
-// Of what changes no view.
+// The fault of a call that changes no view.
 fn of_look(error: ViewError) -> Fault {
     match error {
         ViewError::NoMemory => Fault::NoMemory,
@@ -203,7 +203,7 @@ pub(crate) fn tell_shown(shown: &Shown, line: &mut Line) {
 // What was told last, played over the children. Where memory lacks, a first part was played, and is
 // played again.
 fn play(state: &mut State, line: &mut Line) -> Result<(), Fault> {
-    // States that they are in order.
+    // For the prover: they are in order.
     let _in_order = state.children.len();
     apply_changes(
         line.alloc,
@@ -227,7 +227,7 @@ fn copy(state: &mut State, line: &mut Line) -> Result<(), Fault> {
     Ok(())
 }
 
-// Of what was told last, the changes of some kinds, by their first letters.
+// The changes of some kinds, by their first letters, among what was told last.
 fn kinds(told: &Batch, line: &mut Line) -> Result<(), Fault> {
     let word = line.next();
     let kinds = Kinds {

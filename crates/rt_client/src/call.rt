@@ -47,7 +47,7 @@ impl Call {
         })
     }
 
-    // The same, of a call that is given up.
+    // The call as a step, where the call itself is given up.
     pub(crate) fn into_step(self, seat: u64) -> Step
         ensures { result ≡ step_of seat self }
     {

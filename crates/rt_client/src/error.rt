@@ -32,7 +32,7 @@ pub enum ClientError {
 }
 
 impl ClientError {
-    /// The number of the refusal, from 1; of each refusal of the core 5.
+    /// The number of the refusal, from 1; each refusal of the core has 5.
     pub fn code(&self) -> u8
         ensures { result ≡ code_of self.now }
     {
@@ -46,7 +46,7 @@ impl ClientError {
         }
     }
 
-    /// The word of the refusal; of each refusal of the core `Core`.
+    /// The word of the refusal; each refusal of the core has `Core`.
     pub fn name(&self) -> &'static str
         ensures { result.now ≡ name_of self.now }
     {

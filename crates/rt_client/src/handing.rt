@@ -29,7 +29,7 @@ impl Shared {
         ensures taken { IfOk result (λ message. TakesMessage self.old message self.new) }
         ensures refused { IfErr result (λ e. (e ≡ Failed) × HasFailed self.old × (self.new ≡ self.old)) }
     {
-        // This states for the prover that what the lock keeps is kept.
+        // For the prover: what the lock keeps is kept.
         keeping_law();
         let Some(held) = &mut self.held else {
             return Err(ClientError::Failed);
@@ -65,7 +65,7 @@ impl Shared {
         ensures settled { OnOk result (Settles self.old seat.old self.new seat.new) }
         ensures refused { IfErr result (λ e. RefusesSettle self.old seat.old e self.new seat.new) }
     {
-        // This states for the prover that what the lock keeps is kept.
+        // For the prover: what the lock keeps is kept.
         keeping_law();
         let Some(held) = &mut self.held else {
             return Err(ClientError::Failed);

@@ -16,6 +16,7 @@ pub fn keys_rise()
     ensures rise { KeysRise }
     ensures none { NoIntegerKeys }
 {
+    // For the prover: the ids of one `PushIds` rise by bytes.
     ids_rise();
 }
 

@@ -1,5 +1,5 @@
 //! The client that threads share: one lock round its core and a lane per seat; each thread has a seat
-//! of its own. And what the orders and the push ids are together: the keys that push ids are.
+//! of its own. Here it also stands which keys push ids are.
 //!
 //! ```text
 //! let (client, mut seats) = Client::open(alloc, 1, &[8, 8], Limits::full())?;

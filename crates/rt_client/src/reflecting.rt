@@ -15,7 +15,7 @@ pub fn reflection_law()
     ensures step { StepReflects }
     ensures closed { ClosedIsForgotten }
 {
-    // These state for the prover what it rests on.
+    // For the prover: what it rests on.
     select_laws();
     turn_laws();
     stay_law();
@@ -29,7 +29,7 @@ pub fn mirror_law()
     ensures empty { MirrorIsCore }
     ensures onward { MirrorStaysCore }
 {
-    // These state for the prover what it rests on.
+    // For the prover: what it rests on.
     reflection_law();
     sound_law();
 }

@@ -60,7 +60,7 @@ impl Shared {
     ) -> Result<Shared, AllocError>
         ensures { IfOk result (λ shared. shared ≡ new_locked number seats limits) }
     {
-        // This states for the prover that what the lock keeps holds at first.
+        // For the prover: what the lock keeps holds at first.
         keeping_law();
         let lanes = Lanes::open(alloc, seats)?;
         let core = Core::new(alloc, limits);
@@ -84,7 +84,7 @@ pub fn with_core(shared: &mut Shared, step: Step) -> Result<Done, ClientError>
     ensures made { IfOk result (λ done. MakesOn shared.old step done shared.new) }
     ensures refused { IfErr result (λ e. RefusesOn shared.old step e shared.new) }
 {
-    // This states for the prover that a step keeps what the lock keeps.
+    // For the prover: a step keeps what the lock keeps.
     keeping_law();
     let Some(held) = &mut shared.held else {
         drop(step);
@@ -117,7 +117,7 @@ pub fn with_seat(shared: &mut Shared, seat: &mut Seat, call: Call) -> Result<Don
     ensures made { IfOk result (λ done. MakesCall shared.old seat.old call done shared.new seat.new) }
     ensures refused { IfErr result (λ e. RefusesCall shared.old seat.old call e shared.new seat.new) }
 {
-    // This states for the prover that a step keeps what the lock keeps.
+    // For the prover: a step keeps what the lock keeps.
     keeping_law();
     let alloc = shared.alloc;
     let Some(held) = &mut shared.held else {

@@ -144,7 +144,7 @@ fn run<R: Threads + Wait + Sync>(
     (first, second): (&mut Seat, &mut Seat),
     (ann, bob): (&mut Mirror, &mut Mirror),
 ) -> Result<()> {
-    // This states for the prover what may go to another thread, and so it does in the closure.
+    // For the prover: what may go to another thread, here and in the closure.
     crossing_law();
     let talking = AtomicU64::new(2);
     let (of_ann, (of_bob, served)) = thread::join(

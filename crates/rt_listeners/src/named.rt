@@ -88,7 +88,7 @@ fn seen_child(
         ≡ child (seen_over (base brought.now query.now) pending.now query.now) key.now) }
     ensures levels { IfOk result (λ tree. levels tree ≤ MAX_KEYS) }
 {
-    // State that a child of an overlaid tree is the child, overlaid.
+    // For the prover: a child of an overlaid tree is the child, overlaid.
     overlay_law();
     let base = brought.base_child(query, key)?;
     let whole = is_whole(&base);

@@ -43,7 +43,7 @@ pub(crate) fn tree_of(path: &Path, base: Option<Base>) -> Tree
     ensures tree { result ≡ base_tree base }
     ensures shallow { IsShallow (path.now, result) }
 {
-    // States that no path has more than 32 keys.
+    // For the prover: no path has more than 32 keys.
     let _is_path = path.keys();
     match base {
         Some(base) => base.tree,
@@ -153,7 +153,7 @@ pub(crate) fn renew(
     tell(notes, listener, changes)
 }
 
-// Whether the listener's view stays an object once these children are put into it; none does not.
+// Whether the listener's view stays an object once these children are put into it; without a view it does not.
 fn stays_object(listener: &Held, named: &[(Key, Tree)]) -> bool
     ensures { result ≡ option_map_or (λ v. stays_object v.tree named.now) listener.now.view false }
 {
@@ -260,7 +260,7 @@ fn refresh_one(
     touch_or_renew(alloc, listener, entries, brought, pending, notes)
 }
 
-// The same of all listeners.
+// Touches or renews the views of all listeners that an entry meets.
 pub(crate) fn refresh(
     alloc: Global,
     listeners: &mut [Held],

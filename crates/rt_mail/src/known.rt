@@ -215,7 +215,7 @@ impl Known {
         children_of(self.numbers.as_slice(), self.heard.as_slice(), listener)
     }
 
-    // A new listener, if it is none.
+    // A new listener, unless it is one already.
     fn with_listener(self, listener: u64) -> Result<Known, AllocError>
         ensures { IfOk result (λ known. known ≡ record self { listeners = with_listener listener self.listeners }) }
     {
@@ -230,7 +230,7 @@ impl Known {
         Ok(known)
     }
 
-    // The others.
+    // What is known but for that listener.
     fn without_listener(self, listener: u64) -> Known
         ensures { result ≡ record self { listeners = without_listener listener self.listeners } }
     {
@@ -244,7 +244,7 @@ impl Known {
         known
     }
 
-    // A new request, if it is none.
+    // A new request, unless it is one already.
     fn with_request(self, id: u64) -> Result<Known, AllocError>
         ensures { IfOk result (λ known. known ≡ record self { requests = with_request id self.requests }) }
     {
@@ -253,7 +253,7 @@ impl Known {
         Ok(known)
     }
 
-    // The others.
+    // What is known but for that request.
     fn without_request(self, id: u64) -> Known
         ensures { result ≡ record self { requests = without_request id self.requests } }
     {

@@ -30,7 +30,7 @@ pub fn equality_laws()
     ensures { EqualityTells }
 {}
 
-/// What a bound keeps of a range: the entries that are so to what it names.
+/// What a bound keeps of a range: the entries on its side of what it names.
 pub fn bound_laws()
     ensures start_at { StartsAt }
     ensures start_after { StartsAfter }

@@ -1,5 +1,5 @@
-//! Queries: a path, an order, a range and a limit; what a query shows of a tree; and which query's
-//! listen supplies which.
+//! Queries: a path, an order, a range and a limit; what a query shows of a tree; and the form in which
+//! it is listened to.
 //!
 //! The three children of `/scores` whose value is highest:
 //!

@@ -70,7 +70,7 @@ pub(crate) fn copy_rows(rows: &Vec<Row>) -> Result<Vec<Row>, AllocError>
     Ok(copies)
 }
 
-// `insert`, without an old child.
+// Puts a child in; the one that stood there goes.
 fn add(children: &mut BTreeMap<Key, Tree>, key: Key, child: Tree) -> Result<(), AllocError>
     ensures set { OnOk result ((k : KeyValue)
         → child_of children.new.entries k

@@ -55,7 +55,7 @@ fn unseat(request: &mut Request, seat: u64)
     }
 }
 
-// The same of all of them.
+// All requests of a closed seat stay without a seat.
 fn unseat_all(requests: &mut Vec<Request>, seat: u64)
     ensures { requests.new.items ≡ map (unseated seat) requests.old.items }
 {
@@ -121,7 +121,7 @@ impl Requests {
             ≡ self.old ++ record { id = id; seat = Some seat; asked = asked } ∷ []) }
         ensures unchanged { OnErr result (self.new ≡ self.old) }
     {
-        // States what is pending of requests.
+        // For the prover: what is pending of requests.
         pending_law();
         let entries = entries_asked(*self.items.allocator(), &asked)?;
         self.items.push(Request {
@@ -154,7 +154,7 @@ impl Requests {
         ensures absent { find (λ r. r.id == id) self.old ≡ None → IsOk result }
         ensures unchanged { OnErr result (self.new ≡ self.old) }
     {
-        // States what is pending of requests.
+        // For the prover: what is pending of requests.
         pending_law();
         let entries = self.pending.take(id)?;
         let Some(request) = take(&mut self.items, id) else {
@@ -173,7 +173,7 @@ impl Requests {
     pub fn close(&mut self, seat: u64)
         ensures { self.new ≡ map (unseated seat) self.old }
     {
-        // States what is pending of requests.
+        // For the prover: what is pending of requests.
         pending_law();
         unseat_all(&mut self.items, seat);
     }

@@ -62,12 +62,12 @@ fn value_bound(cut: Cut) -> Bound
     let (key, is_above) = match place {
         Place::Min => (None, false),
         Place::Before(key) => {
-            // States that it is a key.
+            // For the prover: it is a key.
             let _valid = key.text();
             (Some(key), false)
         }
         Place::After(key) => {
-            // States that it is a key.
+            // For the prover: it is a key.
             let _valid = key.text();
             (Some(key), true)
         }

@@ -18,7 +18,7 @@ pub(crate) fn path_value(path: &Path) -> Result<Value, AllocError>
     ensures value { IfOk result (λ value. view value ≡ string (path_text path.now)) }
     ensures standing { IfOk result (λ _. IsStandingPath path.now) }
 {
-    // States that it is a path.
+    // For the prover: it is a path.
     let _valid = path.keys();
     let text = path.text()?;
     Ok(Value::String(text))
@@ -40,7 +40,7 @@ pub(crate) fn entries_value(alloc: Global, entries: &Entries) -> Result<Value, A
 {
     let mut members = Map::new(alloc);
     for (path, tree) in entries.as_slice() {
-        // States that it is a path.
+        // For the prover: it is a path.
         let _valid = path.keys();
         let name = path.text()?;
         let value = tree_value(alloc, tree)?;

@@ -1,0 +1,204 @@
+#!/usr/bin/env python3
+"""What the pages keep to: README.md, CONTRIBUTING.md, CHANGELOG.md and those of docs/.
+
+Usage: tools/pages.py            says which lines don't keep to the rules, and fails where there is one
+       tools/pages.py --arrows   writes the arrows of docs/ARCHITECTURE.md as crates.txt and the sources have them
+
+  sentences   have less than 40 words; in a table also each part of a cell between semicolons has, and not the whole.
+              What stands in italics is a quotation, and in a code block no sentence
+  paragraphs  and items of a list have less than 6 lines of 110 characters
+  dates       stand in docs/BENCHMARKS.md and docs/GATE.md alone, which have figures, and once in each
+  PROOFS.md   has at most 150 lines, none over 400 characters, and no word of how long anything took; what its table names as a contract
+              of a crate stands in the crate's src/
+  arrows      docs/ARCHITECTURE.md has for each crate what crates.txt has, but for the two crates of errors: behind a solid arrow what its
+              code names, behind a dotted one what its contracts alone name
+
+docs/THEOREM.md, which ./theorem writes, has the words of the sources: it is asked for dates alone.
+"""
+import math
+import os
+import re
+import sys
+
+ROOT = os.path.realpath(f"{os.path.dirname(os.path.realpath(__file__))}/..")
+WORDS, LINES, COLUMNS = 40, 6, 110
+WRITTEN = "docs/THEOREM.md"
+WITH_FIGURES = ("docs/BENCHMARKS.md", "docs/GATE.md")
+PROOFS, PROOFS_LINES, PROOFS_COLUMNS = "docs/PROOFS.md", 150, 400
+ARCHITECTURE = "docs/ARCHITECTURE.md"
+OF_ERRORS = {"thiserror", "anyhow"}
+MONTHS = "January February March April May June July August September October November December".split()
+DATE = re.compile(rf"\b\d{{1,2}}\.? (?:{'|'.join(MONTHS)})\b|\b(?:{'|'.join(MONTHS)}) \d{{1,2}}\b(?! ?to)|\b20\d\d-\d\d-\d\d\b")
+DURATION = re.compile(r"\b(?:minutes?|hours?|seconds|\d+ second|tonight|yesterday|today|evening|dawn)\b")
+
+
+def read(file):
+    with open(file, encoding="utf-8") as it:
+        return it.read()
+
+
+def pages(root):
+    return ["README.md", "CONTRIBUTING.md", "CHANGELOG.md", *(f"docs/{it}" for it in sorted(os.listdir(f"{root}/docs")) if it.endswith(".md"))]
+
+
+# ---- texts of a page
+
+
+def texts(page):
+    """The texts of a page: each with its first line, its kind (paragraph, item, cell or heading), and its words in one line."""
+    found, is_code = [], False
+    for number, line in enumerate(page.splitlines(), 1):
+        if line.lstrip().startswith("```"):
+            is_code = not is_code
+            found.append((number, "code", ""))
+        elif is_code:
+            continue
+        elif line.startswith("|"):
+            found += [(number, "cell", it.strip()) for it in re.split(r"(?<!\\)\|", line.strip().strip("|")) if not re.fullmatch(r"[\s:-]*", it)]
+        elif line.startswith("#"):
+            found.append((number, "heading", line.lstrip("# ")))
+        elif re.match(r"\s*(?:[-*]|\d+\.) ", line):
+            found.append((number, "item", re.sub(r"^\s*(?:[-*]|\d+\.) ", "", line)))
+        elif not line.strip():
+            found.append((number, "gap", ""))
+        elif found and found[-1][1] in ("paragraph", "item"):
+            found[-1] = (*found[-1][:2], f"{found[-1][2]} {line.strip()}")
+        else:
+            found.append((number, "paragraph", line.strip()))
+    return [it for it in found if it[1] not in ("gap", "code")]
+
+
+def sentences(text, kind):
+    """The sentences of a text, each as its words."""
+    text = re.sub(r"(?<!\*)\*(?!\*)[^*]+\*(?!\*)", "quoted", re.sub(r"`[^`]*`", "code", text))
+    ends = r"(?<=[.!?])\)?[*\"]*\s+|;\s+" if kind == "cell" else r"(?<=[.!?])[)*\"]*\s+"
+    for it in re.split(ends, text):
+        words = [word for word in it.split() if re.search(r"\w", word)]
+        if words:
+            yield words
+
+
+def wrong_texts(name, page):
+    for number, kind, text in texts(page):
+        for words in sentences(text, kind):
+            if len(words) >= WORDS:
+                yield f"{name}:{number}: a sentence of {len(words)} words: {' '.join(words[:6])} .."
+        lines = math.ceil(len(text) / COLUMNS)
+        if kind in ("paragraph", "item") and lines >= LINES:
+            yield f"{name}:{number}: a paragraph of {lines} lines: {text[:40]} .."
+
+
+def wrong_dates(name, page):
+    found = [(number, it[0]) for number, line in enumerate(page.splitlines(), 1) for it in DATE.finditer(line)]
+    for number, date in found[1:] if name in WITH_FIGURES else found:
+        yield f"{name}:{number}: a date: {date}"
+
+
+def wrong_proofs(name, page):
+    lines = page.splitlines()
+    if len(lines) > PROOFS_LINES:
+        yield f"{name}: {len(lines)} lines, more than {PROOFS_LINES}"
+    for number, line in enumerate(lines, 1):
+        if len(line) > PROOFS_COLUMNS:
+            yield f"{name}:{number}: {len(line)} characters, more than {PROOFS_COLUMNS}"
+        for it in DURATION.finditer(line):
+            yield f"{name}:{number}: how long something takes: {it[0]}"
+
+
+def named_contracts(page):
+    """The names in the last column of the table of contracts, each with its crate and its line."""
+    crate = None
+    for number, line in enumerate(page.splitlines(), 1):
+        cells = [it.strip() for it in line.strip().strip("|").split("|")] if line.startswith("|") else []
+        if len(cells) == 3:
+            crate = cells[0].strip("`") or crate
+            for it in re.findall(r"`([^`]+)`", cells[2]) if crate and crate.startswith("rt_") else []:
+                yield number, crate, [word for word in re.findall(r"\w+", it.removesuffix(".rt")) if not word.isdigit()]
+
+
+def wrong_names(root, page):
+    texts = {crate: "".join(map(read, sources(root, crate))) for crate in crates(root)}
+    for number, crate, words in named_contracts(page):
+        lost = [it for it in words if not re.search(rf"\b{it}\b", texts.get(crate, ""))]
+        if lost:
+            yield f"{PROOFS}:{number}: {crate} has no {' '.join(lost)}"
+
+
+# ---- arrows
+
+
+def sources(root, crate):
+    files = [f"{at}/{name}" for at, _, names in os.walk(f"{root}/crates/{crate}/src") for name in names]
+    return sorted(it for it in files if it.endswith(".rt"))
+
+
+def crates(root):
+    lines = [line.partition("#")[0].partition(":") for line in read(f"{root}/crates.txt").splitlines()]
+    return {name.split()[0]: [it for it in below.split() if it not in OF_ERRORS] for name, _, below in lines if name.strip()}
+
+
+def is_called(root, crate, library):
+    """Whether the code of a crate names a library, or its contracts alone do. A library of the toolchain counts as called."""
+    if not os.path.isdir(f"{root}/crates/{library}"):
+        return True
+    texts = (re.sub(r"(?ms)^\s*ghost use .*?;$|//.*?$", "", read(it)) for it in sources(root, crate))
+    return any(re.search(rf"\b{library}::", it) for it in texts)
+
+
+def arrows(root):
+    """For each crate what it stands on, in the order of crates.txt."""
+    lines, all_crates = [], crates(root)
+    for crate, below in all_crates.items():
+        called = [it for it in below if is_called(root, crate, it)]
+        said = [it for it in below if it not in called]
+        parts = [f"--> {', '.join(called)}" if called else "", f"..> {', '.join(said)}" if said else ""]
+        lines.append(f"{crate:<{max(map(len, all_crates))}} {' '.join(it for it in parts if it)}".rstrip() if below else crate)
+    return "\n".join(lines) + "\n"
+
+
+ARROWS = re.compile(r"(?ms)^```text\n(.*?)^```$")
+
+
+def with_arrows(root):
+    """The page of the architecture with its arrows as they are due."""
+    page = read(f"{root}/{ARCHITECTURE}")
+    block = ARROWS.search(page)
+    return page[: block.start(1)] + arrows(root) + page[block.end(1) :]
+
+
+def wrong_arrows(root):
+    block = ARROWS.search(read(f"{root}/{ARCHITECTURE}"))
+    has, due = (block[1] if block else "").splitlines(), arrows(root).splitlines()
+    for line in sorted(set(due) - set(has)):
+        yield f"{ARCHITECTURE}: there is no line {line}"
+    for line in sorted(set(has) - set(due)):
+        yield f"{ARCHITECTURE}: not as crates.txt and the sources have it: {line}"
+
+
+def wrong_of(root):
+    """What is wrong, and how many pages there are."""
+    wrong, names = list(wrong_arrows(root)), pages(root)
+    for name in names:
+        page = read(f"{root}/{name}")
+        wrong += [] if name == WRITTEN else wrong_texts(name, page)
+        wrong += wrong_dates(name, page)
+        wrong += [*wrong_proofs(name, page), *wrong_names(root, page)] if name == PROOFS else []
+    return wrong, len(names)
+
+
+def main():
+    if sys.argv[1:] == ["--arrows"]:
+        page = with_arrows(ROOT)
+        with open(f"{ROOT}/{ARCHITECTURE}", "w", encoding="utf-8") as it:
+            it.write(page)
+    elif sys.argv[1:]:
+        print(__doc__.strip())
+        sys.exit(2)
+    else:
+        wrong, count = wrong_of(ROOT)
+        print("\n".join([*wrong, f"{count} pages, {len(wrong)} places"]))
+        sys.exit(1 if wrong else 0)
+
+
+if __name__ == "__main__":
+    main()

@@ -1,0 +1,74 @@
+"""The figures of docs/GATE.md, as they are read from what ./check says, and those of docs/BENCHMARKS.md from what the benchmarks print."""
+import importlib.machinery
+import importlib.util
+import os
+import unittest
+
+ROOT = os.path.realpath(f"{os.path.dirname(os.path.realpath(__file__))}/../..")
+
+
+def loaded(path):
+    """A script without an ending, as a module."""
+    loader = importlib.machinery.SourceFileLoader(os.path.basename(path), f"{ROOT}/{path}")
+    module = importlib.util.module_from_spec(importlib.util.spec_from_loader(loader.name, loader))
+    loader.exec_module(module)
+    return module
+
+
+gate_table, benchmarks = loaded("tools/gate_table"), loaded("benchmarks/run")
+
+SAID = """ok      805 wrong bodies apply, 43 of them central
+        rt_tree proved
+ok      rt ci (69.6 processor minutes, 35.4 by the clock)
+        of these: rt_calls 14.0, tests of rt_tests 1.9, the rest 0.4
+FAILED  central wrong bodies refused: not judged: rt_tree/x (9.5 processor minutes, 5.5 by the clock)
+in all 82.2 processor minutes, 45.5 by the clock
+43 passed, 1 failed
+"""
+
+
+class Figures(unittest.TestCase):
+    def test_parts(self):
+        found, crates = gate_table.parts(SAID)
+        self.assertEqual([it[1:] for it in found], [("69.6", "35.4"), ("9.5", "5.5"), ("82.2", "45.5")])
+        self.assertEqual([found[0][0], found[-1][0]], ["rt ci", "in all"])
+        self.assertEqual(crates, [("rt_calls", "14.0"), ("tests of rt_tests", "1.9"), ("the rest", "0.4")])
+
+    def test_page(self):
+        page = f"# It\n\n{gate_table.BEGIN}old\n{gate_table.END}\nmore\n"
+        text = gate_table.replaced(page, gate_table.figures(SAID, "Here, then"))
+        self.assertNotIn("old", text)
+        self.assertTrue(text.startswith("# It\n\n") and text.endswith("\nmore\n"))
+        for it in ("Here, then", "| rt ci | 69.6 | 35.4 |", "| `rt_calls` | 14.0 | the rest | 0.4 |", "| tests of rt_tests | 1.9 |  |  |"):
+            self.assertIn(it, text)
+        self.assertEqual(gate_table.replaced(text, gate_table.figures(SAID, "Here, then")), text)
+
+    def test_what_says_nothing(self):
+        with self.assertRaises(ValueError):
+            gate_table.figures("43 passed, 0 failed\n", "Here")
+        with self.assertRaises(ValueError):
+            gate_table.replaced("# It\n", "text")
+
+
+class Benchmarks(unittest.TestCase):
+    PRINTED = "proving and building\nµs a touch   |   100 | last/first\nall by key   |  1.30 |       1.38\n"
+
+    def test_table(self):
+        due = "| µs a touch | 100 | last/first |\n| --- | --- | --- |\n| all by key | 1.30 | 1.38 |\n"
+        self.assertEqual(benchmarks.table(self.PRINTED), due)
+        for it in ("proving and building\n", self.PRINTED + "a | b\n"):
+            with self.assertRaises(ValueError):
+                benchmarks.table(it)
+
+    def test_page_has_a_place_for_each_part(self):
+        page = benchmarks.read(benchmarks.PAGE)
+        for it in [*benchmarks.PARTS, "machine"]:
+            text = benchmarks.replaced(page, it, "| figures |\n")
+            self.assertIn(f"<!-- {it} -->\n\n| figures |\n\n<!-- end of {it} -->\n", text)
+            self.assertTrue(it == "machine" or os.access(f"{ROOT}/benchmarks/{it}", os.X_OK))
+        with self.assertRaises(ValueError):
+            benchmarks.replaced(page, "nothing", "")
+
+
+if __name__ == "__main__":
+    unittest.main()

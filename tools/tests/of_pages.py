@@ -1,0 +1,129 @@
+"""The rules of pages: what they find, and what they let be."""
+import os
+import sys
+import tempfile
+import unittest
+
+ROOT = os.path.realpath(f"{os.path.dirname(os.path.realpath(__file__))}/../..")
+sys.path.insert(0, f"{ROOT}/tools")
+import pages
+
+PAGE = """# A heading of the page
+
+One sentence. Another one,
+on two lines.
+
+- an item. With two sentences!
+- another
+
+| Crate | What |
+|---|---|
+| `rt_mail` | what is queued waits; as many as there is room for |
+
+```text
+no. sentence. here.
+```
+"""
+
+
+def words(count, end="."):
+    return " ".join(["word"] * count) + end
+
+
+class Texts(unittest.TestCase):
+    def test_kinds(self):
+        found = [(number, kind, text) for number, kind, text in pages.texts(PAGE)]
+        self.assertEqual(
+            found,
+            [
+                (1, "heading", "A heading of the page"),
+                (3, "paragraph", "One sentence. Another one, on two lines."),
+                (6, "item", "an item. With two sentences!"),
+                (7, "item", "another"),
+                (9, "cell", "Crate"),
+                (9, "cell", "What"),
+                (11, "cell", "`rt_mail`"),
+                (11, "cell", "what is queued waits; as many as there is room for"),
+            ],
+        )
+
+    def test_sentences(self):
+        count = lambda text, kind="paragraph": [len(it) for it in pages.sentences(text, kind)]
+        self.assertEqual(count("One sentence. **Another one.** (A third.) And 1.5 of a fourth"), [2, 2, 2, 5])
+        self.assertEqual(count("first part; second part", "cell"), [2, 2])
+        self.assertEqual(count("first part; second part"), [4])
+        self.assertEqual(count("it says: *a long quotation that is not counted, with a stop. And more.*"), [3])
+        self.assertEqual(count("`a b c. d` is code"), [3])
+
+
+class Rules(unittest.TestCase):
+    def test_long_sentences(self):
+        self.assertEqual(list(pages.wrong_texts("it.md", words(39))), [])
+        self.assertEqual(len(list(pages.wrong_texts("it.md", words(40)))), 1)
+        self.assertEqual(list(pages.wrong_texts("it.md", f"{words(30)} {words(30)}")), [])
+        self.assertEqual(list(pages.wrong_texts("it.md", f"```\n{words(60)}\n```\n")), [])
+        self.assertIn("it.md:3: a sentence of 45 words", list(pages.wrong_texts("it.md", f"| a |\n|---|\n| {words(45)} |\n"))[0])
+
+    def test_long_paragraphs(self):
+        line = "A short sentence stands here. " * 4
+        self.assertEqual(list(pages.wrong_texts("it.md", "\n".join([line] * 4))), [])
+        self.assertIn("a paragraph of 6 lines", list(pages.wrong_texts("it.md", "\n".join([line] * 5)))[0])
+
+    def test_dates(self):
+        for text in ("23 November 2026", "on November 23", "2026-11-23"):
+            self.assertEqual(len(list(pages.wrong_dates("docs/PROOFS.md", text))), 1, text)
+            self.assertEqual(list(pages.wrong_dates("docs/GATE.md", text)), [])
+            self.assertEqual(len(list(pages.wrong_dates("docs/GATE.md", f"{text}\n{text}"))), 1)
+        self.assertEqual(list(pages.wrong_dates("docs/DECISIONS.md", "December 1993 to May 2109, 1,048,576 and 4-5")), [])
+
+    def test_proofs(self):
+        self.assertEqual(list(pages.wrong_proofs("docs/PROOFS.md", "x" * 400)), [])
+        self.assertEqual(len(list(pages.wrong_proofs("docs/PROOFS.md", "x" * 401))), 1)
+        self.assertEqual(len(list(pages.wrong_proofs("docs/PROOFS.md", "x\n" * 151))), 1)
+        self.assertEqual(len(list(pages.wrong_proofs("docs/PROOFS.md", "it took 12 minutes"))), 1)
+
+    def test_named_contracts(self):
+        page = "| Crate | Promise | The contract |\n|---|---|---|\n| `rt_low` | it is so | `Low::new`, `put` (`ok`); `laws.rt` |\n| | and so | `low` |\n"
+        self.assertEqual(
+            list(pages.named_contracts(page)),
+            [(3, "rt_low", ["Low", "new"]), (3, "rt_low", ["put"]), (3, "rt_low", ["ok"]), (3, "rt_low", ["laws"]), (4, "rt_low", ["low"])],
+        )
+
+
+class Arrows(unittest.TestCase):
+    def made(self, block):
+        room = tempfile.TemporaryDirectory()
+        self.addCleanup(room.cleanup)
+        files = {
+            "crates.txt": "# lowest first\nrt_low: thiserror\nrt_mid: rt_low\nrt_top may_wait=2: rt_low rt_mid slab anyhow\n",
+            "crates/rt_low/src/lib.rt": "pub fn low() {\n}\n",
+            "crates/rt_mid/src/lib.rt": "use rt_low::low;\n",
+            "crates/rt_top/src/lib.rt": "ghost use rt_low::{a,\n    b};\n// rt_low::low is not called\nuse rt_mid::mid;\n",
+            "docs/ARCHITECTURE.md": f"# It\n\n```text\n{block}```\n",
+        }
+        for name, text in files.items():
+            os.makedirs(os.path.dirname(f"{room.name}/{name}"), exist_ok=True)
+            with open(f"{room.name}/{name}", "w", encoding="utf-8") as it:
+                it.write(text)
+        return room.name
+
+    def test_arrows(self):
+        due = "rt_low\nrt_mid --> rt_low\nrt_top --> rt_mid, slab ..> rt_low\n"
+        root = self.made(due)
+        self.assertEqual(pages.arrows(root), due)
+        self.assertEqual(list(pages.wrong_arrows(root)), [])
+
+    def test_names(self):
+        root = self.made("rt_low\n")
+        page = "| `rt_low` | it is so | `low` |\n| | and so | `low`, `high` |\n"
+        self.assertEqual(list(pages.wrong_names(root, page)), ["docs/PROOFS.md:2: rt_low has no high"])
+
+    def test_other_arrows(self):
+        root = self.made("rt_low\nrt_mid --> rt_low\nrt_top --> rt_mid, slab, rt_low\n")
+        wrong = list(pages.wrong_arrows(root))
+        self.assertEqual(len(wrong), 2)
+        self.assertIn("there is no line rt_top --> rt_mid, slab ..> rt_low", wrong[0])
+
+
+if __name__ == "__main__":
+    unittest.main()
