@@ -1,6 +1,7 @@
 pub mod Bases
 pub mod Changes
 pub mod Cuts
+pub mod FilteredRuns
 pub mod Halves
 pub mod InPlace
 pub mod InSpans

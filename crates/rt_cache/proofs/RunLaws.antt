@@ -34,7 +34,7 @@ and_false : (a : Bool) → (a && false) ≡ false
 and_false true = refl
 and_false false = refl
 
-never : (b : Bool) → (b ≡ true → false ≡ true) → b ≡ false
+pub never : (b : Bool) → (b ≡ true → false ≡ true) → b ≡ false
 never true f = sym (f refl)
 never false f = refl
 
@@ -307,7 +307,7 @@ step_true t b (Put q x u) e h =
 step_true t b (Recover registered kept) e h =
     true_with t _ _ (true_filter (λ p. reaches kept p) t b.regions h) (true_all t kept _ (true_filter (λ p. not (reaches kept p)) t b.regions h))
 
-step_known : (p : Path) (b : Brought) (c : Call)
+pub step_known : (p : Path) (b : Brought) (c : Call)
     → any_above p (after b c).regions ≡ known_after p (any_above p b.regions) c
 step_known p b (Put q x u) =
     elim (is_filtered q) as (λ f. any_above p (cond f (option_map_or (λ rest. record b { windows = windows_pushed q rest u b.windows }) (strip q.path x) b) (push_plain b (x, u))).regions ≡ cond f (any_above p b.regions) (any_above p b.regions || is_at_or_above x p)) [
@@ -324,7 +324,7 @@ run_true : (calls : List Call) (b : Brought) (t : PathTree) → All IsAllowed ca
 run_true [] b t ok h g = (h, g)
 run_true (c ∷ cs) b t ok h g = run_true cs (after b c) (with_push t c) (All-tail IsAllowed c cs ok) (step_canonical b c (All-head IsAllowed c cs ok) h) (step_true t b c h.apart g)
 
-run_known : (p : Path) (calls : List Call) (b : Brought)
+pub run_known : (p : Path) (calls : List Call) (b : Brought)
     → any_above p (after_all b calls).regions ≡ fold (known_after p) (any_above p b.regions) calls
 run_known p [] b = refl
 run_known p (c ∷ cs) b = run_known p cs (after b c) ∙ ap (λ k. fold (known_after p) k cs) (step_known p b c)
@@ -332,13 +332,20 @@ run_known p (c ∷ cs) b = run_known p cs (after b c) ∙ ap (λ k. fold (known_
 nothing_canonical : IsCanonical nothing_brought
 nothing_canonical = record { regions = tt; apart = refl; windows = tt; filtered = All-nil (λ (w : Query × Window). is_filtered w.0 ≡ true) }
 
+-- a region's part is that of what was pushed, where that is known
+pub held_part : (calls : List Call) (p : Path) → All IsAllowed calls
+    → region_part (after_all nothing_brought calls).regions p ≡ cond (is_known calls p) (Some (sub (pushed calls) p)) None
+held_part calls p ok =
+    let b : Brought = after_all nothing_brought calls in
+    let ran = run_true calls nothing_brought null ok nothing_canonical tt in
+    let known : is_some (region_part b.regions p) ≡ is_known calls p = part_any p b.regions ∙ run_known p calls nothing_brought in
+    part_true (pushed calls) b.regions p ran.1 ∙ ap (λ k. cond k (Some (sub (pushed calls) p)) None) known
+
 pub plain_base : PlainBaseIsWhatWasPushed
 plain_base calls p ok =
     let b : Brought = after_all nothing_brought calls in
     let ran = run_true calls nothing_brought null ok nothing_canonical tt in
-    let known : is_some (region_part b.regions p) ≡ is_known calls p = part_any p b.regions ∙ run_known p calls nothing_brought in
-    let part : region_part b.regions p ≡ cond (is_known calls p) (Some (sub (pushed calls) p)) None =
-    part_true (pushed calls) b.regions p ran.1 ∙ ap (λ k. cond k (Some (sub (pushed calls) p)) None) known in
+    let part : region_part b.regions p ≡ cond (is_known calls p) (Some (sub (pushed calls) p)) None = held_part calls p ok in
     let window : window_of b.windows (plain p) ≡ None = no_window (plain p) b.windows (ran.0).filtered refl in
     (λ i. found (part i) (window i)) ∙ told (is_known calls p) (sub (pushed calls) p)
   where

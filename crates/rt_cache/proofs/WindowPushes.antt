@@ -37,7 +37,7 @@ taken_own q p ws e = ap (λ b. b || is_some (window_of ws q)) (sym (path_eq-symm
 
 -- ---- below it
 
-below_path : (q : Query) (p : Path) → path_eq p q.path ≡ false → strip q.path p ≡ Some [] → ⊥
+pub below_path : (q : Query) (p : Path) → path_eq p q.path ≡ false → strip q.path p ≡ Some [] → ⊥
 below_path q p e s =
     true≢false (sym (path_eq-same p) ∙ ap (path_eq p) (strip-some q.path p [] s ∙ append-nil q.path) ∙ e)
 

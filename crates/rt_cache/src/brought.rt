@@ -1,6 +1,6 @@
 // What the listens brought.
 ghost use Rattle.std.specs.Prelude.{◌≡◌, ◌+◌, ◌≤◌, T, true, false, not, length, IfOk, IfSome};
-ghost use Rattle.std.specs.Prelude.{◌++◌, ◌∷◌, [], OnOk, OnErr};
+ghost use Rattle.std.specs.Prelude.{◌++◌, ◌∷◌, [], None, IsOk, OnOk, OnErr};
 ghost use Rattle.std.specs.FinMap as map_of;
 ghost use Rattle.rt_tree.specs.PathTree.{PathTree, path_cmp, levels};
 ghost use Rattle.rt_tree.specs.Assignments.{is_at_or_above, have_overlap};
@@ -107,7 +107,7 @@ impl Brought {
     /// halving, drops them, moves the words of the regions behind it, and passes the queries of all
     /// windows. No other tree is walked.
     ///
-    /// An `Err` is want of memory, and changes nothing.
+    /// An `Err` is want of memory, and changes nothing. A stale push takes none.
     pub fn put(&mut self, query: &Query, path: &Path, tree: &Tree) -> Result<bool, AllocError>
         requires under { is_at_or_above query.now.path path.now ≡ true }
         requires levels { length path.now + levels tree.now ≤ MAX_LEVELS }
@@ -115,6 +115,7 @@ impl Brought {
         ensures taken { IfOk result (λ taken. taken
             ≡ not (is_without_window self.old query.now (path.now, tree.now))) }
         ensures err { OnErr result (self.new ≡ self.old) }
+        ensures stale { is_without_window self.old query.now (path.now, tree.now) ≡ true → IsOk result }
     {
         let alloc = self.allocator();
         if query.is_filtered() {
@@ -154,10 +155,13 @@ impl Brought {
     ///
     /// Finds it as [`Brought::knows`] does, and then costs by the path and the part, of which it
     /// makes a copy. It is no deeper than a tree at the query's path may be.
+    ///
+    /// An `Err` is want of memory. Where nothing is brought it takes none.
     pub fn base(&self, query: &Query) -> Result<Option<Base>, AllocError>
         ensures found { IfOk result (λ found. found ≡ base self.now query.now) }
         ensures shallow { IfOk result (λ found. IfSome found (λ base.
             length query.now.path + levels base.tree ≤ MAX_LEVELS)) }
+        ensures absent { base self.now query.now ≡ None → IsOk result }
     {
         let alloc = self.allocator();
         // For the prover: so long are paths at most.
@@ -179,11 +183,12 @@ impl Brought {
 
     /// [`Brought::base`] with one child of the tree in its place, null where there is none. It
     /// copies that child alone, and so costs by the path and that child. It is no deeper than a tree
-    /// at the child's path may be.
+    /// at the child's path may be. Where nothing is brought for the query it takes no memory.
     pub fn base_child(&self, query: &Query, key: &Key) -> Result<Option<Base>, AllocError>
         ensures found { IfOk result (λ found. found ≡ base_child self.now query.now key.now) }
         ensures shallow { IfOk result (λ found. IfSome found (λ base.
             length (query.now.path ++ key.now ∷ []) + levels base.tree ≤ MAX_LEVELS)) }
+        ensures absent { base self.now query.now ≡ None → IsOk result }
     {
         let alloc = self.allocator();
         // For the prover: so long are paths at most.

@@ -7,6 +7,9 @@ ghost use Rattle.rt_cache.specs.laws.Examples.{ListedAlike, LeafShowsNothing, Ta
 ghost use Rattle.rt_cache.specs.laws.Examples.{StaleBelow, StaysWhole, WholeNoMore, TakenIn};
 ghost use Rattle.rt_cache.specs.laws.Examples.{RowRuns, RowDoesSomething, NoRegionBeside};
 ghost use Rattle.rt_cache.specs.laws.Examples.{EndedWindowGoes, StaleOnce, StaleLeavesNothing};
+ghost use Rattle.rt_cache.specs.laws.False.{NothingShown, PushDropped, PushReplaces, WholeAtOnce};
+ghost use Rattle.rt_cache.specs.laws.False.{RegionForgotten, NotWhole, RegionDropped, StillWhole};
+ghost use Rattle.rt_cache.specs.laws.False.{StillThere, StaysAfterEnd, HidesRegion};
 
 /// A region takes in those below it, its parts are whole, and another listen keeps its part alone.
 pub fn region_examples()
@@ -42,4 +45,20 @@ pub fn run_examples()
     ensures ended { EndedWindowGoes }
     ensures stale { StaleOnce }
     ensures leaves { StaleLeavesNothing }
+{}
+
+/// What runs must not leave for a filtered query: nothing, the wrong children, or whole where it isn't;
+/// a replaced window that stays, one of a query that ended, and one in place of a region.
+pub fn false_windows()
+    ensures nothing { NothingShown }
+    ensures dropped { PushDropped }
+    ensures alone { PushReplaces }
+    ensures at_once { WholeAtOnce }
+    ensures forgotten { RegionForgotten }
+    ensures not_whole { NotWhole }
+    ensures region_dropped { RegionDropped }
+    ensures still_whole { StillWhole }
+    ensures still_there { StillThere }
+    ensures ended { StaysAfterEnd }
+    ensures hidden { HidesRegion }
 {}

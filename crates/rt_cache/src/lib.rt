@@ -24,6 +24,6 @@ mod windows;
 
 pub use base::Base;
 pub use brought::Brought;
-pub use examples::{order_examples, region_examples, run_examples, window_examples};
-pub use laws::run_law;
+pub use examples::{false_windows, order_examples, region_examples, run_examples, window_examples};
+pub use laws::{run_law, window_law};
 pub use run::{Call, QueryList};

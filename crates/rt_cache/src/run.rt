@@ -1,5 +1,5 @@
 // Runs of calls.
-ghost use Rattle.std.specs.Prelude.{◌≡◌, ℕ, ◌≤◌, length, take, IfOk, OnOk, OnErr};
+ghost use Rattle.std.specs.Prelude.{◌≡◌, ℕ, ◌≤◌, [], length, take, IfOk, IsOk, OnOk, OnErr};
 ghost use Rattle.std.specs.List.{All};
 ghost use Rattle.rt_cache.specs.Runs.{IsAllowed, after, after_all, takes, taken_all};
 
@@ -58,13 +58,14 @@ impl Brought {
     /// Makes each call in turn, and tells of each whether it was taken: all are but the stale pushes.
     ///
     /// Costs what its calls cost. Where memory is lacking, some of the first calls stay made, and
-    /// none of those behind them.
+    /// none of those behind them. No calls take no memory.
     pub fn run(&mut self, calls: &[Call]) -> Result<Vec<bool>, AllocError>
         requires { All IsAllowed calls.now }
         ensures ok { OnOk result (self.new ≡ after_all self.old calls.now) }
         ensures taken { IfOk result (λ taken. taken.items ≡ taken_all self.old calls.now) }
         ensures err { OnErr result ((n : ℕ) × (n ≤ length calls.now) × (self.new
             ≡ after_all self.old (take n calls.now))) }
+        ensures none { calls.now ≡ [] → IsOk result }
     {
         let mut taken = Vec::new(self.allocator());
         for call in calls {

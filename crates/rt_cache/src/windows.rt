@@ -1,6 +1,6 @@
 // Windows of filtered queries, in any order.
 ghost use Rattle.std.specs.Prelude.{◌≡◌, ℕ, ◌+◌, ◌<◌, ◌≤◌, length, IfOk, IfSome, IfNone, OnOk};
-ghost use Rattle.std.specs.Prelude.{OnErr, None, is_some, not, true, false, slice_index_or};
+ghost use Rattle.std.specs.Prelude.{IsOk, OnErr, None, is_some, not, true, false, slice_index_or};
 ghost use Rattle.std.specs.List.{filter};
 ghost use Rattle.std.specs.Option.{option_map_or};
 ghost use Rattle.std.specs.FinMap as map_of;
@@ -121,6 +121,8 @@ pub(crate) fn push(
         ≡ is_taken query.now path.now (in_query_order (entries_of windows.old.items))) }
     ensures err { OnErr result (in_query_order (entries_of windows.new.items)
         ≡ in_query_order (entries_of windows.old.items)) }
+    ensures stale { is_taken query.now path.now (in_query_order (entries_of windows.old.items)) ≡ false
+        → IsOk result }
 {
     if path == query.path() {
         replace(alloc, windows, query, tree)?;

@@ -1,4 +1,5 @@
 use Rattle.std.proofs.Common.{rules, ◌≡◌, ◌∙◌, ◌<◌, ℕ, ap, sym, length, get_or, true, false, Some, None}
+use mathlib.Core.Bool.{true≢false}
 use Rattle.std.specs.Option.{option_map_or}
 use Rattle.std.specs.FinMap as map_of
 use Rattle.rt_tree.specs.PathTree.{path_eq, strip, put}
@@ -73,3 +74,17 @@ returns-clause-taken c =
     let own : query_eq (get_or c.args.windows.now.items c.in-Some.place old).query c.args.query.now ≡ true = search rules in
     let first : (k : ℕ) → k < c.in-Some.place → query_eq (get_or c.args.windows.now.items k old).query c.args.query.now ≡ false = search rules in
     taken_some c.args.query.now c.args.path.now (in_query_order (entries_of c.args.windows.now.items)) _ (window_listed c.args.query.now c.args.windows.now.items c.in-Some.place old within first own)
+
+-- a stale push takes no memory: what does is taken
+pub returns-in_err-replace-clause-stale : goal.returns-in_err-replace-clause-stale
+returns-in_err-replace-clause-stale c e =
+    let own : path_eq c.args.path.now (c.args.query.now).path ≡ true = search rules in
+    absurd (true≢false (taken_own c.args.query.now c.args.path.now (in_query_order (entries_of c.args.windows.now.items)) own ∙ e))
+
+pub returns-in_err-put_into_window-clause-stale : goal.returns-in_err-put_into_window-clause-stale
+returns-in_err-put_into_window-clause-stale c e =
+    let old : Window = c.index_mut.result.now in
+    let within : c.in-Some.place < length c.args.windows.now.items = search rules in
+    let own : query_eq (get_or c.args.windows.now.items c.in-Some.place old).query c.args.query.now ≡ true = search rules in
+    let first : (k : ℕ) → k < c.in-Some.place → query_eq (get_or c.args.windows.now.items k old).query c.args.query.now ≡ false = search rules in
+    absurd (true≢false (taken_some c.args.query.now c.args.path.now (in_query_order (entries_of c.args.windows.now.items)) _ (window_listed c.args.query.now c.args.windows.now.items c.in-Some.place old within first own) ∙ e))

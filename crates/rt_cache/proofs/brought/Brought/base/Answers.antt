@@ -1,4 +1,5 @@
-use Rattle.std.proofs.Common.{rules, ◌≡◌, ◌+◌, ◌≤◌, subst, ◌∙◌, ◌<◌, ℕ, ap, sym, length, get_or, refl, true, false, Some, None}
+use Rattle.std.proofs.Common.{rules, ◌≡◌, ◌+◌, ◌≤◌, subst, ◌∙◌, ◌<◌, ℕ, ap, sym, length, get_or, refl, true, false, Some, None, is_some}
+use mathlib.Core.Bool.{true≢false}
 use Rattle.std.specs.Prelude.{IfSome}
 use Rattle.std.specs.FinMap as map_of
 use Rattle.std.specs.Option.{option_map}
@@ -14,9 +15,9 @@ use Rattle.rt_cache.specs.declared.window.Window.{Window}
 use Rattle.rt_cache.specs.inside.Held.{seen_window, pairs_of, entries_of}
 use Rattle.rt_cache.specs.Canonical.{FitsLevels}
 use Rattle.rt_cache.proofs.Levels.{short_path, base_fits}
-use Rattle.rt_cache.proofs.Bases.{base_found}
+use Rattle.rt_cache.proofs.Bases.{base_found, knows_found}
 use Rattle.rt_cache.proofs.Listing.{find-at}
-use Rattle.rt_cache.proofs.Places.{part_is}
+use Rattle.rt_cache.proofs.Places.{or_true, part_is}
 use Rattle.rt_cache.proofs.brought.Brought.base.Goals as goal
 
 pub returns-in-Some-clause-found : goal.returns-in-Some-clause-found
@@ -65,3 +66,11 @@ returns-clause-shallow c =
     let short : length (c.args.query.now).path ≤ MAX_KEYS = short_path c.args.query.now c.path.result.now c.path.ensures c.keys.ensures.valid in
     let fits : FitsLevels c.args.self.now = subst FitsLevels c.self.view_is c.self.invariant.1 in
     subst (λ o. IfSome o (λ b. length (c.args.query.now).path + levels b.tree ≤ MAX_LEVELS)) (sym (returns-clause-found c)) (base_fits c.args.self.now c.args.query.now short fits)
+
+-- where memory lacks there is a window
+pub returns-in_err-tree-2-clause-absent : goal.returns-in_err-tree-2-clause-absent
+returns-in_err-tree-2-clause-absent c e =
+    let window : is_some (map_of.find query_cmp c.args.query.now (entries_of c.self.inside.windows.items)) ≡ true = search rules in
+    absurd (true≢false (sym (or_true _ _ window)
+    ∙ sym (knows_found c.self.inside.regions.items c.self.inside.windows.items c.args.query.now c.self.invariant.0.filtered)
+    ∙ ap is_some (ap (λ b. base b c.args.query.now) c.self.view_is ∙ e)))

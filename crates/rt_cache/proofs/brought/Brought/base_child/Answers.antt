@@ -1,4 +1,5 @@
-use Rattle.std.proofs.Common.{rules, ◌≡◌, ◌+◌, ◌≤◌, ◌++◌, ◌∷◌, [], subst, ◌∙◌, ◌<◌, ℕ, ap, sym, length, get_or, refl, true, false, Some, None}
+use Rattle.std.proofs.Common.{rules, ◌≡◌, ◌+◌, ◌≤◌, ◌++◌, ◌∷◌, [], subst, ◌∙◌, ◌<◌, ℕ, ap, sym, length, get_or, refl, true, false, Some, None, is_some}
+use mathlib.Core.Bool.{true≢false}
 use Rattle.std.specs.Prelude.{IfSome}
 use Rattle.std.specs.FinMap as map_of
 use Rattle.std.specs.Option.{option_map}
@@ -8,15 +9,15 @@ use Rattle.rt_tree.specs.Parts.{sub_root}
 use Rattle.rt_tree.specs.Assignments.{is_at_or_above}
 use Rattle.rt_query.specs.QueryEq.{query_eq}
 use Rattle.rt_cache.specs.QueryOrder.{query_cmp}
-use Rattle.rt_cache.specs.Brought.{region_part, child_base, base_child}
+use Rattle.rt_cache.specs.Brought.{region_part, base, child_base, base_child}
 use Rattle.rt_cache.specs.declared.region.Region.{Region}
 use Rattle.rt_cache.specs.declared.window.Window.{Window}
 use Rattle.rt_cache.specs.inside.Held.{seen_window, pairs_of, entries_of}
 use Rattle.rt_cache.specs.Canonical.{FitsLevels}
 use Rattle.rt_cache.proofs.Levels.{short_path, base_child_fits}
-use Rattle.rt_cache.proofs.Bases.{base_found, child_seen}
+use Rattle.rt_cache.proofs.Bases.{base_found, child_seen, knows_found}
 use Rattle.rt_cache.proofs.Listing.{find-at}
-use Rattle.rt_cache.proofs.Places.{part_is}
+use Rattle.rt_cache.proofs.Places.{or_true, part_is}
 use Rattle.rt_cache.proofs.brought.Brought.base_child.Goals as goal
 
 pub returns-in-Some-clause-found : goal.returns-in-Some-clause-found
@@ -68,3 +69,11 @@ returns-clause-shallow c =
     let fits : FitsLevels c.args.self.now = subst FitsLevels c.self.view_is c.self.invariant.1 in
     subst (λ o. IfSome o (λ b. length ((c.args.query.now).path ++ c.args.key.now ∷ []) + levels b.tree ≤ MAX_LEVELS)) (sym (returns-clause-found c))
     (base_child_fits c.args.self.now c.args.query.now c.args.key.now short fits)
+
+-- where memory lacks there is a window
+pub returns-in_err-tree-2-clause-absent : goal.returns-in_err-tree-2-clause-absent
+returns-in_err-tree-2-clause-absent c e =
+    let window : is_some (map_of.find query_cmp c.args.query.now (entries_of c.self.inside.windows.items)) ≡ true = search rules in
+    absurd (true≢false (sym (or_true _ _ window)
+    ∙ sym (knows_found c.self.inside.regions.items c.self.inside.windows.items c.args.query.now c.self.invariant.0.filtered)
+    ∙ ap is_some (ap (λ b. base b c.args.query.now) c.self.view_is ∙ e)))
