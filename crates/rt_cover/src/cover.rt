@@ -5,6 +5,7 @@ ghost use Rattle.std.specs.Prelude.{if◌then◌else◌};
 ghost use Rattle.std.specs.List.{filter, list_any, All, AllPairs};
 ghost use Rattle.std.specs.Option.{option_copied, option_map, option_map_or};
 
+use crate::adding::{insert_listener, keep_over, started_one, supplied_tags};
 use crate::choice::Choice;
 use crate::delta::{Delta, Revoked};
 use crate::ending::{Ending, OfChoice, OfForm, OfNumbers};
@@ -13,8 +14,7 @@ use crate::forms::{forms, needed};
 use crate::kept::{Kept, KeptList};
 use crate::listen::{self, Listen};
 use crate::listener::{
-    self, Listener, first_listener, into_form, numbers_of, with_listener, without_form,
-    without_listeners,
+    self, Listener, first_listener, into_form, numbers_of, without_form, without_listeners,
 };
 use crate::numbers::Numbers;
 use crate::plan::Plan;
@@ -67,6 +67,7 @@ impl Model for Cover {
 
 impl Cover {
     ghost use Rattle.rt_query.specs.Supply.{form, does_supply};
+    ghost use Rattle.rt_query.specs.Supply as Supply;
     ghost use Rattle.rt_query.specs.QueryEq.{query_eq};
     ghost use Rattle.rt_cover.specs.Cover.{forms, kept_for};
     ghost use Rattle.rt_cover.specs.Apart.{do_plains_overlap};
@@ -340,8 +341,68 @@ impl Cover {
         })
     }
 
+    // Registers a listener whose form a kept listen supplies: nothing starts, and nothing stops.
+    fn admit(&mut self, listener: u64, form: Query) -> Result<Delta, CoverError>
+        requires free { is_registered self.old.listeners listener ≡ false }
+        requires own { Supply.form form ≡ form }
+        requires supplied { is_some (supplier self.old form) ≡ true }
+        requires room { lacks_tag self.old (with_listener self.old.listeners listener form)
+            ≡ false }
+        ensures cover { OnOk result
+            (self.new ≡ with_listeners self.old (with_listener self.old.listeners listener form)) }
+        ensures delta { IfOk result (λ delta. delta ≡ difference self.old
+            (with_listeners self.old (with_listener self.old.listeners listener form))) }
+        ensures told { IfOk result (λ delta. IsTold self.old.next_tag delta) }
+        ensures fault { IfErr result (λ e. e ≡ CoverError.NoMemory) }
+        ensures unchanged { OnErr result (self.new ≡ self.old) }
+    {
+        let alloc = self.alloc();
+        insert_listener(&mut self.listeners, listener, form)?;
+        Ok(Delta {
+            started: KeptList::of(Vec::new(alloc)),
+            stopped: Numbers::of(Vec::new(alloc)),
+        })
+    }
+
+    // Registers a listener whose form no kept listen supplies: a listen of it starts, in place of
+    // those that it supplies.
+    fn begin(&mut self, listener: u64, form: Query) -> Result<Delta, CoverError>
+        requires free { is_registered self.old.listeners listener ≡ false }
+        requires own { Supply.form form ≡ form }
+        requires unsupplied { supplier self.old form ≡ None }
+        requires room { lacks_tag self.old (with_listener self.old.listeners listener form)
+            ≡ false }
+        ensures cover { OnOk result
+            (self.new ≡ with_listeners self.old (with_listener self.old.listeners listener form)) }
+        ensures delta { IfOk result (λ delta. delta ≡ difference self.old
+            (with_listeners self.old (with_listener self.old.listeners listener form))) }
+        ensures told { IfOk result (λ delta. IsTold self.old.next_tag delta) }
+        ensures fault { IfErr result (λ e. e ≡ CoverError.NoMemory) }
+        ensures unchanged { OnErr result (self.new ≡ self.old) }
+    {
+        let alloc = self.alloc();
+        // For the prover: no tag is above the last one.
+        let _last_tag = self.last_tag;
+        let tag = self.given + 1;
+        let started = started_one(alloc, tag, &form, listener)?;
+        let stopped = supplied_tags(alloc, &self.kept, &form)?;
+        let listen = Listen {
+            tag,
+            form: form.copy()?,
+        };
+        self.kept.reserve(1)?;
+        insert_listener(&mut self.listeners, listener, form)?;
+        keep_over(&mut self.kept, listen);
+        self.given = tag;
+        Ok(Delta {
+            started: KeptList::of(started),
+            stopped: Numbers::of(stopped),
+        })
+    }
+
     // Registers a listener, where no tag is lacking.
     fn register(&mut self, listener: u64, query: Query) -> Result<Delta, CoverError>
+        requires free { is_registered self.old.listeners listener ≡ false }
         requires room { lacks_tag self.old (with_listener self.old.listeners listener (form query))
             ≡ false }
         ensures cover { OnOk result (self.new ≡ added self.old listener query) }
@@ -352,8 +413,11 @@ impl Cover {
         ensures unchanged { OnErr result (self.new ≡ self.old) }
     {
         let form = into_form(query)?;
-        let listeners = with_listener(self.alloc(), &self.listeners, listener, form)?;
-        self.change(listeners)
+        if self.supplier(&form).is_some() {
+            self.admit(listener, form)
+        } else {
+            self.begin(listener, form)
+        }
     }
 
     /// Registers a listener, under a number that no registered one has.

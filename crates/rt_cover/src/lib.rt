@@ -11,6 +11,7 @@
 //! ```
 #![tactic(auto)]
 
+mod adding;
 mod choice;
 mod cover;
 mod delta;

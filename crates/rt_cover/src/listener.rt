@@ -93,56 +93,6 @@ pub(crate) fn numbers_of(
     Ok(numbers)
 }
 
-// Adds the listeners of lesser numbers.
-fn push_below(
-    into: &mut Vec<Listener>,
-    listeners: &[Listener],
-    number: u64,
-) -> Result<(), AllocError>
-    ensures { OnOk result (into.new.items
-        ≡ into.old.items ++ filter (λ l. nat_lt l.0 number) listeners.now) }
-{
-    for listener in listeners {
-        if listener.number < number {
-            into.push(listener.copy()?)?;
-        }
-    }
-    Ok(())
-}
-
-// Adds the listeners of greater numbers.
-fn push_above(
-    into: &mut Vec<Listener>,
-    listeners: &[Listener],
-    number: u64,
-) -> Result<(), AllocError>
-    ensures { OnOk result (into.new.items
-        ≡ into.old.items ++ filter (λ l. nat_lt number l.0) listeners.now) }
-{
-    for listener in listeners {
-        if number < listener.number {
-            into.push(listener.copy()?)?;
-        }
-    }
-    Ok(())
-}
-
-// The listeners with a new one of a form, by number.
-pub(crate) fn with_listener(
-    alloc: Global,
-    listeners: &[Listener],
-    number: u64,
-    form: Query,
-) -> Result<Vec<Listener>, AllocError>
-    ensures { IfOk result (λ v. v.items ≡ with_listener listeners.now number form) }
-{
-    let mut all = Vec::new(alloc);
-    push_below(&mut all, listeners, number)?;
-    all.push(Listener { number, form })?;
-    push_above(&mut all, listeners, number)?;
-    Ok(all)
-}
-
 // The listeners without those of these numbers.
 pub(crate) fn without_listeners(
     alloc: Global,
