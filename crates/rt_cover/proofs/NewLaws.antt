@@ -1,8 +1,8 @@
 -- What a new listener makes of the listens kept: where one of them supplies its form, nothing; else
 -- its form starts, in place of the forms that it supplies.
-use Rattle.std.proofs.Common.{◌≡◌, ◌≢◌, ℕ, ◌+◌, ◌<◌, ◌≤◌, Bool, true, false, not, ◌&&◌, ◌||◌, ◌⊎◌, inl, inr, List, [], ◌∷◌, ◌++◌, map, length, refl, sym, ap, subst, ◌∙◌, arith, ltb-false, append-nil, Option, Some, None, is_some, IfSome, IfNone}
+use Rattle.std.proofs.Common.{◌≡◌, ℕ, ◌+◌, ◌<◌, ◌≤◌, Bool, true, false, not, ◌&&◌, ◌||◌, inl, inr, List, [], ◌∷◌, ◌++◌, map, length, refl, sym, ap, subst, ◌∙◌, arith, ltb-false, append-nil, Option, Some, None, is_some, IfSome, IfNone}
 use mathlib.Core.Bool.{true≢false}
-use Rattle.std.specs.List.{filter, list_any, enumerate_from, All, AllPairs, Any, Contains}
+use Rattle.std.specs.List.{filter, list_any, enumerate_from, All, Any, Contains}
 use Rattle.std.proofs.lemmas.List.Elements.{All-contains}
 use Rattle.std.proofs.lemmas.List.Folds.{Any-from_list_any}
 use Rattle.rt_tree.specs.TreeEq.{both_first, both_second}
@@ -10,19 +10,18 @@ use Rattle.rt_query.specs.Queries.{Query}
 use Rattle.rt_query.specs.QueryEq.{query_eq}
 use Rattle.rt_query.specs.Supply.{form, does_supply}
 use Rattle.rt_query.specs.laws.QueryEq.{query_eq_tells}
-use Rattle.rt_cover.specs.declared.delta.Delta.{Delta}
-use Rattle.rt_cover.specs.Cover.{Registered, Supplies, Tagged, forms, first_listener, started}
+use Rattle.rt_cover.specs.Cover.{Registered, Supplies, Tagged, forms, first_listener}
 use Rattle.rt_cover.specs.State.{Cover, is_registered, with_listener, needed_forms, started_for, supplier, shown_with, with_listeners, lacks_tag, difference}
 use Rattle.rt_cover.specs.Shown.{IsLeastSupplier, IsTold}
 use Rattle.rt_cover.specs.inside.Sound.{IsSound}
 use Rattle.rt_cover.specs.laws.CoverLaws.{is_covered, Contains-filter, Contains-from_filter, supplies_itself, supplies_trans, supplies_antisymm, needed_fewest}
 use Rattle.rt_cover.specs.laws.FormLaws.{same_tests}
 use Rattle.rt_cover.specs.laws.KeepLaws.{Contains-map, Contains-from_map, length_of_map, Contains-from_test, test-from_Contains, forms_are}
-use Rattle.rt_cover.specs.laws.Pairs.{Contains-head, Contains-cases, All-from_contained, filter_none, filter_all, filter_agreeing}
+use Rattle.rt_cover.specs.laws.Pairs.{Contains-cases, All-from_contained, filter_none, filter_all, filter_agreeing}
 use Rattle.rt_cover.specs.laws.ShownLaws.{found, form_in, needed_alone}
 use Rattle.rt_cover.specs.laws.SoundLaws.{HasForm, sound_after, told_exactly, is_told, with_listener_rises, with_listener_forms}
 use Rattle.rt_cover.proofs.SupplierLaws.{first_is_least, none_supplies}
-use Rattle.rt_cover.proofs.AddLaws.{members, new_member, old_form, fresh, fresh_form, fresh_one, fresh_none, fresh_some}
+use Rattle.rt_cover.proofs.AddLaws.{members, new_member, old_form, fresh, fresh_one, fresh_none, fresh_some}
 
 not_true : (b : Bool) → not b ≡ true → b ≡ false
 not_true true e = absurd (true≢false (sym e))

@@ -1,10 +1,12 @@
 -- Where a number stands among listeners by number, and that a new listener is put there.
-use Rattle.std.proofs.Common.{◌≡◌, ◌≢◌, ℕ, suc, ◌+◌, ◌<◌, ◌≤◌, Bool, true, false, cond, not, nat_le, nat_lt, ◌==◌, ◌||◌, List, [], ◌∷◌, ◌++◌, length, refl, sym, ap, ◌∙◌, arith, slice_index_or, ltb, ltb-true, ltb-false, eq-eqb}
+use Rattle.std.proofs.Common.{◌≡◌, ◌≢◌, ℕ, suc, ◌+◌, ◌<◌, ◌≤◌, Bool, true, false, cond, not, nat_le, nat_lt, ◌==◌, ◌||◌, List, [], ◌∷◌, ◌++◌, length, refl, sym, ap, ◌∙◌, arith, slice_index_or, ltb, ltb-true, ltb-false, eqb-true, eq-eqb}
 use mathlib.Core.Bool.{true≢false}
-use Rattle.std.specs.List.{filter, list_any, insert, All, AllPairs}
+use Rattle.std.specs.List.{filter, insert, slice_get, All, AllPairs}
+use Rattle.std.specs.Option.{option_map_or}
 use Rattle.std.specs.List.Sorted.{IsNonDecreasingBy, IsPartitionedBy, IsPartitionPoint}
 use Rattle.std.proofs.lemmas.Bool.Decides.{nat_tests}
-use Rattle.std.proofs.lemmas.List.Elements.{All-contains, All-cons, All-weaker}
+use Rattle.std.proofs.lemmas.List.Elements.{All-cons, All-weaker}
+use Rattle.std.proofs.lemmas.List.Folds.{list_any_none}
 use Rattle.std.proofs.lemmas.List.Sorted.{IsPartitionedBy-ltb}
 use Rattle.std.proofs.lemmas.List.Sums.{position_or_len_is}
 use Rattle.rt_query.specs.Queries.{Query}
@@ -46,6 +48,40 @@ place_is n ls i le h d =
     position_or_len_is (λ (l : Registered). nat_le n l.0) ls i d le
     (λ k lt. lesser (slice_index_or ls k d).0 n (h.0 k d (omega arith) lt))
     (λ lt. no_lesser (slice_index_or ls i d).0 n (h.1 i d (omega arith) lt))
+
+-- ---- who stands there
+
+differs : (m n : ℕ) → m ≢ n → (m == n) ≡ false
+differs m n h = elim (m == n) as (λ b. (m == n) ≡ b → b ≡ false) [
+  | true ↦ λ e. absurd (h (eqb-true m n e))
+  | false ↦ λ _. refl
+] refl
+
+none_above : (n : ℕ) (ls : List Registered) → All (λ (l : Registered). n < l.0) ls → is_registered ls n ≡ false
+none_above n ls h = list_any_none (λ (l : Registered). l.0 == n) ls
+    (All-weaker (λ (l : Registered). n < l.0) (λ (l : Registered). (l.0 == n) ≡ false) (λ l lt. differs l.0 n (λ e. omega (arith, lt, e))) ls h)
+
+-- a number is registered where it stands at its place
+pub at_place : (n : ℕ) (ls : List Registered) → AllPairs (λ (l m : Registered). l.0 < m.0) ls
+    → option_map_or (λ (l : Registered). l.0 == n) (slice_get ls (place n ls)) false ≡ is_registered ls n
+at_place n [] rise = refl
+at_place n (l ∷ ls) rise =
+    elim (nat_le n l.0) as (λ b. nat_le n l.0 ≡ b → option_map_or (λ (x : Registered). x.0 == n) (slice_get (l ∷ ls) (cond (not b) (1 + place n ls) 0)) false ≡ is_registered (l ∷ ls) n) [
+      | true ↦ λ e. sym (ap (λ b. (l.0 == n) || b) (none_above n ls
+          (All-weaker (λ (x : Registered). l.0 < x.0) (λ (x : Registered). n < x.0) (λ x lt. let le = not_below l.0 n e in omega (arith, lt, le)) ls
+          (AllPairs-first (λ (x y : Registered). x.0 < y.0) l ls rise))) ∙ or_false (l.0 == n))
+      | false ↦ λ e.
+          ap (λ p. option_map_or (λ (x : Registered). x.0 == n) (slice_get (l ∷ ls) p) false) (sym (one_on (place n ls)))
+          ∙ at_place n ls (AllPairs-rest (λ (x y : Registered). x.0 < y.0) l ls rise)
+          ∙ sym (ap (λ b. b || is_registered ls n) (differs l.0 n (λ s. let lt = below l.0 n e in omega (arith, lt, s))))
+    ] refl
+  where
+    one_on : (p : ℕ) → suc p ≡ 1 + p
+    one_on p = omega arith
+
+    or_false : (b : Bool) → (b || false) ≡ b
+    or_false true = refl
+    or_false false = refl
 
 -- ---- the new listener
 

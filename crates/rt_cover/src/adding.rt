@@ -4,7 +4,7 @@ ghost use Rattle.std.specs.Prelude.{IfOk, OnOk, OnErr, vec_len, vec_capacity};
 ghost use Rattle.std.specs.List.{filter, AllPairs};
 ghost use Rattle.rt_query.specs.Supply.{does_supply};
 ghost use Rattle.rt_cover.specs.State.{is_registered, with_listener};
-ghost use Rattle.rt_cover.specs.inside.Places.{place};
+ghost use Rattle.rt_cover.specs.inside.Places.{place, does_stand};
 
 use crate::kept::Kept;
 use crate::listen::Listen;
@@ -20,6 +20,24 @@ fn place_of(listeners: &[Listener], number: u64) -> usize
     ensures within { result ≤ length listeners.now }
 {
     listeners.partition_point(|other| other.number < number)
+}
+
+// Whether a listener of that number stands at the place.
+fn stands_at(listeners: &[Listener], place: usize, number: u64) -> bool
+    ensures { result ≡ does_stand listeners.now place number }
+{
+    match listeners.get(place) {
+        Some(listener) => listener.number == number,
+        None => false,
+    }
+}
+
+// Whether a listener of that number is registered, by halving.
+pub(crate) fn has_number(listeners: &[Listener], number: u64) -> bool
+    requires { AllPairs (λ l m. l.0 < m.0) listeners.now }
+    ensures { result ≡ is_registered listeners.now number }
+{
+    stands_at(listeners, place_of(listeners, number), number)
 }
 
 // Registers a listener with a form, in its place by number.

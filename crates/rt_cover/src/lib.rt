@@ -21,6 +21,7 @@ mod examples;
 mod forms;
 mod kept;
 mod laws;
+mod leaving;
 mod listen;
 mod listener;
 mod numbers;

@@ -1,4 +1,4 @@
-use Rattle.std.proofs.Common.{rules, ◌≡◌, ap, ◌∙◌, subst, sym}
+use Rattle.std.proofs.Common.{rules, ◌≡◌, ap, ◌∙◌}
 use Rattle.std.specs.List.{insert}
 use Rattle.rt_cover.specs.inside.Places.{place}
 use Rattle.rt_cover.proofs.PlaceLaws.{insert_place}

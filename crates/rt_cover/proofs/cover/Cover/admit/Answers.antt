@@ -1,4 +1,4 @@
-use Rattle.std.proofs.Common.{◌≡◌, ◌+◌, [], sym, subst, ◌∙◌}
+use Rattle.std.proofs.Common.{◌≡◌, ◌+◌, sym, subst, ◌∙◌}
 use Rattle.rt_cover.specs.State.{Cover, with_listener, with_listeners}
 use Rattle.rt_cover.specs.inside.Sound.{IsSound}
 use Rattle.rt_cover.proofs.NewLaws.{admitted, sound_with}
