@@ -31,7 +31,7 @@ not_true false e = refl
 -- ---- the listeners with a new one
 
 -- each is the new one or was there
-members : (ls : List Registered) (n : ℕ) (f : Query) (l : Registered) → Contains (with_listener ls n f) l → ((n, f) ≡ l) ⊎ Contains ls l
+pub members : (ls : List Registered) (n : ℕ) (f : Query) (l : Registered) → Contains (with_listener ls n f) l → ((n, f) ≡ l) ⊎ Contains ls l
 members ls n f l m =
     elim (Contains-append_cases (filter (λ (x : Registered). nat_lt x.0 n) ls) ((n, f) ∷ filter (λ (x : Registered). nat_lt n x.0) ls) l m) [
       | inl a ↦ inr (Contains-from_filter (λ (x : Registered). nat_lt x.0 n) ls l a)
@@ -42,12 +42,12 @@ members ls n f l m =
     ]
 
 -- the new one is there
-new_member : (ls : List Registered) (n : ℕ) (f : Query) → Contains (with_listener ls n f) (n, f)
+pub new_member : (ls : List Registered) (n : ℕ) (f : Query) → Contains (with_listener ls n f) (n, f)
 new_member ls n f = Contains-append_right (filter (λ (x : Registered). nat_lt x.0 n) ls) ((n, f) ∷ filter (λ (x : Registered). nat_lt n x.0) ls) (n, f)
     (Contains-head (n, f) (filter (λ (x : Registered). nat_lt n x.0) ls))
 
 -- and each that was
-old_member : (ls : List Registered) (n : ℕ) (f : Query) → is_registered ls n ≡ false → (l : Registered) → Contains ls l → Contains (with_listener ls n f) l
+pub old_member : (ls : List Registered) (n : ℕ) (f : Query) → is_registered ls n ≡ false → (l : Registered) → Contains ls l → Contains (with_listener ls n f) l
 old_member ls n f free l m =
     elim (nat_lt l.0 n) as (λ b. nat_lt l.0 n ≡ b → Contains (with_listener ls n f) l) [
       | true ↦ λ e. Contains-append_left (filter (λ (x : Registered). nat_lt x.0 n) ls) ((n, f) ∷ filter (λ (x : Registered). nat_lt n x.0) ls) l
@@ -67,7 +67,7 @@ old_member ls n f free l m =
     ] refl
 
 -- a form that was registered still is
-old_form : (ls : List Registered) (n : ℕ) (f : Query) → is_registered ls n ≡ false → (g : Query) → Contains (forms ls) g → Contains (forms (with_listener ls n f)) g
+pub old_form : (ls : List Registered) (n : ℕ) (f : Query) → is_registered ls n ≡ false → (g : Query) → Contains (forms ls) g → Contains (forms (with_listener ls n f)) g
 old_form ls n f free g m =
     let r = found ls g m in
     subst (Contains (forms (with_listener ls n f))) r.2
@@ -81,7 +81,7 @@ kept_form kept g m =
     list_any_with (λ (k : Tagged). query_eq k.form g) kept x.0 x.1 ((query_eq_tells (x.0).form g).1 x.2)
 
 -- the forms that a new listener makes needed, and that are not kept
-abbrev fresh : Cover → ℕ → Query → List Query
+abbrev pub fresh : Cover → ℕ → Query → List Query
 fresh c n f = new_forms c.kept (needed_forms (with_listener c.listeners n f))
 
 is_needed : (c : Cover) (n : ℕ) (f g : Query) → Contains (fresh c n f) g → Contains (needed_forms (with_listener c.listeners n f)) g
@@ -91,7 +91,7 @@ is_new : (c : Cover) (n : ℕ) (f g : Query) → Contains (fresh c n f) g → is
 is_new c n f g m = not_true (is_kept c.kept g) (passes-from_filter (λ x. not (is_kept c.kept x)) (needed_forms (with_listener c.listeners n f)) g m)
 
 -- such a form is the new listener's
-fresh_form : (c : Cover) → IsSound c → (n : ℕ) (f : Query) → is_registered c.listeners n ≡ false → (g : Query) → Contains (fresh c n f) g → f ≡ g
+pub fresh_form : (c : Cover) → IsSound c → (n : ℕ) (f : Query) → is_registered c.listeners n ≡ false → (g : Query) → Contains (fresh c n f) g → f ≡ g
 fresh_form c s n f free g m =
     let ls : List Registered = with_listener c.listeners n f in
     let need : Contains (needed_forms ls) g = is_needed c n f g m in
@@ -117,7 +117,7 @@ fresh_form c s n f free g m =
         ] refl
 
 -- so there is one at most
-fresh_one : (c : Cover) → IsSound c → (n : ℕ) (f : Query) → is_registered c.listeners n ≡ false → length (fresh c n f) ≤ 1
+pub fresh_one : (c : Cover) → IsSound c → (n : ℕ) (f : Query) → is_registered c.listeners n ≡ false → length (fresh c n f) ≤ 1
 fresh_one c s n f free = one (fresh c n f) (fresh_form c s n f free)
     (AllPairs-filter (λ x y. x ≢ y) (λ x. not (is_kept c.kept x)) (needed_forms ls)
     (AllPairs-filter (λ x y. x ≢ y) (λ x. not (is_covered (forms ls) x)) (forms ls)
@@ -133,7 +133,7 @@ fresh_one c s n f free = one (fresh c n f) (fresh_form c s n f free)
         (sym (h x (Contains-head x (y ∷ fs))) ∙ h y (Contains-later x (y ∷ fs) y (Contains-head y fs))))
 
 -- none, where a kept listen supplies it
-fresh_none : (c : Cover) → IsSound c → (n : ℕ) (f : Query) → is_registered c.listeners n ≡ false
+pub fresh_none : (c : Cover) → IsSound c → (n : ℕ) (f : Query) → is_registered c.listeners n ≡ false
     → (k : Tagged) → Contains c.kept k → Supplies k.form f → length (fresh c n f) ≡ 0
 fresh_none c s n f free k m sup = none (fresh c n f) (λ g there. there)
   where
@@ -157,7 +157,7 @@ fresh_none c s n f free k m sup = none (fresh c n f) (λ g there. there)
         absurd (true≢false (sym (list_any_with (λ (x : Tagged). query_eq x.form g) c.kept k m ((query_eq_tells k.form g).1 same)) ∙ is_new c n f g there))
 
 -- one, where none does
-fresh_some : (c : Cover) → IsSound c → (n : ℕ) (f : Query) → form f ≡ f → is_registered c.listeners n ≡ false
+pub fresh_some : (c : Cover) → IsSound c → (n : ℕ) (f : Query) → form f ≡ f → is_registered c.listeners n ≡ false
     → All (λ (k : Tagged). does_supply k.form f ≡ false) c.kept → Contains (fresh c n f) f
 fresh_some c s n f own free none = Contains-filter (λ x. not (is_kept c.kept x)) (needed_forms ls) f
     (Contains-filter (λ x. not (is_covered (forms ls) x)) (forms ls) f (form_in ls (n, f) (new_member c.listeners n f)) (ap not uncovered))

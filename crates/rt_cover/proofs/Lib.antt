@@ -1,5 +1,8 @@
 pub mod AddLaws
 pub mod ApartLaws
+pub mod EndLaws
+pub mod NewLaws
+pub mod PlaceLaws
 pub mod RefusalLaws
 pub mod RunLaws
 pub mod SeenLaws

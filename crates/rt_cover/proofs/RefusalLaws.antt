@@ -1,13 +1,14 @@
 -- The refusals of changes, by whether a tag is lacking.
-use Rattle.std.proofs.Common.{◌≡◌, ◌≢◌, ℕ, ◌==◌, Bool, true, false, cond, not, List, Option, Some, None, is_some, sym, ap, ◌∙◌, arith}
+use Rattle.std.proofs.Common.{◌≡◌, ◌≢◌, ℕ, ◌==◌, Bool, true, false, cond, not, List, [], Option, Some, None, is_some, refl, sym, ap, ◌∙◌, arith}
 use mathlib.Core.Bool.{true≢false}
 use Rattle.std.specs.List.{list_any}
-use Rattle.std.specs.Option.{option_map_or}
+use Rattle.std.specs.Option.{option_map, option_map_or}
+use Rattle.rt_query.specs.Queries.{Query}
 use Rattle.rt_cover.specs.declared.error.CoverError.{CoverError}
 use Rattle.rt_cover.specs.declared.error.CoverError.TheVariants.{UnknownListener, UnknownTag, NoTag}
 use Rattle.rt_cover.specs.Errors.{code_of}
 use Rattle.rt_cover.specs.Cover.{Registered, Tagged}
-use Rattle.rt_cover.specs.State.{Cover, lacks_tag, fault_of, has_unknown, AreChosen, remove_fault, revoke_fault, without_listeners, without_chosen, left_after, listen_at}
+use Rattle.rt_cover.specs.State.{Cover, lacks_tag, fault_of, has_unknown, AreChosen, remove_fault, revoke_fault, without_listeners, without_chosen, without_form, left_after, listen_at}
 use Rattle.rt_cover.specs.laws.Pairs.{filter_agreeing}
 
 -- ---- a change to some listeners
@@ -87,3 +88,23 @@ revoke_none c tag h known = by (listen_at c tag) h known
 -- a tag that is not kept lacks none
 pub revoke_kept : (c : Cover) (tag : ℕ) → lacks_to_revoke c tag ≡ true → listen_at c tag ≢ None
 revoke_kept c tag h is = true≢false (sym h ∙ ap (λ o. option_map_or (λ (_ : Tagged). lacks_tag c (left_after c tag)) o false) is)
+
+-- ---- who is left
+
+-- those that have not the form of the tag
+pub left_of_form : (c : Cover) (tag : ℕ) (f : Query) → option_map (λ (k : Tagged). k.form) (listen_at c tag) ≡ Some f
+    → left_after c tag ≡ without_form c.listeners f
+left_of_form c tag f h = by (listen_at c tag) h
+  where
+    by : (o : Option Tagged) → option_map (λ (k : Tagged). k.form) o ≡ Some f
+        → option_map_or (λ (k : Tagged). without_form c.listeners k.form) o c.listeners ≡ without_form c.listeners f
+    by None h = cc
+    by (Some k) h = ap (λ o. option_map_or (without_form c.listeners) o []) h
+
+-- the tag is kept
+pub known_of_form : (c : Cover) (tag : ℕ) (f : Query) → option_map (λ (k : Tagged). k.form) (listen_at c tag) ≡ Some f → is_some (listen_at c tag) ≡ true
+known_of_form c tag f h = by (listen_at c tag) h
+  where
+    by : (o : Option Tagged) → option_map (λ (k : Tagged). k.form) o ≡ Some f → is_some o ≡ true
+    by None h = cc
+    by (Some k) h = refl

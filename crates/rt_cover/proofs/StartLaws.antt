@@ -1,6 +1,6 @@
 -- How many listens start once some listeners end: as many as listeners that are left, for whose form
 -- no listen is kept, and that no other replaces.
-use Rattle.std.proofs.Common.{◌≡◌, ℕ, ◌+◌, ◌<◌, ◌≤◌, nat_lt, Bool, true, false, cond, not, ◌&&◌, ◌||◌, List, [], ◌∷◌, length, refl, sym, ap, ◌∙◌, suc, arith, ltb-true, ltb-false}
+use Rattle.std.proofs.Common.{◌≡◌, ℕ, ◌+◌, ◌<◌, ◌≤◌, nat_lt, Bool, true, false, cond, not, ◌&&◌, ◌||◌, List, [], ◌∷◌, map, length, refl, sym, ap, ◌∙◌, arith, ltb-true, ltb-false}
 use Rattle.std.specs.List.{filter, list_any, count_by, All, AllPairs, Contains}
 use Rattle.std.proofs.lemmas.List.Elements.{All-contains}
 use Rattle.std.proofs.lemmas.List.Folds.{Any-from_list_any, list_any_at, list_any_none}
@@ -81,13 +81,13 @@ lt_true m n h = elim (nat_lt m n) as (λ b. nat_lt m n ≡ b → b ≡ true) [
 
 -- one listener more in front
 first_more : (p : Query → Bool) (l : Registered) (ls : List Registered) → AllPairs (λ (l m : Registered). l.0 < m.0) (l ∷ ls)
-    → length (filter (λ g. not (query_eq l.1 g) && p g) (forms ls))
-    ≡ length (filter (λ (m : Registered). (not (query_eq l.1 m.1) && p m.1) && not (is_seen ls m)) ls)
-    → length (filter p (forms (l ∷ ls))) ≡ length (filter (λ (m : Registered). p m.1 && not (is_seen (l ∷ ls) m)) (l ∷ ls))
+    → filter (λ g. not (query_eq l.1 g) && p g) (forms ls)
+    ≡ map (λ (m : Registered). m.1) (filter (λ (m : Registered). (not (query_eq l.1 m.1) && p m.1) && not (is_seen ls m)) ls)
+    → filter p (forms (l ∷ ls)) ≡ map (λ (m : Registered). m.1) (filter (λ (m : Registered). p m.1 && not (is_seen (l ∷ ls) m)) (l ∷ ls))
 first_more p l ls rise more =
-    (λ i. length (cond (p l.1) (l.1 ∷ others i) (others i)))
+    (λ i. cond (p l.1) (l.1 ∷ others i) (others i))
     ∙ both (p l.1)
-    ∙ ap (λ b. length (cond (p l.1 && not b) (l ∷ filter after ls) (filter after ls))) (sym new)
+    ∙ ap (λ b. map (λ (m : Registered). m.1) (cond (p l.1 && not b) (l ∷ filter after ls) (filter after ls))) (sym new)
   where
     q : Query → Bool
     q g = not (query_eq l.1 g) && p g
@@ -131,20 +131,20 @@ first_more p l ls rise more =
         mixed false true c = refl
         mixed false false c = refl
 
-    rest : length (filter q (forms ls)) ≡ length (filter after ls)
-    rest = more ∙ ap length same
+    rest : filter q (forms ls) ≡ map (λ (m : Registered). m.1) (filter after ls)
+    rest = more ∙ ap (map (λ (m : Registered). m.1)) same
 
-    both : (b : Bool) → length (cond b (l.1 ∷ filter q (forms ls)) (filter q (forms ls)))
-        ≡ length (cond (b && true) (l ∷ filter after ls) (filter after ls))
-    both true = ap suc rest
+    both : (b : Bool) → cond b (l.1 ∷ filter q (forms ls)) (filter q (forms ls))
+        ≡ map (λ (m : Registered). m.1) (cond (b && true) (l ∷ filter after ls) (filter after ls))
+    both true = ap (λ z. l.1 ∷ z) rest
     both false = rest
 
--- the forms that pass are as many as the first listeners of such
-pub count_firsts : (p : Query → Bool) (ls : List Registered) → AllPairs (λ (l m : Registered). l.0 < m.0) ls
-    → length (filter p (forms ls)) ≡ length (filter (λ (l : Registered). p l.1 && not (is_seen ls l)) ls)
-count_firsts p [] rise = refl
-count_firsts p (l ∷ ls) rise = first_more p l ls rise
-    (count_firsts (λ g. not (query_eq l.1 g) && p g) ls (AllPairs-rest (λ (x y : Registered). x.0 < y.0) l ls rise))
+-- the forms that pass are those of the first listeners of such
+pub forms_of_firsts : (p : Query → Bool) (ls : List Registered) → AllPairs (λ (l m : Registered). l.0 < m.0) ls
+    → filter p (forms ls) ≡ map (λ (l : Registered). l.1) (filter (λ (l : Registered). p l.1 && not (is_seen ls l)) ls)
+forms_of_firsts p [] rise = refl
+forms_of_firsts p (l ∷ ls) rise = first_more p l ls rise
+    (forms_of_firsts (λ g. not (query_eq l.1 g) && p g) ls (AllPairs-rest (λ (x y : Registered). x.0 < y.0) l ls rise))
 
 -- ---- what starts
 
@@ -166,12 +166,13 @@ replaced ls l =
     either false false true = refl
     either false false false = refl
 
-pub count_started : (ends : Registered → Bool) (kept : List Tagged) (ls : List Registered) → AllPairs (λ (l m : Registered). l.0 < m.0) ls
-    → length (new_forms kept (needed (forms (left ends ls)))) ≡ length (filter (starts ends kept ls) ls)
-count_started ends kept ls rise =
-    ap length (filter_both (λ f. not (is_kept kept f)) (λ f. not (is_covered (forms here) f)) p (λ f. refl) (forms here))
-    ∙ count_firsts p here (AllPairs-filter (λ (l m : Registered). l.0 < m.0) stay ls rise)
-    ∙ ap length (filter_both (λ (l : Registered). p l.1 && not (is_seen here l)) stay (starts ends kept ls) each ls)
+-- the new forms are those of the listeners for whom a listen starts
+pub started_by_listeners : (ends : Registered → Bool) (kept : List Tagged) (ls : List Registered) → AllPairs (λ (l m : Registered). l.0 < m.0) ls
+    → new_forms kept (needed (forms (left ends ls))) ≡ map (λ (l : Registered). l.1) (filter (starts ends kept ls) ls)
+started_by_listeners ends kept ls rise =
+    filter_both (λ f. not (is_kept kept f)) (λ f. not (is_covered (forms here) f)) p (λ f. refl) (forms here)
+    ∙ forms_of_firsts p here (AllPairs-filter (λ (l m : Registered). l.0 < m.0) stay ls rise)
+    ∙ ap (map (λ (l : Registered). l.1)) (filter_both (λ (l : Registered). p l.1 && not (is_seen here l)) stay (starts ends kept ls) each ls)
   where
     stay : Registered → Bool
     stay l = not (ends l)
@@ -193,6 +194,10 @@ count_started ends kept ls rise =
     each l = mixed (stay l) (is_covered (forms here) l.1) (is_kept kept l.1) (is_seen here l)
         ∙ ap (λ b. stay l && (not (is_kept kept l.1) && not b))
         (sym (list_any_filtered stay (λ (m : Registered). comes_before m l) ls ∙ replaced here l))
+
+pub count_started : (ends : Registered → Bool) (kept : List Tagged) (ls : List Registered) → AllPairs (λ (l m : Registered). l.0 < m.0) ls
+    → length (new_forms kept (needed (forms (left ends ls)))) ≡ length (filter (starts ends kept ls) ls)
+count_started ends kept ls rise = ap length (started_by_listeners ends kept ls rise) ∙ length_of_map (λ (l : Registered). l.1) (filter (starts ends kept ls) ls)
 
 -- as many start as new forms are needed
 pub started_count : (c : Cover) (ls : List Registered) → length (started_for c ls) ≡ length (new_forms c.kept (needed_forms ls))

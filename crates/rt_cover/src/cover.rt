@@ -2,20 +2,19 @@
 ghost use Rattle.std.specs.Prelude.{◌≡◌, ◌<◌, ◌+◌, ◌⊎◌, false, true, not, map, length, IfOk, IfErr};
 ghost use Rattle.std.specs.Prelude.{OnOk, OnErr, IfSome, IfNone, is_some, ℕ, List};
 ghost use Rattle.std.specs.Prelude.{if◌then◌else◌};
-ghost use Rattle.std.specs.List.{filter, list_any, All, AllPairs};
+ghost use Rattle.std.specs.List.{All, enumerate_from};
 ghost use Rattle.std.specs.Option.{option_copied, option_map, option_map_or};
 
+use crate::adding::{has_number, insert_listener, keep_over, started_one, supplied_tags};
 use crate::choice::Choice;
 use crate::delta::{Delta, Revoked};
 use crate::ending::{Ending, OfChoice, OfForm, OfNumbers};
 use crate::error::CoverError;
-use crate::forms::{forms, needed};
+use crate::forms::forms;
 use crate::kept::{Kept, KeptList};
+use crate::leaving::{bereft_listeners, keep_instead, lost_listens, retain_left};
 use crate::listen::{self, Listen};
-use crate::listener::{
-    self, Listener, first_listener, into_form, numbers_of, with_listener, without_form,
-    without_listeners,
-};
+use crate::listener::{self, Listener, first_listener, into_form, numbers_of};
 use crate::numbers::Numbers;
 use crate::plan::Plan;
 use crate::starting;
@@ -67,10 +66,10 @@ impl Model for Cover {
 
 impl Cover {
     ghost use Rattle.rt_query.specs.Supply.{form, does_supply};
-    ghost use Rattle.rt_query.specs.QueryEq.{query_eq};
-    ghost use Rattle.rt_cover.specs.Cover.{forms, kept_for};
+    ghost use Rattle.rt_query.specs.Supply as Supply;
+    ghost use Rattle.rt_cover.specs.Cover.{forms};
     ghost use Rattle.rt_cover.specs.Apart.{do_plains_overlap};
-    ghost use Rattle.rt_cover.specs.State.{empty_cover, is_registered, needed_forms, started_for};
+    ghost use Rattle.rt_cover.specs.State.{empty_cover, is_registered};
     ghost use Rattle.rt_cover.specs.State.{with_listener, without_listeners, without_chosen};
     ghost use Rattle.rt_cover.specs.State.{shown_with, shown, listen_at, supplier};
     ghost use Rattle.rt_cover.specs.State.{with_listeners, lacks_tag, difference};
@@ -79,7 +78,7 @@ impl Cover {
     ghost use Rattle.rt_cover.specs.State.{fault_of, add_fault, remove_fault, revoke_fault};
     ghost use Rattle.rt_cover.specs.State.{has_unknown, AreChosen, FailsBy};
     ghost use Rattle.rt_cover.specs.Shown.{AreFewest, IsCertified, IsLeastSupplier, IsTold};
-    ghost use Rattle.rt_cover.specs.inside.Endings.{left};
+    ghost use Rattle.rt_cover.specs.inside.Endings.{left, lost, beginners, tagged_of, told_of};
     ghost use Rattle.rt_cover.specs.inside.Sound.{IsSound};
 
     /// The cover of no listener. Tags count from 1, and none is above the last one.
@@ -122,13 +121,11 @@ impl Cover {
         *self.listeners.allocator()
     }
 
-    /// Whether a listener of that number is registered.
+    /// Whether a listener of that number is registered, found by halving.
     pub fn is_registered(&self, listener: u64) -> bool
         ensures { result ≡ is_registered self.now.listeners listener }
     {
-        self.listeners
-            .iter()
-            .any(|registered| registered.number == listener)
+        has_number(&self.listeners, listener)
     }
 
     // The kept listens, each with the least-numbered listener of its form.
@@ -293,55 +290,122 @@ impl Cover {
         }
     }
 
-    // What a change to these listeners makes of the listens kept.
-    fn plan(&self, listeners: &[Listener]) -> Result<Plan, AllocError>
-        requires room { lacks_tag self.now listeners.now ≡ false }
+    // What the end of these listeners starts and stops.
+    fn plan<E: Ending>(&self, ending: &E) -> Result<Plan, AllocError>
+        requires room { lacks_tag self.now (left (E.ended ending.now) self.now.listeners) ≡ false }
+        ensures lost { IfOk result (λ plan. plan.lost.items
+            ≡ lost (E.ended ending.now) self.now.kept self.now.listeners) }
+        ensures stopped { IfOk result (λ plan. plan.stopped.items ≡ map (λ k. k.tag)
+            (lost (E.ended ending.now) self.now.kept self.now.listeners)) }
         ensures kept { IfOk result (λ plan. plan.kept.items
-            ≡ kept_for self.now.next_tag self.now.kept (needed_forms listeners.now)) }
-        ensures given { IfOk result (λ plan. plan.given + 1
-            ≡ self.now.next_tag + length (started_for self.now listeners.now)) }
+            ≡ map tagged_of (enumerate_from self.now.next_tag
+            (beginners (E.ended ending.now) self.now.kept self.now.listeners))) }
         ensures started { IfOk result (λ plan. plan.started.items
-            ≡ map (shown_with listeners.now) (started_for self.now listeners.now)) }
-        ensures stopped { IfOk result (λ plan.
-            let needed = needed_forms listeners.now in
-            plan.stopped.items
-            ≡ map (λ k. k.tag)
-            (filter (λ k. not (list_any (query_eq k.form) needed)) self.now.kept)) }
+            ≡ map told_of (enumerate_from self.now.next_tag
+            (beginners (E.ended ending.now) self.now.kept self.now.listeners))) }
+        ensures given { IfOk result (λ plan. plan.given + 1 ≡ self.now.next_tag
+            + length (beginners (E.ended ending.now) self.now.kept self.now.listeners)) }
     {
         let alloc = self.alloc();
-        let forms = forms(alloc, listeners)?;
-        let needed = needed(alloc, &forms)?;
-        // read for the prover: no tag is above it
+        let lost = lost_listens(alloc, &self.listeners, &self.kept, ending)?;
+        let bereft = bereft_listeners(alloc, &self.listeners, &lost, ending)?;
+        // For the prover: no tag is above the last one.
         let _last_tag = self.last_tag;
-        let mut plan = Plan::staying(alloc, &self.kept, self.given, &needed)?;
-        plan.start_new(&self.kept, &needed, listeners)?;
+        let mut plan = Plan::of_lost(alloc, lost, self.given)?;
+        plan.start_first(&bereft)?;
         Ok(plan)
     }
 
-    // Registers these listeners in place of the ones before, and keeps the listens that they need.
-    fn change(&mut self, listeners: Vec<Listener>) -> Result<Delta, CoverError>
-        requires rise { AllPairs (λ l m. l.0 < m.0) listeners.items }
-        requires forms { All (λ l. form l.1 ≡ l.1) listeners.items }
-        requires room { lacks_tag self.old listeners.items ≡ false }
-        ensures cover { OnOk result (self.new ≡ with_listeners self.old listeners.items) }
-        ensures delta { IfOk result (λ delta. delta
-            ≡ difference self.old (with_listeners self.old listeners.items)) }
+    // Ends these listeners, where no tag is lacking.
+    fn end<E: Ending>(&mut self, ending: &E) -> Result<Delta, CoverError>
+        requires room { lacks_tag self.old (left (E.ended ending.now) self.old.listeners) ≡ false }
+        ensures cover { OnOk result (self.new
+            ≡ with_listeners self.old (left (E.ended ending.now) self.old.listeners)) }
+        ensures delta { IfOk result (λ delta. delta ≡ difference self.old
+            (with_listeners self.old (left (E.ended ending.now) self.old.listeners))) }
         ensures told { IfOk result (λ delta. IsTold self.old.next_tag delta) }
         ensures fault { IfErr result (λ e. e ≡ CoverError.NoMemory) }
         ensures unchanged { OnErr result (self.new ≡ self.old) }
     {
-        let plan = self.plan(&listeners)?;
-        self.listeners = listeners;
-        self.kept = plan.kept;
-        self.given = plan.given;
+        let Plan {
+            lost,
+            stopped,
+            kept,
+            started,
+            given,
+        } = self.plan(ending)?;
+        self.kept.reserve(kept.len())?;
+        retain_left(&mut self.listeners, ending);
+        keep_instead(&mut self.kept, &lost, kept);
+        self.given = given;
         Ok(Delta {
-            started: KeptList::of(plan.started),
-            stopped: Numbers::of(plan.stopped),
+            started: KeptList::of(started),
+            stopped: Numbers::of(stopped),
+        })
+    }
+
+    // Registers a listener whose form a kept listen supplies: nothing starts, and nothing stops.
+    fn admit(&mut self, listener: u64, form: Query) -> Result<Delta, CoverError>
+        requires free { is_registered self.old.listeners listener ≡ false }
+        requires own { Supply.form form ≡ form }
+        requires supplied { is_some (supplier self.old form) ≡ true }
+        requires room { lacks_tag self.old (with_listener self.old.listeners listener form)
+            ≡ false }
+        ensures cover { OnOk result
+            (self.new ≡ with_listeners self.old (with_listener self.old.listeners listener form)) }
+        ensures delta { IfOk result (λ delta. delta ≡ difference self.old
+            (with_listeners self.old (with_listener self.old.listeners listener form))) }
+        ensures told { IfOk result (λ delta. IsTold self.old.next_tag delta) }
+        ensures fault { IfErr result (λ e. e ≡ CoverError.NoMemory) }
+        ensures unchanged { OnErr result (self.new ≡ self.old) }
+    {
+        let alloc = self.alloc();
+        insert_listener(&mut self.listeners, listener, form)?;
+        Ok(Delta {
+            started: KeptList::of(Vec::new(alloc)),
+            stopped: Numbers::of(Vec::new(alloc)),
+        })
+    }
+
+    // Registers a listener whose form no kept listen supplies: a listen of it starts, in place of
+    // those that it supplies.
+    fn begin(&mut self, listener: u64, form: Query) -> Result<Delta, CoverError>
+        requires free { is_registered self.old.listeners listener ≡ false }
+        requires own { Supply.form form ≡ form }
+        requires unsupplied { supplier self.old form ≡ None }
+        requires room { lacks_tag self.old (with_listener self.old.listeners listener form)
+            ≡ false }
+        ensures cover { OnOk result
+            (self.new ≡ with_listeners self.old (with_listener self.old.listeners listener form)) }
+        ensures delta { IfOk result (λ delta. delta ≡ difference self.old
+            (with_listeners self.old (with_listener self.old.listeners listener form))) }
+        ensures told { IfOk result (λ delta. IsTold self.old.next_tag delta) }
+        ensures fault { IfErr result (λ e. e ≡ CoverError.NoMemory) }
+        ensures unchanged { OnErr result (self.new ≡ self.old) }
+    {
+        let alloc = self.alloc();
+        // For the prover: no tag is above the last one.
+        let _last_tag = self.last_tag;
+        let tag = self.given + 1;
+        let started = started_one(alloc, tag, &form, listener)?;
+        let stopped = supplied_tags(alloc, &self.kept, &form)?;
+        let listen = Listen {
+            tag,
+            form: form.copy()?,
+        };
+        self.kept.reserve(1)?;
+        insert_listener(&mut self.listeners, listener, form)?;
+        keep_over(&mut self.kept, listen);
+        self.given = tag;
+        Ok(Delta {
+            started: KeptList::of(started),
+            stopped: Numbers::of(stopped),
         })
     }
 
     // Registers a listener, where no tag is lacking.
     fn register(&mut self, listener: u64, query: Query) -> Result<Delta, CoverError>
+        requires free { is_registered self.old.listeners listener ≡ false }
         requires room { lacks_tag self.old (with_listener self.old.listeners listener (form query))
             ≡ false }
         ensures cover { OnOk result (self.new ≡ added self.old listener query) }
@@ -352,8 +416,11 @@ impl Cover {
         ensures unchanged { OnErr result (self.new ≡ self.old) }
     {
         let form = into_form(query)?;
-        let listeners = with_listener(self.alloc(), &self.listeners, listener, form)?;
-        self.change(listeners)
+        if self.supplier(&form).is_some() {
+            self.admit(listener, form)
+        } else {
+            self.begin(listener, form)
+        }
     }
 
     /// Registers a listener, under a number that no registered one has.
@@ -387,21 +454,6 @@ impl Cover {
         numbers.iter().any(|number| !self.is_registered(*number))
     }
 
-    // Ends these listeners, where no tag is lacking.
-    fn unregister(&mut self, listeners: &[u64]) -> Result<Delta, CoverError>
-        requires room { lacks_tag self.old (without_listeners self.old.listeners listeners.now)
-            ≡ false }
-        ensures cover { OnOk result (self.new ≡ removed self.old listeners.now) }
-        ensures delta { IfOk result (λ delta. delta
-            ≡ difference self.old (removed self.old listeners.now)) }
-        ensures told { IfOk result (λ delta. IsTold self.old.next_tag delta) }
-        ensures fault { IfErr result (λ e. e ≡ CoverError.NoMemory) }
-        ensures unchanged { OnErr result (self.new ≡ self.old) }
-    {
-        let left = without_listeners(self.alloc(), &self.listeners, listeners)?;
-        self.change(left)
-    }
-
     /// Ends all these listeners, in one change; a repeated number counts once.
     ///
     /// # Errors
@@ -427,15 +479,14 @@ impl Cover {
         if self.lacks_tag_to_remove(listeners) {
             return Err(CoverError::NoTag);
         }
-        self.unregister(listeners)
+        self.end(&OfNumbers { numbers: listeners })
     }
 
-    // The numbers of the listeners whose form the listen with this tag is, and the other listeners.
-    fn parted(&self, tag: u64) -> Result<(Vec<u64>, Vec<Listener>), CoverError>
-        ensures ended { IfOk result (λ parts. parts.0.items ≡ ended_by self.now tag) }
-        ensures left { IfOk result (λ parts. parts.1.items ≡ left_after self.now tag) }
-        ensures known { OnOk result (is_some (listen_at self.now tag) ≡ true) }
-        ensures sound { IsSound self.now }
+    // The form of the listen with this tag, and the numbers of the listeners with that form.
+    fn named(&self, tag: u64) -> Result<(Query, Vec<u64>), CoverError>
+        ensures form { IfOk result (λ parts.
+            option_map (λ k. k.form) (listen_at self.now tag) ≡ Some parts.0) }
+        ensures ended { IfOk result (λ parts. parts.1.items ≡ ended_by self.now tag) }
         ensures unknown { listen_at self.now tag ≡ None → result ≡ Err CoverError.UnknownTag }
         ensures fault { IfErr result (λ e.
             ((e ≡ CoverError.UnknownTag) × (listen_at self.now tag ≡ None))
@@ -444,10 +495,9 @@ impl Cover {
         let Some(listen) = listen::listen_at(&self.kept, tag) else {
             return Err(CoverError::UnknownTag);
         };
-        let alloc = self.alloc();
-        let ended = numbers_of(alloc, &self.listeners, &listen.form)?;
-        let left = without_form(alloc, &self.listeners, &listen.form)?;
-        Ok((ended, left))
+        let ended = numbers_of(self.alloc(), &self.listeners, &listen.form)?;
+        let form = listen.form.copy()?;
+        Ok((form, ended))
     }
 
     /// Ends the listeners whose listening form the listen with this tag is; the others are covered
@@ -473,11 +523,11 @@ impl Cover {
         if self.lacks_tag_to_revoke(tag) {
             return Err(CoverError::NoTag);
         }
-        let (ended, left) = self.parted(tag)?;
+        let (form, ended) = self.named(tag)?;
         let Delta {
             started,
             mut stopped,
-        } = self.change(left)?;
+        } = self.end(&OfForm { form: &form })?;
         stopped.take_out(tag);
         Ok(Revoked {
             ended: Numbers::of(ended),

@@ -1,12 +1,10 @@
-// The registered forms, and those that are needed.
-ghost use Rattle.std.specs.Prelude.{◌≡◌, ◌++◌, ◌∷◌, [], ◌&&◌, not, if◌then◌else◌, IfOk, OnOk};
+// The registered forms.
+ghost use Rattle.std.specs.Prelude.{◌≡◌, ◌++◌, ◌∷◌, [], if◌then◌else◌, IfOk, OnOk};
 ghost use Rattle.std.specs.List.{list_any};
 ghost use Rattle.rt_query.specs.QueryEq.{query_eq};
-ghost use Rattle.rt_query.specs.Supply.{does_supply};
-ghost use Rattle.rt_cover.specs.Cover.{forms, needed};
+ghost use Rattle.rt_cover.specs.Cover.{forms};
 
 use crate::listener::Listener;
-use crate::supply::supplies;
 use rt_query::Query;
 use std::alloc::{AllocError, Global};
 
@@ -39,27 +37,4 @@ pub(crate) fn forms(alloc: Global, listeners: &[Listener]) -> Result<Vec<Query>,
         push_form(&mut forms, &listener.form)?;
     }
     Ok(forms)
-}
-
-// Whether another of these forms supplies this one.
-fn is_covered(forms: &[Query], form: &Query) -> bool
-    ensures { result
-        ≡ list_any (λ g. not (query_eq g form.now) && does_supply g form.now) forms.now }
-{
-    forms
-        .iter()
-        .any(|other| other != form && supplies(other, form))
-}
-
-// Those of these forms that no other supplies.
-pub(crate) fn needed(alloc: Global, forms: &[Query]) -> Result<Vec<Query>, AllocError>
-    ensures { IfOk result (λ v. v.items ≡ needed forms.now) }
-{
-    let mut needed = Vec::new(alloc);
-    for form in forms {
-        if !is_covered(forms, form) {
-            needed.push(form.copy()?)?;
-        }
-    }
-    Ok(needed)
 }

@@ -11,6 +11,7 @@
 //! ```
 #![tactic(auto)]
 
+mod adding;
 mod choice;
 mod cover;
 mod delta;
@@ -20,6 +21,7 @@ mod examples;
 mod forms;
 mod kept;
 mod laws;
+mod leaving;
 mod listen;
 mod listener;
 mod numbers;

@@ -1,8 +1,7 @@
 // Kept listens.
 ghost use Rattle.std.specs.Prelude.{◌≡◌, ◌==◌, map, IfOk};
-ghost use Rattle.std.specs.List.{find, list_any};
+ghost use Rattle.std.specs.List.{find};
 ghost use Rattle.std.specs.Option.{option_copied, option_map};
-ghost use Rattle.rt_query.specs.QueryEq.{query_eq};
 ghost use Rattle.rt_query.specs.Supply.{does_supply};
 ghost use Rattle.rt_cover.specs.Cover.{is_kept};
 
@@ -32,14 +31,6 @@ impl Model for Listen {
 }
 
 impl Listen {
-    // Whether its form is one of these.
-    pub(crate) fn is_among(&self, forms: &[Query]) -> bool
-        ensures { result ≡ list_any (query_eq self.now.form) forms.now }
-    {
-        let own = &self.form;
-        forms.iter().any(|form| own == form)
-    }
-
     // An equal listen.
     pub(crate) fn copy(&self) -> Result<Listen, AllocError>
         ensures { IfOk result (λ listen. listen ≡ self.now) }
@@ -79,6 +70,17 @@ pub(crate) fn forms_of(alloc: Global, kept: &[Listen]) -> Result<Vec<Query>, All
         forms.push(listen.form.copy()?)?;
     }
     Ok(forms)
+}
+
+// The tags of listens.
+pub(crate) fn tags_of(alloc: Global, kept: &[Listen]) -> Result<Vec<u64>, AllocError>
+    ensures { IfOk result (λ v. v.items ≡ map (λ k. k.tag) kept.now) }
+{
+    let mut tags = Vec::with_capacity(alloc, kept.len())?;
+    for listen in kept {
+        tags.push(listen.tag)?;
+    }
+    Ok(tags)
 }
 
 // The listen with that tag.

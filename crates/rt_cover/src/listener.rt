@@ -1,9 +1,8 @@
 // Registered listeners.
-ghost use Rattle.std.specs.Prelude.{◌≡◌, ◌++◌, IfOk, OnOk, nat_lt};
-ghost use Rattle.std.specs.List.{filter};
+ghost use Rattle.std.specs.Prelude.{◌≡◌, IfOk};
 ghost use Rattle.rt_query.specs.Supply.{form};
 ghost use Rattle.rt_cover.specs.Cover.{first_listener};
-ghost use Rattle.rt_cover.specs.State.{with_listener, without_listeners, without_form, numbers_of};
+ghost use Rattle.rt_cover.specs.State.{numbers_of};
 
 use rt_query::Query;
 use std::alloc::{AllocError, Global};
@@ -31,7 +30,7 @@ impl Model for Listener {
 
 impl Listener {
     // An equal listener.
-    fn copy(&self) -> Result<Listener, AllocError>
+    pub(crate) fn copy(&self) -> Result<Listener, AllocError>
         ensures { IfOk result (λ listener. listener ≡ self.now) }
     {
         let form = self.form.copy()?;
@@ -91,88 +90,4 @@ pub(crate) fn numbers_of(
         }
     }
     Ok(numbers)
-}
-
-// Adds the listeners of lesser numbers.
-fn push_below(
-    into: &mut Vec<Listener>,
-    listeners: &[Listener],
-    number: u64,
-) -> Result<(), AllocError>
-    ensures { OnOk result (into.new.items
-        ≡ into.old.items ++ filter (λ l. nat_lt l.0 number) listeners.now) }
-{
-    for listener in listeners {
-        if listener.number < number {
-            into.push(listener.copy()?)?;
-        }
-    }
-    Ok(())
-}
-
-// Adds the listeners of greater numbers.
-fn push_above(
-    into: &mut Vec<Listener>,
-    listeners: &[Listener],
-    number: u64,
-) -> Result<(), AllocError>
-    ensures { OnOk result (into.new.items
-        ≡ into.old.items ++ filter (λ l. nat_lt number l.0) listeners.now) }
-{
-    for listener in listeners {
-        if number < listener.number {
-            into.push(listener.copy()?)?;
-        }
-    }
-    Ok(())
-}
-
-// The listeners with a new one of a form, by number.
-pub(crate) fn with_listener(
-    alloc: Global,
-    listeners: &[Listener],
-    number: u64,
-    form: Query,
-) -> Result<Vec<Listener>, AllocError>
-    ensures { IfOk result (λ v. v.items ≡ with_listener listeners.now number form) }
-{
-    let mut all = Vec::new(alloc);
-    push_below(&mut all, listeners, number)?;
-    all.push(Listener { number, form })?;
-    push_above(&mut all, listeners, number)?;
-    Ok(all)
-}
-
-// The listeners without those of these numbers.
-pub(crate) fn without_listeners(
-    alloc: Global,
-    listeners: &[Listener],
-    numbers: &[u64],
-) -> Result<Vec<Listener>, AllocError>
-    ensures { IfOk result (λ v. v.items ≡ without_listeners listeners.now numbers.now) }
-{
-    let mut others = Vec::new(alloc);
-    for listener in listeners {
-        if !numbers.contains(&listener.number) {
-            others.push(listener.copy()?)?;
-        }
-    }
-    Ok(others)
-}
-
-// The listeners without those of that form.
-pub(crate) fn without_form(
-    alloc: Global,
-    listeners: &[Listener],
-    form: &Query,
-) -> Result<Vec<Listener>, AllocError>
-    ensures { IfOk result (λ v. v.items ≡ without_form listeners.now form.now) }
-{
-    let mut others = Vec::new(alloc);
-    for listener in listeners {
-        if listener.form != *form {
-            others.push(listener.copy()?)?;
-        }
-    }
-    Ok(others)
 }

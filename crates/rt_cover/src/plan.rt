@@ -1,56 +1,42 @@
-// What a change makes of the listens kept.
-ghost use Rattle.std.specs.Prelude.{◌≡◌, ◌+◌, ◌<◌, ◌^◌, ◌++◌, ◌∷◌, [], not, map, length, IfOk, OnOk};
-ghost use Rattle.std.specs.List.{filter, list_any};
-ghost use Rattle.rt_query.specs.QueryEq.{query_eq};
-ghost use Rattle.rt_cover.specs.Cover.{started};
-ghost use Rattle.rt_cover.specs.State.{shown_with};
+// What the end of some listeners starts and stops.
+ghost use Rattle.std.specs.Prelude.{◌≡◌, ◌+◌, ◌<◌, ◌^◌, ◌++◌, ◌∷◌, [], map, length, IfOk, OnOk};
+ghost use Rattle.std.specs.List.{enumerate_from};
+ghost use Rattle.rt_cover.specs.inside.Endings.{first_among, tagged_of, told_of};
 
 use crate::kept::Kept;
-use crate::listen::{Listen, is_kept};
-use crate::listener::{Listener, first_listener};
+use crate::leaving::is_behind;
+use crate::listen::{Listen, tags_of};
+use crate::listener::Listener;
 use rt_query::Query;
 use std::alloc::{AllocError, Global};
 
-// The listens that are kept after the change and how many tags are given then, what starts and what
-// stops.
+// The kept listens that are lost and their tags, the listens that start and what is told of them, and
+// how many tags are given then.
 #[derive(Drop)]
 pub(crate) struct Plan {
-    pub(crate) kept: Vec<Listen>,
-    pub(crate) given: u64,
-    pub(crate) started: Vec<Kept>,
+    pub(crate) lost: Vec<Listen>,
     pub(crate) stopped: Vec<u64>,
+    pub(crate) kept: Vec<Listen>,
+    pub(crate) started: Vec<Kept>,
+    pub(crate) given: u64,
 }
 
 impl Plan {
-    // The listens whose forms are needed stay, the others stop.
-    pub(crate) fn staying(
-        alloc: Global,
-        old: &[Listen],
-        given: u64,
-        needed: &[Query],
-    ) -> Result<Plan, AllocError>
-        ensures kept { IfOk result (λ plan. plan.kept.items
-            ≡ filter (λ k. list_any (query_eq k.form) needed.now) old.now) }
-        ensures stopped { IfOk result (λ plan. plan.stopped.items
-            ≡ map (λ k. k.tag)
-            (filter (λ k. not (list_any (query_eq k.form) needed.now)) old.now)) }
-        ensures given { IfOk result (λ plan. plan.given ≡ given) }
+    // These listens are lost, and nothing starts yet.
+    pub(crate) fn of_lost(alloc: Global, lost: Vec<Listen>, given: u64) -> Result<Plan, AllocError>
+        ensures lost { IfOk result (λ plan. plan.lost.items ≡ lost.items) }
+        ensures stopped { IfOk result (λ plan. plan.stopped.items ≡ map (λ k. k.tag) lost.items) }
+        ensures kept { IfOk result (λ plan. plan.kept.items ≡ []) }
         ensures started { IfOk result (λ plan. plan.started.items ≡ []) }
+        ensures given { IfOk result (λ plan. plan.given ≡ given) }
     {
-        let mut kept = Vec::new(alloc);
-        let mut stopped = Vec::new(alloc);
-        for listen in old {
-            if listen.is_among(needed) {
-                kept.push(listen.copy()?)?;
-            } else {
-                stopped.push(listen.tag)?;
-            }
-        }
+        let stopped = tags_of(alloc, &lost)?;
         Ok(Plan {
-            kept,
-            given,
-            started: Vec::new(alloc),
+            lost,
             stopped,
+            kept: Vec::new(alloc),
+            started: Vec::new(alloc),
+            given,
         })
     }
 
@@ -63,6 +49,7 @@ impl Plan {
             ++ record { tag = self.old.given + 1; query = form.now; listener = listener } ∷ []) }
         ensures given { OnOk result (self.new.given ≡ self.old.given + 1) }
         ensures stopped { OnOk result (self.new.stopped.items ≡ self.old.stopped.items) }
+        ensures lost { OnOk result (self.new.lost.items ≡ self.old.lost.items) }
     {
         let tag = self.given + 1;
         let query = form.copy()?;
@@ -77,26 +64,23 @@ impl Plan {
         Ok(())
     }
 
-    // Starts the needed forms of which no listen was kept.
-    pub(crate) fn start_new(
-        &mut self,
-        old: &[Listen],
-        needed: &[Query],
-        listeners: &[Listener],
-    ) -> Result<(), AllocError>
-        requires { self.old.given + length (started (self.old.given + 1) old.now needed.now)
-            < 2 ^ 64 }
-        ensures kept { OnOk result (self.new.kept.items
-            ≡ self.old.kept.items ++ started (self.old.given + 1) old.now needed.now) }
+    // Starts a listen for each of these listeners that none of them comes before.
+    pub(crate) fn start_first(&mut self, listeners: &[Listener]) -> Result<(), AllocError>
+        requires { self.old.given + length (first_among listeners.now listeners.now) < 2 ^ 64 }
+        ensures kept { OnOk result (self.new.kept.items ≡ self.old.kept.items
+            ++ map tagged_of
+            (enumerate_from (self.old.given + 1) (first_among listeners.now listeners.now))) }
         ensures started { OnOk result (self.new.started.items ≡ self.old.started.items
-            ++ map (shown_with listeners.now) (started (self.old.given + 1) old.now needed.now)) }
+            ++ map told_of
+            (enumerate_from (self.old.given + 1) (first_among listeners.now listeners.now))) }
         ensures given { OnOk result (self.new.given
-            ≡ self.old.given + length (started (self.old.given + 1) old.now needed.now)) }
+            ≡ self.old.given + length (first_among listeners.now listeners.now)) }
         ensures stopped { OnOk result (self.new.stopped.items ≡ self.old.stopped.items) }
+        ensures lost { OnOk result (self.new.lost.items ≡ self.old.lost.items) }
     {
-        for form in needed {
-            if !is_kept(old, form) {
-                self.start(form, first_listener(listeners, form))?;
+        for listener in listeners {
+            if !is_behind(listeners, listener) {
+                self.start(&listener.form, listener.number)?;
             }
         }
         Ok(())

@@ -10,7 +10,7 @@ use crate::supply::supplies;
 
 // Whether the other listener's listen does for this one too: it has the same form and a lesser
 // number, or another form that supplies this one's.
-fn comes_before(other: &Listener, listener: &Listener) -> bool
+pub(crate) fn comes_before(other: &Listener, listener: &Listener) -> bool
     ensures { result ≡ comes_before other.now listener.now }
 {
     if other.form == listener.form {

@@ -1,8 +1,10 @@
 -- The listeners that a change ends, and those for which a listen starts then.
-use Rattle.std.specs.Prelude.{Bool, ◌&&◌, not, nat_lt, if◌then◌else◌, List}
+use Rattle.std.specs.Prelude.{ℕ, Bool, ◌&&◌, not, nat_lt, if◌then◌else◌, List}
 use Rattle.std.specs.List.{filter, list_any}
+use Rattle.rt_query.specs.Queries.{Query}
 use Rattle.rt_query.specs.QueryEq.{query_eq}
 use Rattle.rt_query.specs.Supply.{does_supply}
+use Rattle.rt_cover.specs.declared.kept.Kept.{Kept}
 use Rattle.rt_cover.specs.Cover.{Registered, Tagged, is_kept}
 
 -- the listeners that are left, by whether one ends
@@ -21,3 +23,35 @@ is_replaced ends listeners l = list_any (λ m. not (ends m) && comes_before m l)
 abbrev pub starts : (Registered → Bool) → List Tagged → List Registered → Registered → Bool
 starts ends kept listeners l =
     not (ends l) && (not (is_kept kept l.1) && not (is_replaced ends listeners l))
+
+-- ---- what the end makes of the listens kept
+
+-- whether a listener that is left has the form
+abbrev pub is_left_form : (Registered → Bool) → List Registered → Query → Bool
+is_left_form ends listeners f = list_any (λ l. query_eq l.1 f && not (ends l)) listeners
+
+-- the kept listens whose form no listener has that is left
+abbrev pub lost : (Registered → Bool) → List Tagged → List Registered → List Tagged
+lost ends kept listeners = filter (λ k. not (is_left_form ends listeners k.form)) kept
+
+-- the listeners that are left, and that one of these listens supplied
+abbrev pub bereft : (Registered → Bool) → List Tagged → List Registered → List Registered
+bereft ends gone listeners =
+    filter (λ l. list_any (λ k. does_supply k.form l.1) gone && not (ends l)) listeners
+
+-- those of some listeners that none of all comes before
+abbrev pub first_among : List Registered → List Registered → List Registered
+first_among all listeners = filter (λ l. not (list_any (λ m. comes_before m l) all)) listeners
+
+-- for whom listens start: the first of those that a lost listen supplied
+abbrev pub beginners : (Registered → Bool) → List Tagged → List Registered → List Registered
+beginners ends kept listeners =
+    first_among (bereft ends (lost ends kept listeners) listeners)
+    (bereft ends (lost ends kept listeners) listeners)
+
+-- a listen that starts, by its tag and its listener, and as it is told
+abbrev pub tagged_of : ℕ × Registered → Tagged
+tagged_of n = record { tag = n.0; form = (n.1).1 }
+
+abbrev pub told_of : ℕ × Registered → Kept
+told_of n = record { tag = n.0; query = (n.1).1; listener = (n.1).0 }

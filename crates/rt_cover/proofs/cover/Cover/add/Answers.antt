@@ -6,8 +6,8 @@ use Rattle.rt_cover.specs.State.{Cover, with_listener, add_fault}
 use Rattle.rt_cover.proofs.RefusalLaws.{fault_none, fault_other, fault_lacking}
 use Rattle.rt_cover.proofs.cover.Cover.add.Goals as goal
 
-pub register-requires : goal.register-requires
-register-requires c = record { room = sym (c.if-lacks_tag_to_add.ensures c.args.listener c.requires) }
+pub register-requires-clause-room : goal.register-requires-clause-room
+register-requires-clause-room c = sym (c.if-lacks_tag_to_add.ensures c.args.listener c.requires)
 
 pub returns-then-lacks_tag_to_add-clause-fault : goal.returns-then-lacks_tag_to_add-clause-fault
 returns-then-lacks_tag_to_add-clause-fault c =

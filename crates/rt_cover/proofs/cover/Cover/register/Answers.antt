@@ -1,34 +1,13 @@
-use Rattle.std.proofs.Common.{◌≡◌, ◌<◌, false, sym, subst, ◌∙◌, IfOk}
-use Rattle.std.specs.List.{All, AllPairs}
-use Rattle.rt_query.specs.Supply.{form}
-use Rattle.rt_cover.specs.Cover.{Registered}
-use Rattle.rt_cover.specs.State.{Cover, with_listener, with_listeners, lacks_tag, difference}
-use Rattle.rt_cover.specs.inside.Sound.{IsSound}
-use Rattle.rt_cover.specs.laws.SoundLaws.{HasForm, with_listener_rises, with_listener_forms}
+use Rattle.std.proofs.Common.{◌≡◌, subst, IfOk}
+use Rattle.rt_cover.specs.State.{Cover, with_listener, with_listeners, difference}
 use Rattle.rt_cover.proofs.cover.Cover.register.Goals as goal
 
-pub change-requires-clause-rise : goal.change-requires-clause-rise
-change-requires-clause-rise c =
+pub returns-then-is_some-clause-delta : goal.returns-then-is_some-clause-delta
+returns-then-is_some-clause-delta c =
     let old : Cover = c.args.self.now in
-    let sound : IsSound old = subst IsSound c.self.view_is c.self.invariant in
-    let e : c.in_ok-listeners.listeners.items ≡ with_listener old.listeners c.args.listener (form c.args.query) = c.in_ok-listeners.ensures ∙ (λ i. with_listener ((c.deref.ensures.value ∙ (λ j. (c.self.view_is j).listeners)) i) c.args.listener (c.in_ok-form.ensures i)) in
-    subst (AllPairs (λ (l m : Registered). l.0 < m.0)) (sym e) (with_listener_rises old.listeners c.args.listener (form c.args.query) sound.listeners)
+    subst (λ f. IfOk c.admit.result (λ d. d ≡ difference old (with_listeners old (with_listener old.listeners c.args.listener f)))) c.in_ok-form.ensures c.admit.ensures.delta
 
-pub change-requires-clause-forms : goal.change-requires-clause-forms
-change-requires-clause-forms c =
+pub returns-else-is_some-clause-delta : goal.returns-else-is_some-clause-delta
+returns-else-is_some-clause-delta c =
     let old : Cover = c.args.self.now in
-    let sound : IsSound old = subst IsSound c.self.view_is c.self.invariant in
-    let e : c.in_ok-listeners.listeners.items ≡ with_listener old.listeners c.args.listener (form c.args.query) = c.in_ok-listeners.ensures ∙ (λ i. with_listener ((c.deref.ensures.value ∙ (λ j. (c.self.view_is j).listeners)) i) c.args.listener (c.in_ok-form.ensures i)) in
-    subst (All HasForm) (sym e) (with_listener_forms old.listeners c.args.listener c.args.query sound.forms)
-
-pub returns-clause-delta : goal.returns-clause-delta
-returns-clause-delta c =
-    let old : Cover = c.args.self.now in
-    let e : c.in_ok-listeners.listeners.items ≡ with_listener old.listeners c.args.listener (form c.args.query) = c.in_ok-listeners.ensures ∙ (λ i. with_listener ((c.deref.ensures.value ∙ (λ j. (c.self.view_is j).listeners)) i) c.args.listener (c.in_ok-form.ensures i)) in
-    subst (λ ls. IfOk c.change.result (λ d. d ≡ difference old (with_listeners old ls))) e c.change.ensures.delta
-
-pub change-requires-clause-room : goal.change-requires-clause-room
-change-requires-clause-room c =
-    let old : Cover = c.args.self.now in
-    let e : c.in_ok-listeners.listeners.items ≡ with_listener old.listeners c.args.listener (form c.args.query) = c.in_ok-listeners.ensures ∙ (λ i. with_listener ((c.deref.ensures.value ∙ (λ j. (c.self.view_is j).listeners)) i) c.args.listener (c.in_ok-form.ensures i)) in
-    subst (λ ls. lacks_tag old ls ≡ false) (sym e) c.requires.room
+    subst (λ f. IfOk c.begin.result (λ d. d ≡ difference old (with_listeners old (with_listener old.listeners c.args.listener f)))) c.in_ok-form.ensures c.begin.ensures.delta

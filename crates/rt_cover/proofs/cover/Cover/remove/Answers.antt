@@ -17,11 +17,11 @@ returns-then-has_unknown-clause-no_tag c = λ is. absurd (remove_unknown c.args.
 pub returns-clause-taken : goal.returns-clause-taken
 returns-clause-taken c =
     let old : Cover = c.args.self.now in
-    on_ok_weaker c.unregister.result (λ _. remove_known old c.args.listeners.now (sym c.if-has_unknown.ensures)
-    ∙ fault_none old (without_listeners old.listeners c.args.listeners.now) (sym c.if-lacks_tag_to_remove.ensures)) c.unregister.ensures.cover
+    on_ok_weaker c.end.result (λ _. remove_known old c.args.listeners.now (sym c.if-has_unknown.ensures)
+    ∙ fault_none old (without_listeners old.listeners c.args.listeners.now) (sym c.if-lacks_tag_to_remove.ensures)) c.end.ensures.cover
 
 pub returns-clause-fault : goal.returns-clause-fault
-returns-clause-fault c = IfErr-weaker c.unregister.result (λ e. e ≡ NoMemory) (λ e. (remove_fault c.args.self.now c.args.listeners.now ≡ Some e) ⊎ (e ≡ NoMemory)) (λ e is. inr is) c.unregister.ensures.fault
+returns-clause-fault c = IfErr-weaker c.end.result (λ e. e ≡ NoMemory) (λ e. (remove_fault c.args.self.now c.args.listeners.now ≡ Some e) ⊎ (e ≡ NoMemory)) (λ e is. inr is) c.end.ensures.fault
 
 pub returns-clause-no_tag : goal.returns-clause-no_tag
 returns-clause-no_tag c = λ is.

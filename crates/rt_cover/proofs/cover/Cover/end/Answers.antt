@@ -1,0 +1,57 @@
+use Rattle.std.proofs.Common.{◌≡◌, ◌+◌, ◌++◌, ◌==◌, not, map, sym, subst, ◌∙◌}
+use Rattle.std.specs.List.{filter, list_any, enumerate_from}
+use Rattle.rt_cover.specs.Cover.{Tagged}
+use Rattle.rt_cover.specs.State.{Cover, with_listeners, difference}
+use Rattle.rt_cover.specs.Shown.{IsTold}
+use Rattle.rt_cover.specs.inside.Endings.{left, lost, beginners, tagged_of}
+use Rattle.rt_cover.specs.inside.Sound.{IsSound}
+use Rattle.rt_cover.proofs.EndLaws.{is_ended, sound_without, told_without}
+use Rattle.rt_cover.proofs.cover.Cover.end.Goals as goal
+
+pub invariant_of-self-2 : goal.invariant_of-self-2
+invariant_of-self-2 g c =
+    let old : Cover = c.args.self.now in
+    let sound : IsSound old = subst IsSound c.self.view_is c.self.invariant in
+    let ends = g.E.Ending.ended c.args.ending.now in
+    let listeners : c.retain_left.new.listeners.items ≡ left ends old.listeners = c.retain_left.ensures ∙ (λ i. left ends (c.self.view_is i).listeners) in
+    let gone : c.deref.result.now ≡ lost ends old.kept old.listeners = c.deref.ensures.value ∙ c.in_ok-lost.ensures.lost in
+    let kept : c.keep_instead.new.kept.items
+    ≡ filter (λ (k : Tagged). not (list_any (λ (j : Tagged). j.tag == k.tag) (lost ends old.kept old.listeners))) old.kept ++ map tagged_of (enumerate_from old.next_tag (beginners ends old.kept old.listeners)) =
+    c.keep_instead.ensures
+    ∙ (λ i. filter (λ (k : Tagged). not (list_any (λ (j : Tagged). j.tag == k.tag) (gone i))) ((c.reserve.ensures.items ∙ (λ j. (c.self.view_is j).kept)) i) ++ c.in_ok-lost.ensures.kept i) in
+    let new : record { listeners = c.retain_left.new.listeners.items; kept = c.keep_instead.new.kept.items; next_tag = (c.in_ok-lost.field-0).given + 1; last_tag = c.self.inside.last_tag } ≡ with_listeners old (left ends old.listeners) =
+    (λ i. record { listeners = listeners i; kept = kept i; next_tag = c.in_ok-lost.ensures.given i; last_tag = (c.self.view_is i).last_tag })
+    ∙ sym (is_ended old sound ends).cover in
+    subst IsSound (sym new) (sound_without old sound ends c.requires.room)
+
+pub returns-clause-cover : goal.returns-clause-cover
+returns-clause-cover g c =
+    let old : Cover = c.args.self.now in
+    let sound : IsSound old = subst IsSound c.self.view_is c.self.invariant in
+    let ends = g.E.Ending.ended c.args.ending.now in
+    let listeners : c.retain_left.new.listeners.items ≡ left ends old.listeners = c.retain_left.ensures ∙ (λ i. left ends (c.self.view_is i).listeners) in
+    let gone : c.deref.result.now ≡ lost ends old.kept old.listeners = c.deref.ensures.value ∙ c.in_ok-lost.ensures.lost in
+    let kept : c.keep_instead.new.kept.items
+    ≡ filter (λ (k : Tagged). not (list_any (λ (j : Tagged). j.tag == k.tag) (lost ends old.kept old.listeners))) old.kept ++ map tagged_of (enumerate_from old.next_tag (beginners ends old.kept old.listeners)) =
+    c.keep_instead.ensures
+    ∙ (λ i. filter (λ (k : Tagged). not (list_any (λ (j : Tagged). j.tag == k.tag) (gone i))) ((c.reserve.ensures.items ∙ (λ j. (c.self.view_is j).kept)) i) ++ c.in_ok-lost.ensures.kept i) in
+    (λ i. record { listeners = listeners i; kept = kept i; next_tag = c.in_ok-lost.ensures.given i; last_tag = (c.self.view_is i).last_tag })
+    ∙ sym (is_ended old sound ends).cover
+
+pub returns-clause-delta : goal.returns-clause-delta
+returns-clause-delta g c =
+    let old : Cover = c.args.self.now in
+    let sound : IsSound old = subst IsSound c.self.view_is c.self.invariant in
+    let ends = g.E.Ending.ended c.args.ending.now in
+    (λ i. record { started = (c.of.ensures ∙ c.in_ok-lost.ensures.started) i; stopped = (c.of-2.ensures ∙ c.in_ok-lost.ensures.stopped) i })
+    ∙ sym (is_ended old sound ends).delta
+
+pub returns-clause-told : goal.returns-clause-told
+returns-clause-told g c =
+    let old : Cover = c.args.self.now in
+    let sound : IsSound old = subst IsSound c.self.view_is c.self.invariant in
+    let ends = g.E.Ending.ended c.args.ending.now in
+    let same : record { started = c.of.result; stopped = c.of-2.result } ≡ difference old (with_listeners old (left ends old.listeners)) =
+    (λ i. record { started = (c.of.ensures ∙ c.in_ok-lost.ensures.started) i; stopped = (c.of-2.ensures ∙ c.in_ok-lost.ensures.stopped) i })
+    ∙ sym (is_ended old sound ends).delta in
+    subst (IsTold old.next_tag) (sym same) (told_without old sound ends)

@@ -1,0 +1,13 @@
+-- Where a listener of a number stands.
+use Rattle.std.specs.Prelude.{ℕ, Bool, false, nat_le, ◌==◌, List}
+use Rattle.std.specs.List.{position_or_len, slice_get}
+use Rattle.std.specs.Option.{option_map_or}
+use Rattle.rt_cover.specs.Cover.{Registered}
+
+-- the first place at which no lesser number stands
+abbrev pub place : ℕ → List Registered → ℕ
+place number listeners = position_or_len (λ l. nat_le number l.0) listeners
+
+-- whether a listener of the number stands at a place
+abbrev pub does_stand : List Registered → ℕ → ℕ → Bool
+does_stand listeners at number = option_map_or (λ l. l.0 == number) (slice_get listeners at) false
