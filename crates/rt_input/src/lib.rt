@@ -1,5 +1,6 @@
 //! The input and the output of the console: readers and writers that count, the lines of an input, one
-//! after another, and a stream of which only so much is read for one message.
+//! after another, a stream of which only so much is read for one message, and what is told beside the
+//! output.
 //!
 //! ```text
 //! let mut lines = LineReader::new(alloc)?;
@@ -11,10 +12,14 @@
 
 mod counted;
 mod error;
+mod fault;
 mod lines;
+mod log;
 mod stream;
 
 pub use counted::{Counted, MAX_MESSAGE_BYTES};
 pub use error::ConsoleError;
+pub use fault::Fault;
 pub use lines::{LineReader, MOST_INPUT};
+pub use log::{LOG_PREFIX, Log, Silent, Telling};
 pub use stream::{Drain, Failed, Reading, Source, Writing};

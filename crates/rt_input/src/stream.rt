@@ -1,8 +1,10 @@
 // Readers and writers that count.
-ghost use Rattle.std.specs.Prelude.{◌≡◌, ◌+◌, ◌<◌, ◌≤◌, ◌^◌, ℕ, List, Option, length, IfOk, OnOk};
+ghost use Rattle.std.specs.Prelude.{◌≡◌, ◌+◌, ◌<◌, ◌≤◌, ◌^◌, ◌↔◌, ℕ, List, Option, length, IfOk, OnOk};
+ghost use Rattle.std.specs.Prelude.{IsSome};
 ghost use Rattle.std.specs.Io.KnownBytes.{Appends, ReadConsumes};
 ghost use Rattle.rt_input.specs.Streams.{CountsBytes, CountsFailure};
 
+use std::io;
 use std::io::{Read, Write};
 
 /// A read or a write failed.
@@ -52,6 +54,9 @@ pub struct Reading<R: Read + Drop> {
     reader: R,
     given: u64,
     failures: u64,
+    // Why the last read that failed did.
+    cause: Option<io::Error>,
+    ghost caused: { IsSome cause ↔ 0 < failures },
 }
 
 impl<R: Read + Drop> Reading<R> {
@@ -65,7 +70,16 @@ impl<R: Read + Drop> Reading<R> {
             reader,
             given: 0,
             failures: 0,
+            cause: None,
         }
+    }
+
+    /// Why the last read that failed did; none where no read failed.
+    pub fn into_cause(self) -> Option<io::Error>
+        ensures { IsSome result ↔ 0 < ⟦<Reading<R> as Source>⟧.failures self }
+    {
+        let Reading { cause, .. } = self;
+        cause
     }
 }
 
@@ -82,8 +96,9 @@ impl<R: Read + Drop> Source for Reading<R> {
                 self.given += count as u64;
                 Ok(count)
             }
-            Err(_) => {
+            Err(why) => {
                 self.failures += 1;
+                self.cause = Some(why);
                 Err(Failed)
             }
         }
@@ -95,6 +110,9 @@ impl<R: Read + Drop> Source for Reading<R> {
 pub struct Writing<W: Write + Drop> {
     writer: W,
     failures: u64,
+    // Why the last write that failed did.
+    cause: Option<io::Error>,
+    ghost caused: { IsSome cause ↔ 0 < failures },
 }
 
 impl<W: Write + Drop> Writing<W> {
@@ -106,12 +124,21 @@ impl<W: Write + Drop> Writing<W> {
         Writing {
             writer,
             failures: 0,
+            cause: None,
         }
+    }
+
+    /// Why the last write that failed did; none where no write failed.
+    pub fn into_cause(self) -> Option<io::Error>
+        ensures { IsSome result ↔ 0 < ⟦<Writing<W> as Drain>⟧.failures self }
+    {
+        let Writing { cause, .. } = self;
+        cause
     }
 }
 
 // Writes all of the bytes, and waits for none of them.
-fn write_out<W: Write>(writer: &mut W, bytes: &[u8]) -> std::io::Result<()>
+pub(crate) fn write_out<W: Write>(writer: &mut W, bytes: &[u8]) -> io::Result<()>
     ensures { OnOk result (Appends (W.contents writer.old) (W.contents writer.new) bytes.now) }
 {
     writer.write_all(bytes)?;
@@ -126,8 +153,9 @@ impl<W: Write + Drop> Drain for Writing<W> {
     fn write(&mut self, bytes: &[u8]) -> Result<(), Failed> {
         match write_out(&mut self.writer, bytes) {
             Ok(()) => Ok(()),
-            Err(_) => {
+            Err(cause) => {
                 self.failures += 1;
+                self.cause = Some(cause);
                 Err(Failed)
             }
         }

@@ -1,0 +1,56 @@
+// Why a run ends early, with its cause.
+ghost use Rattle.std.specs.Prelude.{◌≡◌, ◌<◌, ◌↔◌};
+ghost use Rattle.rt_input.specs.Causes.{error_of};
+
+use crate::error::ConsoleError;
+use crate::lines::MOST_INPUT;
+use crate::stream::{Drain, Reading, Source, Writing};
+use std::io;
+use std::io::{Read, Write};
+use thiserror::Error;
+
+/// A [`ConsoleError`] with why it came, as it is told to a person.
+#[derive(Debug, Drop, Error)]
+pub enum Fault {
+    /// A read failed, and what the system says of it.
+    #[error("the input can't be read: {0}")]
+    Unread(io::Error),
+    /// There was more input than is taken.
+    #[error("the input has more than {MOST_INPUT} bytes")]
+    TooLong,
+    /// A write failed, and what the system says of it.
+    #[error("the output can't be written: {0}")]
+    Unwritten(io::Error),
+    #[error("the words of the command line make no command")]
+    BadWords,
+    #[error("out of memory")]
+    NoMemory,
+}
+
+impl Fault {
+    /// The error of a run that read and wrote by these, with its cause: a read that failed, or else that
+    /// there was too much to be read.
+    pub fn of<R: Read + Drop, W: Write + Drop>(
+        error: ConsoleError,
+        reader: Reading<R>,
+        writer: Writing<W>,
+    ) -> Fault
+        requires { error ≡ ConsoleError.WriteFault → 0 < ⟦<Writing<W> as Drain>⟧.failures writer }
+        ensures error { error_of result ≡ error }
+        ensures too_long { error ≡ ConsoleError.ReadFault
+            → ((result ≡ Fault.TooLong) ↔ (⟦<Reading<R> as Source>⟧.failures reader ≡ 0)) }
+    {
+        match error {
+            ConsoleError::ReadFault => match reader.into_cause() {
+                Some(why) => Fault::Unread(why),
+                None => Fault::TooLong,
+            },
+            ConsoleError::WriteFault => match writer.into_cause() {
+                Some(why) => Fault::Unwritten(why),
+                None => unreachable!(),
+            },
+            ConsoleError::BadWords => Fault::BadWords,
+            ConsoleError::NoMemory => Fault::NoMemory,
+        }
+    }
+}
