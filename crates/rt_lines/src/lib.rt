@@ -11,6 +11,7 @@
 //! ```
 #![tactic(auto)]
 
+mod bad;
 mod call;
 mod change;
 mod doing;
@@ -26,6 +27,7 @@ mod show;
 mod state;
 mod word;
 
+pub use bad::{LineFault, fault_of, write_fault};
 pub use change::write_batch;
 pub use doing::{do_bytes, do_line};
 pub use error::{LineError, Refusal};
