@@ -10,6 +10,7 @@ Usage: tools/pages.py            says which lines don't keep to the rules, and f
   dates       stand in docs/BENCHMARKS.md and docs/GATE.md alone, which have figures, and once in each
   PROOFS.md   has at most 150 lines, none over 400 characters, and no word of how long anything took; what its table names as a contract
               of a crate stands in the crate's src/
+  MODEL.md    names each file of definitions in the section of its crate, but for `Errors`
   arrows      docs/ARCHITECTURE.md has for each crate what crates.txt has, but for the two crates of errors: behind a solid arrow what its
               code names, behind a dotted one what its contracts alone name
 
@@ -25,7 +26,7 @@ WORDS, LINES, COLUMNS = 40, 6, 110
 WRITTEN = "docs/THEOREM.md"
 WITH_FIGURES = ("docs/BENCHMARKS.md", "docs/GATE.md")
 PROOFS, PROOFS_LINES, PROOFS_COLUMNS = "docs/PROOFS.md", 150, 400
-ARCHITECTURE = "docs/ARCHITECTURE.md"
+ARCHITECTURE, MODEL = "docs/ARCHITECTURE.md", "docs/MODEL.md"
 OF_ERRORS = {"thiserror", "anyhow"}
 MONTHS = "January February March April May June July August September October November December".split()
 DATE = re.compile(rf"\b\d{{1,2}}\.? (?:{'|'.join(MONTHS)})\b|\b(?:{'|'.join(MONTHS)}) \d{{1,2}}\b(?! ?to)|\b20\d\d-\d\d-\d\d\b")
@@ -124,6 +125,19 @@ def wrong_names(root, page):
             yield f"{PROOFS}:{number}: {crate} has no {' '.join(lost)}"
 
 
+def wrong_model(root):
+    """The files of definitions that docs/MODEL.md doesn't name in a section whose heading has their folder."""
+    sections = re.split(r"(?m)^## ", read(f"{root}/{MODEL}"))
+    for crate in crates(root):
+        folder = f"crates/{crate}/specs"
+        if os.path.isdir(f"{root}/{folder}"):
+            said = "".join(it for it in sections if f"`{folder}`" in it.partition("\n")[0])
+            names = sorted(it.removesuffix(".antt") for it in os.listdir(f"{root}/{folder}") if it.endswith(".antt"))
+            lost = [it for it in names if it[0].isupper() and it not in ("Lib", "Errors") and f"`{it}`" not in said]
+            if lost:
+                yield f"{MODEL}: {folder} has {', '.join(lost)} besides"
+
+
 # ---- arrows
 
 
@@ -177,7 +191,7 @@ def wrong_arrows(root):
 
 def wrong_of(root):
     """What is wrong, and how many pages there are."""
-    wrong, names = list(wrong_arrows(root)), pages(root)
+    wrong, names = [*wrong_arrows(root), *wrong_model(root)], pages(root)
     for name in names:
         page = read(f"{root}/{name}")
         wrong += [] if name == WRITTEN else wrong_texts(name, page)

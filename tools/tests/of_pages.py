@@ -118,6 +118,17 @@ class Arrows(unittest.TestCase):
         page = "| `rt_low` | it is so | `low` |\n| | and so | `low`, `high` |\n"
         self.assertEqual(list(pages.wrong_names(root, page)), ["docs/PROOFS.md:2: rt_low has no high"])
 
+    def test_model(self):
+        root = self.made("rt_low\n")
+        os.makedirs(f"{root}/crates/rt_low/specs/laws")
+        for name in ("Lib", "Errors", "Low", "Deep", "inside", "laws/Runs"):
+            with open(f"{root}/crates/rt_low/specs/{name}.antt", "w", encoding="utf-8") as it:
+                it.write("-- it\n")
+        for text, wrong in (("`Low`, `Deep`", []), ("`Low`", ["docs/MODEL.md: crates/rt_low/specs has Deep besides"])):
+            with open(f"{root}/docs/MODEL.md", "w", encoding="utf-8") as it:
+                it.write(f"# It\n\n## Low (`crates/rt_low/specs`)\n\n{text}\n\n## Other\n\n`Deep`\n")
+            self.assertEqual(list(pages.wrong_model(root)), wrong)
+
     def test_other_arrows(self):
         root = self.made("rt_low\nrt_mid --> rt_low\nrt_top --> rt_mid, slab, rt_low\n")
         wrong = list(pages.wrong_arrows(root))
