@@ -12,7 +12,7 @@ Usage: tools/pages.py            says which lines don't keep to the rules, and f
               of a crate stands in the crate's src/
   MODEL.md    names each file of definitions in the section of its crate, but for `Errors`
   arrows      docs/ARCHITECTURE.md has for each crate what crates.txt has, but for the two crates of errors: behind a solid arrow what its
-              code names, behind a dotted one what its contracts alone name
+              code names, behind a dotted one what its contracts alone name; and a row that says what the crate holds
 
 docs/THEOREM.md, which ./theorem writes, has the words of the sources: it is asked for dates alone.
 """
@@ -189,9 +189,15 @@ def wrong_arrows(root):
         yield f"{ARCHITECTURE}: not as crates.txt and the sources have it: {line}"
 
 
+def wrong_rows(root):
+    """The crates of which docs/ARCHITECTURE.md doesn't say what they hold."""
+    page = read(f"{root}/{ARCHITECTURE}")
+    yield from (f"{ARCHITECTURE}: no row says what {it} holds" for it in crates(root) if f"\n| `{it}` |" not in page)
+
+
 def wrong_of(root):
     """What is wrong, and how many pages there are."""
-    wrong, names = [*wrong_arrows(root), *wrong_model(root)], pages(root)
+    wrong, names = [*wrong_arrows(root), *wrong_rows(root), *wrong_model(root)], pages(root)
     for name in names:
         page = read(f"{root}/{name}")
         wrong += [] if name == WRITTEN else wrong_texts(name, page)

@@ -118,6 +118,10 @@ class Arrows(unittest.TestCase):
         page = "| `rt_low` | it is so | `low` |\n| | and so | `low`, `high` |\n"
         self.assertEqual(list(pages.wrong_names(root, page)), ["docs/PROOFS.md:2: rt_low has no high"])
 
+    def test_rows(self):
+        wrong = list(pages.wrong_rows(self.made("rt_low\n```\n\n| `rt_low` | it |\n| `rt_top` | it |\n```text\n")))
+        self.assertEqual(wrong, ["docs/ARCHITECTURE.md: no row says what rt_mid holds"])
+
     def test_model(self):
         root = self.made("rt_low\n")
         os.makedirs(f"{root}/crates/rt_low/specs/laws")
