@@ -1,9 +1,7 @@
 -- What any calls leave for a filtered query, told by the calls alone.
 use Rattle.std.proofs.Common.{◌≡◌, ◌⊎◌, inl, inr, Bool, true, false, cond, not, ◌||◌, ◌&&◌, List, [], ◌∷◌, ◌++◌, append-nil, append_assoc, map, refl, sym, ap, subst, ◌∙◌, Option, Some, None, is_some}
 use mathlib.Core.Bool.{true≢false}
-use Rattle.std.specs.Ordering.{eq_by_cmp}
 use Rattle.std.specs.Cmp.{eq_by_cmp_equiv}
-use Rattle.std.specs.declared.cmp.Ordering.TheVariants.{Equal}
 use Rattle.std.specs.List.{All, filter, fold, list_any}
 use Rattle.std.specs.Option.{option_map, option_map_or, option_or}
 use Rattle.std.specs.FinMap as map_of
@@ -17,7 +15,7 @@ use Rattle.rt_query.specs.QueryEq.{query_eq}
 use Rattle.rt_query.specs.laws.QueryEq.{query_eq_tells}
 use Rattle.rt_cache.specs.QueryOrder.{query_cmp}
 use Rattle.rt_cache.specs.Brought.{Window, Brought, Base, nothing_brought, region_part, region_put, window_of, window_pushed, windows_pushed, base, push_plain, push}
-use Rattle.rt_cache.specs.Recover.{reaches, window_left, window_kept, regions_kept, recover}
+use Rattle.rt_cache.specs.Recover.{reaches, window_kept, regions_kept, recover}
 use Rattle.rt_cache.specs.Runs.{IsAllowed, after, after_all}
 use Rattle.rt_cache.specs.laws.Runs.{pushed, known_after, is_known}
 use Rattle.rt_cache.specs.laws.Windows.{is_registered, begun, ends, lets_be, with_own, with_all_own, Tells, FilteredBaseIsTold}
@@ -28,7 +26,7 @@ use Rattle.rt_cache.proofs.Bases.{found}
 use Rattle.rt_cache.proofs.Cuts.{any_above}
 use Rattle.rt_cache.proofs.Keeping.{find-for_each, left_whole}
 use Rattle.rt_cache.proofs.Listing.{find-listed}
-use Rattle.rt_cache.proofs.Places.{or_left, or_right, or_false, or_true, unseen}
+use Rattle.rt_cache.proofs.Places.{or_left, or_right, or_false, unseen}
 use Rattle.rt_cache.proofs.Pushes.{push_of_plain, push_of_filtered}
 use Rattle.rt_cache.proofs.QueryOrders.{queries_total, exact_queries, tie_is_eq}
 use Rattle.rt_cache.proofs.RunLaws.{never, run_known, step_known, held_part}

@@ -1,4 +1,4 @@
--- Laws for callers, and outside examples.
+-- Laws for callers, outside examples, and what calls must not leave.
 pub mod Examples
 pub mod False
 pub mod Runs

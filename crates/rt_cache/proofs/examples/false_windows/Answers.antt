@@ -1,14 +1,13 @@
-use Rattle.std.proofs.Common.{◌≡◌, Bool, true, false, not, ◌||◌, List, [], ◌∷◌, ◌++◌, refl, sym, ap, ◌∙◌, Option, Some, None}
+use Rattle.std.proofs.Common.{◌≡◌, Bool, true, false, not, ◌||◌, List, [], ◌∷◌, ◌++◌, refl, sym, ap, ◌∙◌, Option, None}
 use mathlib.Core.Bool.{true≢false}
 use Rattle.std.specs.Prelude.{codes}
 use Rattle.std.specs.List.{list_any}
 use Rattle.std.specs.Option.{option_map_or}
-use Rattle.rt_tree.specs.PathTree.{Key, PathTree, null, of_leaf, is_null, leaf_at, sub, child, put, children_alone}
+use Rattle.rt_tree.specs.PathTree.{Key, null, of_leaf, is_null, leaf_at, sub, child, put, children_alone}
 use Rattle.rt_query.specs.Queries.{Query}
 use Rattle.rt_cache.specs.Brought.{Base}
 use Rattle.rt_cache.specs.laws.Examples.{two, at, plain_at}
-use Rattle.rt_cache.specs.laws.Runs.{pushed}
-use Rattle.rt_cache.specs.laws.Windows.{begun, ends, lets_be, Tells}
+use Rattle.rt_cache.specs.laws.Windows.{begun, ends, Tells}
 use Rattle.rt_cache.specs.laws.False.{first_two, partly, wholly, three, only_z, z_pushed, shown, lost, replaced}
 use Rattle.rt_cache.specs.declared.run.Call.{Call}
 use Rattle.rt_cache.specs.declared.run.Call.TheVariants.{Put, Recover}
