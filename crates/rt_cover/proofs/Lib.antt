@@ -9,3 +9,4 @@ pub mod SeenLaws
 pub mod StartLaws
 pub mod SupplierLaws
 pub mod TagLaws
+pub mod TagPlaceLaws

@@ -30,16 +30,16 @@ never_fall ls h i j d le lt =
 pub lesser_first : (n : ℕ) (ls : List Registered) → AllPairs (λ (l m : Registered). l.0 < m.0) ls → IsPartitionedBy (λ (l : Registered). ltb l.0 n) ls
 lesser_first n ls h = IsPartitionedBy-ltb (λ (l : Registered). l.0) ls n (never_fall ls h)
 
-lesser : (m n : ℕ) → ltb m n ≡ true → nat_le n m ≡ false
+pub lesser : (m n : ℕ) → ltb m n ≡ true → nat_le n m ≡ false
 lesser m n e = grind (arith, nat_tests)
 
-no_lesser : (m n : ℕ) → ltb m n ≡ false → nat_le n m ≡ true
+pub no_lesser : (m n : ℕ) → ltb m n ≡ false → nat_le n m ≡ true
 no_lesser m n e = grind (arith, nat_tests)
 
-below : (m n : ℕ) → nat_le n m ≡ false → m < n
+pub below : (m n : ℕ) → nat_le n m ≡ false → m < n
 below m n e = grind (arith, nat_tests)
 
-not_below : (m n : ℕ) → nat_le n m ≡ true → n ≤ m
+pub not_below : (m n : ℕ) → nat_le n m ≡ true → n ≤ m
 not_below m n e = grind (arith, nat_tests)
 
 -- the place between the lesser ones and the others
@@ -51,7 +51,7 @@ place_is n ls i le h d =
 
 -- ---- who stands there
 
-differs : (m n : ℕ) → m ≢ n → (m == n) ≡ false
+pub differs : (m n : ℕ) → m ≢ n → (m == n) ≡ false
 differs m n h = elim (m == n) as (λ b. (m == n) ≡ b → b ≡ false) [
   | true ↦ λ e. absurd (h (eqb-true m n e))
   | false ↦ λ _. refl

@@ -1,9 +1,10 @@
 // Kept listens.
-ghost use Rattle.std.specs.Prelude.{◌≡◌, ◌==◌, map, IfOk};
-ghost use Rattle.std.specs.List.{find};
+ghost use Rattle.std.specs.Prelude.{◌≡◌, ◌<◌, ◌≤◌, ◌==◌, map, length, IfOk};
+ghost use Rattle.std.specs.List.{find, AllPairs};
 ghost use Rattle.std.specs.Option.{option_copied, option_map};
 ghost use Rattle.rt_query.specs.Supply.{does_supply};
 ghost use Rattle.rt_cover.specs.Cover.{is_kept};
+ghost use Rattle.rt_cover.specs.inside.Places.{tag_place, does_stand_kept};
 
 use crate::supply::supplies;
 use rt_query::Query;
@@ -83,16 +84,35 @@ pub(crate) fn tags_of(alloc: Global, kept: &[Listen]) -> Result<Vec<u64>, AllocE
     Ok(tags)
 }
 
-// The listen with that tag.
+// The first place at which no lesser tag stands, by halving.
+fn place_of(kept: &[Listen], tag: u64) -> usize
+    requires { AllPairs (λ j k. j.tag < k.tag) kept.now }
+    ensures first { result ≡ tag_place tag kept.now }
+    ensures within { result ≤ length kept.now }
+{
+    kept.partition_point(|other| other.tag < tag)
+}
+
+// Whether the listen with that tag stands at the place.
+fn stands_at(kept: &[Listen], place: usize, tag: u64) -> bool
+    ensures { result ≡ does_stand_kept kept.now place tag }
+{
+    match kept.get(place) {
+        Some(listen) => listen.tag == tag,
+        None => false,
+    }
+}
+
+// The listen with that tag, by halving.
 pub(crate) fn listen_at<'a>(kept: &'a [Listen], tag: u64) -> Option<&'a Listen>
+    requires { AllPairs (λ j k. j.tag < k.tag) kept.now }
     ensures { option_copied result ≡ find (λ k. k.tag == tag) kept.now }
 {
-    for listen in kept {
-        if listen.tag == tag {
-            return Some(listen);
-        }
+    let place = place_of(kept, tag);
+    if !stands_at(kept, place, tag) {
+        return None;
     }
-    None
+    Some(&kept[place])
 }
 
 // The tag of the first listen that supplies the query.
