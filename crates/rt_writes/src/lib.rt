@@ -15,7 +15,10 @@ mod entries;
 mod error;
 pub mod examples;
 mod laws;
+mod merged;
+mod numbers;
 mod pending;
+mod spots;
 mod write;
 
 pub use entries::{Entries, is_shallow};

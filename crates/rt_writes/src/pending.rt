@@ -2,42 +2,70 @@
 ghost use Rattle.std.specs.Prelude.{◌≡◌, ◌==◌, ◌↔◌, ◌<◌, ◌∷◌, [], ◌++◌, length, true, IfOk, OnOk};
 ghost use Rattle.std.specs.Prelude.{OnErr, IsTrue, IsOk, Ok, Err, None};
 ghost use Rattle.std.specs.Option.{option_map};
-ghost use Rattle.std.specs.List.{All, position};
+ghost use Rattle.std.specs.Prelude.{IfSome, ◌&&◌};
+ghost use Rattle.std.specs.List.{All, filter, position};
+ghost use Rattle.std.specs.Ordering.{nat_cmp};
+ghost use Rattle.std.specs.BTreeSet.{contains};
 ghost use Rattle.rt_tree.specs.Assignments.{have_overlap};
 ghost use Rattle.rt_writes.specs.Kept.{IsKept};
 ghost use Rattle.rt_writes.specs.Writes.{IsShallow, overlay, touches, sets_whole, sets_child_whole};
 ghost use Rattle.rt_writes.specs.Writes.{entries_of, without};
+ghost use Rattle.rt_writes.specs.inside.Spots.{IsMerged, is_later, bound_of, overlaid_last};
 
 use crate::entries::Entries;
 use crate::error::WriteError;
+use crate::merged::{merged_anew, merged_with, merged_without};
+use crate::numbers::place_of;
+use crate::spots::Spot;
 use crate::write::Write;
 use rt_tree::{Key, Path, Tree};
 use std::alloc::{AllocError, Global};
+use std::collections::BTreeSet;
 use std::marker::Model;
+use std::ops::Bound;
+use std::{fmt, mem};
 
 /// Pending writes, in order of number. What they set shows over what the server has sent, until
 /// each is settled.
-#[derive(Debug)]
+///
+/// Beside the writes stands one tree of the paths at which they set something. So a look goes by its
+/// path and by what is pending at or below it, however many other writes are pending, and a
+/// settlement by the paths of its write. Where memory lacks for that tree it is given up, looks go
+/// over all writes, and the next write makes it anew.
 pub struct Pending {
     writes: Vec<Write>,
+    // Where each write sets something; none where memory lacked for it, and then the list decides.
+    merged: Option<Spot>,
 }
 
 impl Drop for Pending {
     fn drop(self) {
-        let Pending { writes: _ } = self;
+        let Pending {
+            writes: _,
+            merged: _,
+        } = self;
+    }
+}
+
+/// Prints the writes alone, which are all that a caller can tell apart.
+impl fmt::Debug for Pending {
+    fn fmt<W: fmt::Write>(&self, f: &mut fmt::Formatter<W>) -> fmt::Result {
+        f.debug_struct("Pending")
+            .field("writes", &self.writes)
+            .finish()
     }
 }
 
 impl Model for Pending {
     ghost use Rattle.std.specs.Prelude.{List};
     ghost use Rattle.rt_writes.specs.Writes.{Write};
-    ghost use Rattle.rt_writes.specs.Kept.{IsKept};
+    ghost use Rattle.rt_writes.specs.inside.Spots.{IsPending};
 
     ghost Value = { List Write };
 
     ghost view = { λ a. a.writes.items };
 
-    ghost invariant = { λ a. IsKept a.writes.items };
+    ghost invariant = { λ a. IsPending a.writes.items a.merged };
 }
 
 impl Pending {
@@ -47,6 +75,7 @@ impl Pending {
     {
         Pending {
             writes: Vec::new(alloc),
+            merged: Some(Spot::new(alloc)),
         }
     }
 
@@ -99,15 +128,30 @@ impl Pending {
         if entries.as_slice().is_empty() {
             return Err(WriteError::EmptyUpdate);
         }
+        let alloc = *self.writes.allocator();
+        let before = self.give_merged();
+        let merged = merged_with(before, alloc, id, entries.as_slice());
         self.writes.push(Write { id, entries })?;
+        self.merged = merged;
         Ok(())
     }
 
-    // Where the write of that number stands.
+    // The tree of paths of the writes, anew where there is none. It is taken out.
+    fn give_merged(&mut self) -> Option<Spot>
+        ensures merged { IfSome result (IsMerged self.old) }
+        ensures unchanged { self.new ≡ self.old }
+    {
+        match mem::replace(&mut self.merged, None) {
+            Some(root) => Some(root),
+            None => merged_anew(*self.writes.allocator(), self.writes.as_slice()),
+        }
+    }
+
+    // Where the write of that number stands. Finds it by halving.
     fn place(&self, id: u64) -> Option<usize>
         ensures { result ≡ position (λ w. w.id == id) self.now }
     {
-        self.writes.iter().position(|write| write.id == id)
+        place_of(self.writes.as_slice(), id)
     }
 
     /// Takes out the write of that number, accepted or refused, and gives its entries back; none
@@ -127,6 +171,8 @@ impl Pending {
             return Ok(None);
         };
         let write = self.writes.remove(place);
+        let merged = mem::replace(&mut self.merged, None);
+        self.merged = merged_without(merged, id, write.entries.as_slice());
         Ok(Some(write.entries.into_vec()))
     }
 
@@ -143,6 +189,19 @@ impl Pending {
         ensures shallow { IfOk result (λ after. IsShallow (path.now, after)) }
         ensures touched { OnErr result (touches self.now path.now ≡ true) }
     {
+        match &self.merged {
+            Some(root) => self.overlay_by_tree(root, path, tree),
+            None => self.overlay_by_list(path, tree),
+        }
+    }
+
+    // The same, by all writes.
+    fn overlay_by_list(&self, path: &Path, tree: Tree) -> Result<Tree, AllocError>
+        requires { IsShallow (path.now, tree) }
+        ensures overlay { IfOk result (λ after. after ≡ overlay path.now tree self.now) }
+        ensures shallow { IfOk result (λ after. IsShallow (path.now, after)) }
+        ensures touched { OnErr result (touches self.now path.now ≡ true) }
+    {
         let alloc = *self.writes.allocator();
         let mut after = tree;
         for write in &self.writes {
@@ -151,9 +210,88 @@ impl Pending {
         Ok(after)
     }
 
+    // The same, by the last write at or above the path, which hides all before it, and those after
+    // it at or below the path.
+    fn overlay_by_tree(&self, root: &Spot, path: &Path, tree: Tree) -> Result<Tree, AllocError>
+        requires shallow { IsShallow (path.now, tree) }
+        requires merged { IsMerged self.now root.now }
+        ensures overlay { IfOk result (λ after. after ≡ overlay path.now tree self.now) }
+        ensures shallow { IfOk result (λ after. IsShallow (path.now, after)) }
+        ensures touched { OnErr result (touches self.now path.now ≡ true) }
+    {
+        // For the prover: the numbers of the writes rise.
+        let _numbers_rise = self.len();
+        let last = root.last_whole(path.keys());
+        let after = self.overlaid_last(last, path, tree)?;
+        match root.at(path.keys()) {
+            Some(spot) => self.overlay_after(last, &spot.under, path, after),
+            None => Ok(after),
+        }
+    }
+
+    // The tree at the path after the write of that number, if there is a number.
+    fn overlaid_last(&self, last: Option<u64>, path: &Path, tree: Tree) -> Result<Tree, AllocError>
+        requires { IsShallow (path.now, tree) }
+        ensures overlay { IfOk result (λ after. after ≡ overlaid_last path.now tree self.now last) }
+        ensures shallow { IfOk result (λ after. IsShallow (path.now, after)) }
+        ensures touched { OnErr result (touches self.now path.now ≡ true) }
+    {
+        match last {
+            Some(number) => self.overlaid(number, path, tree),
+            None => Ok(tree),
+        }
+    }
+
+    // The tree at the path after those of these writes whose numbers are higher, in order.
+    fn overlay_after(
+        &self,
+        last: Option<u64>,
+        numbers: &BTreeSet<u64>,
+        path: &Path,
+        tree: Tree,
+    ) -> Result<Tree, AllocError>
+        requires { IsShallow (path.now, tree) }
+        ensures overlay { IfOk result (λ after. after ≡ overlay path.now tree
+            (filter (λ w. is_later last w.id && contains nat_cmp numbers.now w.id) self.now)) }
+        ensures shallow { IfOk result (λ after. IsShallow (path.now, after)) }
+        ensures touched { OnErr result (touches self.now path.now ≡ true) }
+    {
+        // For the prover: the numbers of the writes rise.
+        let _numbers_rise = self.len();
+        let mut after = tree;
+        for number in numbers.range((bound_after(last), Bound::Unbounded)) {
+            after = self.overlaid(*number, path, after)?;
+        }
+        Ok(after)
+    }
+
+    // The tree at the path after the write of that number.
+    fn overlaid(&self, id: u64, path: &Path, tree: Tree) -> Result<Tree, AllocError>
+        requires { IsShallow (path.now, tree) }
+        ensures overlay { IfOk result (λ after. after
+            ≡ overlay path.now tree (filter (λ w. w.id == id) self.now)) }
+        ensures shallow { IfOk result (λ after. IsShallow (path.now, after)) }
+        ensures touched { OnErr result (touches self.now path.now ≡ true) }
+    {
+        let Some(place) = self.place(id) else {
+            return Ok(tree);
+        };
+        let alloc = *self.writes.allocator();
+        self.writes[place].entries.overlaid(alloc, path, tree)
+    }
+
     /// Whether a pending write sets the whole of what stands at the path: an entry sits at or above
     /// it.
     pub fn sets_whole(&self, path: &Path) -> bool
+        ensures { result ≡ sets_whole self.now path.now }
+    {
+        match &self.merged {
+            Some(root) => root.last_whole(path.keys()).is_some(),
+            None => self.sets_whole_by_list(path),
+        }
+    }
+
+    fn sets_whole_by_list(&self, path: &Path) -> bool
         ensures { result ≡ sets_whole self.now path.now }
     {
         self.writes
@@ -165,8 +303,27 @@ impl Pending {
     pub fn sets_child_whole(&self, path: &Path, key: &Key) -> bool
         ensures { result ≡ sets_child_whole self.now path.now key.now }
     {
+        match &self.merged {
+            Some(root) => self.sets_whole(path) || root.sets_child(path.keys(), key),
+            None => self.sets_child_whole_by_list(path, key),
+        }
+    }
+
+    fn sets_child_whole_by_list(&self, path: &Path, key: &Key) -> bool
+        ensures { result ≡ sets_child_whole self.now path.now key.now }
+    {
         self.writes
             .iter()
             .any(|write| write.entries.set_child_whole(path, key))
+    }
+}
+
+// The numbers after that one; all where there is none.
+fn bound_after(last: Option<u64>) -> Bound<u64>
+    ensures { result ≡ bound_of last }
+{
+    match last {
+        Some(number) => Bound::Excluded(number),
+        None => Bound::Unbounded,
     }
 }

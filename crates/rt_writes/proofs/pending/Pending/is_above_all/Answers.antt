@@ -8,5 +8,5 @@ pub returns-in-Some : goal.returns-in-Some
 returns-in-Some c =
     let last : Some c.in-Some.last.now ≡ slice_get c.args.self.now (length c.args.self.now - 1) =
     c.in-Some.ensures.value ∙ ap (λ ws. slice_get ws (length ws - 1)) (c.deref.ensures.value ∙ c.self.view_is) in
-    let kept : IsKept c.args.self.now = subst IsKept c.self.view_is c.self.invariant in
+    let kept : IsKept c.args.self.now = subst IsKept c.self.view_is c.self.invariant.kept in
     (above_last c.args.id c.args.self.now c.in-Some.last.now kept.rises last, last_below c.args.id c.args.self.now c.in-Some.last.now last)

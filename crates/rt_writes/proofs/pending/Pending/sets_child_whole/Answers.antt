@@ -1,12 +1,17 @@
-use Rattle.std.proofs.Common.{[], ◌∷◌, ◌++◌, ◌∙◌, sym, rules, tests}
-use Rattle.std.specs.List.{list_any}
-use Rattle.std.proofs.lemmas.Iterator.{YieldsList-from_slice}
-use Rattle.std.proofs.lemmas.Iterator.Search.{any_from_yields_List}
-use Rattle.rt_tree.specs.Assignments.{is_at_or_above}
-use Rattle.rt_writes.proofs.Lists.{list_any-flat_map}
+use Rattle.std.proofs.Common.{◌≡◌, ◌||◌, ℕ, true, [], ◌∷◌, ◌++◌, sym, ap, subst, ◌∙◌}
+use Rattle.std.specs.Prelude.{IsTrue}
+use Rattle.rt_writes.specs.inside.Spots.{has_here}
+use Rattle.rt_writes.proofs.NumberLaws.{is_child_whole, whole_child, merged_pending}
 use Rattle.rt_writes.proofs.pending.Pending.sets_child_whole.Goals as goal
 
-pub returns : goal.returns
-returns c =
-    any_from_yields_List (λ w. list_any (λ a. is_at_or_above a.0 (c.args.path.now ++ c.args.key.now ∷ [])) w.entries) _ _ c.any.result c.any.ensures.ran (YieldsList-from_slice c.args.self.now (cc)) (λ x b q k. search (rules, tests))
-    ∙ sym (list_any-flat_map (λ a. is_at_or_above a.0 (c.args.path.now ++ c.args.key.now ∷ [])) (λ w. w.entries) c.args.self.now)
+pub returns-then-sets_whole : goal.returns-then-sets_whole
+returns-then-sets_whole c =
+    c.if-sets_whole.true ∙ whole_child c.args.self.now c.args.path.now c.args.key.now (sym c.sets_whole.ensures ∙ c.if-sets_whole.true)
+
+pub returns-else-sets_whole : goal.returns-else-sets_whole
+returns-else-sets_whole c =
+    ap (λ b. b || c.sets_child.result) (sym (sym c.sets_whole.ensures ∙ c.if-sets_whole.false))
+    ∙ is_child_whole c.args.self.now c.in-Some.root c.args.path.now c.args.key.now c.sets_child.result
+    (merged_pending c.self.inside.writes.items c.args.self.now c.self.inside.merged c.in-Some.root c.self.invariant c.self.view_is c.in-Some.is)
+    (subst (λ p. (IsTrue c.sets_child.result → (j : ℕ) × (has_here c.in-Some.root (p ++ c.args.key.now ∷ []) j ≡ true)) × (((j : ℕ) × (has_here c.in-Some.root (p ++ c.args.key.now ∷ []) j ≡ true)) → IsTrue c.sets_child.result))
+    c.keys.ensures.keys c.sets_child.ensures)

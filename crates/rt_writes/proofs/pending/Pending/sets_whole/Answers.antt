@@ -1,12 +1,11 @@
-use Rattle.std.proofs.Common.{◌∙◌, sym, rules, tests}
-use Rattle.std.specs.List.{list_any}
-use Rattle.std.proofs.lemmas.Iterator.{YieldsList-from_slice}
-use Rattle.std.proofs.lemmas.Iterator.Search.{any_from_yields_List}
-use Rattle.rt_tree.specs.Assignments.{is_at_or_above}
-use Rattle.rt_writes.proofs.Lists.{list_any-flat_map}
+use Rattle.std.proofs.Common.{subst, ◌∙◌}
+use Rattle.rt_writes.specs.inside.Spots.{IsAbove, IsLast}
+use Rattle.rt_writes.proofs.NumberLaws.{is_whole, merged_pending}
 use Rattle.rt_writes.proofs.pending.Pending.sets_whole.Goals as goal
 
-pub returns : goal.returns
-returns c =
-    any_from_yields_List (λ w. list_any (λ a. is_at_or_above a.0 c.args.path.now) w.entries) _ _ c.any.result c.any.ensures.ran (YieldsList-from_slice c.args.self.now (cc)) (λ x b q k. search (rules, tests))
-    ∙ sym (list_any-flat_map (λ a. is_at_or_above a.0 c.args.path.now) (λ w. w.entries) c.args.self.now)
+pub returns-in-Some : goal.returns-in-Some
+returns-in-Some c =
+    c.is_some.ensures
+    ∙ is_whole c.args.self.now c.in-Some.root c.args.path.now c.last_whole.result
+    (merged_pending c.self.inside.writes.items c.args.self.now c.self.inside.merged c.in-Some.root c.self.invariant c.self.view_is c.in-Some.is)
+    (subst (λ p. IsLast (IsAbove c.in-Some.root p) c.last_whole.result) c.keys.ensures.keys c.last_whole.ensures)

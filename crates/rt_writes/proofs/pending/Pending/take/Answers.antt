@@ -5,6 +5,10 @@ use Rattle.std.specs.Option.{option_map}
 use Rattle.std.proofs.lemmas.List.Quantifiers.{position-Some}
 use Rattle.rt_writes.specs.Writes.{entries_of, without}
 use Rattle.rt_writes.proofs.Lists.{find-position, find-no_position, filter-not_found, remove-without}
+use Rattle.std.proofs.Common.{subst}
+use Rattle.std.specs.Prelude.{IfSome}
+use Rattle.rt_writes.specs.inside.Spots.{IsMerged}
+use Rattle.rt_writes.proofs.NumberLaws.{pending_without}
 use Rattle.rt_writes.proofs.pending.Pending.take.Goals as goal
 
 pub returns-in_default-clause-taken : goal.returns-in_default-clause-taken
@@ -26,4 +30,12 @@ returns-clause-rest c =
     let writes = c.self.inside.writes.items in
     let at : position (λ w. w.id == c.args.id) writes ≡ Some c.in-Some.place = search rules in
     let within = (position-Some (λ w. w.id == c.args.id) writes c.in-Some.place c.remove-write.result at).0 in
-    c.remove-write.ensures.items ∙ remove-without c.args.id writes c.in-Some.place within c.self.invariant.rises at ∙ ap (without c.args.id) c.self.view_is
+    c.remove-write.ensures.items ∙ remove-without c.args.id writes c.in-Some.place within c.self.invariant.kept.rises at ∙ ap (without c.args.id) c.self.view_is
+
+pub invariant_of-self : goal.invariant_of-self
+invariant_of-self c =
+    let writes = c.self.inside.writes.items in
+    let at : position (λ w. w.id == c.args.id) writes ≡ Some c.in-Some.place = search rules in
+    pending_without writes c.remove-write.new.self.items c.args.id c.in-Some.place c.remove-write.result c.self.inside.merged c.merged_without.result c.as_slice.result.now
+    c.self.invariant at c.remove-write.ensures.value c.as_slice.ensures c.remove-write.ensures.items
+    (λ vs rises found merged. c.merged_without.ensures vs rises found (subst (λ o. IfSome o (IsMerged vs)) (sym c.replace-merged.ensures.value) merged))

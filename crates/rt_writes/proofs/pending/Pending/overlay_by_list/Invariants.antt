@@ -1,6 +1,6 @@
 use Rattle.std.proofs.Common.{◌≡◌, drop}
 use Rattle.rt_writes.specs.Writes.{IsShallow, overlay}
-use Rattle.rt_writes.proofs.pending.Pending.overlay.Given as goal
+use Rattle.rt_writes.proofs.pending.Pending.overlay_by_list.Given as goal
 
 -- what is left to lay over, and no leaf is too deep
 abbrev pub invariant-loop-write : goal.invariant-loop-write

@@ -4,7 +4,7 @@ use Rattle.std.proofs.lemmas.List.Folds.{list_any_at}
 use Rattle.rt_tree.specs.Assignments.{do_overlap}
 use Rattle.rt_writes.specs.Writes.{Write, touches}
 use Rattle.rt_writes.proofs.Lists.{list_any-flat_map}
-use Rattle.rt_writes.proofs.pending.Pending.overlay.Goals as goal
+use Rattle.rt_writes.proofs.pending.Pending.overlay_by_list.Goals as goal
 
 pub returns-in_err-after-clause-touched : goal.returns-in_err-after-clause-touched
 returns-in_err-after-clause-touched c =

@@ -1,0 +1,190 @@
+// One tree of the paths at which something is pending.
+ghost use Rattle.std.specs.Prelude.{◌≡◌, ◌==◌, ◌||◌, ◌&&◌, ◌↔◌, ◌++◌, ◌∷◌, [], ℕ, true, false, not, IsTrue, OnOk};
+ghost use Rattle.std.specs.Option.{option_copied};
+ghost use Rattle.std.specs.Ordering.{nat_cmp};
+ghost use Rattle.std.specs.BTreeSet.{contains};
+ghost use Rattle.rt_tree.specs.PathTree.{Path as Keys};
+ghost use Rattle.rt_writes.specs.inside.Spots.{spot_at, has_here, has_under, Adds, Forgets};
+ghost use Rattle.rt_writes.specs.inside.Spots.{AddsAll, ForgetsAll};
+ghost use Rattle.rt_writes.specs.inside.Spots.{IsLast, IsAbove, IsBare, here_of, later_of};
+
+use rt_tree::{Key, Path, Tree};
+use std::alloc::{AllocError, Global};
+use std::collections::{BTreeMap, BTreeSet};
+
+// A path at or above which, or below which, an entry of a pending write sits: the numbers of the
+// writes that set the whole of what stands there, those of the writes with an entry there or below,
+// and the paths one key further down. The numbers say which write shows, and what shows again once
+// one is settled.
+#[derive(Drop)]
+pub(crate) struct Spot {
+    here: BTreeSet<u64>,
+    pub(crate) under: BTreeSet<u64>,
+    below: BTreeMap<Key, Spot>,
+}
+
+impl Spot {
+    // Nothing is pending.
+    pub(crate) fn new(alloc: Global) -> Spot
+        ensures here { (q : Keys) (j : ℕ) → has_here result q j ≡ false }
+        ensures under { (q : Keys) (j : ℕ) → has_under result q j ≡ false }
+    {
+        Spot {
+            here: BTreeSet::new(alloc),
+            under: BTreeSet::new(alloc),
+            below: BTreeMap::new(alloc),
+        }
+    }
+
+    // Whether nothing is kept of any write.
+    fn is_bare(&self) -> bool
+        ensures { IsTrue result → IsBare self.now }
+    {
+        self.here.is_empty() && self.under.is_empty() && self.below.is_empty()
+    }
+
+    // Adds an entry of the write of that number, at these keys.
+    pub(crate) fn add(&mut self, alloc: Global, id: u64, keys: &[Key]) -> Result<(), AllocError>
+        ensures { OnOk result (Adds self.old self.new keys.now id) }
+    {
+        note(&mut self.under, id)?;
+        let Some((key, rest)) = keys.split_first() else {
+            return note(&mut self.here, id);
+        };
+        if let Some(child) = self.below.get_mut(key) {
+            return child.add(alloc, id, rest);
+        }
+        let mut child = Spot::new(alloc);
+        child.add(alloc, id, rest)?;
+        let key = key.copy()?;
+        drop(self.below.insert(key, child)?);
+        Ok(())
+    }
+
+    // Takes the write of that number off the way to these keys, and drops what is bare then.
+    pub(crate) fn forget(&mut self, id: u64, keys: &[Key])
+        ensures { Forgets self.old self.new keys.now id }
+    {
+        strike(&mut self.under, id);
+        let Some((key, rest)) = keys.split_first() else {
+            strike(&mut self.here, id);
+            return;
+        };
+        let Some(child) = self.below.get_mut(key) else {
+            return;
+        };
+        child.forget(id, rest);
+        if child.is_bare() {
+            drop(self.below.remove(key));
+        }
+    }
+
+    // Adds the entries of a write.
+    pub(crate) fn add_all(
+        &mut self,
+        alloc: Global,
+        id: u64,
+        entries: &[(Path, Tree)],
+    ) -> Result<(), AllocError>
+        ensures { OnOk result (AddsAll self.old self.new entries.now id) }
+    {
+        for entry in entries {
+            self.add(alloc, id, entry.0.keys())?;
+        }
+        Ok(())
+    }
+
+    // Takes a write off the ways to all its entries.
+    pub(crate) fn forget_all(&mut self, id: u64, entries: &[(Path, Tree)])
+        ensures { ForgetsAll self.old self.new entries.now id }
+    {
+        for entry in entries {
+            self.forget(id, entry.0.keys());
+        }
+    }
+
+    // The greatest number of a write with an entry at or above these keys.
+    pub(crate) fn last_whole(&self, keys: &[Key]) -> Option<u64>
+        ensures { IsLast (IsAbove self.now keys.now) result }
+    {
+        let here = self.last_here();
+        let Some((key, rest)) = keys.split_first() else {
+            return here;
+        };
+        let Some(child) = self.below.get(key) else {
+            return here;
+        };
+        later(here, child.last_whole(rest))
+    }
+
+    // The greatest number of a write that sets the whole of what stands here.
+    fn last_here(&self) -> Option<u64>
+        ensures { IsLast (λ j. contains nat_cmp (here_of self.now) j ≡ true) result }
+    {
+        self.here.last().copied()
+    }
+
+    // The spot below these keys.
+    pub(crate) fn at(&self, keys: &[Key]) -> Option<&Spot>
+        ensures { option_copied result ≡ spot_at self.now keys.now }
+    {
+        let Some((key, rest)) = keys.split_first() else {
+            return Some(self);
+        };
+        match self.below.get(key) {
+            Some(child) => child.at(rest),
+            None => None,
+        }
+    }
+
+    // Whether a write sets the whole of the child of that key, below these keys.
+    pub(crate) fn sets_child(&self, keys: &[Key], key: &Key) -> bool
+        ensures { IsTrue result ↔ ((j : ℕ)
+            × (has_here self.now (keys.now ++ key.now ∷ []) j ≡ true)) }
+    {
+        match self.at(keys) {
+            Some(spot) => spot.is_child_set(key),
+            None => false,
+        }
+    }
+
+    // Whether a write sets the whole of the child of that key.
+    fn is_child_set(&self, key: &Key) -> bool
+        ensures { IsTrue result ↔ ((j : ℕ) × (has_here self.now (key.now ∷ []) j ≡ true)) }
+    {
+        match self.below.get(key) {
+            Some(child) => child.last_here().is_some(),
+            None => false,
+        }
+    }
+}
+
+// Adds a number.
+fn note(numbers: &mut BTreeSet<u64>, id: u64) -> Result<(), AllocError>
+    ensures { OnOk result ((j : ℕ) → contains nat_cmp numbers.new j
+        ≡ ((id == j) || contains nat_cmp numbers.old j)) }
+{
+    numbers.insert(id)?;
+    Ok(())
+}
+
+// Takes a number out.
+fn strike(numbers: &mut BTreeSet<u64>, id: u64)
+    ensures { (j : ℕ) → contains nat_cmp numbers.new j
+        ≡ (not (id == j) && contains nat_cmp numbers.old j) }
+{
+    numbers.remove(&id);
+}
+
+// The greater of two numbers, where there are any.
+fn later(left: Option<u64>, right: Option<u64>) -> Option<u64>
+    ensures { result ≡ later_of left right }
+{
+    let Some(one) = left else {
+        return right;
+    };
+    match right {
+        Some(other) => Some(one.max(other)),
+        None => Some(one),
+    }
+}
