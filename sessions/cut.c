@@ -1,7 +1,8 @@
 /* Reads and writes of a program's first socket that fail: from the one on whose number the environment gives
    (CUT_READ, CUT_WRITE), or behind so many bytes (CUT_READ_BEHIND, CUT_WRITE_BEHIND), up to which they move
-   what they can. They are loaded before a program's own (LD_PRELOAD), so that ./check can cut a connection of
-   a proved program at each of its calls, and behind each of its bytes. */
+   what they can; or such that each first waits so many microseconds (SLOW_MICROSECONDS). They are loaded before
+   a program's own (LD_PRELOAD), so that ./check can cut a connection of a proved program at each of its calls,
+   and behind each of its bytes, and make it slow. */
 #define _GNU_SOURCE
 #include <errno.h>
 #include <limits.h>
@@ -16,6 +17,8 @@
 static unsigned long reads, writes;
 /* How many bytes may still be moved. */
 static unsigned long readable, writable;
+/* How long each call waits. */
+static unsigned long slow;
 static ino_t first;
 static int is_said;
 
@@ -29,6 +32,7 @@ __attribute__((constructor)) static void begin(void) {
     writes = number("CUT_WRITE", 0);
     readable = number("CUT_READ_BEHIND", ULONG_MAX);
     writable = number("CUT_WRITE_BEHIND", ULONG_MAX);
+    slow = number("SLOW_MICROSECONDS", 0);
 }
 
 static int is_first_socket(int file) {
@@ -58,6 +62,7 @@ static int is_write_cut(int file) { return is_cut(file, &writes, EPIPE); }
    not told how many: a program that makes them is stopped where bytes are counted. */
 static int is_cut_of(int file, int is_call_cut, unsigned long left, size_t *count, int why) {
     if (is_call_cut) return 1;
+    if (slow && is_first_socket(file)) usleep(slow);
     if (left == ULONG_MAX || !is_first_socket(file)) return 0;
     if (!count) abort();
     if (!left && *count) return cut(why);

@@ -28,6 +28,19 @@ def free_port():
                 pass  # somebody is there
 
 
+def await_port(port, ran):
+    """Whether a program listens at the port, before it ends: it is tried until it does. A stream that says nothing
+    is no client."""
+    until = time.monotonic() + SECONDS
+    while ran.poll() is None and time.monotonic() < until:
+        try:
+            socket.create_connection(("127.0.0.1", port), timeout=SECONDS).close()
+            return True
+        except OSError:
+            time.sleep(0.002)
+    return False
+
+
 def accept_of(key):
     """What a server answers to a client's key."""
     return base64.b64encode(hashlib.sha1(key + b"258EAFA5-E914-47DA-95CA-C5AB0DC85B11").digest())
@@ -45,8 +58,8 @@ def masked(data, mask):
 class Client:
     """A client over a raw socket: a handshake, masked texts out, texts in. It waits till somebody listens."""
 
-    def __init__(self, port, key=b"dGhlIHNhbXBsZSBub25jZQ=="):
-        self.socket = self.connected(port, time.monotonic() + SECONDS)
+    def __init__(self, port, key=b"dGhlIHNhbXBsZSBub25jZQ==", seconds=SECONDS):
+        self.socket = self.connected(port, time.monotonic() + seconds)
         self.stream = self.socket.makefile("rb")
         head = b"GET / HTTP/1.1\r\nHost: 127.0.0.1\r\nUpgrade: websocket\r\nConnection: Upgrade\r\n"
         self.socket.sendall(head + b"Sec-WebSocket-Version: 13\r\nSec-WebSocket-Key: " + key + b"\r\n\r\n")
@@ -69,6 +82,15 @@ class Client:
         mask = os.urandom(4)
         self.socket.sendall(bytes([first, 0x80 | len(data)]) + mask + masked(data, mask))
 
+    def frames(self, count, first, data):
+        """Sends a frame so many times, masked by zeros, in one write."""
+        self.socket.sendall(count * (bytes([first, 0x80 | len(data), 0, 0, 0, 0]) + data))
+
+    def send_all(self, texts):
+        """Sends texts in one write, each masked by zeros."""
+        frames = [bytes([TEXT, 0x80 | len(it), 0, 0, 0, 0]) + it.encode() for it in texts]
+        self.socket.sendall(b"".join(frames))
+
     def ask(self, message, count):
         """Sends a message, and answers so many texts that are sent for it."""
         self.frame(TEXT, compact(message).encode())
@@ -77,6 +99,7 @@ class Client:
     def text(self):
         first, length = struct.unpack("!BB", self.stream.read(2))
         length = struct.unpack("!H", self.stream.read(2))[0] if length == 126 else length
+        length = struct.unpack("!Q", self.stream.read(8))[0] if length == 127 else length
         return (first, json.loads(self.stream.read(length)))
 
     def close(self):

@@ -16,15 +16,15 @@ class Session:
     what it hears and has to hear. Where the lines are held, the server says by let_go when their end comes;
     where they are broken, the read behind them fails."""
 
-    def __init__(self, server, lines, out, status=0, err=b"", stdout=None, is_held=False, is_broken=False):
+    def __init__(self, server, lines, out, status=0, err=b"", stdout=None, is_held=False, is_broken=False, words=()):
         self.name, self.server = f"connect, {server.__doc__.strip('.')}", server
         self.lines, self.out = lines.encode(errors="surrogateescape"), out.encode()
         self.status, self.err, self.stdout = status, err, stdout
-        self.is_held, self.is_broken = is_held, is_broken
+        self.is_held, self.is_broken, self.words = is_held, is_broken, words
 
     def begun(self, program, port):
         """The program, with its lines."""
-        words, ends = [program, "connect", str(port)], {"stdout": subprocess.PIPE, "stderr": subprocess.PIPE}
+        words, ends = [program, "connect", str(port), *self.words], {"stdout": subprocess.PIPE, "stderr": subprocess.PIPE}
         if self.stdout:
             with open(self.stdout, "wb") as out:
                 return subprocess.Popen(words, **ends | {"stdin": subprocess.PIPE, "stdout": out})
@@ -128,17 +128,29 @@ def hears(server, *frames):
 
 
 def leaves(server):
-    """The client closes, is answered, and nothing comes behind."""
+    """The client closes, waits for the answer, and nothing comes behind."""
     yield hears(server, GOODBYE)
-    try:
-        server.send(CLOSED)
-    except OSError:
-        pass  # it has gone, and waited for no answer
+    yield "whether the client waits for the answer", is_there(server), True
+    server.send(CLOSED)
     yield "what comes behind the client's close", server.hear(), None
 
 
+def is_there(server):
+    """Whether the client has not gone: nothing comes of it for a moment."""
+    server.socket.settimeout(0.02)
+    try:
+        return bool(server.socket.recv(1, socket.MSG_PEEK))
+    except TimeoutError:
+        return True
+    finally:
+        server.socket.settimeout(SECONDS)
+
+
 def goes(server, *sent):
-    """What comes of one who ends by a fault: perhaps what it sent before, perhaps a close, and no more."""
-    heard = list(iter(server.hear, None))
-    heard = heard[:-1] if heard[-1:] == [GOODBYE] else heard
+    """What comes of one who ends by a fault: perhaps what it sent before, its close, and no more."""
+    heard = []
+    while (it := server.hear()) not in (None, GOODBYE):
+        heard.append(it)
     yield "what comes of one who ends by a fault", heard, list(sent)[: len(heard)]
+    server.send(CLOSED)
+    yield "what comes behind its close", server.hear(), None

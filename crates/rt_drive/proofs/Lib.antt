@@ -1,3 +1,4 @@
 mod Counting
+mod Taking
 mod Telling
 mod Waiting

@@ -1,5 +1,10 @@
 -- What a reader must believe stands here; what only the code needs stands in inside/.
--- Printing (what is printed of a client), Run (how many lines of an input are bad).
+-- Hearing (what a message of the socket is), Taking (what a text of the server makes of a client, and
+-- prints), Printing (what is printed of a client), Answers (what is answered by what), Run (how many lines
+-- of an input are bad).
+pub mod Answers
+pub mod Hearing
 pub mod inside
 pub mod Printing
 pub mod Run
+pub mod Taking

@@ -7,13 +7,16 @@ ghost use Rattle.rt_input.specs.Lines.{lines_of, most_input};
 ghost use Rattle.rt_lines.specs.Orders.{is_formed, is_good_order, order_of_bytes};
 ghost use Rattle.rt_drive.specs.Run.{bad_among};
 
+use crate::link::Link;
+use crate::lost::Lost;
+use crate::say::{say_bad_line, say_lost};
 use crate::seats::{
     Seats, close_seat, make_call, open_seats, settle_all, show_cover, take_messages, take_text,
 };
-use crate::socket::{Heard, MAX_PINGS, Socket, close_socket, hear, opened, send_all};
+use crate::socket::{Heard, MAX_PINGS, Told, opened};
 use crate::tell::write_why;
 use rt_client::{Client, Seat};
-use rt_input::{ConsoleError, Drain, LineReader, Source};
+use rt_input::{ConsoleError, Drain, LineReader, Log, Silent, Source};
 use rt_lines::{LineError, Order, Refusal, SeatCall, write_bad_line, write_refusal};
 use rt_wire::WireError;
 use rt_world::CoreError;
@@ -22,27 +25,31 @@ use std::io::{Read, Write};
 use std::random::RandomSource;
 use std::sync::Wait;
 
-// A client with its seats, its socket, which is gone once it has failed or closed, and what was printed
-// and is not written yet.
+// A client with its seats, its connection, which is gone once it has failed or ended, how many pings and
+// pongs may still come while the line is done, and what was printed and is not written yet.
 #[derive(Drop)]
 struct Driven<'a, R, S, N> {
     rt: &'a R,
     alloc: Global,
     client: &'a Client,
     seats: Seats,
-    socket: Option<Socket<S, N>>,
+    link: Option<Link<S, N>>,
+    pings: u32,
     printed: String,
 }
 
 impl<'a, R: Wait, S: Read + Write + Drop, N: RandomSource + Drop> Driven<'a, R, S, N> {
     // The connection is opened: the client is told of it, and sends what it has to.
-    fn connect(&mut self, random: N, stream: S) -> Result<(), AllocError> {
-        self.socket = opened(self.alloc, random, stream)?;
-        if self.socket.is_none() {
-            return self.printed.push_str("disconnected\n");
+    fn connect<L: Log>(&mut self, random: N, stream: S, log: &mut L) -> Result<(), AllocError> {
+        match opened(self.alloc, random, stream)? {
+            Ok(socket) => self.link = Some(Link::new(self.alloc, socket)),
+            Err(why) => {
+                say_lost(self.alloc, &why, log)?;
+                return self.printed.push_str("disconnected\n");
+            }
         }
         self.tell_connected()?;
-        self.send_waiting()
+        self.send_waiting(log)
     }
 
     fn tell_connected(&mut self) -> Result<(), AllocError> {
@@ -61,9 +68,10 @@ impl<'a, R: Wait, S: Read + Write + Drop, N: RandomSource + Drop> Driven<'a, R, 
         }
     }
 
-    // The socket is gone.
-    fn lose_socket(&mut self) -> Result<(), AllocError> {
-        drop(self.socket.take());
+    // The connection is gone.
+    fn lose_link<L: Log>(&mut self, why: &Lost, log: &mut L) -> Result<(), AllocError> {
+        drop(self.link.take());
+        say_lost(self.alloc, why, log)?;
         self.printed.push_str("disconnected\n")?;
         self.tell_disconnected()?;
         self.settle()
@@ -76,54 +84,64 @@ impl<'a, R: Wait, S: Read + Write + Drop, N: RandomSource + Drop> Driven<'a, R, 
     }
 
     // Sends what the client has to send.
-    fn send_waiting(&mut self) -> Result<(), AllocError> {
-        let Some(socket) = &mut self.socket else {
+    fn send_waiting<L: Log>(&mut self, log: &mut L) -> Result<(), AllocError> {
+        let Some(link) = &mut self.link else {
             return Ok(());
         };
         let messages = take_messages(self.alloc, &mut self.client.shared.lock(self.rt))?;
-        if send_all(self.alloc, socket, messages.as_slice())? {
-            return Ok(());
+        match link.send_all(messages.as_slice(), &mut self.pings)? {
+            None => Ok(()),
+            Some(why) => self.lose_link(&why, log),
         }
-        self.lose_socket()
     }
 
-    // Takes a text of the server.
-    fn take(&mut self, words: &str) -> Result<(), AllocError> {
-        let mut shared = self.client.shared.lock(self.rt);
-        take_text(&mut self.printed, self.alloc, &mut shared, words)
+    // Takes a message of the server.
+    fn take(&mut self, told: Told) -> Result<(), AllocError> {
+        match told {
+            Told::Text(words) => {
+                let mut shared = self.client.shared.lock(self.rt);
+                take_text(&mut self.printed, self.alloc, &mut shared, words.as_str())
+            }
+            Told::Binary => write_refusal(&mut self.printed, Refusal::Wire(WireError::NotJson)),
+        }
     }
 
-    // Reads a message, of a socket that stands, and answers whether it stands then.
-    fn read_message(&mut self, pings: &mut u32) -> Result<bool, AllocError> {
-        let Some(socket) = &mut self.socket else {
+    // Reads a message, where the connection stands, and answers whether it stands then.
+    fn read_message<L: Log>(&mut self, log: &mut L) -> Result<bool, AllocError> {
+        let Some(link) = &mut self.link else {
             return Ok(false);
         };
-        match hear(socket, pings)? {
-            Heard::Text(words) => self.take(words.as_str())?,
-            Heard::Binary => write_refusal(&mut self.printed, Refusal::Wire(WireError::NotJson))?,
-            Heard::Ended => {
-                self.lose_socket()?;
-                return Ok(false);
+        match link.next(&mut self.pings)? {
+            Heard::Told(told) => {
+                self.take(told)?;
+                self.settle()?;
+                Ok(true)
+            }
+            Heard::Ended(why) => {
+                self.lose_link(&why, log)?;
+                Ok(false)
             }
         }
-        self.settle()?;
-        Ok(true)
     }
 
     // Reads so many messages, and writes what each prints.
-    fn read_messages<D: Drain>(&mut self, times: u64, writer: &mut D) -> Result<(), ConsoleError>
+    fn read_messages<D: Drain, L: Log>(
+        &mut self,
+        times: u64,
+        writer: &mut D,
+        log: &mut L,
+    ) -> Result<(), ConsoleError>
         requires { D.failures writer.old + 1 < 2 ^ 64 }
         ensures ok { OnOk result (D.failures writer.new ≡ D.failures writer.old) }
         ensures fault { IfErr result (λ e.
             WriteTells e (D.failures writer.old) (D.failures writer.new)) }
     {
-        if self.socket.is_none() {
+        if self.link.is_none() {
             write_refusal(&mut self.printed, Refusal::Core(CoreError::NotConnected))?;
             return Ok(());
         }
-        let mut pings = MAX_PINGS;
         for _ in 0..times {
-            if !self.read_message(&mut pings)? {
+            if !self.read_message(log)? {
                 return Ok(());
             }
             self.write_out(writer)?;
@@ -150,11 +168,12 @@ impl<'a, R: Wait, S: Read + Write + Drop, N: RandomSource + Drop> Driven<'a, R, 
     }
 
     // Does what a line asks for, and answers whether it is good.
-    fn do_order<D: Drain>(
+    fn do_order<D: Drain, L: Log>(
         &mut self,
         number: u64,
         bytes: &[u8],
         writer: &mut D,
+        log: &mut L,
     ) -> Result<bool, ConsoleError>
         requires { D.failures writer.old + 1 < 2 ^ 64 }
         ensures ok { OnOk result (D.failures writer.new ≡ D.failures writer.old) }
@@ -163,13 +182,14 @@ impl<'a, R: Wait, S: Read + Write + Drop, N: RandomSource + Drop> Driven<'a, R, 
         ensures good { IfOk result (λ good. good ≡ is_formed (order_of_bytes bytes.now)) }
     {
         match Order::read(self.alloc, bytes) {
-            Ok(Order::Read { times }) => self.read_messages(times, writer)?,
+            Ok(Order::Read { times }) => self.read_messages(times, writer, log)?,
             Ok(Order::Seat { seat, call }) => self.call(seat, call)?,
             Ok(Order::Close { seat }) => self.close(seat)?,
             Ok(Order::Cover) => self.cover()?,
             Err(LineError::Refused(refusal)) => write_refusal(&mut self.printed, refusal)?,
             Err(LineError::Bad) => {
                 write_bad_line(&mut self.printed, number)?;
+                say_bad_line(self.alloc, number, bytes, log)?;
                 return Ok(false);
             }
             Err(LineError::NoMemory) => return Err(ConsoleError::NoMemory),
@@ -178,11 +198,12 @@ impl<'a, R: Wait, S: Read + Write + Drop, N: RandomSource + Drop> Driven<'a, R, 
     }
 
     // Does the line of that number, and answers whether it is good.
-    fn do_line<D: Drain>(
+    fn do_line<D: Drain, L: Log>(
         &mut self,
         number: u64,
         bytes: &[u8],
         writer: &mut D,
+        log: &mut L,
     ) -> Result<bool, ConsoleError>
         requires { D.failures writer.old + 1 < 2 ^ 64 }
         ensures ok { OnOk result (D.failures writer.new ≡ D.failures writer.old) }
@@ -193,9 +214,10 @@ impl<'a, R: Wait, S: Read + Write + Drop, N: RandomSource + Drop> Driven<'a, R, 
         if bytes.is_empty() {
             return Ok(true);
         }
-        let is_good = self.do_order(number, bytes, writer)?;
+        self.pings = MAX_PINGS;
+        let is_good = self.do_order(number, bytes, writer, log)?;
         self.settle()?;
-        self.send_waiting()?;
+        self.send_waiting(log)?;
         self.write_out(writer)?;
         Ok(is_good)
     }
@@ -216,10 +238,11 @@ impl<'a, R: Wait, S: Read + Write + Drop, N: RandomSource + Drop> Driven<'a, R, 
     }
 
     // Does all lines of the input, and answers how many of them were bad.
-    fn run<I: Source, D: Drain>(
+    fn run<I: Source, D: Drain, L: Log>(
         &mut self,
         reader: &mut I,
         writer: &mut D,
+        log: &mut L,
     ) -> Result<u64, ConsoleError>
         requires bytes { I.given reader.old ≤ 2 ^ 63 }
         requires reads { I.failures reader.old + 1 < 2 ^ 64 }
@@ -241,22 +264,77 @@ impl<'a, R: Wait, S: Read + Write + Drop, N: RandomSource + Drop> Driven<'a, R, 
         self.write_out(writer)?;
         'lines: while lines.next(reader)? {
             number = number.saturating_add(1);
-            if !self.do_line(number, lines.line(), writer)? {
+            if !self.do_line(number, lines.line(), writer, log)? {
                 bad_lines = bad_lines.saturating_add(1);
             }
         }
         Ok(bad_lines)
     }
 
-    // The socket is closed, and the client is told of it.
-    fn end(&mut self) -> Result<(), AllocError> {
-        let Some(socket) = self.socket.take() else {
+    // The connection is closed, and the client is told of it.
+    fn end<L: Log>(&mut self, log: &mut L) -> Result<(), AllocError> {
+        let Some(link) = self.link.take() else {
             return Ok(());
         };
-        let closed = close_socket(socket);
+        let ended = link.close();
         self.tell_disconnected()?;
-        closed
+        say_lost(self.alloc, &ended?, log)
     }
+}
+
+/// As [`drive`], and tells the log why no connection came about or how it ended, and what is wrong with
+/// each bad line.
+///
+/// # Errors
+///
+/// As [`drive`].
+pub fn drive_logged<
+    R: Wait,
+    N: RandomSource + Drop,
+    S: Read + Write + Drop,
+    I: Source,
+    D: Drain,
+    L: Log,
+>(
+    rt: &R,
+    alloc: Global,
+    client: &Client,
+    seats: Vec<Seat>,
+    random: N,
+    stream: S,
+    reader: &mut I,
+    writer: &mut D,
+    log: &mut L,
+) -> Result<u64, ConsoleError>
+    requires bytes { I.given reader.old ≤ 2 ^ 63 }
+    requires reads { I.failures reader.old + 1 < 2 ^ 64 }
+    requires writes { D.failures writer.old + 1 < 2 ^ 64 }
+    ensures end { OnOk result (IsAtEnd (I.remaining reader.new)) }
+    ensures counted { IfOk result (λ bad_lines. (text : List ℕ) → I.remaining reader.old ≡ Some text
+        → bad_lines ≡ bad_among (lines_of text)) }
+    ensures within { OnOk result (I.given reader.new ≤ I.given reader.old + most_input) }
+    ensures ok { OnOk result (NoneFailed
+        (counts (I.given reader.old) (I.failures reader.old) (D.failures writer.old))
+        (counts (I.given reader.new) (I.failures reader.new) (D.failures writer.new))) }
+    ensures fault { IfErr result (λ e. Tells e
+        (counts (I.given reader.old) (I.failures reader.old) (D.failures writer.old))
+        (counts (I.given reader.new) (I.failures reader.new) (D.failures writer.new))) }
+{
+    let mut driven = Driven {
+        rt,
+        alloc,
+        client,
+        seats: open_seats(alloc, seats)?,
+        link: None,
+        pings: MAX_PINGS,
+        printed: String::new(alloc),
+    };
+    driven.connect(random, stream, log)?;
+    let outcome = driven.run(reader, writer, log);
+    let ended = driven.end(log);
+    let bad_lines = outcome?;
+    ended?;
+    Ok(bad_lines)
 }
 
 /// Opens a WebSocket as the client over a stream, tells the client that it is connected, and does the
@@ -268,8 +346,14 @@ impl<'a, R: Wait, S: Read + Write + Drop, N: RandomSource + Drop> Driven<'a, R, 
 /// Where no handshake comes about, for another cause than memory, and where the socket fails or ends,
 /// `disconnected` is printed, and the lines go on; the client is told of the end of a socket that stood. A
 /// socket has failed too where more than `MAX_MESSAGE_BYTES` of `rt_input` are needed for one message, and
-/// with the last of [`MAX_PINGS`] pings and pongs that come while one line is done. At the end the socket
-/// is closed, and the client told.
+/// with the last of [`MAX_PINGS`] pings and pongs that come while one line is done.
+///
+/// Where more than [`MAX_UNANSWERED_BYTES`] would be on their way while the server owes an answer, what it
+/// sends is read first, so that neither side waits for the other to read: it is kept until a line reads it.
+/// A socket has failed too where that takes more than [`MAX_KEPT_BYTES`].
+///
+/// At the end the client says that it goes, and reads on until the server goes too, so that it reads all
+/// that it was sent. What comes then is passed over, and how the socket ends then is not printed.
 ///
 /// The lock is taken for each call and let go before anything is read or sent.
 ///
@@ -301,18 +385,15 @@ pub fn drive<R: Wait, N: RandomSource + Drop, S: Read + Write + Drop, I: Source,
         (counts (I.given reader.old) (I.failures reader.old) (D.failures writer.old))
         (counts (I.given reader.new) (I.failures reader.new) (D.failures writer.new))) }
 {
-    let mut driven = Driven {
+    drive_logged(
         rt,
         alloc,
         client,
-        seats: open_seats(alloc, seats)?,
-        socket: None,
-        printed: String::new(alloc),
-    };
-    driven.connect(random, stream)?;
-    let outcome = driven.run(reader, writer);
-    let ended = driven.end();
-    let bad_lines = outcome?;
-    ended?;
-    Ok(bad_lines)
+        seats,
+        random,
+        stream,
+        reader,
+        writer,
+        &mut Silent,
+    )
 }

@@ -1,7 +1,9 @@
 // What lines and messages ask of a client's locked value and its seats, and what they print.
-ghost use Rattle.std.specs.Prelude.{◌≡◌, ◌<◌, [], false, true, length, IfOk, IfSome, OnOk};
+ghost use Rattle.std.specs.Prelude.{◌≡◌, ◌<◌, ℕ, List, [], false, true, length, IfOk, IfSome, OnOk};
+ghost use Rattle.rt_wire.specs.Server.{server_message};
 ghost use Rattle.rt_lines.specs.inside.Appending.{Appends};
 ghost use Rattle.rt_drive.specs.Printing.{items_text};
+ghost use Rattle.rt_drive.specs.Taking.{Takes};
 ghost use Rattle.rt_drive.specs.inside.Ahead.{ahead_of, emptied, waiting_of};
 
 use crate::tell::{write_item, write_why};
@@ -105,7 +107,10 @@ pub(crate) fn take_text(
     alloc: Global,
     shared: &mut Shared,
     words: &str,
-) -> Result<(), AllocError> {
+) -> Result<(), AllocError>
+    ensures { OnOk result ((text : List ℕ) × Appends out.old out.new text
+        × Takes (server_message words.now) shared.old shared.new text) }
+{
     let message = match ServerMessage::read(alloc, words) {
         Ok(message) => message,
         Err(WireError::NoMemory) => return Err(AllocError),

@@ -1,15 +1,18 @@
 // A client's socket: its handshake, its messages, what is sent, and its end.
+ghost use Rattle.std.specs.Prelude.{◌≡◌};
+ghost use Rattle.rt_drive.specs.Hearing.{closed_by, heard_of};
+
+use crate::lost::Lost;
 use rt_input::{Counted, MAX_MESSAGE_BYTES};
-use rt_wire::ClientMessage;
 use std::alloc::{AllocError, Global};
 use std::io::{Read, Write};
 use std::random::RandomSource;
 use tungstenite::handshake::client::request_of;
 use tungstenite::{
-    Error, HandshakeError, Message, RandomKeys, Utf8Bytes, WebSocket, WebSocketConfig,
+    CloseFrame, Error, HandshakeError, Message, RandomKeys, Utf8Bytes, WebSocket, WebSocketConfig,
 };
 
-/// How many pings and pongs are too many while the messages of one line are read.
+/// How many pings and pongs are too many while one line is done.
 pub const MAX_PINGS: u32 = 100_000;
 
 // The address that the handshake names; the stream is connected already.
@@ -18,22 +21,38 @@ const ADDRESS: &str = "ws://127.0.0.1/";
 // A client's WebSocket over a stream whose bytes are counted.
 pub(crate) type Socket<S, N> = WebSocket<Counted<S>, RandomKeys<N>>;
 
+// A message of the server, which a line reads.
+#[derive(Drop)]
+pub(crate) enum Told {
+    Text(Utf8Bytes),
+    Binary,
+}
+
+impl Told {
+    // How many bytes of it are kept.
+    pub(crate) fn len(&self) -> usize {
+        match self {
+            Told::Text(words) => words.len(),
+            Told::Binary => 0,
+        }
+    }
+}
+
 // What came of a socket.
 #[derive(Drop)]
 pub(crate) enum Heard {
-    Text(Utf8Bytes),
-    Binary,
+    Told(Told),
     // The socket has ended or failed.
-    Ended,
+    Ended(Lost),
 }
 
-// The socket of a stream, where the handshake comes about. At most MAX_MESSAGE_BYTES are read for one
-// message, which may be as long.
+// The socket of a stream, or why the handshake does not come about. At most MAX_MESSAGE_BYTES are read for
+// one message, which may be as long.
 pub(crate) fn opened<S: Read + Write + Drop, N: RandomSource + Drop>(
     alloc: Global,
     random: N,
     stream: S,
-) -> Result<Option<Socket<S, N>>, AllocError> {
+) -> Result<Result<Socket<S, N>, Lost>, AllocError> {
     // The address is one, so that only memory can lack.
     let Ok(request) = request_of(alloc, ADDRESS) else {
         return Err(AllocError);
@@ -45,24 +64,39 @@ pub(crate) fn opened<S: Read + Write + Drop, N: RandomSource + Drop>(
                 .max_message_size(Some(MAX_MESSAGE_BYTES))
                 .max_frame_size(Some(MAX_MESSAGE_BYTES));
             socket.set_config(limits);
-            Ok(Some(socket))
+            Ok(Ok(socket))
         }
         Err(HandshakeError::Failure(Error::OutOfMemory)) => Err(AllocError),
-        Err(HandshakeError::Failure(_) | HandshakeError::Interrupted(_)) => Ok(None),
+        Err(HandshakeError::Failure(why)) => Ok(Err(Lost::NoHandshake(why))),
+        Err(HandshakeError::Interrupted(_)) => {
+            Ok(Err(Lost::NoHandshake(Error::HandshakeIncomplete)))
+        }
+    }
+}
+
+// How a connection ends that the server closes.
+fn closed(frame: Option<CloseFrame>) -> Lost
+    ensures { result ≡ closed_by frame }
+{
+    match frame {
+        Some(frame) => Lost::ClosedWith(frame),
+        None => Lost::Closed,
     }
 }
 
 // What a message says; none for a ping or a pong.
-fn told_by(message: Message) -> Option<Heard> {
+fn told_by(message: Message) -> Option<Heard>
+    ensures { result ≡ heard_of message }
+{
     match message {
-        Message::Text(words) => Some(Heard::Text(words)),
-        Message::Binary(_) => Some(Heard::Binary),
+        Message::Text(words) => Some(Heard::Told(Told::Text(words))),
+        Message::Binary(_) => Some(Heard::Told(Told::Binary)),
         Message::Ping(_) | Message::Pong(_) => None,
-        Message::Close(_) => Some(Heard::Ended),
+        Message::Close(frame) => Some(Heard::Ended(closed(frame))),
     }
 }
 
-// The next message of the socket.
+// The next message of the socket; none for a ping or a pong.
 fn read<S: Read + Write + Drop, N: RandomSource + Drop>(
     socket: &mut Socket<S, N>,
 ) -> Result<Option<Heard>, AllocError> {
@@ -75,7 +109,7 @@ fn read<S: Read + Write + Drop, N: RandomSource + Drop>(
             Ok(told_by(message))
         }
         Err(Error::OutOfMemory) => Err(AllocError),
-        Err(_) => Ok(Some(Heard::Ended)),
+        Err(why) => Ok(Some(Heard::Ended(Lost::Failed(why)))),
     }
 }
 
@@ -92,43 +126,43 @@ pub(crate) fn hear<S: Read + Write + Drop, N: RandomSource + Drop>(
         }
         *pings -= 1;
     }
-    Ok(Heard::Ended)
+    Ok(Heard::Ended(Lost::Pings))
 }
 
-// Sends a message, and says whether the socket stands.
-fn send<S: Read + Write + Drop, N: RandomSource + Drop>(
+// Sends a text, and answers why it could not be sent, if it could not.
+pub(crate) fn send<S: Read + Write + Drop, N: RandomSource + Drop>(
     alloc: Global,
     socket: &mut Socket<S, N>,
-    message: &ClientMessage,
-) -> Result<bool, AllocError> {
-    let text = message.text(alloc)?;
-    match socket.send(Message::text(alloc, &text)?) {
-        Ok(()) => Ok(true),
+    text: &str,
+) -> Result<Option<Lost>, AllocError> {
+    match socket.send(Message::text(alloc, text)?) {
+        Ok(()) => Ok(None),
         Err(Error::OutOfMemory) => Err(AllocError),
-        Err(_) => Ok(false),
+        Err(why) => Ok(Some(Lost::Failed(why))),
     }
 }
 
-// Sends messages, in order, and says whether the socket stands.
-pub(crate) fn send_all<S: Read + Write + Drop, N: RandomSource + Drop>(
-    alloc: Global,
-    socket: &mut Socket<S, N>,
-    messages: &[ClientMessage],
-) -> Result<bool, AllocError> {
-    for message in messages {
-        if !send(alloc, socket, message)? {
-            return Ok(false);
-        }
-    }
-    Ok(true)
-}
-
-// Says that the client goes. A socket that fails at it is gone too.
+// Says that the client goes, and passes over what the server still sends, up to its close or the end of
+// the stream: a server that was left while it sent would lose what it had not read. Of that no more is
+// read than for one message. Answers how the connection ended.
 pub(crate) fn close_socket<S: Read + Write + Drop, N: RandomSource + Drop>(
     mut socket: Socket<S, N>,
-) -> Result<(), AllocError> {
+) -> Result<Lost, AllocError> {
     match socket.close(None) {
-        Err(Error::OutOfMemory) => Err(AllocError),
-        Ok(()) | Err(_) => Ok(()),
+        Ok(()) => {}
+        Err(Error::OutOfMemory) => return Err(AllocError),
+        Err(why) => return Ok(Lost::Failed(why)),
     }
+    socket.get_mut().await_message();
+    let mut pings = MAX_PINGS;
+    // The bytes that are read for a message end this loop before the number does.
+    for _ in 0..u64::MAX {
+        match read(&mut socket)? {
+            Some(Heard::Ended(why)) => return Ok(why),
+            Some(Heard::Told(_)) => {}
+            None if pings <= 1 => return Ok(Lost::Pings),
+            None => pings -= 1,
+        }
+    }
+    Ok(Lost::Kept)
 }
