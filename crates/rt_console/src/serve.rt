@@ -80,7 +80,7 @@ impl<L: OpenListener + Drop> Visitors<L>
 where
     L::Stream: Read + Write + Drop,
 {
-    /// None has come yet.
+    /// No connection has come yet.
     pub fn new(listener: L, count: u16) -> Visitors<L>
         ensures left { ⟦<Visitors<L> as Streams>⟧.left result ≡ count }
         ensures failed { ⟦<Visitors<L> as Streams>⟧.has_failed result ≡ false }

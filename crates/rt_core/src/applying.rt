@@ -72,7 +72,7 @@ impl State {
         ensures not_stale { OnErr result (is_stale self.world step ≡ false) }
         ensures not_closing { OnErr result ((kind step).closes ≡ false) }
     {
-        // State what a step answers that is not refused, and which children it changes.
+        // For the prover: what a step answers that is not refused, and which children it changes.
         answer_law();
         sound_law();
         touch_law();
@@ -94,7 +94,7 @@ impl State {
         ensures not_stale { OnErr result (is_stale self.world step ≡ false) }
         ensures not_closing { OnErr result ((kind step).closes ≡ false) }
     {
-        // State what a refused step answers.
+        // For the prover: what a refused step answers.
         answer_law();
         if let Some(error) = self.refusal(&step) {
             return Ok((self, Err(error)));

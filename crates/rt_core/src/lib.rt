@@ -69,7 +69,7 @@ impl Core {
     pub fn new(alloc: Global, limits: Limits) -> Core
         ensures { result ≡ Some (empty_held (limits_from limits)) }
     {
-        // State what holds before any step.
+        // For the prover: what holds before any step.
         steady_law();
         holding_law();
         Core {
@@ -90,7 +90,7 @@ impl Core {
         let Some(state) = self.state.take() else {
             return Err(CoreError::Failed);
         };
-        // State what holds after a step.
+        // For the prover: what holds after a step.
         steady_law();
         holding_law();
         answer_law();
@@ -146,7 +146,7 @@ impl Core {
         ensures sent { TakesOut (world_in self.old) result (world_in self.new) }
         ensures views { views_in self.new ≡ views_in self.old }
     {
-        // State that what holds between steps holds without the message.
+        // For the prover: what holds between steps holds without the message.
         sending_law();
         let Some(mut state) = self.state.take() else {
             return None;

@@ -107,7 +107,7 @@ pub fn run_in(room: Room, core: &mut Core, steps: Vec<Step>) -> Answers
     ensures headline { (w v : World) → world_in core.old ≡ Some w
         → world_in core.new ≡ Some v → Headline w steps.items result v }
 {
-    // State what any steps lead to from a core between steps.
+    // For the prover: what any steps lead to from a core between steps.
     core.holds();
     holding_law();
     let Room { mut items } = room;

@@ -17,7 +17,7 @@ pub(crate) trait Ending {
         ensures { result ≡ ended self.now listener.now };
 }
 
-// Those of these numbers end.
+// The listeners of these numbers end.
 #[derive(Drop)]
 pub(crate) struct OfNumbers<'a> {
     pub(crate) numbers: &'a [u64],
@@ -31,7 +31,7 @@ impl Ending for OfNumbers<'_> {
     }
 }
 
-// Those of the form end.
+// The listeners of the form end.
 #[derive(Drop)]
 pub(crate) struct OfForm<'a> {
     pub(crate) form: &'a Query,
@@ -45,7 +45,7 @@ impl Ending for OfForm<'_> {
     }
 }
 
-// Those of the choice end.
+// The listeners of the choice end.
 #[derive(Drop)]
 pub(crate) struct OfChoice<'a, C> {
     pub(crate) choice: &'a C,

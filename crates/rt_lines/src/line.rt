@@ -86,7 +86,7 @@ fn run_at_end(alloc: Global, seat: u64, written: Written<'_>) -> Result<Step, Li
     Ok(Step::OnDisconnect { seat, ending })
 }
 
-// That a seat asks for nothing more there.
+// The step by which a seat asks that nothing be done there any more at the end of the connection.
 fn cancel_at_end(alloc: Global, seat: u64, path: &str) -> Result<Step, LineError>
     ensures ok { IfOk result (λ step. line_in (form.CancelDisconnect seat path.now) ≡ makes step) }
     ensures fault { IfErr result (λ e. (line_in (form.CancelDisconnect seat path.now) ≡ Err e)

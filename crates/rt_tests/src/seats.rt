@@ -134,7 +134,7 @@ fn both<R: Threads + Wait + Sync>(
     seats: (&mut Seat, &mut Seat),
     paths: (Path, Path),
 ) -> (bool, bool) {
-    // This states for the prover what may go to another thread.
+    // For the prover: what may go to another thread.
     crossing_law();
     let (one, two) = (Side::new(), Side::new());
     let (its, other) = seats;

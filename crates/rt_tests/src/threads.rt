@@ -1,4 +1,4 @@
-// That a value may be handed to another thread, which the types say.
+// A value may be handed to another thread: its types say so.
 use rt_tree::Tree;
 
 fn crosses<T: Send + Sync + Drop>(value: T) {

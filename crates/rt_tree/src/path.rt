@@ -81,7 +81,7 @@ fn copy_keys(alloc: Global, keys: &[Key]) -> Result<Vec<Key>, AllocError>
 {
     let mut copies = Vec::new(alloc);
     for key in keys {
-        // States that it is a key.
+        // For the prover: it is a key.
         let _text = key.text();
         copies.push(key.copy()?)?;
     }
@@ -197,7 +197,7 @@ impl Path {
         ensures too_deep { (result ≡ Err TreeError.TooDeep) ↔ (length self.now ≡ MAX_KEYS) }
         ensures errors { IfErr result (λ e. (e ≡ TreeError.TooDeep) ⊎ (e ≡ TreeError.NoMemory)) }
     {
-        // States that it is a key.
+        // For the prover: it is a key.
         let _text = key.text();
         if self.keys.len() == MAX_KEYS {
             return Err(TreeError::TooDeep);

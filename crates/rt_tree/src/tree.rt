@@ -77,7 +77,7 @@ impl Tree {
     pub fn leaf(leaf: Leaf) -> Tree
         ensures { result ≡ of_leaf leaf }
     {
-        // States that what it holds is in range.
+        // For the prover: what it holds is in range.
         let _in_range = leaf.value();
         let node = Node::Leaf(leaf);
         Tree { node }
@@ -304,7 +304,7 @@ fn set_child(children: &mut BTreeMap<Key, Tree>, key: Key, child: Tree) -> Resul
     Ok(())
 }
 
-// The same children in a map of their own.
+// A copy of the children, in a map of their own.
 fn copy_children(
     alloc: Global,
     children: &BTreeMap<Key, Tree>,

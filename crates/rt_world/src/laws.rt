@@ -45,7 +45,7 @@ pub fn named_law()
     ensures others { OthersKeepViews }
 {}
 
-/// The same of one step, for whoever holds views, each over a tree with the children that are seen:
+/// What holds of one step, for whoever holds views, each over a tree with the children that are seen:
 /// where an object stays, a view that is touched with the named children is what is seen then, and
 /// elsewhere its children and those that are seen then are no more than these.
 pub fn touch_law()

@@ -76,7 +76,7 @@ pub fn steady_law()
     ensures worlds { WorldsAreSteady }
 {}
 
-/// The same of each part on its own; and the headline, from any sound world.
+/// Each part holds on its own, and so does the headline, from any sound world.
 pub fn holding_law()
     ensures called { StaysCalled }
     ensures empty { EmptyIsWithin }
@@ -91,7 +91,7 @@ pub fn following_law()
     ensures told { DeltaFollows }
 {}
 
-/// Where a step is not refused, `rt_cover` refuses its change neither.
+/// Where a step is not refused, neither does `rt_cover` refuse its change.
 pub fn covered_law()
     ensures listen { ListenMayAdd }
     ensures unlisten { UnlistenMayRemove }

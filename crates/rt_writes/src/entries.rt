@@ -166,7 +166,7 @@ fn overlaid(
     let Some(rest) = at.strip_prefix(path) else {
         return Ok(tree);
     };
-    // States that no path has more than 32 keys.
+    // For the prover: no path has more than 32 keys.
     let _is_path = at.keys();
     put_copy(alloc, tree, rest, entry)
 }

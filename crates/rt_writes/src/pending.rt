@@ -299,7 +299,8 @@ impl Pending {
             .any(|write| write.entries.set_whole(path))
     }
 
-    /// The same of the child of that key, also where its path would have more than 32 keys.
+    /// Whether a write sets the whole of the child of that key, also where its path would have more than
+    /// 32 keys.
     pub fn sets_child_whole(&self, path: &Path, key: &Key) -> bool
         ensures { result ≡ sets_child_whole self.now path.now key.now }
     {

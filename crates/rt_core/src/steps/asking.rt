@@ -127,7 +127,7 @@ impl State {
         action_refusal(action)
     }
 
-    // Why what is asked for the end of the connection is.
+    // Why what is asked for the end of the connection is refused.
     pub(crate) fn on_disconnect_refusal(&self, ending: &Ending) -> Option<CoreError>
         ensures { (seat : ℕ) → result ≡ refusal self.now.world (Step.OnDisconnect seat ending.now) }
     {
@@ -147,7 +147,7 @@ impl State {
         ensures made { IfOk result (λ made. IsNext self.world (Step.Write seat action) (made.0.world, made.1)) }
         ensures views { IfOk result (λ made. RefreshesViews self (entries_of action) made.0) }
     {
-        // State what such a step leaves, and what may be asked.
+        // For the prover: what such a step leaves, and what may be asked.
         asked_law();
         pending_law();
         refusal_law();
@@ -187,7 +187,7 @@ impl State {
             IsNext self.world (Step.OnDisconnect seat ending) (made.0.world, made.1)) }
         ensures views { IfOk result (λ made. SameViews self made.0) }
     {
-        // State what such a step leaves, and what may be asked.
+        // For the prover: what such a step leaves, and what may be asked.
         asked_law();
         refusal_law();
         let alloc = self.alloc();

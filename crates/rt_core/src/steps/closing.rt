@@ -38,7 +38,7 @@ impl State {
         requires { IsGood self.now.world }
         ensures { result ≡ needs_tag self.now.world (Step.CloseSeat seat) }
     {
-        // State when a step lacks a tag.
+        // For the prover: when a step lacks a tag.
         tag_law();
         self.cover.lacks_tag_to_remove_chosen(&OfSeat {
             listeners: &self.listeners,
@@ -63,7 +63,7 @@ impl State {
         ensures made { IfOk result (λ made. IsNext self.world (Step.CloseSeat seat) (made.0.world, made.1)) }
         ensures views { IfOk result (λ made. KeepsViews (λ l. not (l.seat == seat)) self made.0) }
     {
-        // State what such a step leaves, and that the cover takes it.
+        // For the prover: what such a step leaves, and that the cover takes it.
         listened_law();
         covered_law();
         following_law();

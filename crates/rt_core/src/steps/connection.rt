@@ -61,7 +61,7 @@ impl State {
         ensures made { IfOk result (λ made. IsNext self.world Step.Connected (made.0.world, made.1)) }
         ensures views { IfOk result (λ made. SameViews self made.0) }
     {
-        // State what such a step leaves.
+        // For the prover: what such a step leaves.
         connection_law();
         let alloc = self.alloc();
         let mut state = self;
@@ -80,7 +80,7 @@ impl State {
         ensures made { IsNext self.world Step.Disconnected (result.0.world, result.1) }
         ensures views { SameViews self result.0 }
     {
-        // State what such a step leaves.
+        // For the prover: what such a step leaves.
         connection_law();
         let alloc = self.alloc();
         let mut state = self;

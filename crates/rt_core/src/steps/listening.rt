@@ -76,7 +76,7 @@ impl State {
         requires { IsGood self.now.world }
         ensures { (seat : ℕ) → result ≡ needs_tag self.now.world (Step.Listen seat query.now) }
     {
-        // State when a step lacks a tag.
+        // For the prover: when a step lacks a tag.
         tag_law();
         self.cover.lacks_tag_to_add(query)
     }
@@ -99,7 +99,7 @@ impl State {
         ensures made { IfOk result (λ made. IsNext self.world (Step.Listen seat query) (made.0.world, made.1)) }
         ensures views { IfOk result (λ made. AddsView self seat query made.0) }
     {
-        // State what such a step leaves, and that the cover takes it.
+        // For the prover: what such a step leaves, and that the cover takes it.
         listened_law();
         covered_law();
         following_law();
@@ -128,7 +128,7 @@ impl State {
     fn lacks_tag_to_remove(&self, listener: u64) -> bool
         ensures { (seat : ℕ) → result ≡ needs_tag self.now.world (Step.Unlisten seat listener) }
     {
-        // State when a step lacks a tag.
+        // For the prover: when a step lacks a tag.
         tag_law();
         self.cover.lacks_tag_to_remove(&[listener])
     }
@@ -152,7 +152,7 @@ impl State {
         ensures made { IfOk result (λ made. IsNext self.world (Step.Unlisten seat listener) (made.0.world, made.1)) }
         ensures views { IfOk result (λ made. KeepsViews (λ l. not (l.number == listener)) self made.0) }
     {
-        // State what such a step leaves, and that the cover takes it.
+        // For the prover: what such a step leaves, and that the cover takes it.
         listened_law();
         covered_law();
         following_law();

@@ -66,7 +66,7 @@ fn put_all(brought: &mut Brought, query: &Query, entries: &[(Path, Tree)]) -> Re
     Ok(())
 }
 
-// The same on the listen with that tag, if it is kept.
+// Takes these entries in on the listen with that tag, if it is kept.
 fn put_on(
     brought: &mut Brought,
     cover: &Cover,
@@ -140,7 +140,7 @@ impl State {
         self.offline_refusal()
     }
 
-    // Why one of several trees is.
+    // Why a push of several trees is refused.
     pub(crate) fn merge_refusal(&self, tag: u64, entries: &Entries) -> Option<CoreError>
         ensures { result ≡ refusal self.now.world (Step.DataMerge tag entries.now) }
     {
@@ -158,7 +158,7 @@ impl State {
     pub(crate) fn data_is_stale(&self, tag: u64, path: &Path) -> bool
         ensures { (tree : PathTree) → result ≡ is_stale self.now.world (Step.Data tag path.now tree) }
     {
-        // State when a push is stale.
+        // For the prover: when a push is stale.
         pushed_law();
         match self.listen_of(tag) {
             Some(query) => self.brought.lacks_window(query, path),
@@ -166,7 +166,8 @@ impl State {
         }
     }
 
-    // The same of several trees, where each wants one.
+    // Whether trees that are pushed together change nothing: no listen with the tag is kept, or each
+    // wants a window.
     pub(crate) fn merge_is_stale(&self, tag: u64, entries: &Entries) -> bool
         ensures { result ≡ is_stale self.now.world (Step.DataMerge tag entries.now) }
     {
@@ -188,7 +189,7 @@ impl State {
             IsNext self.world (Step.DataMerge tag entries.items) (made.0.world, made.1)) }
         ensures views { IfOk result (λ made. RefreshesViews self entries.items made.0) }
     {
-        // State what such a step leaves, and what may be pushed.
+        // For the prover: what such a step leaves, and what may be pushed.
         push_law();
         pushed_law();
         stay_law();

@@ -45,7 +45,7 @@ impl State {
         requires { IsGood self.now.world }
         ensures { (why : Reason) → result ≡ needs_tag self.now.world (Step.Revoked tag why) }
     {
-        // State when a step lacks a tag, and that no listen changes where no listener ends.
+        // For the prover: when a step lacks a tag, and that no listen changes where no listener ends.
         tag_law();
         stay_law();
         self.cover.lacks_tag_to_revoke(tag)
@@ -82,7 +82,7 @@ impl State {
         ensures views { IfOk result (λ made.
             KeepsViews (λ l. not (is_cancelled self.world tag l)) self made.0) }
     {
-        // State what such a step leaves, and that the cover takes it.
+        // For the prover: what such a step leaves, and that the cover takes it.
         listened_law();
         covered_law();
         following_law();

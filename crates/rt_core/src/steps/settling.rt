@@ -77,7 +77,7 @@ impl State {
         ensures made { IfOk result (λ made. IsNext self.world (settling id why) (made.0.world, made.1)) }
         ensures views { IfOk result (λ made. RefreshesViews self (entries_settled self.world id) made.0) }
     {
-        // State what such a step leaves.
+        // For the prover: what such a step leaves.
         settled_law();
         pending_law();
         stay_law();

@@ -80,7 +80,7 @@ fn put_child(children: &mut BTreeMap<Key, Tree>, key: Key, child: Tree) -> Resul
     ensures allowed { OnOk result (IsAllowed (object children.new.entries)) }
     ensures ordered { IsOrdered key_cmp children.new }
 {
-    // States that it is a key.
+    // For the prover: it is a key.
     let _text = key.text();
     if child.is_null() {
         drop(children.remove(&key));
