@@ -321,25 +321,6 @@ sessions_leave p texts rise fresh =
     ∙ ap (λ c. filter (λ m. not (m == n)) c) (taken_stays (connected p) n texts)
     ∙ comes_and_goes n p.connections rise fresh
 
--- ---- what the taking of a text answers
-
-pub ok_taken : {E : Type 0} (o q : Option Peer) (r : Result Bool E) (n : ℕ) (text : List ℕ)
-    → IfSome o (λ p. OnOk r (q ≡ Some (after_all p (call_of n (client_message text)))))
-    → IfSome o (λ p. OnOk r (HasTaken 1 n p q))
-ok_taken None q r n text h = tt
-ok_taken (Some p) q (Ok b) n text h = text_taken p q n text h
-ok_taken (Some p) q (Err e) n text h = tt
-
-pub err_taken : {E : Type 0} (o q : Option Peer) (r : Result Bool E) (n : ℕ) (text : List ℕ)
-    → IfSome o (λ p. OnErr r ((q ≡ None) ⊎ (q ≡ o)
-    ⊎ (q ≡ Some (after_all p (call_of n (client_message text))))))
-    → IfSome o (λ p. OnErr r ((q ≡ None) ⊎ HasTaken 1 n p q))
-err_taken None q r n text h = tt
-err_taken (Some p) q (Ok b) n text h = tt
-err_taken (Some p) q (Err e) n text (inl lost) = inl lost
-err_taken (Some p) q (Err e) n text (inr (inl same)) = inr ([], omega arith, same)
-err_taken (Some p) q (Err e) n text (inr (inr is)) = inr (text_taken p q n text is)
-
 -- ---- a socket that is served
 
 -- what a new connection's number is, and the peer behind it

@@ -1,5 +1,16 @@
 -- What a reader has to believe: the definitions that public contracts name.
 --     Sessions    what a connection that is served is to the peer
+--     Errors      the number and the name of each error
+-- Those that the steps of a connection name, none of which is public:
+--     Heard       what a read of the socket says, and what that is to the peer
+--     Answers     what is sent to the connection for a text
+--     Closing     the close that a client is sent which broke the protocol
+--     Handshakes  whether a handshake came about
 -- laws/ has what is stated for callers: what such a connection leaves as it was (Sessions).
+pub mod Answers
+pub mod Closing
+pub mod Errors
+pub mod Handshakes
+pub mod Heard
 pub mod Sessions
 pub mod laws

@@ -1,6 +1,6 @@
 -- What a connection that is served is to the peer: it begins, its texts are taken one after another,
 -- and it ends.
-use Rattle.std.specs.Prelude.{◌≡◌, ◌≤◌, ℕ, List, [], ◌∷◌, ◌++◌, length, Option, Some, Ok, Err, Result}
+use Rattle.std.specs.Prelude.{◌≡◌, ◌≤◌, ℕ, List, [], ◌∷◌, ◌++◌, length, Option, Some, Ok, Err, Result, Bool, true, false}
 use Rattle.std.specs.List.{flat_map}
 use Rattle.rt_wire.specs.Client.{client_message}
 use Rattle.rt_wire.specs.declared.client.ClientMessage.{ClientMessage}
@@ -32,3 +32,8 @@ abbrev pub HasServed : Peer → Option Peer → Type 0
 HasServed p q =
     (texts : List (List ℕ)) × (length texts ≤ MAX_MESSAGES)
     × (q ≡ Some (after_all p (session (least_free p.connections) texts)))
+
+-- where it comes about that a connection is served, q is p after it, and else q is p
+abbrev pub ServedIf : Bool → Peer → Option Peer → Type 0
+ServedIf true p q = HasServed p q
+ServedIf false p q = q ≡ Some p

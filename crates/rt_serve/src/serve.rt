@@ -1,89 +1,136 @@
 // A stream from its handshake to its end.
-ghost use Rattle.std.specs.Prelude.{◌≡◌, ◌⊎◌, ◌↔◌, None, Some, Err, IfOk, IfErr, IfSome, OnOk, OnErr};
+ghost use Rattle.std.specs.Prelude.{◌≡◌, ◌⊎◌, ◌↔◌, None, Some, Ok, Err, IfOk, IfErr, IfSome, OnOk, OnErr};
+ghost use Rattle.std.specs.Prelude.{true, false};
 ghost use Rattle.rt_wire.specs.Client.{client_message};
 ghost use Rattle.rt_peer.specs.Peers.{least_free};
 ghost use Rattle.rt_peer.specs.Calls.{connected, fault};
 ghost use Rattle.rt_peer.specs.Runs.{after_all};
-ghost use Rattle.rt_serve.specs.Sessions.{call_of, HasServed, HasTaken};
+ghost use Rattle.rt_input.specs.Counted.{known_output};
+ghost use Rattle.rt_serve.specs.Answers.{Tells, told};
+ghost use Rattle.rt_serve.specs.Heard.{calls_of, end_of, is_over};
+ghost use Rattle.rt_serve.specs.Sessions.{call_of, HasServed, HasTaken, ServedIf};
+ghost use Rattle.rt_serve.specs.Handshakes.{is_done};
 
+use crate::answer::{Answer, keep_own, take_text};
 use crate::error::ServeError;
-use crate::socket::{Heard, Socket, accepted, hear, send_all};
-use rt_input::MAX_MESSAGE_BYTES;
+use crate::heard::{End, Heard};
+use crate::socket::{Handshake, Socket, close, hear, send_all, shake_hands};
+use crate::telling;
+use rt_input::{Log, MAX_MESSAGE_BYTES, Silent};
 use rt_peer::{Peer, PeerError};
-use rt_wire::{ClientMessage, WireError};
 use std::alloc::Global;
 use std::io::{Read, Write};
 
 /// After how many messages of any kind, pings and pongs among them, a connection is ended.
 pub const MAX_MESSAGES: usize = 1_000_000;
 
-// Takes a text of the connection, and says whether the socket stands. A text that is no message of a
-// client is passed over.
-fn take<S: Read + Write + Drop>(
+// Takes a text of the connection, and says whether all was sent that the peer sends to it.
+fn take<S: Read + Write + Drop, L: Log>(
     alloc: Global,
     peer: &mut Peer,
     socket: &mut Socket<S>,
     connection: u64,
     words: &str,
+    log: &mut L,
 ) -> Result<bool, ServeError>
     requires { fault peer.old connection ≡ None }
     ensures taken { IfSome peer.old (λ p. OnOk result (peer.new
         ≡ Some (after_all p (call_of connection (client_message words.now))))) }
+    ensures told { IfSome peer.old (λ p. IfOk result (λ all. all ≡ true
+        → Tells (known_output S.contents) socket.old
+        (told connection p (client_message words.now)) socket.new)) }
     ensures failed { IfSome peer.old (λ p. OnErr result ((peer.new ≡ None) ⊎ (peer.new ≡ peer.old)
         ⊎ (peer.new ≡ Some (after_all p (call_of connection (client_message words.now)))))) }
     ensures memory { IfErr result (λ e. e ≡ ServeError.NoMemory) }
 {
-    match ClientMessage::read(alloc, words) {
-        Ok(message) => match peer.message(connection, message) {
-            Ok(sent) => send_all(alloc, socket, connection, &sent),
-            Err(_) => Err(ServeError::NoMemory),
-        },
-        Err(WireError::NoMemory) => Err(ServeError::NoMemory),
-        Err(
-            WireError::NotJson | WireError::UnknownKind | WireError::BadField | WireError::BadTree,
-        ) => Ok(true),
+    match take_text(alloc, peer, connection, words)? {
+        Answer::Sends(mut sent) => {
+            keep_own(&mut sent, connection);
+            send_all(alloc, socket, &sent)
+        }
+        Answer::PassedOver(why) => {
+            telling::text_passed_over(alloc, log, connection, why);
+            Ok(true)
+        }
     }
 }
 
-// Takes the next message of the connection, and says whether the socket stands.
-fn take_next<S: Read + Write + Drop>(
+// Takes what was heard of the connection, and says why it ends, if it does. A message that is no text
+// is passed over.
+fn take_heard<S: Read + Write + Drop, L: Log>(
     alloc: Global,
     peer: &mut Peer,
     socket: &mut Socket<S>,
     connection: u64,
-) -> Result<bool, ServeError>
+    heard: Heard,
+    log: &mut L,
+) -> Result<Option<End>, ServeError>
+    requires { fault peer.old connection ≡ None }
+    ensures taken { IfSome peer.old (λ p. OnOk result (peer.new
+        ≡ Some (after_all p (calls_of connection heard)))) }
+    ensures failed { IfSome peer.old (λ p. OnErr result ((peer.new ≡ None) ⊎ (peer.new ≡ peer.old)
+        ⊎ (peer.new ≡ Some (after_all p (calls_of connection heard))))) }
+    ensures ends { IfOk result (λ end. end ≡ end_of heard) }
+    ensures still { IfSome (end_of heard) (λ _. socket.new ≡ socket.old) }
+    ensures memory { IfErr result (λ e. e ≡ ServeError.NoMemory) }
+{
+    match heard {
+        Heard::Text(words) => {
+            if !take(alloc, peer, socket, connection, words.as_str(), log)? {
+                telling::not_sent(alloc, log, connection);
+            }
+            Ok(None)
+        }
+        Heard::Binary => {
+            telling::binary_passed_over(alloc, log, connection);
+            Ok(None)
+        }
+        Heard::Nothing => Ok(None),
+        Heard::Ended(end) => Ok(Some(end)),
+    }
+}
+
+// Takes the next message of the connection, and says why it ends, if it does.
+fn take_next<S: Read + Write + Drop, L: Log>(
+    alloc: Global,
+    peer: &mut Peer,
+    socket: &mut Socket<S>,
+    connection: u64,
+    log: &mut L,
+) -> Result<Option<End>, ServeError>
     requires { fault peer.old connection ≡ None }
     ensures taken { IfSome peer.old (λ p. OnOk result (HasTaken 1 connection p peer.new)) }
     ensures failed { IfSome peer.old (λ p.
         OnErr result ((peer.new ≡ None) ⊎ HasTaken 1 connection p peer.new)) }
+    ensures over { IfOk result (λ end. IfSome end (λ _. is_over socket.new ≡ true)) }
     ensures memory { IfErr result (λ e. e ≡ ServeError.NoMemory) }
 {
-    match hear(socket)? {
-        Heard::Text(words) => take(alloc, peer, socket, connection, words.as_str()),
-        Heard::Other => Ok(true),
-        Heard::Ended => Ok(false),
-    }
+    let heard = hear(socket)?;
+    take_heard(alloc, peer, socket, connection, heard, log)
 }
 
-// Takes message after message of the connection, until the socket ends.
-fn take_all<S: Read + Write + Drop>(
+// Takes message after message of the connection, until nothing more can be read or as many have come
+// as are taken, and says why it ends.
+fn take_all<S: Read + Write + Drop, L: Log>(
     alloc: Global,
     peer: &mut Peer,
     socket: &mut Socket<S>,
     connection: u64,
-) -> Result<(), ServeError>
+    log: &mut L,
+) -> Result<End, ServeError>
     requires { fault peer.old connection ≡ None }
     ensures taken { IfSome peer.old (λ p. OnOk result (HasTaken MAX_MESSAGES connection p peer.new)) }
     ensures failed { IfSome peer.old (λ p.
         OnErr result ((peer.new ≡ None) ⊎ HasTaken MAX_MESSAGES connection p peer.new)) }
+    ensures over { IfOk result (λ end. (end ≡ End.TooMany) ⊎ (is_over socket.new ≡ true)) }
     ensures memory { IfErr result (λ e. e ≡ ServeError.NoMemory) }
 {
     for _ in 0..MAX_MESSAGES {
-        if !take_next(alloc, peer, socket, connection)? {
-            return Ok(());
+        if let Some(end) = take_next(alloc, peer, socket, connection, log)? {
+            return Ok(end);
         }
     }
-    Ok(())
+    Ok(End::TooMany)
 }
 
 // Begins a connection of the peer.
@@ -101,11 +148,32 @@ fn connect(peer: &mut Peer) -> Result<u64, ServeError>
     }
 }
 
+// Takes the messages of the connection to its end, and closes the socket.
+fn take_to_end<S: Read + Write + Drop, L: Log>(
+    alloc: Global,
+    peer: &mut Peer,
+    socket: &mut Socket<S>,
+    connection: u64,
+    log: &mut L,
+) -> Result<(), ServeError>
+    requires { fault peer.old connection ≡ None }
+    ensures taken { IfSome peer.old (λ p. OnOk result (HasTaken MAX_MESSAGES connection p peer.new)) }
+    ensures failed { IfSome peer.old (λ p.
+        OnErr result ((peer.new ≡ None) ⊎ HasTaken MAX_MESSAGES connection p peer.new)) }
+    ensures memory { IfErr result (λ e. e ≡ ServeError.NoMemory) }
+{
+    let end = take_all(alloc, peer, socket, connection, log)?;
+    close(socket, end.close_code());
+    telling::ended(alloc, log, connection, &end);
+    Ok(())
+}
+
 // Serves a socket as one connection, which is ended however the socket ends.
-fn serve_socket<S: Read + Write + Drop>(
+fn serve_socket<S: Read + Write + Drop, L: Log>(
     alloc: Global,
     peer: &mut Peer,
     mut socket: Socket<S>,
+    log: &mut L,
 ) -> Result<(), ServeError>
     ensures served { IfSome peer.old (λ p. OnOk result (HasServed p peer.new)) }
     ensures failed { IfSome peer.old (λ p. OnErr result ((peer.new ≡ None) ⊎ HasServed p peer.new)) }
@@ -113,7 +181,8 @@ fn serve_socket<S: Read + Write + Drop>(
     ensures memory { IfErr result (λ e. IfSome peer.old (λ _. e ≡ ServeError.NoMemory)) }
 {
     let connection = connect(peer)?;
-    let taken = take_all(alloc, peer, &mut socket, connection);
+    telling::begun(alloc, log, connection);
+    let taken = take_to_end(alloc, peer, &mut socket, connection, log);
     // What the end of the connection changes is told to others, and none is served beside it.
     match peer.disconnect(connection) {
         Ok(_) => taken,
@@ -121,13 +190,65 @@ fn serve_socket<S: Read + Write + Drop>(
     }
 }
 
+// Serves what came of a handshake, and says whether it came about.
+fn serve_handshake<S: Read + Write + Drop, L: Log>(
+    alloc: Global,
+    peer: &mut Peer,
+    handshake: Handshake<S>,
+    log: &mut L,
+) -> Result<bool, ServeError>
+    ensures shook { IfOk result (λ shook. shook ≡ is_done handshake) }
+    ensures served { IfSome peer.old (λ p. OnOk result (ServedIf (is_done handshake) p peer.new)) }
+    ensures failed { IfSome peer.old (λ p. OnErr result ((peer.new ≡ None) ⊎ HasServed p peer.new)) }
+    ensures unshaken { is_done handshake ≡ false → (result ≡ Ok false) × (peer.new ≡ peer.old) }
+    ensures lost { peer.old ≡ None → peer.new ≡ None }
+    ensures refused { peer.old ≡ None → is_done handshake ≡ true → result ≡ Err ServeError.Failed }
+    ensures memory { IfErr result (λ e. IfSome peer.old (λ _. e ≡ ServeError.NoMemory)) }
+{
+    match handshake {
+        Handshake::Done(socket) => {
+            serve_socket(alloc, peer, socket, log)?;
+            Ok(true)
+        }
+        Handshake::Failed(why) => {
+            telling::no_handshake(alloc, log, &why);
+            Ok(false)
+        }
+    }
+}
+
+/// As [`serve_stream`], and tells the log when the connection begins and how it ends, which messages are
+/// passed over, and why there is no handshake. It answers whether there was one: else the peer is as it
+/// was.
+///
+/// # Errors
+///
+/// As [`serve_stream`].
+pub fn serve_logged<S: Read + Write + Drop, L: Log>(
+    alloc: Global,
+    peer: &mut Peer,
+    stream: S,
+    log: &mut L,
+) -> Result<bool, ServeError>
+    ensures served { IfSome peer.old (λ p. IfOk result (λ shook. ServedIf shook p peer.new)) }
+    ensures failed { IfSome peer.old (λ p.
+        OnErr result ((peer.new ≡ None) ⊎ (peer.new ≡ peer.old) ⊎ HasServed p peer.new)) }
+    ensures lost { peer.old ≡ None → (peer.new ≡ None) × IfOk result (λ shook. shook ≡ false) }
+    ensures memory { IfErr result (λ e. IfSome peer.old (λ _. e ≡ ServeError.NoMemory)) }
+{
+    let handshake = shake_hands(alloc, stream, MAX_MESSAGE_BYTES)?;
+    serve_handshake(alloc, peer, handshake, log)
+}
+
 /// Serves a stream: accepts a WebSocket on it, begins a connection of the peer, takes one message
 /// after another, sends what the peer then sends to this connection, and ends the connection.
 ///
 /// A text that is no message of a client, and a message that is no text, are passed over. The
-/// connection ends with the socket, where the socket fails, or after [`MAX_MESSAGES`] messages of any
-/// kind; it has failed too where more than [`MAX_MESSAGE_BYTES`] bytes are needed for one message.
-/// What the peer sends to other connections is not sent: one is served at a time.
+/// connection ends with the socket, where nothing more can be read of it, or after [`MAX_MESSAGES`]
+/// messages of any kind; it has failed too where more than [`MAX_MESSAGE_BYTES`] bytes are needed for
+/// one message. Where it can't be written to any more, what has come is still taken. A client that
+/// breaks the protocol, or sends too much, is told why by the code of a close. What the peer sends to
+/// other connections is not sent: one is served at a time.
 ///
 /// It answers `Ok` however the socket ends, and where no handshake comes about, for another cause than
 /// memory; then the peer is as it was.
@@ -148,8 +269,6 @@ pub fn serve_stream<S: Read + Write + Drop>(
     ensures lost { peer.old ≡ None → peer.new ≡ None }
     ensures memory { IfErr result (λ e. IfSome peer.old (λ _. e ≡ ServeError.NoMemory)) }
 {
-    match accepted(alloc, stream, MAX_MESSAGE_BYTES)? {
-        Some(socket) => serve_socket(alloc, peer, socket),
-        None => Ok(()),
-    }
+    serve_logged(alloc, peer, stream, &mut Silent)?;
+    Ok(())
 }

@@ -1,34 +1,40 @@
 // A server's socket: its handshake, its messages, and what is sent to it.
-ghost use Rattle.std.specs.Prelude.{◌≡◌, IfErr};
+ghost use Rattle.std.specs.Prelude.{◌≡◌, [], true, IfOk, IfErr, IfSome, OnOk};
+ghost use Rattle.std.specs.Io.KnownBytes.{Appends};
+ghost use Rattle.websocket.specs.Connection.{write_step};
+ghost use Rattle.websocket.specs.Content.{text};
+ghost use Rattle.tungstenite.specs.Socket.{Writes, content_of};
+ghost use Rattle.rt_input.specs.Counted.{known_output};
+ghost use Rattle.rt_serve.specs.Answers.{Tells, text_of, texts_of};
+ghost use Rattle.rt_serve.specs.Closing.{close_frame};
+ghost use Rattle.rt_serve.specs.Heard.{end_of, is_over};
 
 use crate::error::ServeError;
+use crate::heard::{Heard, heard_from};
 use rt_input::Counted;
 use rt_peer::Sent;
 use rt_wire::ServerMessage;
-use std::alloc::Global;
-use std::io::{Read, Write};
-use tungstenite::{Error, HandshakeError, Message, NoMask, Utf8Bytes, WebSocket, WebSocketConfig};
+use std::alloc::{AllocError, Global};
+use std::io;
+use std::io::{ErrorKind, Read, Write};
+use tungstenite::{Error, HandshakeError, Message, NoMask, WebSocket, WebSocketConfig};
 
 // A server's WebSocket over a stream whose bytes are counted.
 pub(crate) type Socket<S> = WebSocket<Counted<S>, NoMask>;
 
-// What came of a socket.
+// What came of a handshake: a socket, or why there is none.
 #[derive(Drop)]
-pub(crate) enum Heard {
-    Text(Utf8Bytes),
-    // A message that is no text.
-    Other,
-    // The socket has ended or failed.
-    Ended,
+pub(crate) enum Handshake<S> {
+    Done(Socket<S>),
+    Failed(Error),
 }
 
-// The socket of a stream, where the handshake comes about. At most so many bytes are read for one
-// message, which may be as long.
-pub(crate) fn accepted<S: Read + Write + Drop>(
+// Shakes hands on a stream. At most so many bytes are read for one message, which may be as long.
+pub(crate) fn shake_hands<S: Read + Write + Drop>(
     alloc: Global,
     stream: S,
     most: usize,
-) -> Result<Option<Socket<S>>, ServeError>
+) -> Result<Handshake<S>, ServeError>
     ensures { IfErr result (λ e. e ≡ ServeError.NoMemory) }
 {
     match tungstenite::accept(alloc, Counted::new(stream, most)) {
@@ -37,69 +43,121 @@ pub(crate) fn accepted<S: Read + Write + Drop>(
                 .max_message_size(Some(most))
                 .max_frame_size(Some(most));
             socket.set_config(limits);
-            Ok(Some(socket))
+            Ok(Handshake::Done(socket))
         }
         Err(HandshakeError::Failure(Error::OutOfMemory)) => Err(ServeError::NoMemory),
-        Err(HandshakeError::Failure(_) | HandshakeError::Interrupted(_)) => Ok(None),
-    }
-}
-
-// What a message says.
-fn told_by(message: Message) -> Heard {
-    match message {
-        Message::Text(words) => Heard::Text(words),
-        Message::Binary(_) | Message::Ping(_) | Message::Pong(_) | Message::Close(_) => {
-            Heard::Other
+        Err(HandshakeError::Failure(why)) => Ok(Handshake::Failed(why)),
+        Err(HandshakeError::Interrupted(_)) => {
+            Ok(Handshake::Failed(Error::Io(io::Error::from(ErrorKind::WouldBlock))))
         }
     }
 }
 
-// The next message of the socket.
-pub(crate) fn hear<S: Read + Write + Drop>(socket: &mut Socket<S>) -> Result<Heard, ServeError>
-    ensures { IfErr result (λ e. e ≡ ServeError.NoMemory) }
+// Whether nothing more can be read of the socket.
+fn is_over<S: Read + Write + Drop>(socket: &Socket<S>) -> bool
+    ensures { result ≡ is_over socket.now }
 {
-    socket.get_mut().await_message();
+    !socket.can_read() || socket.get_ref().is_over()
+}
+
+// The next message of the socket, also where what it has to answer by itself can't be written.
+fn read_on<S: Read + Write + Drop>(socket: &mut Socket<S>) -> Result<Message, Error> {
     match socket.read() {
-        Ok(message) => Ok(told_by(message)),
-        Err(Error::OutOfMemory) => Err(ServeError::NoMemory),
-        Err(_) => Ok(Heard::Ended),
+        Err(Error::Io(why)) => {
+            if socket.get_mut().pass_over_writes() {
+                socket.read()
+            } else {
+                Err(Error::Io(why))
+            }
+        }
+        read => read,
     }
 }
 
-// Sends a message, and says whether the socket stands.
+// What the socket says next. It has ended only where nothing more can be read.
+pub(crate) fn hear<S: Read + Write + Drop>(socket: &mut Socket<S>) -> Result<Heard, ServeError>
+    ensures memory { IfErr result (λ e. e ≡ ServeError.NoMemory) }
+    ensures ended { IfOk result (λ heard. IfSome (end_of heard) (λ _. is_over socket.new ≡ true)) }
+{
+    socket.get_mut().await_message();
+    match heard_from(read_on(socket))? {
+        Heard::Ended(end) => {
+            if is_over(socket) {
+                Ok(Heard::Ended(end))
+            } else {
+                Ok(Heard::Nothing)
+            }
+        }
+        heard @ (Heard::Text(_) | Heard::Binary | Heard::Nothing) => Ok(heard),
+    }
+}
+
+// A message as it is sent.
+fn message_of(alloc: Global, message: &ServerMessage) -> Result<Message, AllocError>
+    ensures { IfOk result (λ m. content_of m ≡ text (text_of message.now)) }
+{
+    let words = message.text(alloc)?;
+    Message::text(alloc, &words)
+}
+
+// Sends a message, and says whether it was sent. Where a write fails, those behind it are passed over,
+// so that what has come can still be heard.
 fn send<S: Read + Write + Drop>(
     alloc: Global,
     socket: &mut Socket<S>,
     message: &ServerMessage,
 ) -> Result<bool, ServeError>
-    ensures { IfErr result (λ e. e ≡ ServeError.NoMemory) }
+    ensures memory { IfErr result (λ e. e ≡ ServeError.NoMemory) }
+    ensures wrote { IfOk result (λ is_sent. is_sent ≡ true
+        → Writes (known_output S.contents) socket.old socket.new
+        (write_step socket.old.conn (text (text_of message.now)))) }
+    ensures empty { IfOk result (λ is_sent. is_sent ≡ true → socket.new.output ≡ []) }
 {
-    let Ok(text) = message.text(alloc) else {
-        return Err(ServeError::NoMemory);
-    };
-    let Ok(message) = Message::text(alloc, &text) else {
+    let Ok(message) = message_of(alloc, message) else {
         return Err(ServeError::NoMemory);
     };
     match socket.send(message) {
         Ok(()) => Ok(true),
         Err(Error::OutOfMemory) => Err(ServeError::NoMemory),
-        Err(_) => Ok(false),
+        Err(_) => {
+            // It ends where no message comes any more.
+            let _begins_now = socket.get_mut().pass_over_writes();
+            Ok(false)
+        }
     }
 }
 
-// Sends what is for the connection, in order, and says whether the socket stands.
+// Sends these messages, in order, and says whether all were sent.
 pub(crate) fn send_all<S: Read + Write + Drop>(
     alloc: Global,
     socket: &mut Socket<S>,
-    connection: u64,
     sent: &[Sent],
 ) -> Result<bool, ServeError>
-    ensures { IfErr result (λ e. e ≡ ServeError.NoMemory) }
+    ensures memory { IfErr result (λ e. e ≡ ServeError.NoMemory) }
+    ensures told { IfOk result (λ all. all ≡ true
+        → Tells (known_output S.contents) socket.old (texts_of sent.now) socket.new) }
 {
     for one in sent {
-        if one.to == connection && !send(alloc, socket, &one.message)? {
+        if !send(alloc, socket, &one.message)? {
             return Ok(false);
         }
     }
     Ok(true)
+}
+
+// Writes a close with that code, by itself, as a server does.
+fn write_close<W: Write>(stream: &mut W, code: u16) -> io::Result<()>
+    ensures { OnOk result (Appends (W.contents stream.old) (W.contents stream.new) (close_frame code)) }
+{
+    stream.write_all(&[0x88, 2, (code / 256) as u8, (code % 256) as u8])?;
+    stream.flush()
+}
+
+// Sends what waits to be sent, and a close with that code, if there is one. A socket that has failed
+// takes no close, so it is written behind its back; where that fails the client is not told.
+pub(crate) fn close<S: Read + Write + Drop>(socket: &mut Socket<S>, code: Option<u16>) {
+    let _flushed = socket.flush();
+    if let Some(code) = code {
+        let _closed = write_close(socket.get_mut(), code);
+    }
 }

@@ -9,22 +9,22 @@ pub take_next-requires : goal.take_next-requires
 take_next-requires g c =
     still_known c.args.peer.now c.loop.peer c.loop.counter c.args.connection c.requires c.loop.invariant
 
-pub returns-in_err-take_next-clause-failed : goal.returns-in_err-take_next-clause-failed
-returns-in_err-take_next-clause-failed g c =
+pub returns-in_err-end-clause-failed : goal.returns-in_err-end-clause-failed
+returns-in_err-end-clause-failed g c =
     err_turn c.args.peer.now c.loop.peer _ _ c.loop.counter 1000000 c.args.connection
-    (omega (arith, c.loop-test.true)) c.requires c.loop.invariant c.in_err-take_next.ensures.failed
+    (omega (arith, c.loop-test.true)) c.requires c.loop.invariant c.in_err-end.ensures.failed
 
-pub returns-then-not-branch-clause-taken : goal.returns-then-not-branch-clause-taken
-returns-then-not-branch-clause-taken g c =
+pub returns-in-Some-clause-taken : goal.returns-in-Some-clause-taken
+returns-in-Some-clause-taken g c =
     at_most c.args.peer.now _ (c.loop.counter + 1) 1000000 c.args.connection
     (omega (arith, c.loop-test.true))
     (turn c.args.peer.now c.loop.peer _ c.loop.counter c.args.connection c.requires c.loop.invariant
-    c.in_ok-take_next.ensures.taken)
+    c.in_ok-end.ensures.taken)
 
 pub loop-preserved : goal.loop-preserved
 loop-preserved g c =
     turn c.args.peer.now c.loop.peer _ c.loop.counter c.args.connection c.requires c.loop.invariant
-    c.in_ok-take_next.ensures.taken
+    c.in_ok-end.ensures.taken
 
 pub returns-clause-taken : goal.returns-clause-taken
 returns-clause-taken g c =

@@ -1,8 +1,8 @@
-use Rattle.rt_serve.proofs.Sessions.{ok_taken, err_taken}
+use Rattle.rt_serve.proofs.Hearing.{err_heard, ok_heard}
 use Rattle.rt_serve.proofs.serve.take_next.Goals as goal
 
-pub returns-in-Text-clause-taken : goal.returns-in-Text-clause-taken
-returns-in-Text-clause-taken g c = ok_taken _ _ _ _ _ c.take.ensures.taken
+pub returns-clause-taken : goal.returns-clause-taken
+returns-clause-taken g c = ok_heard _ _ _ _ _ c.take_heard.ensures.taken
 
-pub returns-in-Text-clause-failed : goal.returns-in-Text-clause-failed
-returns-in-Text-clause-failed g c = err_taken _ _ _ _ _ c.take.ensures.failed
+pub returns-clause-failed : goal.returns-clause-failed
+returns-clause-failed g c = err_heard _ _ _ _ _ c.take_heard.ensures.failed

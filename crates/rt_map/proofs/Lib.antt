@@ -1,0 +1,4 @@
+pub mod Order
+pub mod Entries
+pub mod Lookups
+pub mod Parts

@@ -1,0 +1,5 @@
+-- What only the representation of a map needs.
+pub mod ArcPlaces
+pub mod Joined
+pub mod Places
+pub mod Roots

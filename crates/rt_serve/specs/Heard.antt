@@ -1,0 +1,92 @@
+-- What a read of the socket says: a text, a message that is none, or why the connection ends.
+use Rattle.std.specs.Prelude.{ℕ, Bool, true, false, List, [], Option, Some, None, Result, Ok, Err}
+use Rattle.std.specs.Prelude.{if◌then◌else◌, ◌||◌, ◌==◌, not}
+use Rattle.std.specs.IoError.{error_kind}
+use Rattle.std.specs.declared.io.ErrorKind.{ErrorKind}
+use Rattle.std.specs.declared.io.ErrorKind.TheVariants.{QuotaExceeded}
+use Rattle.websocket.specs.CloseCode.{close_code_number}
+use Rattle.websocket.specs.Connection.{can_read}
+use Rattle.websocket.specs.declared.error.ProtocolError.{ProtocolError}
+use Rattle.websocket.specs.declared.error.ProtocolError.TheVariants.{ResetWithoutClosingHandshake}
+use Rattle.tungstenite.specs.Socket.{Socket}
+use Rattle.tungstenite.specs.declared.error.Error.{Error}
+use Rattle.tungstenite.specs.declared.error.Error.TheVariants.{Protocol, Utf8, Capacity, Io, OutOfMemory}
+use Rattle.tungstenite.specs.declared.message.CloseFrame.{CloseFrame}
+use Rattle.tungstenite.specs.declared.message.Message.{Message}
+use Rattle.tungstenite.specs.declared.message.Message.TheVariants as Kind
+use Rattle.rt_input.specs.Counted.{CountedStream}
+use Rattle.rt_wire.specs.Client.{client_message}
+use Rattle.rt_peer.specs.Runs.{Call}
+use Rattle.rt_serve.specs.declared.error.ServeError.{ServeError}
+use Rattle.rt_serve.specs.declared.error.ServeError.TheVariants.{NoMemory}
+use Rattle.rt_serve.specs.declared.heard.End.{End}
+use Rattle.rt_serve.specs.declared.heard.End.TheVariants.{Closed, Failed, TooMany}
+use Rattle.rt_serve.specs.declared.heard.Heard.{Heard}
+use Rattle.rt_serve.specs.declared.heard.Heard.TheVariants.{Text, Binary, Nothing, Ended}
+use Rattle.rt_serve.specs.Sessions.{call_of}
+
+-- ---- what is heard
+
+-- the code of a close, where it has one
+abbrev pub code_in : Option CloseFrame → Option ℕ
+code_in None = None
+code_in (Some frame) = Some (close_code_number frame.code)
+
+abbrev pub heard_message : Message → Heard
+heard_message (Kind.Text words) = Text words
+heard_message (Kind.Binary bytes) = Binary
+heard_message (Kind.Ping bytes) = Nothing
+heard_message (Kind.Pong bytes) = Nothing
+heard_message (Kind.Close frame) = Ended (Closed (code_in frame))
+
+abbrev pub heard_error : Error → Result Heard ServeError
+heard_error OutOfMemory = Err NoMemory
+heard_error e = Ok (Ended (Failed e))
+
+-- what a read says: its message, or its error
+abbrev pub heard_of : Result Message Error → Result Heard ServeError
+heard_of (Ok message) = Ok (heard_message message)
+heard_of (Err e) = heard_error e
+
+-- ---- why a connection ends
+
+-- why it ends, where it does
+abbrev pub end_of : Heard → Option End
+end_of (Text words) = None
+end_of Binary = None
+end_of Nothing = None
+end_of (Ended end) = Some end
+
+abbrev pub is_quota : ErrorKind → Bool
+is_quota QuotaExceeded = true
+is_quota kind = false
+
+abbrev pub protocol_code : ProtocolError → Option ℕ
+protocol_code ResetWithoutClosingHandshake = None
+protocol_code e = Some 1002
+
+abbrev pub error_code : Error → Option ℕ
+error_code (Protocol e) = protocol_code e
+error_code Utf8 = Some 1007
+error_code (Capacity e) = Some 1009
+error_code (Io why) = if is_quota (error_kind why) then Some 1009 else None
+error_code e = None
+
+-- the code that the client is told, where it is told why (RFC 6455, section 7.4.1)
+abbrev pub close_code_of : End → Option ℕ
+close_code_of (Closed code) = None
+close_code_of (Failed e) = error_code e
+close_code_of TooMany = Some 1008
+
+-- nothing more can be read of the socket
+abbrev pub is_over : {S : Type 0} → Socket (CountedStream S) → Bool
+is_over s = not (can_read s.conn.state) || (s.stream.has_ended || s.stream.left == 0)
+
+-- ---- what is heard of the peer
+
+-- what it is to the peer
+abbrev pub calls_of : ℕ → Heard → List Call
+calls_of n (Text words) = call_of n (client_message words)
+calls_of n Binary = []
+calls_of n Nothing = []
+calls_of n (Ended end) = []
