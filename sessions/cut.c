@@ -79,8 +79,14 @@ static int no_read(int file, size_t *count) {
     return is_cut_of(file, is_read_cut(file), readable, count, ECONNRESET);
 }
 
+/* Who can't write any more has sent all that it sends: so the other side sees, which may wait for more. */
 static int no_write(int file, size_t *count) {
-    return is_cut_of(file, is_write_cut(file), writable, count, EPIPE);
+    int why;
+    if (!is_cut_of(file, is_write_cut(file), writable, count, EPIPE)) return 0;
+    why = errno;
+    syscall(SYS_shutdown, file, SHUT_WR);
+    errno = why;
+    return 1;
 }
 
 ssize_t read(int file, void *into, size_t count) {

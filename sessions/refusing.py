@@ -1,6 +1,8 @@
 """What ./check asks of `serve` and `connect` together where memory lacks: one allocation after another is
 refused, on either side. Where it is one for a field of the handshake's head, tungstenite says that the head is
-bad, so that there is no handshake; else the program says that memory was lacking, behind what it printed."""
+bad, so that there is no handshake. Where it is one for the tree of paths that stands beside the pending writes,
+that tree is given up, and all goes on as with memory. Else the program says that memory was lacking, behind what
+it printed."""
 import os
 import socket
 import subprocess
@@ -13,6 +15,9 @@ MOST = 200  # about so many allocations are refused of each side
 REFUSED = b"refused\n"  # what calls/refuse.c says where it refuses
 LACKING = (b"kaltewi: out of memory\n", b"error: out of memory\n")  # the second is what clap says
 QUIET = 0, b"", b""
+# how many refused allocations of `connect` are shown by nothing, which are those for the tree beside its writes
+UNSAID = {"serve": 0, "connect": 0}
+NONE, TOLD, UNTOLD = range(3)  # what came of the refusal of an allocation; NONE where there is none
 # what `connect` prints where its server goes: of all that it prints where a call of `serve` fails
 CUT_OFF = {out for (side, _), ends in ENDS.items() if side == "serve" for out, _ in ends}
 
@@ -50,45 +55,48 @@ def must_lack(side, err):
 
 
 def is_refused_to_connect(client, server):
-    """Sees how both sides end, and answers whether an allocation was refused to `connect`."""
+    """Sees how both sides end, and answers whether an allocation was refused to `connect`, and that was said."""
     if REFUSED not in client[2]:
-        return False
+        return NONE
+    if client == (0, WHOLE.encode(), REFUSED):
+        must("what serve ends with, and prints", server, QUIET)
+        return UNTOLD
     if client == (0, HANDSHAKE.encode(), REFUSED):
-        return True
+        return TOLD
     must_lack("connect", client[2])
     must("connect's status", client[0], 1)
     if not WHOLE.encode().startswith(client[1]) or client[1][-1:] not in (b"", b"\n"):
         raise Wrong(f"what connect prints is {client[1]}")
     must("what serve ends with, and prints", server, QUIET)
-    return True
+    return TOLD
 
 
 def is_refused_to_serve(client, server):
-    """Sees how both sides end, and answers whether an allocation was refused to `serve`."""
+    """Sees how both sides end, and answers whether an allocation was refused to `serve`, and that was said."""
     if REFUSED not in server[2]:
-        return False
+        return NONE
     if (client, server) == ((0, HANDSHAKE.encode(), b""), (0, b"", REFUSED)):
-        return True
+        return TOLD
     must_lack("serve", server[2])
     must("serve's status, and what it prints", server[:2], (1, b""))
     if client:
         must("connect's status, and what it says", client[::2], (0, b""))
         if client[1].decode() not in CUT_OFF:
             raise Wrong(f"what connect prints is {client[1]}")
-    return True
+    return TOLD
 
 
 SIDES = {"serve": is_refused_to_serve, "connect": is_refused_to_connect}
 
 
 def refused_at(programs, library, side, number):
-    """Refuses an allocation, and answers whether there was such an allocation."""
+    """Refuses an allocation, and answers whether there was none, it was told, or nothing shows it."""
     client, server = meet(programs, {side: {"LD_PRELOAD": library, "REFUSED_ALLOCATION": str(number)}})
     try:
-        if SIDES[side](client, server):
-            return True
-        must("how both end", (client, server), ((0, WHOLE.encode(), b""), QUIET))
-        return False
+        came = SIDES[side](client, server)
+        if came == NONE:
+            must("how both end", (client, server), ((0, WHOLE.encode(), b""), QUIET))
+        return came
     except Wrong as why:
         raise Wrong(f"{side}, allocation {number} refused: {why}") from why
 
@@ -110,8 +118,8 @@ def in_turn(programs, library, side):
     try:
         count = count_of(programs, library, side)
         numbers = range(1, count + 1, max(1, count // MOST))
-        for number in numbers:
-            refused_at(programs, library, side, number)
+        untold = sum(refused_at(programs, library, side, number) == UNTOLD for number in numbers)
+        must(f"how many refused allocations of {side} nothing shows", untold, UNSAID[side])
         return len(numbers), "" if numbers else f"{side} takes no memory"
     except (Wrong, OSError, subprocess.TimeoutExpired) as why:
         return 1, f"{why} ({os.path.basename(programs[side])})"

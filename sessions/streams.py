@@ -56,6 +56,8 @@ STRAY = [
 ANSWERED = b"\x8a\x00" + OK % 2 + CLOSED
 
 MIB = 1 << 20
+# The close that a client is sent where a message is too large.
+TOO_LARGE = b"\x88\x02\x03\xf1"
 # A text of 70 MiB and 40 bytes, and one in two parts with 129 MiB of empty ones between them.
 LARGE = struct.pack("!BBQ4x", TEXT, 0xFF, 70 * MIB + 40) + b'{"id":1,"k":"put","path":"/a","value":5' + b" " * (70 * MIB) + b"}"
 SPLIT = masked(FIRST_PART, b'{"id":2,"k":"put","path":"/b","value":6}') + masked(PART, b"") * (129 * MIB // 6) + masked(LAST_PART, b"")
@@ -136,7 +138,7 @@ def large(program):
     """A text of 70 MiB is read, which is more than the library's own bound for a frame. The bytes are counted for each
     message, so that two such texts are read, and one of too many parts is not, however few of its bytes are its own."""
     out, tree, _ = met(program, HEAD, LARGE + LARGE + SPLIT)
-    must("what large texts are sent, and leave", (behind_head(out), tree), (2 * (OK % 1), {"a": 5}))
+    must("what large texts are sent, and leave", (behind_head(out), tree), (2 * (OK % 1) + TOO_LARGE, {"a": 5}))
 
 
 def left(count, wrote, asked):
@@ -154,13 +156,13 @@ def cut_reads(program, library):
 
 
 def cut_writes(program, library, sent):
-    """A write fails behind each of the bytes: those before are sent, a request is taken before it is answered, and
-    the connection is ended."""
-    asked = len(sent) - len(KEPT)
+    """A write fails behind each of the bytes: those before are sent, and all that came is taken, unless the head
+    was not answered whole."""
+    answered = len(sent) - len(behind_head(sent))
     for count in range(len(sent) + 1):
         cut = {"LD_PRELOAD": library, "CUT_WRITE_BEHIND": str(count)}
         out, tree, is_cut = met(program, HEAD, frames(SESSION), cut=cut)
-        wanted = (sent[:count], left(count, asked - len(WRITTEN), asked), count < len(sent))
+        wanted = (sent[:count], {"a": 5, "b": 6} if count >= answered else None, count < len(sent))
         must(f"what a session is sent of {count} bytes, and leaves", (out, tree, is_cut), wanted)
     return len(sent) + 1
 
