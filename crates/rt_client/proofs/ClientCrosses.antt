@@ -11,6 +11,9 @@ use Rattle.rt_listeners.specs.contracts.held.Held as listening
 use Rattle.rt_listeners.specs.contracts.listeners.Listeners as listeners
 use Rattle.rt_world.specs.contracts.request.Request as request
 use Rattle.rt_requests.specs.contracts.requests.Requests as requests
+use Rattle.rt_writes.specs.contracts.spots.Spot as spot
+use Rattle.rt_writes.specs.contracts.pending.Pending as writes
+use Rattle.rt_writes.proofs.spots.Spot.TheLaws.TheKnot.{crosses as spots_cross}
 use Rattle.rt_wire.specs.contracts.client.ClientMessage as message
 use Rattle.rt_core.specs.contracts.state.State as state
 use Rattle.rt_core.specs.contracts.Core as core
@@ -19,7 +22,7 @@ use Rattle.rt_client.specs.contracts.lanes.Lanes as lanes
 use Rattle.rt_client.specs.contracts.held.Held as held
 use Rattle.rt_client.specs.contracts.shared.Shared as shared
 use Rattle.rt_client.specs.contracts.client.Client as client
-use Rattle.rt_client.proofs.Crosses.{all_cross, calls_cross, item_send, trees_cross}
+use Rattle.rt_client.proofs.Crosses.{all_cross, calls_cross, item_send, key_send, trees_cross}
 
 pub mirror_send : IsSend mirror.the_row
 mirror_send = search trees_cross depth 40 fits 20000
@@ -57,8 +60,15 @@ listeners_send = search (listening_send, calls_cross) depth 40 fits 20000
 request_send : IsSend request.the_row
 request_send = search calls_cross depth 40 fits 20000
 
+-- the tree beside the pending writes holds itself
+spot_send : IsSend spot.the_row
+spot_send = search (key_send, spots_cross, all_cross) depth 40 fits 20000
+
+writes_send : IsSend writes.the_row
+writes_send = search (spot_send, calls_cross) depth 40 fits 20000
+
 requests_send : IsSend requests.the_row
-requests_send = search (request_send, calls_cross) depth 40 fits 20000
+requests_send = search (request_send, writes_send, calls_cross) depth 40 fits 20000
 
 message_send : IsSend message.the_row
 message_send = search calls_cross depth 40 fits 20000
