@@ -4,7 +4,7 @@ import subprocess
 import threading
 
 import endings
-from frames import SECONDS, Server, free_port
+from frames import CLOSED, SECONDS, Server, free_port
 from lines import ROW, ROW_OUT, ROW_STEPS
 from runs import differs
 from session import SESSIONS, data, goes, hears, listen, ok, put, session, stop
@@ -61,6 +61,7 @@ def prompt(program):
             if printed != out:
                 return f"{name}: {line.strip()} prints {printed!r}, not {out!r}"
         ran.stdin.close()
+        server.send(CLOSED)  # which the client waits for
         return differs(name, (ran.wait(SECONDS), ran.stdout.read(), ran.stderr.read()), (0, b"", b""))
     except (OSError, subprocess.TimeoutExpired) as why:
         return f"{name}: {why!r}"
