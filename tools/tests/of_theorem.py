@@ -1,4 +1,4 @@
-"""The page of the theorem: what its script reads of a file of definitions, put together, is that file."""
+"""The page of the theorem: what its script reads of a file of definitions, put together, is that file, and a type of Rust loses no word."""
 import glob
 import importlib.machinery
 import importlib.util
@@ -81,6 +81,52 @@ class Definitions(unittest.TestCase):
         found = of_text(RECORD.replace("\n}\n", "\n} with_none\n"))
         self.assertIn("} with_none", found["kept"].text)
         self.assertEqual(len(found["kept"].clauses), 1)
+
+
+def words_of(text):
+    """The words of a text of Rust, whatever lines they stand in."""
+    without = re.sub(r"(?m)^\s*#\[.*\]\n", "", text)
+    return sorted(re.findall(r"[^\s/,]+", without))
+
+
+SHOWN = """#[derive(Drop)]
+pub enum Change {
+    /// The child was there.
+    Removed {
+        key: Key,
+        old: Tree,
+    },
+    /// A child
+    /// is there.
+    Added,
+    Whole,
+}"""
+
+
+class Types(unittest.TestCase):
+    def test_they_lose_no_word(self):
+        files = sorted(glob.glob(f"{ROOT}/crates/*/src/**/*.rt", recursive=True))
+        count = 0
+        for file in files:
+            for name, (_, _, text) in theorem.RustFile(file).items.items():
+                with self.subTest(f"{os.path.relpath(file, ROOT)}, {name}"):
+                    self.assertEqual(words_of(theorem.compact(text)), words_of(text))
+                    count += 1
+        self.assertGreater(count, 100)
+
+    def test_they_are_shown_in_few_lines(self):
+        lines = theorem.compact(SHOWN).splitlines()
+        self.assertEqual(lines[1], "    Removed { key: Key, old: Tree },  // The child was there.")
+        self.assertEqual(lines[2:], ["    /// A child", "    /// is there.", "    Added,", "    Whole,", "}"])
+
+    def test_long_ones_stay(self):
+        long = SHOWN.replace("old: Tree", f"old: {'Tree' * 30}").replace("Whole,", f"/// {'so ' * 40}\n    Whole,")
+        self.assertEqual(theorem.compact(long), long.partition("\n")[2])
+
+
+class Pages(unittest.TestCase):
+    def test_an_empty_line_stands_before_a_comment(self):
+        self.assertEqual(theorem.together(["-- a\na\n", "b\n", "-- c\nc\n", "/// d\nd\n"]), "-- a\na\nb\n\n-- c\nc\n\n/// d\nd\n")
 
 
 if __name__ == "__main__":
