@@ -11,7 +11,6 @@ from cutting import ENDS, HANDSHAKE, LINES, WHOLE, Wrong, begun, ended, must, se
 from frames import SECONDS
 from session import stop
 
-MOST = 200  # about so many allocations are refused of each side
 REFUSED = b"refused\n"  # what calls/refuse.c says where it refuses
 LACKING = (b"kaltewi: out of memory\n", b"error: out of memory\n")  # the second is what clap says
 QUIET = 0, b"", b""
@@ -117,11 +116,10 @@ def in_turn(programs, library, side):
     """Refuses one allocation of a side after another, and answers how many, and what is wrong."""
     try:
         count = count_of(programs, library, side)
-        numbers = range(1, count + 1, max(1, count // MOST))
-        untold = sum(refused_at(programs, library, side, number) == UNTOLD for number in numbers)
+        untold = sum(refused_at(programs, library, side, number) == UNTOLD for number in range(1, count + 1))
         if untold > UNSAID[side]:
             raise Wrong(f"{untold} refused allocations of {side} are shown by nothing, {UNSAID[side]} at most are to be")
-        return len(numbers), "" if numbers else f"{side} takes no memory"
+        return count, "" if count else f"{side} takes no memory"
     except (Wrong, OSError, subprocess.TimeoutExpired) as why:
         return 1, f"{why} ({os.path.basename(programs[side])})"
 

@@ -5,6 +5,11 @@ import pty
 import shutil
 import subprocess
 import tempfile
+import time
+
+from bodies import write
+from parts import Clock, part
+from rows import Row
 
 STAND_IN = r"""#!/bin/bash
 if [ "$1" = ci ]; then
@@ -93,3 +98,22 @@ def unproved_runs(runs, script):
     runs.says("unproved, at a terminal", ["serve", "8080"], theirs, 1, b"8080\n", UNPROVED, "a fault", environment=runs.stand_in)
     os.close(ours)
     os.close(theirs)
+
+
+def keep_program(copy, to, since):
+    """Leaves the console that was proved from the sources of that moment where ./kaltewi finds it."""
+    out = f"{to}/crates/rt_console/out"
+    os.makedirs(out, exist_ok=True)
+    if copy != to:
+        shutil.copy(f"{copy}/crates/rt_console/out/rt_console", f"{out}/rt_console.new")
+        os.replace(f"{out}/rt_console.new", f"{out}/rt_console")
+    write(f"{out}/kaltewi.built", "")
+    os.utime(f"{out}/kaltewi.built", (since, since))
+
+
+def launcher_part(copy):
+    """The launcher starts the program that was proved, else runs it unproved, and says in one line why it can't where it can't."""
+    clock, first = Clock(), Row("examples/root_listen")
+    keep_program(copy, copy, time.time())
+    wrong, count = wrong_of(copy, first.script, first.out)
+    part(f"launcher: {count} runs", "; ".join(wrong[:5]), clock)

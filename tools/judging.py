@@ -1,0 +1,75 @@
+"""Parts of the gate that try wrong bodies, over what rt ci proved and built in a copy (bodies.py says what counts as refused)."""
+import concurrent.futures
+import os
+import tempfile
+
+import bodies
+from parts import ROOT, Clock, crates, part
+
+CENTRAL_AT_MOST = 60
+
+
+def edits_of(crate):
+    return bodies.edits_of(ROOT, crate)
+
+
+def all_edits():
+    return [edit for crate in crates() for edit in edits_of(crate)]
+
+
+def applies_part(edits):
+    wrong = [f"{it.name}: {why}" for it in edits for why in [it.applied({}, f"{ROOT}/crates/{it.crate}")[1]] if why]
+    central = [it for it in edits if it.central]
+    if len(central) > CENTRAL_AT_MOST:
+        wrong.append(f"{len(central)} are central, more than {CENTRAL_AT_MOST}")
+    part(f"{len(edits)} wrong bodies apply, {len(central)} of them central", "; ".join(wrong[:5]) or ("" if edits else "there is none"))
+
+
+def judged(copy, edits):
+    """Judges wrong bodies, crates side by side, the highest first, over what rt ci proved in the copy, and gives each crate with the verdicts of its own."""
+    below, by_crate = crates(), {crate: [it for it in edits if it.crate == crate] for crate in reversed(crates())}
+
+    def verdicts(crate, own, room):
+        return bodies.verdicts(crate, own, *bodies.over_proved(ROOT, crate, below, copy, room))
+
+    with tempfile.TemporaryDirectory(prefix="kaltewi-edits-") as room, concurrent.futures.ThreadPoolExecutor(os.cpu_count()) as pool:
+        runs = {crate: pool.submit(verdicts, crate, own, room) for crate, own in by_crate.items() if own}
+        for crate, ran in runs.items():
+            yield crate, ran.result()
+
+
+def not_refused(verdicts):
+    """What is wrong with wrong bodies that are not refused at a goal."""
+    words = {bodies.ANSWER: "refused only by an answer", bodies.PROVED: "proved", bodies.UNTOLD: "not judged"}
+    named = {why: " ".join(edit.name for edit, verdict in verdicts.items() if verdict == kind) for kind, why in words.items()}
+    return "; ".join(f"{why}: {names}" for why, names in named.items() if names)
+
+
+def central_part(copy, edits):
+    clock, verdicts = Clock(), {}
+    for _, own in judged(copy, edits):
+        verdicts.update(own)
+    part(f"{len(edits)} central wrong bodies refused", not_refused(verdicts) if edits else "there is none", clock)
+
+
+def wanted(named, below):
+    """The crates of these names, and those above them, lowest first; every crate where none is named."""
+    found = []
+    for crate, libraries in below.items():
+        if not named or crate in named or set(libraries) & set(found):
+            found.append(crate)
+    return found
+
+
+def each_part(copy, some):
+    """Every wrong body of these crates, and at the end which say less."""
+    verdicts = {}
+    for crate, own in judged(copy, [edit for crate in some for edit in edits_of(crate)]):
+        part(f"{crate}: {len(own)} wrong bodies refused", not_refused(own))
+        verdicts.update(own)
+    for kind, what in (
+        (bodies.ANSWER, "refused only by an answer that no longer fits, so that its contract admits it, or nothing says that it doesn't"),
+        (bodies.OPEN, "refused at goals whose answers no longer fitted and were taken away, so that it may be the tactics that don't prove them"),
+    ):
+        names = [edit.name for edit, verdict in verdicts.items() if verdict == kind]
+        print(f"{len(names)} {what}{': ' if names else ''}{' '.join(names)}", flush=True)

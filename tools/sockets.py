@@ -1,0 +1,34 @@
+"""The console at both ends of a socket: the parts that sessions/ has."""
+import tempfile
+
+import connecting
+import cutting
+import handing
+import lacking
+import leaving
+import many
+import refusing
+import serving
+import streams
+from parts import Clock, part, some_of
+from rows import builds_of
+
+
+def sockets_part(name, wrong_of, *given):
+    """A part that sessions/ has: what is wrong, and how much was tried."""
+    clock = Clock()
+    wrong, count = wrong_of(*given)
+    part(name.format(count), some_of(wrong, count), clock)
+
+
+def sockets_parts(copy):
+    programs = builds_of(copy, "rt_console")
+    sockets_part("serve: {} connections", serving.wrong_of, programs)
+    sockets_part("serve, a million messages: {} connections", many.wrong_of, programs)
+    sockets_part("connect: {} runs", connecting.wrong_of, programs)
+    with tempfile.TemporaryDirectory(prefix="kaltewi-cut-") as room:
+        sockets_part("serve, streams to the byte: {} connections", streams.wrong_of, programs, room)
+        sockets_part("serve, clients that write and go at once: {} connections", leaving.wrong_of, programs, room)
+        sockets_part("serve and connect: {} reads and writes that fail in turn", cutting.wrong_of, programs, room)
+        sockets_part("serve and connect: {} sessions of many writes, of which none is lost", handing.wrong_of, programs, room)
+        sockets_part("serve and connect: {} allocations refused in turn", refusing.wrong_of, programs, lacking.refuser(room)[0])

@@ -1,0 +1,114 @@
+"""The gate's own parts: what they read of crates.txt, README.md, rt ci and planted bodies, and what they count."""
+import os
+import sys
+import tempfile
+import unittest
+
+ROOT = os.path.realpath(f"{os.path.dirname(os.path.realpath(__file__))}/../..")
+sys.path[:0] = [f"{ROOT}/sessions", f"{ROOT}/tools"]
+import bodies
+import judging
+import lacking
+import parts
+import planting
+import proving
+import rows
+import texts
+
+CRATES = """# lowest first
+low: serde_json
+mid may_wait=2: low thiserror  # a comment
+high: mid
+
+"""
+README = """# It
+
+```
+high: mid
+```
+
+```rust
+fn main() {}
+```
+
+```rust
+fn other() {}
+```
+"""
+
+
+class Gate(unittest.TestCase):
+    def test_crates(self):
+        below = parts.crates_in(CRATES)
+        self.assertEqual(below, {"low": ["serde_json"], "mid": ["low", "thiserror"], "high": ["mid"]})
+        self.assertEqual(judging.wanted(["mid"], below), ["mid", "high"])
+        self.assertEqual(judging.wanted([], below), ["low", "mid", "high"])
+
+    def test_readme(self):
+        sources = {"high": "// It.\nfn main() {}\n", "mid": "fn other() {}\n"}
+        self.assertEqual(texts.wrong_of_readme(README, CRATES, sources), ["mid lacks its line of crates.txt"])
+        sources = {"high": "fn main() {}\n"}
+        self.assertEqual(texts.wrong_of_readme(README, CRATES, sources), ["fn other() {} is not so in a program"])
+        sources = {"high": "fn main() {}\nfn other() {}\n", "low": ""}
+        self.assertEqual(texts.wrong_of_readme(README, CRATES, sources), ["low is not shown", "low lacks its line of crates.txt"])
+
+    def test_last_line(self):
+        self.assertEqual(proving.counts_in("27 passed, 0 failed\n"), (27, 0))
+        self.assertEqual(proving.counts_in("rt: 27 passed, 0 failed\n"), None)
+        self.assertEqual(proving.counts_in(""), None)
+
+    def test_what_a_process_works_on(self):
+        kind_of = proving.Watch.kind_of
+        self.assertEqual(kind_of(["rattle", "check", "--crate-name", "low", "src/lib.rt"], "the rest"), "low")
+        self.assertEqual(kind_of(["rattle", "--crate-name", "low", "-o", "out/low_tests.o"], "the rest"), "tests of low")
+        self.assertEqual(kind_of(["clang", "--crate-name"], "low"), "low")
+
+    def test_which_are_refused(self):
+        self.assertEqual(list(lacking.numbers_of(3)), [1, 2, 3])
+        self.assertEqual(len(lacking.numbers_of(lacking.MOST + 1)), lacking.SOME + 1)
+        self.assertEqual(list(lacking.numbers_of(0)), [])
+
+    def test_how_copies_ended(self):
+        put = lacking.END.pack
+        data = put(1, 2, 1, 1, 2) + b"cno" + put(2, lacking.SAME, 0, 0, 0) + put(3, lacking.WHOLE, 0, 0, 0)
+        ended = (1, b"abc", b"no")
+        self.assertEqual(list(lacking.ends_in(data, b"abxx")), [(1, ended), (2, ended), (3, None)])
+
+    def test_a_row_of_calls_says_once_that_memory_lacks(self):
+        row = rows.Row("calls/low/push")
+        whole = row.out
+        self.assertTrue(lacking.told_by_calls(row, (0, b"NoMemory\n" + whole, b"")))
+        self.assertFalse(lacking.told_by_calls(row, (0, whole, b"")))
+        self.assertFalse(lacking.told_by_calls(row, (0, b"NoMemory\n" + whole[:-2], b"")))
+
+    def test_not_refused(self):
+        class Named:
+            name = "low/it"
+
+        self.assertEqual(judging.not_refused({Named: bodies.REFUSED}), "")
+        self.assertEqual(judging.not_refused({Named: bodies.OPEN}), "")
+        self.assertEqual(judging.not_refused({Named: bodies.ANSWER}), "refused only by an answer: low/it")
+        self.assertEqual(judging.not_refused({Named: bodies.UNTOLD}), "not judged: low/it")
+
+    def test_plants(self):
+        with tempfile.TemporaryDirectory() as room:
+            os.makedirs(f"{room}/low")
+            bodies.write(f"{room}/low/it.edit", "fails: rows/a low/test\nfile: src/lib.rt\nold: a\nnew: b\n")
+            [plant] = planting.plants_in(room)
+        self.assertEqual((plant.name, plant.crate, plant.rows), ("low/it", "low", ["rows/a", "low/test"]))
+        self.assertEqual(plant.pairs, [("src/lib.rt", "a", "b")])
+
+    def test_each_plant_applies(self):
+        plants = planting.plants_in(planting.PLANTS)
+        self.assertEqual([planting.why_not(it) for it in plants], [""] * len(plants))
+        self.assertTrue(plants)
+
+    def test_what_a_try_of_tests_says(self):
+        said = "test seats::two_seats_meet ... ok\ntest threads::it ... FAILED\nrun=ended status=1 proved=no\n"
+        self.assertEqual(planting.ended_of(said, "two_seats_meet"), "ok")
+        self.assertEqual(planting.ended_of(said, "it"), "FAILED")
+        self.assertEqual(planting.ended_of(said, "meet"), None)
+
+
+if __name__ == "__main__":
+    unittest.main()
