@@ -16,8 +16,8 @@ use Rattle.rt_mail.specs.declared.item.Item.{Item}
 use Rattle.rt_mail.specs.declared.item.Item.TheVariants as item
 use Rattle.rt_mail.specs.declared.receipt.Receipt.{Receipt}
 use Rattle.rt_mail.specs.Lanes.{Line, Ring, with_items, signed_lane, Refuses}
-use Rattle.rt_client.specs.declared.call.Call.{Call}
-use Rattle.rt_client.specs.declared.call.Call.TheVariants as call
+use Rattle.rt_world.specs.declared.call.Call.{Call}
+use Rattle.rt_world.specs.declared.call.Call.TheVariants as call
 use Rattle.rt_client.specs.declared.done.Done.{Done}
 use Rattle.rt_client.specs.declared.error.ClientError.{ClientError}
 use Rattle.rt_client.specs.declared.error.ClientError.TheVariants as error
@@ -25,7 +25,8 @@ use Rattle.rt_client.specs.declared.error.ClientError.TheVariants.{NoMemory}
 use Rattle.rt_client.specs.Seats.{told_to, receipt_of, does_close}
 use Rattle.rt_client.specs.Lanes.{lane_of, with_told, HasRoom, signed_ring}
 use Rattle.rt_client.specs.Shared.{Held, signed_by, lane_after}
-use Rattle.rt_client.specs.Calls.{step_of, LacksMemory, HandsFirst, HandsSome, Called, RefusesCalled}
+use Rattle.rt_world.specs.Calls.{step_of}
+use Rattle.rt_client.specs.Calls.{LacksMemory, HandsFirst, HandsSome, Called, RefusesCalled}
 use Rattle.rt_client.specs.Calls.{Refuses as RefusesStep}
 use Rattle.rt_client.specs.inside.Receipts.{receipt_with, gives_number, AreSigned}
 use Rattle.rt_client.proofs.Slots.{Lines, at_seat}

@@ -9,12 +9,13 @@ use Rattle.rt_mail.specs.declared.item.Item.TheVariants as item
 use Rattle.rt_mail.specs.declared.receipt.Receipt.{Receipt}
 use Rattle.rt_mail.specs.Mailbox.{Known, taken, known_of}
 use Rattle.rt_mail.specs.Lanes.{Line, signed_lane}
-use Rattle.rt_client.specs.declared.call.Call.{Call}
-use Rattle.rt_client.specs.declared.call.Call.TheVariants as call
+use Rattle.rt_world.specs.declared.call.Call.{Call}
+use Rattle.rt_world.specs.declared.call.Call.TheVariants as call
 use Rattle.rt_client.specs.Seats.{reflection, receipt_of, told_to, does_close}
 use Rattle.rt_client.specs.Lanes.{lane_of, due, settled, with_told}
 use Rattle.rt_client.specs.Shared.{Held, lane_after, signed_by, foreseen}
-use Rattle.rt_client.specs.Calls.{Locked, Seated, IsOpen, step_of}
+use Rattle.rt_world.specs.Calls.{step_of}
+use Rattle.rt_client.specs.Calls.{Locked, Seated, IsOpen}
 use Rattle.rt_client.specs.Delivery.{IsMirrored}
 use Rattle.rt_client.specs.laws.Following.{FollowsSettling, FollowsCalls, KnowsAll}
 use Rattle.rt_client.proofs.Seated.{own_is}

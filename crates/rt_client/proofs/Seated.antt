@@ -1,12 +1,16 @@
 -- Seats' calls on the locked value.
 use Rattle.std.proofs.Common.{◌≡◌, ℕ, cond, ◌==◌, sym, ap, subst, ◌∙◌, Option, Some, None, IsTrue}
 use Rattle.std.specs.Cmp.{nat_eq_equiv}
+use Rattle.rt_wire.specs.declared.server.ServerMessage.{ServerMessage}
+use Rattle.rt_wire.specs.declared.server.ServerMessage.TheVariants as message
 use Rattle.rt_world.specs.declared.error.CoreError.{CoreError}
+use Rattle.rt_world.specs.Calls.{step_of_message}
 use Rattle.rt_push.specs.PushIds.{Stamp}
 use Rattle.rt_mail.specs.Lanes.{Line, Ring}
-use Rattle.rt_client.specs.declared.call.Call.{Call}
+use Rattle.rt_world.specs.declared.call.Call.{Call}
 use Rattle.rt_client.specs.declared.done.Done.{Done}
 use Rattle.rt_client.specs.declared.error.ClientError.TheVariants.{Core, NoMemory}
+use Rattle.rt_client.specs.Seats.{caller_of}
 use Rattle.rt_client.specs.Lanes.{lane_of, HasRoom}
 use Rattle.rt_client.specs.Shared.{Held}
 use Rattle.rt_client.specs.Calls.{Locked, Seated, Called, RefusesCalled, MakesCall, RefusesCall}
@@ -52,3 +56,11 @@ seat_gave_up n ids client number ring left before after given_up c own has none 
 -- a call that makes a listener or a request is given a number
 pub number_there : (old new : Locked) (seat left : Seated) (c : Call) (done : Done) → IsTrue (gives_number c) → MakesCall old seat c done new left → done.given ≡ None → ⊥
 number_there old new seat left c done makes m none = number_given m.before m.after seat.number seat.ring m.ring c done makes m.called none
+
+-- a message of the server is no seat's call
+pub no_seats : (m : ServerMessage) → caller_of (step_of_message m) ≡ None
+no_seats (message.Data tag path tree) = λ i. None
+no_seats (message.DataMerge tag entries) = λ i. None
+no_seats (message.Accepted id) = λ i. None
+no_seats (message.Refused id why) = λ i. None
+no_seats (message.Revoked tag why) = λ i. None

@@ -2,20 +2,18 @@
 use Rattle.std.specs.Prelude.{◌≡◌, ◌≤◌, ℕ, length, [], ◌∷◌, ◌++◌, take, if◌then◌else◌, ◌==◌}
 use Rattle.std.specs.Prelude.{false, Option, Some, None, Ok, Err}
 use Rattle.rt_push.specs.PushIds.{Stamp}
-use Rattle.rt_wire.specs.declared.server.ServerMessage.{ServerMessage}
-use Rattle.rt_wire.specs.declared.server.ServerMessage.TheVariants as message
+use Rattle.rt_world.specs.declared.call.Call.{Call}
 use Rattle.rt_world.specs.declared.error.CoreError.{CoreError}
 use Rattle.rt_world.specs.declared.report.Outcome.{Outcome}
 use Rattle.rt_world.specs.declared.report.Report.{Report}
 use Rattle.rt_world.specs.declared.step.Step.{Step}
+use Rattle.rt_world.specs.Calls.{step_of}
 use Rattle.rt_world.specs.World.{World}
 use Rattle.rt_world.specs.Refusals.{refusal, is_stale}
 use Rattle.rt_world.specs.Answers.{step}
 use Rattle.rt_mail.specs.declared.item.Item.TheVariants as item
 use Rattle.rt_mail.specs.declared.receipt.Receipt.{Receipt}
 use Rattle.rt_mail.specs.Lanes.{Line, Ring, room, with_items}
-use Rattle.rt_client.specs.declared.call.Call.{Call}
-use Rattle.rt_client.specs.declared.call.Call.TheVariants as call
 use Rattle.rt_client.specs.declared.done.Done.{Done}
 use Rattle.rt_client.specs.declared.error.ClientError.{ClientError}
 use Rattle.rt_client.specs.declared.error.ClientError.TheVariants.{Failed, WrongSeat, MailboxFull}
@@ -66,21 +64,6 @@ IsSame old seat new left = (new ≡ old) × (left ≡ seat)
 -- the client fails
 abbrev pub Fails : Locked → Locked → Type 0
 Fails old new = new ≡ record old { held = None }
-
--- a seat's call as a step
-abbrev pub step_of : ℕ → Call → Step
-step_of seat (call.Listen query) = Step.Listen seat query
-step_of seat (call.Unlisten listener) = Step.Unlisten seat listener
-step_of seat (call.Write action) = Step.Write seat action
-step_of seat (call.OnDisconnect ending) = Step.OnDisconnect seat ending
-
--- a message of the server as a step
-abbrev pub step_of_message : ServerMessage → Step
-step_of_message (message.Data tag path tree) = Step.Data tag path tree
-step_of_message (message.DataMerge tag entries) = Step.DataMerge tag entries
-step_of_message (message.Accepted id) = Step.Accepted id
-step_of_message (message.Refused id why) = Step.Refused id why
-step_of_message (message.Revoked tag why) = Step.Revoked tag why
 
 -- ---- what is held
 

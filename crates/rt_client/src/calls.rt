@@ -8,14 +8,13 @@ ghost use Rattle.rt_push.specs.PushIds.{push_fault, push_id, used};
 ghost use Rattle.rt_wire.specs.declared.request.Action.TheVariants.{Put, Merge};
 ghost use Rattle.rt_wire.specs.declared.request.Ending.TheVariants.{Run, Cancel};
 ghost use Rattle.rt_world.specs.declared.step.Step.TheVariants as step;
-ghost use Rattle.rt_client.specs.declared.call.Call.TheVariants as call;
+ghost use Rattle.rt_world.specs.declared.call.Call.TheVariants as call;
 ghost use Rattle.rt_client.specs.declared.done.Done.{Done};
 ghost use Rattle.rt_client.specs.Seats.{caller_of};
 ghost use Rattle.rt_client.specs.Calls.{MakesCall, RefusesCall, RefusesOn, Numbers, Comes};
-ghost use Rattle.rt_client.specs.Calls.{step_of_message};
+ghost use Rattle.rt_world.specs.Calls.{step_of_message};
 ghost use Rattle.rt_client.specs.inside.Receipts.{gives_number};
 
-use crate::call::Call;
 use crate::error::ClientError;
 use crate::seat::Seat;
 use crate::shared::{Shared, with_core, with_seat};
@@ -23,22 +22,8 @@ use rt_push::PushError;
 use rt_query::Query;
 use rt_tree::{Path, Tree};
 use rt_wire::{Action, Ending, ServerMessage};
-use rt_world::{Outcome, Step};
+use rt_world::{Call, Outcome, Step};
 use rt_writes::Entries;
-
-// The step of a message of the server, which is no seat's call.
-fn step_of(message: ServerMessage) -> Step
-    ensures step { result ≡ step_of_message message }
-    ensures no_call { caller_of result ≡ None }
-{
-    match message {
-        ServerMessage::Data { tag, path, tree } => Step::Data { tag, path, tree },
-        ServerMessage::DataMerge { tag, entries } => Step::DataMerge { tag, entries },
-        ServerMessage::Accepted { id } => Step::Accepted { id },
-        ServerMessage::Refused { id, why } => Step::Refused { id, why },
-        ServerMessage::Revoked { tag, why } => Step::Revoked { tag, why },
-    }
-}
 
 // A call whose step makes a listener or a request: the number that it is given.
 #[tactic(auto, using(crate::proofs::Seated::number_there))]
@@ -151,12 +136,13 @@ impl Shared {
 /// refused as it is.
 impl Shared {
     /// Takes a message of the server.
+    #[tactic(auto, using(crate::proofs::Seated::no_seats))]
     pub fn server_message(&mut self, message: ServerMessage) -> Result<Outcome, ClientError>
         ensures made { IfOk result (λ outcome.
             Comes self.old (step_of_message message) outcome self.new) }
         ensures refused { IfErr result (λ e. RefusesOn self.old (step_of_message message) e self.new) }
     {
-        outcome_of(self, step_of(message))
+        outcome_of(self, Step::from(message))
     }
 
     /// A connection is opened.

@@ -6,17 +6,18 @@ ghost use Rattle.rt_client.specs.Seats.{caller_of, closed_by};
 ghost use Rattle.rt_mail.specs.Lanes.{Line};
 ghost use Rattle.rt_client.specs.Lanes.{lane_of, HasRoom, signed_ring};
 ghost use Rattle.rt_client.specs.inside.Receipts.{AreSigned};
-ghost use Rattle.rt_client.specs.Calls.{step_of, HandsFirst, Made, Refuses, Called, RefusesCalled};
+ghost use Rattle.rt_world.specs.Calls.{step_of};
+ghost use Rattle.rt_client.specs.Calls.{HandsFirst, Made, Refuses, Called, RefusesCalled};
 ghost use Rattle.rt_client.specs.Settling.{HandsDue, HandsPart, TakesFirst, HasCover};
 
-use crate::call::Call;
+use crate::call::receipt_of;
 use crate::done::Done;
 use crate::error::ClientError;
 use crate::lanes::Lanes;
 use rt_core::Core;
 use rt_cover::Kept;
 use rt_mail::{Inbox, Receipt};
-use rt_world::{ClientMessage, Notes, Report, Step};
+use rt_world::{Call, ClientMessage, Notes, Report, Step};
 use std::alloc::{AllocError, Global};
 use std::marker::Model;
 
@@ -162,7 +163,7 @@ impl Held {
                 },
             ) => {
                 // The end of a listener is given no number.
-                let receipt = call.receipt(given.unwrap_or(0));
+                let receipt = receipt_of(call, given.unwrap_or(0));
                 tell(&mut self.lanes, seat, inbox, receipt, notes)?;
                 Ok(Done { outcome, given })
             }

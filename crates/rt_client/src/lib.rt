@@ -48,7 +48,6 @@ mod reflecting;
 mod seat;
 mod shared;
 
-pub use call::Call;
 pub use client::{Client, MAX_SEATS};
 pub use crossing::crossing_law;
 pub use delivery::{Gate, Sink, deliver};
@@ -59,5 +58,7 @@ pub use handing::Unclosed;
 pub use keeping::keeping_law;
 pub use laws::{ids_are_keys, keys_rise, push_key_examples};
 pub use reflecting::{mirror_law, reflection_law};
+pub use rt_wire::Action;
+pub use rt_world::Call;
 pub use seat::Seat;
 pub use shared::{Shared, with_core, with_seat};

@@ -4,7 +4,6 @@ ghost use Rattle.rt_client.specs.Seats.{caller_of};
 ghost use Rattle.rt_client.specs.Opened.{new_locked};
 ghost use Rattle.rt_client.specs.Calls.{MakesOn, RefusesOn, MakesCall, RefusesCall};
 
-use crate::call::Call;
 use crate::done::Done;
 use crate::error::ClientError;
 use crate::held::Held;
@@ -13,7 +12,7 @@ use crate::lanes::Lanes;
 use crate::seat::Seat;
 use rt_core::Core;
 use rt_push::PushIds;
-use rt_world::{Limits, Step};
+use rt_world::{Call, Limits, Step};
 use std::alloc::{AllocError, Global};
 use std::marker::Model;
 

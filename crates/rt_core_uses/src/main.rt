@@ -38,13 +38,7 @@ fn set(alloc: Global, path: &str, json: &str) -> Result<Step> {
 
 // The server has sent a text.
 fn receive(alloc: Global, text: &str) -> Result<Step> {
-    Ok(match ServerMessage::read(alloc, text)? {
-        ServerMessage::Data { tag, path, tree } => Step::Data { tag, path, tree },
-        ServerMessage::DataMerge { tag, entries } => Step::DataMerge { tag, entries },
-        ServerMessage::Accepted { id } => Step::Accepted { id },
-        ServerMessage::Refused { id, why } => Step::Refused { id, why },
-        ServerMessage::Revoked { tag, why } => Step::Revoked { tag, why },
-    })
+    Ok(Step::from(ServerMessage::read(alloc, text)?))
 }
 
 // Makes a step, and shows what the seats are told of it.

@@ -3,7 +3,8 @@ use Rattle.std.proofs.Common.{◌≡◌, ℕ, List, Result, Ok, Err, inr, refl, 
 use Rattle.std.specs.Prelude.{OnOk}
 use Rattle.rt_wire.specs.declared.error.WireError.{WireError}
 use Rattle.rt_wire.specs.declared.server.ServerMessage.{ServerMessage}
-use Rattle.rt_client.specs.Calls.{Locked, RefusesOn, step_of_message}
+use Rattle.rt_world.specs.Calls.{step_of_message}
+use Rattle.rt_client.specs.Calls.{Locked, RefusesOn}
 use Rattle.rt_client.specs.declared.error.ClientError.{ClientError}
 use Rattle.rt_drive.specs.Printing.{refusal_text}
 use Rattle.rt_drive.specs.Taking.{Takes}

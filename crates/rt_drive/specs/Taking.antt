@@ -6,7 +6,8 @@ use Rattle.rt_world.specs.declared.report.Outcome.{Outcome}
 use Rattle.rt_lines.specs.Printing.{line, outcome_text}
 use Rattle.rt_lines.specs.Printing as lines
 use Rattle.rt_lines.specs.declared.error.Refusal.TheVariants.{Wire}
-use Rattle.rt_client.specs.Calls.{Comes, Locked, RefusesOn, step_of_message}
+use Rattle.rt_world.specs.Calls.{step_of_message}
+use Rattle.rt_client.specs.Calls.{Comes, Locked, RefusesOn}
 use Rattle.rt_client.specs.declared.error.ClientError.{ClientError}
 use Rattle.rt_drive.specs.Printing.{refusal_text}
 

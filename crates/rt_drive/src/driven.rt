@@ -17,9 +17,9 @@ use crate::socket::{Heard, MAX_PINGS, Told, opened};
 use crate::tell::write_why;
 use rt_client::{Client, Seat};
 use rt_input::{ConsoleError, Drain, LineReader, Log, Silent, Source};
-use rt_lines::{LineError, Order, Refusal, SeatCall, write_bad_line, write_refusal};
+use rt_lines::{LineError, Order, Refusal, write_bad_line, write_refusal};
 use rt_wire::WireError;
-use rt_world::CoreError;
+use rt_world::{Call, CoreError};
 use std::alloc::{AllocError, Global};
 use std::io::{Read, Write};
 use std::random::RandomSource;
@@ -150,7 +150,7 @@ impl<'a, R: Wait, S: Read + Write + Drop, N: RandomSource + Drop> Driven<'a, R, 
     }
 
     // Makes a call of a seat.
-    fn call(&mut self, seat: u64, call: SeatCall) -> Result<(), AllocError> {
+    fn call(&mut self, seat: u64, call: Call) -> Result<(), AllocError> {
         let mut shared = self.client.shared.lock(self.rt);
         make_call(&mut self.printed, &mut shared, &mut self.seats, seat, call)
     }

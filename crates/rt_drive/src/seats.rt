@@ -8,7 +8,7 @@ ghost use Rattle.rt_drive.specs.inside.Ahead.{ahead_of, emptied, waiting_of};
 
 use crate::tell::{write_item, write_why};
 use rt_client::{Call, ClientError, Seat, Shared, with_seat};
-use rt_lines::{Refusal, SeatCall, write_cover, write_outcome, write_refusal};
+use rt_lines::{Refusal, write_cover, write_outcome, write_refusal};
 use rt_wire::{ServerMessage, WireError};
 use rt_world::{ClientMessage, Outcome};
 use std::alloc::{AllocError, Global};
@@ -35,25 +35,14 @@ fn place_of(seats: &Seats, number: u64) -> Option<usize>
     Some((number - 1) as usize)
 }
 
-// A seat's call, as the client takes it.
-fn call_of(call: SeatCall) -> Call {
-    match call {
-        SeatCall::Listen { query } => Call::Listen { query },
-        SeatCall::Unlisten { listener } => Call::Unlisten { listener },
-        SeatCall::Write { action } => Call::Write { action },
-        SeatCall::OnDisconnect { ending } => Call::OnDisconnect { ending },
-    }
-}
-
 // Makes a call of the seat of that number, and prints what became of it.
 pub(crate) fn make_call(
     out: &mut String,
     shared: &mut Shared,
     seats: &mut Seats,
     number: u64,
-    call: SeatCall,
+    call: Call,
 ) -> Result<(), AllocError> {
-    let call = call_of(call);
     let made = match place_of(seats, number) {
         Some(place) => match &mut seats[place] {
             Some(seat) => with_seat(shared, seat, call),

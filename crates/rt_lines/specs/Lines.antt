@@ -7,10 +7,10 @@ use Rattle.serde_json.specs.Read.{read}
 use Rattle.rt_wire.specs.declared.error.WireError.{WireError}
 use Rattle.rt_wire.specs.declared.request.Ending.TheVariants.{Run, Cancel}
 use Rattle.rt_wire.specs.declared.server.ServerMessage.{ServerMessage}
-use Rattle.rt_wire.specs.declared.server.ServerMessage.TheVariants as message
 use Rattle.rt_wire.specs.Server.{server_message}
 use Rattle.rt_world.specs.declared.step.Step.{Step}
 use Rattle.rt_world.specs.declared.step.Step.TheVariants as step
+use Rattle.rt_world.specs.Calls.{step_of_message}
 use Rattle.rt_lines.specs.declared.error.LineError.{LineError}
 use Rattle.rt_lines.specs.declared.error.LineError.TheVariants.{Bad, Refused}
 use Rattle.rt_lines.specs.declared.error.Refusal.TheVariants.{Wire}
@@ -21,14 +21,7 @@ use Rattle.rt_lines.specs.Forms as form
 use Rattle.rt_lines.specs.Reading.{and_then, path_in, tree_in, entries_in, action_in}
 use Rattle.rt_lines.specs.Drafts.{query_in}
 
--- the step of a message of the server
-abbrev pub step_of_message : ServerMessage → Step
-step_of_message (message.Data tag path tree) = step.Data tag path tree
-step_of_message (message.DataMerge tag entries) = step.DataMerge tag entries
-step_of_message (message.Accepted id) = step.Accepted id
-step_of_message (message.Refused id why) = step.Refused id why
-step_of_message (message.Revoked tag why) = step.Revoked tag why
-
+-- the step of a message of the server that was read, or why there is none
 abbrev pub step_or_fault : Result ServerMessage WireError → Result Step LineError
 step_or_fault (Err e) = Err (Refused (Wire e))
 step_or_fault (Ok m) = Ok (step_of_message m)

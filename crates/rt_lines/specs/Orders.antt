@@ -5,12 +5,12 @@ use Rattle.std.specs.Prelude.{List, [], ◌∷◌, Option, Some, None, Result, O
 use Rattle.std.specs.Option.{option_map_or}
 use Rattle.serde_json.specs.Data.{Data as Json}
 use Rattle.rt_wire.specs.declared.request.Ending.TheVariants.{Run, Cancel}
+use Rattle.rt_world.specs.declared.call.Call.{Call}
+use Rattle.rt_world.specs.declared.call.Call.TheVariants as call
 use Rattle.rt_lines.specs.declared.error.LineError.{LineError}
 use Rattle.rt_lines.specs.declared.error.LineError.TheVariants.{Bad, Refused, NoMemory}
 use Rattle.rt_lines.specs.declared.order.Order.{Order}
 use Rattle.rt_lines.specs.declared.order.Order.TheVariants as order
-use Rattle.rt_lines.specs.declared.order.SeatCall.{SeatCall}
-use Rattle.rt_lines.specs.declared.order.SeatCall.TheVariants as call
 use Rattle.rt_lines.specs.Drafts.{query_in}
 use Rattle.rt_lines.specs.Forms.{Form, form_named}
 use Rattle.rt_lines.specs.Forms as form
@@ -28,7 +28,7 @@ times_in (n ∷ []) = option_and_then some_times (whole n)
 times_in _ = None
 
 -- a seat's call
-abbrev pub calls : ℕ → SeatCall → Result Order LineError
+abbrev pub calls : ℕ → Call → Result Order LineError
 calls seat c = Ok (order.Seat seat c)
 
 -- what a line of a form asks of a client; what the server sends, the connection, messages to be sent, views

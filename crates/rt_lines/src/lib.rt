@@ -31,8 +31,8 @@ pub use bad::{LineFault, fault_of, write_fault};
 pub use change::write_batch;
 pub use doing::{do_bytes, do_line};
 pub use error::{LineError, Refusal};
-pub use line::{Line, step_of};
-pub use order::{MOST_READ, Order, SeatCall};
+pub use line::Line;
+pub use order::{MOST_READ, Order};
 pub use report::{
     write_bad_line, write_cancelled, write_id, write_outcome, write_refusal, write_refused,
     write_report, write_settled,

@@ -2,7 +2,7 @@
 ghost use Rattle.std.specs.Prelude.{◌≡◌, ◌⊎◌, IfOk, IfErr, Ok, Err, Some, None};
 ghost use Rattle.serde_json.specs.View.{view as data_of};
 ghost use Rattle.rt_lines.specs.Lines.{data_of_bytes, line_in, line_of_bytes, line_of_data};
-ghost use Rattle.rt_lines.specs.Lines.{makes, server_step, step_of_message};
+ghost use Rattle.rt_lines.specs.Lines.{makes, server_step};
 ghost use Rattle.rt_lines.specs.Forms as form;
 ghost use Rattle.rt_lines.specs.inside.FormView.{as_form, as_written};
 
@@ -30,26 +30,13 @@ pub enum Line {
     Push { now_ms: u64, random: [u8; 12] },
 }
 
-/// The step of a message of the server.
-pub fn step_of(message: ServerMessage) -> Step
-    ensures { result ≡ step_of_message message }
-{
-    match message {
-        ServerMessage::Data { tag, path, tree } => Step::Data { tag, path, tree },
-        ServerMessage::DataMerge { tag, entries } => Step::DataMerge { tag, entries },
-        ServerMessage::Accepted { id } => Step::Accepted { id },
-        ServerMessage::Refused { id, why } => Step::Refused { id, why },
-        ServerMessage::Revoked { tag, why } => Step::Revoked { tag, why },
-    }
-}
-
 // The step of a text of the server.
 fn served(alloc: Global, text: &str) -> Result<Step, LineError>
     ensures ok { IfOk result (λ step. server_step text.now ≡ Ok step) }
     ensures fault { IfErr result (λ e. (server_step text.now ≡ Err e) ⊎ (e ≡ LineError.NoMemory)) }
 {
     match ServerMessage::read(alloc, text) {
-        Ok(message) => Ok(step_of(message)),
+        Ok(message) => Ok(Step::from(message)),
         Err(WireError::NoMemory) => Err(LineError::NoMemory),
         Err(error) => Err(LineError::Refused(Refusal::Wire(error))),
     }

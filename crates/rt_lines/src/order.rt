@@ -11,32 +11,19 @@ use crate::form::{Form, named};
 use crate::line::value_of;
 use crate::reading::{action_of, path_of};
 use crate::word::parts_of;
-use rt_query::Query;
-use rt_wire::{Action, Ending};
+use rt_wire::Ending;
+use rt_world::Call;
 use serde_json::Value;
 use std::alloc::Global;
 
 /// The most messages that one line reads.
 pub const MOST_READ: u64 = 1_000;
 
-/// A seat's own call.
-#[derive(Drop)]
-pub enum SeatCall {
-    /// Registers a listener.
-    Listen { query: Query },
-    /// Ends a listener of the seat.
-    Unlisten { listener: u64 },
-    /// Writes.
-    Write { action: Action },
-    /// Asks for what is to be done when the connection ends.
-    OnDisconnect { ending: Ending },
-}
-
 /// What a line asks of a client that is connected.
 #[derive(Drop)]
 pub enum Order {
     /// A call of the seat of that number.
-    Seat { seat: u64, call: SeatCall },
+    Seat { seat: u64, call: Call },
     /// The end of the seat of that number.
     Close { seat: u64 },
     /// The listens that are kept.
@@ -67,20 +54,20 @@ fn order_of(alloc: Global, form: Form<'_>) -> Result<Order, LineError>
     let (seat, call) = match form {
         Form::Listen { seat, path, calls } => {
             let query = query_of(alloc, path, calls)?;
-            (seat, SeatCall::Listen { query })
+            (seat, Call::Listen { query })
         }
-        Form::Unlisten { seat, listener } => (seat, SeatCall::Unlisten { listener }),
+        Form::Unlisten { seat, listener } => (seat, Call::Unlisten { listener }),
         Form::Write { seat, written } => {
             let action = action_of(alloc, written)?;
-            (seat, SeatCall::Write { action })
+            (seat, Call::Write { action })
         }
         Form::OnDisconnect { seat, written } => {
             let ending = Ending::Run(action_of(alloc, written)?);
-            (seat, SeatCall::OnDisconnect { ending })
+            (seat, Call::OnDisconnect { ending })
         }
         Form::CancelDisconnect { seat, path } => {
             let ending = Ending::Cancel(path_of(alloc, path)?);
-            (seat, SeatCall::OnDisconnect { ending })
+            (seat, Call::OnDisconnect { ending })
         }
         Form::Close { seat } => return Ok(Order::Close { seat }),
         Form::Cover => return Ok(Order::Cover),

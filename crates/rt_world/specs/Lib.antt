@@ -5,11 +5,12 @@
 -- step answers), Runs (what the server hears), Headline (what any steps lead to), Plain (the same of
 -- what is written and brought), Touched (which children of a view a step can change), Met (which
 -- listeners a step has to look at), Covering (the cover of a world), Limited (what keeps within the
--- limits), Sound, Called and Reached (what holds of a world between steps), Codes (numbers and words of
--- refusals).
+-- limits), Sound, Called and Reached (what holds of a world between steps), Calls (seats' calls and
+-- messages of the server as steps), Codes (numbers and words of refusals).
 pub mod After
 pub mod Answers
 pub mod Called
+pub mod Calls
 pub mod Codes
 pub mod Covering
 pub mod Headline

@@ -9,6 +9,7 @@
 //! the others what one step leaves, for whoever keeps a world.
 #![tactic(auto)]
 
+mod call;
 mod error;
 pub mod examples;
 pub mod falses;
@@ -19,6 +20,7 @@ mod report;
 mod request;
 mod step;
 
+pub use call::Call;
 pub use error::CoreError;
 pub use laws::{
     brought_law, cover_law, headline_law, limit_law, message_law, named_law, note_law, pending_law,

@@ -3,7 +3,7 @@ use Rattle.std.specs.Prelude.{◌≡◌, ℕ, [], Some}
 use Rattle.rt_world.specs.World.{World}
 use Rattle.rt_mail.specs.Mailbox.{Known}
 use Rattle.rt_mail.specs.Lanes.{Line}
-use Rattle.rt_client.specs.declared.call.Call.{Call}
+use Rattle.rt_world.specs.declared.call.Call.{Call}
 use Rattle.rt_client.specs.declared.done.Done.{Done}
 use Rattle.rt_client.specs.Seats.{reflection}
 use Rattle.rt_client.specs.Shared.{Held, IsKept}
