@@ -6,6 +6,7 @@ import os
 import re
 import tempfile
 import unittest
+import unittest.mock
 
 ROOT = os.path.realpath(f"{os.path.dirname(os.path.realpath(__file__))}/../..")
 
@@ -122,6 +123,33 @@ class Types(unittest.TestCase):
     def test_long_ones_stay(self):
         long = SHOWN.replace("old: Tree", f"old: {'Tree' * 30}").replace("Whole,", f"/// {'so ' * 40}\n    Whole,")
         self.assertEqual(theorem.compact(long), long.partition("\n")[2])
+
+
+class Laws(unittest.TestCase):
+    def setUp(self):
+        self.sources = theorem.Sources(ROOT, "/nowhere")
+
+    def test_they_are_proved_where_they_stand(self):
+        for crate, name in theorem.BY_LAWS:
+            laws, file = theorem.laws_of(self.sources, crate, name)
+            for it in laws:
+                self.assertEqual(f"{it.signature}{''.join(it.clauses)}", it.text)
+                self.assertTrue(it.clauses)
+                self.assertIn(it.text, theorem.read(file))
+
+    def test_tests_of_equality_tell(self):
+        tests = [(crate, name) for crate, name in theorem.BY_LAWS if name.endswith("_eq")]
+        self.assertEqual(len(tests), 3)
+        for crate, name in tests:
+            said = [it.signature.split(" : ")[1].split() for it in theorem.laws_of(self.sources, crate, name)[0]]
+            self.assertEqual(said, [["Tells", name]])
+
+    def test_what_says_nothing_of_it_is_no_law(self):
+        file = "specs/laws/TreeEq.antt"
+        for laws in (("tree_eq_tells",), ("no_such_law",), ("leaf_eq_tells", "no_such_law"), ("same_leaf",)):
+            with unittest.mock.patch.dict(theorem.BY_LAWS, {("rt_tree", "entry_eq"): (file, laws)}):
+                with self.assertRaises(theorem.Unplaced):
+                    theorem.laws_of(self.sources, "rt_tree", "entry_eq")
 
 
 class Pages(unittest.TestCase):

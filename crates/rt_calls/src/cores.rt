@@ -100,7 +100,7 @@ fn apply(core: &mut Core, step: Step) -> Result<Report, CoreError> {
 }
 
 fn apply_all(alloc: Global, core: &mut Core, steps: Vec<Step>) -> Result<Answers, AllocError> {
-    rt_core::run(alloc, core, steps)
+    Ok(rt_core::run(alloc, core, steps)?)
 }
 
 fn view_of(core: &Core, listener: u64) -> Result<Option<Shown>, CoreError> {

@@ -20,6 +20,7 @@ ghost use Rattle.rt_core.specs.Reads.{Reads};
 mod applying;
 mod laws;
 mod refusal;
+mod room;
 mod runs;
 mod sending;
 mod showing;
@@ -28,13 +29,14 @@ mod steps;
 mod told;
 
 pub use laws::run_law;
+pub use room::{NoRoom, Room};
 use rt_cover::KeptList;
 use rt_query::Shown;
 use rt_world::{
     ClientMessage, CoreError, Limits, Report, Step, answer_law, holding_law, sending_law,
     steady_law,
 };
-pub use runs::{Answers, Room, run, run_in};
+pub use runs::{Answers, run, run_in};
 use state::State;
 use std::alloc::Global;
 use std::marker::Model;

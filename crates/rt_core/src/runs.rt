@@ -1,5 +1,5 @@
 // Many steps, one after another.
-ghost use Rattle.std.specs.Prelude.{◌≡◌, ◌≤◌, [], length, Some, IfOk, IsOk, OnErr};
+ghost use Rattle.std.specs.Prelude.{◌≡◌, ◌≤◌, [], length, Some, IfErr, IfOk, IsOk, OnErr};
 ghost use Rattle.std.specs.List.{All};
 ghost use Rattle.std.specs.Option.{IfSome};
 ghost use Rattle.rt_world.specs.World.{World};
@@ -8,8 +8,9 @@ ghost use Rattle.rt_core.specs.Core.{AppliesAll, world_in};
 ghost use Rattle.rt_core.specs.inside.Viewed.{HoldsWell};
 
 use crate::Core;
+use crate::room::{NoRoom, Room};
 use rt_world::{CoreError, Report, Step, holding_law};
-use std::alloc::{AllocError, Global};
+use std::alloc::Global;
 use std::marker::Model;
 
 /// The answers to steps, in order.
@@ -41,37 +42,6 @@ impl Answers {
     }
 }
 
-/// Room for answers: what a run reserves before its first step.
-#[derive(Drop)]
-pub struct Room {
-    items: Vec<Result<Report, CoreError>>,
-}
-
-impl Model for Room {
-    ghost use Rattle.std.specs.Prelude.{◌≡◌, ℕ, [], vec_capacity};
-
-    ghost Value = { ℕ };
-
-    ghost view = { λ a. vec_capacity a.items };
-
-    ghost invariant = { λ a. a.items.items ≡ [] };
-}
-
-impl Room {
-    /// Room for the answers to so many steps.
-    ///
-    /// # Errors
-    ///
-    /// Want of memory, where there is a step.
-    pub fn new(alloc: Global, steps: usize) -> Result<Room, AllocError>
-        ensures room { IfOk result (λ room. steps ≤ room) }
-        ensures none { steps ≡ 0 → IsOk result }
-    {
-        let items = Vec::with_capacity(alloc, steps)?;
-        Ok(Room { items })
-    }
-}
-
 impl Core {
     // For the prover: what holds of a core between steps.
     fn holds(&self)
@@ -87,9 +57,10 @@ impl Core {
 ///
 /// # Errors
 ///
-/// Only room for the answers can be refused ([`Room::new`]), and then no step is made.
-pub fn run(alloc: Global, core: &mut Core, steps: Vec<Step>) -> Result<Answers, AllocError>
+/// Only room for as many answers as there are steps can be refused, and then no step is made.
+pub fn run(alloc: Global, core: &mut Core, steps: Vec<Step>) -> Result<Answers, NoRoom>
     ensures unchanged { OnErr result (core.new ≡ core.old) }
+    ensures refused { IfErr result (λ answers. answers ≡ length steps.items) }
     ensures nothing { steps.items ≡ [] → IsOk result }
     ensures answered { IfOk result (λ answers.
         AppliesAll (world_in core.old) steps.items answers (world_in core.new)) }
