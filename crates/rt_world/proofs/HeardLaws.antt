@@ -24,7 +24,7 @@ use Rattle.rt_wire.specs.declared.request.Asked.{Asked}
 use Rattle.rt_world.specs.declared.request.Request.{Request}
 use Rattle.rt_world.specs.declared.step.Step.{Step}
 use Rattle.rt_world.specs.World.{World, Listener, registered, listen_of}
-use Rattle.rt_world.specs.After.{asked_by, listeners_after, forms_after, kept_after, started_by}
+use Rattle.rt_world.specs.After.{kind, listeners_after, forms_after, kept_after, started_by}
 use Rattle.rt_world.specs.steps.Revoking.{is_cancelled}
 use Rattle.rt_world.specs.Messages.{unrevoked, stopped_by, listens, unlistens, request_message, request_sent, messages_online, messages_of, kept_before, heard_by, next}
 use Rattle.rt_world.specs.Refusals.{is_done}
@@ -186,7 +186,7 @@ heard-online : (w : World) (s : Step) (test : ℕ → Bool) → IsSound w → ((
 heard-online w s test h dropped is =
     ap (fold heard_after (unrevoked s w.kept)) (map-append Made (listens (started_by w s) ++ unlistens (stopped_by w s)) (request_sent w s))
     ∙ fold-append (unrevoked s w.kept) (map Made (listens (started_by w s) ++ unlistens (stopped_by w s))) (map Made (request_sent w s))
-    ∙ heard-asked _ w.next_request (asked_by s)
+    ∙ heard-asked _ w.next_request (kind s).asked
     ∙ (λ i. fold heard_after (is w.kept i) (map Made (listens (started_by w s) ++ unlistens ((ap (unrevoked s) (stopped_are w s h) ∙ is (filter (λ x. not (stays w s x)) w.kept)) i))))
     ∙ heard-change w s test h dropped
 

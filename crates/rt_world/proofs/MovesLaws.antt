@@ -20,9 +20,9 @@ use Rattle.rt_world.specs.World.{World, Listener, pending}
 use Rattle.rt_world.specs.After.{listeners_after, requests_after, brought_after, kept_after, pushed, renewed, is_connected_after}
 use Rattle.rt_world.specs.Messages.{listens, unlistens, request_message, request_sent, stopped_by, messages_online, messages_of, outgoing_before, kept_before, heard_by, next}
 use Rattle.rt_world.specs.Refusals.{refusal, is_stale, is_done}
-use Rattle.rt_world.specs.Answers.{step, step_by, stale_report, report_of}
+use Rattle.rt_world.specs.Answers.{step, step_by, stale_report}
 use Rattle.rt_world.specs.Headline.{AreKept, begun, ended, sent_due, Sends, Keeps, Moves}
-use Rattle.rt_world.specs.laws.Makes.{primed_in, unseen, Makes, MakesOrLeaves, Tells, StepTells}
+use Rattle.rt_world.specs.laws.Makes.{report_of, primed_in, unseen, Makes, MakesOrLeaves, Tells, StepTells}
 use Rattle.rt_world.specs.Sound.{IsSound}
 use Rattle.rt_world.proofs.Listeners.{find-number, find-no_number, not_bound, number-renewed, primed_view, query-renewed, registered-renewed}
 use Rattle.rt_world.proofs.ShowLaws.{first_seen, left_or_more, step_up_to_date}

@@ -23,7 +23,7 @@ use Rattle.rt_world.specs.declared.step.Step.{Step}
 use Rattle.rt_world.specs.Views.{is_known, base_tree, is_base_whole, is_child_known, seen_over, view_of}
 use Rattle.rt_world.specs.World.{World, Listener, pending, listen_of}
 use Rattle.rt_world.specs.steps.Kind.{Part}
-use Rattle.rt_world.specs.After.{parts_of, requests_after, forms_after, part_pushed, pushed, brought_after, listeners_after}
+use Rattle.rt_world.specs.After.{kind, requests_after, forms_after, part_pushed, pushed, brought_after, listeners_after}
 use Rattle.rt_world.specs.Messages.{next}
 use Rattle.rt_world.specs.Refusals.{refusal, is_stale}
 use Rattle.rt_world.specs.Answers.{step, step_by}
@@ -149,8 +149,8 @@ parts_alike w (p ∷ parts) b q d h =
     one (Some f) m = pushes_alike f p.1 b q d m
 
 pushed_alike : (w : World) (s : Step) (q : Query) (d : Path) → misses (q.path ++ d) (entries_by w s) → AlikeAt d (base (pushed w s) q) (base w.brought q)
-pushed_alike w (Step.Data tag path tree) q d h = parts_alike w (parts_of (Step.Data tag path tree)) w.brought q d h
-pushed_alike w (Step.DataMerge tag entries) q d h = parts_alike w (parts_of (Step.DataMerge tag entries)) w.brought q d (subst (misses (q.path ++ d)) (sym (append-nil entries)) h)
+pushed_alike w (Step.Data tag path tree) q d h = parts_alike w (kind (Step.Data tag path tree)).parts w.brought q d h
+pushed_alike w (Step.DataMerge tag entries) q d h = parts_alike w (kind (Step.DataMerge tag entries)).parts w.brought q d (subst (misses (q.path ++ d)) (sym (append-nil entries)) h)
 pushed_alike w (Step.Listen seat query) q d h = alike_same d _ _ refl
 pushed_alike w (Step.Unlisten seat listener) q d h = alike_same d _ _ refl
 pushed_alike w (Step.Write seat action) q d h = alike_same d _ _ refl

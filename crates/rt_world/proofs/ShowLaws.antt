@@ -17,7 +17,7 @@ use Rattle.rt_world.specs.declared.request.Request.{Request}
 use Rattle.rt_world.specs.declared.step.Step.{Step}
 use Rattle.rt_world.specs.Views.{is_known, seen_over, view_of}
 use Rattle.rt_world.specs.World.{Reason, World, Listener, pending}
-use Rattle.rt_world.specs.After.{settled_by, listeners_after, brought_after, requests_after, renewed, renewed_after, listener_given, counted}
+use Rattle.rt_world.specs.After.{kind, listeners_after, brought_after, requests_after, renewed, renewed_after, listener_given, counted}
 use Rattle.rt_world.specs.steps.Revoking.{is_cancelled}
 use Rattle.rt_world.specs.Messages.{next}
 use Rattle.rt_world.specs.Answers.{step_by, Answer, settled_note, settled_notes, cancelled_notes, batch_notes, batch_note, batch_from, view_before, done_report, stale_report}
@@ -141,7 +141,7 @@ told-settled n d (r ∷ rs) = told-settled_one n d (r.id == d.0) r.seat (filter_
 told-settled_notes : (n : ℕ) (w : World) (s : Step) → told n (settled_notes w s) ≡ []
 unfolding told
 told-settled_notes n w s =
-    elim (settled_by s) as (λ o. told n (option_map_or (λ d. filter_map (settled_note d) w.requests) o []) ≡ []) [
+    elim (kind s).settled as (λ o. told n (option_map_or (λ d. filter_map (settled_note d) w.requests) o []) ≡ []) [
       | Some d ↦ told-settled n d w.requests
       | None ↦ refl
     ]

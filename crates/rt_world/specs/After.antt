@@ -1,6 +1,6 @@
 -- What a step leaves: listeners, requests, kept listens, data, views, the connection, numbers.
-use Rattle.std.specs.Prelude.{ℕ, ◌+◌, Bool, true, false, ◌||◌, if◌then◌else◌, List, map, Option, Some}
-use Rattle.std.specs.Prelude.{None}
+use Rattle.std.specs.Prelude.{ℕ, ◌+◌, Bool, true, false, ◌||◌, if◌then◌else◌, List, [], ◌∷◌, map}
+use Rattle.std.specs.Prelude.{Option, Some, None}
 use Rattle.std.specs.List.{fold}
 use Rattle.std.specs.Option.{option_map, option_map_or}
 use Rattle.rt_query.specs.Queries.{Query}
@@ -8,50 +8,34 @@ use Rattle.rt_writes.specs.Writes.{Write}
 use Rattle.rt_cache.specs.Brought.{Brought, push}
 use Rattle.rt_cache.specs.Recover.{recover}
 use Rattle.rt_cover.specs.Cover.{forms, needed, Tagged, started, kept_for}
-use Rattle.rt_wire.specs.declared.request.Asked.{Asked}
+use Rattle.rt_wire.specs.declared.request.Asked.TheVariants.{Now, AtDisconnect}
 use Rattle.rt_world.specs.declared.request.Request.{Request}
 use Rattle.rt_world.specs.declared.step.Step.{Step}
 use Rattle.rt_world.specs.Views.{is_known, view_of}
-use Rattle.rt_world.specs.World.{Reason, Listener, World, registered, pending, listen_of}
-use Rattle.rt_world.specs.steps.Asking.{write, on_disconnect}
+use Rattle.rt_world.specs.World.{Listener, World, registered, pending, listen_of}
+use Rattle.rt_world.specs.steps.Asking.{ask}
 use Rattle.rt_world.specs.steps.Closing.{close_seat}
 use Rattle.rt_world.specs.steps.Connection.{connected, disconnected}
 use Rattle.rt_world.specs.steps.Kind.{Kind, Part}
 use Rattle.rt_world.specs.steps.Listening.{listen, unlisten}
-use Rattle.rt_world.specs.steps.Pushing.{data_at, data_merge}
+use Rattle.rt_world.specs.steps.Pushing.{push_of}
 use Rattle.rt_world.specs.steps.Revoking.{revoke}
-use Rattle.rt_world.specs.steps.Settling.{accepted, refused}
+use Rattle.rt_world.specs.steps.Settling.{settle}
 
 -- what there is to say of a step
 abbrev pub kind : Step → Kind
 kind (Step.Listen seat query) = listen seat query
 kind (Step.Unlisten seat listener) = unlisten seat listener
-kind (Step.Write seat action) = write seat action
-kind (Step.OnDisconnect seat ending) = on_disconnect seat ending
-kind (Step.Data tag path tree) = data_at tag path tree
-kind (Step.DataMerge tag entries) = data_merge tag entries
-kind (Step.Accepted id) = accepted id
-kind (Step.Refused id why) = refused id why
+kind (Step.Write seat action) = ask seat (Now action)
+kind (Step.OnDisconnect seat ending) = ask seat (AtDisconnect ending)
+kind (Step.Data tag path tree) = push_of tag ((path, tree) ∷ [])
+kind (Step.DataMerge tag entries) = push_of tag entries
+kind (Step.Accepted id) = settle id None
+kind (Step.Refused id why) = settle id (Some why)
 kind (Step.Revoked tag why) = revoke tag why
 kind Step.Connected = connected
 kind Step.Disconnected = disconnected
 kind (Step.CloseSeat seat) = close_seat seat
-
--- the parts of a push, if the step is one
-abbrev pub parts_of : Step → List Part
-parts_of s = (kind s).parts
-
--- what a step of a seat asks for, if it asks for something
-abbrev pub asked_by : Step → Option (ℕ × Asked)
-asked_by s = (kind s).asked
-
--- the request that the step settles, if it settles one, and why it is refused
-abbrev pub settled_by : Step → Option (ℕ × Option Reason)
-settled_by s = (kind s).settled
-
--- the listen that the step revokes, if it revokes one, and why
-abbrev pub revoked_by : Step → Option (ℕ × Reason)
-revoked_by s = (kind s).revoked
 
 -- ---- listeners and requests
 
@@ -83,7 +67,7 @@ part_pushed w b p = option_map_or (λ q. fold (push q) b p.1) (listen_of w p.0) 
 
 -- what is brought once the step's push is taken
 abbrev pub pushed : World → Step → Brought
-pushed w s = fold (part_pushed w) w.brought (parts_of s)
+pushed w s = fold (part_pushed w) w.brought (kind s).parts
 
 -- what is brought after the step: its push, then its change of cover
 abbrev pub brought_after : World → Step → Brought
@@ -114,7 +98,7 @@ listener_given w s = if (kind s).registers then Some w.next_listener else None
 
 -- the number of the request that the step makes, if it makes one
 abbrev pub request_given : World → Step → Option ℕ
-request_given w s = option_map (λ _. w.next_request) (asked_by s)
+request_given w s = option_map (λ _. w.next_request) (kind s).asked
 
 -- the number after the one that was given
 abbrev pub counted : ℕ → Option ℕ → ℕ

@@ -14,7 +14,7 @@ use Rattle.rt_world.specs.declared.report.Report.{Report}
 use Rattle.rt_world.specs.declared.request.Request.{Request}
 use Rattle.rt_world.specs.declared.step.Step.{Step}
 use Rattle.rt_world.specs.World.{Reason, Listener, World}
-use Rattle.rt_world.specs.After.{settled_by, revoked_by, renewed_after, listener_given}
+use Rattle.rt_world.specs.After.{kind, renewed_after, listener_given}
 use Rattle.rt_world.specs.After.{request_given}
 use Rattle.rt_world.specs.steps.Revoking.{is_cancelled}
 use Rattle.rt_world.specs.Messages.{next}
@@ -31,7 +31,7 @@ settled_note d r =
 
 -- the settled request's seat is told
 abbrev pub settled_notes : World → Step → List Note
-settled_notes w s = option_map_or (λ d. filter_map (settled_note d) w.requests) (settled_by s) []
+settled_notes w s = option_map_or (λ d. filter_map (settled_note d) w.requests) (kind s).settled []
 
 -- the listeners that a revocation ends are told, by number
 abbrev pub cancelled_notes : World → Step → List Note
@@ -40,7 +40,7 @@ cancelled_notes w s =
     (λ r. map
     (λ l. record { seat = l.seat; body = Cancelled l.number r.1 })
     (filter (is_cancelled w r.0) w.listeners))
-    (revoked_by s)
+    (kind s).revoked
     []
 
 -- the changes from a listener's view to its next one
@@ -77,18 +77,14 @@ Answer = Result Report CoreError
 abbrev pub stale_report : Report
 stale_report = record { outcome = Stale; given = None; notes = [] }
 
--- the report of a step that is done and leaves these listeners: the number that it gives; who is told
--- of a settlement, of a listener's end, and of changes
-abbrev pub report_of : World → Step → List Listener → Report
-report_of w s listeners = record {
+-- the report of a step that is done: the number that it gives; who is told of a settlement, of a
+-- listener's end, and of changes
+abbrev pub done_report : World → Step → Report
+done_report w s = record {
   outcome = Done;
   given = option_or (listener_given w s) (request_given w s);
-  notes = settled_notes w s ++ cancelled_notes w s ++ changed_notes w.listeners listeners;
+  notes = settled_notes w s ++ cancelled_notes w s ++ changed_notes w.listeners (renewed_after w s);
 }
-
--- the report of a step that is done
-abbrev pub done_report : World → Step → Report
-done_report w s = report_of w s (renewed_after w s)
 
 -- the answer and the world after it, by the refusal and whether it is stale
 abbrev pub step_by : Option CoreError → Bool → World → Step → World × Answer

@@ -8,13 +8,13 @@ use Rattle.rt_wire.specs.declared.client.ClientMessage.{ClientMessage}
 use Rattle.rt_world.specs.declared.request.Request.{Request}
 use Rattle.rt_world.specs.declared.step.Step.{Step}
 use Rattle.rt_world.specs.World.{World}
-use Rattle.rt_world.specs.After.{kind, asked_by, revoked_by, requests_after, kept_after, started_by}
+use Rattle.rt_world.specs.After.{kind, requests_after, kept_after, started_by}
 use Rattle.rt_world.specs.After.{brought_after, renewed_after, is_connected_after, listener_given}
 use Rattle.rt_world.specs.After.{request_given, counted}
 
 -- the listens without the one that the step revokes: who revoked it knows that it stops
 abbrev pub unrevoked : Step → List Tagged → List Tagged
-unrevoked s kept = option_map_or (λ r. filter (λ k. not (k.tag == r.0)) kept) (revoked_by s) kept
+unrevoked s kept = option_map_or (λ r. filter (λ k. not (k.tag == r.0)) kept) (kind s).revoked kept
 
 -- the listens that the step stops, by tag
 abbrev pub stopped_by : World → Step → List Tagged
@@ -35,7 +35,7 @@ request_message r = ClientMessage.Ask r.id r.asked
 -- the message of the step's request, if it makes one
 abbrev pub request_sent : World → Step → List ClientMessage
 request_sent w s =
-    option_map_or (λ asked. ClientMessage.Ask w.next_request asked.1 ∷ []) (asked_by s) []
+    option_map_or (λ asked. ClientMessage.Ask w.next_request asked.1 ∷ []) (kind s).asked []
 
 -- the messages of a step while connected: listens that start, listens that stop, the request
 abbrev pub messages_online : World → Step → List ClientMessage

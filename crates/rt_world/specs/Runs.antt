@@ -7,7 +7,7 @@ use Rattle.rt_cover.specs.Cover.{Tagged}
 use Rattle.rt_wire.specs.declared.client.ClientMessage.{ClientMessage}
 use Rattle.rt_world.specs.declared.step.Step.{Step}
 use Rattle.rt_world.specs.World.{World}
-use Rattle.rt_world.specs.After.{kind, revoked_by}
+use Rattle.rt_world.specs.After.{kind}
 use Rattle.rt_world.specs.Messages.{heard_by, messages_of}
 use Rattle.rt_world.specs.Refusals.{is_done}
 use Rattle.rt_world.specs.Answers.{step}
@@ -21,7 +21,7 @@ pub data Event : Type 0 where
 -- what a step is besides its messages
 abbrev pub events_before : Step → List Event
 events_before s =
-    option_map_or (λ r. Ended r.0 ∷ []) (revoked_by s) (if (kind s).opens then Opened ∷ [] else [])
+    option_map_or (λ r. Ended r.0 ∷ []) (kind s).revoked (if (kind s).opens then Opened ∷ [] else [])
 
 -- the events of a step that is done; of another none
 abbrev pub events_of : World → Step → List Event

@@ -1,17 +1,29 @@
 -- What a step makes and answers, said of the worlds before and after.
-use Rattle.std.specs.Prelude.{◌≡◌, Bool, true, false, if◌then◌else◌, ◌||◌, map, ◌==◌, None, Ok, Err}
+use Rattle.std.specs.Prelude.{◌≡◌, Bool, true, false, if◌then◌else◌, ◌||◌, List, map, ◌++◌, ◌==◌}
+use Rattle.std.specs.Prelude.{None, Ok, Err}
 use Rattle.std.specs.List.{find, All}
-use Rattle.std.specs.Option.{option_map_or}
+use Rattle.std.specs.Option.{option_map_or, option_or}
 use Rattle.rt_cache.specs.Recover.{recover}
 use Rattle.rt_cover.specs.Cover.{forms}
+use Rattle.rt_world.specs.declared.report.Outcome.TheVariants.{Done}
+use Rattle.rt_world.specs.declared.report.Report.{Report}
 use Rattle.rt_world.specs.declared.step.Step.{Step}
 use Rattle.rt_world.specs.World.{World, Listener, registered, pending}
 use Rattle.rt_world.specs.Views.{is_known}
 use Rattle.rt_world.specs.After.{listeners_after, requests_after, pushed, is_connected_after}
 use Rattle.rt_world.specs.After.{listener_given, request_given, counted}
 use Rattle.rt_world.specs.Refusals.{refusal, is_stale, is_done}
-use Rattle.rt_world.specs.Answers.{Answer, step, stale_report, report_of}
+use Rattle.rt_world.specs.Answers.{Answer, step, stale_report, settled_notes}
+use Rattle.rt_world.specs.Answers.{cancelled_notes, changed_notes}
 use Rattle.rt_world.specs.Sound.{IsSound}
+
+-- the report of a step that is done and leaves these listeners
+abbrev pub report_of : World → Step → List Listener → Report
+report_of w s listeners = record {
+  outcome = Done;
+  given = option_or (listener_given w s) (request_given w s);
+  notes = settled_notes w s ++ cancelled_notes w s ++ changed_notes w.listeners listeners;
+}
 
 -- the answer: the first refusal whose condition holds, else that it is stale, else that it is done
 abbrev pub answer_due : World → Step → World → Answer

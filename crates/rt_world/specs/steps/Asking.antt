@@ -8,7 +8,6 @@ use Rattle.rt_wire.specs.declared.request.Action.{Action}
 use Rattle.rt_wire.specs.declared.request.Action.TheVariants.{Put, Merge}
 use Rattle.rt_wire.specs.declared.request.Asked.{Asked}
 use Rattle.rt_wire.specs.declared.request.Asked.TheVariants.{Now, AtDisconnect}
-use Rattle.rt_wire.specs.declared.request.Ending.{Ending}
 use Rattle.rt_wire.specs.declared.request.Ending.TheVariants.{Run, Cancel}
 use Rattle.rt_world.specs.declared.request.Request.{Request}
 use Rattle.rt_world.specs.World.{World, entries_of}
@@ -45,9 +44,3 @@ ask seat asked = record quiet {
       option_map_or (λ a. list_any stands_too_deep (entries_of a)) (action_in asked) false;
   requests = λ w. requests_with w (seat, asked);
 }
-
-abbrev pub write : ℕ → Action → Kind
-write seat action = ask seat (Now action)
-
-abbrev pub on_disconnect : ℕ → Ending → Kind
-on_disconnect seat ending = ask seat (AtDisconnect ending)

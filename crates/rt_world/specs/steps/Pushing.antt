@@ -2,7 +2,6 @@
 use Rattle.std.specs.Prelude.{ℕ, Bool, true, ◌||◌, not, List, [], ◌∷◌}
 use Rattle.std.specs.List.{list_all, list_any}
 use Rattle.std.specs.Option.{option_map_or}
-use Rattle.rt_tree.specs.PathTree.{Path, PathTree}
 use Rattle.rt_tree.specs.Assignments.{Assignment, is_at_or_above, have_overlap}
 use Rattle.rt_cache.specs.Brought.{is_without_window}
 use Rattle.rt_world.specs.World.{World, listen_of}
@@ -30,9 +29,3 @@ push_of tag entries = record quiet {
   is_stale = λ w.
       option_map_or (λ q. list_all (is_without_window w.brought q) entries) (listen_of w tag) true;
 }
-
-abbrev pub data_at : ℕ → Path → PathTree → Kind
-data_at tag path tree = push_of tag ((path, tree) ∷ [])
-
-abbrev pub data_merge : ℕ → List Assignment → Kind
-data_merge tag entries = push_of tag entries

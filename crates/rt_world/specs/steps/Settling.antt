@@ -12,9 +12,3 @@ settle id why = record quiet {
   is_stale = λ w. not (list_any (λ r. r.id == id) w.requests);
   requests = λ w. filter (λ r. not (r.id == id)) w.requests;
 }
-
-abbrev pub accepted : ℕ → Kind
-accepted id = settle id None
-
-abbrev pub refused : ℕ → Reason → Kind
-refused id why = settle id (Some why)
