@@ -1,6 +1,6 @@
 // The map.
 ghost use Rattle.std.specs.Prelude.{◌≡◌, [], ◌-◌, length, IfOk, IfSome, OnOk, OnErr, IsSome, IsTrue};
-ghost use Rattle.std.specs.Prelude.{MatchOption, None, Some, slice_get, ◌↔◌};
+ghost use Rattle.std.specs.Prelude.{is_some, MatchOption, None, Some, slice_get, ◌↔◌};
 ghost use Rattle.std.specs.Option.{option_copied};
 ghost use Rattle.std.specs.List.{IsAmong};
 ghost use Rattle.std.specs.List.Sorted.{IsStrictlySortedBy};
@@ -29,10 +29,15 @@ use std::sync::Arc;
 /// let held = map.copy()?;
 /// map.remove(&key)?;              // `held` still has it
 /// ```
-#[derive(Drop)]
 pub struct OrdMap<K: Ord, V> {
     len: usize,
     root: Root<K, V>,
+}
+
+impl<K: Ord + Drop, V: Drop> Drop for OrdMap<K, V> {
+    fn drop(self) {
+        let OrdMap { len: _, root: _ } = self;
+    }
 }
 
 impl<K: Ord, V> Model for OrdMap<K, V> {
@@ -119,6 +124,13 @@ impl<K: Ord, V> OrdMap<K, V> {
         ensures ordered { IsOrdered K.cmp self.now }
     {
         self.root.get(key)
+    }
+
+    /// Whether there is an entry at the key.
+    pub fn contains_key(&self, key: &K) -> bool
+        ensures { result ≡ is_some (get_by (K.cmp key.now) self.now) }
+    {
+        self.get(key).is_some()
     }
 
     /// The entry of the least key.
