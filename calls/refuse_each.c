@@ -1,7 +1,8 @@
 /* A malloc and a realloc that refuse one call after another, from the one to the other whose numbers the environment gives: at each the
    program is forked, and the copy, to which the call is refused, runs to its end, which is written to a file. Then the program goes on. They
    are loaded before a program's own (LD_PRELOAD), so that ./check --all can refuse each allocation of a long run without running all that
-   comes before it once more. */
+   comes before it once more. Where the environment gives a room, the program keeps in one of that size what it prints at its end: a copy
+   that has put there that memory was lacking then ends at its next call, with the status STOPPED and what it kept so far. */
 #define _GNU_SOURCE
 #include <stddef.h>
 #include <stdlib.h>
@@ -13,7 +14,8 @@
 void *__libc_malloc(size_t size);
 void *__libc_realloc(void *old, size_t size);
 
-enum { SECONDS = 60, MOST = 1 << 22 };
+enum { SECONDS = 60, MOST = 1 << 22, STOPPED = 99 };
+static const char LACKING[] = "NoMemory\n";
 
 /* How a copy ended: behind how many bytes of the program's own output it began, its status, what it printed and what it said. In place of
    the first of these stands that it ended as the one before, or that it is the program itself, whose calls were so many. */
@@ -24,7 +26,8 @@ struct end {
 
 static long at, first, last;
 static int streams[2] = {-1, -1}, ends = -1, is_copy;
-static char *came, *before;
+static char *came, *before, *kept;
+static size_t room;
 static struct end was;
 
 static long number(const char *name) {
@@ -35,6 +38,7 @@ static long number(const char *name) {
 __attribute__((constructor)) static void begin(void) {
     first = number("REFUSED_FIRST");
     last = number("REFUSED_LAST");
+    room = number("REFUSED_ROOM");
     if (!first) return;
     ends = number("REFUSED_ENDS");
     for (int i = 0; i < 2; i++) streams[i] = memfd_create("stream", MFD_CLOEXEC);
@@ -78,8 +82,16 @@ __attribute__((destructor)) static void finish(void) {
     if (first && !is_copy) put(&whole, sizeof whole);
 }
 
+/* Ends a copy that has kept, as the last thing, that memory was lacking. */
+static void stop_where_told(void) {
+    size_t count = kept ? strnlen(kept, room) : 0, end = strlen(LACKING);
+    if (count < end || memcmp(kept + count - end, LACKING, end)) return;
+    _exit(write(1, kept, count) == (ssize_t)count ? STOPPED : 1);
+}
+
 /* Whether the call is refused, which it is in a copy alone. */
 static int is_refused(void) {
+    if (is_copy) stop_where_told();
     if (is_copy || !first || ++at < first || at > last) return 0;
     off_t input = lseek(0, 0, SEEK_CUR), output = lseek(1, 0, SEEK_CUR);
     for (int i = 0; i < 2; i++)
@@ -99,6 +111,11 @@ static int is_refused(void) {
     return 0;
 }
 
-void *malloc(size_t size) { return is_refused() ? NULL : __libc_malloc(size); }
+void *malloc(size_t size) {
+    if (is_refused()) return NULL;
+    void *made = __libc_malloc(size);
+    if (room && size == room && !is_copy) kept = made;
+    return made;
+}
 
 void *realloc(void *old, size_t size) { return is_refused() ? NULL : __libc_realloc(old, size); }

@@ -31,7 +31,9 @@ def million(program):
             raise Wrong("serve doesn't listen")
         client = Client(port)
         client.socket.sendall(frames())
-        must("what a million messages are sent", client.stream.read(), bytes([PONG, 0]) * PINGS + ANSWER + TOO_MANY)
+        sent, pongs = client.stream.read(), bytes([PONG, 0]) * PINGS
+        must("whether the pings are answered", sent[: len(pongs)], pongs)
+        must("what the last messages are sent", sent[len(pongs) :], ANSWER + TOO_MANY)
         client.stream.close()
         client.socket.close()
         must("what they leave", shown(port, "/a"), 1)

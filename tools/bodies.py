@@ -122,19 +122,22 @@ def edits_of(root, crate):
 
 
 def groups_of(edits, folder):
-    """The edits in groups of which no two change one function, and those that have to be tried alone."""
+    """The edits in groups of which no two change one function, and each can be made beside those before it; and those that have to be tried alone."""
     groups, alone = [], []
     for edit in edits:
         functions = edit.functions(folder)
         if len(functions) != 1:
             alone.append(edit)
             continue
-        group = next((it for it in groups if functions[0] not in it), None)
-        if group is None:
-            group = {}
-            groups.append(group)
+        for group, texts in [*groups, ({}, {})]:
+            made = None if functions[0] in group else edit.applied(texts, folder)[0]
+            if made:
+                break
+        if not group:
+            groups.append((group, texts))
         group[functions[0]] = edit
-    return sorted(groups, key=len), alone
+        texts.update(made or {})
+    return sorted((group for group, _ in groups), key=len), alone
 
 
 # ---- what a check says

@@ -17,6 +17,7 @@ AT_ONCE = 200  # how many are refused in one task
 NEVER = 1 << 62  # the number of no allocation
 END = struct.Struct("5q")  # what calls/refuse_each.c writes of the end of a copy
 SAME, WHOLE = -1, -2
+ROOM, STOPPED = 1 << 20, 99  # the room in which rt_calls keeps what it prints, and the status of a copy that was stopped where that says NoMemory
 
 
 def library_of(room, name):
@@ -44,8 +45,11 @@ def told_by_console(row, ended):
 
 
 def told_by_calls(row, ended):
-    """Whether a run of calls says once that memory was lacking, and else just what it says with memory; or nothing at all, before the first call."""
+    """Whether a run of calls says once that memory was lacking, and else just what it says with memory; or nothing at all, before the first call.
+    A copy of a long run is stopped where it says so."""
     status, out, _ = ended
+    if status == STOPPED:
+        return out.endswith(LACKING) and row.out.startswith(out.removesuffix(LACKING))
     if status:
         return status == 1 and not out
     parts = out.split(LACKING)
@@ -104,10 +108,11 @@ def ends_in(data, out):
         yield number, ended
 
 
-def in_copies(row, program, library, first, last):
-    """Runs a row with each of these allocations refused to a copy of it."""
+def in_copies(row, program, library, first, last, room=0):
+    """Runs a row with each of these allocations refused to a copy of it. Where the program keeps what it prints in such a room, copies are
+    stopped where that says that memory was lacking."""
     with tempfile.TemporaryFile() as out, tempfile.TemporaryFile() as ends, row.opened() as script:
-        given = {"LD_PRELOAD": library, "REFUSED_FIRST": str(first), "REFUSED_LAST": str(last), "REFUSED_ENDS": str(ends.fileno())}
+        given = {"LD_PRELOAD": library, "REFUSED_FIRST": str(first), "REFUSED_LAST": str(last), "REFUSED_ENDS": str(ends.fileno()), "REFUSED_ROOM": str(room)}
         streams = {"stdin": script, "stdout": out, "stderr": subprocess.PIPE, "pass_fds": [ends.fileno()]}
         ran = subprocess.run([program, *row.words], timeout=7200, env={**os.environ, **given}, **streams)
         out.seek(0)
@@ -144,10 +149,11 @@ class Sweep:
         self.row, self.program = row, program
         count = in_copies(row, program, library, NEVER, NEVER)[-1][0] if is_whole else count_of(row, program, library)
         numbers = range(1, count + 1) if is_whole else numbers_of(count)
+        room = ROOM if row.name.startswith("calls/") and count > MOST else 0
         pieces = [numbers[first : first + AT_ONCE] for first in range(0, len(numbers), AT_ONCE)]
 
         def ends_of(piece):
-            return in_copies(row, program, library, piece[0], piece[-1])[:-1] if is_whole else in_turn(row, program, library, piece)
+            return in_copies(row, program, library, piece[0], piece[-1], room)[:-1] if is_whole else in_turn(row, program, library, piece)
 
         self.due = len(numbers)
         self.runs = [pool.submit(lambda piece=piece: judged(row, program, is_told, ends_of(piece))) for piece in pieces]

@@ -262,6 +262,14 @@ class Edits(unittest.TestCase):
         groups, alone = bodies.groups_of([first, second, third], folder)
         self.assertEqual((groups, alone), ([{"Lane::has_room": first}, {"Lane::has_room": second}], [third]))
 
+    def test_groups_of_what_can_be_made_together(self):
+        first, folder = self.made("file: src/lane.rt\nold: self.waits < MOST\nnew: true || false\n")
+        second, third = bodies.Edit("rt_mail", first.file), bodies.Edit("rt_mail", first.file)
+        second.pairs = [("src/lane.rt", "self.waits += 1", "self.waits += 2; let _ = lane.put()")]
+        third.pairs = [("src/lane.rt", "lane.put()", "true")]
+        groups, alone = bodies.groups_of([first, second, third], folder)
+        self.assertEqual((groups, alone), ([{"lane::filled": third}, {"Lane::has_room": first, "Lane::put": second}], []))
+
     def test_made_and_put_back(self):
         edit, folder = self.made("file: src/lane.rt\nold: self.waits < MOST\nnew: true\n")
         with bodies.Applied([edit], folder):

@@ -80,6 +80,9 @@ class Gate(unittest.TestCase):
         self.assertTrue(lacking.told_by_calls(row, (0, b"NoMemory\n" + whole, b"")))
         self.assertFalse(lacking.told_by_calls(row, (0, whole, b"")))
         self.assertFalse(lacking.told_by_calls(row, (0, b"NoMemory\n" + whole[:-2], b"")))
+        self.assertTrue(lacking.told_by_calls(row, (lacking.STOPPED, whole[:20] + b"NoMemory\n", b"")))
+        self.assertFalse(lacking.told_by_calls(row, (lacking.STOPPED, b"x" + b"NoMemory\n", b"")))
+        self.assertFalse(lacking.told_by_calls(row, (lacking.STOPPED, whole[:20], b"")))
 
     def test_not_refused(self):
         class Named:

@@ -9,7 +9,14 @@ use Rattle.std.specs.Map.{lookup, remove_entry, keys_of}
 use Rattle.std.specs.List.Sorted.{IsStrictlySortedBy}
 use Rattle.std.proofs.lemmas.Map.{lookup-remove_entry}
 use Rattle.std.proofs.lemmas.Map.Keys.{IsDistinct-from_sorted}
-use Rattle.rt_map.specs.Updates.{UpdatesAt}
+use Rattle.std.specs.List.{IsAmong}
+use Rattle.std.specs.Prelude.{IfSome, suc}
+use Rattle.std.specs.Option.{option_copied}
+use denote.Bor.{Bor}
+use Rattle.std.proofs.Common.{arith}
+use Rattle.std.specs.Map.{values_of}
+use Rattle.rt_map.specs.Maps.{map_of}
+use Rattle.rt_map.specs.Updates.{Updates}
 
 turned_eq : (r : Ordering) → is_eq (ordering_reverse r) ≡ is_eq r
 turned_eq Less = refl
@@ -52,8 +59,22 @@ module _ {K V : Type 0} {cmp : K → K → Ordering} (o : IsTotalOrder cmp) wher
             (λ there here. not_greater (sym (eq-is (cmp q e.0) there) ∙ sym (o.congr k q e.0 (eq-is (cmp k q) here)) ∙ is))
       ] refl
 
-  pub updates-insert : (es : List (K × V)) (k : K) (v : V) → UpdatesAt cmp es (insert_entry cmp es k v) k (Some v)
+  pub updates-insert : (es : List (K × V)) (k : K) (v : V) → Updates cmp (map_of es) (map_of (insert_entry cmp es k v)) k (Some v)
   updates-insert es k v = λ q. lookup_insert q k v es
 
-  pub updates-remove : (es : List (K × V)) (k : K) → IsStrictlySortedBy cmp (keys_of es) → UpdatesAt cmp es (remove_entry (is_at (cmp k)) es) k None
+  pub updates-remove : (es : List (K × V)) (k : K) → IsStrictlySortedBy cmp (keys_of es) → Updates cmp (map_of es) (map_of (remove_entry (is_at (cmp k)) es)) k None
   updates-remove es k s = λ q. lookup-remove_entry (eq_by_cmp_equiv o) (is_at (cmp k)) (λ x y e. ap is_eq (o.congr k x y (eq-is (cmp k x) e))) q es (IsDistinct-from_sorted cmp (keys_of es) s)
+
+module _ {K V : Type 0} where
+  among : (test : K → Bool) (es : List (K × V)) (v : V) → lookup test es ≡ Some v → IsAmong (values_of es) v
+  among test [] v h = cc
+  among test (e ∷ es) v h =
+      elim (test e.0) as (λ b. cond b (Some e.1) (lookup test es) ≡ Some v → IsAmong (e.1 ∷ values_of es) v) [
+        | true ↦ λ here. (0, (omega arith, cc))
+        | false ↦ λ later. let r = among test es v later in let lt = r.1.0 in (suc r.0, (omega arith, r.1.1))
+      ] h
+
+  -- a value that is found is one of the values
+  pub found_is_among : (test : K → Bool) (es : List (K × V)) (r : Option (Bor V)) → option_copied r ≡ lookup test es → IfSome r (λ x. IsAmong (values_of es) x.now)
+  found_is_among test es None h = tt
+  found_is_among test es (Some x) h = among test es x.now (sym h)

@@ -28,9 +28,10 @@ impl<K: Ord, V: PartialEq> PartialEq for OrdMap<K, V> {
     ghost use Rattle.std.specs.Cmp.Lexicographic.{pointwise, lists_per};
     ghost use Rattle.std.specs.Cmp.{and_per, on_per};
 
-    ghost eq = { pointwise (λ p q. K.eq p.0 q.0 && V.eq p.1 q.1) };
+    ghost eq = { λ m n. pointwise (λ p q. K.eq p.0 q.0 && V.eq p.1 q.1) m.entries n.entries };
 
-    ghost laws = { lists_per (and_per (on_per (λ p. p.0) K.PartialEq.laws) (on_per (λ p. p.1) V.laws)) };
+    ghost laws = { on_per (λ m. m.entries)
+        (lists_per (and_per (on_per (λ p. p.0) K.PartialEq.laws) (on_per (λ p. p.1) V.laws))) };
 
     fn eq(&self, other: &OrdMap<K, V>) -> bool {
         same_entries(self.iter(), other.iter())
@@ -41,5 +42,6 @@ impl<K: Ord, V: Eq> Eq for OrdMap<K, V> {
     ghost use Rattle.std.specs.Cmp.Lexicographic.{lists_equiv};
     ghost use Rattle.std.specs.Cmp.{and_equiv, on_equiv};
 
-    ghost laws = { lists_equiv (and_equiv (on_equiv (λ p. p.0) K.Eq.laws) (on_equiv (λ p. p.1) V.Eq.laws)) };
+    ghost laws = { on_equiv (λ m. m.entries)
+        (lists_equiv (and_equiv (on_equiv (λ p. p.0) K.Eq.laws) (on_equiv (λ p. p.1) V.Eq.laws))) };
 }

@@ -94,10 +94,9 @@ impl<'a, K: Ord, V> IntoIterator for &'a OrdMap<K, V> {
     type IntoIter = Iter<'a, K, V>;
 
     ghost use Rattle.std.specs.Prelude.{◌≡◌};
-    ghost use Rattle.std.specs.Map.{keys_of};
-    ghost use Rattle.std.specs.List.Sorted.{IsStrictlySortedBy};
+    ghost use Rattle.rt_map.specs.Maps.{IsOrdered};
 
-    ghost into_iter_gives = { λ m r. (r ≡ m.now) × IsStrictlySortedBy K.cmp (keys_of m.now) };
+    ghost into_iter_gives = { λ m r. (r ≡ m.now.entries) × IsOrdered K.cmp m.now };
 
     fn into_iter(self) -> Iter<'a, K, V> {
         self.iter()

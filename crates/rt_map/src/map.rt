@@ -1,12 +1,15 @@
 // The map.
-ghost use Rattle.std.specs.Prelude.{◌≡◌, [], ◌<◌, ◌-◌, length, IfOk, OnOk, OnErr, IsSome, IsTrue, MatchOption, None, Some, slice_get, ◌∷◌, ◌↔◌};
+ghost use Rattle.std.specs.Prelude.{◌≡◌, [], ◌-◌, length, IfOk, IfSome, OnOk, OnErr, IsSome, IsTrue};
+ghost use Rattle.std.specs.Prelude.{is_some, MatchOption, None, Some, slice_get, ◌↔◌};
 ghost use Rattle.std.specs.Option.{option_copied};
-ghost use Rattle.std.specs.BTreeMap.{insert_entry, is_at};
-ghost use Rattle.std.specs.Map.{lookup, remove_entry, keys_of, values_of};
+ghost use Rattle.std.specs.List.{IsAmong};
 ghost use Rattle.std.specs.List.Sorted.{IsStrictlySortedBy};
+ghost use Rattle.std.specs.BTreeMap.{insert_entry, is_at};
+ghost use Rattle.std.specs.Map.{remove_entry, keys_of};
 ghost use Rattle.std.specs.Borrow.{sem};
+ghost use Rattle.rt_map.specs.Maps.{values, get_by, IsOrdered};
 ghost use Rattle.rt_map.specs.Lent.{LendsInMap};
-ghost use Rattle.rt_map.specs.Updates.{UpdatesAt};
+ghost use Rattle.rt_map.specs.Updates.{Updates};
 
 use crate::iter::{Iter, Keys, Values, keys_of_entries, values_of_entries};
 use crate::root::Root;
@@ -18,7 +21,7 @@ use std::sync::Arc;
 /// An ordered map whose copies share their parts. A copy costs the same at any size, and a change
 /// of a map that somebody holds a copy of copies the parts on the way to the key alone.
 ///
-/// Contracts see a map as the list of its entries, whose keys rise.
+/// Contracts see a map as its entries, whose keys rise, as they see a `BTreeMap`.
 ///
 /// ```text
 /// let mut map = OrdMap::new(alloc)?;
@@ -26,26 +29,32 @@ use std::sync::Arc;
 /// let held = map.copy()?;
 /// map.remove(&key)?;              // `held` still has it
 /// ```
-#[derive(Drop)]
 pub struct OrdMap<K: Ord, V> {
     len: usize,
     root: Root<K, V>,
 }
 
+impl<K: Ord + Drop, V: Drop> Drop for OrdMap<K, V> {
+    fn drop(self) {
+        let OrdMap { len: _, root: _ } = self;
+    }
+}
+
 impl<K: Ord, V> Model for OrdMap<K, V> {
-    ghost use Rattle.std.specs.Prelude.{List, ◌≡◌, length};
-    ghost use Rattle.std.specs.Coded.{coded_list, coded×};
+    ghost use Rattle.std.specs.Prelude.{◌≡◌, length};
     ghost use Rattle.std.specs.Map.{keys_of};
     ghost use Rattle.std.specs.List.Sorted.{IsStrictlySortedBy};
+    ghost use Rattle.rt_map.specs.Maps.{OrdMap as Seen, map_of, map_code};
     ghost use Rattle.rt_map.specs.inside.Roots.{root_entries};
 
-    ghost Value = { List (K × V) };
+    ghost Value = { Seen K V };
 
-    ghost coded = { coded_list (coded× K.code V.code) };
+    ghost coded = { map_code K.code V.code };
 
-    ghost view = { λ a. root_entries a.root };
+    ghost view = { λ a. map_of (root_entries a.root) };
 
-    ghost invariant = { λ a. (a.len ≡ length (root_entries a.root)) × IsStrictlySortedBy K.cmp (keys_of (root_entries a.root)) };
+    ghost invariant = { λ a. (a.len ≡ length (root_entries a.root))
+        × IsStrictlySortedBy K.cmp (keys_of (root_entries a.root)) };
 }
 
 impl<K: Ord + Drop, V: Drop> OrdMap<K, V> {
@@ -55,7 +64,8 @@ impl<K: Ord + Drop, V: Drop> OrdMap<K, V> {
     ///
     /// `AllocError` where memory is missing.
     pub fn new(alloc: Global) -> Result<OrdMap<K, V>, AllocError>
-        ensures { IfOk result (λ map. map ≡ []) }
+        ensures empty { IfOk result (λ map. map.entries ≡ []) }
+        ensures ordered { IfOk result (λ map. IsOrdered K.cmp map) }
     {
         let root = Root::new(alloc)?;
         Ok(OrdMap { len: 0, root })
@@ -68,7 +78,7 @@ impl<K: Ord + Drop, V: Drop> OrdMap<K, V> {
     /// `AllocError` where memory is missing.
     pub fn from_sorted(alloc: Global, entries: Vec<(K, V)>) -> Result<OrdMap<K, V>, AllocError>
         requires { IsStrictlySortedBy K.cmp (keys_of entries.items) }
-        ensures { IfOk result (λ map. map ≡ entries.items) }
+        ensures { IfOk result (λ map. map.entries ≡ entries.items) }
     {
         let len = entries.len();
         let root = Root::of_entries(alloc, entries)?;
@@ -79,15 +89,15 @@ impl<K: Ord + Drop, V: Drop> OrdMap<K, V> {
 impl<K: Ord, V> OrdMap<K, V> {
     /// How many entries.
     pub fn len(&self) -> usize
-        ensures len { result ≡ length self.now }
-        ensures sorted { IsStrictlySortedBy K.cmp (keys_of self.now) }
+        ensures len { result ≡ length self.now.entries }
+        ensures ordered { IsOrdered K.cmp self.now }
     {
         self.len
     }
 
     /// Whether there is no entry.
     pub fn is_empty(&self) -> bool
-        ensures { IsTrue result ↔ (self.now ≡ []) }
+        ensures { IsTrue result ↔ (length self.now.entries ≡ 0) }
     {
         self.len == 0
     }
@@ -109,15 +119,23 @@ impl<K: Ord, V> OrdMap<K, V> {
 
     /// The value at the key.
     pub fn get(&self, key: &K) -> Option<&V>
-        ensures value { option_copied result ≡ lookup (is_at (K.cmp key.now)) self.now }
-        ensures sorted { IsStrictlySortedBy K.cmp (keys_of self.now) }
+        ensures value { option_copied result ≡ get_by (K.cmp key.now) self.now }
+        ensures member { IfSome result (λ x. IsAmong (values self.now) x.now) }
+        ensures ordered { IsOrdered K.cmp self.now }
     {
         self.root.get(key)
     }
 
+    /// Whether there is an entry at the key.
+    pub fn contains_key(&self, key: &K) -> bool
+        ensures { result ≡ is_some (get_by (K.cmp key.now) self.now) }
+    {
+        self.get(key).is_some()
+    }
+
     /// The entry of the least key.
     pub fn first(&self) -> Option<(&K, &V)>
-        ensures { MatchOption result (self.now ≡ []) (λ e. slice_get self.now 0
+        ensures { MatchOption result (self.now.entries ≡ []) (λ e. slice_get self.now.entries 0
             ≡ Some (e.0.now, e.1.now)) }
     {
         self.iter().next()
@@ -125,8 +143,8 @@ impl<K: Ord, V> OrdMap<K, V> {
 
     /// The entry of the greatest key.
     pub fn last(&self) -> Option<(&K, &V)>
-        ensures { MatchOption result (self.now ≡ []) (λ e. slice_get self.now (length self.now - 1)
-            ≡ Some (e.0.now, e.1.now)) }
+        ensures { MatchOption result (self.now.entries ≡ []) (λ e. slice_get self.now.entries
+            (length self.now.entries - 1) ≡ Some (e.0.now, e.1.now)) }
     {
         if self.len == 0 {
             return None;
@@ -137,24 +155,24 @@ impl<K: Ord, V> OrdMap<K, V> {
 
     /// The entries, in the order of their keys.
     pub fn iter(&self) -> Iter<'_, K, V>
-        ensures entries { result ≡ self.now }
-        ensures sorted { IsStrictlySortedBy K.cmp (keys_of self.now) }
+        ensures rest { result ≡ self.now.entries }
+        ensures ordered { IsOrdered K.cmp self.now }
     {
         self.root.iter()
     }
 
     /// The keys, in their order.
     pub fn keys(&self) -> Keys<'_, K, V>
-        ensures keys { result ≡ keys_of self.now }
-        ensures sorted { IsStrictlySortedBy K.cmp (keys_of self.now) }
+        ensures rest { result ≡ keys_of self.now.entries }
+        ensures ordered { IsOrdered K.cmp self.now }
     {
         keys_of_entries(self.iter())
     }
 
     /// The values, in the order of their keys.
     pub fn values(&self) -> Values<'_, K, V>
-        ensures values { result ≡ values_of self.now }
-        ensures sorted { IsStrictlySortedBy K.cmp (keys_of self.now) }
+        ensures rest { result ≡ values self.now }
+        ensures ordered { IsOrdered K.cmp self.now }
     {
         values_of_entries(self.iter())
     }
@@ -167,12 +185,13 @@ impl<K: Ord + Share, V: Share> OrdMap<K, V> {
     ///
     /// `AllocError` where memory is missing; nothing changes then.
     pub fn insert(&mut self, alloc: Global, key: K, value: V) -> Result<Option<V>, AllocError>
-        ensures ok { OnOk result (self.new ≡ insert_entry K.cmp self.old key value) }
-        ensures updates { OnOk result (UpdatesAt K.cmp self.old self.new key (Some value)) }
-        ensures old { IfOk result (λ old. old ≡ lookup (is_at (K.cmp key)) self.old) }
+        ensures entries { OnOk result
+            (self.new.entries ≡ insert_entry K.cmp self.old.entries key value) }
+        ensures updates { OnOk result (Updates K.cmp self.old self.new key (Some value)) }
+        ensures old { IfOk result (λ old. old ≡ get_by (K.cmp key) self.old) }
         ensures err { OnErr result (self.new ≡ self.old) }
-        ensures sorted { IsStrictlySortedBy K.cmp (keys_of self.new) }
-        ensures was_sorted { IsStrictlySortedBy K.cmp (keys_of self.old) }
+        ensures ordered { IsOrdered K.cmp self.new }
+        ensures was_ordered { IsOrdered K.cmp self.old }
     {
         if self.len == usize::MAX {
             return Err(AllocError);
@@ -190,13 +209,14 @@ impl<K: Ord + Share, V: Share> OrdMap<K, V> {
     ///
     /// `AllocError` where a shared part can't be copied; nothing changes then.
     pub fn remove(&mut self, key: &K) -> Result<Option<V>, AllocError>
-        ensures ok { OnOk result (self.new ≡ remove_entry (is_at (K.cmp key.now)) self.old) }
-        ensures updates { OnOk result (UpdatesAt K.cmp self.old self.new key.now None) }
-        ensures old { IfOk result (λ old. old ≡ lookup (is_at (K.cmp key.now)) self.old) }
+        ensures entries { OnOk result
+            (self.new.entries ≡ remove_entry (is_at (K.cmp key.now)) self.old.entries) }
+        ensures updates { OnOk result (Updates K.cmp self.old self.new key.now None) }
+        ensures value { IfOk result (λ old. old ≡ get_by (K.cmp key.now) self.old) }
         ensures err { OnErr result (self.new ≡ self.old) }
-        ensures there { OnErr result (IsSome (lookup (is_at (K.cmp key.now)) self.old)) }
-        ensures sorted { IsStrictlySortedBy K.cmp (keys_of self.new) }
-        ensures was_sorted { IsStrictlySortedBy K.cmp (keys_of self.old) }
+        ensures there { OnErr result (IsSome (get_by (K.cmp key.now) self.old)) }
+        ensures ordered { IsOrdered K.cmp self.new }
+        ensures was_ordered { IsOrdered K.cmp self.old }
     {
         if self.get(key).is_none() {
             return Ok(None);
@@ -214,10 +234,10 @@ impl<K: Ord + Share, V: Share> OrdMap<K, V> {
     ///
     /// `AllocError` where a shared part can't be copied; nothing changes then.
     pub fn get_mut(&mut self, key: &K) -> Result<&mut V, AllocError>
-        requires { IsSome (lookup (is_at (K.cmp key.now)) self.old) }
+        requires { IsSome (get_by (K.cmp key.now) self.old) }
         ensures* writes_back { sem 𝓛 (LendsInMap K.row V.row K.Ord (K.cmp key.now) self.entry result) }
-        ensures value { IfOk result (λ v. lookup (is_at (K.cmp key.now)) self.old ≡ Some v.now) }
-        ensures was_sorted { IsStrictlySortedBy K.cmp (keys_of self.old) }
+        ensures value { IfOk result (λ v. get_by (K.cmp key.now) self.old ≡ Some v.now) }
+        ensures was_ordered { IsOrdered K.cmp self.old }
     {
         match &mut self.root {
             Root::Small(chunk) => {

@@ -34,23 +34,24 @@ use Rattle.rt_map.specs.contracts.root.Root as root
 use Rattle.rt_map.specs.declared.root.Root.{Root}
 use Rattle.rt_map.specs.declared.root.Root.TheVariants.{Small, Large}
 use Rattle.rt_map.specs.inside.Roots.{root_entries}
+use Rattle.rt_map.specs.Maps.{OrdMap, map_of, values}
 use Rattle.std.specs.declared.sync.Arc.{Arc}
 use Rattle.std.specs.declared.alloc.Global.{Global}
 
 abbrev pub the_former : Former {0} → Type 0 → Former {0}
-the_former g K = list (entry g K)
+the_former g K = via (list (entry g K)) (λ X. OrdMap K (g.Of X)) (λ X m. m.entries) (λ X es. map_of es) (λ X m. refl) (λ X es. refl)
 
 abbrev pub the_weighed : {g : Former {0}} → Weighed g → (K : Type 0) → Weighed (the_former g K)
-the_weighed w K = record { weight = λ X μ es. most (w.weight X μ) (values_of es); puts = λ X μ es. entries_puts w K X μ es }
+the_weighed w K = record { weight = λ X μ m. most (w.weight X μ) (values m); puts = λ X μ m. entries_puts w K X μ m.entries }
 
-pub the_empty : (K : Type 0) → K → List (K × ⊥)
-the_empty K k = []
+pub the_empty : (K : Type 0) → K → OrdMap K ⊥
+the_empty K k = map_of []
 
-abbrev pub the_items : (K X : Type 0) → List (K × X) → List X
-the_items K X es = values_of es
+abbrev pub the_items : (K X : Type 0) → OrdMap K X → List X
+the_items K X m = values m
 
-pub the_items_listed : (K X : Type 0) (es : List (K × X)) → listed _ (children (the_former this K) X es) ≡ the_items K X es
-the_items_listed K X es = values_listed K X es
+pub the_items_listed : (K X : Type 0) (m : OrdMap K X) → listed _ (children (the_former this K) X m) ≡ the_items K X m
+the_items_listed K X m = values_listed K X m.entries
 
 abbrev Part : Type 0 → Type 0 → Type 0
 Part K X = Arc (List (K × X)) Global
@@ -87,7 +88,7 @@ root_over h (Small a) = Small (arc_map (map (on_value h)) a)
 root_over h (Large a) = Large (arc_map (map (on_value h)) a)
 
 module _ (K X : Type 0) where
-  keeps : (n : ℕ) (r : Root K X) → held (the_former this K) X (root_entries r) ≡ held (fields K) X (record { len = n; root = r })
+  keeps : (n : ℕ) (r : Root K X) → held (the_former this K) X (map_of (root_entries r)) ≡ held (fields K) X (record { len = n; root = r })
   keeps n (Small a) = refl
   keeps n (Large a) = refl
 
@@ -96,13 +97,17 @@ module _ (K X : Type 0) where
     over_root (Small a) = refl
     over_root (Large a) = refl
 
-    natural : (r : Root K X) → root_entries ((roots K).map X Y h r) ≡ (the_former this K).map X Y h (root_entries r)
+    natural_entries : (r : Root K X) → root_entries ((roots K).map X Y h r) ≡ map (on_value h) (root_entries r)
+    natural_entries (Small a) = refl
+    natural_entries (Large a) = refl
+
+    natural : (r : Root K X) → map_of (root_entries ((roots K).map X Y h r)) ≡ (the_former this K).map X Y h (map_of (root_entries r))
     natural (Small a) = refl
     natural (Large a) = refl
 
 module _ (K : RattleType) (G : ord.Ghosts K.Denot) (G' : eq.Ghosts K.Denot) (G'' : partial.Ghosts K.Denot) (R S : RattleType) (h : R.Denot → S.Denot) where
-  abbrev map_of : List (K.Denot × R.Denot) → List (K.Denot × S.Denot)
-  map_of = map (on_value h)
+  abbrev over_entries : List (K.Denot × R.Denot) → List (K.Denot × S.Denot)
+  over_entries = map (on_value h)
 
   abbrev Sound : {X : Type 0} → ℕ → List (K.Denot × X) → Type 0
   Sound n es = (n ≡ length es) × IsStrictlySortedBy G.cmp (keys_of es)
@@ -110,31 +115,31 @@ module _ (K : RattleType) (G : ord.Ghosts K.Denot) (G' : eq.Ghosts K.Denot) (G''
   Sound-prop : {X : Type 0} (n : ℕ) (es : List (K.Denot × X)) → IsProp (Sound n es)
   Sound-prop n es = ×_prop (ℕ_set n (length es)) (IsStrictlySortedBy-prop G.cmp (keys_of es))
 
-  to : (n : ℕ) (es : List (K.Denot × R.Denot)) → Sound n es → Sound n (map_of es)
+  to : (n : ℕ) (es : List (K.Denot × R.Denot)) → Sound n es → Sound n (over_entries es)
   to n es e = (e.0 ∙ sym (length-map es (on_value h)), subst (IsStrictlySortedBy G.cmp) (sym (keys_on_values h es)) e.1)
 
-  from : (n : ℕ) (es : List (K.Denot × R.Denot)) → Sound n (map_of es) → Sound n es
+  from : (n : ℕ) (es : List (K.Denot × R.Denot)) → Sound n (over_entries es) → Sound n es
   from n es e = (e.0 ∙ length-map es (on_value h), subst (IsStrictlySortedBy G.cmp) (keys_on_values h es) e.1)
 
-  variant : (r : Root K.Denot R.Denot) → (root.enum K S).as_values (root_over h r) ≡ eachs (root.enum K R).parts (root.enum K S).parts ((arc_map map_of, tt), ((arc_map map_of, tt), tt)) ((root.enum K R).as_values r)
+  variant : (r : Root K.Denot R.Denot) → (root.enum K S).as_values (root_over h r) ≡ eachs (root.enum K R).parts (root.enum K S).parts ((arc_map over_entries, tt), ((arc_map over_entries, tt), tt)) ((root.enum K R).as_values r)
   variant (Small a) = refl
   variant (Large a) = refl
 
   root_places : Alike R S h → Alike (root.the_row K R) (root.the_row K S) (root_over h)
-  root_places a = enum_places (root.enum K R) (root.enum K S) ((arc_map map_of, tt), ((arc_map map_of, tt), tt)) (root_over h) variant refl (
-    (laid _ _ _ (arc_places (chunk.the_row K R) (chunk.the_row K S) map_of (chunks.the_places K R S h a)), tt),
-    ((laid _ _ _ (arc_places (table.the_row K R) (table.the_row K S) map_of (tables.the_places K R S h a)), tt), tt),
+  root_places a = enum_places (root.enum K R) (root.enum K S) ((arc_map over_entries, tt), ((arc_map over_entries, tt), tt)) (root_over h) variant refl (
+    (laid _ _ _ (arc_places (chunk.the_row K R) (chunk.the_row K S) over_entries (chunks.the_places K R S h a)), tt),
+    ((laid _ _ _ (arc_places (table.the_row K R) (table.the_row K S) over_entries (tables.the_places K R S h a)), tt), tt),
   )
 
   pub the_places : Alike R S h → Alike (C.the_row K R G G' G'') (C.the_row K S G G' G'') ((the_former this K.Denot).map R.Denot S.Denot h)
   the_places a = view_places (fields K.Denot) (the_former this K.Denot) (λ X. view K.Denot X G G' G'') (λ X Y k u. natural K.Denot X Y k u.root) (λ X u. keeps K.Denot X u.len u.root)
       R.Denot S.Denot h (C.the_row K R G G' G'').coded (C.the_row K S G G' G'').coded
       (invariant K.Denot R.Denot G G' G'') (invariant K.Denot S.Denot G G' G'') (λ u. Sound-prop u.len (root_entries u.root)) (λ u. Sound-prop u.len (root_entries u.root))
-      (λ u e. subst (Sound u.len) (sym (natural K.Denot R.Denot S.Denot h u.root)) (to u.len (root_entries u.root) e))
-      (λ u e. from u.len (root_entries u.root) (subst (Sound u.len) (natural K.Denot R.Denot S.Denot h u.root) e))
+      (λ u e. subst (Sound u.len) (sym (natural_entries K.Denot R.Denot S.Denot h u.root)) (to u.len (root_entries u.root) e))
+      (λ u e. from u.len (root_entries u.root) (subst (Sound u.len) (natural_entries K.Denot R.Denot S.Denot h u.root) e))
       (over (I.the_row K R G G' G'')) (over (I.the_row K S G G' G''))
       (struct_places (I.the_type K R G G' G'') (I.the_type K S G G' G'') ((λ n. n), (root_over h, tt)) _ (λ d i. (d.len, (over_root K.Denot R.Denot S.Denot h d.root i, tt))) refl
       ((refl, (λ n. refl, λ n. refl)), (laid _ _ _ (root_places a), tt)))
 
   pub the_codes_placed : Recodes R S h → Recodes (C.the_row K R G G' G'') (C.the_row K S G G' G'') ((the_former this K.Denot).map R.Denot S.Denot h)
-  the_codes_placed e es = entries_recoded K R S h e es
+  the_codes_placed e m = entries_recoded K R S h e m.entries

@@ -4,7 +4,8 @@ use Rattle.std.specs.BTreeMap.{is_at, insert_entry}
 use Rattle.std.specs.Map.{lookup, keys_of}
 use Rattle.std.specs.List.Sorted.{IsStrictlySortedBy}
 use Rattle.rt_map.specs.inside.Roots.{root_entries}
-use Rattle.rt_map.specs.Updates.{UpdatesAt}
+use Rattle.rt_map.specs.Maps.{map_of, IsOrdered}
+use Rattle.rt_map.specs.Updates.{Updates}
 use Rattle.rt_map.proofs.Order.{sorted_insert}
 use Rattle.rt_map.proofs.Lookups.{updates-insert}
 use Rattle.rt_map.proofs.Parts.{none_of, some_of, length-insert_new, length-insert_old}
@@ -29,20 +30,21 @@ invariant_of-self-else-is_none g c =
 
 pub returns-clause-updates : goal.returns-clause-updates
 returns-clause-updates g c =
-    let ins : root_entries c.insert.new.self ≡ insert_entry g.K.Ord.cmp c.args.self.now c.args.key c.args.value = c.in_ok-old.ensures.ok ∙ ap (λ l. insert_entry g.K.Ord.cmp l c.args.key c.args.value) c.self.view_is in
-    let updates : UpdatesAt g.K.Ord.cmp c.args.self.now (root_entries c.insert.new.self) c.args.key (Some c.args.value)
-    = subst (λ l. UpdatesAt g.K.Ord.cmp c.args.self.now l c.args.key (Some c.args.value)) (sym ins) (updates-insert g.met.K.Ord.total c.args.self.now c.args.key c.args.value) in
+    let ins : map_of (root_entries c.insert.new.self) ≡ map_of (insert_entry g.K.Ord.cmp c.args.self.now.entries c.args.key c.args.value)
+    = ap map_of c.in_ok-old.ensures.ok ∙ ap (λ m. map_of (insert_entry g.K.Ord.cmp m.entries c.args.key c.args.value)) c.self.view_is in
+    let updates : Updates g.K.Ord.cmp c.args.self.now (map_of (root_entries c.insert.new.self)) c.args.key (Some c.args.value)
+    = subst (λ m. Updates g.K.Ord.cmp c.args.self.now m c.args.key (Some c.args.value)) (sym ins) (updates-insert g.met.K.Ord.total c.args.self.now.entries c.args.key c.args.value) in
     elim c.if-is_none.branch [
-      | then-is_none w ↦ subst (λ l. UpdatesAt g.K.Ord.cmp c.args.self.now l c.args.key (Some c.args.value)) (sym w.self-is) updates
-      | else-is_none w ↦ subst (λ l. UpdatesAt g.K.Ord.cmp c.args.self.now l c.args.key (Some c.args.value)) (sym w.self-is) updates
+      | then-is_none w ↦ subst (λ m. Updates g.K.Ord.cmp c.args.self.now m c.args.key (Some c.args.value)) (sym w.self-is) updates
+      | else-is_none w ↦ subst (λ m. Updates g.K.Ord.cmp c.args.self.now m c.args.key (Some c.args.value)) (sym w.self-is) updates
     ]
 
-pub returns-clause-sorted : goal.returns-clause-sorted
-returns-clause-sorted g c =
+pub returns-clause-ordered : goal.returns-clause-ordered
+returns-clause-ordered g c =
     let es = root_entries c.self.inside.root in
-    let sorted : IsStrictlySortedBy g.K.Ord.cmp (keys_of (root_entries c.insert.new.self))
+    let sorted : IsOrdered g.K.Ord.cmp (map_of (root_entries c.insert.new.self))
     = subst (λ l. IsStrictlySortedBy g.K.Ord.cmp (keys_of l)) (sym c.in_ok-old.ensures.ok) (sorted_insert g.met.K.Ord.total c.args.key c.args.value es c.self.invariant.1) in
     elim c.if-is_none.branch [
-      | then-is_none w ↦ subst (λ l. IsStrictlySortedBy g.K.Ord.cmp (keys_of l)) (sym w.self-is) sorted
-      | else-is_none w ↦ subst (λ l. IsStrictlySortedBy g.K.Ord.cmp (keys_of l)) (sym w.self-is) sorted
+      | then-is_none w ↦ subst (IsOrdered g.K.Ord.cmp) (sym w.self-is) sorted
+      | else-is_none w ↦ subst (IsOrdered g.K.Ord.cmp) (sym w.self-is) sorted
     ]
