@@ -1,5 +1,6 @@
 pub mod AddLaws
 pub mod ApartLaws
+pub mod ByPathLaws
 pub mod EndLaws
 pub mod NewLaws
 pub mod PlaceLaws

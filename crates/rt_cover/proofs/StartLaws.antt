@@ -28,12 +28,12 @@ pub list_any_with : {X : Type 0} (p : X → Bool) (xs : List X) (x : X) → Cont
 list_any_with p xs x m e = list_any_at p xs m.0 x m.1 (ap p m.2 ∙ e)
 
 -- tests that agree
-list_any_agreeing : {X : Type 0} (p q : X → Bool) (xs : List X) → ((x : X) → p x ≡ q x) → list_any p xs ≡ list_any q xs
+pub list_any_agreeing : {X : Type 0} (p q : X → Bool) (xs : List X) → ((x : X) → p x ≡ q x) → list_any p xs ≡ list_any q xs
 list_any_agreeing p q [] h = refl
 list_any_agreeing p q (x ∷ xs) h = λ i. h x i || list_any_agreeing p q xs h i
 
 -- either of two tests
-list_any_either : {X : Type 0} (p q : X → Bool) (xs : List X) → list_any (λ x. p x || q x) xs ≡ (list_any p xs || list_any q xs)
+pub list_any_either : {X : Type 0} (p q : X → Bool) (xs : List X) → list_any (λ x. p x || q x) xs ≡ (list_any p xs || list_any q xs)
 list_any_either p q [] = refl
 list_any_either p q (x ∷ xs) = ap (λ b. (p x || q x) || b) (list_any_either p q xs) ∙ mixed (p x) (q x) (list_any p xs) (list_any q xs)
   where
@@ -44,7 +44,7 @@ list_any_either p q (x ∷ xs) = ap (λ b. (p x || q x) || b) (list_any_either p
     mixed false false c d = refl
 
 -- a test of those that pass another
-list_any_filtered : {X : Type 0} (p q : X → Bool) (xs : List X) → list_any (λ x. p x && q x) xs ≡ list_any q (filter p xs)
+pub list_any_filtered : {X : Type 0} (p q : X → Bool) (xs : List X) → list_any (λ x. p x && q x) xs ≡ list_any q (filter p xs)
 list_any_filtered p q [] = refl
 list_any_filtered p q (x ∷ xs) =
     elim (p x) as (λ b. ((b && q x) || list_any (λ y. p y && q y) xs) ≡ list_any q (cond b (x ∷ filter p xs) (filter p xs))) [
@@ -64,7 +64,7 @@ list_any_forms h ls = same_tests (list_any h (forms ls)) (list_any (λ (l : Regi
 -- ---- each form by its first listener
 
 -- whether a listener of a lesser number has its form
-abbrev is_seen : List Registered → Registered → Bool
+abbrev pub is_seen : List Registered → Registered → Bool
 is_seen ls l = list_any (λ (m : Registered). query_eq m.1 l.1 && nat_lt m.0 l.0) ls
 
 pub lt_false : (m n : ℕ) → n ≤ m → nat_lt m n ≡ false
@@ -148,16 +148,16 @@ forms_of_firsts p (l ∷ ls) rise = first_more p l ls rise
 
 -- ---- what starts
 
--- covered, or seen: another comes before it
-replaced : (ls : List Registered) (l : Registered)
-    → list_any (λ (m : Registered). comes_before m l) ls ≡ (is_covered (forms ls) l.1 || is_seen ls l)
-replaced ls l =
+-- supplied by another form, or seen: another comes before it
+pub before_either : (ls : List Registered) (l : Registered)
+    → list_any (λ (m : Registered). comes_before m l) ls
+    ≡ (list_any (λ (m : Registered). not (query_eq m.1 l.1) && does_supply m.1 l.1) ls || is_seen ls l)
+before_either ls l =
     list_any_agreeing (λ (m : Registered). comes_before m l)
     (λ (m : Registered). (not (query_eq m.1 l.1) && does_supply m.1 l.1) || (query_eq m.1 l.1 && nat_lt m.0 l.0)) ls
     (λ m. either (query_eq m.1 l.1) (nat_lt m.0 l.0) (does_supply m.1 l.1))
     ∙ list_any_either (λ (m : Registered). not (query_eq m.1 l.1) && does_supply m.1 l.1)
     (λ (m : Registered). query_eq m.1 l.1 && nat_lt m.0 l.0) ls
-    ∙ ap (λ b. b || is_seen ls l) (sym (list_any_forms (λ g. not (query_eq g l.1) && does_supply g l.1) ls))
   where
     either : (a b c : Bool) → cond a b c ≡ ((not a && c) || (a && b))
     either true b c = refl
@@ -165,6 +165,12 @@ replaced ls l =
     either false true false = refl
     either false false true = refl
     either false false false = refl
+
+-- by the forms: covered, or seen
+replaced : (ls : List Registered) (l : Registered)
+    → list_any (λ (m : Registered). comes_before m l) ls ≡ (is_covered (forms ls) l.1 || is_seen ls l)
+replaced ls l = before_either ls l
+    ∙ ap (λ b. b || is_seen ls l) (sym (list_any_forms (λ g. not (query_eq g l.1) && does_supply g l.1) ls))
 
 -- the new forms are those of the listeners for whom a listen starts
 pub started_by_listeners : (ends : Registered → Bool) (kept : List Tagged) (ls : List Registered) → AllPairs (λ (l m : Registered). l.0 < m.0) ls

@@ -1,3 +1,4 @@
+pub mod ByPath
 pub mod Endings
 pub mod Places
 pub mod Sound

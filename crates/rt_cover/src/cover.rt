@@ -11,12 +11,13 @@ use crate::delta::{Delta, Revoked};
 use crate::ending::{Ending, OfChoice, OfForm, OfNumbers};
 use crate::error::CoverError;
 use crate::forms::forms;
-use crate::kept::{Kept, KeptList};
+use crate::kept::KeptList;
 use crate::leaving::{bereft_listeners, keep_instead, lost_listens, retain_left};
 use crate::listen::{self, Listen};
-use crate::listener::{self, Listener, first_listener, into_form, numbers_of};
+use crate::listener::{self, Listener, into_form, numbers_of};
 use crate::numbers::Numbers;
 use crate::plan::Plan;
+use crate::shown::shown;
 use crate::starting;
 use rt_query::Query;
 use std::alloc::{AllocError, Global};
@@ -133,16 +134,7 @@ impl Cover {
         ensures listens { IfOk result (λ list. list ≡ shown self.now) }
         ensures sound { IsSound self.now }
     {
-        let mut items = Vec::new(self.alloc());
-        for listen in &self.kept {
-            let query = listen.form.copy()?;
-            let listener = first_listener(&self.listeners, &listen.form);
-            items.push(Kept {
-                tag: listen.tag,
-                query,
-                listener,
-            })?;
-        }
+        let items = shown(self.alloc(), &self.listeners, &self.kept)?;
         Ok(KeptList::of(items))
     }
 
@@ -176,7 +168,7 @@ impl Cover {
 
     /// The registered forms, each once, in order of their least-numbered listeners.
     ///
-    /// Copies each form, after a look at the forms before it.
+    /// Copies each form, and sorts the listeners by path to find the first of each.
     ///
     /// # Errors
     ///

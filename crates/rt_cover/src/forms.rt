@@ -1,40 +1,24 @@
 // The registered forms.
-ghost use Rattle.std.specs.Prelude.{◌≡◌, ◌++◌, ◌∷◌, [], if◌then◌else◌, IfOk, OnOk};
-ghost use Rattle.std.specs.List.{list_any};
-ghost use Rattle.rt_query.specs.QueryEq.{query_eq};
+ghost use Rattle.std.specs.Prelude.{◌≡◌, ◌<◌, IfOk};
+ghost use Rattle.std.specs.List.{AllPairs};
 ghost use Rattle.rt_cover.specs.Cover.{forms};
 
+use crate::by_path::{by_path, is_seen};
 use crate::listener::Listener;
 use rt_query::Query;
 use std::alloc::{AllocError, Global};
 
-// Whether it is one of these forms.
-fn is_among(form: &Query, forms: &[Query]) -> bool
-    ensures { result ≡ list_any (query_eq form.now) forms.now }
-{
-    forms.iter().any(|other| form == other)
-}
-
-// Adds a form, where it is new.
-fn push_form(forms: &mut Vec<Query>, form: &Query) -> Result<(), AllocError>
-    ensures { OnOk result (forms.new.items ≡ (
-        if list_any (query_eq form.now) forms.old.items then forms.old.items
-        else forms.old.items ++ form.now ∷ [])) }
-{
-    if is_among(form, forms) {
-        return Ok(());
-    }
-    forms.push(form.copy()?)?;
-    Ok(())
-}
-
 // The registered forms, in order of their least-numbered listeners.
 pub(crate) fn forms(alloc: Global, listeners: &[Listener]) -> Result<Vec<Query>, AllocError>
+    requires { AllPairs (λ l m. l.0 < m.0) listeners.now }
     ensures { IfOk result (λ v. v.items ≡ forms listeners.now) }
 {
+    let by_path = by_path(alloc, listeners)?;
     let mut forms = Vec::new(alloc);
     for listener in listeners {
-        push_form(&mut forms, &listener.form)?;
+        if !is_seen(&by_path, listener) {
+            forms.push(listener.form.copy()?)?;
+        }
     }
     Ok(forms)
 }

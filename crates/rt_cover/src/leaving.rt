@@ -3,12 +3,11 @@ ghost use Rattle.std.specs.Prelude.{◌≡◌, ◌+◌, ◌≤◌, ◌++◌, ◌
 ghost use Rattle.std.specs.List.{filter, list_any};
 ghost use Rattle.rt_query.specs.QueryEq.{query_eq};
 ghost use Rattle.rt_query.specs.Supply.{does_supply};
-ghost use Rattle.rt_cover.specs.inside.Endings.{left, comes_before, is_left_form, bereft};
+ghost use Rattle.rt_cover.specs.inside.Endings.{left, is_left_form, bereft};
 
 use crate::ending::Ending;
 use crate::listen::Listen;
 use crate::listener::Listener;
-use crate::starting::comes_before;
 use crate::supply::supplies;
 use rt_query::Query;
 use std::alloc::{AllocError, Global};
@@ -125,13 +124,6 @@ pub(crate) fn bereft_listeners<E: Ending>(
         }
     }
     Ok(bereft)
-}
-
-// Whether one of the listeners comes before this one.
-pub(crate) fn is_behind(listeners: &[Listener], listener: &Listener) -> bool
-    ensures { result ≡ list_any (λ m. comes_before m listener.now) listeners.now }
-{
-    listeners.iter().any(|other| comes_before(other, listener))
 }
 
 // Takes out the listeners that end.

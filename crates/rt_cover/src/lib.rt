@@ -12,6 +12,7 @@
 #![tactic(auto)]
 
 mod adding;
+mod by_path;
 mod choice;
 mod cover;
 mod delta;
@@ -26,6 +27,7 @@ mod listen;
 mod listener;
 mod numbers;
 mod plan;
+mod shown;
 mod starting;
 mod supply;
 

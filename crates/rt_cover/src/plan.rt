@@ -1,10 +1,11 @@
 // What the end of some listeners starts and stops.
 ghost use Rattle.std.specs.Prelude.{◌≡◌, ◌+◌, ◌<◌, ◌^◌, ◌++◌, ◌∷◌, [], map, length, IfOk, OnOk};
-ghost use Rattle.std.specs.List.{enumerate_from};
+ghost use Rattle.std.specs.List.{enumerate_from, All};
+ghost use Rattle.rt_query.specs.Supply.{form};
 ghost use Rattle.rt_cover.specs.inside.Endings.{first_among, tagged_of, told_of};
 
+use crate::by_path::{by_path, is_behind};
 use crate::kept::Kept;
-use crate::leaving::is_behind;
 use crate::listen::{Listen, tags_of};
 use crate::listener::Listener;
 use rt_query::Query;
@@ -66,7 +67,8 @@ impl Plan {
 
     // Starts a listen for each of these listeners that none of them comes before.
     pub(crate) fn start_first(&mut self, listeners: &[Listener]) -> Result<(), AllocError>
-        requires { self.old.given + length (first_among listeners.now listeners.now) < 2 ^ 64 }
+        requires room { self.old.given + length (first_among listeners.now listeners.now) < 2 ^ 64 }
+        requires forms { All (λ l. form l.1 ≡ l.1) listeners.now }
         ensures kept { OnOk result (self.new.kept.items ≡ self.old.kept.items
             ++ map tagged_of
             (enumerate_from (self.old.given + 1) (first_among listeners.now listeners.now))) }
@@ -78,8 +80,9 @@ impl Plan {
         ensures stopped { OnOk result (self.new.stopped.items ≡ self.old.stopped.items) }
         ensures lost { OnOk result (self.new.lost.items ≡ self.old.lost.items) }
     {
+        let by_path = by_path(*self.kept.allocator(), listeners)?;
         for listener in listeners {
-            if !is_behind(listeners, listener) {
+            if !is_behind(&by_path, listener) {
                 self.start(&listener.form, listener.number)?;
             }
         }

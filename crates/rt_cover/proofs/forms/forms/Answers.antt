@@ -1,14 +1,27 @@
-use Rattle.std.proofs.Common.{cond, [], ◌∷◌, ◌++◌, ◌∙◌}
+use Rattle.std.proofs.Common.{◌≡◌, ◌++◌, ◌∷◌, [], not, nat_lt, ◌&&◌, sym, ap, ◌∙◌}
 use Rattle.std.specs.List.{list_any}
 use Rattle.rt_query.specs.QueryEq.{query_eq}
-use Rattle.rt_cover.proofs.SeenLaws.{unseen_none, forms_more}
+use Rattle.rt_cover.specs.Cover.{Registered}
+use Rattle.rt_cover.proofs.StartLaws.{is_seen}
+use Rattle.rt_cover.proofs.ByPathLaws.{seen_all, forms_by_firsts, formed_takes, formed_leaves}
 use Rattle.rt_cover.proofs.forms.forms.Goals as goal
+use Rattle.rt_cover.proofs.forms.forms.Goals.{then-not-is_seen+in_ok-copy+in_ok-push, else-not-is_seen}
 
 pub loop-listener-init : goal.loop-listener-init
-loop-listener-init c = rw c.new-forms.ensures.items (unseen_none _)
+loop-listener-init c = (λ i. c.new-forms.ensures.items i ++ forms_by_firsts c.args.listeners.now c.requires i)
 
 pub loop-listener-preserved : goal.loop-listener-preserved
 loop-listener-preserved c =
-    let seen = c.loop-listener.forms.items in
-    let pushed = c.in_ok-push_form.ensures ∙ (λ i. cond (list_any (query_eq (c.listener.view_is i).1) seen) seen (seen ++ (c.listener.view_is i).1 ∷ [])) in
-    forms_more seen _ c.args.listeners.now c.loop-listener.listener-index c.listener-item.result c.loop-listener-test.true c.listener-item.is pushed c.loop-listener.invariant
+    let ls = c.args.listeners.now in
+    let l : Registered = c.listener-item.result in
+    let seen : is_seen ls l ≡ c.is_seen.result = seen_all ls c.in_ok-by_path.by_path.items c.in_ok-by_path.ensures l
+    ∙ ap (list_any (λ (m : Registered). query_eq m.1 l.1 && nat_lt m.0 l.0)) (sym c.deref.ensures.value) ∙ sym c.is_seen.ensures in
+    elim c.if-not-is_seen.branch [
+      | then-not-is_seen+in_ok-copy+in_ok-push w ↦
+          formed_takes (λ x. not (is_seen ls x)) c.loop-listener.forms.items _ _ ls c.loop-listener.listener-index l c.loop-listener-test.true c.listener-item.is
+          (ap not (seen ∙ w.if-not-is_seen.true))
+          ((λ i. (w.forms-is i).items) ∙ w.in_ok-push.ensures.items ∙ (λ i. c.loop-listener.forms.items ++ (w.in_ok-copy.ensures ∙ (λ j. (c.listener.view_is j).1)) i ∷ [])) c.loop-listener.invariant
+      | else-not-is_seen w ↦
+          formed_leaves (λ x. not (is_seen ls x)) c.loop-listener.forms.items _ _ ls c.loop-listener.listener-index l c.loop-listener-test.true c.listener-item.is
+          (ap not (seen ∙ w.if-not-is_seen.false)) (λ i. (w.forms-is i).items) c.loop-listener.invariant
+    ]

@@ -1,7 +1,8 @@
-use Rattle.std.proofs.Common.{◌≡◌, ◌++◌, drop}
-use Rattle.rt_cover.specs.Cover.{forms}
-use Rattle.rt_cover.proofs.SeenLaws.{unseen}
+use Rattle.std.proofs.Common.{◌≡◌, ◌++◌, drop, map, not}
+use Rattle.std.specs.List.{filter}
+use Rattle.rt_cover.specs.Cover.{Registered, forms}
+use Rattle.rt_cover.proofs.StartLaws.{is_seen}
 use Rattle.rt_cover.proofs.forms.forms.Given as goal
 
 abbrev pub invariant-loop-listener : goal.invariant-loop-listener
-invariant-loop-listener l = l.forms.items ++ unseen l.forms.items (forms (drop l.listener-index l.listeners)) ≡ forms l.listeners
+invariant-loop-listener l = l.forms.items ++ map (λ (x : Registered). x.1) (filter (λ (x : Registered). not (is_seen l.listeners x)) (drop l.listener-index l.listeners)) ≡ forms l.listeners

@@ -1,5 +1,7 @@
-use Rattle.std.proofs.Common.{◌≡◌, ◌+◌, ◌≤◌, ◌++◌, ◌&&◌, not, map, length, ap, subst, ◌∙◌, arith}
-use Rattle.std.specs.List.{filter, list_any, enumerate_from}
+use Rattle.std.proofs.Common.{◌≡◌, ◌+◌, ◌≤◌, ◌++◌, ◌&&◌, not, map, length, ap, sym, subst, ◌∙◌, arith}
+use Rattle.std.proofs.lemmas.List.Elements.{All-filter}
+use Rattle.rt_query.specs.Supply.{form, does_supply}
+use Rattle.std.specs.List.{All, filter, list_any, enumerate_from}
 use Rattle.rt_query.specs.QueryEq.{query_eq}
 use Rattle.rt_cover.specs.Cover.{Registered, Tagged}
 use Rattle.rt_cover.specs.State.{Cover}
@@ -8,8 +10,8 @@ use Rattle.rt_cover.specs.inside.Sound.{IsSound}
 use Rattle.rt_cover.proofs.EndLaws.{lost_by_ended, is_ended, tags_left}
 use Rattle.rt_cover.proofs.cover.Cover.plan.Goals as goal
 
-pub start_first-requires : goal.start_first-requires
-start_first-requires g c =
+pub start_first-requires-clause-room : goal.start_first-requires-clause-room
+start_first-requires-clause-room g c =
     let old : Cover = c.args.self.now in
     let sound : IsSound old = subst IsSound c.self.view_is c.self.invariant in
     let ends = g.E.Ending.ended c.args.ending.now in
@@ -28,6 +30,17 @@ start_first-requires g c =
     let count : length (first_among c.deref-5.result.now c.deref-5.result.now) ≡ length (beginners ends old.kept old.listeners) = ap length who in
     let last : c.self.inside.last_tag ≡ old.last_tag = (λ i. (c.self.view_is i).last_tag) in
     omega (arith, left, count, next, last)
+
+pub start_first-requires-clause-forms : goal.start_first-requires-clause-forms
+start_first-requires-clause-forms g c =
+    let old : Cover = c.args.self.now in
+    let sound : IsSound old = subst IsSound c.self.view_is c.self.invariant in
+    let ends = g.E.Ending.ended c.args.ending.now in
+    let ls-3 : c.deref-3.result.now ≡ old.listeners = c.deref-3.ensures.value ∙ (λ i. (c.self.view_is i).listeners) in
+    let all : c.deref-5.result.now ≡ bereft ends c.deref-4.result.now old.listeners =
+    c.deref-5.ensures.value ∙ c.in_ok-bereft.ensures ∙ (λ i. bereft ends c.deref-4.result.now (ls-3 i)) in
+    subst (All (λ (l : Registered). form l.1 ≡ l.1)) (sym all)
+    (All-filter (λ (l : Registered). list_any (λ (k : Tagged). does_supply k.form l.1) c.deref-4.result.now && not (ends l)) (λ (l : Registered). form l.1 ≡ l.1) old.listeners sound.forms)
 
 pub returns-clause-lost : goal.returns-clause-lost
 returns-clause-lost g c =
