@@ -48,5 +48,7 @@ pub use rt_query::{Draft, Limit, Query, QueryError, Row, Shown};
 pub use rt_tree::{Key, Leaf, LeafRef, Path, Tree, TreeError};
 pub use rt_view::{Batch, Change, Kinds, apply_changes, of_kinds};
 pub use rt_wire::{ClientMessage, Reason, ServerMessage, WireError, query_text};
-pub use rt_world::{Action, Asked, CoreError, Ending, Limits, Note, Notes, Outcome, Report, Step};
+pub use rt_world::{
+    Action, Asked, Body, CoreError, Ending, Limits, Note, Notes, Outcome, Report, Step,
+};
 pub use rt_writes::Entries;

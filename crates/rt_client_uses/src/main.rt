@@ -3,13 +3,10 @@
 #![tactic(auto)]
 
 use anyhow::{Result, anyhow};
-use rt_client::{Client, Seat, crossing_law};
-use rt_mail::Mirror;
-use rt_peer::Peer;
-use rt_query::Query;
-use rt_tree::{Path, Tree};
-use rt_wire::{ClientMessage, ServerMessage};
-use rt_world::Limits;
+use kaltewi::{
+    Client, ClientMessage, Limits, Mirror, Path, Peer, Query, Seat, ServerMessage, Tree,
+    crossing_law,
+};
 use std::alloc::Global;
 use std::io::Print;
 use std::sync::Wait;

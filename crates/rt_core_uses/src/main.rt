@@ -5,11 +5,7 @@
 mod show;
 
 use anyhow::Result;
-use rt_core::Core;
-use rt_query::Query;
-use rt_tree::{Path, Tree};
-use rt_wire::{ClientMessage, ServerMessage};
-use rt_world::{Action, Limits, Step};
+use kaltewi::{Action, ClientMessage, Core, Limits, Path, Query, ServerMessage, Step, Tree};
 use show::show;
 use std::alloc::Global;
 use std::io::Print;

@@ -1,8 +1,6 @@
 // What the listeners are told, printed.
 use anyhow::Result;
-use rt_tree::{Key, Tree};
-use rt_view::Change;
-use rt_world::{Body, Note, Report};
+use kaltewi::{Body, Change, Key, Note, Report, Tree};
 use std::alloc::Global;
 use std::io::Print;
 
