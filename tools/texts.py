@@ -4,12 +4,13 @@ import re
 import sys
 import tempfile
 
+import names
 import pages
 from bodies import read, run
 from parts import ROOT, Clock, crates, part, some_of
 from proving import copied
 
-PROGRAMS_SHOWN = ("rt_core_uses", "rt_client_uses")  # README.md shows a text of each
+PROGRAMS_SHOWN = ("example_chat", "example_threads")  # README.md shows a text of each
 
 
 def tools_part():
@@ -28,6 +29,12 @@ def theorem_part():
 def pages_part():
     clock, (wrong, count) = Clock(), pages.wrong_of(ROOT)
     part(f"{count} pages keep to their rules", "; ".join(wrong[:5]), clock)
+
+
+def names_part():
+    """The public names that the specification asks for."""
+    wrong = [f"{it} is missing" for it in names.missing(ROOT)]
+    part("the public names that are asked for are there", some_of(wrong, names.asked(read(f"{ROOT}/{names.LIST}"))))
 
 
 def wrong_of_readme(readme, lines, sources):

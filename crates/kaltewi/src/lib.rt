@@ -38,13 +38,13 @@ pub use rt_client::{
     Call, Client, ClientError, Done, Gate, MAX_SEATS, Seat, Shared, Sink, Unclosed, crossing_law,
     deliver, ids_are_keys, keys_rise, with_core, with_seat,
 };
-pub use rt_core::{Answers, Core, Room, run, run_in};
 pub use rt_cover::{Kept, KeptList};
 pub use rt_mail::{Inbox, Item, MailError, Mirror, Receipt};
 pub use rt_order::{Index, Mark};
 pub use rt_peer::{Peer, PeerError, Sent};
 pub use rt_push::{PushError, PushIds};
 pub use rt_query::{Draft, Limit, Query, QueryError, Row, Shown};
+pub use rt_sync::{Answers, Core, Room, run, run_in};
 pub use rt_tree::{Key, Leaf, LeafRef, Path, Tree, TreeError};
 pub use rt_view::{Batch, Change, Kinds, apply_changes, of_kinds};
 pub use rt_wire::{ClientMessage, Reason, ServerMessage, WireError, query_text};

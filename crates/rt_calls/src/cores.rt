@@ -4,9 +4,9 @@ use crate::fault::Fault;
 use crate::line::{Line, Word};
 use crate::tell::{tell_changes, tell_kept, tell_message, tell_reason};
 use crate::view::tell_shown;
-use rt_core::{Answers, Core};
 use rt_cover::KeptList;
 use rt_query::Shown;
+use rt_sync::{Answers, Core};
 use rt_tree::Tree;
 use rt_view::Batch;
 use rt_wire::ClientMessage;
@@ -100,7 +100,7 @@ fn apply(core: &mut Core, step: Step) -> Result<Report, CoreError> {
 }
 
 fn apply_all(alloc: Global, core: &mut Core, steps: Vec<Step>) -> Result<Answers, AllocError> {
-    Ok(rt_core::run(alloc, core, steps)?)
+    Ok(rt_sync::run(alloc, core, steps)?)
 }
 
 fn view_of(core: &Core, listener: u64) -> Result<Option<Shown>, CoreError> {

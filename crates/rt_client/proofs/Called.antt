@@ -9,7 +9,7 @@ use Rattle.rt_world.specs.World.{World}
 use Rattle.rt_world.specs.After.{listener_given, request_given}
 use Rattle.rt_world.specs.Refusals.{refusal, is_stale}
 use Rattle.rt_world.specs.Answers.{step_by, step, done_report}
-use Rattle.rt_core.specs.Core.{Applies, refusal_in}
+use Rattle.rt_sync.specs.Core.{Applies, refusal_in}
 use Rattle.rt_mail.specs.declared.error.MailError.{MailError}
 use Rattle.rt_mail.specs.declared.error.MailError.TheVariants as mail
 use Rattle.rt_mail.specs.declared.item.Item.{Item}

@@ -15,8 +15,8 @@ use Rattle.rt_writes.specs.contracts.spots.Spot as spot
 use Rattle.rt_writes.specs.contracts.pending.Pending as writes
 use Rattle.rt_writes.proofs.spots.Spot.TheLaws.TheKnot.{crosses as spots_cross}
 use Rattle.rt_wire.specs.contracts.client.ClientMessage as message
-use Rattle.rt_core.specs.contracts.state.State as state
-use Rattle.rt_core.specs.contracts.Core as core
+use Rattle.rt_sync.specs.contracts.state.State as state
+use Rattle.rt_sync.specs.contracts.Core as core
 use Rattle.rt_client.specs.contracts.seat.Seat as seat
 use Rattle.rt_client.specs.contracts.lanes.Lanes as lanes
 use Rattle.rt_client.specs.contracts.held.Held as held

@@ -8,8 +8,8 @@ use Rattle.rt_wire.specs.declared.client.ClientMessage.{ClientMessage}
 use Rattle.rt_world.specs.World.{World, cover}
 use Rattle.rt_world.specs.laws.Holds.{TakenIsSound}
 use Rattle.rt_world.specs.Sound.{IsSound}
-use Rattle.rt_core.specs.Core.{Covers, TakesOut}
-use Rattle.rt_core.specs.Core.{without_first as without_sent}
+use Rattle.rt_sync.specs.Core.{Covers, TakesOut}
+use Rattle.rt_sync.specs.Core.{without_first as without_sent}
 use Rattle.rt_mail.specs.declared.error.MailError.{MailError}
 use Rattle.rt_mail.specs.declared.error.MailError.TheVariants as mail
 use Rattle.rt_mail.specs.Mailbox.{Known, known_of}

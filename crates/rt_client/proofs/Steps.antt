@@ -12,7 +12,7 @@ use Rattle.rt_world.specs.Refusals.{refusal, is_stale, conditions}
 use Rattle.rt_world.specs.Answers.{step_by, step, stale_report}
 use Rattle.rt_mail.specs.declared.error.MailError.{MailError}
 use Rattle.rt_mail.specs.Lanes.{Line}
-use Rattle.rt_core.specs.Core.{Applies, refusal_in}
+use Rattle.rt_sync.specs.Core.{Applies, refusal_in}
 use Rattle.rt_client.specs.declared.error.ClientError.TheVariants as error
 use Rattle.rt_client.specs.Codes.{of_core}
 use Rattle.rt_client.specs.Lanes.{StopsAt}

@@ -4,7 +4,7 @@ use Rattle.rt_cover.specs.declared.kept.Kept.{Kept}
 use Rattle.rt_wire.specs.declared.client.ClientMessage.{ClientMessage}
 use Rattle.rt_world.specs.declared.step.Step.{Step}
 use Rattle.rt_world.specs.World.{World, cover}
-use Rattle.rt_core.specs.Core.{first_message, without_first}
+use Rattle.rt_sync.specs.Core.{first_message, without_first}
 use Rattle.rt_mail.specs.Lanes.{Line, Ring, with_items}
 use Rattle.rt_client.specs.declared.done.Done.{Done}
 use Rattle.rt_client.specs.declared.error.ClientError.{ClientError}

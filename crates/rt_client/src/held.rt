@@ -14,9 +14,9 @@ use crate::call::receipt_of;
 use crate::done::Done;
 use crate::error::ClientError;
 use crate::lanes::Lanes;
-use rt_core::Core;
 use rt_cover::Kept;
 use rt_mail::{Inbox, Receipt};
+use rt_sync::Core;
 use rt_world::{Call, ClientMessage, Notes, Report, Step};
 use std::alloc::{AllocError, Global};
 use std::marker::Model;
@@ -34,7 +34,7 @@ impl Drop for Held {
 }
 
 impl Model for Held {
-    ghost use Rattle.rt_core.specs.Core.{world_in};
+    ghost use Rattle.rt_sync.specs.Core.{world_in};
     ghost use Rattle.rt_client.specs.Shared.{Held};
 
     ghost Value = { Held };

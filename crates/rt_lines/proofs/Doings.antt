@@ -6,7 +6,7 @@ use Rattle.rt_world.specs.declared.error.CoreError.TheVariants as core_error
 use Rattle.rt_world.specs.declared.step.Step.{Step}
 use Rattle.rt_world.specs.World.{World}
 use Rattle.rt_world.specs.Answers.{Answer}
-use Rattle.rt_core.specs.Core.{Applies, Views}
+use Rattle.rt_sync.specs.Core.{Applies, Views}
 use Rattle.rt_lines.specs.declared.error.LineError.{LineError}
 use Rattle.rt_lines.specs.declared.error.LineError.TheVariants.{Bad, Refused, NoMemory}
 use Rattle.rt_lines.specs.declared.error.Refusal.TheVariants.{Core}

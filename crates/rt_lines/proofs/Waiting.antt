@@ -4,7 +4,7 @@ use Rattle.std.proofs.Math.Seq.{drop-length}
 use Rattle.std.proofs.lemmas.List.{drop-drop}
 use Rattle.rt_wire.specs.declared.client.ClientMessage.{ClientMessage}
 use Rattle.rt_world.specs.World.{World}
-use Rattle.rt_core.specs.Core.{TakesOut, first_message}
+use Rattle.rt_sync.specs.Core.{TakesOut, first_message}
 use Rattle.rt_lines.specs.Doing.{OutLacks, waiting, without, without_messages}
 
 -- so many messages were taken out, and the others wait

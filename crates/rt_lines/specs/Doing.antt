@@ -11,7 +11,7 @@ use Rattle.rt_world.specs.declared.error.CoreError.TheVariants as core_error
 use Rattle.rt_world.specs.declared.step.Step.{Step}
 use Rattle.rt_world.specs.World.{World, cover}
 use Rattle.rt_world.specs.Answers as answers
-use Rattle.rt_core.specs.Core.{LacksMemory, view_in}
+use Rattle.rt_sync.specs.Core.{LacksMemory, view_in}
 use Rattle.rt_lines.specs.declared.error.LineError.{LineError}
 use Rattle.rt_lines.specs.declared.error.LineError.TheVariants.{Bad, Refused, NoMemory}
 use Rattle.rt_lines.specs.declared.error.Refusal.TheVariants.{Core, Push}

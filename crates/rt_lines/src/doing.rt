@@ -1,6 +1,6 @@
 // What a line does to a core and to the source of push ids, and what it prints.
 ghost use Rattle.std.specs.Prelude.{◌≡◌, ◌≢◌, ◌++◌, [], string_bytes, IfOk, IsOk, OnOk, OnErr};
-ghost use Rattle.rt_core.specs.Core.{world_in};
+ghost use Rattle.rt_sync.specs.Core.{world_in};
 ghost use Rattle.rt_lines.specs.Doing.{AskedLacks, LineLacks, OutLacks, StepLacks, asked_done};
 ghost use Rattle.rt_lines.specs.Doing.{bytes_done, has_form, is_good, kept_text, last_after};
 ghost use Rattle.rt_lines.specs.Doing.{line_done, listener_text, push_text, step_text, stepped};
@@ -14,8 +14,8 @@ use crate::line::Line;
 use crate::report::{write_bad_line, write_id, write_refusal, write_report};
 use crate::show::{write_cover, write_messages, write_view};
 use crate::state::State;
-use rt_core::Core;
 use rt_push::PushIds;
+use rt_sync::Core;
 use rt_wire::ClientMessage;
 use rt_world::{CoreError, Step};
 use std::alloc::{AllocError, Global};

@@ -3,8 +3,8 @@ ghost use Rattle.std.specs.Prelude.{◌≡◌};
 ghost use Rattle.rt_world.specs.World.{limits_from};
 ghost use Rattle.rt_lines.specs.State.{new_state};
 
-use rt_core::Core;
 use rt_push::PushIds;
+use rt_sync::Core;
 use rt_world::Limits;
 use std::alloc::Global;
 use std::marker::Model;
@@ -22,7 +22,7 @@ impl Drop for State {
 }
 
 impl Model for State {
-    ghost use Rattle.rt_core.specs.Core.{world_in};
+    ghost use Rattle.rt_sync.specs.Core.{world_in};
     ghost use Rattle.rt_lines.specs.State.{State as Seen};
 
     ghost Value = { Seen };

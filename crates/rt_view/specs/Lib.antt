@@ -3,6 +3,7 @@
 -- by child. `laws` has what follows from them, with outside examples, and `inside` what only the
 -- bodies need.
 pub mod Changes
+pub mod Errors
 pub mod Kinds
 pub mod Views
 pub mod laws

@@ -4,6 +4,7 @@ ghost use Rattle.std.specs.List.{list_any};
 ghost use Rattle.rt_tree.specs.PathTree.{key_eq, leaf_of, levels};
 ghost use Rattle.rt_query.specs.Select.{select};
 ghost use Rattle.rt_view.specs.Changes.{changes};
+ghost use Rattle.rt_view.specs.Errors.{code_of, name_of};
 ghost use Rattle.rt_view.specs.Views.{first_view, leaves_child, renewed, shown_of, stays_object, told};
 ghost use Rattle.rt_view.specs.Views.{touched};
 ghost use Rattle.rt_view.specs.inside.Kept.{IsKept};
@@ -19,14 +20,39 @@ use rt_tree::{Key, Leaf, MAX_KEYS, Tree};
 use std::alloc::{AllocError, Global};
 use std::marker::Model;
 use std::mem::replace;
+use thiserror::Error;
 
 /// Why a view gives no answer.
-#[derive(Clone, Copy, Debug, PartialEq, Eq)]
+#[derive(Clone, Copy, Debug, PartialEq, Eq, Error)]
 pub enum ViewError {
     /// An earlier call lacked memory.
+    #[error("it has lacked memory before")]
     Failed,
     /// This call lacked memory.
+    #[error("out of memory")]
     NoMemory,
+}
+
+impl ViewError {
+    /// The number of the error, from 1 to 2.
+    pub fn code(&self) -> u8
+        ensures { result ≡ code_of self.now }
+    {
+        match self {
+            ViewError::Failed => 1,
+            ViewError::NoMemory => 2,
+        }
+    }
+
+    /// The name of the error, as it is printed.
+    pub fn name(&self) -> &'static str
+        ensures { result.now ≡ name_of self.now }
+    {
+        match self {
+            ViewError::Failed => "Failed",
+            ViewError::NoMemory => "NoMemory",
+        }
+    }
 }
 
 impl From<AllocError> for ViewError {

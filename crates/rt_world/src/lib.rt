@@ -2,7 +2,7 @@
 //! for every list of steps.
 //!
 //! Definitions, laws and worked rows, and the types of steps, reports and limits; no code that makes a
-//! step, which is `rt_core`'s.
+//! step, which is `rt_sync`'s.
 //!
 //! A law is a function without code; whoever calls it has its clauses as facts. `headline_law`,
 //! `cover_law`, `named_law`, `message_law`, `limit_law` and `plain_law` say what follows of any steps,

@@ -1,5 +1,5 @@
 use Rattle.std.proofs.Common.{List, ℕ}
-use Rattle.rt_core.specs.Core.{world_in}
+use Rattle.rt_sync.specs.Core.{world_in}
 use Rattle.rt_lines.specs.inside.Appending.{Appends}
 use Rattle.rt_lines.proofs.Doings.{refused_by}
 use Rattle.rt_lines.proofs.doing.make_step.Goals as goal

@@ -1,4 +1,4 @@
-use Rattle.rt_core.specs.Core.{world_in}
+use Rattle.rt_sync.specs.Core.{world_in}
 use Rattle.rt_lines.proofs.Doings.{on_err}
 use Rattle.rt_lines.proofs.Waiting.{lacks_all}
 use Rattle.rt_lines.proofs.doing.show_messages.Goals as goal

@@ -1,6 +1,6 @@
 use Rattle.std.proofs.Common.{◌≡◌, OnOk, List, ℕ, ap, subst, ◌∙◌}
 use Rattle.std.specs.Option.{option_copied}
-use Rattle.rt_core.specs.Core.{world_in}
+use Rattle.rt_sync.specs.Core.{world_in}
 use Rattle.rt_lines.specs.Printing.{view_text}
 use Rattle.rt_lines.specs.inside.Appending.{Appends}
 use Rattle.rt_lines.proofs.Doings.{views_ok}

@@ -1,6 +1,6 @@
 use Rattle.std.proofs.Common.{sym, subst, List}
 use Rattle.rt_wire.specs.declared.client.ClientMessage.{ClientMessage}
-use Rattle.rt_core.specs.Core.{world_in}
+use Rattle.rt_sync.specs.Core.{world_in}
 use Rattle.rt_lines.proofs.Doings.{on_err}
 use Rattle.rt_lines.proofs.Waiting.{HasTaken, lacks_taken, one_more_taken}
 use Rattle.rt_lines.proofs.doing.take_messages.Goals as goal

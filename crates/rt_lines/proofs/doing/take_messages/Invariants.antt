@@ -1,5 +1,5 @@
 use Rattle.std.proofs.Common.{length}
-use Rattle.rt_core.specs.Core.{world_in}
+use Rattle.rt_sync.specs.Core.{world_in}
 use Rattle.rt_lines.specs.Doing.{waiting}
 use Rattle.rt_lines.proofs.Waiting.{HasTaken}
 use Rattle.rt_lines.proofs.doing.take_messages.Given as goal

@@ -1,5 +1,5 @@
 use Rattle.std.proofs.Common.{◌≡◌, Some, Ok, Err, sym, subst, rules, unwrap_or}
-use Rattle.rt_core.specs.Core.{Applies, world_in}
+use Rattle.rt_sync.specs.Core.{Applies, world_in}
 use Rattle.rt_client.specs.declared.error.ClientError.TheVariants.{NoMemory}
 use Rattle.rt_client.specs.Codes.{of_core}
 use Rattle.rt_client.specs.Lanes.{lane_of, HasRoom}

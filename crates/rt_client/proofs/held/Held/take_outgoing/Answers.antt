@@ -1,5 +1,5 @@
 use Rattle.std.proofs.Common.{◌≡◌, Some, sym, subst, rules}
-use Rattle.rt_core.specs.Core.{world_in}
+use Rattle.rt_sync.specs.Core.{world_in}
 use Rattle.rt_client.specs.Settling.{TakesFirst}
 use Rattle.rt_client.proofs.Called.{held_of}
 use Rattle.rt_client.proofs.Settled.{taken_first}

@@ -1,5 +1,0 @@
-use Rattle.rt_core.proofs.Viewed.{unchanged}
-use Rattle.rt_core.proofs.state.State.after.Goals as goal
-
-pub returns-in-Some-clause-views : goal.returns-in-Some-clause-views
-returns-in-Some-clause-views c = unchanged c.args.self c.args.step c.requires.good.sound c.requires.viewed

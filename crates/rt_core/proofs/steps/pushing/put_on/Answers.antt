@@ -1,6 +1,0 @@
-use Rattle.std.proofs.Common.{sym, ap, ◌∙◌}
-use Rattle.std.specs.Option.{option_copied}
-use Rattle.rt_core.proofs.steps.pushing.put_on.Goals as goal
-
-pub put_all-requires : goal.put_all-requires
-put_all-requires c = c.requires c.in-Some.query.now (sym c.form_at.ensures ∙ ap option_copied c.in-Some.is)

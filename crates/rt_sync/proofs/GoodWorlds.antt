@@ -1,0 +1,52 @@
+-- What holds of a core's world, before any step and after each.
+use Rattle.std.proofs.Common.{◌≡◌, Bool, true, false, drop, sym, subst, refl, Option, Some, None}
+use Rattle.rt_world.specs.declared.error.CoreError.{CoreError}
+use Rattle.rt_world.specs.declared.step.Step.{Step}
+use Rattle.rt_world.specs.World.{World}
+use Rattle.rt_world.specs.Refusals.{refusal, is_stale}
+use Rattle.rt_world.specs.Answers.{Answer, step}
+use Rattle.rt_world.specs.laws.Holds.{StaysSteady, StaysWithin, TakenIsSteady}
+use Rattle.rt_world.specs.laws.Refused.{RefusedIsNothing, StaleIsNothing, OtherIsMade}
+use Rattle.rt_sync.specs.Core.{without_first}
+use Rattle.rt_sync.specs.inside.Due.{IsGood}
+
+-- what a step answers, and what stays so
+pub record Laws : Type 0 where
+  pub refused : RefusedIsNothing
+  pub stale : StaleIsNothing
+  pub made : OtherIsMade
+  pub steady : StaysSteady
+  pub within : StaysWithin
+
+pub good_step : Laws → (w : World) (s : Step) → IsGood w → IsGood (step w s).0
+good_step laws w s g = at (refusal w s) (is_stale w s) refl refl
+  where
+    at : (o : Option CoreError) (b : Bool) → refusal w s ≡ o → is_stale w s ≡ b → IsGood (step w s).0
+    at (Some e) b r f = subst (λ (x : World × Answer). IsGood x.0) (sym (laws.refused w s e r)) g
+    at None true r f = subst (λ (x : World × Answer). IsGood x.0) (sym (laws.stale w s r f)) g
+    at None false r f =
+        let steady = laws.steady w s (record { sound = g.sound; called = g.called; reached = g.reached }) r in
+        subst (λ (x : World × Answer). IsGood x.0) (sym (laws.made w s r f)) (record {
+          sound = steady.sound;
+          called = steady.called;
+          reached = steady.reached;
+          within = laws.within w s g.sound g.within r;
+        })
+
+-- without the first message it is as good
+pub good_sent : TakenIsSteady → (w : World) → IsGood w → IsGood (without_first w)
+good_sent law w g =
+    let steady = law w (drop 1 w.outgoing) (record { sound = g.sound; called = g.called; reached = g.reached }) in
+    let within = g.within in
+    record {
+      sound = steady.sound;
+      called = steady.called;
+      reached = steady.reached;
+      within = record {
+        listeners = within.listeners;
+        requests = within.requests;
+        next_listener = within.next_listener;
+        next_request = within.next_request;
+        next_tag = within.next_tag;
+      };
+    }

@@ -1,0 +1,247 @@
+-- What the code of a step makes that begins and ends no listener is the next world, and its parts agree.
+use Rattle.std.proofs.Common.{◌≡◌, ℕ, ◌+◌, Bool, true, false, cond, not, ◌||◌, List, [], ◌∷◌, ◌++◌, map, refl, sym, ap, subst, ◌∙◌, Option, Some, None}
+use mathlib.Core.Bool.{true≢false}
+use Rattle.std.specs.Prelude.{◌==◌, is_some}
+use Rattle.rt_requests.specs.declared.settled.Settled.{Settled as Left}
+use Rattle.std.specs.List.{filter, find, fold, list_all, list_any}
+use Rattle.std.specs.Option.{option_and_then, option_map, option_map_or, option_to_list}
+use Rattle.rt_query.specs.Queries.{Query}
+use Rattle.rt_query.specs.Supply.{form}
+use Rattle.rt_tree.specs.Assignments.{Assignment}
+use Rattle.rt_writes.specs.Writes.{Write}
+use Rattle.rt_cache.specs.Brought.{Brought, is_without_window, push}
+use Rattle.rt_cover.specs.Cover.{Registered, Tagged}
+use Rattle.rt_cover.specs.State.{Cover, listen_at, shown, shown_with}
+use Rattle.rt_wire.specs.declared.client.ClientMessage.{ClientMessage}
+use Rattle.rt_wire.specs.declared.request.Action.{Action}
+use Rattle.rt_wire.specs.declared.request.Asked.TheVariants.{Now, AtDisconnect}
+use Rattle.rt_wire.specs.declared.request.Ending.{Ending}
+use Rattle.rt_world.specs.declared.limits.Limits.{Limits}
+use Rattle.rt_world.specs.declared.request.Request.{Request}
+use Rattle.rt_world.specs.declared.step.Step.{Step}
+use Rattle.rt_world.specs.declared.report.Body.TheVariants.{Settled}
+use Rattle.rt_world.specs.declared.report.Note.{Note}
+use Rattle.rt_world.specs.World.{Reason, World, Listener, registered, pending, entries_of, listen_of}
+use Rattle.rt_world.specs.After.{renewed}
+use Rattle.rt_world.specs.Messages.{listens, request_message}
+use Rattle.rt_requests.specs.Settling.{settled}
+use Rattle.rt_world.specs.Refusals.{is_stale}
+use Rattle.rt_world.specs.Answers.{settled_note, done_report}
+use Rattle.rt_world.specs.Touched.{entries_settled}
+use Rattle.rt_world.specs.Met.{do_meet, renewed_met, all_told}
+use Rattle.rt_world.specs.laws.Made.{IsMade, Leaves, AcceptedIsMade, RefusedIsMade, MergeIsMade, MergeIsStale, WriteIsMade, EndingIsMade, ConnectedIsMade, DisconnectedIsMade, settled_world, settled_told, writes_with}
+use Rattle.rt_world.specs.laws.Steps.{RenewedIsOne, WriteIsPending, SettledIsNotPending}
+use Rattle.rt_sync.specs.declared.told.Told.{Told}
+use Rattle.rt_sync.specs.inside.Due.{IsDue, IsNext, settling}
+use Rattle.rt_sync.specs.inside.Parts.{asking, listens_shown}
+use Rattle.rt_sync.specs.inside.StateView.{IsTied, world_of}
+
+-- ---- the parts agree
+
+-- a listener as it is registered
+abbrev entry_of : Listener → Registered
+entry_of l = (l.number, form l.query)
+
+registered_one : RenewedIsOne → (entries : List Assignment) (b : Brought) (ws : List Write) (l : Listener) → entry_of (renewed_met entries b ws l) ≡ entry_of l
+registered_one law entries b ws l = at (do_meet entries l.query.path)
+  where
+    inner : entry_of (renewed b ws l) ≡ entry_of l
+    inner = let one = law b ws l in λ i. (one.0 i, form (one.2 i))
+
+    at : (c : Bool) → entry_of (cond c (renewed b ws l) l) ≡ entry_of l
+    at true = inner
+    at false = refl
+
+-- listeners stay registered where they are renewed
+pub registered_met : RenewedIsOne → (entries : List Assignment) (b : Brought) (ws : List Write) (ls : List Listener) → registered (map (renewed_met entries b ws) ls) ≡ registered ls
+registered_met law entries b ws [] = refl
+registered_met law entries b ws (l ∷ ls) = λ i. registered_one law entries b ws l i ∷ registered_met law entries b ws ls i
+
+-- the kept listens as they are shown begin as they are
+pub listens_same : (ls : List Registered) (kept : List Tagged) → listens_shown (map (shown_with ls) kept) ≡ listens kept
+listens_same ls [] = refl
+listens_same ls (k ∷ kept) = ap (λ z. ClientMessage.Listen k.tag k.form ∷ z) (listens_same ls kept)
+
+-- ---- settlements
+
+-- the one that is found has the number
+found_number : (id : ℕ) (rs : List Request) (r : Request) → find (λ (x : Request). x.id == id) rs ≡ Some r → (r.id == id) ≡ true
+found_number id [] r e = cc
+found_number id (x ∷ rs) r e = elim (x.id == id) as (λ b. (x.id == id) ≡ b → cond b (Some x) (find (λ (y : Request). y.id == id) rs) ≡ Some r → (r.id == id) ≡ true) [
+  | true ↦ λ t f. let same : x ≡ r = cc in ap (λ (y : Request). y.id == id) (sym same) ∙ t
+  | false ↦ λ t f. found_number id rs r f
+] refl e
+
+-- what is left of a request that is unsettled
+pub seat_left : (o : Option Request) (entries : List Assignment) → option_and_then (λ (x : Left). x.seat) (option_map (λ (r : Request). record { seat = r.seat; entries = entries }) o) ≡ option_and_then (λ (r : Request). r.seat) o
+seat_left None entries = refl
+seat_left (Some r) entries = refl
+
+entries_left : (o : Option Request) (entries : List Assignment) → is_some o ≡ true → option_map_or (λ (x : Left). x.entries) (option_map (λ (r : Request). record { seat = r.seat; entries = entries }) o) [] ≡ entries
+entries_left None entries e = cc
+entries_left (Some r) entries e = refl
+
+any_find : (id : ℕ) (rs : List Request) → is_some (find (λ (r : Request). r.id == id) rs) ≡ list_any (λ (r : Request). r.id == id) rs
+any_find id [] = refl
+any_find id (r ∷ rs) = elim (r.id == id) as (λ b. is_some (cond b (Some r) (find (λ (x : Request). x.id == id) rs)) ≡ (b || list_any (λ (x : Request). x.id == id) rs)) [
+  | true ↦ refl
+  | false ↦ any_find id rs
+]
+
+is_there : (b : Bool) → not b ≡ false → b ≡ true
+is_there true e = refl
+is_there false e = cc
+
+-- its entries, where the settlement is not stale
+pub settled_entries : (w : World) (id : ℕ) (why : Option Reason) → is_stale w (settling id why) ≡ false
+    → option_map_or (λ (x : Left). x.entries) (settled id w.requests) [] ≡ entries_settled w id
+settled_entries w id None e = entries_left (find (λ (r : Request). r.id == id) w.requests) (entries_settled w id) (any_find id w.requests ∙ is_there (list_any (λ (r : Request). r.id == id) w.requests) e)
+settled_entries w id (Some why) e = entries_left (find (λ (r : Request). r.id == id) w.requests) (entries_settled w id) (any_find id w.requests ∙ is_there (list_any (λ (r : Request). r.id == id) w.requests) e)
+
+-- the seat of a settled request is told
+told_seat : (id : ℕ) (why : Option Reason) (rs : List Request)
+    → ◌≡◌ {A = Option Note} (option_map (λ seat. record { seat = seat; body = Settled id why }) (option_and_then (λ (r : Request). r.seat) (find (λ (r : Request). r.id == id) rs)))
+    (option_and_then (settled_note (id, why)) (find (λ (r : Request). r.id == id) rs))
+told_seat id why rs = at (find (λ (r : Request). r.id == id) rs) refl
+  where
+    told_if : Request → Bool → Option Note
+    told_if r b = cond b (option_map (λ seat. record { seat = seat; body = Settled id why }) r.seat) None
+
+    at : (o : Option Request) → find (λ (r : Request). r.id == id) rs ≡ o
+        → ◌≡◌ {A = Option Note} (option_map (λ seat. record { seat = seat; body = Settled id why }) (option_and_then (λ (r : Request). r.seat) o)) (option_and_then (settled_note (id, why)) o)
+    at None e = refl
+    at (Some r) e = sym (ap (told_if r) (found_number id rs r e))
+
+-- ---- steps
+
+pub made_of : (v : World) (s : Step) → IsDue v s → IsMade v s
+made_of v s d = record { sound = d.good.sound; called = d.good.called; not_refused = d.not_refused; not_stale = d.not_stale }
+
+-- a settlement gives no number
+none_given : (w : World) (id : ℕ) (why : Option Reason) → (done_report w (settling id why)).given ≡ None
+none_given w id None = refl
+none_given w id (Some why) = refl
+
+settling_leaves : AcceptedIsMade → RefusedIsMade → (w : World) (id : ℕ) (why : Option Reason) → IsDue w (settling id why)
+    → Leaves w (settling id why) (settled_world w id) (settled_told w id why)
+settling_leaves accepted refused w id None d = accepted w id (made_of w (Step.Accepted id) d) d.good.reached
+settling_leaves accepted refused w id (Some why) d = refused w id why (made_of w (Step.Refused id why) d) d.good.reached
+
+module _ (limits : Limits) (ls : List Listener) (requests : List Request) (b : Brought) (cover : Cover) (c : Bool) (out : List ClientMessage) (gl gr : ℕ) where
+  abbrev pub w : World
+  w = world_of limits ls requests b cover c out gl gr
+
+  -- what is so of such a world is so of an equal one
+  pub along : (self : World) → w ≡ self → (s : Step) (made : World × Told) → (IsDue w s → IsNext w s made) → IsDue self s → IsNext self s made
+  along self is s made f d = subst (λ v. IsNext v s made) is (f (subst (λ v. IsDue v s) (sym is) d))
+
+  -- the cover stays the world's where the listeners are renewed
+  pub tied_after : RenewedIsOne → IsTied cover w → (entries : List Assignment) (b' b'' : Brought) (writes : List Write) (ls' : List Listener) (requests' : List Request) (c' : Bool) (out' : List ClientMessage) (gr' : ℕ)
+      → ls' ≡ map (renewed_met entries b'' writes) ls → IsTied cover (world_of limits ls' requests' b' cover c' out' gl gr')
+  tied_after law t entries b' b'' writes ls' requests' c' out' gr' is = record {
+    listened = t.listened ∙ sym (ap registered is ∙ registered_met law entries b'' writes ls);
+    last_tag = t.last_tag;
+  }
+
+  pub settle_made : AcceptedIsMade → RefusedIsMade → SettledIsNotPending → (id : ℕ) (why : Option Reason) → IsDue w (settling id why)
+      → (entries : List Assignment) → entries ≡ entries_settled w id
+      → (requests' : List Request) → requests' ≡ filter (λ (r : Request). not (r.id == id)) requests
+      → (ls' : List Listener) → ls' ≡ map (renewed_met entries b (pending requests')) ls
+      → (told : Told) → told.given ≡ None
+      → told.notes.items ≡ option_to_list (option_map (λ seat. record { seat = seat; body = Settled id why }) (option_and_then (λ (r : Request). r.seat) (find (λ (r : Request). r.id == id) requests))) ++ all_told entries b (pending requests') ls
+      → IsNext w (settling id why) (world_of limits ls' requests' b cover c out gl gr, told)
+  settle_made accepted refused left id why d entries ee requests' re ls' he told given notes =
+      let leaves = settling_leaves accepted refused w id why d in
+      let ws = ap pending re ∙ left requests id in
+      record {
+        world = (λ i. record w {
+          listeners = (he ∙ (λ j. map (renewed_met (ee j) b (ws j)) ls)) i;
+          requests = re i;
+        }) ∙ sym leaves.world;
+        given = given ∙ sym (none_given w id why);
+        notes = notes ∙ (λ i. option_to_list (told_seat id why requests i) ++ all_told (ee i) b (ws i) ls) ∙ sym leaves.notes;
+      }
+
+  pub merge_made : MergeIsMade → MergeIsStale → (tag : ℕ) (entries : List Assignment) → IsDue w (Step.DataMerge tag entries)
+      → (b' : Brought) → b' ≡ option_map_or (λ q. fold (push q) b entries) (option_map (λ (k : Tagged). k.form) (listen_at cover tag)) b
+      → (ls' : List Listener) → ls' ≡ map (renewed_met entries b' (pending requests)) ls
+      → (told : Told) → told.given ≡ None → told.notes.items ≡ all_told entries b' (pending requests) ls
+      → IsNext w (Step.DataMerge tag entries) (world_of limits ls' requests b' cover c out gl gr, told)
+  merge_made law stale tag entries d b' be ls' he told given notes =
+      let s : Step = Step.DataMerge tag entries in
+      let made : IsMade w s = made_of w s d in
+      elim (listen_of w tag) as (λ (o : Option Query). listen_of w tag ≡ o → IsNext w s (world_of limits ls' requests b' cover c out gl gr, told)) [
+        | None ↦ λ e. absurd (true≢false (sym (ap (λ (o : Option Query). option_map_or (λ q. list_all (is_without_window b q) entries) o true) e) ∙ sym (stale w tag entries) ∙ d.not_stale))
+        | Some q ↦ λ e.
+            let leaves = law w tag entries made d.good.reached q e in
+            let same : b' ≡ fold (push q) b entries = be ∙ ap (λ (o : Option Query). option_map_or (λ x. fold (push x) b entries) o b) e in
+            record {
+              world = (λ i. record w {
+                listeners = (he ∙ ap (λ x. map (renewed_met entries x (pending requests)) ls) same) i;
+                brought = same i;
+              }) ∙ sym leaves.world;
+              given = given;
+              notes = notes ∙ ap (λ x. all_told entries x (pending requests) ls) same ∙ sym leaves.notes;
+            }
+      ] refl
+
+  pub write_made : WriteIsMade → WriteIsPending → (seat : ℕ) (action : Action) → IsDue w (Step.Write seat action)
+      → (entries : List Assignment) → entries ≡ entries_of action
+      → (requests' : List Request) → requests' ≡ requests ++ record { id = gr + 1; seat = Some seat; asked = Now action } ∷ []
+      → (ls' : List Listener) → ls' ≡ map (renewed_met entries b (pending requests')) ls
+      → (out' : List ClientMessage) → out' ≡ out ++ asking c (gr + 1) (Now action)
+      → (told : Told) → told.given ≡ Some (gr + 1) → told.notes.items ≡ all_told entries b (pending requests') ls
+      → IsNext w (Step.Write seat action) (world_of limits ls' requests' b cover c out' gl (gr + 1), told)
+  write_made law more seat action d entries ee requests' re ls' he out' oe told given notes =
+      let leaves = law w seat action (made_of w (Step.Write seat action) d) d.good.reached in
+      let ws : pending requests' ≡ writes_with w action = ap pending re ∙ more requests (gr + 1) (Some seat) action in
+      record {
+        world = (λ i. record w {
+          listeners = (he ∙ (λ j. map (renewed_met (ee j) b (ws j)) ls)) i;
+          requests = re i;
+          outgoing = oe i;
+          next_request = gr + 1 + 1;
+        }) ∙ sym leaves.world;
+        given = given;
+        notes = notes ∙ (λ i. all_told (ee i) b (ws i) ls) ∙ sym leaves.notes;
+      }
+
+  pub connect_made : ConnectedIsMade → IsDue w Step.Connected → (out' : List ClientMessage) → out' ≡ listens_shown (shown cover) ++ map request_message requests
+      → (told : Told) → told.given ≡ None → told.notes.items ≡ [] → IsNext w Step.Connected (world_of limits ls requests b cover true out' gl gr, told)
+  connect_made law d out' oe told given notes =
+      let leaves = law w (made_of w Step.Connected d) d.good.reached in
+      record {
+        world = (λ i. record w {
+          is_connected = true;
+          outgoing = (oe ∙ ap (λ ms. ms ++ map request_message requests) (listens_same cover.listeners cover.kept)) i;
+        }) ∙ sym leaves.world;
+        given = given;
+        notes = notes ∙ sym leaves.notes;
+      }
+
+  pub disconnect_made : DisconnectedIsMade → IsDue w Step.Disconnected → (out' : List ClientMessage) → out' ≡ []
+      → (told : Told) → told.given ≡ None → told.notes.items ≡ [] → IsNext w Step.Disconnected (world_of limits ls requests b cover false out' gl gr, told)
+  disconnect_made law d out' oe told given notes =
+      let leaves = law w (made_of w Step.Disconnected d) d.good.reached in
+      record {
+        world = (λ i. record w { is_connected = false; outgoing = oe i }) ∙ sym leaves.world;
+        given = given;
+        notes = notes ∙ sym leaves.notes;
+      }
+
+  pub ask_made : EndingIsMade → (seat : ℕ) (ending : Ending) → IsDue w (Step.OnDisconnect seat ending)
+      → (out' : List ClientMessage) → out' ≡ out ++ asking c (gr + 1) (AtDisconnect ending)
+      → (requests' : List Request) → requests' ≡ requests ++ record { id = gr + 1; seat = Some seat; asked = AtDisconnect ending } ∷ []
+      → (told : Told) → told.given ≡ Some (gr + 1) → told.notes.items ≡ []
+      → IsNext w (Step.OnDisconnect seat ending) (world_of limits ls requests' b cover c out' gl (gr + 1), told)
+  ask_made law seat ending d out' oe requests' re told given notes =
+      let leaves = law w seat ending (made_of w (Step.OnDisconnect seat ending) d) d.good.reached in
+      record {
+        world = (λ i. record w {
+          requests = re i;
+          outgoing = oe i;
+          next_request = gr + 1 + 1;
+        }) ∙ sym leaves.world;
+        given = given;
+        notes = notes ∙ sym leaves.notes;
+      }

@@ -1,0 +1,533 @@
+-- The views that are held, after each kind of step.
+use Rattle.std.proofs.Common.{◌≡◌, ℕ, ◌+◌, ◌<◌, ◌≤◌, suc, Bool, true, false, cond, not, ◌&&◌, ◌||◌, inl, inr, ◌⊎◌, List, [], ◌∷◌, ◌++◌, length, map, refl, sym, ap, subst, ◌∙◌, arith, Option, Some, None}
+use mathlib.Core.Bool.{true≢false}
+use lib.Dec.{T, eqb_refl}
+use Rattle.std.specs.Prelude.{◌==◌}
+use Rattle.std.specs.List.{All, Contains, cons_option, filter, find, zip}
+use Rattle.std.specs.Option.{option_and_then, option_map}
+use Rattle.std.proofs.lemmas.List.Elements.{All-nil, All-cons, All-head, All-tail, All-contains_itself, Contains-append_left}
+use Rattle.rt_tree.specs.PathTree.{Key, PathTree, child}
+use Rattle.rt_tree.specs.Children.{children_of}
+use Rattle.rt_tree.specs.Assignments.{Assignment}
+use Rattle.rt_query.specs.Queries.{Query}
+use Rattle.rt_query.specs.Select.{Shown, select}
+use Rattle.rt_writes.specs.Writes.{Write}
+use Rattle.rt_cache.specs.Brought.{Brought}
+use Rattle.rt_view.specs.Views.{View, shown_of, first_view, stays_object, touched, with_named}
+use Rattle.rt_view.specs.Views.{renewed as taken}
+use Rattle.rt_listeners.specs.Listeners.{first_view_of, new_listener, views_left, views_where}
+use Rattle.rt_listeners.specs.Refreshed.{FollowNamed, is_touched, named_children, view_after, view_met}
+use Rattle.rt_world.specs.declared.step.Step.{Step}
+use Rattle.rt_world.specs.declared.request.Request.{Request}
+use Rattle.rt_world.specs.World.{Reason, World, Listener, entries_of, pending}
+use Rattle.rt_world.specs.Views.{is_known, view_of}
+use Rattle.rt_world.specs.steps.Revoking.{is_cancelled}
+use Rattle.rt_world.specs.After.{listeners_after, pushed, renewed, requests_after}
+use Rattle.rt_world.specs.Messages.{next}
+use Rattle.rt_world.specs.Met.{do_meet, renewed_met}
+use Rattle.rt_world.specs.Refusals.{refusal}
+use Rattle.rt_world.specs.Headline.{view_by}
+use Rattle.rt_world.specs.Touched.{entries_by, entries_settled, is_covered, is_named, children_named, children_at, seen}
+use Rattle.rt_world.specs.Called.{IsCalled}
+use Rattle.rt_world.specs.Sound.{IsSound, Rises}
+use Rattle.rt_world.specs.laws.Steps.{PushIsBrought, StaysSound}
+use Rattle.rt_world.specs.laws.World.{changes_listeners}
+use Rattle.rt_world.specs.laws.Touch.{ElseFewAreSeen, SeenAreChildren, Stays, TouchIsEnough, UnmetAreSeen, UnnamedAreSeen}
+use Rattle.rt_sync.specs.Core.{Held, without_first}
+use Rattle.rt_sync.specs.Reads.{IsTurn, TurnsOnce, most_read, view_held}
+use Rattle.rt_sync.specs.inside.Due.{IsDue, settling}
+use Rattle.rt_sync.specs.inside.Viewed.{AreViewed, FollowsStep, HasViews, IsViewed, KeepsViews, Pairs, RefreshesViews, SameViews, ShowsSeen}
+use Rattle.rt_sync.proofs.TagLaws.{other_number}
+
+-- ---- listeners and views at one place
+
+abbrev pub In : Listener → Option View → List Listener → List (Option View) → Type 0
+In m n [] vs = ⊥
+In m n (l ∷ ls) [] = ⊥
+In m n (l ∷ ls) (v ∷ vs) = ((l ≡ m) × (v ≡ n)) ⊎ In m n ls vs
+
+-- each place has both
+abbrev pub AreAligned : List Listener → List (Option View) → Type 0
+AreAligned ls vs = Pairs (λ l v. Unit {0}) ls vs
+
+pairs_at : (P : Listener → Option View → Type 0) (ls : List Listener) (vs : List (Option View)) → Pairs P ls vs → (m : Listener) (n : Option View) → In m n ls vs → P m n
+pairs_at P [] [] h m n i = absurd i
+pairs_at P [] (v ∷ vs) h m n i = absurd h
+pairs_at P (l ∷ ls) [] h m n i = absurd h
+pairs_at P (l ∷ ls) (v ∷ vs) h m n (inl e) = subst (λ (p : Listener × Option View). P p.0 p.1) (λ i. (e.0 i, e.1 i)) h.0
+pairs_at P (l ∷ ls) (v ∷ vs) h m n (inr i) = pairs_at P ls vs h.1 m n i
+
+pairs_from : (P Q : Listener → Option View → Type 0) (ls : List Listener) (vs : List (Option View)) → Pairs P ls vs → ((m : Listener) (n : Option View) → In m n ls vs → Q m n) → Pairs Q ls vs
+pairs_from P Q [] [] h f = tt
+pairs_from P Q [] (v ∷ vs) h f = absurd h
+pairs_from P Q (l ∷ ls) [] h f = absurd h
+pairs_from P Q (l ∷ ls) (v ∷ vs) h f = (f l v (inl (refl, refl)), pairs_from P Q ls vs h.1 (λ m n i. f m n (inr i)))
+
+all_from : (P : Listener → Option View → Type 0) (Q : Listener → Type 0) (ls : List Listener) (vs : List (Option View)) → Pairs P ls vs → ((m : Listener) (n : Option View) → In m n ls vs → Q m) → All Q ls
+all_from P Q [] vs h f = All-nil Q
+all_from P Q (l ∷ ls) [] h f = absurd h
+all_from P Q (l ∷ ls) (v ∷ vs) h f = All-cons Q l ls (f l v (inl (refl, refl))) (all_from P Q ls vs h.1 (λ m n i. f m n (inr i)))
+
+all_zip_from : (P : Listener → Option View → Type 0) (R : Listener × Option View → Type 0) (ls : List Listener) (vs : List (Option View)) → Pairs P ls vs → ((m : Listener) (n : Option View) → In m n ls vs → R (m, n)) → All R (zip ls vs)
+all_zip_from P R [] vs h f = All-nil R
+all_zip_from P R (l ∷ ls) [] h f = All-nil R
+all_zip_from P R (l ∷ ls) (v ∷ vs) h f = All-cons R (l, v) (zip ls vs) (f l v (inl (refl, refl))) (all_zip_from P R ls vs h.1 (λ m n i. f m n (inr i)))
+
+at_listener : (Q : Listener → Type 0) (ls : List Listener) (vs : List (Option View)) (m : Listener) (n : Option View) → In m n ls vs → All Q ls → Q m
+at_listener Q [] vs m n i h = absurd i
+at_listener Q (l ∷ ls) [] m n i h = absurd i
+at_listener Q (l ∷ ls) (v ∷ vs) m n (inl e) h = subst Q e.0 (All-head Q l ls h)
+at_listener Q (l ∷ ls) (v ∷ vs) m n (inr i) h = at_listener Q ls vs m n i (All-tail Q l ls h)
+
+in_contains : (ls : List Listener) (vs : List (Option View)) (m : Listener) (n : Option View) → In m n ls vs → Contains ls m
+in_contains ls vs m n i = at_listener (Contains ls) ls vs m n i (All-contains_itself ls)
+
+-- ---- found by number
+
+abbrev found : ℕ → List Listener → List (Option View) → Option View
+found number ls vs = option_and_then (λ (p : Listener × Option View). p.1) (find (λ (p : Listener × Option View). p.0.number == number) (zip ls vs))
+
+same_number : (n : ℕ) → (n == n) ≡ true
+same_number n = is_true (n == n) (eqb_refl n)
+  where
+    is_true : (b : Bool) → T b → b ≡ true
+    is_true true t = refl
+    is_true false t = absurd t
+
+-- the first, or else that of the rest
+abbrev found_if : Bool → ℕ → Listener → Option View → List Listener → List (Option View) → Option View
+found_if b number l v ls vs = option_and_then (λ (p : Listener × Option View). p.1) (cond b (Some (l, v)) (find (λ (p : Listener × Option View). p.0.number == number) (zip ls vs)))
+
+pub found_own : (ls : List Listener) (vs : List (Option View)) (m : Listener) (n : Option View) → Rises ls → In m n ls vs → found m.number ls vs ≡ n
+found_own [] vs m n r i = absurd i
+found_own (l ∷ ls) [] m n r i = absurd i
+found_own (l ∷ ls) (v ∷ vs) m n r (inl e) = ap (λ b. found_if b m.number l v ls vs) (ap (λ (x : Listener). x.number == m.number) e.0 ∙ same_number m.number) ∙ e.1
+found_own (l ∷ ls) (v ∷ vs) m n r (inr i) =
+    ap (λ b. found_if b m.number l v ls vs) (other_number l.number m.number (at_listener (λ (x : Listener). l.number < x.number) ls vs m n i r.0))
+    ∙ found_own ls vs m n r.1 i
+
+found_none : (ls : List Listener) (vs : List (Option View)) (number : ℕ) → All (λ (l : Listener). l.number < number) ls → found number ls vs ≡ None
+found_none [] vs number h = refl
+found_none (l ∷ ls) [] number h = refl
+found_none (l ∷ ls) (v ∷ vs) number h =
+    ap (λ b. found_if b number l v ls vs) (other_number l.number number (All-head (λ (x : Listener). x.number < number) l ls h))
+    ∙ found_none ls vs number (All-tail (λ (x : Listener). x.number < number) l ls h)
+
+-- ---- what follows a step
+
+-- what is held of the listener comes from what was held of it
+abbrev Comes : Held → Step → World → Listener → Option View → Type 0
+Comes h s w m n = (v : Option View) × (view_held h m.number ≡ v) × IsTurn (length (children_of (seen w m.query))) (most_read h.world s w m.query) v n
+
+shows : (w : World) (m : Listener) (n : Option View) → IsViewed w m n → option_map shown_of n ≡ m.view
+shows w m None h = sym h
+shows w m (Some v) h = sym h.shown
+
+same_turn : (first most : ℕ) (n : Option View) → IsTurn first most n n
+same_turn first most None = tt
+same_turn first most (Some v) = inl refl
+
+follows : (h : Held) (s : Step) (k : Held) → Rises (k.world).listeners → AreViewed k → ((m : Listener) (n : Option View) → In m n (k.world).listeners k.views → Comes h s k.world m n) → FollowsStep h s k
+follows h s k rises viewed comes = record {
+  viewed = viewed;
+  reads = all_from (IsViewed k.world) (TurnsOnce h s k) (k.world).listeners k.views viewed (λ m n i.
+      let own = found_own (k.world).listeners k.views m n rises i in
+      let from = comes m n i in
+      record {
+        shown = ap (option_map shown_of) own ∙ shows k.world m n (pairs_at (IsViewed k.world) (k.world).listeners k.views viewed m n i);
+        turn = subst (λ (p : Option View × Option View). IsTurn (length (children_of (seen k.world m.query))) (most_read h.world s k.world m.query) p.0 p.1) (λ j. (sym from.1 j, sym own j)) from.2;
+      });
+}
+
+-- where nothing changes
+pub unchanged : (h : Held) (s : Step) → IsSound h.world → AreViewed h → FollowsStep h s h
+unchanged h s sound viewed =
+    follows h s h sound.rises viewed (λ m n i.
+    (n, found_own (h.world).listeners h.views m n sound.rises i, same_turn (length (children_of (seen h.world m.query))) (most_read h.world s h.world m.query) n))
+
+-- the messages to be sent are in no view
+pub sent_viewed : (h : Held) → AreViewed h → AreViewed (record { world = without_first h.world; views = h.views })
+sent_viewed h viewed = pairs_from (IsViewed h.world) (IsViewed (without_first h.world)) (h.world).listeners h.views viewed (λ m n i. sent m n (pairs_at (IsViewed h.world) (h.world).listeners h.views viewed m n i))
+  where
+    sent : (m : Listener) (n : Option View) → IsViewed h.world m n → IsViewed (without_first h.world) m n
+    sent m None v = v
+    sent m (Some u) v = record { query = v.query; children = v.children; shown = v.shown }
+
+-- ---- listeners that stay, where the step has no entries
+
+module _ (law : UnnamedAreSeen) (h : Held) (s : Step) (k : Held) (sound : IsSound h.world) (called : IsCalled (h.world).brought) (free : refusal h.world s ≡ None) (is : k.world ≡ next h.world s) (rises : Rises (k.world).listeners) (viewed : AreViewed h) (none : entries_by h.world s ≡ []) where
+  stays_viewed : (m : Listener) (n : Option View) → Contains (listeners_after h.world s) m → IsViewed h.world m n → IsViewed (next h.world s) m n
+  stays_viewed m None there v = v
+  stays_viewed m (Some u) there v =
+      let low : is_covered m.query.path (entries_by h.world s) ≡ false = ap (is_covered m.query.path) none in
+      record {
+        query = v.query;
+        children = λ j. v.children j ∙ sym (law h.world s m (record { sound = sound; called = called; not_refused = free; there = there }) low j (ap (λ es. is_named m.query.path es j) none));
+        shown = v.shown;
+      }
+
+  stays_so : (m : Listener) (n : Option View) → Contains (listeners_after h.world s) m → In m n (h.world).listeners h.views → IsViewed k.world m n × Comes h s k.world m n
+  stays_so m n there i = (
+    subst (λ x. IsViewed x m n) (sym is) (stays_viewed m n there (pairs_at (IsViewed h.world) (h.world).listeners h.views viewed m n i)),
+    (n, found_own (h.world).listeners h.views m n sound.rises i, same_turn (length (children_of (seen k.world m.query))) (most_read h.world s k.world m.query) n),
+  )
+
+  -- those that are left
+  pub left_viewed : AreAligned (k.world).listeners k.views → ((m : Listener) (n : Option View) → In m n (k.world).listeners k.views → In m n (h.world).listeners h.views × Contains (listeners_after h.world s) m) → FollowsStep h s k
+  left_viewed aligned from =
+      follows h s k rises (pairs_from (λ l v. Unit {0}) (IsViewed k.world) (k.world).listeners k.views aligned (λ m n i. (stays_so m n (from m n i).1 (from m n i).0).0))
+      (λ m n i. (stays_so m n (from m n i).1 (from m n i).0).1)
+
+  -- all of them
+  pub all_viewed : (k.world).listeners ≡ (h.world).listeners → k.views ≡ h.views → listeners_after h.world s ≡ (h.world).listeners → FollowsStep h s k
+  all_viewed ls vs after =
+      left_viewed (subst (λ (p : List Listener × List (Option View)). AreAligned p.0 p.1) (λ i. (sym ls i, sym vs i)) (pairs_from (IsViewed h.world) (λ l v. Unit {0}) (h.world).listeners h.views viewed (λ m n i. tt)))
+      (λ m n i.
+      let there = subst (λ (p : List Listener × List (Option View)). In m n p.0 p.1) (λ j. (ls j, vs j)) i in
+      (there, subst (λ xs. Contains xs m) (sym after) (in_contains (h.world).listeners h.views m n there)))
+
+-- of those that pass
+left_aligned : (test : Listener → Bool) (P : Listener → Option View → Type 0) (ls : List Listener) (vs : List (Option View)) → Pairs P ls vs → AreAligned (filter test ls) (views_left test (record { listeners = ls; views = vs }))
+left_aligned test P [] [] h = tt
+left_aligned test P [] (v ∷ vs) h = absurd h
+left_aligned test P (l ∷ ls) [] h = absurd h
+left_aligned test P (l ∷ ls) (v ∷ vs) h =
+    elim (test l) as (λ b. AreAligned (cond b (l ∷ filter test ls) (filter test ls)) (map (λ (c : ℕ × Option View). c.1) (cons_option (cond b (Some (l.number, v)) None) (views_where test (record { listeners = ls; views = vs }))))) [
+      | true ↦ (tt, left_aligned test P ls vs h.1)
+      | false ↦ left_aligned test P ls vs h.1
+    ]
+
+left_in : (test : Listener → Bool) (P : Listener → Option View → Type 0) (ls : List Listener) (vs : List (Option View)) → Pairs P ls vs → (m : Listener) (n : Option View)
+    → In m n (filter test ls) (views_left test (record { listeners = ls; views = vs })) → In m n ls vs
+left_in test P [] [] h m n = λ i. absurd i
+left_in test P [] (v ∷ vs) h m n = λ i. absurd h
+left_in test P (l ∷ ls) [] h m n = λ i. absurd h
+left_in test P (l ∷ ls) (v ∷ vs) h m n =
+    elim (test l) as (λ b. In m n (cond b (l ∷ filter test ls) (filter test ls)) (map (λ (c : ℕ × Option View). c.1) (cons_option (cond b (Some (l.number, v)) None) (views_where test (record { listeners = ls; views = vs })))) → In m n (l ∷ ls) (v ∷ vs)) [
+      | true ↦ λ i. either i (λ j. left_in test P ls vs h.1 m n j)
+      | false ↦ λ i. inr (left_in test P ls vs h.1 m n i)
+    ]
+  where
+    either : {X Y Z : Type 0} → X ⊎ Y → (Y → Z) → X ⊎ Z
+    either (inl x) f = inl x
+    either (inr y) f = inr (f y)
+
+-- after a step that ends those that do not pass
+pub passed_viewed : UnnamedAreSeen → (h : Held) (s : Step) (k : Held) → IsSound h.world → IsCalled (h.world).brought → refusal h.world s ≡ None → k.world ≡ next h.world s → Rises (k.world).listeners → AreViewed h → entries_by h.world s ≡ []
+    → (test : Listener → Bool) → (k.world).listeners ≡ filter test (h.world).listeners → k.views ≡ views_left test (record { listeners = (h.world).listeners; views = h.views }) → listeners_after h.world s ≡ filter test (h.world).listeners
+    → FollowsStep h s k
+passed_viewed law h s k sound called free is rises viewed none test ls vs after =
+    left_viewed law h s k sound called free is rises viewed none
+    (subst (λ (p : List Listener × List (Option View)). AreAligned p.0 p.1) (λ i. (sym ls i, sym vs i)) (left_aligned test (IsViewed h.world) (h.world).listeners h.views viewed))
+    (λ m n i. (
+      left_in test (IsViewed h.world) (h.world).listeners h.views viewed m n (subst (λ (p : List Listener × List (Option View)). In m n p.0 p.1) (λ j. (ls j, vs j)) i),
+      subst (λ xs. Contains xs m) (ls ∙ sym after) (in_contains (k.world).listeners k.views m n i),
+    ))
+
+-- ---- a new listener
+
+more_aligned : (P : Listener → Option View → Type 0) (ls : List Listener) (vs : List (Option View)) (x : Listener) (y : Option View) → Pairs P ls vs → AreAligned (ls ++ x ∷ []) (vs ++ y ∷ [])
+more_aligned P [] [] x y h = (tt, tt)
+more_aligned P [] (v ∷ vs) x y h = absurd h
+more_aligned P (l ∷ ls) [] x y h = absurd h
+more_aligned P (l ∷ ls) (v ∷ vs) x y h = (tt, more_aligned P ls vs x y h.1)
+
+more_in : (P : Listener → Option View → Type 0) (ls : List Listener) (vs : List (Option View)) (x : Listener) (y : Option View) → Pairs P ls vs → (m : Listener) (n : Option View)
+    → In m n (ls ++ x ∷ []) (vs ++ y ∷ []) → In m n ls vs ⊎ ((x ≡ m) × (y ≡ n))
+more_in P [] [] x y h m n (inl e) = inr e
+more_in P [] [] x y h m n (inr i) = absurd i
+more_in P [] (v ∷ vs) x y h m n i = absurd h
+more_in P (l ∷ ls) [] x y h m n i = absurd h
+more_in P (l ∷ ls) (v ∷ vs) x y h m n (inl e) = inl (inl e)
+more_in P (l ∷ ls) (v ∷ vs) x y h m n (inr i) = deeper (more_in P ls vs x y h.1 m n i)
+  where
+    deeper : In m n ls vs ⊎ ((x ≡ m) × (y ≡ n)) → In m n (l ∷ ls) (v ∷ vs) ⊎ ((x ≡ m) × (y ≡ n))
+    deeper (inl j) = inl (inr j)
+    deeper (inr e) = inr e
+
+-- what a listener without a view gets
+module _ (w : World) (l : Listener) where
+  abbrev with_view : Listener
+  with_view = record l { is_primed = true; view = Some (view_of w.brought (pending w.requests) l.query) }
+
+  abbrev IsFirst : Listener → Option View → Type 0
+  IsFirst m n = IsViewed w m n × IsTurn (length (children_of (seen w l.query))) 0 None n
+
+  first_viewed : l.is_primed ≡ false → l.view ≡ None → IsFirst (renewed w.brought (pending w.requests) l) (first_view_of w.brought (pending w.requests) l.query)
+  first_viewed fresh none = at (is_known w.brought (pending w.requests) l.query)
+    where
+      at : (b : Bool) → IsFirst (cond (l.is_primed || b) with_view l) (cond b (Some (first_view l.query (seen w l.query))) None)
+      at true = subst (λ p. IsFirst (cond (p || true) with_view l) (Some (first_view l.query (seen w l.query)))) (sym fresh) (record { query = refl; children = λ k. refl; shown = refl }, (refl, refl))
+      at false = subst (λ p. IsFirst (cond (p || false) with_view l) None) (sym fresh) (none, tt)
+
+-- a first turn is one whatever may be read elsewhere
+first_turn : (first a b : ℕ) (n : Option View) → IsTurn first a None n → IsTurn first b None n
+first_turn first a b None t = tt
+first_turn first a b (Some v) t = t
+
+module _ (law : UnnamedAreSeen) (h : Held) (seat : ℕ) (query : Query) (k : Held) (sound : IsSound h.world) (called : IsCalled (h.world).brought) (free : refusal h.world (Step.Listen seat query) ≡ None) (is : k.world ≡ next h.world (Step.Listen seat query)) (rises : Rises (k.world).listeners) (viewed : AreViewed h) where
+  abbrev new : Listener
+  new = new_listener (h.world).next_listener seat query
+
+  abbrev x : Listener
+  x = renewed (k.world).brought (pending (k.world).requests) new
+
+  abbrev y : Option View
+  y = first_view_of (k.world).brought (pending (k.world).requests) query
+
+  abbrev Both : Listener → Option View → Type 0
+  Both m n = IsViewed k.world m n × Comes h (Step.Listen seat query) k.world m n
+
+  -- the new one has the new number and the query
+  numbered : (b : Bool) → (cond b (with_view k.world new) new).number ≡ (h.world).next_listener
+  numbered true = refl
+  numbered false = refl
+
+  asks : (b : Bool) → query ≡ (cond b (with_view k.world new) new).query
+  asks true = refl
+  asks false = refl
+
+  fresh : Both x y
+  fresh =
+      let one = first_viewed k.world new refl refl in
+      let known : Bool = is_known (k.world).brought (pending (k.world).requests) query in (
+        one.0,
+        (
+          None,
+          ap (λ j. found j (h.world).listeners h.views) (numbered known) ∙ found_none (h.world).listeners h.views (h.world).next_listener sound.below,
+          subst (λ q. IsTurn (length (children_of (seen k.world q))) (most_read h.world (Step.Listen seat query) k.world q) None y) (asks known)
+              (first_turn (length (children_of (seen k.world query))) 0 (most_read h.world (Step.Listen seat query) k.world query) y one.1),
+        ),
+      )
+
+  either : (m : Listener) (n : Option View) → In m n (h.world).listeners h.views ⊎ ((x ≡ m) × (y ≡ n)) → Both m n
+  either m n (inl j) = stays_so law h (Step.Listen seat query) k sound called free is rises viewed refl m n (Contains-append_left (h.world).listeners _ m (in_contains (h.world).listeners h.views m n j)) j
+  either m n (inr e) = subst (λ (p : Listener × Option View). Both p.0 p.1) (λ j. (e.0 j, e.1 j)) fresh
+
+  pub listened_viewed : (k.world).listeners ≡ (h.world).listeners ++ x ∷ [] → k.views ≡ h.views ++ y ∷ [] → FollowsStep h (Step.Listen seat query) k
+  listened_viewed ls vs =
+      let there : (m : Listener) (n : Option View) → In m n (k.world).listeners k.views → Both m n = λ m n i.
+      either m n (more_in (IsViewed h.world) (h.world).listeners h.views x y viewed m n (subst (λ (p : List Listener × List (Option View)). In m n p.0 p.1) (λ j. (ls j, vs j)) i)) in
+      follows h (Step.Listen seat query) k rises
+      (pairs_from (λ l v. Unit {0}) (IsViewed k.world) (k.world).listeners k.views
+      (subst (λ (p : List Listener × List (Option View)). AreAligned p.0 p.1) (λ i. (sym ls i, sym vs i)) (more_aligned (IsViewed h.world) (h.world).listeners h.views x y viewed))
+      (λ m n i. (there m n i).0))
+      (λ m n i. (there m n i).1)
+
+-- ---- listeners whose paths entries meet
+
+-- what a step that begins and ends no listener needs of the laws
+pub record TouchLaws : Type 0 where
+  pub children : SeenAreChildren
+  pub unmet : UnmetAreSeen
+  pub touched : TouchIsEnough
+  pub few : ElseFewAreSeen
+
+and_true : (a b : Bool) → (not a && b) ≡ true → (a ≡ false) × (b ≡ true)
+and_true true b e = absurd (true≢false (sym e))
+and_true false b e = (refl, e)
+
+length_at : (t : PathTree) (names : List Key) → length (children_at t names) ≡ length names
+length_at t [] = refl
+length_at t (k ∷ names) = ap suc (length_at t names)
+
+module _ (laws : TouchLaws) (h : Held) (s : Step) (sound : IsSound h.world) (called : IsCalled (h.world).brought) (free : refusal h.world s ≡ None) (after : listeners_after h.world s ≡ (h.world).listeners) (viewed : AreViewed h) where
+  abbrev v : World
+  v = next h.world s
+
+  abbrev es : List Assignment
+  es = entries_by h.world s
+
+  abbrev b : Brought
+  b = v.brought
+
+  abbrev ws : List Write
+  ws = pending v.requests
+
+  stays : (l : Listener) → Contains (h.world).listeners l → Stays h.world s l
+  stays l there = record { sound = sound; called = called; not_refused = free; there = subst (λ xs. Contains xs l) (sym after) there }
+
+  -- a view that is touched shows what is seen
+  touched_seen : (l : Listener) (u : View) → Contains (h.world).listeners l → ShowsSeen h.world l u → is_touched es b ws l.query u ≡ true → with_named u.tree (named_children es b ws l.query) ≡ seen v l.query
+  touched_seen l u there has t =
+      let both = and_true (is_covered l.query.path es) (stays_object u.tree (named_children es b ws l.query)) t in
+      laws.touched h.world s l (stays l there) both.0 u.tree has.children both.1
+
+  abbrev Follows : Listener × Option View → Type 0
+  Follows p = (u : View) → p.1 ≡ Some u → is_touched es b ws p.0.query u ≡ true → with_named u.tree (named_children es b ws p.0.query) ≡ seen v p.0.query
+
+  pub follow_named : FollowNamed es b ws (record { listeners = (h.world).listeners; views = h.views })
+  follow_named =
+      all_zip_from (IsViewed h.world) Follows (h.world).listeners h.views viewed (λ m n i. λ u e t.
+      touched_seen m u (in_contains (h.world).listeners h.views m n i) (subst (IsViewed h.world m) e (pairs_at (IsViewed h.world) (h.world).listeners h.views viewed m n i)) t)
+
+  abbrev So : Listener → Option View → Listener → Option View → Type 0
+  So l n m o = IsViewed v m o × IsTurn (length (children_of (seen v l.query))) (most_read h.world s v l.query) n o
+
+  -- one that no entry meets stays
+  unmet_one : (l : Listener) (n : Option View) → Contains (h.world).listeners l → IsViewed h.world l n → do_meet es l.query.path ≡ false → So l n l n
+  unmet_one l None there has apart = (has, tt)
+  unmet_one l (Some u) there has apart = (record { query = has.query; children = laws.unmet h.world s l (stays l there) apart u.tree has.children; shown = has.shown }, inl refl)
+
+  -- a view is there of those that are primed
+  primed_by : (p : Bool) (l : Listener) → l.view ≡ view_by p h.world l.query → l.view ≡ None → p ≡ false
+  primed_by true l is e = cc
+  primed_by false l is e = refl
+
+  primed_of : (p : Bool) (l : Listener) (shown : Shown) → l.view ≡ view_by p h.world l.query → l.view ≡ Some shown → p ≡ true
+  primed_of true l shown is e = refl
+  primed_of false l shown is e = cc
+
+  -- one with a view, touched or taken from scratch
+  pub met_view : (l : Listener) (u : View) → Contains (h.world).listeners l → ShowsSeen h.world l u → So l (Some u) (with_view v l) (view_after es b ws l.query (Some u))
+  met_view l u there has = at (is_touched es b ws l.query u) refl
+    where
+      -- how many are taken from scratch
+      scratch : (c : Bool) → is_covered l.query.path es ≡ c → (not c && stays_object u.tree (named_children es b ws l.query)) ≡ false
+          → length (children_of u.tree) + length (children_of (seen v l.query)) ≤ cond c (length (children_of (seen h.world l.query)) + length (children_of (seen v l.query))) (length (children_named l.query.path es))
+      scratch true e t = let same = ap length (laws.children h.world l.query u.tree has.children) in omega (arith, same)
+      scratch false e t = laws.few h.world s l (stays l there) e u.tree has.children t
+
+      at : (t : Bool) → is_touched es b ws l.query u ≡ t → So l (Some u) (with_view v l) (Some (cond t (touched u (named_children es b ws l.query)) (taken u (seen v l.query))))
+      at true e =
+          let both = and_true (is_covered l.query.path es) (stays_object u.tree (named_children es b ws l.query)) e in
+          let same = touched_seen l u there has e in
+          let fits : length (named_children es b ws l.query) ≤ length (children_named l.query.path es) = omega (arith, length_at (seen v l.query) (children_named l.query.path es)) in (
+            record {
+              query = has.query;
+              children = λ k. ap (λ t. child t k) same;
+              shown = λ i. Some (select (sym has.query i) (sym same i));
+            },
+            inr (refl, subst (λ c. length (named_children es b ws l.query) ≤ cond c (length (children_of (seen h.world l.query)) + length (children_of (seen v l.query))) (length (children_named l.query.path es))) (sym both.0) fits),
+          )
+      at false e = (
+        record { query = has.query; children = λ k. refl; shown = λ i. Some (select (sym has.query i) (seen v l.query)) },
+        inr (refl, scratch (is_covered l.query.path es) refl e),
+      )
+
+  -- one whose path an entry meets
+  met_one : (l : Listener) (n : Option View) → Contains (h.world).listeners l → IsViewed h.world l n → l.view ≡ view_by l.is_primed h.world l.query → So l n (renewed b ws l) (view_after es b ws l.query n)
+  met_one l None there has is =
+      let one = first_viewed v l (primed_by l.is_primed l is has) has in
+      (one.0, first_turn (length (children_of (seen v l.query))) 0 (most_read h.world s v l.query) (first_view_of b ws l.query) one.1)
+  met_one l (Some u) there has is =
+      subst (λ p. So l (Some u) (cond (p || is_known b ws l.query) (with_view v l) l) (view_after es b ws l.query (Some u))) (sym (primed_of l.is_primed l (shown_of u) is has.shown))
+      (met_view l u there has)
+
+  one : (l : Listener) (n : Option View) → Contains (h.world).listeners l → IsViewed h.world l n → l.view ≡ view_by l.is_primed h.world l.query → So l n (renewed_met es b ws l) (view_met es b ws (l, n))
+  one l n there has is = elim (do_meet es l.query.path) as (λ c. do_meet es l.query.path ≡ c → So l n (cond c (renewed b ws l) l) (cond c (view_after es b ws l.query n) n)) [
+    | true ↦ λ e. met_one l n there has is
+    | false ↦ λ e. unmet_one l n there has e
+  ] refl
+
+  -- number and query stay
+  number_met : (l : Listener) → (renewed_met es b ws l).number ≡ l.number
+  number_met l = elim (do_meet es l.query.path) as (λ c. (cond c (renewed b ws l) l).number ≡ l.number) [
+    | true ↦ elim (l.is_primed || is_known b ws l.query) as (λ c. (cond c (with_view v l) l).number ≡ l.number) [
+      | true ↦ refl
+      | false ↦ refl
+    ]
+    | false ↦ refl
+  ]
+
+  query_met : (l : Listener) → (renewed_met es b ws l).query ≡ l.query
+  query_met l = elim (do_meet es l.query.path) as (λ c. (cond c (renewed b ws l) l).query ≡ l.query) [
+    | true ↦ elim (l.is_primed || is_known b ws l.query) as (λ c. (cond c (with_view v l) l).query ≡ l.query) [
+      | true ↦ refl
+      | false ↦ refl
+    ]
+    | false ↦ refl
+  ]
+
+  -- all of them
+  map_aligned : (ls : List Listener) (vs : List (Option View)) → Pairs (IsViewed h.world) ls vs → AreAligned (map (renewed_met es b ws) ls) (map (view_met es b ws) (zip ls vs))
+  map_aligned [] [] p = tt
+  map_aligned [] (n ∷ vs) p = absurd p
+  map_aligned (l ∷ ls) [] p = absurd p
+  map_aligned (l ∷ ls) (n ∷ vs) p = (tt, map_aligned ls vs p.1)
+
+  map_in : (ls : List Listener) (vs : List (Option View)) (m : Listener) (o : Option View) → In m o (map (renewed_met es b ws) ls) (map (view_met es b ws) (zip ls vs))
+      → (l : Listener) × (n : Option View) × In l n ls vs × (renewed_met es b ws l ≡ m) × (view_met es b ws (l, n) ≡ o)
+  map_in [] vs m o i = absurd i
+  map_in (l ∷ ls) [] m o i = absurd i
+  map_in (l ∷ ls) (n ∷ vs) m o (inl e) = (l, n, inl (refl, refl), e.0, e.1)
+  map_in (l ∷ ls) (n ∷ vs) m o (inr i) = let r = map_in ls vs m o i in (r.0, r.1, inr r.2, r.3, r.4)
+
+  came : (ls : List Listener) (vs : List (Option View)) → ls ≡ map (renewed_met es b ws) (h.world).listeners → vs ≡ map (view_met es b ws) (zip (h.world).listeners h.views)
+      → (m : Listener) (o : Option View) → In m o ls vs → IsViewed v m o × Comes h s v m o
+  came ls vs le ve m o i =
+      let r = map_in (h.world).listeners h.views m o (subst (λ (p : List Listener × List (Option View)). In m o p.0 p.1) (λ j. (le j, ve j)) i) in
+      let there = in_contains (h.world).listeners h.views r.0 r.1 r.2 in
+      let has = pairs_at (IsViewed h.world) (h.world).listeners h.views viewed r.0 r.1 r.2 in
+      let is = at_listener (λ (x : Listener). x.view ≡ view_by x.is_primed h.world x.query) (h.world).listeners h.views r.0 r.1 r.2 sound.views in
+      let so = one r.0 r.1 there has is in
+      let number : m.number ≡ r.0.number = ap (λ (x : Listener). x.number) (sym r.3) ∙ number_met r.0 in
+      let query : m.query ≡ r.0.query = ap (λ (x : Listener). x.query) (sym r.3) ∙ query_met r.0 in (
+        subst (λ (p : Listener × Option View). IsViewed v p.0 p.1) (λ j. (r.3 j, r.4 j)) so.0,
+        (
+          r.1,
+          ap (λ j. found j (h.world).listeners h.views) number ∙ found_own (h.world).listeners h.views r.0 r.1 sound.rises r.2,
+          subst (λ (p : Query × Option View). IsTurn (length (children_of (seen v p.0))) (most_read h.world s v p.0) r.1 p.1) (λ j. (sym query j, r.4 j)) so.1,
+        ),
+      )
+
+  pub met_viewed : (k : Held) → k.world ≡ v → Rises (k.world).listeners → (k.world).listeners ≡ map (renewed_met es b ws) (h.world).listeners → k.views ≡ map (view_met es b ws) (zip (h.world).listeners h.views) → FollowsStep h s k
+  met_viewed k is rises ls vs =
+      let from = came (k.world).listeners k.views ls vs in
+      follows h s k rises
+      (pairs_from (λ l n. Unit {0}) (IsViewed k.world) (k.world).listeners k.views
+      (subst (λ (p : List Listener × List (Option View)). AreAligned p.0 p.1) (λ i. (sym ls i, sym vs i)) (map_aligned (h.world).listeners h.views viewed))
+      (λ m o i. subst (λ x. IsViewed x m o) (sym is) (from m o i).0))
+      (λ m o i. subst (λ x. Comes h s x m o) (sym is) (from m o i).1)
+
+-- ---- each kind of step
+
+pub follow_step : TouchLaws → UnnamedAreSeen → StaysSound → (h : Held) (s : Step) (k : Held) → IsDue h.world s → AreViewed h → k.world ≡ next h.world s → HasViews h s k → FollowsStep h s k
+follow_step laws law sounds h s k d viewed is has = at s d is has
+  where
+    rises : (s : Step) → IsDue h.world s → k.world ≡ next h.world s → Rises (k.world).listeners
+    rises s d is = subst (λ (x : World). Rises x.listeners) (sym is) (sounds h.world s d.good.sound).rises
+
+    same : (s : Step) → IsDue h.world s → k.world ≡ next h.world s → entries_by h.world s ≡ [] → listeners_after h.world s ≡ (h.world).listeners → SameViews h k → FollowsStep h s k
+    same s d is none after has = all_viewed law h s k d.good.sound d.good.called d.not_refused is (rises s d is) viewed none has.listeners has.views after
+
+    passed : (s : Step) → IsDue h.world s → k.world ≡ next h.world s → entries_by h.world s ≡ [] → (test : Listener → Bool) → listeners_after h.world s ≡ filter test (h.world).listeners → KeepsViews test h k → FollowsStep h s k
+    passed s d is none test after has = passed_viewed law h s k d.good.sound d.good.called d.not_refused is (rises s d is) viewed none test has.listeners has.views after
+
+    met : (s : Step) → IsDue h.world s → k.world ≡ next h.world s → listeners_after h.world s ≡ (h.world).listeners → (entries : List Assignment) → entries ≡ entries_by h.world s → RefreshesViews h entries k → FollowsStep h s k
+    met s d is after entries e has =
+        met_viewed laws h s d.good.sound d.good.called d.not_refused after viewed k is (rises s d is)
+        (has.listeners ∙ (λ i. map (renewed_met (e i) (is i).brought (pending (is i).requests)) (h.world).listeners))
+        (has.views ∙ (λ i. map (view_met (e i) (is i).brought (pending (is i).requests)) (zip (h.world).listeners h.views)))
+
+    at : (s : Step) → IsDue h.world s → k.world ≡ next h.world s → HasViews h s k → FollowsStep h s k
+    at (Step.Listen seat query) d is has = listened_viewed law h seat query k d.good.sound d.good.called d.not_refused is (rises (Step.Listen seat query) d is) viewed has.listeners has.views
+    at (Step.Unlisten seat listener) d is has = passed (Step.Unlisten seat listener) d is refl (λ (l : Listener). not (l.number == listener)) refl has
+    at (Step.Write seat action) d is has = met (Step.Write seat action) d is refl (entries_of action) refl has
+    at (Step.OnDisconnect seat ending) d is has = same (Step.OnDisconnect seat ending) d is refl refl has
+    at (Step.Data tag path tree) d is has = met (Step.Data tag path tree) d is refl ((path, tree) ∷ []) refl has
+    at (Step.DataMerge tag entries) d is has = met (Step.DataMerge tag entries) d is refl entries refl has
+    at (Step.Accepted id) d is has = met (Step.Accepted id) d is refl (entries_settled h.world id) refl has
+    at (Step.Refused id why) d is has = met (Step.Refused id why) d is refl (entries_settled h.world id) refl has
+    at (Step.Revoked tag why) d is has = passed (Step.Revoked tag why) d is refl (λ (l : Listener). not (is_cancelled h.world tag l)) refl has
+    at Step.Connected d is has = same Step.Connected d is refl refl has
+    at Step.Disconnected d is has = same Step.Disconnected d is refl refl has
+    at (Step.CloseSeat seat) d is has = passed (Step.CloseSeat seat) d is refl (λ (l : Listener). not (l.seat == seat)) refl has
+
+-- ---- before listeners are refreshed
+
+module _ (laws : TouchLaws) (law : PushIsBrought) (h : Held) (viewed : AreViewed h) where
+  -- where views are touched over what is pushed and pending then, they show what is seen
+  pub follows_at : (s : Step) → IsDue h.world s → changes_listeners s ≡ false → listeners_after h.world s ≡ (h.world).listeners
+      → (entries : List Assignment) → entries ≡ entries_by h.world s → (b : Brought) → b ≡ pushed h.world s → (writes : List Write) → writes ≡ pending (requests_after h.world s)
+      → FollowNamed entries b writes (record { listeners = (h.world).listeners; views = h.views })
+  follows_at s d quiet after entries ee b be writes we =
+      let brought : b ≡ (next h.world s).brought = be ∙ sym (law h.world s d.good.sound d.good.called d.good.reached d.not_refused quiet) in
+      subst (λ (p : List Assignment × Brought × List Write). FollowNamed p.0 p.1 p.2 (record { listeners = (h.world).listeners; views = h.views })) (λ i. (sym ee i, sym brought i, sym we i))
+      (follow_named laws h s d.good.sound d.good.called d.not_refused after viewed)
+
+  pub follows_settled : (id : ℕ) (why : Option Reason) → IsDue h.world (settling id why)
+      → (entries : List Assignment) → entries ≡ entries_settled h.world id → (rs : List Request) → rs ≡ filter (λ (r : Request). not (r.id == id)) (h.world).requests → (writes : List Write) → writes ≡ pending rs
+      → FollowNamed entries (h.world).brought writes (record { listeners = (h.world).listeners; views = h.views })
+  follows_settled id None d entries ee rs re writes we = follows_at (Step.Accepted id) d refl refl entries ee (h.world).brought refl writes (we ∙ ap pending re)
+  follows_settled id (Some why) d entries ee rs re writes we = follows_at (Step.Refused id why) d refl refl entries ee (h.world).brought refl writes (we ∙ ap pending re)

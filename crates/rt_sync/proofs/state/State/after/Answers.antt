@@ -1,0 +1,5 @@
+use Rattle.rt_sync.proofs.Viewed.{unchanged}
+use Rattle.rt_sync.proofs.state.State.after.Goals as goal
+
+pub returns-in-Some-clause-views : goal.returns-in-Some-clause-views
+returns-in-Some-clause-views c = unchanged c.args.self c.args.step c.requires.good.sound c.requires.viewed

@@ -1,0 +1,69 @@
+use Rattle.std.proofs.Common.{◌≡◌, ◌++◌, None, ◌∙◌, ap, map, sym, subst, refl, not, false, Some}
+use Rattle.std.specs.List.{filter}
+use Rattle.rt_query.specs.QueryEq.{query_eq}
+use Rattle.rt_query.specs.Supply.{form}
+use Rattle.rt_cover.specs.State.{Cover, revoke_fault, listen_at}
+use Rattle.rt_listeners.specs.Listeners.{cancelled_note, views_left}
+use Rattle.rt_world.specs.declared.step.Step.{Step}
+use Rattle.rt_world.specs.World.{Listener, World}
+use Rattle.rt_world.specs.Covering.{cover_in}
+use Rattle.rt_sync.specs.Core.{Held}
+use Rattle.rt_sync.specs.declared.told.Told.{Told}
+use Rattle.rt_sync.specs.inside.Due.{IsDue, IsNext}
+use Rattle.rt_sync.specs.inside.StateView.{world_of}
+use Rattle.rt_sync.proofs.Listened.{revoke_made, revoked_is, tied_next}
+use Rattle.rt_sync.proofs.NextWorlds.{along}
+use Rattle.rt_sync.proofs.TagLaws.{cover_tied}
+use Rattle.std.specs.Option.{option_map, option_map_or}
+use Rattle.rt_cover.specs.Cover.{Tagged}
+use Rattle.rt_world.specs.steps.Revoking.{is_cancelled}
+use Rattle.rt_sync.proofs.state.State.revoke.Goals as goal
+
+pub uncover_revoked-requires : goal.uncover_revoked-requires
+uncover_revoked-requires c =
+    let cover : c.state.inside.cover ≡ cover_in (c.args.self).world = cover_tied c.state.inside.cover _ c.state.invariant refl refl ∙ ap (λ (h : Held). cover_in h.world) c.state.view_is in
+    ap (λ (v : Cover). revoke_fault v c.args.tag) cover
+    ∙ c.covered_law.ensures.revoked (c.args.self).world c.args.tag c.args.why c.requires.not_refused c.requires.not_stale
+
+pub returns-clause-made : goal.returns-clause-made
+returns-clause-made c =
+    let state = c.state.inside in
+    let ended = map (cancelled_note c.args.why) (filter (λ (l : Listener). query_eq (form l.query) c.in_ok-form.form) state.listeners.listeners) in
+    along state.limits state.listeners.listeners state.requests state.brought state.cover state.is_connected state.outgoing.items state.given_listeners state.given_requests
+    (c.args.self).world (ap (λ (h : Held). h.world) c.state.view_is) (Step.Revoked c.args.tag c.args.why) _ (λ d.
+    revoke_made state.limits state.listeners.listeners state.requests state.brought state.cover state.is_connected state.outgoing.items state.given_listeners state.given_requests
+    c.listened_law.ensures.revoked c.state.invariant c.args.tag c.args.why d
+    c.in_ok-form.form c.in_ok-form.ensures.form
+    c.uncover_revoked.new.cover c.in_ok-form.ensures.cover c.cancel.new.self.listeners c.in_ok-cancel.ensures.listeners c.lose.new.brought c.in_ok-lose.ensures
+    c.in_ok-form.delta c.in_ok-form.ensures.delta c.send_change.new.outgoing.items c.in_ok-send_change.ensures _ refl
+    (c.in_ok-cancel.ensures.notes ∙ ap (λ ns. ns ++ ended) c.new-notes.ensures.items)) c.requires
+
+pub invariant_of-state : goal.invariant_of-state
+invariant_of-state c =
+    let state = c.state.inside in
+    let ended = map (cancelled_note c.args.why) (filter (λ (l : Listener). query_eq (form l.query) c.in_ok-form.form) state.listeners.listeners) in
+    let old : World = world_of state.limits state.listeners.listeners state.requests state.brought state.cover state.is_connected state.outgoing.items state.given_listeners state.given_requests in
+    let s : Step = Step.Revoked c.args.tag c.args.why in
+    let d : IsDue old s = subst (λ (v : Held). IsDue v.world s) (sym c.state.view_is) c.requires in
+    let said : Told = record { given = None; notes = c.cancel.new.notes } in
+    let made : IsNext old s (world_of state.limits c.cancel.new.self.listeners state.requests c.lose.new.brought c.uncover_revoked.new.cover state.is_connected c.send_change.new.outgoing.items state.given_listeners state.given_requests, said) =
+    revoke_made state.limits state.listeners.listeners state.requests state.brought state.cover state.is_connected state.outgoing.items state.given_listeners state.given_requests
+    c.listened_law.ensures.revoked c.state.invariant c.args.tag c.args.why d
+    c.in_ok-form.form c.in_ok-form.ensures.form
+    c.uncover_revoked.new.cover c.in_ok-form.ensures.cover c.cancel.new.self.listeners c.in_ok-cancel.ensures.listeners c.lose.new.brought c.in_ok-lose.ensures
+    c.in_ok-form.delta c.in_ok-form.ensures.delta c.send_change.new.outgoing.items c.in_ok-send_change.ensures said refl
+    (c.in_ok-cancel.ensures.notes ∙ ap (λ ns. ns ++ ended) c.new-notes.ensures.items) in
+    tied_next c.following_law.ensures.cover old s d.good.sound c.uncover_revoked.new.cover _
+    (c.in_ok-form.ensures.cover ∙ revoked_is state.limits state.listeners.listeners state.requests state.brought state.cover state.is_connected state.outgoing.items state.given_listeners state.given_requests c.state.invariant c.args.tag c.args.why)
+    made.world
+
+pub returns-clause-views : goal.returns-clause-views
+returns-clause-views c =
+    let state = c.state.inside in
+    let form_is : option_map (λ (k : Tagged). k.form) (listen_at state.cover c.args.tag) ≡ Some c.in_ok-form.form = c.in_ok-form.ensures.form in
+    record {
+      listeners = c.in_ok-cancel.ensures.listeners ∙ (λ i. filter (λ (l : Listener). not (option_map_or (query_eq (form l.query)) (sym form_is i) false)) state.listeners.listeners)
+          ∙ (λ i. filter (λ (l : Listener). not (is_cancelled (c.state.view_is i).world c.args.tag l)) ((c.state.view_is i).world).listeners);
+      views = c.in_ok-cancel.ensures.views ∙ (λ i. views_left (λ (l : Listener). not (option_map_or (query_eq (form l.query)) (sym form_is i) false)) state.listeners)
+          ∙ (λ i. views_left (λ (l : Listener). not (is_cancelled (c.state.view_is i).world c.args.tag l)) (record { listeners = ((c.state.view_is i).world).listeners; views = (c.state.view_is i).views }));
+    }

@@ -1,0 +1,25 @@
+use Rattle.std.proofs.Common.{◌∷◌, [], IfOk, Result, Ok, Err, sym, subst}
+use Rattle.rt_world.specs.declared.step.Step.{Step}
+use Rattle.rt_sync.specs.inside.Due.{IsDue, IsNext}
+use Rattle.rt_sync.specs.inside.Viewed.{RefreshesViews}
+use Rattle.rt_sync.proofs.state.State.take_data.Goals as goal
+
+-- what is so of each good result
+of_ok : {X E : Type 0} (r : Result X E) (P Q : X → Type 0) → ((x : X) → P x → Q x) → IfOk r P → IfOk r Q
+of_ok (Ok x) P Q f p = f x p
+of_ok (Err e) P Q f p = p
+
+pub take_merge-requires-clause-due : goal.take_merge-requires-clause-due
+take_merge-requires-clause-due c =
+    subst (λ es. IsDue (c.args.self).world (Step.DataMerge c.args.tag es)) (sym c.in_ok-entries.ensures)
+    (record { good = c.requires.due.good; not_refused = c.requires.due.not_refused; not_stale = c.requires.due.not_stale })
+
+pub returns-clause-made : goal.returns-clause-made
+returns-clause-made c =
+    of_ok c.take_merge.result (λ made. IsNext (c.args.self).world (Step.DataMerge c.args.tag ((c.args.path, c.args.tree) ∷ [])) (made.0.world, made.1)) (λ made. IsNext (c.args.self).world (Step.Data c.args.tag c.args.path c.args.tree) (made.0.world, made.1))
+    (λ made n. record { world = n.world; given = n.given; notes = n.notes })
+    (subst (λ es. IfOk c.take_merge.result (λ made. IsNext (c.args.self).world (Step.DataMerge c.args.tag es) (made.0.world, made.1))) c.in_ok-entries.ensures c.take_merge.ensures.made)
+
+pub returns-clause-views : goal.returns-clause-views
+returns-clause-views c =
+    subst (λ es. IfOk c.take_merge.result (λ made. RefreshesViews c.args.self es made.0)) c.in_ok-entries.ensures c.take_merge.ensures.views

@@ -1,0 +1,47 @@
+use Rattle.std.proofs.Common.{Bool, None, ◌∙◌, sym, subst, refl, not, ap}
+use Rattle.std.specs.List.{filter}
+use Rattle.rt_world.specs.declared.step.Step.{Step}
+use Rattle.rt_world.specs.World.{World, Listener}
+use Rattle.rt_listeners.specs.Listeners.{views_left}
+use Rattle.rt_sync.specs.Core.{Held}
+use Rattle.rt_sync.specs.declared.told.Told.{Told}
+use Rattle.rt_sync.specs.inside.Due.{IsDue, IsNext}
+use Rattle.rt_sync.specs.inside.StateView.{world_of}
+use Rattle.rt_sync.proofs.Listened.{removed_is, unlisten_made, tied_next}
+use Rattle.rt_sync.proofs.NextWorlds.{along}
+use Rattle.std.specs.Prelude.{◌==◌}
+use Rattle.rt_sync.proofs.state.State.unlisten.Goals as goal
+
+pub returns-clause-made : goal.returns-clause-made
+returns-clause-made c =
+    let state = c.state.inside in
+    along state.limits state.listeners.listeners state.requests state.brought state.cover state.is_connected state.outgoing.items state.given_listeners state.given_requests
+    (c.args.self).world (ap (λ (h : Held). h.world) c.state.view_is) (Step.Unlisten c.args.seat c.args.listener) _ (λ d.
+    unlisten_made state.limits state.listeners.listeners state.requests state.brought state.cover state.is_connected state.outgoing.items state.given_listeners state.given_requests
+    c.listened_law.ensures.unlisten c.state.invariant c.args.seat c.args.listener d
+    c.uncover.new.cover c.in_ok-delta.ensures.cover c.remove.new.self.listeners c.remove.ensures.listeners c.lose.new.brought c.in_ok-lose.ensures
+    c.in_ok-delta.delta c.in_ok-delta.ensures.delta c.send_change.new.outgoing.items c.in_ok-send_change.ensures _ refl c.new-notes.ensures.items) c.requires
+
+pub invariant_of-state : goal.invariant_of-state
+invariant_of-state c =
+    let state = c.state.inside in
+    let old : World = world_of state.limits state.listeners.listeners state.requests state.brought state.cover state.is_connected state.outgoing.items state.given_listeners state.given_requests in
+    let s : Step = Step.Unlisten c.args.seat c.args.listener in
+    let d : IsDue old s = subst (λ (v : Held). IsDue v.world s) (sym c.state.view_is) c.requires in
+    let said : Told = record { given = None; notes = c.new-notes.result } in
+    let made : IsNext old s (world_of state.limits c.remove.new.self.listeners state.requests c.lose.new.brought c.uncover.new.cover state.is_connected c.send_change.new.outgoing.items state.given_listeners state.given_requests, said) =
+    unlisten_made state.limits state.listeners.listeners state.requests state.brought state.cover state.is_connected state.outgoing.items state.given_listeners state.given_requests
+    c.listened_law.ensures.unlisten c.state.invariant c.args.seat c.args.listener d
+    c.uncover.new.cover c.in_ok-delta.ensures.cover c.remove.new.self.listeners c.remove.ensures.listeners c.lose.new.brought c.in_ok-lose.ensures
+    c.in_ok-delta.delta c.in_ok-delta.ensures.delta c.send_change.new.outgoing.items c.in_ok-send_change.ensures said refl c.new-notes.ensures.items in
+    tied_next c.following_law.ensures.cover old s d.good.sound c.uncover.new.cover _
+    (c.in_ok-delta.ensures.cover ∙ removed_is state.limits state.listeners.listeners state.requests state.brought state.cover state.is_connected state.outgoing.items state.given_listeners state.given_requests c.state.invariant c.args.seat c.args.listener)
+    made.world
+
+pub returns-clause-views : goal.returns-clause-views
+returns-clause-views c =
+    let test : Listener → Bool = λ l. not (l.number == c.args.listener) in
+    record {
+      listeners = c.remove.ensures.listeners ∙ ap (λ (h : Held). filter test (h.world).listeners) c.state.view_is;
+      views = c.remove.ensures.views ∙ ap (λ (h : Held). views_left test (record { listeners = (h.world).listeners; views = h.views })) c.state.view_is;
+    }

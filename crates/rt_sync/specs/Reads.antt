@@ -1,0 +1,50 @@
+-- How many children of its views a step takes anew.
+use Rattle.std.specs.Prelude.{◌≡◌, ◌≤◌, ◌==◌, ℕ, ◌+◌, ◌%◌, ◌^◌, ◌⊎◌, if◌then◌else◌, length}
+use Rattle.std.specs.Prelude.{Option, Some, None}
+use Rattle.std.specs.List.{All, find, zip}
+use Rattle.std.specs.Option.{option_and_then, option_map}
+use Rattle.rt_tree.specs.Children.{children_of}
+use Rattle.rt_query.specs.Queries.{Query}
+use Rattle.rt_view.specs.Views.{View, shown_of}
+use Rattle.rt_world.specs.declared.step.Step.{Step}
+use Rattle.rt_world.specs.World.{Listener, World}
+use Rattle.rt_world.specs.Touched.{entries_by, is_covered, children_named, seen}
+use Rattle.rt_sync.specs.Core.{Held}
+
+-- the view that is held of the listener of that number
+abbrev pub view_held : Held → ℕ → Option View
+view_held h number =
+    option_and_then (λ p. p.1) (find (λ p. p.0.number == number) (zip h.world.listeners h.views))
+
+-- how many children a step may take anew that leads from one world to another: where an entry of it
+-- sits at or above the query's path, all that were seen and all that are seen; else those that its
+-- entries name
+abbrev pub most_read : World → Step → World → Query → ℕ
+most_read w s v q =
+    if is_covered q.path (entries_by w s)
+    then length (children_of (seen w q)) + length (children_of (seen v q))
+    else length (children_named q.path (entries_by w s))
+
+-- a first view takes so many children; another stays as it is, its counts too, or it is changed once
+-- and takes no more than so many anew
+abbrev pub IsTurn : (first most : ℕ) → Option View → Option View → Type 0
+IsTurn first most None None = Unit {0}
+IsTurn first most None (Some v) = (v.turns ≡ 1) × (v.reads ≡ first)
+IsTurn first most (Some u) None = ⊥
+IsTurn first most (Some u) (Some v) =
+    (v ≡ u) ⊎ ((v.turns ≡ (u.turns + 1) % 2 ^ 64) × (v.reads ≤ most))
+
+-- what is held of a listener shows its view, and has come so from what was held of it
+pub record TurnsOnce (h : Held) (s : Step) (k : Held) (l : Listener) : Type 0 where
+  pub shown : option_map shown_of (view_held k l.number) ≡ l.view
+  pub turn :
+      IsTurn (length (children_of (seen k.world l.query))) (most_read h.world s k.world l.query)
+      (view_held h l.number) (view_held k l.number)
+
+-- so it is of each listener after the step
+abbrev pub ReadsNamed : Held → Step → Held → Type 0
+ReadsNamed h s k = All (TurnsOnce h s k) (k.world).listeners
+
+-- and of a core that has not failed
+abbrev pub Reads : Option Held → Step → Option Held → Type 0
+Reads old s new = (h k : Held) → old ≡ Some h → new ≡ Some k → ReadsNamed h s k

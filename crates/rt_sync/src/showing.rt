@@ -1,0 +1,44 @@
+// What a core shows of itself.
+ghost use Rattle.std.specs.Prelude.{◌≡◌, ◌⊎◌, Ok, Err};
+ghost use Rattle.rt_world.specs.World.{cover};
+ghost use Rattle.rt_sync.specs.Core.{HasView, first_message, view_in, without_first};
+
+use crate::state::State;
+use rt_cover::KeptList;
+use rt_listeners::ShownError;
+use rt_query::Shown;
+use rt_world::{ClientMessage, CoreError};
+
+impl State {
+    ghost use Rattle.rt_world.specs.declared.error.CoreError.TheVariants as CoreError;
+
+    // The kept listens, by tag.
+    pub(crate) fn cover(&self) -> Result<KeptList, CoreError>
+        ensures { (result ≡ Ok (cover self.now.world)) ⊎ (result ≡ Err CoreError.NoMemory) }
+    {
+        match self.cover.open() {
+            Ok(list) => Ok(list),
+            Err(_) => Err(CoreError::NoMemory),
+        }
+    }
+
+    // What the listener of that number shows.
+    pub(crate) fn view(&self, listener: u64) -> Result<Option<Shown>, CoreError>
+        ensures { (result ≡ view_in self.now.world listener)
+            ⊎ ((result ≡ Err CoreError.NoMemory) × HasView self.now.world listener) }
+    {
+        match self.listeners.shown(listener) {
+            Ok(shown) => Ok(shown),
+            Err(ShownError::NoListener) => Err(CoreError::UnknownListener),
+            Err(ShownError::NoMemory) => Err(CoreError::NoMemory),
+        }
+    }
+
+    // Takes the first message out.
+    pub(crate) fn take_outgoing(&mut self) -> Option<ClientMessage>
+        ensures message { result ≡ first_message self.old.world.outgoing }
+        ensures rest { self.new ≡ record { world = without_first self.old.world; views = self.old.views } }
+    {
+        self.outgoing.pop_front()
+    }
+}

@@ -1,0 +1,209 @@
+// A seat asks the server for something: a write, or what is to be done when the connection ends.
+ghost use Rattle.std.specs.Prelude.{◌≡◌, ◌∷◌, ◌||◌, [], ℕ, length, nat_le, nat_lt, IfOk};
+ghost use Rattle.std.specs.List.{list_any};
+ghost use Rattle.rt_tree.specs.Assignments.{have_overlap};
+ghost use Rattle.rt_world.specs.declared.error.CoreError.TheVariants as CoreError;
+ghost use Rattle.rt_world.specs.World.{entries_of};
+ghost use Rattle.rt_world.specs.steps.Asking.{is_empty_action};
+ghost use Rattle.rt_world.specs.steps.Kind.{stands_too_deep};
+ghost use Rattle.rt_world.specs.laws.Refused.{first_of};
+
+use crate::sending::send_asked;
+use crate::state::State;
+use crate::told::Told;
+use rt_tree::{MAX_LEVELS, Path, Tree};
+use rt_world::{
+    Action, Asked, CoreError, Ending, asked_law, brought_law, pending_law, refusal_law, stay_law,
+    touch_law,
+};
+use rt_writes::Entries;
+use std::alloc::{AllocError, Global};
+
+// The paths and trees that the action sets, shared with it.
+fn entries_of(alloc: Global, action: &Action) -> Result<Entries, AllocError>
+    ensures { IfOk result (λ entries. entries ≡ entries_of action.now) }
+{
+    match action {
+        Action::Put { path, tree } => {
+            let mut items = Vec::new(alloc);
+            items.push((path.copy()?, tree.copy(alloc)?))?;
+            Ok(Entries::of(items))
+        }
+        Action::Merge { entries } => entries.copy(),
+    }
+}
+
+// Whether of two entries of the action one is at or above the other.
+fn has_overlap(action: &Action) -> bool
+    ensures { result ≡ have_overlap (entries_of action.now) }
+{
+    match action {
+        Action::Put { .. } => false,
+        Action::Merge { entries } => entries.have_overlap(),
+    }
+}
+
+// Whether the action is an update without entries.
+fn is_empty_update(action: &Action) -> bool
+    ensures { result ≡ is_empty_action action.now }
+{
+    match action {
+        Action::Put { .. } => false,
+        Action::Merge { entries } => match entries.as_slice() {
+            [] => true,
+            [_, ..] => false,
+        },
+    }
+}
+
+// Whether a leaf would stand under too many keys.
+pub(crate) fn stands_too_deep(path: &Path, tree: &Tree) -> bool
+    ensures { result ≡ stands_too_deep (path.now, tree.now) }
+{
+    MAX_LEVELS < path.keys().len() + tree.levels()
+}
+
+// Whether one of these entries would.
+pub(crate) fn stand_too_deep(entries: &Entries) -> bool
+    ensures { result ≡ list_any stands_too_deep entries.now }
+{
+    entries
+        .as_slice()
+        .iter()
+        .any(|entry| stands_too_deep(&entry.0, &entry.1))
+}
+
+// Whether a leaf of the action would.
+fn is_too_deep(action: &Action) -> bool
+    ensures { result ≡ list_any stands_too_deep (entries_of action.now) }
+{
+    match action {
+        Action::Put { path, tree } => stands_too_deep(path, tree),
+        Action::Merge { entries } => stand_too_deep(entries),
+    }
+}
+
+// Why an action can't be asked for, whoever asks.
+fn action_refusal(action: &Action) -> Option<CoreError>
+    ensures { result ≡ first_of ((have_overlap (entries_of action.now), CoreError.Overlap)
+        ∷ (is_empty_action action.now, CoreError.EmptyUpdate)
+        ∷ (list_any stands_too_deep (entries_of action.now), CoreError.TooDeep) ∷ []) }
+{
+    if has_overlap(action) {
+        return Some(CoreError::Overlap);
+    }
+    if is_empty_update(action) {
+        return Some(CoreError::EmptyUpdate);
+    }
+    if is_too_deep(action) {
+        return Some(CoreError::TooDeep);
+    }
+    None
+}
+
+impl State {
+    ghost use Rattle.rt_wire.specs.declared.request.Asked.TheVariants as Asked;
+    ghost use Rattle.rt_world.specs.declared.step.Step.TheVariants as Step;
+    ghost use Rattle.rt_world.specs.Refusals.{refusal};
+    ghost use Rattle.rt_sync.specs.inside.Due.{IsDue, IsNext};
+    ghost use Rattle.rt_sync.specs.inside.Viewed.{AreViewed, RefreshesViews, SameViews};
+
+    // Whether the limit of unsettled requests is reached, or the last number.
+    fn has_too_many_requests(&self) -> bool
+        ensures { result ≡ (nat_le self.now.world.limits.requests (length self.now.world.requests)
+            || nat_lt self.now.world.limits.last_number self.now.world.next_request) }
+    {
+        self.requests.len() as u64 >= u64::from(self.limits.requests)
+            || self.given_requests >= self.limits.last_number
+    }
+
+    // Why a write is refused.
+    pub(crate) fn write_refusal(&self, action: &Action) -> Option<CoreError>
+        ensures { (seat : ℕ) → result ≡ refusal self.now.world (Step.Write seat action.now) }
+    {
+        if self.has_too_many_requests() {
+            return Some(CoreError::TooManyRequests);
+        }
+        action_refusal(action)
+    }
+
+    // Why what is asked for the end of the connection is refused.
+    pub(crate) fn on_disconnect_refusal(&self, ending: &Ending) -> Option<CoreError>
+        ensures { (seat : ℕ) → result ≡ refusal self.now.world (Step.OnDisconnect seat ending.now) }
+    {
+        if self.has_too_many_requests() {
+            return Some(CoreError::TooManyRequests);
+        }
+        match ending {
+            Ending::Run(action) => action_refusal(action),
+            Ending::Cancel(_) => None,
+        }
+    }
+
+    // A seat writes: the write shows at once, and is asked for.
+    pub(crate) fn write(self, seat: u64, action: Action) -> Result<(State, Told), AllocError>
+        requires due { IsDue self.world (Step.Write seat action) }
+        requires viewed { AreViewed self }
+        ensures made { IfOk result (λ made. IsNext self.world (Step.Write seat action) (made.0.world, made.1)) }
+        ensures views { IfOk result (λ made. RefreshesViews self (entries_of action) made.0) }
+    {
+        // For the prover: what such a step leaves, and what may be asked.
+        asked_law();
+        pending_law();
+        refusal_law();
+        stay_law();
+        brought_law();
+        touch_law();
+        let alloc = self.alloc();
+        let mut state = self;
+        let id = state.given_requests + 1;
+        let entries = entries_of(alloc, &action)?;
+        let asked = Asked::Now(action);
+        send_asked(alloc, &mut state.outgoing, state.is_connected, id, &asked)?;
+        state.requests.add(id, seat, asked)?;
+        let mut notes = Vec::new(alloc);
+        let pending = state.requests.pending();
+        state
+            .listeners
+            .refresh(entries.as_slice(), &state.brought, pending, &mut notes)?;
+        state.given_requests = id;
+        Ok((
+            state,
+            Told {
+                given: Some(id),
+                notes,
+            },
+        ))
+    }
+
+    // A seat asks for what is to be done when the connection ends; nothing shows.
+    pub(crate) fn ask_at_disconnect(
+        self,
+        seat: u64,
+        ending: Ending,
+    ) -> Result<(State, Told), AllocError>
+        requires { IsDue self.world (Step.OnDisconnect seat ending) }
+        ensures made { IfOk result (λ made.
+            IsNext self.world (Step.OnDisconnect seat ending) (made.0.world, made.1)) }
+        ensures views { IfOk result (λ made. SameViews self made.0) }
+    {
+        // For the prover: what such a step leaves, and what may be asked.
+        asked_law();
+        refusal_law();
+        let alloc = self.alloc();
+        let mut state = self;
+        let id = state.given_requests + 1;
+        let asked = Asked::AtDisconnect(ending);
+        send_asked(alloc, &mut state.outgoing, state.is_connected, id, &asked)?;
+        state.requests.add(id, seat, asked)?;
+        state.given_requests = id;
+        let notes = Vec::new(alloc);
+        Ok((
+            state,
+            Told {
+                given: Some(id),
+                notes,
+            },
+        ))
+    }
+}

@@ -1,0 +1,98 @@
+// The server ends a listen.
+ghost use Rattle.std.specs.Prelude.{◌≡◌, Some, None, not, IfOk, OnOk};
+ghost use Rattle.std.specs.Option.{option_map};
+ghost use Rattle.rt_cover.specs.State.{difference, listen_at, revoke_fault, revoked, without_tag};
+ghost use Rattle.rt_world.specs.steps.Revoking.{is_cancelled};
+
+use crate::sending::send_change;
+use crate::state::State;
+use crate::steps::listening::lose;
+use crate::told::Told;
+use rt_cover::{Cover, Delta};
+use rt_query::Query;
+use rt_world::{CoreError, Reason, covered_law, following_law, listened_law, stay_law, tag_law};
+use std::alloc::AllocError;
+
+// The listeners whose form is that of the listen with the tag are covered no more: that form, and
+// what becomes of the other listens. Only memory can refuse.
+fn uncover_revoked(cover: &mut Cover, tag: u64) -> Result<(Query, Delta), AllocError>
+    requires { revoke_fault cover.old tag ≡ None }
+    ensures cover { OnOk result (cover.new ≡ revoked cover.old tag) }
+    ensures form { IfOk result (λ r.
+        option_map (λ k. k.form) (listen_at cover.old tag) ≡ Some r.0) }
+    ensures delta { IfOk result (λ r. r.1
+        ≡ without_tag tag (difference cover.old (revoked cover.old tag))) }
+{
+    let Some(form) = cover.form_at(tag) else {
+        return Err(AllocError);
+    };
+    let form = form.copy()?;
+    match cover.revoke(tag) {
+        Ok(done) => Ok((form, done.delta)),
+        Err(_) => Err(AllocError),
+    }
+}
+
+impl State {
+    ghost use Rattle.rt_world.specs.declared.step.Step.TheVariants as Step;
+    ghost use Rattle.rt_world.specs.World.{Reason};
+    ghost use Rattle.rt_world.specs.Refusals.{is_stale, needs_tag, refusal};
+    ghost use Rattle.rt_sync.specs.inside.Due.{IsDue, IsGood, IsNext};
+    ghost use Rattle.rt_sync.specs.inside.Viewed.{AreViewed, KeepsViews};
+
+    // Whether the end of the listen would need a tag above the last one.
+    fn lacks_tag_to_revoke(&self, tag: u64) -> bool
+        requires { IsGood self.now.world }
+        ensures { (why : Reason) → result ≡ needs_tag self.now.world (Step.Revoked tag why) }
+    {
+        // For the prover: when a step lacks a tag, and that no listen changes where no listener ends.
+        tag_law();
+        stay_law();
+        self.cover.lacks_tag_to_revoke(tag)
+    }
+
+    // Why the listen can't end.
+    pub(crate) fn revoke_refusal(&self, tag: u64) -> Option<CoreError>
+        requires { IsGood self.now.world }
+        ensures { (why : Reason) → result ≡ refusal self.now.world (Step.Revoked tag why) }
+    {
+        if !self.is_connected {
+            return Some(CoreError::NotConnected);
+        }
+        if self.lacks_tag_to_revoke(tag) {
+            return Some(CoreError::TooManyListeners);
+        }
+        None
+    }
+
+    // Whether no listen with that tag is kept.
+    pub(crate) fn revoke_is_stale(&self, tag: u64) -> bool
+        ensures { (why : Reason) → result ≡ is_stale self.now.world (Step.Revoked tag why) }
+    {
+        match self.listen_of(tag) {
+            Some(_) => false,
+            None => true,
+        }
+    }
+
+    // The server ends a listen: the listeners that it is the form of end, and their seats are told.
+    pub(crate) fn revoke(self, tag: u64, why: Reason) -> Result<(State, Told), AllocError>
+        requires { IsDue self.world (Step.Revoked tag why) }
+        ensures made { IfOk result (λ made. IsNext self.world (Step.Revoked tag why) (made.0.world, made.1)) }
+        ensures views { IfOk result (λ made.
+            KeepsViews (λ l. not (is_cancelled self.world tag l)) self made.0) }
+    {
+        // For the prover: what such a step leaves, and that the cover takes it.
+        listened_law();
+        covered_law();
+        following_law();
+        let alloc = self.alloc();
+        let mut state = self;
+        let (form, delta) = uncover_revoked(&mut state.cover, tag)?;
+        lose(&mut state.brought, &state.cover)?;
+        let mut notes = Vec::new(alloc);
+        state.listeners.cancel(&form, &why, &mut notes)?;
+        send_change(&mut state.outgoing, state.is_connected, delta)?;
+        Ok((state, Told { given: None, notes }))
+    }
+}
