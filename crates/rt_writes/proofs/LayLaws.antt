@@ -350,8 +350,8 @@ lays_none ws x s last b m has passed none = record {
     under j l =
         not_so (some_entry (λ a. is_at_or_above x a.0) ws j)
         (λ e.
-            let noted : b ≡ true = has (j, l, m.under [] j ∙ ap (λ z. some_entry (λ a. is_at_or_above z a.0) ws j) (append-nil x) ∙ e) in
-            cc (sym passed ∙ noted))
+        let noted : b ≡ true = has (j, l, m.under [] j ∙ ap (λ z. some_entry (λ a. is_at_or_above z a.0) ws j) (append-nil x) ∙ e) in
+        cc (sym passed ∙ noted))
 
     first : (b c : Bool) → (b && c) ≡ true → b ≡ true
     first true c e = refl

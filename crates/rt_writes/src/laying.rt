@@ -80,12 +80,7 @@ fn lay_here(
 
 // The tree at the path after an entry. Where it sets null, and something was set in between, a leaf
 // above it has gone all the same.
-fn lay_entry(
-    entry: &(Path, Tree),
-    fills: bool,
-    path: &Path,
-    tree: Tree,
-) -> Result<Tree, AllocError>
+fn lay_entry(entry: &(Path, Tree), fills: bool, path: &Path, tree: Tree) -> Result<Tree, AllocError>
     requires tree { IsShallow (path.now, tree) }
     requires entry { IsShallow entry.now }
     ensures laid { IfOk result (λ done. done ≡ fold (overlaid path.now) tree (marked fills entry.now)) }

@@ -19,11 +19,11 @@ returns-in-Some-entry_of-clause-laid c =
     (λ done. done ≡ fold (overlaid c.args.path.now) c.args.tree (marked c.has_full_after.result c.in-Some-entry_of.entry.now))
     (λ done. (x : Path) → AreApart c.args.writes.now → IsMergedAt c.args.writes.now x c.args.spot.now → Laid (SetsAt c.args.writes.now x c.args.last c.args.here) c.args.path.now c.args.tree done)
     (λ done e x apart m. (
-    marked c.has_full_after.result c.in-Some-entry_of.entry.now,
-    e,
-    subst (λ h. SetsAt c.args.writes.now x c.args.last h (marked c.has_full_after.result c.in-Some-entry_of.entry.now)) (sym c.in-Some.is)
-        (sets_one c.args.writes.now x c.args.spot.now c.args.last c.in-Some.number c.in-Some-get.place.now c.in-Some-entry_of.entry.now c.has_full_after.result full_leaf
-        (rising_of c.args.writes.now c.requires.kept.rises) apart m later (sym c.in-Some-get.ensures.value) (sym c.in-Some-entry_of.ensures) c.has_full_after.ensures),
+      marked c.has_full_after.result c.in-Some-entry_of.entry.now,
+      e,
+      subst (λ h. SetsAt c.args.writes.now x c.args.last h (marked c.has_full_after.result c.in-Some-entry_of.entry.now)) (sym c.in-Some.is)
+          (sets_one c.args.writes.now x c.args.spot.now c.args.last c.in-Some.number c.in-Some-get.place.now c.in-Some-entry_of.entry.now c.has_full_after.result full_leaf
+          (rising_of c.args.writes.now c.requires.kept.rises) apart m later (sym c.in-Some-get.ensures.value) (sym c.in-Some-entry_of.ensures) c.has_full_after.ensures),
     ))
     c.lay_entry.ensures.laid
 
