@@ -1,7 +1,11 @@
 pub mod AtChild
+pub mod LayLaws
+pub mod LeafLaws
 pub mod Lists
 pub mod NumberLaws
 pub mod PartLaws
 pub mod Places
+pub mod RowLaws
 pub mod Shallow
 pub mod SpotLaws
+pub mod TopLaws

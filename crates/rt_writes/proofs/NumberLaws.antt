@@ -1,6 +1,6 @@
 -- Writes by their numbers: what the tree of paths keeps when one comes or goes, and which of them an
 -- overlay needs.
-use Rattle.std.proofs.Common.{◌≡◌, ◌==◌, ◌≤◌, ◌<◌, ℕ, suc, Bool, true, false, cond, not, ◌&&◌, ◌||◌, List, [], ◌∷◌, ◌++◌, length, get_or, nat_lt, Option, Some, None, is_some, refl, sym, ap, subst, ◌∙◌, arith, eqb-true}
+use Rattle.std.proofs.Common.{◌≡◌, ◌==◌, ◌≤◌, ◌<◌, ℕ, suc, Bool, true, false, cond, not, ◌&&◌, ◌||◌, List, [], ◌∷◌, ◌++◌, length, get_or, nat_lt, Option, Some, None, is_some, refl, sym, ap, subst, ◌∙◌, arith, eqb-true, ◌⊎◌, ⊎_elim}
 use Rattle.std.specs.List.{All, AllPairs, AllByRecursion, fold, filter, find, flat_map, list_any, position, remove}
 use Rattle.std.specs.Cmp.{unsigned_tied, tied_itself, nat_cmp_total}
 use Rattle.std.specs.Ordering.{nat_cmp, is_eq, is_lt, eq_by_cmp}
@@ -21,7 +21,7 @@ use mathlib.Core.List.{append-nil}
 use Rattle.std.proofs.lemmas.List.Sums.{fold-append}
 use Rattle.std.proofs.lemmas.List.Concat.{flat_map-append}
 use Rattle.rt_tree.specs.PathTree.{Key, Path, PathTree, key_cmp, path_eq, path_eq-is, path_eq-same, strip, strip-some, strip-append}
-use Rattle.rt_tree.specs.Assignments.{Assignment, is_at_or_above, do_overlap}
+use Rattle.rt_tree.specs.Assignments.{Assignment, is_at_or_above, do_overlap, have_overlap}
 use Rattle.rt_writes.specs.Writes.{Write, assignments, overlaid, overlay, sets_whole, sets_child_whole, without, touches, IsShallow}
 use Rattle.rt_writes.specs.Kept.{IsKept}
 use Rattle.std.proofs.lemmas.List.Kept.{AllPairs-filter}
@@ -29,8 +29,9 @@ use Rattle.std.proofs.lemmas.List.Elements.{All-filter}
 use Rattle.std.proofs.lemmas.List.Quantifiers.{position-Some}
 use Rattle.rt_writes.specs.laws.TouchLaws.{fold-untouched, fold-whole}
 use Rattle.rt_writes.specs.declared.spots.Spot.{Spot}
-use Rattle.rt_writes.specs.inside.Spots.{under_of, below_of, spot_at, has_here, has_under, AddsAll, ForgetsAll, IsAbove, IsLast, some_entry, IsMerged, IsPending, is_later, bound_of, overlaid_last}
+use Rattle.rt_writes.specs.inside.Spots.{under_of, below_of, spot_at, has_here, has_under, has_full, place_at, is_entry, is_full, AddsAll, ForgetsAll, IsAbove, IsLast, some_write, some_entry, IsMerged, IsMergedAt, IsPending, is_later, after}
 use Rattle.rt_writes.proofs.Lists.{list_any-flat_map, filter-all, find-position, remove-without}
+use Rattle.rt_writes.proofs.SpotLaws.{has_place}
 use Rattle.rt_writes.proofs.AtChild.{at_itself, at_other}
 
 -- ---- tests
@@ -50,11 +51,11 @@ and_false : (b : Bool) → (b && false) ≡ false
 and_false true = refl
 and_false false = refl
 
-not_so : (b : Bool) → (b ≡ true → ⊥) → b ≡ false
+pub not_so : (b : Bool) → (b ≡ true → ⊥) → b ≡ false
 not_so true h = absurd (h refl)
 not_so false h = refl
 
-equal_itself : (n : ℕ) → (n == n) ≡ true
+pub equal_itself : (n : ℕ) → (n == n) ≡ true
 equal_itself n = sym (unsigned_tied n n) ∙ ap is_eq (tied_itself nat_cmp_total n)
 
 apart : (a b : ℕ) → (a ≡ b → ⊥) → (a == b) ≡ false
@@ -70,7 +71,7 @@ lt_of_cmp n m =
       | false ↦ elim (n == m) as (λ b. is_lt (cond b Equal Greater) ≡ false) [ true ↦ refl | false ↦ refl ]
     ]
 
-any_of : {X : Type 0} (f g : X → Bool) → ((x : X) → f x ≡ true → g x ≡ true) → (xs : List X) → list_any f xs ≡ true → list_any g xs ≡ true
+pub any_of : {X : Type 0} (f g : X → Bool) → ((x : X) → f x ≡ true → g x ≡ true) → (xs : List X) → list_any f xs ≡ true → list_any g xs ≡ true
 any_of f g h [] e = e
 any_of f g h (x ∷ xs) e =
     elim (f x) as (λ b. f x ≡ b → (b || list_any f xs) ≡ true → (g x || list_any g xs) ≡ true) [
@@ -78,7 +79,7 @@ any_of f g h (x ∷ xs) e =
       | false ↦ λ s t. ap (λ b. g x || b) (any_of f g h xs t) ∙ or_true (g x)
     ] refl e
 
-any_either : {X : Type 0} (f g : X → Bool) (xs : List X) → list_any f xs ≡ false → list_any g xs ≡ false → list_any (λ x. f x || g x) xs ≡ false
+pub any_either : {X : Type 0} (f g : X → Bool) (xs : List X) → list_any f xs ≡ false → list_any g xs ≡ false → list_any (λ x. f x || g x) xs ≡ false
 any_either f g [] e h = refl
 any_either f g (x ∷ xs) e h =
     elim (f x) as (λ b. (b || list_any f xs) ≡ false → ((b || g x) || list_any (λ x. f x || g x) xs) ≡ false) [
@@ -118,8 +119,8 @@ rising_of (w ∷ ws) h = (
 )
 
 -- ---- one write comes, one goes
-abbrev sets : (Path → Bool) → Write → Bool
-sets test w = list_any (λ a. test a.0) w.entries
+abbrev pub sets : (Assignment → Bool) → Write → Bool
+sets test w = list_any test w.entries
 
 swapped : (l i x : Bool) → ((l && i) || x) ≡ (x || ((i && l) || false))
 swapped true true true = refl
@@ -131,78 +132,123 @@ swapped false true false = refl
 swapped false false true = refl
 swapped false false false = refl
 
+pub or_left : (b c : Bool) → b ≡ true → (b || c) ≡ true
+or_left b c e = ap (λ x. x || c) e
+
+pub or_right : (b c : Bool) → c ≡ true → (b || c) ≡ true
+or_right b c e = ap (λ x. b || x) e ∙ or_true b
+
 pub merged_more : (ws : List Write) (r s : Spot) (id : ℕ) (es : List Assignment) → AddsAll r s es id → IsMerged ws r
     → IsMerged (ws ++ record { id = id; entries = es } ∷ []) s
 merged_more ws r s id es h m = record {
   here = λ q j.
       h.here q j ∙ ap (λ b. (list_any (λ a. path_eq a.0 q) es && (id == j)) || b) (m.here q j)
-      ∙ swapped (list_any (λ a. path_eq a.0 q) es) (id == j) (some_entry (λ p. path_eq p q) ws j)
+      ∙ swapped (list_any (λ a. path_eq a.0 q) es) (id == j) (some_entry (λ a. path_eq a.0 q) ws j)
       ∙ sym (list_any-append (λ w. (w.id == j) && list_any (λ a. path_eq a.0 q) w.entries) ws (record { id = id; entries = es } ∷ []));
   under = λ q j.
       h.under q j ∙ ap (λ b. (list_any (λ a. is_at_or_above q a.0) es && (id == j)) || b) (m.under q j)
-      ∙ swapped (list_any (λ a. is_at_or_above q a.0) es) (id == j) (some_entry (λ p. is_at_or_above q p) ws j)
+      ∙ swapped (list_any (λ a. is_at_or_above q a.0) es) (id == j) (some_entry (λ a. is_at_or_above q a.0) ws j)
       ∙ sym (list_any-append (λ w. (w.id == j) && list_any (λ a. is_at_or_above q a.0) w.entries) ws (record { id = id; entries = es } ∷ []));
+  full = λ q j.
+      h.full q j ∙ ap (λ b. (list_any (λ a. is_at_or_above q a.0 && is_full a) es && (id == j)) || b) (m.full q j)
+      ∙ swapped (list_any (λ a. is_at_or_above q a.0 && is_full a) es) (id == j) (some_entry (λ a. is_at_or_above q a.0 && is_full a) ws j)
+      ∙ sym (list_any-append (λ w. (w.id == j) && list_any (λ a. is_at_or_above q a.0 && is_full a) w.entries) ws (record { id = id; entries = es } ∷ []));
+  places = λ q j i e.
+      list_any-append (λ w. (w.id == j) && is_entry w.entries i q) ws (record { id = id; entries = es } ∷ [])
+      ∙ ⊎_elim
+      (λ g. or_right (some_write (λ w. is_entry w.entries i q) ws j) (((id == j) && is_entry es i q) || false)
+      (or_left ((id == j) && is_entry es i q) false (ap (λ n. (n == j) && is_entry es i q) g.0 ∙ ap (λ b. b && is_entry es i q) (equal_itself j) ∙ g.1)))
+      (λ g. or_left (some_write (λ w. is_entry w.entries i q) ws j) (((id == j) && is_entry es i q) || false) (m.places q j i g))
+      (h.places q j i e);
 }
 
-no_later : (test : Path → Bool) (n : ℕ) (ws : List Write) → After n ws → some_entry test ws n ≡ false
+no_later : (test : Write → Bool) (n : ℕ) (ws : List Write) → After n ws → some_write test ws n ≡ false
 no_later test n [] h = refl
 no_later test n (w ∷ ws) h =
     let less : n < w.id = h.0 in
-    ap (λ b. (b && sets test w) || some_entry test ws n) (apart w.id n (λ e. omega arith)) ∙ no_later test n ws h.1
+    ap (λ b. (b && test w) || some_write test ws n) (apart w.id n (λ e. omega arith)) ∙ no_later test n ws h.1
 
-own : (test : Path → Bool) (ws : List Write) (w : Write) → Rising ws → find (λ v. v.id == w.id) ws ≡ Some w → some_entry test ws w.id ≡ sets test w
-own test [] w r e = cc
-own test (v ∷ ws) w r e =
-    elim (v.id == w.id) as (λ b. (v.id == w.id) ≡ b → cond b (Some v) (find (λ v. v.id == w.id) ws) ≡ Some w → ((b && sets test v) || some_entry test ws w.id) ≡ sets test w) [
+pub own : (test : Write → Bool) (ws : List Write) (w : Write) (id : ℕ) → Rising ws → find (λ v. v.id == id) ws ≡ Some w → some_write test ws id ≡ test w
+own test [] w id r e = cc
+own test (v ∷ ws) w id r e =
+    elim (v.id == id) as (λ b. (v.id == id) ≡ b → cond b (Some v) (find (λ v. v.id == id) ws) ≡ Some w → ((b && test v) || some_write test ws id) ≡ test w) [
       | true ↦ λ t f.
           let same : v ≡ w = cc in
-          ap (λ b. sets test v || b) (no_later test w.id ws (subst (λ n. After n ws) (eqb-true v.id w.id t) r.0))
-          ∙ or_false (sets test v) ∙ ap (sets test) same
-      | false ↦ λ t f. own test ws w r.1 f
+          ap (λ b. test v || b) (no_later test id ws (subst (λ n. After n ws) (eqb-true v.id id t) r.0))
+          ∙ or_false (test v) ∙ ap test same
+      | false ↦ λ t f. own test ws w id r.1 f
     ] refl e
 
-kept : (test : Path → Bool) (ws : List Write) (id j : ℕ) → (id == j) ≡ false → some_entry test (without id ws) j ≡ some_entry test ws j
+kept : (test : Write → Bool) (ws : List Write) (id j : ℕ) → (id == j) ≡ false → some_write test (without id ws) j ≡ some_write test ws j
 kept test [] id j other = refl
 kept test (w ∷ ws) id j other =
-    elim (w.id == id) as (λ b. (w.id == id) ≡ b → some_entry test (cond (not b) (w ∷ without id ws) (without id ws)) j ≡ (((w.id == j) && sets test w) || some_entry test ws j)) [
-      | true ↦ λ t. kept test ws id j other ∙ ap (λ b. (b && sets test w) || some_entry test ws j) (sym (ap (λ n. n == j) (eqb-true w.id id t) ∙ other))
-      | false ↦ λ t. ap (λ b. ((w.id == j) && sets test w) || b) (kept test ws id j other)
+    elim (w.id == id) as (λ b. (w.id == id) ≡ b → some_write test (cond (not b) (w ∷ without id ws) (without id ws)) j ≡ (((w.id == j) && test w) || some_write test ws j)) [
+      | true ↦ λ t. kept test ws id j other ∙ ap (λ b. (b && test w) || some_write test ws j) (sym (ap (λ n. n == j) (eqb-true w.id id t) ∙ other))
+      | false ↦ λ t. ap (λ b. ((w.id == j) && test w) || b) (kept test ws id j other)
     ] refl
 
-gone : (test : Path → Bool) (ws : List Write) (id : ℕ) → some_entry test (without id ws) id ≡ false
+gone : (test : Write → Bool) (ws : List Write) (id : ℕ) → some_write test (without id ws) id ≡ false
 gone test [] id = refl
 gone test (w ∷ ws) id =
-    elim (w.id == id) as (λ b. (w.id == id) ≡ b → some_entry test (cond (not b) (w ∷ without id ws) (without id ws)) id ≡ false) [
+    elim (w.id == id) as (λ b. (w.id == id) ≡ b → some_write test (cond (not b) (w ∷ without id ws) (without id ws)) id ≡ false) [
       | true ↦ λ t. gone test ws id
-      | false ↦ λ t. ap (λ b. (b && sets test w) || some_entry test (without id ws) id) t ∙ gone test ws id
+      | false ↦ λ t. ap (λ b. (b && test w) || some_write test (without id ws) id) t ∙ gone test ws id
     ] refl
 
-never : (l : Bool) → (not (l && true) && l) ≡ false
-never true = refl
-never false = refl
+never : (l t : Bool) → (t ≡ true → l ≡ true) → (not (l && true) && t) ≡ false
+never true t h = refl
+never false true h = cc (h refl)
+never false false h = refl
 
-less_one : (test : Path → Bool) (ws : List Write) (w : Write) (j : ℕ) → Rising ws → find (λ v. v.id == w.id) ws ≡ Some w
-    → (not (sets test w && (w.id == j)) && some_entry test ws j) ≡ some_entry test (without w.id ws) j
-less_one test ws w j r e =
-    elim (w.id == j) as (λ b. (w.id == j) ≡ b → (not (sets test w && b) && some_entry test ws j) ≡ some_entry test (without w.id ws) j) [
+-- what covers a write's test goes with it
+less_one : (cover test : Write → Bool) (ws : List Write) (w : Write) (j : ℕ) → (test w ≡ true → cover w ≡ true) → Rising ws → find (λ v. v.id == w.id) ws ≡ Some w
+    → (not (cover w && (w.id == j)) && some_write test ws j) ≡ some_write test (without w.id ws) j
+less_one cover test ws w j within r e =
+    elim (w.id == j) as (λ b. (w.id == j) ≡ b → (not (cover w && b) && some_write test ws j) ≡ some_write test (without w.id ws) j) [
       | true ↦ λ t.
           let same : w.id ≡ j = eqb-true w.id j t in
-          ap (λ n. not (sets test w && true) && some_entry test ws n) (sym same)
-          ∙ ap (λ b. not (sets test w && true) && b) (own test ws w r e)
-          ∙ never (sets test w) ∙ sym (ap (some_entry test (without w.id ws)) (sym same) ∙ gone test ws w.id)
-      | false ↦ λ t. ap (λ b. not b && some_entry test ws j) (and_false (sets test w)) ∙ sym (kept test ws w.id j t)
+          ap (λ n. not (cover w && true) && some_write test ws n) (sym same)
+          ∙ ap (λ b. not (cover w && true) && b) (own test ws w w.id r e)
+          ∙ never (cover w) (test w) within ∙ sym (ap (some_write test (without w.id ws)) (sym same) ∙ gone test ws w.id)
+      | false ↦ λ t. ap (λ b. not b && some_write test ws j) (and_false (cover w)) ∙ sym (kept test ws w.id j t)
     ] refl
+
+and_first : (b c : Bool) → (b && c) ≡ true → (b && true) ≡ true
+and_first true c e = refl
+and_first false c e = e
 
 pub merged_less : (ws : List Write) (r s : Spot) (id : ℕ) (es : List Assignment) → ForgetsAll r s es id → Rising ws
     → find (λ w. w.id == id) ws ≡ Some (record { id = id; entries = es }) → IsMerged ws r → IsMerged (without id ws) s
-merged_less ws r s id es h rises e m = record {
-  here = λ q j.
-      h.here q j ∙ ap (λ b. not (list_any (λ a. path_eq a.0 q) es && (id == j)) && b) (m.here q j)
-      ∙ less_one (λ p. path_eq p q) ws (record { id = id; entries = es }) j rises e;
-  under = λ q j.
-      h.under q j ∙ ap (λ b. not (list_any (λ a. is_at_or_above q a.0) es && (id == j)) && b) (m.under q j)
-      ∙ less_one (λ p. is_at_or_above q p) ws (record { id = id; entries = es }) j rises e;
-}
+merged_less ws r s id es h rises e m = record { here = at_here; under = at_under; full = at_full; places = at_place }
+  where
+    at_here : (q : Path) (j : ℕ) → has_here s q j ≡ some_entry (λ a. path_eq a.0 q) (without id ws) j
+    at_here q j =
+        h.here q j ∙ ap (λ b. not (list_any (λ a. path_eq a.0 q) es && (id == j)) && b) (m.here q j)
+        ∙ less_one (sets (λ a. path_eq a.0 q)) (sets (λ a. path_eq a.0 q)) ws (record { id = id; entries = es }) j (λ t. t) rises e
+
+    at_under : (q : Path) (j : ℕ) → has_under s q j ≡ some_entry (λ a. is_at_or_above q a.0) (without id ws) j
+    at_under q j =
+        h.under q j ∙ ap (λ b. not (list_any (λ a. is_at_or_above q a.0) es && (id == j)) && b) (m.under q j)
+        ∙ less_one (sets (λ a. is_at_or_above q a.0)) (sets (λ a. is_at_or_above q a.0)) ws (record { id = id; entries = es }) j (λ t. t) rises e
+
+    at_full : (q : Path) (j : ℕ) → has_full s q j ≡ some_entry (λ a. is_at_or_above q a.0 && is_full a) (without id ws) j
+    at_full q j =
+        h.full q j ∙ ap (λ b. not (list_any (λ a. is_at_or_above q a.0 && true) es && (id == j)) && b) (m.full q j)
+        ∙ less_one (sets (λ a. is_at_or_above q a.0 && true)) (sets (λ a. is_at_or_above q a.0 && is_full a)) ws (record { id = id; entries = es }) j
+        (any_of (λ a. is_at_or_above q a.0 && is_full a) (λ a. is_at_or_above q a.0 && true) (λ a f. and_first (is_at_or_above q a.0) (is_full a) f) es) rises e
+
+    -- the write that was taken has no place
+    no_place : (q : Path) (i : ℕ) → place_at s q id ≡ Some i → ⊥
+    no_place q i f = cc (sym (ap is_some f) ∙ sym (has_place s q id) ∙ at_here q id ∙ gone (sets (λ a. path_eq a.0 q)) ws id)
+
+    at_place : (q : Path) (j i : ℕ) → place_at s q j ≡ Some i → some_write (λ w. is_entry w.entries i q) (without id ws) j ≡ true
+    at_place q j i f =
+        elim (id == j) as (λ b. (id == j) ≡ b → some_write (λ w. is_entry w.entries i q) (without id ws) j ≡ true) [
+          | true ↦ λ t. absurd (no_place q i (ap (place_at s q) (eqb-true id j t) ∙ f))
+          | false ↦ λ t.
+              kept (λ w. is_entry w.entries i q) ws id j t
+              ∙ ⊎_elim (λ g. absurd (no_place q i (ap (place_at s q) g.0 ∙ f))) (λ g. m.places q j i g) (h.places q j i f)
+        ] refl
 
 -- ---- overlays by parts of the writes
 pub overlay-append : (p : Path) (t : PathTree) (vs ws : List Write) → overlay p t (vs ++ ws) ≡ overlay p (overlay p t vs) ws
@@ -213,28 +259,7 @@ overlay-append p t vs ws =
 overlay-first : (p : Path) (t : PathTree) (w : Write) (ws : List Write) → overlay p t (w ∷ ws) ≡ overlay p (fold (overlaid p) t w.entries) ws
 overlay-first p t w ws = fold-append (overlaid p) t w.entries (assignments ws)
 
--- writes that don't touch the path are left out
-narrow : (p : Path) (g u : Write → Bool) (ws : List Write) (t : PathTree)
-    → ((k : ℕ) (d : Write) → k < length ws → g (get_or ws k d) ≡ true → u (get_or ws k d) ≡ false
-    → list_any (λ a. do_overlap a.0 p) (get_or ws k d).entries ≡ false)
-    → overlay p t (filter g ws) ≡ overlay p t (filter (λ w. g w && u w) ws)
-narrow p g u [] t h = refl
-narrow p g u (w ∷ ws) t h =
-    elim (g w) as (λ b. g w ≡ b → overlay p t (cond b (w ∷ filter g ws) (filter g ws)) ≡ overlay p t (cond (b && u w) (w ∷ filter (λ w. g w && u w) ws) (filter (λ w. g w && u w) ws))) [
-      | true ↦ λ e. elim (u w) as (λ b. u w ≡ b → overlay p t (w ∷ filter g ws) ≡ overlay p t (cond b (w ∷ filter (λ w. g w && u w) ws) (filter (λ w. g w && u w) ws))) [
-        | true ↦ λ f.
-            overlay-first p t w (filter g ws)
-            ∙ narrow p g u ws (fold (overlaid p) t w.entries) (λ k d l. h (suc k) d (omega arith))
-            ∙ sym (overlay-first p t w (filter (λ w. g w && u w) ws))
-        | false ↦ λ f.
-            overlay-first p t w (filter g ws)
-            ∙ ap (λ x. overlay p x (filter g ws)) (fold-untouched p t w.entries (h 0 w (omega arith) e f))
-            ∙ narrow p g u ws t (λ k d l. h (suc k) d (omega arith))
-      ] refl
-      | false ↦ λ e. narrow p g u ws t (λ k d l. h (suc k) d (omega arith))
-    ] refl
-
-none_pass : (f : Write → Bool) (n : ℕ) (ws : List Write) → ((w : Write) → f w ≡ true → w.id ≤ n) → After n ws → filter f ws ≡ []
+pub none_pass : (f : Write → Bool) (n : ℕ) (ws : List Write) → ((w : Write) → f w ≡ true → w.id ≤ n) → After n ws → filter f ws ≡ []
 none_pass f n [] h a = refl
 none_pass f n (w ∷ ws) h a =
     elim (f w) as (λ b. f w ≡ b → cond b (w ∷ filter f ws) (filter f ws) ≡ []) [
@@ -260,42 +285,13 @@ split f g h (w ∷ ws) r =
       ] refl
     ] refl
 
--- ---- a list of numbers, one after another
-abbrev pub has_number : List ℕ → Write → Bool
-has_number ns w = list_any (is_at (nat_cmp w.id)) ns
-
-above_all : (n j : ℕ) (ns : List ℕ) → AllByRecursion (λ m. nat_cmp n m ≡ Less) ns → list_any (is_at (nat_cmp j)) ns ≡ true → n < j
-above_all n j [] h e = cc
-above_all n j (m ∷ ns) h e =
-    elim (is_eq (nat_cmp j m)) as (λ b. is_eq (nat_cmp j m) ≡ b → (b || list_any (is_at (nat_cmp j)) ns) ≡ true → n < j) [
-      | true ↦ λ s f.
-          let same : j ≡ m = eqb-true j m (sym (unsigned_tied j m) ∙ s) in
-          let less : n < m = less_of n m h.0 in
-          omega arith
-      | false ↦ λ s f. above_all n j ns h.1 f
-    ] refl e
-
-pub next_number : (p : Path) (t : PathTree) (n : ℕ) (ns : List ℕ) (ws : List Write) → AllByRecursion (λ m. nat_cmp n m ≡ Less) ns → Rising ws
-    → overlay p t (filter (has_number (n ∷ ns)) ws) ≡ overlay p (overlay p t (filter (λ w. w.id == n) ws)) (filter (has_number ns) ws)
-next_number p t n ns ws above r =
-    ap (λ f. overlay p t (filter f ws)) (λ i w. unsigned_tied w.id n i || has_number ns w)
-    ∙ ap (overlay p t) (split (λ w. w.id == n) (has_number ns) (λ v w e f.
-    let same : v.id ≡ n = eqb-true v.id n e in
-    let less : n < w.id = above_all n w.id ns above f in
-    omega arith) ws r)
-    ∙ overlay-append p t (filter (λ w. w.id == n) ws) (filter (has_number ns) ws)
-
-pub no_number : (p : Path) (t : PathTree) (ws : List Write) → overlay p t (filter (has_number []) ws) ≡ t
-no_number p t [] = refl
-no_number p t (w ∷ ws) = no_number p t ws
-
 -- ---- which writes an overlay needs
-at_write : (test : Path → Bool) (ws : List Write) (k : ℕ) (d : Write) → k < length ws → sets test (get_or ws k d) ≡ true
+pub at_write : (test : Assignment → Bool) (ws : List Write) (k : ℕ) (d : Write) → k < length ws → sets test (get_or ws k d) ≡ true
     → some_entry test ws (get_or ws k d).id ≡ true
 at_write test ws k d l e =
     list_any_at (λ w. (w.id == (get_or ws k d).id) && sets test w) ws k d l (λ i. equal_itself (get_or ws k d).id i && e i)
 
-any_above : (p : Path) (es : List Assignment) → list_any (λ a. is_at_or_above a.0 p) es ≡ true
+pub any_above : (p : Path) (es : List Assignment) → list_any (λ a. is_at_or_above a.0 p) es ≡ true
     → (x : Path) × (y : Path) × (p ≡ x ++ y) × (list_any (λ a. path_eq a.0 x) es ≡ true)
 any_above p [] e = cc
 any_above p (a ∷ es) e =
@@ -305,29 +301,18 @@ any_above p (a ∷ es) e =
       | None ↦ λ s f. let more = any_above p es f in (more.0, more.1, more.2, ap (λ b. path_eq a.0 more.0 || b) more.3 ∙ or_true (path_eq a.0 more.0))
     ] refl e
 
--- a write that has no number on the way to the path or below it doesn't touch the path
-untouched : (ws : List Write) (s : Spot) (p : Path) → IsMerged ws s → (k : ℕ) (d : Write) → k < length ws
-    → has_under s p (get_or ws k d).id ≡ false → (IsAbove s p (get_or ws k d).id → ⊥)
-    → list_any (λ a. do_overlap a.0 p) (get_or ws k d).entries ≡ false
-untouched ws s p m k d l under above =
-    any_either (λ a. is_at_or_above a.0 p) (λ a. is_at_or_above p a.0) (get_or ws k d).entries
-    (not_so _ (λ e.
-    let at = any_above p (get_or ws k d).entries e in
-    above (at.0, at.1, at.2, m.here at.0 (get_or ws k d).id ∙ at_write (λ q. path_eq q at.0) ws k d l at.3)))
-    (not_so _ (λ e. cc (sym under ∙ m.under p (get_or ws k d).id ∙ at_write (λ q. is_at_or_above p q) ws k d l e)))
-
 -- the write whose entry is at or above the path sets the whole of it
-some_whole : (p x y : Path) → p ≡ x ++ y → (ws : List Write) (m : ℕ) → some_entry (λ q. path_eq q x) ws m ≡ true
+some_whole : (p x y : Path) → p ≡ x ++ y → (ws : List Write) (m : ℕ) → some_entry (λ a. path_eq a.0 x) ws m ≡ true
     → sets_whole (filter (λ w. w.id == m) ws) p ≡ true
 some_whole p x y is ws m e =
     list_any-flat_map (λ a. is_at_or_above a.0 p) (λ w. w.entries) (filter (λ w. w.id == m) ws)
     ∙ sym (any_filtered (λ w. w.id == m) (λ w. list_any (λ a. is_at_or_above a.0 p) w.entries) ws)
-    ∙ any_of (λ w. (w.id == m) && sets (λ q. path_eq q x) w) (λ w. (w.id == m) && list_any (λ a. is_at_or_above a.0 p) w.entries) (λ w f. both (w.id == m) w f) ws e
+    ∙ any_of (λ w. (w.id == m) && sets (λ a. path_eq a.0 x) w) (λ w. (w.id == m) && list_any (λ a. is_at_or_above a.0 p) w.entries) (λ w f. both (w.id == m) w f) ws e
   where
     reaches : (a : Assignment) → path_eq a.0 x ≡ true → is_at_or_above a.0 p ≡ true
     reaches a f = ap (λ z. is_at_or_above z p) (path_eq-is a.0 x f) ∙ ap (is_at_or_above x) is ∙ ap is_some (strip-append x y)
 
-    both : (b : Bool) (w : Write) → (b && sets (λ q. path_eq q x) w) ≡ true → (b && list_any (λ a. is_at_or_above a.0 p) w.entries) ≡ true
+    both : (b : Bool) (w : Write) → (b && sets (λ a. path_eq a.0 x) w) ≡ true → (b && list_any (λ a. is_at_or_above a.0 p) w.entries) ≡ true
     both true w f = any_of (λ a. path_eq a.0 x) (λ a. is_at_or_above a.0 p) reaches w.entries f
     both false w f = f
 
@@ -353,17 +338,31 @@ higher m w e =
       | false ↦ λ s f. let less : m < w.id = ltb-true m w.id f in omega arith
     ] refl e
 
--- the last write at or above the path, and then those after it at or below
-pub needed_after : (ws : List Write) (s : Spot) (p : Path) (t : PathTree) (m : ℕ) → Rising ws → IsMerged ws s → IsLast (IsAbove s p) (Some m)
-    → overlay p t ws ≡ overlay p (overlay p t (filter (λ w. w.id == m) ws)) (filter (λ w. is_later (Some m) w.id && has_under s p w.id) ws)
-needed_after ws s p t m r merged last =
-    let low : List Write = filter (λ w. nat_lt w.id m) ws in
+-- of the later writes one that sets the whole of what stands at the path, and those after it
+later_parts : (last : Option ℕ) (m n : ℕ) → is_later last m ≡ true → (nat_lt n m && is_later last n || ((n == m) || nat_lt m n)) ≡ is_later last n
+later_parts None m n e = ap (λ b. b || ((n == m) || nat_lt m n)) (and_true (nat_lt n m)) ∙ one_of_three n m
+later_parts (Some l) m n e =
+    elim (nat_lt l n) as (λ b. nat_lt l n ≡ b → (nat_lt n m && b || ((n == m) || nat_lt m n)) ≡ b) [
+      | true ↦ λ f. ap (λ b. b || ((n == m) || nat_lt m n)) (and_true (nat_lt n m)) ∙ one_of_three n m
+      | false ↦ λ f.
+          let low : n ≤ l = ltb-false l n f in
+          let less : l < m = ltb-true l m e in
+          ap (λ b. b || ((n == m) || nat_lt m n)) (and_false (nat_lt n m))
+          ∙ ap (λ b. b || nat_lt m n) (apart n m (λ same. omega arith))
+          ∙ not_so (nat_lt m n) (λ t. let more : m < n = ltb-true m n t in omega arith)
+    ] refl
+
+pub whole_after : (ws : List Write) (x y p : Path) (t : PathTree) (last : Option ℕ) (m : ℕ) → Rising ws → p ≡ x ++ y → is_later last m ≡ true
+    → some_entry (λ a. path_eq a.0 x) ws m ≡ true
+    → overlay p t (after last ws) ≡ overlay p (overlay p t (filter (λ w. w.id == m) ws)) (after (Some m) ws)
+whole_after ws x y p t last m r is later here_is =
+    let low : List Write = filter (λ w. nat_lt w.id m && is_later last w.id) ws in
     let here : List Write = filter (λ w. w.id == m) ws in
-    let high : List Write = filter (λ w. nat_lt m w.id) ws in
-    let parts : ws ≡ low ++ (here ++ high) =
-    sym (filter-all (λ w. nat_lt w.id m || ((w.id == m) || nat_lt m w.id)) ws (λ k d l. one_of_three (get_or ws k d).id m))
-    ∙ split (λ w. nat_lt w.id m) (λ w. (w.id == m) || nat_lt m w.id) (λ v w e f.
-    let less : v.id < m = ltb-true v.id m e in
+    let high : List Write = after (Some m) ws in
+    let parts : after last ws ≡ low ++ (here ++ high) =
+    ap (λ f. filter f ws) (λ i w. sym (later_parts last m w.id later) i)
+    ∙ split (λ w. nat_lt w.id m && is_later last w.id) (λ w. (w.id == m) || nat_lt m w.id) (λ v w e f.
+    let less : v.id < m = ltb-true v.id m (first (nat_lt v.id m) (is_later last v.id) e) in
     let most : m ≤ w.id = higher m w f in
     omega arith) ws r
     ∙ ap (λ xs. low ++ xs) (split (λ w. w.id == m) (λ w. nat_lt m w.id) (λ v w e f.
@@ -373,23 +372,15 @@ needed_after ws s p t m r merged last =
     let whole : sets_whole (here ++ high) p ≡ true =
     ap (list_any (λ a. is_at_or_above a.0 p)) (flat_map-append (λ w. w.entries) here high)
     ∙ list_any-append (λ a. is_at_or_above a.0 p) (assignments here) (assignments high)
-    ∙ ap (λ b. b || sets_whole high p)
-    (some_whole p last.0.0 last.0.1 last.0.2 ws m (sym (merged.here last.0.0 m) ∙ last.0.3)) in
+    ∙ ap (λ b. b || sets_whole high p) (some_whole p x y is ws m here_is) in
     ap (overlay p t) parts
     ∙ overlay-append p t low (here ++ high)
     ∙ fold-whole p (overlay p t low) t (assignments (here ++ high)) whole
     ∙ overlay-append p t here high
-    ∙ narrow p (λ w. nat_lt m w.id) (λ w. has_under s p w.id) ws (overlay p t here) (λ k d l g u.
-    untouched ws s p merged k d l u (λ a.
-    let most : (get_or ws k d).id ≤ m = last.1 (get_or ws k d).id a in
-    let less : m < (get_or ws k d).id = ltb-true m (get_or ws k d).id g in
-    absurd (omega arith)))
-
-pub needed : (ws : List Write) (s : Spot) (p : Path) (t : PathTree) → IsMerged ws s → IsLast (IsAbove s p) None
-    → overlay p t ws ≡ overlay p t (filter (λ w. is_later None w.id && has_under s p w.id) ws)
-needed ws s p t merged none =
-    ap (overlay p t) (sym (filter-all (λ w. true) ws (λ k d l. refl)))
-    ∙ narrow p (λ w. true) (λ w. has_under s p w.id) ws t (λ k d l g u. untouched ws s p merged k d l u (none (get_or ws k d).id))
+  where
+    first : (b c : Bool) → (b && c) ≡ true → b ≡ true
+    first true c e = refl
+    first false c e = e
 
 -- ---- what the tree says of a path
 pub here_at : (q r : Path) (s : Spot) (j : ℕ) → has_here s (q ++ r) j ≡ option_map_or (λ c. has_here c r j) (spot_at s q) false
@@ -400,48 +391,48 @@ here_at (k ∷ q) r s j =
       | Some c ↦ here_at q r c j
     ]
 
-pub under_at : (q : Path) (s : Spot) (j : ℕ) → has_under s q j ≡ option_map_or (λ c. contains nat_cmp (under_of c) j) (spot_at s q) false
+pub under_at : (q : Path) (s : Spot) (j : ℕ) → has_under s q j ≡ option_map_or (λ c. contains nat_cmp (under_of c).all j) (spot_at s q) false
 under_at [] s j = refl
 under_at (k ∷ q) s j =
-    elim (get key_cmp (below_of s) k) as (λ o. option_map_or (λ c. has_under c q j) o false ≡ option_map_or (λ c. contains nat_cmp (under_of c) j) (option_and_then (λ c. spot_at c q) o) false) [
+    elim (get key_cmp (below_of s) k) as (λ o. option_map_or (λ c. has_under c q j) o false ≡ option_map_or (λ c. contains nat_cmp (under_of c).all j) (option_and_then (λ c. spot_at c q) o) false) [
       | None ↦ refl
       | Some c ↦ under_at q c j
     ]
 
 -- some write's entry passes
-some_sets : (test : Path → Bool) (ws : List Write) (j : ℕ) → some_entry test ws j ≡ true → list_any (λ a. test a.0) (assignments ws) ≡ true
+pub some_sets : (test : Assignment → Bool) (ws : List Write) (j : ℕ) → some_entry test ws j ≡ true → list_any test (assignments ws) ≡ true
 some_sets test ws j e =
-    list_any-flat_map (λ a. test a.0) (λ w. w.entries) ws
+    list_any-flat_map test (λ w. w.entries) ws
     ∙ any_of (λ w. (w.id == j) && sets test w) (sets test) (λ w f. second (w.id == j) (sets test w) f) ws e
   where
     second : (b c : Bool) → (b && c) ≡ true → c ≡ true
     second true c f = f
     second false c f = cc
 
-none_sets : (test : Path → Bool) (ws : List Write) → ((k : ℕ) (d : Write) → k < length ws → sets test (get_or ws k d) ≡ true → ⊥)
-    → list_any (λ a. test a.0) (assignments ws) ≡ false
+pub none_sets : (test : Assignment → Bool) (ws : List Write) → ((k : ℕ) (d : Write) → k < length ws → sets test (get_or ws k d) ≡ true → ⊥)
+    → list_any test (assignments ws) ≡ false
 none_sets test ws h =
-    list_any-flat_map (λ a. test a.0) (λ w. w.entries) ws
+    list_any-flat_map test (λ w. w.entries) ws
     ∙ list_any_none (sets test) ws (λ k d l. not_so (sets test (get_or ws k d)) (h k d l))
 
 -- a write is at or above the path where there is a last one
 pub is_whole : (ws : List Write) (s : Spot) (p : Path) (o : Option ℕ) → IsMerged ws s → IsLast (IsAbove s p) o → is_some o ≡ sets_whole ws p
-is_whole ws s p None m h = sym (none_sets (λ q. is_at_or_above q p) ws (λ k d l e.
+is_whole ws s p None m h = sym (none_sets (λ a. is_at_or_above a.0 p) ws (λ k d l e.
     let at = any_above p (get_or ws k d).entries e in
-    h (get_or ws k d).id (at.0, at.1, at.2, m.here at.0 (get_or ws k d).id ∙ at_write (λ q. path_eq q at.0) ws k d l at.3)))
+    h (get_or ws k d).id (at.0, at.1, at.2, m.here at.0 (get_or ws k d).id ∙ at_write (λ a. path_eq a.0 at.0) ws k d l at.3)))
 is_whole ws s p (Some n) m h =
     sym (any_of (λ a. path_eq a.0 h.0.0) (λ a. is_at_or_above a.0 p)
     (λ a f. ap (λ z. is_at_or_above z p) (path_eq-is a.0 h.0.0 f) ∙ ap (is_at_or_above h.0.0) h.0.2 ∙ ap is_some (strip-append h.0.0 h.0.1))
-    (assignments ws) (some_sets (λ q. path_eq q h.0.0) ws n (sym (m.here h.0.0 n) ∙ h.0.3)))
+    (assignments ws) (some_sets (λ a. path_eq a.0 h.0.0) ws n (sym (m.here h.0.0 n) ∙ h.0.3)))
 
-at_child : (a p : Path) (k : Key) → is_at_or_above a (p ++ k ∷ []) ≡ (is_at_or_above a p || path_eq a (p ++ k ∷ []))
+pub at_child : (a p : Path) (k : Key) → is_at_or_above a (p ++ k ∷ []) ≡ (is_at_or_above a p || path_eq a (p ++ k ∷ []))
 at_child a p k =
     elim (path_eq a (p ++ k ∷ [])) as (λ b. path_eq a (p ++ k ∷ []) ≡ b → is_at_or_above a (p ++ k ∷ []) ≡ (is_at_or_above a p || b)) [
       | true ↦ λ e. sym (at_itself a (p ++ k ∷ []) (path_eq-is a (p ++ k ∷ []) e)) ∙ sym (or_true (is_at_or_above a p))
       | false ↦ λ e. sym (at_other a p k (λ same. cc (sym e ∙ ap (path_eq a) (sym same) ∙ path_eq-same a))) ∙ sym (or_false (is_at_or_above a p))
     ] refl
 
-any_or : {X : Type 0} (f g : X → Bool) (xs : List X) → list_any (λ x. f x || g x) xs ≡ (list_any f xs || list_any g xs)
+pub any_or : {X : Type 0} (f g : X → Bool) (xs : List X) → list_any (λ x. f x || g x) xs ≡ (list_any f xs || list_any g xs)
 any_or f g [] = refl
 any_or f g (x ∷ xs) = ap (λ b. (f x || g x) || b) (any_or f g xs) ∙ mixed (f x) (g x) (list_any f xs) (list_any g xs)
   where
@@ -462,26 +453,9 @@ is_child_whole ws s p k b m h =
   where
     by : (x : Bool) → (IsTrue x → (j : ℕ) × (has_here s (p ++ k ∷ []) j ≡ true)) × (((j : ℕ) × (has_here s (p ++ k ∷ []) j ≡ true)) → IsTrue x)
         → x ≡ list_any (λ a. path_eq a.0 (p ++ k ∷ [])) (assignments ws)
-    by true g = let at = g.0 refl in sym (some_sets (λ q. path_eq q (p ++ k ∷ [])) ws at.0 (sym (m.here (p ++ k ∷ []) at.0) ∙ at.1))
-    by false g = sym (none_sets (λ q. path_eq q (p ++ k ∷ [])) ws (λ i d l e.
-        cc (g.1 ((get_or ws i d).id, m.here (p ++ k ∷ []) (get_or ws i d).id ∙ at_write (λ q. path_eq q (p ++ k ∷ [])) ws i d l e))))
-
--- ---- the numbers of a path's spot, from one on
-pub ranged : (last : Option ℕ) (set : BTreeSet ℕ) (w : Write)
-    → has_number (filter (range_contains nat_cmp (bound_of last) Unbounded) set.keys) w ≡ (is_later last w.id && contains nat_cmp set w.id)
-ranged last set w =
-    any-filter_same (is_at (nat_cmp w.id)) (range_contains nat_cmp (bound_of last) Unbounded) (is_later last w.id) (λ n e. passes last n e) set.keys
-  where
-    passes : (o : Option ℕ) (n : ℕ) → is_eq (nat_cmp w.id n) ≡ true → range_contains nat_cmp (bound_of o) Unbounded n ≡ is_later o w.id
-    passes None n e = refl
-    passes (Some l) n e =
-        and_true (is_lt (nat_cmp l n)) ∙ lt_of_cmp l n
-        ∙ ap (nat_lt l) (sym (eqb-true w.id n (sym (unsigned_tied w.id n) ∙ e)))
-
-pub ranged_all : (p : Path) (t : PathTree) (last : Option ℕ) (set : BTreeSet ℕ) (ws : List Write)
-    → overlay p t (filter (has_number (filter (range_contains nat_cmp (bound_of last) Unbounded) set.keys)) ws)
-    ≡ overlay p t (filter (λ w. is_later last w.id && contains nat_cmp set w.id) ws)
-ranged_all p t last set ws = ap (λ f. overlay p t (filter f ws)) (λ i w. ranged last set w i)
+    by true g = let at = g.0 refl in sym (some_sets (λ a. path_eq a.0 (p ++ k ∷ [])) ws at.0 (sym (m.here (p ++ k ∷ []) at.0) ∙ at.1))
+    by false g = sym (none_sets (λ a. path_eq a.0 (p ++ k ∷ [])) ws (λ i d l e.
+        cc (g.1 ((get_or ws i d).id, m.here (p ++ k ∷ []) (get_or ws i d).id ∙ at_write (λ a. path_eq a.0 (p ++ k ∷ [])) ws i d l e))))
 
 -- one write, found or not
 pub one_write : (p : Path) (t : PathTree) (ws : List Write) (id i : ℕ) (d : Write) → Rising ws → position (λ w. w.id == id) ws ≡ Some i
@@ -513,35 +487,12 @@ rising_pending ws vs merged h is = subst Rising is (rising_of ws h.kept.rises)
 pub merged_pending : (ws vs : List Write) (merged : Option Spot) (root : Spot) → IsPending ws merged → ws ≡ vs → merged ≡ Some root → IsMerged vs root
 merged_pending ws vs merged root h is some = subst (λ o. IfSome o (IsMerged vs)) some (subst (λ xs. IfSome merged (IsMerged xs)) is h.tree)
 
-pub nothing_pending : (ws : List Write) (s : Spot) → ws ≡ [] → ((q : Path) (j : ℕ) → has_here s q j ≡ false) → ((q : Path) (j : ℕ) → has_under s q j ≡ false) → IsPending ws (Some s)
-nothing_pending ws s is here under = subst (λ xs. IsPending xs (Some s)) (sym is) (record {
+pub nothing_pending : (ws : List Write) (s : Spot) → ws ≡ [] → ((q : Path) (j : ℕ) → has_here s q j ≡ false) → ((q : Path) (j : ℕ) → place_at s q j ≡ None) → ((q : Path) (j : ℕ) → has_under s q j ≡ false) → ((q : Path) (j : ℕ) → has_full s q j ≡ false) → IsPending ws (Some s)
+nothing_pending ws s is here place under full = subst (λ xs. IsPending xs (Some s)) (sym is) (record {
   kept = record { rises = λ i j d l m. absurd (omega arith); shallow = λ k d l. absurd (omega arith) };
-  tree = record { here = here; under = under };
+  apart = λ k d l. absurd (omega arith);
+  tree = record { here = here; under = under; full = full; places = λ q j i e. cc (sym (place q j) ∙ e) };
 })
-
--- what a look by the numbers answers
-pub laid_by_numbers : (ws : List Write) (s : Spot) (p : Path) (t after : PathTree) (o : Option ℕ) → Rising ws → IsMerged ws s → IsLast (IsAbove s p) o
-    → after ≡ overlaid_last p t ws o → overlay p after (filter (λ w. is_later o w.id && has_under s p w.id) ws) ≡ overlay p t ws
-laid_by_numbers ws s p t after None r m h is = ap (λ x. overlay p x (filter (λ w. is_later None w.id && has_under s p w.id) ws)) is ∙ sym (needed ws s p t m h)
-laid_by_numbers ws s p t after (Some n) r m h is = ap (λ x. overlay p x (filter (λ w. is_later (Some n) w.id && has_under s p w.id) ws)) is ∙ sym (needed_after ws s p t n r m h)
-
--- with the spot of the path, or without one
-pub laid_at_spot : (ws : List Write) (s : Spot) (p : Path) (t after : PathTree) (o : Option ℕ) (at : Option Spot) → at ≡ spot_at s p
-    → overlay p after (filter (λ w. is_later o w.id && option_map_or (λ c. contains nat_cmp (under_of c) w.id) at false) ws)
-    ≡ overlay p after (filter (λ w. is_later o w.id && has_under s p w.id) ws)
-laid_at_spot ws s p t after o at is =
-    ap (λ f. overlay p after (filter f ws)) (λ i w. is_later o w.id && (ap (λ x. option_map_or (λ c. contains nat_cmp (under_of c) w.id) x false) is ∙ sym (under_at p s w.id)) i)
-
-pub laid_nowhere : (ws : List Write) (p : Path) (after : PathTree) (o : Option ℕ) → overlay p after (filter (λ w. is_later o w.id && false) ws) ≡ after
-laid_nowhere [] p after o = refl
-laid_nowhere (w ∷ ws) p after o =
-    ap (λ b. overlay p after (cond b (w ∷ filter (λ w. is_later o w.id && false) ws) (filter (λ w. is_later o w.id && false) ws))) (and_false (is_later o w.id))
-    ∙ laid_nowhere ws p after o
-
-pub is_above_next : (l : List ℕ) (n : ℕ) (ns : List ℕ) → l ≡ n ∷ ns → IsStrictlySortedBy nat_cmp l → AllByRecursion (λ m. nat_cmp n m ≡ Less) ns × IsStrictlySortedBy nat_cmp ns
-is_above_next l n ns is h =
-    let sorted = subst (IsStrictlySortedBy nat_cmp) is h in
-    (sorted_head nat_cmp n ns sorted, sorted_tail nat_cmp n ns sorted)
 
 pub whole_child : (ws : List Write) (p : Path) (k : Key) → sets_whole ws p ≡ true → true ≡ sets_child_whole ws p k
 whole_child ws p k e =
@@ -575,5 +526,6 @@ pending_without ws rest id i w before after es h at is entries left more =
     find-position (λ v. v.id == id) ws i w at ∙ ap Some (sym is) ∙ (λ z. Some (record { id = number z; entries = sym entries z })) in
     subst (λ vs. IsPending vs after) (sym (left ∙ remove-without id ws i place.0 h.kept.rises at)) (record {
       kept = kept_without ws id h.kept;
+      apart = All-filter (λ w. not (w.id == id)) (λ w. have_overlap w.entries ≡ false) ws h.apart;
       tree = more ws h.kept.rises found h.tree;
     })

@@ -147,7 +147,7 @@ fn is_at_or_above_child(at: &Path, path: &Path, key: &Key) -> bool
 
 // The tree at `path` after an entry at `at`: one at or above the path gives its part, one below is
 // put. No leaf is too deep, so only memory can refuse.
-fn overlaid(
+pub(crate) fn overlaid(
     alloc: Global,
     path: &Path,
     tree: Tree,

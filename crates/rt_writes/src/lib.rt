@@ -15,6 +15,8 @@ mod entries;
 mod error;
 pub mod examples;
 mod laws;
+mod laying;
+mod marks;
 mod merged;
 mod numbers;
 mod pending;

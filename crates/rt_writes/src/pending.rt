@@ -2,27 +2,24 @@
 ghost use Rattle.std.specs.Prelude.{◌≡◌, ◌==◌, ◌↔◌, ◌<◌, ◌∷◌, [], ◌++◌, length, true, IfOk, OnOk};
 ghost use Rattle.std.specs.Prelude.{OnErr, IsTrue, IsOk, Ok, Err, None};
 ghost use Rattle.std.specs.Option.{option_map};
-ghost use Rattle.std.specs.Prelude.{IfSome, ◌&&◌};
+ghost use Rattle.std.specs.Prelude.{IfSome};
 ghost use Rattle.std.specs.List.{All, filter, position};
-ghost use Rattle.std.specs.Ordering.{nat_cmp};
-ghost use Rattle.std.specs.BTreeSet.{contains};
 ghost use Rattle.rt_tree.specs.Assignments.{have_overlap};
 ghost use Rattle.rt_writes.specs.Kept.{IsKept};
 ghost use Rattle.rt_writes.specs.Writes.{IsShallow, overlay, touches, sets_whole, sets_child_whole};
 ghost use Rattle.rt_writes.specs.Writes.{entries_of, without};
-ghost use Rattle.rt_writes.specs.inside.Spots.{IsMerged, is_later, bound_of, overlaid_last};
+ghost use Rattle.rt_writes.specs.inside.Spots.{IsMerged, overlaid_last};
 
 use crate::entries::Entries;
 use crate::error::WriteError;
+use crate::laying::lay_below;
 use crate::merged::{merged_anew, merged_with, merged_without};
 use crate::numbers::place_of;
 use crate::spots::Spot;
 use crate::write::Write;
 use rt_tree::{Key, Path, Tree};
 use std::alloc::{AllocError, Global};
-use std::collections::BTreeSet;
 use std::marker::Model;
-use std::ops::Bound;
 use std::{fmt, mem};
 
 /// Pending writes, in order of number. What they set shows over what the server has sent, until
@@ -196,7 +193,7 @@ impl Pending {
     }
 
     // The same, by all writes.
-    fn overlay_by_list(&self, path: &Path, tree: Tree) -> Result<Tree, AllocError>
+    pub(crate) fn overlay_by_list(&self, path: &Path, tree: Tree) -> Result<Tree, AllocError>
         requires { IsShallow (path.now, tree) }
         ensures overlay { IfOk result (λ after. after ≡ overlay path.now tree self.now) }
         ensures shallow { IfOk result (λ after. IsShallow (path.now, after)) }
@@ -210,8 +207,8 @@ impl Pending {
         Ok(after)
     }
 
-    // The same, by the last write at or above the path, which hides all before it, and those after
-    // it at or below the path.
+    // The same, by the last write at or above the path, which hides all before it, and then spot by
+    // spot by what came after it below the path.
     fn overlay_by_tree(&self, root: &Spot, path: &Path, tree: Tree) -> Result<Tree, AllocError>
         requires shallow { IsShallow (path.now, tree) }
         requires merged { IsMerged self.now root.now }
@@ -224,7 +221,7 @@ impl Pending {
         let last = root.last_whole(path.keys());
         let after = self.overlaid_last(last, path, tree)?;
         match root.at(path.keys()) {
-            Some(spot) => self.overlay_after(last, &spot.under, path, after),
+            Some(spot) => lay_below(spot, self.writes.as_slice(), last, path, after),
             None => Ok(after),
         }
     }
@@ -240,29 +237,6 @@ impl Pending {
             Some(number) => self.overlaid(number, path, tree),
             None => Ok(tree),
         }
-    }
-
-    // The tree at the path after those of these writes whose numbers are higher, in order.
-    fn overlay_after(
-        &self,
-        last: Option<u64>,
-        numbers: &BTreeSet<u64>,
-        path: &Path,
-        tree: Tree,
-    ) -> Result<Tree, AllocError>
-        requires { IsShallow (path.now, tree) }
-        ensures overlay { IfOk result (λ after. after ≡ overlay path.now tree
-            (filter (λ w. is_later last w.id && contains nat_cmp numbers.now w.id) self.now)) }
-        ensures shallow { IfOk result (λ after. IsShallow (path.now, after)) }
-        ensures touched { OnErr result (touches self.now path.now ≡ true) }
-    {
-        // For the prover: the numbers of the writes rise.
-        let _numbers_rise = self.len();
-        let mut after = tree;
-        for number in numbers.range((bound_after(last), Bound::Unbounded)) {
-            after = self.overlaid(*number, path, after)?;
-        }
-        Ok(after)
     }
 
     // The tree at the path after the write of that number.
@@ -291,7 +265,7 @@ impl Pending {
         }
     }
 
-    fn sets_whole_by_list(&self, path: &Path) -> bool
+    pub(crate) fn sets_whole_by_list(&self, path: &Path) -> bool
         ensures { result ≡ sets_whole self.now path.now }
     {
         self.writes
@@ -310,21 +284,11 @@ impl Pending {
         }
     }
 
-    fn sets_child_whole_by_list(&self, path: &Path, key: &Key) -> bool
+    pub(crate) fn sets_child_whole_by_list(&self, path: &Path, key: &Key) -> bool
         ensures { result ≡ sets_child_whole self.now path.now key.now }
     {
         self.writes
             .iter()
             .any(|write| write.entries.set_child_whole(path, key))
-    }
-}
-
-// The numbers after that one; all where there is none.
-fn bound_after(last: Option<u64>) -> Bound<u64>
-    ensures { result ≡ bound_of last }
-{
-    match last {
-        Some(number) => Bound::Excluded(number),
-        None => Bound::Unbounded,
     }
 }

@@ -1,37 +1,41 @@
 // One tree of the paths at which something is pending.
-ghost use Rattle.std.specs.Prelude.{◌≡◌, ◌==◌, ◌||◌, ◌&&◌, ◌↔◌, ◌++◌, ◌∷◌, [], ℕ, true, false, not, IsTrue, OnOk};
+ghost use Rattle.std.specs.Prelude.{◌≡◌, ◌==◌, ◌↔◌, ◌++◌, ◌∷◌, [], ℕ, true, false, IsTrue, OnOk};
+ghost use Rattle.std.specs.Prelude.{Some, None, if◌then◌else◌};
 ghost use Rattle.std.specs.Option.{option_copied};
 ghost use Rattle.std.specs.Ordering.{nat_cmp};
-ghost use Rattle.std.specs.BTreeSet.{contains};
+ghost use Rattle.std.specs.BTreeMap.{get};
 ghost use Rattle.rt_tree.specs.PathTree.{Path as Keys};
-ghost use Rattle.rt_writes.specs.inside.Spots.{spot_at, has_here, has_under, Adds, Forgets};
-ghost use Rattle.rt_writes.specs.inside.Spots.{AddsAll, ForgetsAll};
-ghost use Rattle.rt_writes.specs.inside.Spots.{IsLast, IsAbove, IsBare, here_of, later_of};
+ghost use Rattle.rt_writes.specs.inside.Spots.{spot_at, has_here, has_under, has_full, place_at};
+ghost use Rattle.rt_writes.specs.inside.Spots.{Adds, Forgets, AddsAll, ForgetsAll};
+ghost use Rattle.rt_writes.specs.inside.Spots.{IsLast, IsAbove, IsBare, later_of};
 
+use crate::marks::Marks;
 use rt_tree::{Key, Path, Tree};
 use std::alloc::{AllocError, Global};
-use std::collections::{BTreeMap, BTreeSet};
+use std::collections::BTreeMap;
 
 // A path at or above which, or below which, an entry of a pending write sits: the numbers of the
-// writes that set the whole of what stands there, those of the writes with an entry there or below,
-// and the paths one key further down. The numbers say which write shows, and what shows again once
-// one is settled.
+// writes that set the whole of what stands there, each with the place of that entry in its write;
+// those of the writes with an entry there or below; and the paths one key further down. The numbers
+// say which write shows, and what shows again once one is settled.
 #[derive(Drop)]
 pub(crate) struct Spot {
-    here: BTreeSet<u64>,
-    pub(crate) under: BTreeSet<u64>,
-    below: BTreeMap<Key, Spot>,
+    pub(crate) here: BTreeMap<u64, usize>,
+    pub(crate) under: Marks,
+    pub(crate) below: BTreeMap<Key, Spot>,
 }
 
 impl Spot {
     // Nothing is pending.
     pub(crate) fn new(alloc: Global) -> Spot
         ensures here { (q : Keys) (j : ℕ) → has_here result q j ≡ false }
+        ensures place { (q : Keys) (j : ℕ) → place_at result q j ≡ None }
         ensures under { (q : Keys) (j : ℕ) → has_under result q j ≡ false }
+        ensures full { (q : Keys) (j : ℕ) → has_full result q j ≡ false }
     {
         Spot {
-            here: BTreeSet::new(alloc),
-            under: BTreeSet::new(alloc),
+            here: BTreeMap::new(alloc),
+            under: Marks::new(alloc),
             below: BTreeMap::new(alloc),
         }
     }
@@ -43,19 +47,27 @@ impl Spot {
         self.here.is_empty() && self.under.is_empty() && self.below.is_empty()
     }
 
-    // Adds an entry of the write of that number, at these keys.
-    pub(crate) fn add(&mut self, alloc: Global, id: u64, keys: &[Key]) -> Result<(), AllocError>
-        ensures { OnOk result (Adds self.old self.new keys.now id) }
+    // Adds an entry of the write of that number, at these keys: its place among the entries, and
+    // whether it sets something.
+    pub(crate) fn add(
+        &mut self,
+        alloc: Global,
+        id: u64,
+        keys: &[Key],
+        place: usize,
+        fills: bool,
+    ) -> Result<(), AllocError>
+        ensures { OnOk result (Adds self.old self.new keys.now id place fills) }
     {
-        note(&mut self.under, id)?;
+        self.under.note(id, fills)?;
         let Some((key, rest)) = keys.split_first() else {
-            return note(&mut self.here, id);
+            return note(&mut self.here, id, place);
         };
         if let Some(child) = self.below.get_mut(key) {
-            return child.add(alloc, id, rest);
+            return child.add(alloc, id, rest, place, fills);
         }
         let mut child = Spot::new(alloc);
-        child.add(alloc, id, rest)?;
+        child.add(alloc, id, rest, place, fills)?;
         let key = key.copy()?;
         drop(self.below.insert(key, child)?);
         Ok(())
@@ -65,7 +77,7 @@ impl Spot {
     pub(crate) fn forget(&mut self, id: u64, keys: &[Key])
         ensures { Forgets self.old self.new keys.now id }
     {
-        strike(&mut self.under, id);
+        self.under.strike(id);
         let Some((key, rest)) = keys.split_first() else {
             strike(&mut self.here, id);
             return;
@@ -88,8 +100,10 @@ impl Spot {
     ) -> Result<(), AllocError>
         ensures { OnOk result (AddsAll self.old self.new entries.now id) }
     {
+        let mut place = 0;
         for entry in entries {
-            self.add(alloc, id, entry.0.keys())?;
+            self.add(alloc, id, entry.0.keys(), place, !entry.1.is_null())?;
+            place += 1;
         }
         Ok(())
     }
@@ -118,10 +132,13 @@ impl Spot {
     }
 
     // The greatest number of a write that sets the whole of what stands here.
-    fn last_here(&self) -> Option<u64>
-        ensures { IsLast (λ j. contains nat_cmp (here_of self.now) j ≡ true) result }
+    pub(crate) fn last_here(&self) -> Option<u64>
+        ensures { IsLast (λ j. has_here self.now [] j ≡ true) result }
     {
-        self.here.last().copied()
+        match self.here.last_key_value() {
+            Some((number, _)) => Some(*number),
+            None => None,
+        }
     }
 
     // The spot below these keys.
@@ -159,25 +176,25 @@ impl Spot {
     }
 }
 
-// Adds a number.
-fn note(numbers: &mut BTreeSet<u64>, id: u64) -> Result<(), AllocError>
-    ensures { OnOk result ((j : ℕ) → contains nat_cmp numbers.new j
-        ≡ ((id == j) || contains nat_cmp numbers.old j)) }
+// Adds a number, and a place.
+fn note(numbers: &mut BTreeMap<u64, usize>, id: u64, place: usize) -> Result<(), AllocError>
+    ensures { OnOk result ((j : ℕ) → get nat_cmp numbers.new j
+        ≡ if id == j then Some place else get nat_cmp numbers.old j) }
 {
-    numbers.insert(id)?;
+    numbers.insert(id, place)?;
     Ok(())
 }
 
 // Takes a number out.
-fn strike(numbers: &mut BTreeSet<u64>, id: u64)
-    ensures { (j : ℕ) → contains nat_cmp numbers.new j
-        ≡ (not (id == j) && contains nat_cmp numbers.old j) }
+fn strike(numbers: &mut BTreeMap<u64, usize>, id: u64)
+    ensures { (j : ℕ) → get nat_cmp numbers.new j
+        ≡ if id == j then None else get nat_cmp numbers.old j }
 {
     numbers.remove(&id);
 }
 
 // The greater of two numbers, where there are any.
-fn later(left: Option<u64>, right: Option<u64>) -> Option<u64>
+pub(crate) fn later(left: Option<u64>, right: Option<u64>) -> Option<u64>
     ensures { result ≡ later_of left right }
 {
     let Some(one) = left else {

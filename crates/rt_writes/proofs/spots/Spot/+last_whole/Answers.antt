@@ -1,21 +1,19 @@
-use Rattle.std.proofs.Common.{◌≡◌, ℕ, true, false, refl, sym, subst, ◌∙◌}
-use Rattle.std.specs.Ordering.{nat_cmp}
-use Rattle.std.specs.BTreeSet.{contains}
-use Rattle.rt_writes.specs.inside.Spots.{here_of, IsAbove, IsLast}
+use Rattle.std.proofs.Common.{◌≡◌, ℕ, [], true, false, refl, sym, subst, ◌∙◌}
+use Rattle.rt_writes.specs.inside.Spots.{has_here, IsAbove, IsLast}
 use Rattle.rt_writes.proofs.SpotLaws.{last_same, last_later, above_root, root_above, above_child, child_above}
 use Rattle.rt_writes.proofs.spots.Spot.+last_whole.Goals as goal
 
 pub returns-in_default : goal.returns-in_default
 returns-in_default t c =
-    last_same (λ j. contains nat_cmp (here_of c.args.self.now) j ≡ true) (IsAbove c.args.self.now c.args.keys.now) c.last_here-here.result
+    last_same (λ j. has_here c.args.self.now [] j ≡ true) (IsAbove c.args.self.now c.args.keys.now) c.last_here-here.result
     (root_above c.args.self.now c.args.keys.now) (above_root c.args.self.now c.args.keys.now c.in_default.ensures.cases) c.last_here-here.ensures
 
 pub returns-in_default-get : goal.returns-in_default-get
 returns-in_default-get t c =
-    last_same (λ j. contains nat_cmp (here_of c.args.self.now) j ≡ true) (IsAbove c.args.self.now c.args.keys.now) c.last_here-here.result
+    last_same (λ j. has_here c.args.self.now [] j ≡ true) (IsAbove c.args.self.now c.args.keys.now) c.last_here-here.result
     (root_above c.args.self.now c.args.keys.now)
     (λ j h. above_child c.args.self.now c.args.keys.now c.in-Some.key.now c.in-Some.rest.now _ c.in-Some.ensures.cases.0 (sym c.in_default-get.ensures.value) j
-    (contains nat_cmp (here_of c.args.self.now) j ≡ true) h (λ has. has) (λ x y e has. cc))
+    (has_here c.args.self.now [] j ≡ true) h (λ has. has) (λ x y e has. cc))
     c.last_here-here.ensures
 
 pub returns : goal.returns
@@ -23,7 +21,7 @@ returns t c =
     let at = c.in-Some.ensures.cases.0 in
     let is = sym c.in-Some-get.ensures.value in
     subst (IsLast (IsAbove c.args.self.now c.args.keys.now)) (sym c.later.ensures)
-    (last_later (λ j. contains nat_cmp (here_of c.args.self.now) j ≡ true) (IsAbove c.in-Some-get.child.now c.in-Some.rest.now) (IsAbove c.args.self.now c.args.keys.now)
+    (last_later (λ j. has_here c.args.self.now [] j ≡ true) (IsAbove c.in-Some-get.child.now c.in-Some.rest.now) (IsAbove c.args.self.now c.args.keys.now)
     c.last_here-here.result c.last_whole.result
     (root_above c.args.self.now c.args.keys.now)
     (child_above c.args.self.now c.in-Some-get.child.now c.args.keys.now c.in-Some.key.now c.in-Some.rest.now at is)
