@@ -1,10 +1,10 @@
 -- What is laid spot by spot is what the writes overlay.
 use Rattle.std.proofs.Common.{◌≡◌, ◌==◌, ◌≤◌, ◌<◌, ℕ, zero, suc, max, length, Result, Bool, true, false, cond, not, ◌&&◌, ◌||◌, List, [], ◌∷◌, ◌++◌, append-nil, nat_lt, get_or, Option, Some, None, is_some, refl, sym, ap, subst, ◌∙◌, arith, eqb-true}
 use Rattle.std.specs.Prelude.{IsTrue, IfSome, OnErr}
-use Rattle.std.specs.List.{All, fold, filter, find, flat_map, list_any, slice_get}
+use Rattle.std.specs.List.{All, fold, filter, find, list_any, slice_get}
 use Rattle.std.specs.Option.{option_map_or, option_and_then}
 use Rattle.std.specs.Ordering.{nat_cmp}
-use Rattle.std.specs.BTreeMap.{BTreeMap, get}
+use Rattle.std.specs.BTreeMap.{get}
 use Rattle.std.specs.BTreeSet.{contains}
 use Rattle.std.proofs.lemmas.Bool.{ltb-true, ltb-false, lt-ltb}
 use Rattle.std.proofs.lemmas.List.Folds.{list_any-append}
@@ -18,10 +18,10 @@ use Rattle.rt_tree.specs.Assignments.{Assignment, is_at_or_above, do_overlap, ha
 use Rattle.rt_writes.specs.Writes.{Write, IsShallow, assignments, overlaid, overlay, sets_whole, touches}
 use Rattle.rt_writes.specs.laws.TouchLaws.{fold-untouched}
 use Rattle.rt_writes.specs.declared.spots.Spot.{Spot}
-use Rattle.rt_writes.specs.inside.Spots.{here_of, under_of, below_of, spot_at, has_here, has_under, has_full, place_at, is_entry, is_full, IsLast, later_of, some_write, some_entry, IsMergedAt, IsMerged, AreApart, is_later, HasLater, after, entry_at, fills, LaysAt, SetsAt, Laid, marked}
+use Rattle.rt_writes.specs.inside.Spots.{under_of, below_of, spot_at, has_here, place_at, is_entry, is_full, IsLast, later_of, some_write, some_entry, IsMergedAt, AreApart, is_later, HasLater, after, entry_at, fills, LaysAt, SetsAt, Laid, marked}
 use Rattle.rt_writes.proofs.SpotLaws.{here_in, under_in, full_in, place_in, both_true}
-use Rattle.rt_writes.proofs.NumberLaws.{Rising, sets, equal_itself, not_so, any_of, any_either, any_or, or_left, or_right, own, none_pass, whole_after, at_child}
-use Rattle.rt_writes.proofs.LeafLaws.{or_false, overlaid-own, only_entry}
+use Rattle.rt_writes.proofs.NumberLaws.{Rising, sets, equal_itself, not_so, any_of, any_either, or_left, or_right, own, none_pass, whole_after, at_child}
+use Rattle.rt_writes.proofs.LeafLaws.{overlaid-own, only_entry}
 use Rattle.rt_writes.proofs.AtChild.{at_itself}
 
 -- ---- the later writes

@@ -1,11 +1,10 @@
 -- The leaf and the children of what entries lay over a tree.
-use Rattle.std.proofs.Common.{◌≡◌, ℕ, zero, suc, Bool, true, false, cond, not, ◌&&◌, ◌||◌, List, [], ◌∷◌, ◌++◌, append-nil, refl, sym, ap, ◌∙◌, Option, Some, None, is_some}
+use Rattle.std.proofs.Common.{◌≡◌, ℕ, zero, suc, Bool, true, false, cond, not, ◌&&◌, ◌||◌, List, [], ◌∷◌, append-nil, refl, sym, ap, ◌∙◌, Option, Some, None, is_some}
 use mathlib.Core.Bool.{true≢false}
 use Rattle.std.specs.List.{fold, list_any, slice_get}
 use Rattle.rt_tree.specs.Leaf.{LeafValue}
-use Rattle.rt_tree.specs.PathTree.{Key, Path, PathTree, strip, strip-some, strip-append, leaf_at, leaf_of, null, is_null, child, put, same_tree, leaf_at-sub, leaf_at-put, sub}
+use Rattle.rt_tree.specs.PathTree.{Key, Path, PathTree, strip, strip-some, strip-append, leaf_at, leaf_of, is_null, child, put, same_tree, leaf_at-sub, leaf_at-put, sub}
 use Rattle.rt_tree.specs.Assignments.{Assignment, is_at_or_above, do_overlap, have_overlap}
-use Rattle.rt_tree.specs.Parts.{sub-sub}
 use Rattle.rt_writes.specs.Writes.{overlaid, overlaid_by}
 use Rattle.rt_writes.specs.laws.TouchLaws.{fold-untouched}
 use Rattle.rt_writes.specs.inside.Spots.{fills, is_full}

@@ -1,22 +1,17 @@
 -- Writes by their numbers: what the tree of paths keeps when one comes or goes, and which of them an
 -- overlay needs.
-use Rattle.std.proofs.Common.{◌≡◌, ◌==◌, ◌≤◌, ◌<◌, ℕ, suc, Bool, true, false, cond, not, ◌&&◌, ◌||◌, List, [], ◌∷◌, ◌++◌, length, get_or, nat_lt, Option, Some, None, is_some, refl, sym, ap, subst, ◌∙◌, arith, eqb-true, ◌⊎◌, ⊎_elim}
-use Rattle.std.specs.List.{All, AllPairs, AllByRecursion, fold, filter, find, flat_map, list_any, position, remove}
+use Rattle.std.proofs.Common.{◌≡◌, ◌==◌, ◌≤◌, ◌<◌, ℕ, suc, Bool, true, false, cond, not, ◌&&◌, ◌||◌, List, [], ◌∷◌, ◌++◌, length, get_or, nat_lt, Option, Some, None, is_some, refl, sym, ap, subst, ◌∙◌, arith, eqb-true, ⊎_elim}
+use Rattle.std.specs.List.{All, AllPairs, fold, filter, find, list_any, position, remove}
 use Rattle.std.specs.Cmp.{unsigned_tied, tied_itself, nat_cmp_total}
-use Rattle.std.specs.Ordering.{nat_cmp, is_eq, is_lt, eq_by_cmp}
+use Rattle.std.specs.Ordering.{nat_cmp, is_eq, is_lt}
 use Rattle.std.specs.declared.cmp.Ordering.TheVariants.{Less, Equal, Greater}
-use Rattle.std.specs.BTreeMap.{is_at, get}
-use Rattle.std.specs.BTreeSet.{BTreeSet, contains}
-use Rattle.std.proofs.lemmas.Bool.{ltb-true, ltb-false, lt-ltb}
+use Rattle.std.specs.BTreeMap.{get}
+use Rattle.std.specs.BTreeSet.{contains}
+use Rattle.std.proofs.lemmas.Bool.{ltb-true, ltb-false}
 use Rattle.std.proofs.lemmas.Cmp.{ranked}
 use Rattle.std.proofs.lemmas.List.Folds.{list_any-append, list_any_at, list_any_none}
-use Rattle.std.proofs.lemmas.Map.Views.{any-filter_same}
 use Rattle.std.specs.Option.{option_map_or, option_and_then}
 use Rattle.std.specs.Prelude.{IsTrue, IfSome}
-use Rattle.std.specs.List.Sorted.{IsStrictlySortedBy}
-use Rattle.std.proofs.lemmas.Map.Keys.{sorted_head, sorted_tail}
-use Rattle.std.specs.BTreeMap.Range.{range_contains}
-use Rattle.std.specs.declared.ops.Bound.TheVariants.{Unbounded}
 use mathlib.Core.List.{append-nil}
 use Rattle.std.proofs.lemmas.List.Sums.{fold-append}
 use Rattle.std.proofs.lemmas.List.Concat.{flat_map-append}
@@ -27,10 +22,10 @@ use Rattle.rt_writes.specs.Kept.{IsKept}
 use Rattle.std.proofs.lemmas.List.Kept.{AllPairs-filter}
 use Rattle.std.proofs.lemmas.List.Elements.{All-filter}
 use Rattle.std.proofs.lemmas.List.Quantifiers.{position-Some}
-use Rattle.rt_writes.specs.laws.TouchLaws.{fold-untouched, fold-whole}
+use Rattle.rt_writes.specs.laws.TouchLaws.{fold-whole}
 use Rattle.rt_writes.specs.declared.spots.Spot.{Spot}
-use Rattle.rt_writes.specs.inside.Spots.{under_of, below_of, spot_at, has_here, has_under, has_full, place_at, is_entry, is_full, AddsAll, ForgetsAll, IsAbove, IsLast, some_write, some_entry, IsMerged, IsMergedAt, IsPending, is_later, after}
-use Rattle.rt_writes.proofs.Lists.{list_any-flat_map, filter-all, find-position, remove-without}
+use Rattle.rt_writes.specs.inside.Spots.{under_of, below_of, spot_at, has_here, has_under, has_full, place_at, is_entry, is_full, AddsAll, ForgetsAll, IsAbove, IsLast, some_write, some_entry, IsMerged, IsPending, is_later, after}
+use Rattle.rt_writes.proofs.Lists.{list_any-flat_map, find-position, remove-without}
 use Rattle.rt_writes.proofs.SpotLaws.{has_place}
 use Rattle.rt_writes.proofs.AtChild.{at_itself, at_other}
 

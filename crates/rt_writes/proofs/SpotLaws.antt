@@ -6,12 +6,12 @@ use Rattle.std.specs.Prelude.{IsTrue}
 use Rattle.std.specs.List.{slice_get}
 use Rattle.std.proofs.lemmas.List.Folds.{list_any-append}
 use Rattle.std.proofs.lemmas.Bool.{leb-true, leb-false}
-use Rattle.std.specs.Option.{option_map_or, option_and_then}
+use Rattle.std.specs.Option.{option_map_or}
 use Rattle.std.specs.Ordering.{nat_cmp}
 use Rattle.std.specs.BTreeMap.{BTreeMap, get, is_at}
-use Rattle.std.specs.BTreeSet.{BTreeSet, contains}
+use Rattle.std.specs.BTreeSet.{contains}
 use Rattle.std.specs.Map.{lookup}
-use Rattle.rt_tree.specs.PathTree.{Key, Path, key_cmp, key_eq, key_eq-is, key_eq-symm, key_eq-same, path_eq, path_eq-append, strip}
+use Rattle.rt_tree.specs.PathTree.{Key, Path, key_cmp, key_eq, key_eq-is, key_eq-symm, path_eq, path_eq-append, strip}
 use Rattle.rt_tree.specs.Assignments.{Assignment, is_at_or_above}
 use Rattle.rt_writes.specs.declared.spots.Spot.{Spot}
 use Rattle.rt_writes.specs.declared.spots.Spot.TheOpen.{Spot-F}

@@ -1,16 +1,15 @@
 -- A look: the last write at or above the path, and then what came after it below.
-use Rattle.std.proofs.Common.{◌≡◌, ◌==◌, ◌≤◌, ◌<◌, ℕ, Bool, true, false, ◌&&◌, ◌||◌, List, [], ◌∷◌, ◌++◌, Option, Some, None, is_some, refl, sym, ap, subst, ◌∙◌, arith, Result, Ok, Err}
+use Rattle.std.proofs.Common.{◌≡◌, ◌==◌, ◌≤◌, ◌<◌, ℕ, true, false, ◌&&◌, ◌||◌, List, [], ◌∷◌, ◌++◌, Option, Some, None, refl, sym, ap, ◌∙◌, arith, Result, Ok, Err}
 use Rattle.std.specs.Prelude.{IfOk}
-use Rattle.std.specs.List.{fold, filter, list_any}
 use Rattle.std.specs.Option.{option_map_or}
 use Rattle.std.specs.Ordering.{nat_cmp}
 use Rattle.std.specs.BTreeSet.{contains}
 use Rattle.std.proofs.lemmas.Bool.{ltb-true}
 use Rattle.rt_tree.specs.PathTree.{Path, PathTree, path_eq}
 use Rattle.rt_tree.specs.Assignments.{is_at_or_above}
-use Rattle.rt_writes.specs.Writes.{Write, assignments, overlaid, overlay, sets_whole}
+use Rattle.rt_writes.specs.Writes.{Write, overlay, sets_whole}
 use Rattle.rt_writes.specs.declared.spots.Spot.{Spot}
-use Rattle.rt_writes.specs.inside.Spots.{under_of, spot_at, has_here, IsAbove, IsLast, some_entry, IsMerged, IsMergedAt, AreApart, is_later, after, overlaid_last, LaysAt, Laid}
+use Rattle.rt_writes.specs.inside.Spots.{under_of, spot_at, IsAbove, IsLast, some_entry, IsMerged, IsMergedAt, AreApart, is_later, after, overlaid_last, LaysAt, Laid}
 use Rattle.rt_writes.proofs.Lists.{filter-all}
 use Rattle.rt_writes.proofs.NumberLaws.{Rising, sets, any_above, or_left, or_right, under_at, whole_after, not_so}
 use Rattle.rt_writes.proofs.SpotLaws.{both_true}

@@ -1,4 +1,4 @@
-use Rattle.std.proofs.Common.{◌≡◌, ◌==◌, length, nat_lt, Option, Some, None, is_some, get_or, rules, sym, ap, ◌∙◌}
+use Rattle.std.proofs.Common.{◌≡◌, ◌==◌, length, nat_lt, Some, None, is_some, get_or, rules, sym, ap, ◌∙◌}
 use Rattle.std.specs.Prelude.{IfSome}
 use Rattle.std.specs.List.{find, position, slice_get}
 use Rattle.std.specs.Option.{option_and_then, option_copied}

@@ -1,4 +1,4 @@
-use Rattle.std.proofs.Common.{◌≡◌, ◌≤◌, ap, ◌∙◌, arith}
+use Rattle.std.proofs.Common.{◌≤◌, arith}
 use Rattle.rt_tree.specs.PathTree.{levels}
 use Rattle.rt_writes.proofs.LayLaws.{one_level}
 use Rattle.rt_writes.proofs.laying.lay_entry.Goals as goal

@@ -1,4 +1,4 @@
-use Rattle.std.proofs.Common.{◌≡◌, false, IfOk, sym, ap, subst, ◌∙◌}
+use Rattle.std.proofs.Common.{◌≡◌, false, IfOk, ap, subst, ◌∙◌}
 use Rattle.rt_tree.specs.PathTree.{Path}
 use Rattle.rt_writes.specs.Writes.{sets_whole}
 use Rattle.rt_writes.specs.inside.Spots.{spot_at, IsAbove, IsLast, AreApart, IsMergedAt, Laid, LaysAt, after}

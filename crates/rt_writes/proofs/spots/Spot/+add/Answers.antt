@@ -1,12 +1,11 @@
-use Rattle.std.proofs.Common.{◌≡◌, ◌==◌, ◌&&◌, ◌||◌, Some, None, cond, refl, sym, ap, subst, ◌∙◌}
+use Rattle.std.proofs.Common.{◌==◌, ◌&&◌, ◌||◌, Some, cond, refl, ap, subst, ◌∙◌}
 use Rattle.std.specs.Option.{IsSome}
 use Rattle.std.specs.Ordering.{nat_cmp}
 use Rattle.std.specs.BTreeMap.{get}
-use Rattle.std.specs.BTreeSet.{contains}
 use Rattle.rt_tree.specs.PathTree.{key_cmp, path_eq}
 use Rattle.rt_tree.specs.Assignments.{is_at_or_above}
 use Rattle.rt_writes.specs.declared.spots.Spot.TheViews.{out-Spot, roll-Spot, out-roll-Spot}
-use Rattle.rt_writes.specs.inside.Spots.{here_of, below_of}
+use Rattle.rt_writes.specs.inside.Spots.{below_of}
 use Rattle.rt_writes.proofs.SpotLaws.{on_ok, layer, here_kept, below_kept, changes_root, changes_below, adds_still, get_set, place_in, under_in, full_in}
 use Rattle.rt_writes.proofs.spots.Spot.+add.Goals as goal
 

@@ -1,4 +1,4 @@
-use Rattle.std.proofs.Common.{◌≡◌, ℕ, [], true, false, refl, sym, subst, ◌∙◌}
+use Rattle.std.proofs.Common.{◌≡◌, [], true, sym, subst}
 use Rattle.rt_writes.specs.inside.Spots.{has_here, IsAbove, IsLast}
 use Rattle.rt_writes.proofs.SpotLaws.{last_same, last_later, above_root, root_above, above_child, child_above}
 use Rattle.rt_writes.proofs.spots.Spot.+last_whole.Goals as goal

@@ -1,4 +1,4 @@
-use Rattle.std.proofs.Common.{◌≡◌, not, subst, ◌++◌, ◌∷◌, [], take, length, Some, refl, sym, ap, ◌∙◌, ◌||◌, ◌+◌, ◌<◌, arith}
+use Rattle.std.proofs.Common.{◌≡◌, not, subst, ◌++◌, ◌∷◌, [], take, length, Some, refl, sym, ap, ◌∙◌, ◌||◌, ◌+◌, arith}
 use Rattle.std.proofs.lemmas.List.{take_more, length-take}
 use Rattle.rt_writes.specs.inside.Spots.{is_full, Changes}
 use Rattle.rt_writes.proofs.SpotLaws.{changes_none, changes_more, adds_still, adds_join, adds_tell}

@@ -1,4 +1,4 @@
-use Rattle.std.proofs.Common.{◌≡◌, ◌++◌, ◌∷◌, [], take, true, None, sym, ap, ◌∙◌, not, ◌&&◌, ◌+◌}
+use Rattle.std.proofs.Common.{◌++◌, ◌∷◌, [], take, true, None, sym, ap, ◌∙◌, not, ◌&&◌, ◌+◌}
 use Rattle.std.proofs.lemmas.List.{take_more}
 use Rattle.rt_writes.proofs.SpotLaws.{changes_none, changes_more, forgets_still, forgets_join, forgets_tell}
 use Rattle.rt_writes.proofs.spots.Spot.forget_all.Goals as goal

@@ -1,5 +1,5 @@
 use Rattle.std.proofs.Common.{ap, ◌∙◌}
-use Rattle.rt_writes.specs.declared.spots.Spot.TheViews.{roll-Spot, out-roll-Spot}
+use Rattle.rt_writes.specs.declared.spots.Spot.TheViews.{out-roll-Spot}
 use Rattle.rt_writes.proofs.SpotLaws.{bare_here, bare_place, bare_under, bare_full, rolled}
 use Rattle.rt_writes.proofs.spots.Spot.new.Goals as goal
 
