@@ -16,8 +16,9 @@ ENDS = {"stdout": subprocess.PIPE, "stderr": subprocess.PIPE}
 # ---- faults, and words
 
 
-READ_FAULT = b"kaltewi: the input can't be read, or has more than 67108864 bytes\n"
-WRITE_FAULT = b"kaltewi: the output can't be written\n"
+READ_FAULT = b"kaltewi: the input can't be read: Connection reset by peer (os error 104)\n"
+TOO_LONG = b"kaltewi: the input has more than 67108864 bytes\n"
+WRITE_FAULT = b"kaltewi: the output can't be written: No space left on device (os error 28)\n"
 
 
 @session(ROW, ROW_OUT, 1, err=READ_FAULT, is_broken=True)
@@ -31,7 +32,7 @@ def broken_input(server):
     yield from goes(server)
 
 
-@session("x" * 67_108_865, "", 1, err=READ_FAULT)
+@session("x" * 67_108_865, "", 1, err=TOO_LONG)
 def long_input(server):
     """An input of one byte more than 67,108,864 is a fault."""
     server.welcome()
@@ -80,6 +81,22 @@ def nobody_listens(program):
     return differs("connect, nobody listens", (ran.returncode, ran.stdout, ran.stderr), (1, b"", wanted))
 
 
+BAD_LINES = '["connected"]\n["connect"]\n\nhello\n\udcff\n["cover"]\n'
+BAD_OUT = "done\nbad line 2\nbad line 4\nbad line 5\nT none\n"
+BAD_TOLD = "kaltewi: line 2 has none of the forms\nkaltewi: line 4 is no JSON\nkaltewi: line 5 is no JSON\n"
+
+
+def bad_lines(program):
+    """A script tells what is wrong with each bad line, where it is asked to."""
+    given = {"input": BAD_LINES.encode(errors="surrogateescape"), "capture_output": True, "timeout": SECONDS}
+    for words, err in ((["-v"], BAD_TOLD), (["--verbose"], BAD_TOLD), ([], "")):
+        ran = subprocess.run([program, "script", *words], **given)
+        wrong = differs(f"script {words}", (ran.returncode, ran.stdout, ran.stderr), (1, BAD_OUT.encode(), err.encode()))
+        if wrong:
+            return wrong
+    return ""
+
+
 def not_shown():
     """The files that have to show the row, and don't."""
     shown = {"examples/two_terminals.lines": [ROW], "README.md": [ROW, ROW_OUT], "docs/FORMATS.md": [ROW_OUT]}
@@ -112,7 +129,7 @@ def bad_words(program, words, wanted):
 
 def wrong_of(programs):
     """What is wrong with these builds of the program, the first few things, and how many runs there were."""
-    runs = [it.wrong for it in SESSIONS] + [prompt, nobody_listens]
+    runs = [it.wrong for it in SESSIONS] + [prompt, nobody_listens, bad_lines]
     runs += [lambda program, it=it: bad_words(program, *it) for it in WORDS.items()]
     wrong, count = list(not_shown()), 0
     for program in programs:

@@ -3,6 +3,7 @@ write of their connection failing in turn, on either side."""
 import os
 import struct
 import subprocess
+import threading
 import time
 
 from connecting import ROW, ROW_OUT, stop
@@ -89,22 +90,63 @@ def begun(words, lines, environment):
     return ran
 
 
+class Saying(threading.Thread):
+    """Reads what a program says on standard error to its end, so that it never waits for this, and hears that it listens at a port."""
+
+    def __init__(self, stream, port):
+        super().__init__(daemon=True)
+        self.stream, self.first = stream, b"kaltewi: listening on 127.0.0.1:%d\n" % port
+        self.lines, self.listens, self.is_known = [], False, threading.Event()
+
+    def run(self):
+        with self.stream:
+            for line in self.stream:
+                if line == self.first:
+                    self.listens = True
+                    self.is_known.set()
+                else:
+                    self.lines.append(line)
+        self.is_known.set()
+
+
 def served(program, count, environment, words=()):
-    """A program that serves so many clients at a port, once it listens there; no port where it has ended."""
-    port = free_port()
-    ran = begun([program, "serve", str(port), "--count", str(count), *words], "", environment)
-    until = time.monotonic() + SECONDS
-    while ran.poll() is None and time.monotonic() < until:
-        with open("/proc/net/tcp") as sockets:
-            if f": 0100007F:{port:04X} 00000000:0000 0A " in sockets.read():
-                return ran, port
-        time.sleep(0.002)
-    return ran, None
+    """A program that serves so many clients at a port, once it says that it listens there; no port where it has ended. What it tells of its
+    connections is its `told`, once it has ended."""
+    port, ends = free_port(), {"stdin": subprocess.DEVNULL, "stdout": subprocess.PIPE, "stderr": subprocess.PIPE}
+    words = [program, "serve", str(port), "--count", str(count), "--verbose", *words]
+    ran = subprocess.Popen(words, env={**os.environ, **environment}, **ends)
+    ran.saying, ran.stderr = Saying(ran.stderr, port), None
+    ran.saying.start()
+    ran.saying.is_known.wait(SECONDS)
+    return ran, port if ran.saying.listens else None
+
+
+TELLS = b"kaltewi: connection ", b"kaltewi: a stream "  # what the lines begin with that `serve` tells of those that come
 
 
 def ended(ran):
+    """How a program ended: its status, what it printed, and what it said, but for what one that `served` began told of its connections."""
     out, err = ran.communicate(timeout=SECONDS)
-    return ran.returncode, out, err
+    if not hasattr(ran, "saying"):
+        return ran.returncode, out, err
+    ran.saying.join(SECONDS)
+    ran.told = [it for it in ran.saying.lines if it.startswith(TELLS)]
+    return ran.returncode, out, b"".join(it for it in ran.saying.lines if not it.startswith(TELLS))
+
+
+STRANGER = b"kaltewi: a stream is no WebSocket: "
+
+
+def let_end(ran, port, came):
+    """Once so many streams came to `serve`, comes as a client for each of them with whom no handshake came about, so that it ends."""
+    until = time.monotonic() + SECONDS
+    while ran.poll() is None and time.monotonic() < until:
+        strangers = [it for it in ran.saying.lines if it.startswith(STRANGER)]
+        if len(strangers) + sum(it.endswith(b" begins\n") for it in ran.saying.lines) >= came:
+            break
+        time.sleep(0.001)
+    for _ in strangers if ran.poll() is None else ():
+        Client(port).close()
 
 
 def meet(programs, lines, clients, side="", cut=()):
@@ -118,6 +160,7 @@ def meet(programs, lines, clients, side="", cut=()):
         client = begun([programs["connect"], "connect", str(port)], lines, given.get("connect", {}))
         of_client = ended(client)
         found = [it(port) for it in clients]
+        let_end(server, port, 1 + len(clients))
         return of_client, ended(server), found
     finally:
         for ran in (server, client):

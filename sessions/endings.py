@@ -111,7 +111,17 @@ T2 /b by L2
 """
 
 
-def ends(name, *frames, answer=None):
+RESET = "WebSocket protocol error: Connection reset without closing handshake"
+
+
+def told(server, lines, out, status, *tells):
+    """Adds a session, and it once more with --verbose, where it tells this beside what it prints."""
+    SESSIONS.append(Session(server, lines, out, status))
+    err = "".join(f"kaltewi: {it}\n" for it in tells).encode()
+    SESSIONS.append(Session(server, lines, out, status, err=err, words=["--verbose"]))
+
+
+def ends(name, why, *frames, answer=None):
     """A server that sends a value, and then what ends the connection; a close is answered."""
 
     def serves(server):
@@ -127,25 +137,27 @@ def ends(name, *frames, answer=None):
         yield "what comes behind the end of the connection", last, None
 
     serves.__doc__ = f"A connection that ends: {name}"
-    SESSIONS.append(Session(serves, AFTER_END, ENDED_OUT))
+    told(serves, AFTER_END, ENDED_OUT, 0, f"the {why}")
 
 
 UNREAD, HALF = data("/a", 1, 3), frame(FIRST_PART, '{"k":"da')
-ends("a close", frame(CLOSE, b"\x03\xe8bye"), answer=b"\x03\xe8bye")
-ends("a close without a code", frame(CLOSE, b""), answer=b"")
-ends("a close in the midst of a message", HALF, frame(CLOSE, b"\x0f\xa0"), answer=b"\x0f\xa0")
-ends("no close")
-ends("no close, in the midst of a message", HALF)
-ends("no close, in the midst of a frame", UNREAD[:9])
-ends("a masked frame", bytes([TEXT, 0x80 | 2]) + b"\0\0\0\0[]", UNREAD)
-ends("a reserved bit", frame(0xC1, "[]"), UNREAD)
-ends("an unknown kind of frame", frame(0x83, "[]"), UNREAD)
-ends("an unknown kind of control frame", frame(0x8B, "[]"), UNREAD)
-ends("a text that is not UTF-8", frame(TEXT, b'{"k":"\xff"}'), UNREAD)
-ends("a long ping", frame(PING, 126 * b"x"), UNREAD)
-ends("a ping in fragments", frame(0x09, b"x"), UNREAD)
-ends("a part of no message", frame(LAST_PART, "[]"), UNREAD)
-ends("a message in the midst of another", HALF, UNREAD)
+CLOSED_IT, FAILED = "server closed the connection", "connection failed: "
+BROKEN = f"{FAILED}WebSocket protocol error: "
+ends("a close", f'{CLOSED_IT} with code 1000: "bye"', frame(CLOSE, b"\x03\xe8bye"), answer=b"\x03\xe8bye")
+ends("a close without a code", f"{CLOSED_IT}, without a code", frame(CLOSE, b""), answer=b"")
+ends("a close in the midst of a message", f'{CLOSED_IT} with code 4000: ""', HALF, frame(CLOSE, b"\x0f\xa0"), answer=b"\x0f\xa0")
+ends("no close", f"{FAILED}{RESET}")
+ends("no close, in the midst of a message", f"{FAILED}{RESET}", HALF)
+ends("no close, in the midst of a frame", f"{FAILED}{RESET}", UNREAD[:9])
+ends("a masked frame", f"{BROKEN}Received a masked frame from server", bytes([TEXT, 0x80 | 2]) + b"\0\0\0\0[]", UNREAD)
+ends("a reserved bit", f"{BROKEN}Reserved bits are non-zero", frame(0xC1, "[]"), UNREAD)
+ends("an unknown kind of frame", f"{BROKEN}Encountered invalid opcode: 3", frame(0x83, "[]"), UNREAD)
+ends("an unknown kind of control frame", f"{BROKEN}Encountered invalid opcode: 11", frame(0x8B, "[]"), UNREAD)
+ends("a text that is not UTF-8", f"{FAILED}UTF-8 encoding error", frame(TEXT, b'{"k":"\xff"}'), UNREAD)
+ends("a long ping", f"{BROKEN}Control frame too big (payload must be 125 bytes or less)", frame(PING, 126 * b"x"), UNREAD)
+ends("a ping in fragments", f"{BROKEN}Fragmented control frame", frame(0x09, b"x"), UNREAD)
+ends("a part of no message", f"{BROKEN}Continue frame but nothing to continue", frame(LAST_PART, "[]"), UNREAD)
+ends("a message in the midst of another", f"{BROKEN}While waiting for more fragments received: TEXT", HALF, UNREAD)
 
 
 @session(AFTER_END, ENDED_OUT)
@@ -180,7 +192,7 @@ bad line 6
 """
 
 
-def refuses(name, answer):
+def refuses(name, why, answer):
     """A server that answers the request in this way, and then sends a message and goes."""
 
     def serves(server):
@@ -191,17 +203,21 @@ def refuses(name, answer):
         yield "what is sent behind the request", server.hear(), None
 
     serves.__doc__ = f"A handshake that fails: {name}"
-    SESSIONS.append(Session(serves, NO_SOCKET, NO_SOCKET_OUT, 1))
+    told(serves, NO_SOCKET, NO_SOCKET_OUT, 1, f"the handshake failed: {why}", "line 6 is no JSON")
 
 
-refuses("400", lambda it: b"HTTP/1.1 400 Bad Request\r\nContent-Length: 0\r\n\r\n")
-refuses("200", lambda it: it.answer().replace(b"101 Switching Protocols", b"200 OK"))
-refuses("no answer", lambda it: b"")
-refuses("half a head", lambda it: it.answer()[:-2])
-refuses("no HTTP", lambda it: b"hello\r\n\r\n")
-refuses("another key's answer", lambda it: it.answer(**{"Sec-WebSocket-Accept": accept_of(b"")}))
-refuses("no Sec-WebSocket-Accept", lambda it: it.answer(**{"Sec-WebSocket-Accept": None}))
-refuses("no Upgrade", lambda it: it.answer(Upgrade=None))
-refuses("another Upgrade", lambda it: it.answer(Upgrade=b"h2c"))
-refuses("no Connection", lambda it: it.answer(Connection=None))
-refuses("a protocol that nobody asked for", lambda it: it.answer(**{"Sec-WebSocket-Protocol": b"chat"}))
+BAD, NO_FIELD = "Handshake error: ", "A header to send is duplicated or incorrect"
+NO_KEY = f'{BAD}Key mismatch in "Sec-WebSocket-Accept" header'
+NO_UPGRADE, NO_CONNECTION = f'{BAD}No "Upgrade: websocket" header', f'{BAD}No "Connection: upgrade" header'
+NO_PROTOCOL = f"{BAD}SubProtocol error: Server sent a subprotocol but none was requested"
+refuses("400", "HTTP error: 400 Bad Request", lambda it: b"HTTP/1.1 400 Bad Request\r\nContent-Length: 0\r\n\r\n")
+refuses("200", "HTTP error: 200 OK", lambda it: it.answer().replace(b"101 Switching Protocols", b"200 OK"))
+refuses("no answer", "Handshake not finished", lambda it: b"")
+refuses("half a head", f"{BAD}{NO_FIELD}", lambda it: it.answer()[:-2])
+refuses("no HTTP", f"{BAD}{NO_FIELD}", lambda it: b"hello\r\n\r\n")
+refuses("another key's answer", NO_KEY, lambda it: it.answer(**{"Sec-WebSocket-Accept": accept_of(b"")}))
+refuses("no Sec-WebSocket-Accept", NO_KEY, lambda it: it.answer(**{"Sec-WebSocket-Accept": None}))
+refuses("no Upgrade", NO_UPGRADE, lambda it: it.answer(Upgrade=None))
+refuses("another Upgrade", NO_UPGRADE, lambda it: it.answer(Upgrade=b"h2c"))
+refuses("no Connection", NO_CONNECTION, lambda it: it.answer(Connection=None))
+refuses("a protocol that nobody asked for", NO_PROTOCOL, lambda it: it.answer(**{"Sec-WebSocket-Protocol": b"chat"}))

@@ -6,7 +6,6 @@ import json
 import os
 import socket
 import struct
-import time
 
 PORTS = itertools.count(os.getpid())
 SECONDS = 60  # the longest that either end waits
@@ -28,19 +27,6 @@ def free_port():
                 pass  # somebody is there
 
 
-def await_port(port, ran):
-    """Whether a program listens at the port, before it ends: it is tried until it does. A stream that says nothing
-    is no client."""
-    until = time.monotonic() + SECONDS
-    while ran.poll() is None and time.monotonic() < until:
-        try:
-            socket.create_connection(("127.0.0.1", port), timeout=SECONDS).close()
-            return True
-        except OSError:
-            time.sleep(0.002)
-    return False
-
-
 def accept_of(key):
     """What a server answers to a client's key."""
     return base64.b64encode(hashlib.sha1(key + b"258EAFA5-E914-47DA-95CA-C5AB0DC85B11").digest())
@@ -56,10 +42,10 @@ def masked(data, mask):
 
 
 class Client:
-    """A client over a raw socket: a handshake, masked texts out, texts in. It waits till somebody listens."""
+    """A client over a raw socket: a handshake, masked texts out, texts in. Somebody has to listen."""
 
-    def __init__(self, port, key=b"dGhlIHNhbXBsZSBub25jZQ==", seconds=SECONDS):
-        self.socket = self.connected(port, time.monotonic() + seconds)
+    def __init__(self, port, key=b"dGhlIHNhbXBsZSBub25jZQ=="):
+        self.socket = socket.create_connection(("127.0.0.1", port), timeout=SECONDS)
         self.stream = self.socket.makefile("rb")
         head = b"GET / HTTP/1.1\r\nHost: 127.0.0.1\r\nUpgrade: websocket\r\nConnection: Upgrade\r\n"
         self.socket.sendall(head + b"Sec-WebSocket-Version: 13\r\nSec-WebSocket-Key: " + key + b"\r\n\r\n")
@@ -67,16 +53,6 @@ class Client:
         accept = b"sec-websocket-accept: " + accept_of(key).lower()
         if not said.startswith(b"http/1.1 101 ") or accept not in said:
             raise OSError(f"no handshake: {said[:160]}")
-
-    @staticmethod
-    def connected(port, until):
-        while True:
-            try:
-                return socket.create_connection(("127.0.0.1", port), timeout=SECONDS)
-            except ConnectionRefusedError:
-                if time.monotonic() > until:
-                    raise
-                time.sleep(0.01)
 
     def frame(self, first, data):
         mask = os.urandom(4)

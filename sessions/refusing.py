@@ -4,11 +4,10 @@ bad, so that there is no handshake. Where it is one for the tree of paths that s
 that tree is given up, and all goes on as with memory. Else the program says that memory was lacking, behind what
 it printed."""
 import os
-import socket
 import subprocess
 
-from cutting import ENDS, HANDSHAKE, LINES, WHOLE, Wrong, begun, ended, must, served
-from frames import SECONDS
+from cutting import ENDS, HANDSHAKE, LINES, WHOLE, Wrong, begun, ended, let_end, must, served
+from frames import Client
 from session import stop
 
 REFUSED = b"refused\n"  # what calls/refuse.c says where it refuses
@@ -32,6 +31,8 @@ def meet(programs, given):
         of_client = ended(client) if client else None
         if of_client and not of_client[1]:
             visit(port)  # it may not have come
+        elif port:
+            let_end(server, port, 1)
         return of_client, ended(server)
     finally:
         for ran in (server, client):
@@ -42,7 +43,7 @@ def meet(programs, given):
 def visit(port):
     """Comes and goes, as a client that `serve` may still wait for."""
     try:
-        socket.create_connection(("127.0.0.1", port), timeout=SECONDS).close()
+        Client(port).close()
     except OSError:
         pass  # it waits for nobody any more
 

@@ -7,7 +7,7 @@ import struct
 import subprocess
 
 from connecting import stop
-from cutting import CUT, Wrong, ended, library_of, must, served
+from cutting import CUT, Wrong, ended, let_end, library_of, must, served
 from frames import BINARY, CLOSE, CLOSED, FIRST_PART, LAST_PART, PART, PING, SECONDS, TEXT, Client
 
 # The head of a client's request; the key and what answers it are those of RFC 6455, section 1.3.
@@ -99,6 +99,7 @@ def met(program, head, behind=b"", words=(), cut=None):
         if not port:
             raise Wrong("serve doesn't listen")
         out, tree = sent_for(port, head, behind), tree_of(port)
+        let_end(server, port, 2)
         status, said, err = ended(server)
         must("what serve ends with, and prints", (status, said, err if err != CUT else b""), (0, b"", b""))
         return out, tree, err == CUT

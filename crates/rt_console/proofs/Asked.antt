@@ -1,6 +1,6 @@
 -- What words ask for, and why they make no command.
 use Rattle.std.proofs.Common.{◌≡◌, ℕ, true, false, List, [], ◌∷◌, Option, Some, None, Result, Ok, Err}
-use Rattle.std.proofs.Common.{inl, inr, refl, sym, ap, ap₂, ◌∙◌, codes}
+use Rattle.std.proofs.Common.{inl, inr, refl, sym, subst, ap, ap₂, ◌∙◌, codes}
 use Rattle.std.specs.Borrow.{Bor}
 use Rattle.std.specs.Prelude.{◌⊎◌, Box, IfOk, IfSome, IsErrAnd, is_some, if◌then◌else◌, option_map, option_and_then}
 use Rattle.std.specs.Box.{box_value}
@@ -20,7 +20,8 @@ use Rattle.clap.specs.Words.{subcommand_rows, subcommand_rows_of}
 use Rattle.rt_tree.specs.Path.{path_fault, path_keys}
 use Rattle.rt_tree.specs.PathTree.{Path, PathTree}
 use Rattle.rt_tree.specs.declared.error.TreeError.{TreeError}
-use Rattle.rt_console.specs.Words.{Gives, denied_of, number_of, other_of, serving_of, tree_of, work_of}
+use Rattle.rt_console.specs.Words.{Gives, GivesWork, denied_of, number_of, other_of, serving_of, tree_of, work_of}
+use Rattle.rt_console.specs.declared.words.Asked.{Asked}
 use Rattle.rt_console.specs.declared.words.Serving.{Serving}
 use Rattle.rt_console.specs.declared.words.Work.{Work}
 use Rattle.rt_console.specs.declared.words.Work.TheVariants.{Connect, Script, Serve}
@@ -45,14 +46,15 @@ refused_kind [] (Some w) k e f h = cc
 refused_kind (x ∷ xs) work k e f h = cc
 
 -- the work is given
-pub given : (clap : Kinds) (work : Option Work) (r : Result Work Error) → clap ≡ [] → Gives work r
-    → FailsBy (faults_by clap work) r
-given clap work (Ok w) e h = ap (λ k. faults_by k work) e ∙ ap (faults_by []) h
+pub given : (clap : Kinds) (work : Option Work) (r : Result Asked Error) → clap ≡ []
+    → GivesWork work r → FailsBy (faults_by clap work) r
+given clap work (Ok a) e h = ap (λ k. faults_by k work) e ∙ ap (faults_by []) h
 given clap work (Err x) e (inl memory) = inl memory
 given clap work (Err x) e (inr refused) = inr (refused_kind clap work (kind_of x) e refused.1 refused.0)
 
-pub given_work : (work : Option Work) (r : Result Work Error) → Gives work r → IfOk r (λ w. work ≡ Some w)
-given_work work (Ok w) h = h
+pub given_work : (work : Option Work) (r : Result Asked Error) → GivesWork work r
+    → IfOk r (λ a. work ≡ Some a.work)
+given_work work (Ok a) h = h
 given_work work (Err x) h = tt
 
 -- an error is passed up
@@ -62,6 +64,18 @@ pub passed : {T U : Type 0} (v : Option T) (w : Option U) (e : Error) (r : Resul
 passed v w e (Ok x) is f h = absurd is
 passed v w e (Err y) is f (inl memory) = inl (ap kind_of is ∙ memory)
 passed v w e (Err y) is f (inr k) = inr (ap kind_of is ∙ k.0, f k.1)
+
+-- and so it is by what was asked for
+pub passed_on : (v : Option Work) (e : Error) (r : Result Asked Error) → IsErrAnd r (λ y. y ≡ e)
+    → (kind_of e ≡ OutOfMemory) ⊎ ((kind_of e ≡ ValueValidation) × (v ≡ None)) → GivesWork v r
+passed_on v e (Ok x) is h = absurd is
+passed_on v e (Err y) is (inl memory) = inl (ap kind_of is ∙ memory)
+passed_on v e (Err y) is (inr k) = inr (ap kind_of is ∙ k.0, k.1)
+
+-- an error of the same kind
+pub same_kind : (kinds : Kinds) (a b : Error) → kind_of b ≡ kind_of a → HasKind kinds a → HasKind kinds b
+same_kind kinds a b e (inl memory) = inl (e ∙ memory)
+same_kind kinds a b e (inr among) = inr (subst (λ k. IsAmong k kinds) (sym e) among)
 
 -- a path is read
 pub denied_read : (text : Option (Bor (List ℕ))) (t : Bor (List ℕ)) (path : Path) → text ≡ Some t

@@ -1,5 +1,6 @@
 mod Asked
 mod Clients
+mod Flags
 mod Numbers
 mod Runs
 mod Written

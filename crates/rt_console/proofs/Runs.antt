@@ -5,8 +5,8 @@ use Rattle.std.specs.Prelude.{if◌then◌else◌}
 use Rattle.rt_input.specs.Lines.{Gives, Lines, given_by, lines_of, to_come}
 use Rattle.rt_console.specs.declared.script.Script.{Script}
 use Rattle.rt_console.specs.Run.{Progress}
-use Rattle.rt_console.specs.inside.Pieces.{Runs, so_far}
-use Rattle.rt_console.proofs.Written.{Runs-append}
+use Rattle.rt_console.specs.inside.Pieces.{Begins, Runs, so_far}
+use Rattle.rt_console.proofs.Written.{Begins-done, Begins-next, Runs-append}
 
 -- of all lines some are done, and the others are to come
 abbrev pub Did : List (List ℕ) → Progress → Option (List ℕ) → Lines → Option (List ℕ) → Script → Option (List ℕ) → Type 0
@@ -38,6 +38,26 @@ Did-all whole old c0 c1 r l s (left, is, done, e, runs) ended =
     let all : whole ≡ done = subst G ended e ∙ append-nil done in
     let P : List (List ℕ) → Type 0 = λ w. Runs w old c0 s c1 in
     subst P (sym all) runs
+
+-- no more lines are given
+pub Did-some : (whole : List (List ℕ)) (old : Progress) (c0 c1 r : Option (List ℕ)) (l : Lines) (s : Script)
+    → Did whole old c0 l r s c1 → Begins whole old c0 s c1
+Did-some whole old c0 c1 r l s (left, is, done, e, runs) =
+    let P : List (List ℕ) → Type 0 = λ w. Begins w old c0 s c1 in
+    subst P (sym e) (Begins-done done (to_come l left) old c0 c1 s runs)
+
+-- the next line is given, and begun
+pub Did-begun : (whole : List (List ℕ)) (old : Progress) (c0 c1 c2 r1 r2 : Option (List ℕ)) (l1 l2 : Lines) (s1 s2 : Script)
+    → Did whole old c0 l1 r1 s1 c1 → l1.ended ≡ false
+    → ((left : List ℕ) → r1 ≡ Some left → Gives l1 left l2 r2)
+    → Begins (l2.line ∷ []) (so_far [] s1) c1 s2 c2 → Begins whole old c0 s2 c2
+Did-begun whole old c0 c1 c2 r1 r2 l1 l2 s1 s2 (left, is, done, e, runs) goes gives begun =
+    let g : Gives l1 left l2 r2 = gives left is in
+    let G : Bool → Type 0 = λ b. to_come l1 left ≡ (if b then [] else l2.line ∷ []) ++ to_come l2 g.0 in
+    let next : to_come l1 left ≡ l2.line ∷ to_come l2 g.0 = subst G goes g.2 in
+    let P : List (List ℕ) → Type 0 = λ w. Begins w old c0 s2 c2 in
+    subst P (sym (e ∙ ap (λ ls. done ++ ls) next))
+    (Begins-next done (to_come l2 g.0) l2.line old c0 c1 c2 s1 s2 runs begun)
 
 pub not_true : (m b : Bool) → m ≡ not b → m ≡ true → b ≡ false
 not_true m true e f = cc

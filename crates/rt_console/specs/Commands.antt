@@ -1,6 +1,7 @@
 -- The commands of the program, as clap sees them.
 use Rattle.std.specs.Prelude.{[], ◌∷◌, Some, true, codes, pos}
 use Rattle.clap.specs.Words.{App, Rule, new_app, new_rule, with_rule, with_subcommand}
+use Rattle.clap.specs.declared.builder.action.ArgAction.TheVariants.{SetTrue}
 use Rattle.clap.specs.declared.builder.value_parser.ValueParser.{ValueParser}
 use Rattle.clap.specs.declared.builder.value_parser.ValueParser.TheVariants as parser
 
@@ -39,18 +40,29 @@ tree_rule = record (new_rule (codes "tree")) { long = Some (codes "tree"); value
 abbrev pub deny_rule : Rule
 deny_rule = record (new_rule (codes "deny")) { long = Some (codes "deny"); value_names = 1 }
 
--- `serve PORT [--count N] [--tree JSON] [--deny PATH]`
-abbrev pub serve_app : App
-serve_app =
-    with_rule (with_rule (with_rule (with_rule (new_app (codes "serve")) port_rule) count_rule) tree_rule)
-    deny_rule
+-- `-v`, `--verbose`
+abbrev pub verbose_rule : Rule
+verbose_rule = record (new_rule (codes "verbose")) {
+  short = Some 118;
+  long = Some (codes "verbose");
+  action = Some SetTrue;
+}
 
--- `connect PORT`
+-- `script [-v]`
+abbrev pub script_app : App
+script_app = with_rule (new_app (codes "script")) verbose_rule
+
+-- `serve PORT [--count N] [--tree JSON] [--deny PATH] [-v]`
+abbrev pub serve_app : App
+serve_app = with_rule (with_rule (with_rule (with_rule (with_rule (new_app (codes "serve")) port_rule)
+    count_rule) tree_rule) deny_rule) verbose_rule
+
+-- `connect PORT [-v]`
 abbrev pub connect_app : App
-connect_app = with_rule (new_app (codes "connect")) port_rule
+connect_app = with_rule (with_rule (new_app (codes "connect")) port_rule) verbose_rule
 
 -- `script`, `serve` and `connect`
 abbrev pub console_app : App
 console_app =
-    with_subcommand (with_subcommand (with_subcommand base_app (new_app (codes "script")).top) serve_app.top)
+    with_subcommand (with_subcommand (with_subcommand base_app script_app.top) serve_app.top)
     connect_app.top

@@ -1,5 +1,5 @@
 -- What clients that come one after another leave of a peer, and how a client ends.
-use Rattle.std.specs.Prelude.{◌≡◌, ◌≤◌, ℕ, suc, Bool, true, ⊤, List, [], ◌∷◌, length, Option, Some, None, Result, Ok, Err}
+use Rattle.std.specs.Prelude.{◌≡◌, ◌≤◌, ℕ, Bool, true, ⊤, List, [], ◌∷◌, length, Option, Some, None, Result, Ok, Err}
 use Rattle.std.specs.List.{AllByRecursion, fold}
 use Rattle.rt_tree.specs.PathTree.{Path}
 use Rattle.rt_peer.specs.Peers.{Peer, least_free}
@@ -27,26 +27,24 @@ IsTaken texts = length texts ≤ MAX_MESSAGES
 abbrev pub after_client : Peer → List (List ℕ) → Peer
 after_client p texts = after_all p (session (least_free p.connections) texts)
 
--- q is p after clients one after another, of whom there were at most so many: as many came, and those
--- with whom no handshake came about left no trace
+-- q is p after these clients, one after another
+abbrev pub IsAfter : List (List (List ℕ)) → Peer → Option Peer → Type 0
+IsAfter clients p q = AllByRecursion IsTaken clients × (q ≡ Some (fold after_client p clients))
+
+-- q is p after so many clients
 abbrev pub Serves : ℕ → Peer → Option Peer → Type 0
-Serves most p q =
-    (clients : List (List (List ℕ))) × (length clients ≤ most) × AllByRecursion IsTaken clients
-    × (q ≡ Some (fold after_client p clients))
+Serves count p q = (clients : List (List (List ℕ))) × (length clients ≡ count) × IsAfter clients p q
+
+-- q is p after some clients, of whom there were at most so many
+abbrev pub ServesSome : ℕ → Peer → Option Peer → Type 0
+ServesSome most p q = (clients : List (List (List ℕ))) × (length clients ≤ most) × IsAfter clients p q
 
 -- ---- streams
 
--- one stream less is left where one was given, and none where there is no next
-abbrev pub CountsDown : {S E : Type 0} → Option (Result S E) → ℕ → ℕ → Type 0
-CountsDown None old new = (old ≡ 0) × (new ≡ 0)
-CountsDown (Some (Ok stream)) old new = old ≡ suc new
-CountsDown (Some (Err why)) old new = new ≡ old
-
 -- it has failed where a stream could not be given
-abbrev pub Fails : {S E : Type 0} → Option (Result S E) → Bool → Bool → Type 0
-Fails None old new = new ≡ old
-Fails (Some (Ok stream)) old new = new ≡ old
-Fails (Some (Err why)) old new = new ≡ true
+abbrev pub Fails : {S E : Type 0} → Result S E → Bool → Bool → Type 0
+Fails (Ok stream) old new = new ≡ old
+Fails (Err why) old new = new ≡ true
 
 -- ---- faults
 

@@ -1,12 +1,12 @@
 -- The words of the command line: what they ask for, and why they make no command.
 use Rattle.std.specs.Prelude.{◌≡◌, ◌⊎◌, ◌&&◌, ℕ, List, [], ◌∷◌, Option, Some, None, Result, MatchResult}
-use Rattle.std.specs.Prelude.{is_some, if◌then◌else◌, codes, nat_lt, option_map, option_and_then}
+use Rattle.std.specs.Prelude.{Bool, false, is_some, if◌then◌else◌, codes, nat_lt, option_map, option_and_then}
+use Rattle.std.specs.Option.{option_map_or}
 use Rattle.std.specs.Str.{bytes_eq}
 use Rattle.std.specs.Str.Parse.{digits_value, without_leading_plus}
 use Rattle.serde_json.specs.Read.{read}
 use Rattle.clap.specs.declared.error.Error.{Error}
 use Rattle.clap.specs.declared.error.kind.ErrorKind.{ErrorKind}
-use Rattle.clap.specs.declared.error.kind.ErrorKind.TheVariants.{DisplayHelp, DisplayVersion}
 use Rattle.clap.specs.declared.error.kind.ErrorKind.TheVariants.{OutOfMemory, ValueValidation}
 use Rattle.clap.specs.Kinds.{or_else}
 use Rattle.clap.specs.Values.{kind_of}
@@ -17,6 +17,7 @@ use Rattle.rt_tree.specs.PathTree.{Path, PathTree}
 use Rattle.rt_tree.specs.Reading.{text_fault, tree_of_data}
 use Rattle.rt_tree.specs.Trees.{null}
 use Rattle.rt_console.specs.Commands.{console_app}
+use Rattle.rt_console.specs.declared.words.Asked.{Asked}
 use Rattle.rt_console.specs.declared.words.Serving.{Serving}
 use Rattle.rt_console.specs.declared.words.Work.{Work}
 use Rattle.rt_console.specs.declared.words.Work.TheVariants.{Connect, Script, Serve}
@@ -67,10 +68,28 @@ work_of (Some (name, rows)) =
 abbrev pub asked : List (List ℕ) → Option Work
 asked words = work_of (subcommand_of console_app words)
 
+-- whether a flag was given, by the text that stands for it
+abbrev pub flag_of : Option (List ℕ) → Bool
+flag_of text = option_map_or (λ t. bytes_eq t (codes "true")) text false
+
+-- whether a subcommand is to say more of what happens, by its name and its entries
+abbrev pub verbose_in : Option (List ℕ × List Row) → Bool
+verbose_in None = false
+verbose_in (Some (name, rows)) = flag_of (one_of (codes "verbose") rows)
+
+-- whether words ask that more be said
+abbrev pub is_verbose : List (List ℕ) → Bool
+is_verbose words = verbose_in (subcommand_of console_app words)
+
 -- the value, or where there is none an error that says so; or one for want of memory
 abbrev pub Gives : {T : Type 0} → Option T → Result T Error → Type 0
 Gives value result = MatchResult result (λ x. value ≡ Some x)
     (λ e. (kind_of e ≡ OutOfMemory) ⊎ ((kind_of e ≡ ValueValidation) × (value ≡ None)))
+
+-- what is asked for has that work, or there is such an error
+abbrev pub GivesWork : Option Work → Result Asked Error → Type 0
+GivesWork work result = MatchResult result (λ a. work ≡ Some a.work)
+    (λ e. (kind_of e ≡ OutOfMemory) ⊎ ((kind_of e ≡ ValueValidation) × (work ≡ None)))
 
 -- ---- why there is no command
 
@@ -80,10 +99,8 @@ abbrev pub faults_of : List (List ℕ) → Kinds
 faults_of words = or_else (fault_of console_app words)
     (if is_some (asked words) then [] else ValueValidation ∷ [])
 
--- the exit status of words that make no command: 0 where they ask for help, 1 for want of memory
+-- the exit status of words that make no command, help that is asked for among them; 1 for want of memory
 abbrev pub status_of : ErrorKind → ℕ
-status_of DisplayHelp = 0
-status_of DisplayVersion = 0
 status_of OutOfMemory = 1
 status_of _ = 2
 

@@ -5,10 +5,11 @@ ghost use Rattle.rt_input.specs.Faults.{counts};
 ghost use Rattle.rt_input.specs.Lines.{lines_of};
 ghost use Rattle.rt_drive.specs.Run.{bad_among};
 ghost use Rattle.rt_console.specs.Connections.{EndsBy};
+ghost use Rattle.rt_console.specs.Errors.{connect_code, connect_name};
 
 use rt_client::{Client, ClientError, Seat};
-use rt_drive::drive;
-use rt_input::{ConsoleError, Drain, Source};
+use rt_drive::drive_logged;
+use rt_input::{ConsoleError, Drain, Log, Source};
 use rt_world::Limits;
 use std::alloc::Global;
 use std::io;
@@ -31,6 +32,28 @@ pub enum ConnectFault {
     Ended(ConsoleError),
 }
 
+impl ConnectFault {
+    /// The number of the fault, from 1 to 2. That of what ended a run is its own.
+    pub fn code(&self) -> u8
+        ensures { result ≡ connect_code self.now }
+    {
+        match self {
+            ConnectFault::NotConnected { .. } => 1,
+            ConnectFault::Ended(_) => 2,
+        }
+    }
+
+    /// The name of the fault.
+    pub fn name(&self) -> &'static str
+        ensures { result.now ≡ connect_name self.now }
+    {
+        match self {
+            ConnectFault::NotConnected { .. } => "NotConnected",
+            ConnectFault::Ended(_) => "Ended",
+        }
+    }
+}
+
 // The client, and its eight seats.
 fn new_client(alloc: Global) -> Result<(Client, Vec<Seat>), ConsoleError>
     ensures { IfErr result (λ e. e ≡ ConsoleError.NoMemory) }
@@ -42,18 +65,20 @@ fn new_client(alloc: Global) -> Result<(Client, Vec<Seat>), ConsoleError>
 }
 
 /// Connects a new client to the port of 127.0.0.1, drives it by the lines that a reader gives, and answers
-/// how many of them were bad.
+/// how many of them were bad. Tells the log why the connection ended or did not come about, and what is
+/// wrong with each bad line.
 ///
 /// # Errors
 ///
 /// `NotConnected` where no connection is made, with the system's reason, and `Ended` where the run ends
-/// early, as that of [`drive`].
-pub fn connect<R: Net + Wait + RandomSource, I: Source, D: Drain>(
+/// early, as that of [`drive_logged`].
+pub fn connect<R: Net + Wait + RandomSource, I: Source, D: Drain, L: Log>(
     rt: &R,
     alloc: Global,
     port: u16,
     reader: &mut I,
     writer: &mut D,
+    log: &mut L,
 ) -> Result<u64, ConnectFault>
     requires bytes { I.given reader.old ≤ 2 ^ 63 }
     requires reads { I.failures reader.old + 1 < 2 ^ 64 }
@@ -73,7 +98,7 @@ pub fn connect<R: Net + Wait + RandomSource, I: Source, D: Drain>(
         Ok(stream) => stream,
         Err(why) => return Err(ConnectFault::NotConnected { port, why }),
     };
-    match drive(rt, alloc, &client, seats, rt, stream, reader, writer) {
+    match drive_logged(rt, alloc, &client, seats, rt, stream, reader, writer, log) {
         Ok(bad_lines) => Ok(bad_lines),
         Err(why) => Err(ConnectFault::Ended(why)),
     }

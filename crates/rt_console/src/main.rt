@@ -7,8 +7,9 @@ mod script;
 mod serve;
 mod words;
 
-use connect::connect;
-use rt_input::{ConsoleError, Reading, Writing};
+use connect::{ConnectFault, connect};
+use rt_input::{ConsoleError, Fault, Log, Reading, Silent, Telling, Writing};
+use script::run_logged;
 use serve::serve;
 use std::alloc::Global;
 use std::fmt::Display;
@@ -16,14 +17,7 @@ use std::net::Net;
 use std::process::ExitCode;
 use std::random::RandomSource;
 use std::sync::Wait;
-use words::{PROGRAM, Serving, Work};
-
-// Runs the script of the standard input.
-fn run(rt: &HostRuntime, alloc: Global) -> Result<u64, ConsoleError> {
-    let mut reader = Reading::new(rt.stdin());
-    let mut writer = Writing::new(rt.stdout());
-    script::run_script(alloc, &mut reader, &mut writer)
-}
+use words::{Asked, PROGRAM, Serving, Work};
 
 // Says why the program ends, and answers the exit status of a fault.
 fn say_fault<E: Display>(rt: &HostRuntime, fault: &E) -> u8 {
@@ -31,45 +25,71 @@ fn say_fault<E: Display>(rt: &HostRuntime, fault: &E) -> u8 {
     1
 }
 
-// Runs the script, and answers the exit status: 1 where a fault or a bad line was printed.
-fn status_of_script(rt: &HostRuntime) -> u8 {
-    match run(rt, rt.alloc()) {
+// Runs the script of the standard input, and answers the exit status: 1 where a fault or a bad line was
+// printed.
+fn status_of_script<L: Log>(rt: &HostRuntime, log: &mut L) -> u8 {
+    let mut reader = Reading::new(rt.stdin());
+    let mut writer = Writing::new(rt.stdout());
+    match run_logged(rt.alloc(), &mut reader, &mut writer, log) {
         Ok(0) => 0,
         Ok(_) => 1,
-        Err(error) => say_fault(rt, &error),
+        Err(error) => say_fault(rt, &Fault::of(error, reader, writer)),
     }
 }
 
 // Serves a peer, and answers the exit status.
-fn status_of_serving(rt: &HostRuntime, serving: Serving) -> u8 {
-    match serve(rt, rt.alloc(), serving) {
+fn status_of_serving<R: Net + Wait, L: Log>(
+    rt: &R,
+    system: &HostRuntime,
+    serving: Serving,
+    log: &mut L,
+) -> u8 {
+    match serve(rt, system.alloc(), serving, log) {
         Ok(_) => 0,
-        Err(fault) => say_fault(rt, &fault),
+        Err(fault) => say_fault(system, &fault),
     }
 }
 
 // Connects a client that the lines of the standard input drive, and answers the exit status: 1 where a
 // fault or a bad line was printed. It takes the system twice, since only `main` has it as one that waits.
-fn status_of_connection<R: Net + Wait + RandomSource>(
+fn status_of_connection<R: Net + Wait + RandomSource, L: Log>(
     rt: &R,
     system: &HostRuntime,
     port: u16,
+    log: &mut L,
 ) -> u8 {
     let mut reader = Reading::new(system.stdin());
     let mut writer = Writing::new(system.stdout());
-    match connect(rt, system.alloc(), port, &mut reader, &mut writer) {
+    match connect(rt, system.alloc(), port, &mut reader, &mut writer, log) {
         Ok(0) => 0,
         Ok(_) => 1,
+        Err(ConnectFault::Ended(error)) => say_fault(system, &Fault::of(error, reader, writer)),
         Err(fault) => say_fault(system, &fault),
     }
 }
 
 // Does the work, and answers the exit status.
-fn status_of_work<R: Net + Wait + RandomSource>(rt: &R, system: &HostRuntime, work: Work) -> u8 {
+fn status_of_work<R: Net + Wait + RandomSource, L: Log>(
+    rt: &R,
+    system: &HostRuntime,
+    work: Work,
+    log: &mut L,
+) -> u8 {
     match work {
-        Work::Script => status_of_script(system),
-        Work::Serve(serving) => status_of_serving(system, serving),
-        Work::Connect { port } => status_of_connection(rt, system, port),
+        Work::Script => status_of_script(system, log),
+        Work::Serve(serving) => status_of_serving(rt, system, serving, log),
+        Work::Connect { port } => status_of_connection(rt, system, port, log),
+    }
+}
+
+// Does what is asked for, and answers the exit status.
+fn status_of_asked<R: Net + Wait + RandomSource>(rt: &R, system: &HostRuntime, asked: Asked) -> u8 {
+    let Asked { work, verbose } = asked;
+    if verbose {
+        let mut log = Telling::new(system.alloc(), system.stderr());
+        status_of_work(rt, system, work, &mut log)
+    } else {
+        status_of_work(rt, system, work, &mut Silent)
     }
 }
 
@@ -80,7 +100,7 @@ fn status_of_words<R: Net + Wait + RandomSource>(
     words: &[String],
 ) -> u8 {
     match words::read_words(system.alloc(), words) {
-        Ok(work) => status_of_work(rt, system, work),
+        Ok(asked) => status_of_asked(rt, system, asked),
         Err(ConsoleError::BadWords) => words::explain(system, system.alloc(), words),
         Err(error) => say_fault(system, &error),
     }

@@ -1,17 +1,25 @@
 // The peer at a port: clients come, are served, and go.
-ghost use Rattle.std.specs.Prelude.{◌≡◌, ◌-◌, ◌⊎◌, ℕ, Bool, false, None, Some, IfOk, IfErr, IfSome, OnOk, OnErr};
+ghost use Rattle.std.specs.Prelude.{◌≡◌, ◌⊎◌, ◌++◌, codes, decimal, Bool, true, false, None, Some};
+ghost use Rattle.std.specs.Prelude.{IfOk, IfErr, IfSome, OnOk, OnErr};
+ghost use Rattle.std.specs.Io.KnownBytes.{Appends};
+ghost use Rattle.rt_input.specs.Log.{log_line};
+ghost use Rattle.rt_lines.specs.inside.Appending.{Appends as Written};
 ghost use Rattle.rt_peer.specs.Peers.{new_peer};
-ghost use Rattle.rt_console.specs.Connections.{CountsDown, Fails, listed, NamesPort, Serves, Stops};
+ghost use Rattle.rt_serve.specs.Sessions.{HasServed, ServedIf};
+ghost use Rattle.rt_console.specs.Connections.{Fails, listed, NamesPort, Serves, ServesSome, Stops};
+ghost use Rattle.rt_console.specs.Errors.{serve_code, serve_name};
 ghost use Rattle.rt_console.specs.declared.serve.ServeFault.TheVariants.{NoMemory};
 
 use crate::words::Serving;
+use rt_input::Log;
 use rt_peer::Peer;
-use rt_serve::{ServeError, serve_stream};
+use rt_serve::{ServeError, serve_logged};
 use rt_tree::{Path, Tree};
 use std::alloc::{AllocError, AllocFailed, Global};
+use std::fmt::Write;
 use std::io;
-use std::io::{Read, Write};
 use std::net::{Ipv4Addr, Net, OpenListener, TcpListener};
+use std::sync::Wait;
 use thiserror::Error;
 
 /// Why serving ends early, or does not begin.
@@ -23,6 +31,30 @@ pub enum ServeFault {
     NotAccepted { port: u16, why: io::Error },
     #[error("out of memory")]
     NoMemory,
+}
+
+impl ServeFault {
+    /// The number of the fault, from 1 to 3.
+    pub fn code(&self) -> u8
+        ensures { result ≡ serve_code self.now }
+    {
+        match self {
+            ServeFault::NotBound { .. } => 1,
+            ServeFault::NotAccepted { .. } => 2,
+            ServeFault::NoMemory => 3,
+        }
+    }
+
+    /// The name of the fault.
+    pub fn name(&self) -> &'static str
+        ensures { result.now ≡ serve_name self.now }
+    {
+        match self {
+            ServeFault::NotBound { .. } => "NotBound",
+            ServeFault::NotAccepted { .. } => "NotAccepted",
+            ServeFault::NoMemory => "NoMemory",
+        }
+    }
 }
 
 impl From<AllocError> for ServeFault {
@@ -51,43 +83,36 @@ impl From<ServeError> for ServeFault {
     }
 }
 
-/// What gives so many streams, one after another.
+/// What gives streams, one after another.
 pub trait Streams {
     /// What it gives.
-    type Stream: Read + Write + Drop;
-
-    // How many it is still to give.
-    ghost left: { Self → ℕ };
+    type Stream: io::Read + io::Write + Drop;
 
     // Whether it has failed to give one.
     ghost has_failed: { Self → Bool };
 
-    /// The next stream; none once all were given.
-    fn next_stream(&mut self) -> Option<io::Result<Self::Stream>>
-        ensures left { CountsDown result (left self.old) (left self.new) }
-        ensures failed { Fails result (has_failed self.old) (has_failed self.new) };
+    /// The next stream.
+    fn next_stream(&mut self) -> io::Result<Self::Stream>
+        ensures { Fails result (has_failed self.old) (has_failed self.new) };
 }
 
-/// The clients that connect to a listener, of whom so many are taken.
+/// The clients that connect to a listener.
 #[derive(Drop)]
 pub struct Visitors<L: OpenListener + Drop> {
     listener: L,
-    left: u16,
     has_failed: bool,
 }
 
 impl<L: OpenListener + Drop> Visitors<L>
 where
-    L::Stream: Read + Write + Drop,
+    L::Stream: io::Read + io::Write + Drop,
 {
     /// No connection has come yet.
-    pub fn new(listener: L, count: u16) -> Visitors<L>
-        ensures left { ⟦<Visitors<L> as Streams>⟧.left result ≡ count }
-        ensures failed { ⟦<Visitors<L> as Streams>⟧.has_failed result ≡ false }
+    pub fn new(listener: L) -> Visitors<L>
+        ensures { ⟦<Visitors<L> as Streams>⟧.has_failed result ≡ false }
     {
         Visitors {
             listener,
-            left: count,
             has_failed: false,
         }
     }
@@ -95,26 +120,18 @@ where
 
 impl<L: OpenListener + Drop> Streams for Visitors<L>
 where
-    L::Stream: Read + Write + Drop,
+    L::Stream: io::Read + io::Write + Drop,
 {
     type Stream = L::Stream;
 
-    ghost left = { λ s. s.left };
-
     ghost has_failed = { λ s. s.has_failed };
 
-    fn next_stream(&mut self) -> Option<io::Result<L::Stream>> {
-        if self.left == 0 {
-            return None;
-        }
+    fn next_stream(&mut self) -> io::Result<L::Stream> {
         match self.listener.accept() {
-            Ok((stream, _)) => {
-                self.left -= 1;
-                Some(Ok(stream))
-            }
+            Ok((stream, _)) => Ok(stream),
             Err(why) => {
                 self.has_failed = true;
-                Some(Err(why))
+                Err(why)
             }
         }
     }
@@ -132,49 +149,105 @@ fn peer_of(alloc: Global, tree: Tree, denied: Option<Path>) -> Result<Peer, Serv
     Ok(Peer::new(tree, paths))
 }
 
-// Those that connect to the port of 127.0.0.1, so many.
-fn visitors_of<R: Net>(rt: &R, port: u16, count: u16) -> Result<Visitors<R::Listener>, ServeFault>
-    ensures left { IfOk result (λ v. ⟦<Visitors<R::Listener> as Streams>⟧.left v ≡ count) }
-    ensures fault { IfErr result (λ e. NamesPort port e) }
+// Those that connect to the port of 127.0.0.1.
+fn visitors_of<R: Net>(rt: &R, port: u16) -> Result<Visitors<R::Listener>, ServeFault>
+    ensures { IfErr result (λ e. NamesPort port e) }
 {
     match TcpListener::bind(rt, (Ipv4Addr::LOCALHOST, port)) {
-        Ok(listener) => Ok(Visitors::new(listener, count)),
+        Ok(listener) => Ok(Visitors::new(listener)),
         Err(why) => Err(ServeFault::NotBound { port, why }),
     }
 }
 
-// Serves all the streams, one after another; they come to that port.
-fn serve_all<S: Streams>(
+// Writes where clients are awaited.
+fn write_listening(out: &mut String, port: u16) -> Result<(), AllocError>
+    ensures { OnOk result (Written out.old out.new (codes "listening on 127.0.0.1:" ++ decimal port)) }
+{
+    write!(out, "listening on 127.0.0.1:{port}")
+}
+
+// Tells where clients are awaited.
+fn say_listening<L: Log>(alloc: Global, port: u16, log: &mut L) -> Result<(), AllocError>
+    ensures on { L.is_on log.new ≡ L.is_on log.old }
+    ensures off { L.is_on log.old ≡ false → log.new ≡ log.old }
+    ensures told { OnOk result (L.is_on log.old ≡ true → L.has_lost log.new ≡ false
+        → Appends (L.told log.old) (L.told log.new)
+        (log_line (codes "listening on 127.0.0.1:" ++ decimal port))) }
+{
+    if !log.is_on() {
+        return Ok(());
+    }
+    let mut line = String::new(alloc);
+    write_listening(&mut line, port)?;
+    log.tell(&line);
+    Ok(())
+}
+
+// Serves the next stream, which comes to that port, and says whether a handshake came about.
+fn serve_next<S: Streams, L: Log>(
     alloc: Global,
     peer: &mut Peer,
     streams: &mut S,
     port: u16,
-) -> Result<(), ServeFault>
-    ensures all { OnOk result (S.left streams.new ≡ 0) }
-    ensures served { IfSome peer.old (λ p. OnOk result (Serves (S.left streams.old) p peer.new)) }
+    log: &mut L,
+) -> Result<bool, ServeFault>
+    ensures served { IfSome peer.old (λ p. IfOk result (λ shook. ServedIf shook p peer.new)) }
+    ensures lost { peer.old ≡ None → (peer.new ≡ None) × IfOk result (λ shook. shook ≡ false) }
     ensures none_failed { OnOk result (S.has_failed streams.new ≡ S.has_failed streams.old) }
     ensures fault { IfErr result
         (λ e. Stops port e (S.has_failed streams.old) (S.has_failed streams.new)) }
-    ensures stopped { IfSome peer.old (λ p. OnErr result ((peer.new ≡ None)
-        ⊎ Serves (S.left streams.old - S.left streams.new) p peer.new)) }
+    ensures stopped { IfSome peer.old (λ p.
+        OnErr result ((peer.new ≡ None) ⊎ (peer.new ≡ peer.old) ⊎ HasServed p peer.new)) }
 {
-    'streams: while let Some(next) = streams.next_stream() {
-        match next {
-            Ok(stream) => serve_stream(alloc, peer, stream)?,
-            Err(why) => return Err(ServeFault::NotAccepted { port, why }),
+    match streams.next_stream() {
+        Ok(stream) => Ok(serve_logged(alloc, peer, stream, log)?),
+        Err(why) => Err(ServeFault::NotAccepted { port, why }),
+    }
+}
+
+// Serves one stream after another, which come to that port, until a handshake came about with so many.
+fn serve_all<R: Wait, S: Streams, L: Log>(
+    rt: &R,
+    alloc: Global,
+    peer: &mut Peer,
+    streams: &mut S,
+    port: u16,
+    count: u16,
+    log: &mut L,
+) -> Result<(), ServeFault>
+    ensures served { IfSome peer.old (λ p. OnOk result (Serves count p peer.new)) }
+    ensures none_failed { OnOk result (S.has_failed streams.new ≡ S.has_failed streams.old) }
+    ensures fault { IfErr result
+        (λ e. Stops port e (S.has_failed streams.old) (S.has_failed streams.new)) }
+    ensures stopped { IfSome peer.old (λ p.
+        OnErr result ((peer.new ≡ None) ⊎ ServesSome count p peer.new)) }
+{
+    let mut left = count;
+    'streams: for _ in rt.forever() {
+        if left == 0 {
+            return Ok(());
+        }
+        if serve_next(alloc, peer, streams, port, log)? {
+            left -= 1;
         }
     }
-    Ok(())
+    unreachable!()
 }
 
 /// Serves a new peer of the tree at the port of 127.0.0.1, to so many clients, one after another, and
-/// answers the peer that they leave. A client with whom no handshake comes about is one of them.
+/// answers the peer that they leave. Who speaks no WebSocket is none of them. Tells the log where clients
+/// are awaited, and what becomes of each that comes.
 ///
 /// # Errors
 ///
 /// `NotBound` where the port can't be bound, and `NotAccepted` where no client can be accepted, each
 /// with the system's reason; `NoMemory` where memory is lacking.
-pub fn serve<R: Net>(rt: &R, alloc: Global, serving: Serving) -> Result<Peer, ServeFault>
+pub fn serve<R: Net + Wait, L: Log>(
+    rt: &R,
+    alloc: Global,
+    serving: Serving,
+    log: &mut L,
+) -> Result<Peer, ServeFault>
     ensures served { IfOk result (λ peer.
         Serves serving.count (new_peer serving.tree (listed serving.denied)) peer) }
     ensures fault { IfErr result (λ e. NamesPort serving.port e) }
@@ -186,7 +259,8 @@ pub fn serve<R: Net>(rt: &R, alloc: Global, serving: Serving) -> Result<Peer, Se
         denied,
     } = serving;
     let mut peer = peer_of(alloc, tree, denied)?;
-    let mut visitors = visitors_of(rt, port, count)?;
-    serve_all(alloc, &mut peer, &mut visitors, port)?;
+    let mut visitors = visitors_of(rt, port)?;
+    say_listening(alloc, port, log)?;
+    serve_all(rt, alloc, &mut peer, &mut visitors, port, count, log)?;
     Ok(peer)
 }

@@ -1,6 +1,7 @@
 // Why a run ends early, with its cause.
 ghost use Rattle.std.specs.Prelude.{◌≡◌, ◌<◌, ◌↔◌};
 ghost use Rattle.rt_input.specs.Causes.{error_of};
+ghost use Rattle.rt_input.specs.Errors.{code_of, name_of};
 
 use crate::error::ConsoleError;
 use crate::lines::MOST_INPUT;
@@ -52,5 +53,31 @@ impl Fault {
             ConsoleError::BadWords => Fault::BadWords,
             ConsoleError::NoMemory => Fault::NoMemory,
         }
+    }
+
+    // Which error it is.
+    fn error(&self) -> ConsoleError
+        ensures { result ≡ error_of self.now }
+    {
+        match self {
+            Fault::Unread(_) | Fault::TooLong => ConsoleError::ReadFault,
+            Fault::Unwritten(_) => ConsoleError::WriteFault,
+            Fault::BadWords => ConsoleError::BadWords,
+            Fault::NoMemory => ConsoleError::NoMemory,
+        }
+    }
+
+    /// The number of the error that it is, from 1 to 4.
+    pub fn code(&self) -> u8
+        ensures { result ≡ code_of (error_of self.now) }
+    {
+        self.error().code()
+    }
+
+    /// The name of the error that it is.
+    pub fn name(&self) -> &'static str
+        ensures { result.now ≡ name_of (error_of self.now) }
+    {
+        self.error().name()
     }
 }

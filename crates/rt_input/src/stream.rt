@@ -1,15 +1,34 @@
 // Readers and writers that count.
 ghost use Rattle.std.specs.Prelude.{◌≡◌, ◌+◌, ◌<◌, ◌≤◌, ◌^◌, ◌↔◌, ℕ, List, Option, length, IfOk, OnOk};
-ghost use Rattle.std.specs.Prelude.{IsSome};
-ghost use Rattle.std.specs.Io.KnownBytes.{Appends, ReadConsumes};
-ghost use Rattle.rt_input.specs.Streams.{CountsBytes, CountsFailure};
+ghost use Rattle.std.specs.Prelude.{IsSome, OnErr, codes};
+ghost use Rattle.std.specs.Io.{WritesAtMost};
+ghost use Rattle.std.specs.Io.KnownBytes.{Appends, ReadConsumes, WriteAppends};
+ghost use Rattle.rt_input.specs.Streams.{AppendsPart, CountsBytes, CountsFailure};
 
 use std::io;
-use std::io::{Read, Write};
+use std::io::{ErrorKind, Read, Write};
+use thiserror::Error;
 
 /// A read or a write failed.
-#[derive(Clone, Copy, Debug, PartialEq, Eq)]
+#[derive(Clone, Copy, Debug, PartialEq, Eq, Error)]
+#[error("a read or a write failed")]
 pub struct Failed;
+
+impl Failed {
+    /// The number of the error, which is the only one.
+    pub fn code(&self) -> u8
+        ensures { result ≡ 1 }
+    {
+        1
+    }
+
+    /// The name of the error.
+    pub fn name(&self) -> &'static str
+        ensures { result.now ≡ codes "Failed" }
+    {
+        "Failed"
+    }
+}
 
 /// A reader that counts the bytes that it gave, and its failures.
 pub trait Source {
@@ -41,11 +60,14 @@ pub trait Drain {
     // The bytes that it holds, where they are known.
     ghost contents: { Self → Option (List ℕ) };
 
-    /// Writes all of the slice, so that nothing of it waits in a buffer.
+    /// Writes all of the slice, so that nothing of it waits in a buffer. Where it fails, what the slice
+    /// begins with may be written, and nothing else.
     fn write(&mut self, bytes: &[u8]) -> Result<(), Failed>
         requires { failures self.old + 1 < 2 ^ 64 }
         ensures failures { CountsFailure result (failures self.old) (failures self.new) }
-        ensures bytes { OnOk result (Appends (contents self.old) (contents self.new) bytes.now) };
+        ensures bytes { OnOk result (Appends (contents self.old) (contents self.new) bytes.now) }
+        ensures part { OnErr result
+            (AppendsPart (contents self.old) (contents self.new) bytes.now) };
 }
 
 /// A [`Source`] of a reader of std.
@@ -137,12 +159,39 @@ impl<W: Write + Drop> Writing<W> {
     }
 }
 
-// Writes all of the bytes, and waits for none of them.
-pub(crate) fn write_out<W: Write>(writer: &mut W, bytes: &[u8]) -> io::Result<()>
-    ensures { OnOk result (Appends (W.contents writer.old) (W.contents writer.new) bytes.now) }
+// Writes some of the bytes, and answers how many: none where the call was interrupted.
+fn write_some<W: Write>(writer: &mut W, bytes: &[u8]) -> io::Result<usize>
+    ensures bound { WritesAtMost result bytes.now }
+    ensures bytes { WriteAppends (W.contents writer.old) (W.contents writer.new) result bytes.now }
 {
-    writer.write_all(bytes)?;
-    writer.flush()
+    match writer.write(bytes) {
+        Ok(0) => Err(io::Error::from(ErrorKind::WriteZero)),
+        Ok(count) => Ok(count),
+        Err(why) => {
+            if why.kind() == ErrorKind::Interrupted {
+                Ok(0)
+            } else {
+                Err(why)
+            }
+        }
+    }
+}
+
+// Writes all of the bytes, and waits for none of them. It is std's `write_all`, which says nothing of what
+// was written where it fails.
+pub(crate) fn write_out<W: Write>(writer: &mut W, bytes: &[u8]) -> io::Result<()>
+    ensures bytes { OnOk result (Appends (W.contents writer.old) (W.contents writer.new) bytes.now) }
+    ensures part { OnErr result
+        (AppendsPart (W.contents writer.old) (W.contents writer.new) bytes.now) }
+{
+    let mut written = 0;
+    'tries: for _ in 0..u64::MAX {
+        if written == bytes.len() {
+            return writer.flush();
+        }
+        written += write_some(writer, &bytes[written..])?;
+    }
+    Err(io::Error::from(ErrorKind::Interrupted))
 }
 
 impl<W: Write + Drop> Drain for Writing<W> {

@@ -13,3 +13,13 @@ fault_in bytes = if is_some (data_of_bytes bytes) then NoForm else NotJson
 abbrev pub fault_line : ℕ → LineFault → List ℕ
 fault_line number NotJson = codes "line " ++ decimal number ++ codes " is no JSON"
 fault_line number NoForm = codes "line " ++ decimal number ++ codes " has none of the forms"
+
+-- the number of a fault
+abbrev pub code_of : LineFault → ℕ
+code_of NotJson = 1
+code_of NoForm = 2
+
+-- its name
+abbrev pub name_of : LineFault → List ℕ
+name_of NotJson = codes "NotJson"
+name_of NoForm = codes "NoForm"

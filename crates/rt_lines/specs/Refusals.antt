@@ -8,7 +8,7 @@ use Rattle.rt_push.specs.Errors as push
 use Rattle.rt_wire.specs.Errors as wire
 use Rattle.rt_world.specs.Codes as core
 use Rattle.rt_lines.specs.declared.error.LineError.{LineError}
-use Rattle.rt_lines.specs.declared.error.LineError.TheVariants.{NoMemory, Refused}
+use Rattle.rt_lines.specs.declared.error.LineError.TheVariants.{Bad, NoMemory, Refused}
 use Rattle.rt_lines.specs.declared.error.Refusal.{Refusal}
 use Rattle.rt_lines.specs.declared.error.Refusal.TheVariants.{Tree, Query, Wire, Core, Push}
 
@@ -35,6 +35,18 @@ name_of (Query e) = query.name_of e
 name_of (Wire e) = wire.name_of e
 name_of (Core e) = core.name_of e
 name_of (Push e) = push.name_of e
+
+-- the number of what is wrong with a line
+abbrev pub line_code : LineError → ℕ
+line_code Bad = 1
+line_code (Refused refusal) = 2
+line_code NoMemory = 3
+
+-- its name
+abbrev pub line_name : LineError → List ℕ
+line_name Bad = codes "Bad"
+line_name (Refused refusal) = codes "Refused"
+line_name NoMemory = codes "NoMemory"
 
 -- why a line is not read where a call on its query is refused; want of memory is no refusal
 abbrev pub of_query : QueryError → LineError

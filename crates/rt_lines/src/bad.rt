@@ -1,20 +1,45 @@
 // What is wrong with a line that has none of the forms.
 ghost use Rattle.std.specs.Prelude.{◌≡◌, IfOk, OnOk};
-ghost use Rattle.rt_lines.specs.Bad.{fault_in, fault_line};
+ghost use Rattle.rt_lines.specs.Bad.{code_of, fault_in, fault_line, name_of};
 ghost use Rattle.rt_lines.specs.inside.Appending.{Appends};
 
 use crate::error::LineError;
 use crate::line::value_of;
 use std::alloc::{AllocError, Global};
 use std::fmt::Write;
+use thiserror::Error;
 
 /// What is wrong with a line that has none of the forms.
-#[derive(Clone, Copy, Debug, PartialEq, Eq)]
+#[derive(Clone, Copy, Debug, PartialEq, Eq, Error)]
 pub enum LineFault {
     /// It is no UTF-8, or no JSON.
+    #[error("the line is no JSON")]
     NotJson,
     /// It is JSON of none of the forms.
+    #[error("the line has none of the forms")]
     NoForm,
+}
+
+impl LineFault {
+    /// The number of the fault, from 1 to 2.
+    pub fn code(&self) -> u8
+        ensures { result ≡ code_of self.now }
+    {
+        match self {
+            LineFault::NotJson => 1,
+            LineFault::NoForm => 2,
+        }
+    }
+
+    /// The name of the fault.
+    pub fn name(&self) -> &'static str
+        ensures { result.now ≡ name_of self.now }
+    {
+        match self {
+            LineFault::NotJson => "NotJson",
+            LineFault::NoForm => "NoForm",
+        }
+    }
 }
 
 /// What is wrong with a line that has none of the forms.

@@ -1,6 +1,6 @@
 // Why a line is not read, or not done.
 ghost use Rattle.std.specs.Prelude.{◌≡◌};
-ghost use Rattle.rt_lines.specs.Refusals.{code_of, layer_of, name_of, of_query};
+ghost use Rattle.rt_lines.specs.Refusals.{code_of, layer_of, line_code, line_name, name_of, of_query};
 ghost use Rattle.rt_lines.specs.declared.error.LineError.TheVariants.{NoMemory};
 
 use rt_push::PushError;
@@ -12,17 +12,22 @@ use std::alloc::{AllocError, AllocFailed};
 use thiserror::Error;
 
 /// Why what a line of a form asks for is refused, by the layer that refuses it.
-#[derive(Clone, Copy, Debug, PartialEq, Eq)]
+#[derive(Clone, Copy, Debug, PartialEq, Eq, Error)]
 pub enum Refusal {
     /// A path, a value or the value of a bound.
+    #[error("{0}")]
     Tree(TreeError),
     /// A call of a query.
+    #[error("{0}")]
     Query(QueryError),
     /// A text of the server.
+    #[error("{0}")]
     Wire(WireError),
     /// A step, or a look at the core.
+    #[error("{0}")]
     Core(CoreError),
     /// A push id.
+    #[error("{0}")]
     Push(PushError),
 }
 
@@ -33,7 +38,7 @@ pub enum LineError {
     #[error("a line of no form")]
     Bad,
     /// One of its words is refused.
-    #[error("a word of the line is refused")]
+    #[error("a word of the line is refused: {0}")]
     Refused(Refusal),
     /// A growth was refused.
     #[error("out of memory")]
@@ -77,6 +82,30 @@ impl Refusal {
             Refusal::Wire(error) => error.name(),
             Refusal::Core(error) => error.name(),
             Refusal::Push(error) => error.name(),
+        }
+    }
+}
+
+impl LineError {
+    /// The number of the error, from 1 to 3. That of a refusal is its own.
+    pub fn code(&self) -> u8
+        ensures { result ≡ line_code self.now }
+    {
+        match self {
+            LineError::Bad => 1,
+            LineError::Refused(_) => 2,
+            LineError::NoMemory => 3,
+        }
+    }
+
+    /// The name of the error.
+    pub fn name(&self) -> &'static str
+        ensures { result.now ≡ line_name self.now }
+    {
+        match self {
+            LineError::Bad => "Bad",
+            LineError::Refused(_) => "Refused",
+            LineError::NoMemory => "NoMemory",
         }
     }
 }

@@ -43,7 +43,11 @@ pub(crate) fn text_passed_over<L: Log>(
 
 pub(crate) fn binary_passed_over<L: Log>(alloc: Global, log: &mut L, connection: u64) {
     if log.is_on() {
-        let line = format!(in alloc; "connection {connection}: a binary message is passed over");
+        let why = WireError::NotJson;
+        let (code, name) = (why.code(), why.name());
+        let line = format!(in alloc;
+            "connection {connection}: a binary message is passed over: {code} {name}"
+        );
         tell(log, line);
     }
 }

@@ -2,7 +2,7 @@
 use Rattle.std.specs.Prelude.{◌≡◌, ℕ, List, ◌++◌, Option, string_bytes}
 use Rattle.std.specs.Io.KnownBytes.{Appends}
 use Rattle.rt_console.specs.declared.script.Script.{Script}
-use Rattle.rt_console.specs.Run.{Progress, after_lines}
+use Rattle.rt_console.specs.Run.{Progress, after_line, after_lines}
 
 -- how far a script is that has written so much since it was looked at first: the rest of what was
 -- printed waits
@@ -20,3 +20,15 @@ Runs lines old contents script new_contents =
     (written : List ℕ)
     × Appends contents new_contents written
     × (so_far written script ≡ after_lines lines old)
+
+-- a line was begun: what waits is what the line, and what waited before it, print first
+abbrev pub PrintsFirst : List ℕ → Progress → Script → Type 0
+PrintsFirst line old script =
+    (rest : List ℕ) × ((after_line line old).printed ≡ string_bytes script.printed ++ rest)
+
+-- lines were begun: what was written, and what waits behind it, is what they print first
+abbrev pub Begins : List (List ℕ) → Progress → Option (List ℕ) → Script → Option (List ℕ) → Type 0
+Begins lines old contents script new_contents =
+    (written rest : List ℕ)
+    × Appends contents new_contents written
+    × ((after_lines lines old).printed ≡ (written ++ string_bytes script.printed) ++ rest)

@@ -8,6 +8,6 @@ returns c = c.in_ok-command.ensures.shape (search rules)
     (c.in_ok-subcommand-2.ensures.shape (search rules)
     ∙ ap₂ with_subcommand
     (c.in_ok-subcommand.ensures.shape (search rules)
-    ∙ ap₂ with_subcommand c.in_ok-base.ensures.app (ap (λ (a : App). a.top) c.script_command.ensures.app))
+    ∙ ap₂ with_subcommand c.in_ok-base.ensures.app (ap (λ (a : App). a.top) c.in_ok-script.ensures.app))
     (ap (λ (a : App). a.top) c.in_ok-serve.ensures.app))
     (ap (λ (a : App). a.top) c.in_ok-connect.ensures.app)
