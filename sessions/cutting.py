@@ -117,7 +117,9 @@ def served(program, count, environment, words=()):
     ran = subprocess.Popen(words, env={**os.environ, **environment}, **ends)
     ran.saying, ran.stderr = Saying(ran.stderr, port), None
     ran.saying.start()
-    ran.saying.is_known.wait(SECONDS)
+    for _ in range(SECONDS):
+        if ran.saying.is_known.wait(1) or b"refused\n" in ran.saying.lines:
+            break  # where memory was refused for that line, it is lost
     return ran, port if ran.saying.listens else None
 
 

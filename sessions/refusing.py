@@ -13,8 +13,10 @@ from session import stop
 REFUSED = b"refused\n"  # what calls/refuse.c says where it refuses
 LACKING = (b"kaltewi: out of memory\n", b"error: out of memory\n")  # the second is what clap says
 QUIET = 0, b"", b""
-# how many refused allocations are shown by nothing at most: those of `connect` for the tree beside its writes
-UNSAID = {"serve": 0, "connect": 6}
+LOST = "the line that says that it listens"  # in place of how `serve` ended, which goes on
+# how many refused allocations are shown by nothing at most: those of `serve` for lines that it tells of connections, and those of `connect`
+# for the tree beside its writes
+UNSAID = {"serve": 10, "connect": 6}
 NONE, TOLD, UNTOLD = range(3)  # what came of the refusal of an allocation; NONE where there is none
 # what `connect` prints where its server goes: of all that it prints where a call of `serve` fails
 CUT_OFF = {out for (side, _), ends in ENDS.items() if side == "serve" for out, _ in ends}
@@ -28,6 +30,8 @@ def meet(programs, given):
         server, port = served(programs["serve"], 1, given.get("serve", {}))
         if port:
             client = begun([programs["connect"], "connect", str(port)], LINES, given.get("connect", {}))
+        if not port and server.poll() is None:
+            return None, LOST
         of_client = ended(client) if client else None
         if of_client and not of_client[1]:
             visit(port)  # it may not have come
@@ -73,10 +77,14 @@ def is_refused_to_connect(client, server):
 
 def is_refused_to_serve(client, server):
     """Sees how both sides end, and answers whether an allocation was refused to `serve`, and that was said."""
+    if server == LOST:
+        return UNTOLD
     if REFUSED not in server[2]:
         return NONE
     if (client, server) == ((0, HANDSHAKE.encode(), b""), (0, b"", REFUSED)):
         return TOLD
+    if (client, server) == ((0, WHOLE.encode(), b""), (0, b"", REFUSED)):
+        return UNTOLD  # it was one for a line that is told of a connection, which is lost
     must_lack("serve", server[2])
     must("serve's status, and what it prints", server[:2], (1, b""))
     if client:
