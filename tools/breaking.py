@@ -10,8 +10,10 @@ from parts import Clock, part, some_of
 from rows import builds_of, rows
 from runs import differs
 
-READ_FAULT = b"kaltewi: the input can't be read, or has more than 67108864 bytes\n"
-WRITE_FAULT = b"kaltewi: the output can't be written\n"
+READ_FAULT = b"kaltewi: the input can't be read: Connection reset by peer (os error 104)\n"
+TOO_LARGE = b"kaltewi: the input has more than 67108864 bytes\n"
+WRITE_FAULT = b"kaltewi: the output can't be written: File too large (os error 27)\n"
+FULL_DEVICE = b"kaltewi: the output can't be written: No space left on device (os error 28)\n"
 SCRIPTS = ("examples/root_listen", "rows/bad_lines", "rows/each_line")
 SECONDS = 60  # the longest that a run may take
 
@@ -100,14 +102,14 @@ def on_full_device(program):
     with open("/dev/full", "wb") as full:
         for words in ([b"--help"], [b"script", b"--help"]):
             ran = subprocess.run([program, *words], stdout=full, stderr=subprocess.PIPE, timeout=SECONDS)
-            yield differs(f"{words} on a full device", (ran.returncode, b"", ran.stderr), (1, b"", WRITE_FAULT))
+            yield differs(f"{words} on a full device", (ran.returncode, b"", ran.stderr), (1, b"", FULL_DEVICE))
 
 
 def streams_part(copy):
     clock, wrong, count = Clock(), [], 0
     scripts = [it for it in rows("examples", "rows") if it.name in SCRIPTS]
     for program in builds_of(copy, "rt_console"):
-        endless = differs("line feeds for ever", without_end(program, b"\n"), (1, b"done\n", READ_FAULT))
+        endless = differs("line feeds for ever", without_end(program, b"\n"), (1, b"done\n", TOO_LARGE))
         for text in [endless, *on_full_device(program), *(text for row in scripts for text in fails_at_each_byte(program, row))]:
             wrong, count = wrong + ([f"{text} ({os.path.basename(program)})"] if text else []), count + 1
     part(f"console: {count} runs in which a read or a write fails", some_of(wrong, count), clock)
