@@ -52,7 +52,10 @@ fn send(rt: &impl Print, alloc: Global, message: ClientMessage) -> Result<()> {
 
 // Hands out the messages that wait to be sent.
 fn send_all(rt: &impl Print, alloc: Global, core: &mut Core) -> Result<()> {
-    while let Some(message) = core.take_outgoing() {
+    for _ in 0..u64::MAX {
+        let Some(message) = core.take_outgoing() else {
+            break;
+        };
         send(rt, alloc, message)?;
     }
     Ok(())
