@@ -16,7 +16,7 @@ QUIET = 0, b"", b""
 LOST = "the line that says that it listens"  # in place of how `serve` ended, which goes on
 # how many refused allocations are shown by nothing at most: those of `serve` for lines that it tells of connections, and those of `connect`
 # for the tree beside its writes
-UNSAID = {"serve": 10, "connect": 6}
+UNSAID = {"serve": 10, "connect": 9}
 NONE, TOLD, UNTOLD = range(3)  # what came of the refusal of an allocation; NONE where there is none
 # what `connect` prints where its server goes: of all that it prints where a call of `serve` fails
 CUT_OFF = {out for (side, _), ends in ENDS.items() if side == "serve" for out, _ in ends}
