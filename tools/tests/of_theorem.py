@@ -1,4 +1,5 @@
-"""The page of the theorem: what its script reads of a file of definitions, put together, is that file, and a type of Rust loses no word."""
+"""The page of the theorem: what its script reads of a file of definitions, put together, is that file, and so is what it prints but for proofs;
+the page has of each file whole definitions alone; and a type of Rust loses no word."""
 import glob
 import importlib.machinery
 import importlib.util
@@ -35,6 +36,22 @@ def put_together(file):
     return [line for it in found for line in lines_of(it.text)]
 
 
+def printed_together(file):
+    """The lines that the script prints of a file's definitions, in their order, with those of proofs that it leaves out behind each."""
+    found = dict.fromkeys(theorem.Module(file).definitions.values())
+    left_out = lambda it: it.text.removeprefix(it.signature) if it.is_proof() else ""
+    return [line for it in found for line in lines_of(it.printed() + left_out(it))]
+
+
+def shown_on(page):
+    """The blocks of definitions on the page, each with its file."""
+    for block in re.finditer(r"(?ms)^## (\w+)$|^### (specs/\S+\.antt)[^\n]*\n(?:Here [^\n]*\n)?```text\n(.*?)^```$", page):
+        if block[1]:
+            crate = block[1]
+        else:
+            yield f"{ROOT}/crates/{crate}/{block[2]}", block[3]
+
+
 def of_text(text):
     """The definitions that the script reads of a text."""
     with tempfile.TemporaryDirectory() as room:
@@ -63,6 +80,12 @@ class Definitions(unittest.TestCase):
             with self.subTest(os.path.relpath(file, ROOT)):
                 with open(file, encoding="utf-8") as it:
                     self.assertEqual(put_together(file), lines_of(it.read()))
+
+    def test_what_is_printed_of_files_is_their_definitions(self):
+        for file in sorted(glob.glob(f"{ROOT}/crates/*/specs/**/*.antt", recursive=True)):
+            with self.subTest(os.path.relpath(file, ROOT)):
+                with open(file, encoding="utf-8") as it:
+                    self.assertEqual(printed_together(file), lines_of(it.read()))
 
     def test_brackets_close(self):
         for file in glob.glob(f"{ROOT}/crates/*/specs/**/*.antt", recursive=True):
@@ -153,6 +176,18 @@ class Laws(unittest.TestCase):
 
 
 class Pages(unittest.TestCase):
+    def test_the_page_has_whole_definitions(self):
+        by_laws = {name for _, name in theorem.BY_LAWS} | {law for _, laws in theorem.BY_LAWS.values() for law in laws}
+        count = 0
+        for file, block in shown_on(theorem.read(f"{ROOT}/{theorem.PAGE}")):
+            whole = theorem.Module(file).definitions
+            for name, it in of_text(block).items():
+                if name not in by_laws and not whole[name].is_proof():
+                    with self.subTest(f"{os.path.relpath(file, ROOT)}, {name}"):
+                        self.assertEqual(lines_of(it.text), lines_of(whole[name].text))
+                        count += 1
+        self.assertGreater(count, 200)
+
     def test_an_empty_line_stands_before_a_comment(self):
         self.assertEqual(theorem.together(["-- a\na\n", "b\n", "-- c\nc\n", "/// d\nd\n"]), "-- a\na\nb\n\n-- c\nc\n\n/// d\nd\n")
 
