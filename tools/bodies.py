@@ -4,7 +4,8 @@ A wrong body counts as refused only at a goal of the function that it changes, o
 no longer fits is no refusal: the run that judges takes such answers away, in its copy, and checks again. What comes of it:
 
   REFUSED   a goal is not proved that had no answer, or values are found at which it is false
-  OPEN      it is refused, but only at goals whose answers were taken away: that the tactics don't prove them alone says less
+  OPEN      it is refused, but only at goals whose answers were taken away, or that may have come in place of goals with answers: that the
+            tactics don't prove them alone says less. Its goals are kept with it, so that they can be read
   ANSWER    with the answers taken away that no longer fit, all goals are proved: the contract admits the body
   PROVED    all goals are proved with all answers
   UNTOLD    it could not be judged: it does not compile, changes no function, or is not proved for what a callee owes
@@ -16,6 +17,15 @@ import subprocess
 
 REFUSED, OPEN, ANSWER, PROVED, UNTOLD = "REFUSED", "OPEN", "ANSWER", "PROVED", "UNTOLD"
 ROUNDS = 8  # an answer that is taken away may have been cited by another
+
+
+class Verdict(str):
+    """A verdict with the goals that it rests on, each with what it must prove, as the check words it."""
+
+    def __new__(cls, kind, goals):
+        made = super().__new__(cls, kind)
+        made.goals = goals
+        return made
 
 
 def read(file):
@@ -147,7 +157,9 @@ class Said:
     """What a check of some functions says: which answers no longer fit, and which goals are not proved."""
 
     STALE = re.compile(r"(?:\./)?(proofs/\S+\.antt):(\d+):\d+: error")
+    LOST = re.compile(r"(?:\./)?(proofs/\S+\.antt):\d+:\d+: error: .*: module `\S+\.Goals` has no `\S+` that can be named")
     GOAL = re.compile(r"note: (src/\S+\.rt):(\d+):\d+: .* \(`(\S+?)`\)(.*)")
+    WANTED = re.compile(r"note: `(\S+)` of (?:\./)?(proofs/\S+\.antt) must prove: (.*)")
 
     def __init__(self, text):
         self.lines = text.splitlines()
@@ -159,6 +171,15 @@ class Said:
         for it in filter(None, map(self.STALE.match, self.lines)):
             found.setdefault(it[1], set()).add(int(it[2]))
         return found
+
+    def lost(self):
+        """The proof files that have answers to goals which are there no more."""
+        return {it[1] for it in map(self.LOST.match, self.lines) if it}
+
+    def wanted(self, function):
+        """What must be proved at each goal of a function that is printed."""
+        found = filter(None, map(self.WANTED.match, self.lines))
+        return {it[1]: it[3] for it in found if is_of(it[2], function)}
 
     def goals(self, crate, function, texts):
         """The goals of a function that are not proved, each with whether values are found at which it is false. `texts` are those of the files, by path."""
@@ -214,10 +235,10 @@ def is_of(file, function):
 
 
 class Taken:
-    """What was taken away of proof files: by file the names of definitions."""
+    """What was taken away of proof files: by file the names of definitions; and which files had answers to goals that are there no more."""
 
     def __init__(self, folder):
-        self.folder, self.names, self.kept = folder, {}, {}
+        self.folder, self.names, self.kept, self.lost = folder, {}, {}, set()
 
     def take(self, stale):
         """Takes away what stands at these places, and answers whether anything did."""
@@ -240,9 +261,9 @@ class Taken:
         return any(is_of(file, function) and os.path.basename(file) != "Answers.antt" for file in self.names)
 
     def had(self, function, goal):
-        """Whether the goal, or one that it is a part of, had an answer that was taken away."""
+        """Whether the goal, or one that it is a part of, had an answer that was taken away; or may have come in place of one that had."""
         names = set().union(*(names for file, names in self.names.items() if is_of(file, function)))
-        return any(goal == it or it and goal.startswith(f"{it}-") for it in names)
+        return any(is_of(it, function) for it in self.lost) or any(goal == it or it and goal.startswith(f"{it}-") for it in names)
 
 
 def verdict_of(function, goals, is_proved, taken, is_last):
@@ -267,10 +288,12 @@ def judged(crate, functions, folder, flags):
             said = Said(run(["rt", "check", *flags, *(word for it in left for word in ("--only", it))], folder).stdout)
             if not said.has_judged:
                 return dict.fromkeys(functions, UNTOLD) if turn else None
+            taken.lost |= said.lost()
             is_last = not taken.take(said.stale()) or turn == ROUNDS - 1
             for it in left:
-                is_proved = said.own_line(crate, it).startswith("proved")
-                found[it] = verdict_of(it, said.goals(crate, it, texts), is_proved, taken, is_last)
+                is_proved, goals = said.own_line(crate, it).startswith("proved"), said.goals(crate, it, texts)
+                kind, wanted = verdict_of(it, goals, is_proved, taken, is_last), said.wanted(it)
+                found[it] = kind and Verdict(kind, {goal: wanted.get(goal, "") for goal in goals})
             left = [it for it in left if not found[it]]
             if not left:
                 break

@@ -7,6 +7,7 @@ import bodies
 from parts import ROOT, Clock, crates, part
 
 CENTRAL_AT_MOST = 60
+MOST_OF_A_GOAL = 400  # characters
 
 
 def edits_of(crate):
@@ -71,5 +72,13 @@ def each_part(copy, some):
         (bodies.ANSWER, "refused only by an answer that no longer fits, so that its contract admits it, or nothing says that it doesn't"),
         (bodies.OPEN, "refused at goals whose answers no longer fitted and were taken away, so that it may be the tactics that don't prove them"),
     ):
-        names = [edit.name for edit, verdict in verdicts.items() if verdict == kind]
-        print(f"{len(names)} {what}{': ' if names else ''}{' '.join(names)}", flush=True)
+        print("\n".join(listed(verdicts, kind, what)), flush=True)
+
+
+def listed(verdicts, kind, what):
+    """The lines that name the wrong bodies of a verdict, each with its goals below it, cut where they are long."""
+    of_kind = [(edit.name, getattr(verdict, "goals", {})) for edit, verdict in verdicts.items() if verdict == kind]
+    yield f"{len(of_kind)} {what}{':' if of_kind else ''}"
+    for name, goals in of_kind:
+        yield f"  {name}"
+        yield from (f"    {goal}: {wanted[:MOST_OF_A_GOAL]}".rstrip(": ") for goal, wanted in goals.items())

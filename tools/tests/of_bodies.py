@@ -192,6 +192,14 @@ class Verdicts(unittest.TestCase):
         self.assertEqual(self.verdict({}, is_proved=True), bodies.PROVED)
         self.assertEqual(self.verdict({"returns": False}, gone={"proofs/lane/filled/Invariants.antt": {"invariant-loop-a"}}), bodies.ANSWER)
 
+    def test_a_goal_that_came_for_another_says_less(self):
+        taken = bodies.Taken("")
+        taken.lost = {self.FILE}
+        self.assertIsNone(bodies.verdict_of("lane::filled", {"returns-then": False}, False, taken, False))
+        self.assertEqual(bodies.verdict_of("lane::filled", {"returns-then": False}, False, taken, True), bodies.OPEN)
+        self.assertEqual(bodies.verdict_of("lane::filled", {"returns-then": True}, False, taken, False), bodies.REFUSED)
+        self.assertEqual(bodies.verdict_of("lane::least", {"returns-then": False}, False, taken, False), bodies.REFUSED)
+
     def test_what_says_nothing(self):
         self.assertEqual(self.verdict({}), bodies.UNTOLD)
 
@@ -218,6 +226,19 @@ class Judging(unittest.TestCase):
             self.assertEqual(bodies.read(f"{room}/{self.FILE}"), ANSWERS)
             self.assertEqual(list(turns), [])
             return found and found["lane::filled"]
+
+    def test_an_open_verdict_has_its_goals(self):
+        wanted = f"note: `returns` of {self.FILE} must prove: c.args.lane ≤ 3\nnote: `returns` of proofs/lane/least/Answers.antt must prove: ⊥\n"
+        found = self.judged(self.STALE, wanted + self.OPEN)
+        self.assertEqual((found, found.goals), (bodies.OPEN, {"returns": "c.args.lane ≤ 3"}))
+        self.assertEqual(self.judged(self.STALE, self.OPEN).goals, {"returns": ""})
+
+    def test_a_goal_that_is_there_no_more(self):
+        gone = f"./{self.FILE}:13:9: error: `goal.returns`: module `Rattle.rt_mail.proofs.lane.filled.Goals` has no `returns` that can be named from here\n"
+        self.assertEqual(bodies.Said(gone).lost(), {self.FILE})
+        self.assertEqual(bodies.Said(self.STALE).lost(), set())
+        other = self.OPEN.replace("returns", "returns-then")
+        self.assertEqual(self.judged(gone + other, other), bodies.OPEN)
 
     def test_verdicts(self):
         self.assertEqual(self.judged(self.PROVED), bodies.PROVED)

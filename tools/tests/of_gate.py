@@ -93,6 +93,16 @@ class Gate(unittest.TestCase):
         self.assertEqual(judging.not_refused({Named: bodies.ANSWER}), "refused only by an answer: low/it")
         self.assertEqual(judging.not_refused({Named: bodies.UNTOLD}), "not judged: low/it")
 
+    def test_listed(self):
+        class Named:
+            name = "low/it"
+
+        open_one = bodies.Verdict(bodies.OPEN, {"returns": "x" * 500, "returns-then": ""})
+        lines = list(judging.listed({Named: open_one}, bodies.OPEN, "said less"))
+        self.assertEqual(lines, ["1 said less:", "  low/it", f"    returns: {'x' * judging.MOST_OF_A_GOAL}", "    returns-then"])
+        self.assertEqual(list(judging.listed({Named: open_one}, bodies.ANSWER, "said less")), ["0 said less"])
+        self.assertEqual(judging.not_refused({Named: open_one}), "")
+
     def test_plants(self):
         with tempfile.TemporaryDirectory() as room:
             os.makedirs(f"{room}/low")
