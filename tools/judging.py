@@ -26,14 +26,22 @@ def applies_part(edits):
     part(f"{len(edits)} wrong bodies apply, {len(central)} of them central", "; ".join(wrong[:5]) or ("" if edits else "there is none"))
 
 
-def judged(copy, edits):
-    """Judges wrong bodies, crates side by side, the highest first, over what rt ci proved in the copy, and gives each crate with the verdicts of its own."""
+def not_built(copy, crate, below):
+    """The libraries of the repository that a crate stands on, by others too, and that are not proved and built in the copy."""
+    own = [it for it in below[crate] if it in below]
+    found = [it for it in own if not os.path.isdir(f"{copy}/crates/{it}/out/rlib")]
+    return list(dict.fromkeys(found + [lost for it in own for lost in not_built(copy, it, below)]))
+
+
+def judged(copy, edits, at_once=os.cpu_count()):
+    """Judges wrong bodies, so many crates side by side, the highest first, over what is proved and built in the copy, and gives each crate with the
+    verdicts of its own."""
     below, by_crate = crates(), {crate: [it for it in edits if it.crate == crate] for crate in reversed(crates())}
 
     def verdicts(crate, own, room):
         return bodies.verdicts(crate, own, *bodies.over_proved(ROOT, crate, below, copy, room))
 
-    with tempfile.TemporaryDirectory(prefix="kaltewi-edits-") as room, concurrent.futures.ThreadPoolExecutor(os.cpu_count()) as pool:
+    with tempfile.TemporaryDirectory(prefix="kaltewi-edits-") as room, concurrent.futures.ThreadPoolExecutor(at_once) as pool:
         runs = {crate: pool.submit(verdicts, crate, own, room) for crate, own in by_crate.items() if own}
         for crate, ran in runs.items():
             yield crate, ran.result()
@@ -76,9 +84,15 @@ def each_part(copy, some):
 
 
 def listed(verdicts, kind, what):
-    """The lines that name the wrong bodies of a verdict, each with its goals below it, cut where they are long."""
-    of_kind = [(edit.name, getattr(verdict, "goals", {})) for edit, verdict in verdicts.items() if verdict == kind]
+    """The lines that name the wrong bodies of a verdict, each with its goals below it."""
+    of_kind = [(edit, verdict) for edit, verdict in verdicts.items() if verdict == kind]
     yield f"{len(of_kind)} {what}{':' if of_kind else ''}"
-    for name, goals in of_kind:
-        yield f"  {name}"
-        yield from (f"    {goal}: {wanted[:MOST_OF_A_GOAL]}".rstrip(": ") for goal, wanted in goals.items())
+    for edit, verdict in of_kind:
+        yield f"  {edit.name}"
+        yield from goal_lines(verdict)
+
+
+def goal_lines(verdict):
+    """The goals that a verdict rests on, with what they must prove, cut where that is long."""
+    for goal, wanted in getattr(verdict, "goals", {}).items():
+        yield f"    {goal}: {wanted[:MOST_OF_A_GOAL]}".rstrip(": ")

@@ -1,4 +1,6 @@
 """The gate's own parts: what they read of crates.txt, README.md, rt ci and planted bodies, and what they count."""
+import importlib.machinery
+import importlib.util
 import os
 import sys
 import tempfile
@@ -14,6 +16,10 @@ import planting
 import proving
 import rows
 import texts
+
+LOADER = importlib.machinery.SourceFileLoader("judge", f"{ROOT}/tools/judge")
+judge = importlib.util.module_from_spec(importlib.util.spec_from_loader("judge", LOADER))
+LOADER.exec_module(judge)
 
 CRATES = """# lowest first
 low: serde_json
@@ -102,6 +108,29 @@ class Gate(unittest.TestCase):
         self.assertEqual(lines, ["1 said less:", "  low/it", f"    returns: {'x' * judging.MOST_OF_A_GOAL}", "    returns-then"])
         self.assertEqual(list(judging.listed({Named: open_one}, bodies.ANSWER, "said less")), ["0 said less"])
         self.assertEqual(judging.not_refused({Named: open_one}), "")
+
+    def test_which_are_judged(self):
+        edits = judging.edits_of("rt_push")
+        found, strange = judge.chosen(["rt_push", "rt_mail/no_such"], edits)
+        self.assertEqual((found, strange), (edits, ["rt_mail/no_such"]))
+        self.assertEqual([it.name for it in judge.chosen([edits[0].name], edits)[0]], [edits[0].name])
+        with tempfile.TemporaryDirectory() as room:
+            self.assertEqual(judge.why_not(edits, [], room), "")
+            self.assertEqual(judge.why_not(judging.edits_of("rt_order")[:1], ["x"], room), "no wrong body: x\nnot built: rt_tree")
+
+    def test_how_they_are_told(self):
+        edit = judging.edits_of("rt_push")[0]
+        self.assertEqual(list(judge.lines_of(edit, bodies.Verdict(bodies.REFUSED, {"returns": ""}))), [f"REFUSED  {edit.name}"])
+        self.assertEqual(list(judge.lines_of(edit, bodies.Verdict(bodies.OPEN, {"returns": "a ≡ b"}))), [f"OPEN     {edit.name}", "    returns: a ≡ b"])
+
+    def test_not_built(self):
+        below = parts.crates_in(CRATES)
+        with tempfile.TemporaryDirectory() as room:
+            self.assertEqual(judging.not_built(room, "high", below), ["mid", "low"])
+            os.makedirs(f"{room}/crates/mid/out/rlib")
+            self.assertEqual(judging.not_built(room, "high", below), ["low"])
+            os.makedirs(f"{room}/crates/low/out/rlib")
+            self.assertEqual(judging.not_built(room, "high", below), [])
 
     def test_plants(self):
         with tempfile.TemporaryDirectory() as room:
