@@ -48,6 +48,7 @@ def run(words, folder, **given):
 
 IMPL = r"impl(?:<.*?>)? (?:(?:\w+::)*(?P<trait>\w+)(?:<(?:\w+::)*(?P<of>\w+).*>)? for )?(?:\w+::)*(?P<type>\w+)"
 HEAD = re.compile(rf"(?m)^(?:{IMPL}|(?P<indent> *)(?:pub(?:\(\w+\))? )?(?:const )?fn (?P<name>\w+))")
+CYCLE = re.compile(r"#\[cycle\((\w+)\)\]\n(?: *#\[.*\]\n)*\Z")
 
 
 def functions_in(path, text):
@@ -62,6 +63,12 @@ def functions_in(path, text):
             yield f"{owner}::{it['name']}", it.start()
         else:
             yield "::".join([*modules, it["name"]]), it.start()
+
+
+def cycles_in(texts):
+    """The functions of these files, by path, that stand in a cycle of calls with a name, each with that name."""
+    named = ((name, CYCLE.search(text, 0, head)) for path, text in texts.items() for name, head in functions_in(path, text))
+    return {name: it[1] for name, it in named if it}
 
 
 def function_at(path, text, at):
@@ -176,10 +183,10 @@ class Said:
         """The proof files that have answers to goals which are there no more."""
         return {it[1] for it in map(self.LOST.match, self.lines) if it}
 
-    def wanted(self, function):
+    def wanted(self, function, cycle=None):
         """What must be proved at each goal of a function that is printed."""
         found = filter(None, map(self.WANTED.match, self.lines))
-        return {it[1]: it[3] for it in found if is_of(it[2], function)}
+        return {it[1]: it[3] for it in found if is_of(it[2], function, cycle)}
 
     def goals(self, crate, function, texts):
         """The goals of a function that are not proved, each with whether values are found at which it is false. `texts` are those of the files, by path."""
@@ -228,17 +235,20 @@ def without(text, places):
     return "".join(left), [name for name, _, _ in gone]
 
 
-def is_of(file, function):
-    """Whether a proof file is that of a function, or of a cycle of calls that is named after it."""
+def is_of(file, function, cycle=None):
+    """Whether a proof file is that of a function, or of its cycle of calls, which has that name or else the function's own."""
     own, parts = os.path.dirname(file).split("/"), function.split("::")
-    return own[-len(parts) :] == parts or own[-1] == f"+{parts[-1]}"
+    return own[-len(parts) :] == parts or own[-1] == f"+{cycle or parts[-1]}"
 
 
 class Taken:
     """What was taken away of proof files: by file the names of definitions; and which files had answers to goals that are there no more."""
 
-    def __init__(self, folder):
-        self.folder, self.names, self.kept, self.lost = folder, {}, {}, set()
+    def __init__(self, folder, cycles=()):
+        self.folder, self.names, self.kept, self.lost, self.cycles = folder, {}, {}, set(), dict(cycles)
+
+    def is_of(self, file, function):
+        return is_of(file, function, self.cycles.get(function))
 
     def take(self, stale):
         """Takes away what stands at these places, and answers whether anything did."""
@@ -258,12 +268,12 @@ class Taken:
 
     def invariants(self, function):
         """Whether an invariant of the function was taken away: the goals behind it then say nothing."""
-        return any(is_of(file, function) and os.path.basename(file) != "Answers.antt" for file in self.names)
+        return any(self.is_of(file, function) and os.path.basename(file) != "Answers.antt" for file in self.names)
 
     def had(self, function, goal):
         """Whether the goal, or one that it is a part of, had an answer that was taken away; or may have come in place of one that had."""
-        names = set().union(*(names for file, names in self.names.items() if is_of(file, function)))
-        return any(is_of(it, function) for it in self.lost) or any(goal == it or it and goal.startswith(f"{it}-") for it in names)
+        names = set().union(*(names for file, names in self.names.items() if self.is_of(file, function)))
+        return any(self.is_of(it, function) for it in self.lost) or any(goal == it or it and goal.startswith(f"{it}-") for it in names)
 
 
 def verdict_of(function, goals, is_proved, taken, is_last):
@@ -282,7 +292,8 @@ def verdict_of(function, goals, is_proved, taken, is_last):
 
 def judged(crate, functions, folder, flags):
     """Checks functions of a crate as it stands in the folder, and what they call, and answers the verdict of each; nothing where it doesn't compile."""
-    left, found, taken, texts = list(functions), {}, Taken(folder), sources_of(folder)
+    left, found, texts = list(functions), {}, sources_of(folder)
+    taken = Taken(folder, cycles_in(texts))
     try:
         for turn in range(ROUNDS):
             said = Said(run(["rt", "check", *flags, *(word for it in left for word in ("--only", it))], folder).stdout)
@@ -292,7 +303,7 @@ def judged(crate, functions, folder, flags):
             is_last = not taken.take(said.stale()) or turn == ROUNDS - 1
             for it in left:
                 is_proved, goals = said.own_line(crate, it).startswith("proved"), said.goals(crate, it, texts)
-                kind, wanted = verdict_of(it, goals, is_proved, taken, is_last), said.wanted(it)
+                kind, wanted = verdict_of(it, goals, is_proved, taken, is_last), said.wanted(it, taken.cycles.get(it))
                 found[it] = kind and Verdict(kind, {goal: wanted.get(goal, "") for goal in goals})
             left = [it for it in left if not found[it]]
             if not left:

@@ -152,6 +152,17 @@ class Answers(unittest.TestCase):
         self.assertTrue(bodies.is_of("proofs/lane/Lane/put/Answers.antt", "Lane::put"))
         self.assertTrue(bodies.is_of("proofs/lane/+put/Answers.antt", "Lane::put"))
         self.assertFalse(bodies.is_of("proofs/lane/Lane/put/Answers.antt", "Mail::put"))
+        self.assertTrue(bodies.is_of("proofs/lane/+way/Answers.antt", "lane::there", "way"))
+        self.assertFalse(bodies.is_of("proofs/lane/+there/Answers.antt", "lane::there", "way"))
+
+    def test_a_cycle_of_calls_has_its_answers_in_one_file(self):
+        ways = "#[cycle(way)]\nfn there() {}\n\n#[cycle(way)]\n#[inline]\npub fn back() {}\n\nfn home() {}\n"
+        cycles = bodies.cycles_in({"src/lane.rt": ways})
+        self.assertEqual(cycles, {"lane::there": "way", "lane::back": "way"})
+        taken = bodies.Taken("", cycles)
+        taken.names = {"proofs/lane/+way/Answers.antt": {"back-returns"}}
+        self.assertTrue(taken.had("lane::back", "back-returns-clause-ok"))
+        self.assertFalse(taken.had("lane::home", "back-returns"))
 
     def test_taken_and_put_back(self):
         file = "proofs/lane/filled/Answers.antt"
