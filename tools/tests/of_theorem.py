@@ -1,26 +1,21 @@
 """The page of the theorem: what its script reads of a file of definitions, put together, is that file, and so is what it prints but for proofs;
 the page has of each file whole definitions alone; and a type of Rust loses no word."""
 import glob
-import importlib.machinery
-import importlib.util
 import os
 import re
+import sys
 import tempfile
 import unittest
 import unittest.mock
 
 ROOT = os.path.realpath(f"{os.path.dirname(os.path.realpath(__file__))}/../..")
-
-
-def loaded(name):
-    """A script without an ending, as a module."""
-    loader = importlib.machinery.SourceFileLoader(name, f"{ROOT}/{name}")
-    module = importlib.util.module_from_spec(importlib.util.spec_from_loader(name, loader))
-    loader.exec_module(module)
-    return module
-
-
-theorem = loaded("theorem")
+sys.path.insert(0, f"{ROOT}/tools")
+from bodies import read
+from theorem.entries import BY_LAWS, laws_of
+from theorem.files import CLOSE, OPEN, Module, RustFile, compact
+from theorem.files import words_of as terms_of
+from theorem.page import together
+from theorem.sources import Sources, Unplaced
 
 
 def lines_of(text):
@@ -32,7 +27,7 @@ def lines_of(text):
 
 def put_together(file):
     """The lines of the definitions that the script reads of a file, in their order."""
-    found = dict.fromkeys(theorem.Module(file).definitions.values())
+    found = dict.fromkeys(Module(file).definitions.values())
     return [line for it in found for line in lines_of(it.text)]
 
 
@@ -57,7 +52,7 @@ def of_text(text):
     with tempfile.TemporaryDirectory() as room:
         with open(f"{room}/It.antt", "w", encoding="utf-8") as it:
             it.write(text)
-        return theorem.Module(f"{room}/It.antt").definitions
+        return Module(f"{room}/It.antt").definitions
 
 
 RECORD = """-- what is kept
@@ -89,10 +84,10 @@ class Definitions(unittest.TestCase):
 
     def test_brackets_close(self):
         for file in glob.glob(f"{ROOT}/crates/*/specs/**/*.antt", recursive=True):
-            for name, it in theorem.Module(file).definitions.items():
+            for name, it in Module(file).definitions.items():
                 with self.subTest(f"{os.path.relpath(file, ROOT)}, {name}"):
-                    words = list(theorem.words_of(re.sub(r'"[^"]*"', "", it.text)))
-                    for opens, closes in zip(theorem.OPEN, theorem.CLOSE):
+                    words = list(terms_of(re.sub(r'"[^"]*"', "", it.text)))
+                    for opens, closes in zip(OPEN, CLOSE):
                         self.assertEqual(words.count(opens), words.count(closes))
 
     def test_a_bracket_at_the_left_edge_goes_on(self):
@@ -132,47 +127,47 @@ class Types(unittest.TestCase):
         files = sorted(glob.glob(f"{ROOT}/crates/*/src/**/*.rt", recursive=True))
         count = 0
         for file in files:
-            for name, (_, _, text) in theorem.RustFile(file).items.items():
+            for name, (_, _, text) in RustFile(file).items.items():
                 with self.subTest(f"{os.path.relpath(file, ROOT)}, {name}"):
-                    self.assertEqual(words_of(theorem.compact(text)), words_of(text))
+                    self.assertEqual(words_of(compact(text)), words_of(text))
                     count += 1
         self.assertGreater(count, 100)
 
     def test_they_are_shown_in_few_lines(self):
-        lines = theorem.compact(SHOWN).splitlines()
+        lines = compact(SHOWN).splitlines()
         self.assertEqual(lines[1], "    Removed { key: Key, old: Tree },  // The child was there.")
         self.assertEqual(lines[2:], ["    /// A child", "    /// is there.", "    Added,", "    Whole,", "}"])
 
     def test_long_ones_stay(self):
         long = SHOWN.replace("old: Tree", f"old: {'Tree' * 30}").replace("Whole,", f"/// {'so ' * 40}\n    Whole,")
-        self.assertEqual(theorem.compact(long), long.partition("\n")[2])
+        self.assertEqual(compact(long), long.partition("\n")[2])
 
 
 class Laws(unittest.TestCase):
     def setUp(self):
-        self.sources = theorem.Sources(ROOT, "/nowhere")
+        self.sources = Sources(ROOT, "/nowhere")
 
     def test_they_are_proved_where_they_stand(self):
-        for crate, name in theorem.BY_LAWS:
-            laws, file = theorem.laws_of(self.sources, crate, name)
+        for crate, name in BY_LAWS:
+            laws, file = laws_of(self.sources, crate, name)
             for it in laws:
                 self.assertEqual(f"{it.signature}{''.join(it.clauses)}", it.text)
                 self.assertTrue(it.clauses)
-                self.assertIn(it.text, theorem.read(file))
+                self.assertIn(it.text, read(file))
 
     def test_tests_of_equality_tell(self):
-        tests = [(crate, name) for crate, name in theorem.BY_LAWS if name.endswith("_eq")]
+        tests = [(crate, name) for crate, name in BY_LAWS if name.endswith("_eq")]
         self.assertEqual(len(tests), 3)
         for crate, name in tests:
-            said = [it.signature.split(" : ")[1].split() for it in theorem.laws_of(self.sources, crate, name)[0]]
+            said = [it.signature.split(" : ")[1].split() for it in laws_of(self.sources, crate, name)[0]]
             self.assertEqual(said, [["Tells", name]])
 
     def test_what_says_nothing_of_it_is_no_law(self):
         file = "specs/laws/TreeEq.antt"
         for laws in (("tree_eq_tells",), ("no_such_law",), ("leaf_eq_tells", "no_such_law"), ("same_leaf",)):
-            with unittest.mock.patch.dict(theorem.BY_LAWS, {("rt_tree", "entry_eq"): (file, laws)}):
-                with self.assertRaises(theorem.Unplaced):
-                    theorem.laws_of(self.sources, "rt_tree", "entry_eq")
+            with unittest.mock.patch.dict(BY_LAWS, {("rt_tree", "entry_eq"): (file, laws)}):
+                with self.assertRaises(Unplaced):
+                    laws_of(self.sources, "rt_tree", "entry_eq")
 
 
 class Pages(unittest.TestCase):
@@ -189,7 +184,7 @@ class Pages(unittest.TestCase):
         self.assertGreater(count, 200)
 
     def test_an_empty_line_stands_before_a_comment(self):
-        self.assertEqual(theorem.together(["-- a\na\n", "b\n", "-- c\nc\n", "/// d\nd\n"]), "-- a\na\nb\n\n-- c\nc\n\n/// d\nd\n")
+        self.assertEqual(together(["-- a\na\n", "b\n", "-- c\nc\n", "/// d\nd\n"]), "-- a\na\nb\n\n-- c\nc\n\n/// d\nd\n")
 
 
 if __name__ == "__main__":

@@ -1,13 +1,13 @@
 // Orders of keys, values and children, and ranges.
 use crate::fault::Fault;
 use crate::line::Line;
+use rt_map::OrdMap;
 use rt_order::{
     Cut, Index, Mark, Place, PlacedKey, PlacedRef, Range, entry_cmp, key_cmp, leaf_cmp, sort_value,
     value_cmp,
 };
 use rt_tree::{Key, Tree};
 use std::cmp::Ordering;
-use std::collections::BTreeMap;
 
 // ---- keys
 
@@ -65,7 +65,7 @@ fn tell_signs(
     index: &Index,
     key: &Key,
     child: &Tree,
-    children: &BTreeMap<Key, Tree>,
+    children: &OrdMap<Key, Tree>,
     line: &mut Line,
 ) {
     for (other, beside) in children {

@@ -1,24 +1,27 @@
 // Trees made of linked nodes.
 ghost use Rattle.std.specs.Prelude.{◌≡◌, IfOk, OnOk, List, ℕ, Some, if◌then◌else◌};
-ghost use Rattle.std.specs.BTreeMap.{IsOrdered};
-ghost use Rattle.rt_tree.specs.PathTree.{key_cmp, key_eq, child_of};
+ghost use Rattle.rt_tree.specs.PathTree.{key_eq, child_of};
 ghost use Rattle.rt_tree.specs.Allowed.{IsAllowed};
 ghost use Rattle.rt_store.specs.inside.Forest.{row_at, entries, tree_with};
 ghost use Rattle.rt_store.specs.inside.Walks.{IsPlace};
 
 use crate::slot::Slot;
+use rt_map::OrdMap;
 use rt_tree::{Key, Leaf, Tree};
 use slab::Slab;
 use std::alloc::{AllocError, Global};
-use std::collections::BTreeMap;
 
 // `insert`, at a key that is new.
-fn add_child(children: &mut BTreeMap<Key, Tree>, key: Key, child: Tree) -> Result<(), AllocError>
-    ensures sets { OnOk result ((j : List ℕ) → child_of children.new.entries j
+fn add_child(
+    children: &mut OrdMap<Key, Tree>,
+    alloc: Global,
+    key: Key,
+    child: Tree,
+) -> Result<(), AllocError>
+    ensures { OnOk result ((j : List ℕ) → child_of children.new.entries j
         ≡ if key_eq key j then Some child else child_of children.old.entries j) }
-    ensures ordered { IsOrdered key_cmp children.new }
 {
-    children.insert(key, child)?;
+    children.insert(alloc, key, child)?;
     Ok(())
 }
 
@@ -37,14 +40,14 @@ pub(crate) fn build(
         let leaf = leaf.copy(alloc)?;
         return Ok(Tree::leaf(leaf));
     }
-    let mut children = BTreeMap::new(alloc);
+    let mut children = OrdMap::new(alloc)?;
     let mut next = first;
     while let Some(index) = next {
         let slot = nodes.get(index).unwrap();
         let key = slot.key.key().copy()?;
         let child = build(alloc, nodes, &slot.leaf, slot.first_child)?;
-        add_child(&mut children, key, child)?;
+        add_child(&mut children, alloc, key, child)?;
         next = slot.next;
     }
-    Tree::object(alloc, children)
+    Ok(Tree::object(children))
 }

@@ -1,6 +1,6 @@
 // Nodes are made of trees. Nothing leads to them until all stand.
 ghost use Rattle.std.specs.Prelude.{◌≡◌, ◌∷◌, [], false, IfOk, OnErr, map, reverse};
-ghost use Rattle.std.specs.BTreeMap.{IsOrdered};
+ghost use Rattle.rt_map.specs.Maps.{IsOrdered};
 ghost use Rattle.rt_tree.specs.PathTree.{key_cmp, null, is_null, put, AllFull};
 ghost use Rattle.rt_store.specs.Rows.{in_key_order};
 ghost use Rattle.rt_store.specs.inside.Forest.{row_at, entries, tree_with, IsFull};
@@ -11,11 +11,11 @@ ghost use Rattle.rt_store.specs.inside.Ranks.{IsRanked};
 use crate::links::{fell, link, set_content};
 use crate::ranks::Ranks;
 use crate::slot::Slot;
+use rt_map::OrdMap;
 use rt_order::{PlacedKey, PlacedRef, key_cmp};
 use rt_tree::{Key, Leaf, Tree};
 use slab::Slab;
 use std::alloc::{AllocError, Global};
-use std::collections::BTreeMap;
 
 // A child where it stands.
 #[derive(Clone, Copy)]
@@ -27,7 +27,7 @@ pub(crate) struct Child<'a> {
 // The children, the last in the order of keys first.
 fn falling<'a>(
     alloc: Global,
-    children: &'a BTreeMap<Key, Tree>,
+    children: &'a OrdMap<Key, Tree>,
 ) -> Result<Vec<Child<'a>>, AllocError>
     requires { IsOrdered key_cmp children.now }
     ensures { IfOk result (λ found. reverse (map seen found.items)
@@ -128,7 +128,7 @@ pub(crate) fn grow_row(
     alloc: Global,
     parent: Option<usize>,
     rest: &[Key],
-    children: &BTreeMap<Key, Tree>,
+    children: &OrdMap<Key, Tree>,
 ) -> Result<Option<usize>, AllocError>
     requires end { rest.now ≡ [] }
     requires ordered { IsOrdered key_cmp children.now }

@@ -6,6 +6,7 @@ ghost use Rattle.rt_tree.specs.Key.{IsKey, is_allowed, key_fault};
 
 use crate::error::TreeError;
 use crate::limits::MAX_KEY_BYTES;
+use rt_map::Share;
 use std::alloc::{AllocError, Global};
 use std::cmp::Ordering;
 use std::convert::AsStr;
@@ -119,6 +120,12 @@ impl Key {
     {
         let text = self.text.clone()?;
         Ok(Key { text })
+    }
+}
+
+impl Share for Key {
+    fn share(&self) -> Result<Key, AllocError> {
+        self.copy()
     }
 }
 

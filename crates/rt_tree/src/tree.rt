@@ -3,13 +3,14 @@ ghost use Rattle.std.specs.Prelude.{[], ◌∷◌, ◌≡◌, ◌<◌, ◌≤◌
 ghost use Rattle.std.specs.Prelude.{IfErr, OnOk, OnErr, ◌⊎◌, is_some, IfSome, IfNone, List, ℕ};
 ghost use Rattle.std.specs.Prelude.{Some, if◌then◌else◌};
 ghost use Rattle.std.specs.Option.{option_copied};
-ghost use Rattle.std.specs.Arc.{arc_value};
-ghost use Rattle.std.specs.BTreeMap.{IsOrdered, insert_entry};
+ghost use Rattle.std.specs.BTreeMap.{insert_entry};
+ghost use Rattle.rt_map.specs.Maps.{IsOrdered};
 ghost use Rattle.rt_tree.specs.Trees.{leaf_at, null, of_leaf, is_null, sub, put, non_null, object};
 ghost use Rattle.rt_tree.specs.Trees.{levels, child_of, AllFull, IsAllowed, MayStandAt, is_object};
 ghost use Rattle.rt_tree.specs.Trees.{children_of};
 ghost use Rattle.rt_tree.specs.Leaves.{key_cmp, key_eq};
 ghost use Rattle.rt_tree.specs.inside.Puts.{PutsBelow};
+ghost use Rattle.rt_tree.specs.inside.TreeView.{IsObject};
 
 mod children;
 mod reading;
@@ -20,16 +21,15 @@ use crate::key::Key;
 use crate::leaf::Leaf;
 use crate::limits::MAX_LEVELS;
 use crate::path::Path;
+use rt_map::{OrdMap, Share};
 use std::alloc::{AllocError, Global};
-use std::collections::BTreeMap;
 use std::marker::Model;
-use std::sync::Arc;
 
 /// A tree of values: null, a leaf, or an object of children. No child is null, and an object
 /// without children is null. At most 32 keys stand above a leaf.
 ///
-/// A copy shares all of its original, and takes next to no time. [`Tree::put`] copies what it
-/// changes only where another tree shares it.
+/// A copy shares all of its original, and takes next to no time. [`Tree::put`] copies of what another
+/// tree shares the parts on its path alone.
 #[cycle(tree)]
 #[derive(Debug, Drop)]
 pub struct Tree {
@@ -41,7 +41,7 @@ pub struct Tree {
 enum Node {
     Null,
     Leaf(Leaf),
-    Object(Arc<BTreeMap<Key, Tree>, Global>),
+    Object(OrdMap<Key, Tree>),
 }
 
 impl Model for Tree {
@@ -84,17 +84,16 @@ impl Tree {
     }
 
     /// The object of these children; null where there are none.
-    pub fn object(alloc: Global, children: BTreeMap<Key, Tree>) -> Result<Tree, AllocError>
-        requires ordered { IsOrdered key_cmp children }
+    pub fn object(children: OrdMap<Key, Tree>) -> Tree
         requires full { AllFull children.entries }
         requires allowed { IsAllowed (object children.entries) }
-        ensures { IfOk result (λ tree. tree ≡ object children.entries) }
+        ensures { result ≡ object children.entries }
     {
-        if children.is_empty() {
-            return Ok(Tree::null());
+        if children.len() == 0 {
+            return Tree::null();
         }
-        let node = Node::Object(Arc::new(alloc, children)?);
-        Ok(Tree { node })
+        let node = Node::Object(children);
+        Tree { node }
     }
 
     /// Whether there is nothing in the tree.
@@ -133,14 +132,14 @@ impl Tree {
     }
 
     /// The children of an object, in the order of their keys' bytes; `None` for null and a leaf.
-    pub fn children(&self) -> Option<&BTreeMap<Key, Tree>>
+    pub fn children(&self) -> Option<&OrdMap<Key, Tree>>
         ensures object { is_some result ≡ is_object self.now }
         ensures children { IfSome result (λ children. children.now.entries ≡ children_of self.now) }
         ensures none { IfNone result (children_of self.now ≡ []) }
         ensures allowed { IsAllowed self.now }
     {
         match &self.node {
-            Node::Object(children) => Some(&**children),
+            Node::Object(children) => Some(children),
             Node::Null => None,
             Node::Leaf(_) => None,
         }
@@ -151,19 +150,13 @@ impl Tree {
         ensures { IfOk result (λ tree. tree ≡ self.now) }
     {
         match &self.node {
-            Node::Null => Ok(Tree { node: Node::Null }),
             Node::Leaf(leaf) => {
                 let leaf = leaf.copy(alloc)?;
                 Ok(Tree {
                     node: Node::Leaf(leaf),
                 })
             }
-            Node::Object(children) => {
-                let children = Arc::try_clone(children)?;
-                Ok(Tree {
-                    node: Node::Object(children),
-                })
-            }
+            Node::Null | Node::Object(_) => self.share(),
         }
     }
 
@@ -201,8 +194,8 @@ impl Tree {
     /// object above that is left without children. Any other tree replaces a leaf above the path by
     /// an object; null leaves such a leaf.
     ///
-    /// Costs by the path and by the tree that is put, and, the first time after a copy, by the
-    /// number of children along the path.
+    /// Costs by the path and by the tree that is put, whether another tree shares the children along
+    /// the path or not.
     ///
     /// # Errors
     ///
@@ -234,7 +227,7 @@ impl Tree {
             return Ok(());
         };
         if let Node::Object(children) = &mut self.node {
-            put_shared(children, alloc, key, rest, tree)?;
+            put_below(children, alloc, key, rest, tree)?;
             if children.is_empty() {
                 self.node = Node::Null;
             }
@@ -244,6 +237,30 @@ impl Tree {
             *self = Tree::branch(alloc, keys, tree)?;
         }
         Ok(())
+    }
+
+    // Whether nothing is left once null comes at `keys`.
+    fn goes_without(&self, keys: &[Key]) -> bool
+        ensures { result ≡ is_null (put self.now keys.now null) }
+    {
+        let Some((key, rest)) = keys.split_first() else {
+            return true;
+        };
+        match &self.node {
+            Node::Null => true,
+            Node::Leaf(_) => false,
+            Node::Object(children) => match children.get(key) {
+                Some(child) => children.len() == 1 && child.goes_without(rest),
+                None => false,
+            },
+        }
+    }
+
+    // Whether nothing is left once `tree` comes at `keys`.
+    fn is_emptied(&self, keys: &[Key], tree: &Tree) -> bool
+        ensures { result ≡ is_null (put self.now keys.now tree.now) }
+    {
+        tree.is_null() && self.goes_without(keys)
     }
 
     // A tree with nothing but `tree` at `keys`.
@@ -257,9 +274,8 @@ impl Tree {
         };
         let inner = Tree::branch(alloc, rest, tree)?;
         let key = key.copy()?;
-        let mut children = BTreeMap::new(alloc);
-        children.insert(key, inner)?;
-        let children = Arc::new(alloc, children)?;
+        let mut children = OrdMap::new(alloc)?;
+        children.insert(alloc, key, inner)?;
         Ok(Tree {
             node: Node::Object(children),
         })
@@ -280,7 +296,7 @@ impl PartialEq for Tree {
         match (&self.node, &other.node) {
             (Node::Null, Node::Null) => true,
             (Node::Leaf(left), Node::Leaf(right)) => left == right,
-            (Node::Object(left), Node::Object(right)) => **left == **right,
+            (Node::Object(left), Node::Object(right)) => *left == *right,
             _ => false,
         }
     }
@@ -292,89 +308,74 @@ impl Eq for Tree {
     ghost laws = { equivalence tree_eq_tells };
 }
 
+impl Share for Tree {
+    fn share(&self) -> Result<Tree, AllocError> {
+        match &self.node {
+            Node::Null => Ok(Tree { node: Node::Null }),
+            Node::Leaf(leaf) => {
+                let leaf = leaf.share()?;
+                Ok(Tree {
+                    node: Node::Leaf(leaf),
+                })
+            }
+            Node::Object(children) => {
+                let children = children.copy()?;
+                Ok(Tree {
+                    node: Node::Object(children),
+                })
+            }
+        }
+    }
+}
+
 // `insert`, without the old child.
-fn set_child(children: &mut BTreeMap<Key, Tree>, key: Key, child: Tree) -> Result<(), AllocError>
+fn set_child(
+    children: &mut OrdMap<Key, Tree>,
+    alloc: Global,
+    key: Key,
+    child: Tree,
+) -> Result<(), AllocError>
     ensures entries { OnOk result (children.new.entries
         ≡ insert_entry key_cmp children.old.entries key child) }
     ensures sets { OnOk result ((j : List ℕ) → child_of children.new.entries j ≡ if key_eq key j
         then Some child else child_of children.old.entries j) }
     ensures ordered { IsOrdered key_cmp children.new }
 {
-    children.insert(key, child)?;
+    children.insert(alloc, key, child)?;
     Ok(())
 }
 
-// A copy of the children, in a map of their own.
-fn copy_children(
-    alloc: Global,
-    children: &BTreeMap<Key, Tree>,
-) -> Result<BTreeMap<Key, Tree>, AllocError>
-    requires { IsOrdered key_cmp children.now }
-    ensures { IfOk result (λ copies. copies.entries ≡ children.now.entries) }
-{
-    let mut copies = BTreeMap::new(alloc);
-    for (key, child) in children {
-        let key = key.copy()?;
-        let child = child.copy(alloc)?;
-        set_child(&mut copies, key, child)?;
-    }
-    Ok(copies)
-}
-
-// Puts a tree at a path below the child at `key`. Children that another tree shares are copied first.
-#[cycle(put)]
-fn put_shared(
-    shared: &mut Arc<BTreeMap<Key, Tree>, Global>,
-    alloc: Global,
-    key: &Key,
-    rest: &[Key],
-    tree: Tree,
-) -> Result<(), AllocError>
-    requires allowed { MayStandAt (key.now ∷ rest.now) tree }
-    requires full { AllFull (arc_value shared.old).entries }
-    requires sorted { IsOrdered key_cmp (arc_value shared.old) }
-    ensures ok { OnOk result (PutsBelow (arc_value shared.old).entries
-        (arc_value shared.new).entries key.now rest.now tree) }
-    ensures err { OnErr result ((arc_value shared.new).entries ≡ (arc_value shared.old).entries) }
-    ensures ordered { IsOrdered key_cmp (arc_value shared.new) }
-{
-    if let Some(children) = Arc::get_mut(shared) {
-        return put_below(children, alloc, key, rest, tree);
-    }
-    let mut children = copy_children(alloc, shared)?;
-    put_below(&mut children, alloc, key, rest, tree)?;
-    *shared = Arc::new(alloc, children)?;
-    Ok(())
-}
-
-// Puts a tree at a path below the child at `key`, and takes out a child that became null.
+// Puts a tree at a path below the child at `key`, or takes that child out where nothing is left of
+// it. Children that another tree shares are copied on the way to `key` alone.
 #[cycle(put)]
 fn put_below(
-    children: &mut BTreeMap<Key, Tree>,
+    children: &mut OrdMap<Key, Tree>,
     alloc: Global,
     key: &Key,
     rest: &[Key],
     tree: Tree,
 ) -> Result<(), AllocError>
     requires allowed { MayStandAt (key.now ∷ rest.now) tree }
-    requires full { AllFull children.old.entries }
+    requires kept { IsObject children.old.entries }
     ensures ok { OnOk result
         (PutsBelow children.old.entries children.new.entries key.now rest.now tree) }
     ensures err { OnErr result (children.new.entries ≡ children.old.entries) }
     ensures ordered { IsOrdered key_cmp children.new }
 {
-    let Some(child) = children.get_mut(key) else {
+    let Some(child) = children.get(key) else {
         if tree.is_null() {
             return Ok(());
         }
         let branch = Tree::branch(alloc, rest, tree)?;
         let key = key.copy()?;
-        children.insert(key, branch)?;
+        children.insert(alloc, key, branch)?;
         return Ok(());
     };
-    child.put_at(alloc, rest, tree)?;
-    if child.is_null() {
-        children.remove(key);
+    if child.is_emptied(rest, &tree) {
+        children.remove(key)?;
+        return Ok(());
     }
+    let child = children.get_mut(key)?;
+    child.put_at(alloc, rest, tree)?;
     Ok(())
 }

@@ -2,7 +2,7 @@
 ghost use Rattle.std.specs.Prelude.{◌≡◌, ◌<◌, ◌+◌, [], ◌∷◌, ◌⊎◌, ◌↔◌, MatchBool, IfOk, IfErr};
 ghost use Rattle.std.specs.Prelude.{OnOk, reverse};
 ghost use Rattle.std.specs.List.{All, Any};
-ghost use Rattle.std.specs.BTreeMap.{IsOrdered};
+ghost use Rattle.rt_map.specs.Maps.{IsOrdered};
 ghost use Rattle.rt_tree.specs.Leaves.{key_cmp};
 ghost use Rattle.rt_tree.specs.Trees.{put, object, levels, AllFull, IsAllowed};
 
@@ -10,8 +10,8 @@ use super::{Tree, set_child};
 use crate::error::TreeError;
 use crate::key::Key;
 use crate::limits::MAX_LEVELS;
+use rt_map::OrdMap;
 use std::alloc::{AllocError, Global};
-use std::collections::BTreeMap;
 
 impl Tree {
     /// The object of these children, as putting each at its key in turn makes it: of equal keys the
@@ -62,15 +62,20 @@ fn object_of(alloc: Global, children: Vec<(Key, Tree)>) -> Result<Tree, AllocErr
     requires { All (λ e. levels e.1 < MAX_LEVELS) children.items }
     ensures { IfOk result (λ tree. tree ≡ object (reverse children.items)) }
 {
-    let mut placed = BTreeMap::new(alloc);
+    let mut placed = OrdMap::new(alloc)?;
     for (key, child) in children {
-        put_child(&mut placed, key, child)?;
+        put_child(&mut placed, alloc, key, child)?;
     }
-    Tree::object(alloc, placed)
+    Ok(Tree::object(placed))
 }
 
 // Puts a child at its key; null takes out what stands there.
-fn put_child(children: &mut BTreeMap<Key, Tree>, key: Key, child: Tree) -> Result<(), AllocError>
+fn put_child(
+    children: &mut OrdMap<Key, Tree>,
+    alloc: Global,
+    key: Key,
+    child: Tree,
+) -> Result<(), AllocError>
     requires shallow { levels child < MAX_LEVELS }
     requires full { AllFull children.old.entries }
     requires allowed { IsAllowed (object children.old.entries) }
@@ -83,9 +88,9 @@ fn put_child(children: &mut BTreeMap<Key, Tree>, key: Key, child: Tree) -> Resul
     // For the prover: it is a key.
     let _text = key.text();
     if child.is_null() {
-        drop(children.remove(&key));
+        drop(children.remove(&key)?);
         return Ok(());
     }
-    set_child(children, key, child)?;
+    set_child(children, alloc, key, child)?;
     Ok(())
 }

@@ -3,7 +3,7 @@
 ghost use Rattle.std.specs.Prelude.{None, Some, OnOk, IfOk, IfErr, IfSome, ◌≡◌, ◌<◌, ◌≤◌, ◌^◌, ◌⊎◌};
 ghost use Rattle.std.specs.Prelude.{length};
 ghost use Rattle.std.specs.Option.{option_map};
-ghost use Rattle.std.specs.BTreeMap.{IsOrdered};
+ghost use Rattle.rt_map.specs.Maps.{IsOrdered};
 ghost use Rattle.serde_json.specs.Read.{read};
 ghost use Rattle.serde_json.specs.View.{view, items_view, members_view};
 ghost use Rattle.rt_tree.specs.Leaves.{key_cmp};
@@ -16,8 +16,9 @@ ghost use Rattle.rt_tree.specs.Reading.{IsTreeData, AreTreeItems, AreTreeMembers
 use super::{Tree, set_child};
 use crate::error::TreeError;
 use crate::key::{Key, check_key, index_key, valid_key};
-use crate::leaf::{Leaf, short_text, whole_number};
+use crate::leaf::{Leaf, shared_text, whole_number};
 use crate::limits::{MAX_KEYS, MAX_NODES, MAX_TEXT_BYTES, MAX_WHOLE, MIN_WHOLE};
+use rt_map::OrdMap;
 use serde_json::Value;
 use std::alloc::{AllocError, Global};
 use std::collections::BTreeMap;
@@ -77,8 +78,8 @@ impl Tree {
                 None => Ok(Tree::null()),
             },
             Value::String(text) => {
-                let text = String::from_str(alloc, text.as_str())?;
-                Ok(Tree::leaf(short_text(text)))
+                let leaf = shared_text(alloc, text.as_str())?;
+                Ok(Tree::leaf(leaf))
             }
             Value::Array(items) => Tree::of_items(alloc, items.as_slice()),
             Value::Object(members) => Tree::of_members(alloc, members),
@@ -92,15 +93,15 @@ impl Tree {
         requires short { length items.now < 2 ^ 64 }
         ensures { IfOk result (λ tree. tree ≡ object (item_trees 0 (items_view items.now))) }
     {
-        let mut children = BTreeMap::new(alloc);
+        let mut children = OrdMap::new(alloc)?;
         let mut place: usize = 0;
         for item in items {
             let child = Tree::build(alloc, item)?;
             let key = index_key(alloc, place)?;
-            add_child(&mut children, key, child)?;
+            add_child(&mut children, alloc, key, child)?;
             place += 1;
         }
-        Tree::object(alloc, children)
+        Ok(Tree::object(children))
     }
 
     // The object of the members, each at its name.
@@ -110,24 +111,29 @@ impl Tree {
         ensures { IfOk result (λ tree. tree
             ≡ object (member_trees (members_view members.now.entries))) }
     {
-        let mut children = BTreeMap::new(alloc);
+        let mut children = OrdMap::new(alloc)?;
         for (name, member) in members.iter() {
             let child = Tree::build(alloc, member)?;
             let key = valid_key(alloc, name.as_str())?;
-            add_child(&mut children, key, child)?;
+            add_child(&mut children, alloc, key, child)?;
         }
-        Tree::object(alloc, children)
+        Ok(Tree::object(children))
     }
 }
 
 // Puts a child at its key, unless it is null.
-fn add_child(children: &mut BTreeMap<Key, Tree>, key: Key, child: Tree) -> Result<(), AllocError>
+fn add_child(
+    children: &mut OrdMap<Key, Tree>,
+    alloc: Global,
+    key: Key,
+    child: Tree,
+) -> Result<(), AllocError>
     requires { IsOrdered key_cmp children.old }
     ensures added { OnOk result (AddsChild children.old.entries children.new.entries key child) }
     ensures ordered { IsOrdered key_cmp children.new }
 {
     if !child.is_null() {
-        set_child(children, key, child)?;
+        set_child(children, alloc, key, child)?;
     }
     Ok(())
 }

@@ -1,6 +1,6 @@
 // Trees are written as JSON.
 ghost use Rattle.std.specs.Prelude.{Some, OnOk, IfOk, ◌≡◌, ◌≤◌, string_bytes};
-ghost use Rattle.std.specs.BTreeMap.{IsOrdered};
+ghost use Rattle.rt_map.specs.Maps.{IsOrdered};
 ghost use Rattle.serde_json.specs.Data.{put};
 ghost use Rattle.serde_json.specs.Read.{read};
 ghost use Rattle.serde_json.specs.View.{view, members_view};
@@ -13,6 +13,7 @@ ghost use Rattle.rt_tree.specs.Writing.{leaf_data, members_with, data_of, back_f
 use super::{Node, Tree};
 use crate::key::Key;
 use crate::leaf::{Leaf, LeafRef};
+use rt_map::OrdMap;
 use serde_json::{Map, Value};
 use std::alloc::{AllocError, Global};
 use std::collections::BTreeMap;
@@ -66,10 +67,7 @@ fn leaf_value(alloc: Global, leaf: &Leaf) -> Result<Value, AllocError>
 
 // A member for each child.
 #[cycle(value)]
-fn members_of(
-    alloc: Global,
-    children: &BTreeMap<Key, Tree>,
-) -> Result<Map<String, Value>, AllocError>
+fn members_of(alloc: Global, children: &OrdMap<Key, Tree>) -> Result<Map<String, Value>, AllocError>
     requires { IsOrdered key_cmp children.now }
     ensures members { IfOk result (λ members. members_view members.entries
         ≡ members_with data_of children.now.entries) }

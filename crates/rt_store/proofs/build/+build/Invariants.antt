@@ -1,5 +1,3 @@
-use Rattle.std.specs.BTreeMap.{IsOrdered}
-use Rattle.rt_tree.specs.PathTree.{key_cmp}
 use Rattle.rt_store.specs.inside.Forest.{row_at, size}
 use Rattle.rt_store.proofs.Building.{Building}
 use Rattle.rt_store.proofs.build.+build.Given as goal
@@ -8,7 +6,7 @@ abbrev pub decreases-build : goal.decreases-build
 decreases-build l = size (row_at l.nodes.now l.first)
 
 abbrev pub invariant-loop-next : goal.invariant-loop-next
-invariant-loop-next l = Building l.nodes (row_at l.nodes l.fn.first) l.children.entries l.next × IsOrdered key_cmp l.children
+invariant-loop-next l = Building l.nodes (row_at l.nodes l.fn.first) l.children.entries l.next
 
 abbrev pub decreases-loop-next : goal.decreases-loop-next
 decreases-loop-next l = size (row_at l.nodes l.next)

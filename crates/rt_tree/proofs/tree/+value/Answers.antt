@@ -1,5 +1,4 @@
 use Rattle.std.proofs.Common.{◌≡◌, ap, sym, ◌∙◌, subst, arith}
-use Rattle.std.specs.BTreeMap.{IsOrdered, values}
 use Rattle.std.specs.Map.{keys_of}
 use Rattle.std.specs.List.Sorted.{IsStrictlySortedBy}
 use Rattle.std.proofs.lemmas.Result.{IfOk-weaker}
@@ -7,12 +6,10 @@ use Rattle.serde_json.specs.Data as json
 use Rattle.serde_json.specs.Data.{put}
 use Rattle.serde_json.specs.View.{view, members_view}
 use Rattle.serde_json.proofs.Views.{view-Object}
-use denote.Param.Weighed.{most}
 use Rattle.rt_tree.specs.Leaves.{key_cmp}
 use Rattle.rt_tree.specs.Trees.{levels, IsAllowed}
 use Rattle.rt_tree.specs.Reading.{tree_of_data}
 use Rattle.rt_tree.specs.Writing.{leaf_data, members_with, data_of}
-use Rattle.rt_tree.specs.declared.tree.Tree.TheDeep.{size-Tree}
 use Rattle.rt_tree.proofs.Equals.{below}
 use Rattle.rt_tree.proofs.Nodes.{at-Null, at-Leaf, at-Object, kept-Object, allowed-node}
 use Rattle.rt_tree.proofs.Writings.{view-Null, data_of-null, data_of-of_leaf, data_of-object, writing_begins, writing_goes_on, writing_ends, Writing}
@@ -21,8 +18,8 @@ use Rattle.rt_tree.proofs.tree.+value.Goals as goal
 pub Tree::to_value-members_of-requires : goal.Tree::to_value-members_of-requires
 Tree::to_value-members_of-requires t c =
     let kept = kept-Object c.self.invariant c.in-Object.is in (
-      omega (arith, c.decreases, ap (λ m. most size-Tree (values m)) c.deref.ensures, ap levels (at-Object c.self.view_is c.in-Object.is), below _ kept),
-      subst (IsOrdered key_cmp) (sym c.deref.ensures) kept.ordered,
+      omega (arith, c.decreases, ap levels (at-Object c.self.view_is c.in-Object.is), below _ kept),
+      kept.ordered,
     )
 
 pub Tree::to_value-returns-in-Null-clause-value : goal.Tree::to_value-returns-in-Null-clause-value
@@ -35,7 +32,7 @@ Tree::to_value-returns-in-Leaf-clause-value t c =
 
 pub Tree::to_value-returns-in_ok-members-in-Object-clause-value : goal.Tree::to_value-returns-in_ok-members-in-Object-clause-value
 Tree::to_value-returns-in_ok-members-in-Object-clause-value t c =
-    view-Object c.in_ok-members-in-Object.members ∙ ap json.object (c.in_ok-members-in-Object.ensures.members ∙ ap (λ m. members_with data_of m.entries) c.deref.ensures)
+    view-Object c.in_ok-members-in-Object.members ∙ ap json.object (c.in_ok-members-in-Object.ensures.members)
     ∙ sym (ap data_of (at-Object c.self.view_is c.in-Object.is) ∙ data_of-object _ (kept-Object c.self.invariant c.in-Object.is))
 
 pub writing::members_of-loop-key-init : goal.writing::members_of-loop-key-init

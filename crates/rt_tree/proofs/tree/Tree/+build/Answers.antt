@@ -1,19 +1,18 @@
 use Rattle.std.proofs.Common.{◌≡◌, ◌∙◌, ap, sym, subst, decimal, refl, arith}
 use Rattle.serde_json.specs.View.{members_view}
 use Rattle.rt_tree.specs.Key.{IsKey}
-use Rattle.rt_tree.specs.Trees.{IsAllowed, object}
+use Rattle.rt_tree.specs.Trees.{IsAllowed}
 use Rattle.rt_tree.proofs.Nodes.{allowed-node}
 use Rattle.rt_tree.specs.Reading.{member_trees, AreTreeItems, AreTreeMembers}
 use Rattle.rt_tree.proofs.Walks.{item_next, member_next}
 use Rattle.rt_tree.proofs.Readings.{allowed_children, item_stands, member_stands, first_item, other_items, first_member, other_members, building_items, building_members, building_item, building_member, no_items_left, no_members_left, Building}
 use Rattle.serde_json.proofs.value.Value.TheLaws.{the_size}
 use Rattle.std.specs.Map.{values_of}
-use Rattle.std.proofs.lemmas.Result.{IfOk-weaker}
 use denote.Param.Weighed.{most, at_most}
 use Rattle.rt_tree.proofs.tree.Tree.+build.Goals as goal
 
 pub of_items-loop-item-init : goal.of_items-loop-item-init
-of_items-loop-item-init t c = (refl, building_items c.args.items.now c.requires.short c.new-children.result.entries c.new-children.ensures.empty, c.requires.readable)
+of_items-loop-item-init t c = (refl, building_items c.args.items.now c.requires.short c.in_ok-children.children.entries c.in_ok-children.ensures.empty, c.requires.readable)
 
 pub of_items-build-requires : goal.of_items-build-requires
 of_items-build-requires t c = (
@@ -35,13 +34,13 @@ pub of_items-object-requires-clause-allowed : goal.of_items-object-requires-clau
 of_items-object-requires-clause-allowed t c = allowed_children _ _ _ c.loop-item.invariant.1
 
 pub of_items-returns : goal.of_items-returns
-of_items-returns t c = IfOk-weaker c.object.result (λ u. u ≡ object c.loop-item.children.entries) (λ u. u ≡ object _) (λ _ p. p ∙ no_items_left _ _ c.args.items.now c.loop-item.item-index c.loop-item-test.false c.loop-item.invariant.1) c.object.ensures
+of_items-returns t c = c.object.ensures ∙ no_items_left _ _ c.args.items.now c.loop-item.item-index c.loop-item-test.false c.loop-item.invariant.1
 
 pub of_members-loop-name-init : goal.of_members-loop-name-init
 of_members-loop-name-init t c =
     let same : c.into_iter-name-iterator.result ≡ c.args.members.now.entries = c.into_iter-name-iterator.ensures.into_iter_gives ∙ c.iter-name-items.ensures.rest in (
-      subst (λ es. Building (member_trees (members_view c.args.members.now.entries)) c.new-children.result.entries (member_trees (members_view es))) (sym same)
-          (building_members c.args.members.now.entries c.iter-name-items.ensures.ordered c.new-children.result.entries c.new-children.ensures.empty),
+      subst (λ es. Building (member_trees (members_view c.args.members.now.entries)) c.in_ok-children.children.entries (member_trees (members_view es))) (sym same)
+          (building_members c.args.members.now.entries c.iter-name-items.ensures.ordered c.in_ok-children.children.entries c.in_ok-children.ensures.empty),
       subst (λ es. AreTreeMembers (members_view es)) (sym same) c.requires,
       omega (arith, ap (λ es. most the_size (values_of es)) same),
     )
@@ -67,5 +66,4 @@ of_members-object-requires-clause-allowed t c = allowed_children _ _ _ c.loop-na
 
 pub of_members-returns : goal.of_members-returns
 of_members-returns t c =
-    IfOk-weaker c.object.result (λ u. u ≡ object c.loop-name.children.entries) (λ u. u ≡ object _)
-    (λ _ p. p ∙ no_members_left _ _ c.loop-name.name-iterator c.in-None.ensures.steps.0 c.loop-name.invariant.0) c.object.ensures
+    c.object.ensures ∙ no_members_left _ _ c.loop-name.name-iterator c.in-None.ensures.steps.0 c.loop-name.invariant.0

@@ -1,12 +1,8 @@
 use Rattle.std.proofs.Common.{sym, ap, ◌∙◌, arith}
-use Rattle.std.specs.BTreeMap.{values}
-use Rattle.std.specs.Cmp.Lexicographic.{pointwise}
-use denote.Param.Weighed.{most}
 use mathlib.Core.List.{not-mem-nil}
 use Rattle.rt_tree.specs.Trees.{levels, tree_eq}
-use Rattle.rt_tree.specs.declared.tree.Tree.TheDeep.{size-Tree}
 use Rattle.rt_tree.proofs.Nodes.{at-Null, at-Leaf, at-Object, kept-Object}
-use Rattle.rt_tree.proofs.Equals.{tree_eq-same, tree_eq-leaves, tree_eq-objects, not_same, apart_from_null, apart_from_leaf, apart_from_object, child_eq, below}
+use Rattle.rt_tree.proofs.Equals.{tree_eq-same, tree_eq-leaves, tree_eq-objects, not_same, apart_from_null, apart_from_leaf, apart_from_object, below}
 use Rattle.rt_tree.proofs.tree.TreePartialEq.+eq.Goals as goal
 
 pub eq-requires-in-Object-Object : goal.eq-requires-in-Object-Object
@@ -15,12 +11,12 @@ eq-requires-in-Object-Object t c κs =
     let right = below _ (kept-Object c.other.invariant c.in-Object-Object.is-1) in (
       (
         (
-          omega (arith, c.decreases, ap (λ m. most size-Tree (values m)) c.deref.ensures, ap levels (at-Object c.self.view_is c.in-Object-Object.is-0), left),
-          (omega (arith, c.decreases, ap (λ m. most size-Tree (values m)) c.deref-in-Object-Object.ensures, ap levels (at-Object c.other.view_is c.in-Object-Object.is-1), right), tt),
+          omega (arith, c.decreases, ap levels (at-Object c.self.view_is c.in-Object-Object.is-0), left),
+          (omega (arith, c.decreases, ap levels (at-Object c.other.view_is c.in-Object-Object.is-1), right), tt),
         ),
         tt,
       ),
-      (λ a m. absurd (not-mem-nil m), (λ a m. absurd (not-mem-nil m), λ a m. absurd (not-mem-nil m))),
+      (λ a m. absurd (not-mem-nil m), λ a m. absurd (not-mem-nil m)),
     )
 
 pub returns-in-Null-Null : goal.returns-in-Null-Null
@@ -34,7 +30,6 @@ returns-in-Leaf-Leaf t c =
 pub returns-in-Object-Object : goal.returns-in-Object-Object
 returns-in-Object-Object t c =
     c.eq-in-Object-Object.ensures
-    ∙ (λ i. pointwise child_eq (c.deref.ensures i).entries (c.deref-in-Object-Object.ensures i).entries)
     ∙ tree_eq-objects _ _ (kept-Object c.self.invariant c.in-Object-Object.is-0) (kept-Object c.other.invariant c.in-Object-Object.is-1)
     ∙ (λ i. tree_eq (sym (at-Object c.self.view_is c.in-Object-Object.is-0) i) (sym (at-Object c.other.view_is c.in-Object-Object.is-1) i))
 

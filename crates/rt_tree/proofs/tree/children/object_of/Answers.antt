@@ -1,7 +1,5 @@
 use Rattle.std.proofs.Common.{◌≡◌, ◌∷◌, ◌∙◌, sym, ap, arith, rules, length}
 use Rattle.std.specs.Vec.Iter.{into_iter_items, into_iter_len}
-use Rattle.std.proofs.lemmas.Result.{IfOk-weaker}
-use Rattle.rt_tree.specs.Trees.{object}
 use Rattle.rt_tree.proofs.Children.{placing_begins, placing_goes_on, placing_ends, first_shallow}
 use Rattle.rt_tree.proofs.tree.children.object_of.Goals as goal
 
@@ -9,7 +7,7 @@ pub loop-key-init : goal.loop-key-init
 loop-key-init c =
     let whole : into_iter_items c.into_iter-key-iterator.result ≡ c.args.children.items = search rules in
     let long : into_iter_len c.into_iter-key-iterator.result ≡ length (into_iter_items c.into_iter-key-iterator.result) = search rules in
-    (placing_begins _ _ _ c.new-placed.ensures.empty whole c.requires, long)
+    (placing_begins _ _ _ c.in_ok-placed.ensures.empty whole c.requires, long)
 
 pub put_child-requires-clause-shallow : goal.put_child-requires-clause-shallow
 put_child-requires-clause-shallow c = first_shallow _ _ _ _ c.in-Some.ensures.steps.0 c.loop-key.invariant.0.shallow
@@ -27,9 +25,6 @@ loop-key-preserved c =
       omega (arith, ap length is, c.in-Some.ensures.steps.1, c.loop-key.invariant.1),
     )
 
-pub object-requires-clause-ordered : goal.object-requires-clause-ordered
-object-requires-clause-ordered c = c.loop-key.invariant.0.ordered
-
 pub object-requires-clause-full : goal.object-requires-clause-full
 object-requires-clause-full c = c.loop-key.invariant.0.full
 
@@ -39,4 +34,4 @@ object-requires-clause-allowed c = c.loop-key.invariant.0.allowed
 pub returns : goal.returns
 returns c =
     let same = placing_ends _ _ _ (sym c.loop-key.invariant.1 ∙ c.in-None.ensures.steps.0) c.loop-key.invariant.0 in
-    IfOk-weaker c.object.result (λ u. u ≡ object c.loop-key.placed.entries) (λ u. u ≡ object _) (λ _ p. p ∙ same) c.object.ensures
+    c.object.ensures ∙ same
