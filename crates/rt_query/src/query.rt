@@ -14,10 +14,10 @@ use crate::draft::Draft;
 use crate::limit::{Limit, cut};
 use crate::row::{Row, object_of};
 use crate::shown::Shown;
+use rt_map::OrdMap;
 use rt_order::{Index, Range};
 use rt_tree::{Key, Leaf, Path, Tree};
 use std::alloc::{AllocError, Global};
-use std::collections::BTreeMap;
 use std::marker::Model;
 
 /// What a listener asks for: the children of a path in an order, of these a range, and of that a
@@ -162,7 +162,7 @@ impl Query {
     // The children in the range, in the order of their keys' bytes.
     fn children_in_range<'a>(
         &self,
-        children: &'a BTreeMap<Key, Tree>,
+        children: &'a OrdMap<Key, Tree>,
     ) -> Result<Vec<Child<'a>>, AllocError>
         ensures { IfOk result (λ found. map seen found.items ≡ in_range self.now children.now.entries) }
     {

@@ -1,14 +1,13 @@
 // A child as a query shows it.
 ghost use Rattle.std.specs.Prelude.{◌≡◌, IfOk, OnOk, cond, Some};
-ghost use Rattle.std.specs.BTreeMap.{IsOrdered};
 ghost use Rattle.rt_tree.specs.Allowed.{IsAllowed};
-ghost use Rattle.rt_tree.specs.PathTree.{Key as KeyValue, key_cmp, key_eq, child_of, object};
+ghost use Rattle.rt_tree.specs.PathTree.{Key as KeyValue, key_eq, child_of, object};
 ghost use Rattle.rt_query.specs.Rows.{HasDistinctKeys, HasNoNull, row_at};
 ghost use Rattle.rt_query.specs.Select.{as_children};
 
+use rt_map::OrdMap;
 use rt_tree::{Key, Tree};
 use std::alloc::{AllocError, Global};
-use std::collections::BTreeMap;
 
 /// A child and its key, as a query shows them.
 #[derive(Debug)]
@@ -71,28 +70,31 @@ pub(crate) fn copy_rows(rows: &Vec<Row>) -> Result<Vec<Row>, AllocError>
 }
 
 // Puts a child in; the one that stood there goes.
-fn add(children: &mut BTreeMap<Key, Tree>, key: Key, child: Tree) -> Result<(), AllocError>
-    ensures set { OnOk result ((k : KeyValue)
+fn add(
+    children: &mut OrdMap<Key, Tree>,
+    alloc: Global,
+    key: Key,
+    child: Tree,
+) -> Result<(), AllocError>
+    ensures { OnOk result ((k : KeyValue)
         → child_of children.new.entries k
         ≡ cond (key_eq key k) (Some child) (child_of children.old.entries k)) }
-    ensures ordered { OnOk result (IsOrdered key_cmp children.new) }
 {
-    children.insert(key, child)?;
+    children.insert(alloc, key, child)?;
     Ok(())
 }
 
 // The rows as children, in a map.
-fn children_of(alloc: Global, rows: &[Row]) -> Result<BTreeMap<Key, Tree>, AllocError>
+fn children_of(alloc: Global, rows: &[Row]) -> Result<OrdMap<Key, Tree>, AllocError>
     requires { HasDistinctKeys rows.now }
-    ensures same { IfOk result (λ children. (k : KeyValue)
+    ensures { IfOk result (λ children. (k : KeyValue)
         → child_of children.entries k ≡ row_at rows.now k) }
-    ensures ordered { IfOk result (λ children. IsOrdered key_cmp children) }
 {
-    let mut children = BTreeMap::new(alloc);
+    let mut children = OrdMap::new(alloc)?;
     for row in rows {
         let key = row.key.copy()?;
         let child = row.value.copy(alloc)?;
-        add(&mut children, key, child)?;
+        add(&mut children, alloc, key, child)?;
     }
     Ok(children)
 }
@@ -105,5 +107,5 @@ pub(crate) fn object_of(alloc: Global, rows: &[Row]) -> Result<Tree, AllocError>
     ensures { IfOk result (λ tree. tree ≡ object (as_children rows.now)) }
 {
     let children = children_of(alloc, rows)?;
-    Tree::object(alloc, children)
+    Ok(Tree::object(children))
 }

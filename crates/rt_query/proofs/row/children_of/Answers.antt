@@ -9,7 +9,7 @@ loop-row-preserved c =
     let rows = c.args.rows.now in
     let rest = drop (suc c.loop-row.row-index) rows in
     let old = c.loop-row.children.entries in
-    let here = subst (λ left. IsMaking rows left old) (drop-cons rows c.loop-row.row-index c.row-item.result c.loop-row-test.true ∙ ap (λ r. r ∷ rest) (sym c.row-item.is)) c.loop-row.invariant.0 in
+    let here = subst (λ left. IsMaking rows left old) (drop-cons rows c.loop-row.row-index c.row-item.result c.loop-row-test.true ∙ ap (λ r. r ∷ rest) (sym c.row-item.is)) c.loop-row.invariant in
     let added = making_more rows rest c.row-item.result old c.add.new.children.entries here
-    (λ k. c.in_ok-add.ensures.set k ∙ (λ i. cond (key_eq (c.in_ok-key.ensures i) k) (Some (c.in_ok-child.ensures i)) (child_of old k))) in
-    rw add-one (added, c.in_ok-add.ensures.ordered)
+    (λ k. c.in_ok-add.ensures k ∙ (λ i. cond (key_eq (c.in_ok-key.ensures i) k) (Some (c.in_ok-child.ensures i)) (child_of old k))) in
+    rw add-one added

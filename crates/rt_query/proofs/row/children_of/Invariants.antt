@@ -1,8 +1,6 @@
 use Rattle.std.specs.Prelude.{drop}
-use Rattle.std.specs.BTreeMap.{IsOrdered}
-use Rattle.rt_tree.specs.PathTree.{key_cmp}
 use Rattle.rt_query.proofs.ObjectLaws.{IsMaking}
 use Rattle.rt_query.proofs.row.children_of.Given as goal
 
 abbrev pub invariant-loop-row : goal.invariant-loop-row
-invariant-loop-row l = IsMaking l.rows (drop l.row-index l.rows) l.children.entries × IsOrdered key_cmp l.children
+invariant-loop-row l = IsMaking l.rows (drop l.row-index l.rows) l.children.entries
