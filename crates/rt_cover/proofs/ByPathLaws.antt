@@ -39,108 +39,10 @@ use Rattle.rt_cover.proofs.StartLaws.{list_any_agreeing, list_any_either, list_a
 pub by_path_ranks : IsStrictWeakOrder (λ (l m : Registered). is_lt (by_path_cmp l m))
 by_path_ranks = ranks_by paths_total (λ (l : Registered). (l.1).path)
 
--- by its number an order is told
-before_one : (o : Ordering) → is_lt o ≡ ltb (ordering_index o) 1
-before_one Less = refl
-before_one Equal = refl
-before_one Greater = refl
-
-before_two : (o : Ordering) → is_le o ≡ ltb (ordering_index o) 2
-before_two Less = refl
-before_two Equal = refl
-before_two Greater = refl
-
-never_fall : (p : Path) (ls : List Registered) → IsSorted by_path_cmp ls → IsNonDecreasingBy (λ (l : Registered). ordering_index (path_cmp (l.1).path p)) ls
-never_fall p ls up = searchable_from_sorted paths_total (λ (l : Registered). (l.1).path) ls p up
-
-pub befores_first : (p : Path) (ls : List Registered) → IsSorted by_path_cmp ls → IsPartitionedBy (λ (l : Registered). is_lt (path_cmp (l.1).path p)) ls
-befores_first p ls up i j d le lt e = before_one (path_cmp ((get_or ls i d).1).path p)
-    ∙ IsPartitionedBy-ltb (λ (l : Registered). ordering_index (path_cmp (l.1).path p)) ls 1 (never_fall p ls up) i j d le lt
-    (sym (before_one (path_cmp ((get_or ls j d).1).path p)) ∙ e)
-
-pub not_behind_first : (p : Path) (ls : List Registered) → IsNonDecreasingBy (λ (l : Registered). ordering_index (path_cmp (l.1).path p)) ls → IsPartitionedBy (λ (l : Registered). is_le (path_cmp (l.1).path p)) ls
-not_behind_first p ls up i j d le lt e = before_two (path_cmp ((get_or ls i d).1).path p)
-    ∙ IsPartitionedBy-ltb (λ (l : Registered). ordering_index (path_cmp (l.1).path p)) ls 2 up i j d le lt
-    (sym (before_two (path_cmp ((get_or ls j d).1).path p)) ∙ e)
-
--- ---- those of a path
-
-lt_apart : (o : Ordering) → is_lt o ≡ true → is_eq o ≡ false
-lt_apart Less e = refl
-lt_apart Equal e = absurd (true≢false (sym e))
-lt_apart Greater e = refl
-
-gt_apart : (o : Ordering) → is_le o ≡ false → is_eq o ≡ false
-gt_apart Less e = refl
-gt_apart Equal e = absurd (true≢false e)
-gt_apart Greater e = refl
-
-between : (o : Ordering) → is_lt o ≡ false → is_le o ≡ true → is_eq o ≡ true
-between Less e f = absurd (true≢false e)
-between Equal e f = refl
-between Greater e f = f
-
--- from the first that is not before, so many that are not behind
-pub run_is : (p : Path) (ls : List Registered) (first count : ℕ) → first ≤ length ls → count ≤ length (drop first ls)
-    → IsPartitionPoint (λ (l : Registered). is_lt (path_cmp (l.1).path p) ≡ true) (λ (l : Registered). is_lt (path_cmp (l.1).path p) ≡ false) ls first
-    → IsPartitionPoint (λ (l : Registered). is_le (path_cmp (l.1).path p) ≡ true) (λ (l : Registered). is_le (path_cmp (l.1).path p) ≡ false) (drop first ls) count
-    → take count (drop first ls) ≡ filter (λ (l : Registered). path_eq (l.1).path p) ls
-run_is p ls first count within inside a b =
-    sym (ap (filter q) (sym (take-append-drop first ls))
-    ∙ filter-append q (take first ls) rest
-    ∙ ap (λ z. z ++ filter q rest) (filter_none q (take first ls) before)
-    ∙ ap (filter q) (sym (take-append-drop count rest))
-    ∙ filter-append q (take count rest) (drop count rest)
-    ∙ (λ i. filter_all q (take count rest) at i ++ filter_none q (drop count rest) behind i)
-    ∙ append-nil (take count rest))
-  where
-    q : Registered → Bool
-    q l = path_eq (l.1).path p
-
-    rest : List Registered
-    rest = drop first ls
-
-    before : All (λ (l : Registered). q l ≡ false) (take first ls)
-    before k d lt =
-        let here : k < first = omega (arith, lt, length-take-le first ls within) in
-        ap q (get_or-take first ls k d here) ∙ lt_apart (path_cmp ((get_or ls k d).1).path p) (a.0 k d (omega arith) here)
-
-    at : All (λ (l : Registered). q l ≡ true) (take count rest)
-    at k d lt =
-        let here : k < count = omega (arith, lt, length-take-le count rest inside) in
-        let there : first + k < length ls = omega (arith, here, inside, length-drop first ls, within) in
-        let is : get_or (take count rest) k d ≡ get_or rest k d = get_or-take count rest k d here in
-        let was : get_or rest k d ≡ get_or ls (first + k) d = get_or-drop first ls k d in
-        ap q is ∙ between (path_cmp ((get_or rest k d).1).path p)
-        (ap (λ (l : Registered). is_lt (path_cmp (l.1).path p)) was ∙ a.1 (first + k) d (omega arith) there)
-        (b.0 k d (omega arith) here)
-
-    behind : All (λ (l : Registered). q l ≡ false) (drop count rest)
-    behind k d lt =
-        let there : count + k < length rest = omega (arith, lt, inside, length-drop count rest) in
-        ap q (get_or-drop count rest k d) ∙ gt_apart (path_cmp ((get_or rest (count + k) d).1).path p) (b.1 (count + k) d (omega arith) there)
-
--- the list behind the first
-pub rest_is : (ls : List Registered) (first : ℕ) → take (length ls - first) (drop first ls) ≡ drop first ls
-rest_is ls first = ap (λ n. take n (drop first ls)) (sym (length-drop first ls)) ∙ take-length (drop first ls)
-
-pub rest_first : (p : Path) (ls rest : List Registered) (first : ℕ) → rest ≡ drop first ls → IsSorted by_path_cmp ls → IsPartitionedBy (λ (l : Registered). is_le (path_cmp (l.1).path p)) rest
-rest_first p ls rest first is up = not_behind_first p rest
-    (subst (IsNonDecreasingBy (λ (l : Registered). ordering_index (path_cmp (l.1).path p))) (sym is)
-    (IsNonDecreasingBy-drop (λ (l : Registered). ordering_index (path_cmp (l.1).path p)) first ls (never_fall p ls up)))
-
-pub run_of_rest : (p : Path) (ls rest : List Registered) (first count : ℕ) → rest ≡ drop first ls → first ≤ length ls → count ≤ length rest
-    → IsPartitionPoint (λ (l : Registered). is_lt (path_cmp (l.1).path p) ≡ true) (λ (l : Registered). is_lt (path_cmp (l.1).path p) ≡ false) ls first
-    → IsPartitionPoint (λ (l : Registered). is_le (path_cmp (l.1).path p) ≡ true) (λ (l : Registered). is_le (path_cmp (l.1).path p) ≡ false) rest count
-    → take count rest ≡ filter (λ (l : Registered). path_eq (l.1).path p) ls
-run_of_rest p ls rest first count is within inside a b =
-    ap (take count) is ∙ run_is p ls first count within (subst (λ z. count ≤ length z) is inside) a
-    (subst (λ z. IsPartitionPoint (λ (l : Registered). is_le (path_cmp (l.1).path p) ≡ true) (λ (l : Registered). is_le (path_cmp (l.1).path p) ≡ false) z count) is b)
-
 -- ---- tests of those of a path
 
 -- a form has one path
-same_form : (f g : Query) → query_eq f g ≡ true → path_eq f.path g.path ≡ true
+pub same_form : (f g : Query) → query_eq f g ≡ true → path_eq f.path g.path ≡ true
 same_form f g e = subst (λ h. path_eq f.path h.path ≡ true) ((query_eq_tells f g).0 e) (path_eq-same f.path)
 
 pub of_one_path : (l : Registered) (by_path : List Registered)
@@ -187,22 +89,22 @@ prefix_at (i ∷ p) (j ∷ q) (suc k) le =
     ]
 
 -- plain, and above the path with less than so many keys
-abbrev pub is_plain_above : Path → ℕ → Registered → Bool
-is_plain_above p k l = (is_at_or_above (l.1).path p && nat_lt (length (l.1).path) k) && not (is_filtered l.1)
+abbrev pub is_plain_above : {X : Type 0} → (X → Query) → Path → ℕ → X → Bool
+is_plain_above q p k l = (is_at_or_above (q l).path p && nat_lt (length (q l).path) k) && not (is_filtered (q l))
 
-abbrev pub is_plain_at : Path → Registered → Bool
-is_plain_at p l = path_eq (l.1).path p && not (is_filtered l.1)
+abbrev pub is_plain_at : {X : Type 0} → (X → Query) → Path → X → Bool
+is_plain_at q p l = path_eq (q l).path p && not (is_filtered (q l))
 
-pub none_above : (p : Path) (ls : List Registered) → list_any (is_plain_above p 0) ls ≡ false
-none_above p ls = list_any_none (is_plain_above p 0) ls (All-from_contained (λ (l : Registered). is_plain_above p 0 l ≡ false) ls
-    (λ l m. ap (λ b. (is_at_or_above (l.1).path p && b) && not (is_filtered l.1)) (lt_false (length (l.1).path) 0 (omega arith))
-    ∙ ap (λ b. b && not (is_filtered l.1)) (and_no (is_at_or_above (l.1).path p))))
+pub none_above : {X : Type 0} (q : X → Query) (p : Path) (ls : List X) → list_any (is_plain_above q p 0) ls ≡ false
+none_above {X = X} q p ls = list_any_none (is_plain_above q p 0) ls (All-from_contained (λ (l : X). is_plain_above q p 0 l ≡ false) ls
+    (λ l m. ap (λ b. (is_at_or_above (q l).path p && b) && not (is_filtered (q l))) (lt_false (length (q l).path) 0 (omega arith))
+    ∙ ap (λ b. b && not (is_filtered (q l))) (and_no (is_at_or_above (q l).path p))))
 
 -- those of one key more
-pub above_more : (p : Path) (k : ℕ) (ls : List Registered) → k ≤ length p
-    → list_any (is_plain_above p (k + 1)) ls ≡ (list_any (is_plain_above p k) ls || list_any (is_plain_at (take k p)) ls)
-above_more p k ls le = list_any_agreeing (is_plain_above p (k + 1)) (λ l. is_plain_above p k l || is_plain_at (take k p) l) ls each
-    ∙ list_any_either (is_plain_above p k) (is_plain_at (take k p)) ls
+pub above_more : {X : Type 0} (q : X → Query) (p : Path) (k : ℕ) (ls : List X) → k ≤ length p
+    → list_any (is_plain_above q p (k + 1)) ls ≡ (list_any (is_plain_above q p k) ls || list_any (is_plain_at q (take k p)) ls)
+above_more {X = X} q p k ls le = list_any_agreeing (is_plain_above q p (k + 1)) (λ l. is_plain_above q p k l || is_plain_at q (take k p) l) ls each
+    ∙ list_any_either (is_plain_above q p k) (is_plain_at q (take k p)) ls
   where
     less : (n : ℕ) → nat_lt n (k + 1) ≡ (nat_lt n k || (n == k))
     less n = grind (arith, nat_tests)
@@ -215,12 +117,12 @@ above_more p k ls le = list_any_agreeing (is_plain_above p (k + 1)) (λ l. is_pl
     spread true false c d = refl
     spread false b c d = refl
 
-    each : (l : Registered) → is_plain_above p (k + 1) l ≡ (is_plain_above p k l || is_plain_at (take k p) l)
-    each l = ap (λ b. (is_at_or_above (l.1).path p && b) && not (is_filtered l.1)) (less (length (l.1).path))
-        ∙ spread (is_at_or_above (l.1).path p) (nat_lt (length (l.1).path) k) (length (l.1).path == k) (not (is_filtered l.1))
-        ∙ ap (λ b. is_plain_above p k l || (b && not (is_filtered l.1))) (sym (prefix_at (l.1).path p k le))
+    each : (l : X) → is_plain_above q p (k + 1) l ≡ (is_plain_above q p k l || is_plain_at q (take k p) l)
+    each l = ap (λ b. (is_at_or_above (q l).path p && b) && not (is_filtered (q l))) (less (length (q l).path))
+        ∙ spread (is_at_or_above (q l).path p) (nat_lt (length (q l).path) k) (length (q l).path == k) (not (is_filtered (q l)))
+        ∙ ap (λ b. is_plain_above q p k l || (b && not (is_filtered (q l)))) (sym (prefix_at (q l).path p k le))
 
-list_any_implied : {X : Type 0} (p q : X → Bool) → ((x : X) → p x ≡ true → q x ≡ true) → (xs : List X) → list_any p xs ≡ true → list_any q xs ≡ true
+pub list_any_implied : {X : Type 0} (p q : X → Bool) → ((x : X) → p x ≡ true → q x ≡ true) → (xs : List X) → list_any p xs ≡ true → list_any q xs ≡ true
 list_any_implied p q h [] e = e
 list_any_implied p q h (x ∷ xs) e =
     elim (p x) as (λ b. p x ≡ b → (b || list_any p xs) ≡ true → (q x || list_any q xs) ≡ true) [
@@ -233,9 +135,9 @@ list_any_implied p q h (x ∷ xs) e =
     or_true false b t = t
 
 -- one at a beginning is one above
-pub above_found : (p : Path) (k : ℕ) (ls : List Registered) → k < length p → list_any (is_plain_at (take k p)) ls ≡ true
-    → list_any (is_plain_above p (length p)) ls ≡ true
-above_found p k ls lt e = list_any_implied (is_plain_at (take k p)) (is_plain_above p (length p)) each ls e
+pub above_found : {X : Type 0} (q : X → Query) (p : Path) (k : ℕ) (ls : List X) → k < length p → list_any (is_plain_at q (take k p)) ls ≡ true
+    → list_any (is_plain_above q p (length p)) ls ≡ true
+above_found {X = X} q p k ls lt e = list_any_implied (is_plain_at q (take k p)) (is_plain_above q p (length p)) each ls e
   where
     parts : (a b c d : Bool) → ((a && b) && c) ≡ true → (b ≡ true → d ≡ true) → ((a && d) && c) ≡ true
     parts true true true d e h = ap (λ b. b && true) (h refl)
@@ -243,10 +145,10 @@ above_found p k ls lt e = list_any_implied (is_plain_at (take k p)) (is_plain_ab
     parts true false c d e h = absurd (true≢false (sym e))
     parts false b c d e h = absurd (true≢false (sym e))
 
-    each : (l : Registered) → is_plain_at (take k p) l ≡ true → is_plain_above p (length p) l ≡ true
-    each l t = parts (is_at_or_above (l.1).path p) (length (l.1).path == k) (not (is_filtered l.1)) (nat_lt (length (l.1).path) (length p))
-        (ap (λ b. b && not (is_filtered l.1)) (sym (prefix_at (l.1).path p k (omega (arith, lt)))) ∙ t)
-        (λ same. lt_true (length (l.1).path) (length p) (omega (arith, lt, eqb-true (length (l.1).path) k same)))
+    each : (l : X) → is_plain_at q (take k p) l ≡ true → is_plain_above q p (length p) l ≡ true
+    each l t = parts (is_at_or_above (q l).path p) (length (q l).path == k) (not (is_filtered (q l))) (nat_lt (length (q l).path) (length p))
+        (ap (λ b. b && not (is_filtered (q l))) (sym (prefix_at (q l).path p k (omega (arith, lt)))) ∙ t)
+        (λ same. lt_true (length (q l).path) (length p) (omega (arith, lt, eqb-true (length (q l).path) k same)))
 
 -- ---- what supplies a form
 
@@ -328,15 +230,15 @@ another_supplies m f own_m own_f =
 -- all of those by path
 pub supplied_by_paths : (f : Query) (ls : List Registered) → All (λ (l : Registered). form l.1 ≡ l.1) ls → form f ≡ f
     → list_any (λ (l : Registered). not (query_eq l.1 f) && does_supply l.1 f) ls
-    ≡ (list_any (is_plain_above f.path (length f.path)) ls || (is_filtered f && list_any (is_plain_at f.path) ls))
+    ≡ (list_any (is_plain_above (λ (x : Registered). x.1) f.path (length f.path)) ls || (is_filtered f && list_any (is_plain_at (λ (x : Registered). x.1) f.path) ls))
 supplied_by_paths f ls own own_f =
     list_any_agreed (λ (l : Registered). not (query_eq l.1 f) && does_supply l.1 f)
-    (λ l. is_plain_above f.path (length f.path) l || (is_filtered f && is_plain_at f.path l)) ls
+    (λ l. is_plain_above (λ (x : Registered). x.1) f.path (length f.path) l || (is_filtered f && is_plain_at (λ (x : Registered). x.1) f.path l)) ls
     (λ l m. another_supplies l.1 f (All-contains (λ (x : Registered). form x.1 ≡ x.1) ls l own m) own_f)
-    ∙ list_any_either (is_plain_above f.path (length f.path)) (λ l. is_filtered f && is_plain_at f.path l) ls
-    ∙ ap (λ b. list_any (is_plain_above f.path (length f.path)) ls || b) (once (is_filtered f))
+    ∙ list_any_either (is_plain_above (λ (x : Registered). x.1) f.path (length f.path)) (λ l. is_filtered f && is_plain_at (λ (x : Registered). x.1) f.path l) ls
+    ∙ ap (λ b. list_any (is_plain_above (λ (x : Registered). x.1) f.path (length f.path)) ls || b) (once (is_filtered f))
   where
-    once : (b : Bool) → list_any (λ l. b && is_plain_at f.path l) ls ≡ (b && list_any (is_plain_at f.path) ls)
+    once : (b : Bool) → list_any (λ l. b && is_plain_at (λ (x : Registered). x.1) f.path l) ls ≡ (b && list_any (is_plain_at (λ (x : Registered). x.1) f.path) ls)
     once true = refl
     once false = list_any_none (λ (l : Registered). false) ls (λ k d lt. refl)
 

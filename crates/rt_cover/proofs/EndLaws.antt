@@ -143,7 +143,7 @@ plain_above f q e differ = elim (is_filtered f) as (λ b. is_filtered f ≡ b �
 ] refl
 
 -- two kept listens that supply one form, which neither is, are of one form
-kept_same : (c : Cover) → IsSound c → (j k : Tagged) → Contains c.kept j → Contains c.kept k → (f : Query)
+pub kept_same : (c : Cover) → IsSound c → (j k : Tagged) → Contains c.kept j → Contains c.kept k → (f : Query)
     → does_supply j.form f ≡ true → does_supply k.form f ≡ true → j.form ≢ f → k.form ≢ f → j.form ≡ k.form
 kept_same c s j k mj mk f a b dj dk =
     let x = plain_above j.form f a dj in

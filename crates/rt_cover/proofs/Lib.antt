@@ -1,11 +1,14 @@
 pub mod AddLaws
 pub mod ApartLaws
 pub mod ByPathLaws
+pub mod CountLaws
 pub mod EndLaws
+pub mod ListenLaws
 pub mod NewLaws
 pub mod PlaceLaws
 pub mod RefusalLaws
 pub mod RunLaws
+pub mod SearchLaws
 pub mod SeenLaws
 pub mod StartLaws
 pub mod SupplierLaws

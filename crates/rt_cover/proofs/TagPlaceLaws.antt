@@ -1,11 +1,12 @@
 -- Where a tag stands among kept listens by tag, and what is found there.
-use Rattle.std.proofs.Common.{◌≡◌, ℕ, zero, suc, ◌+◌, ◌<◌, ◌≤◌, true, false, cond, not, nat_le, ◌==◌, List, [], ◌∷◌, length, refl, sym, ap, ◌∙◌, arith, slice_index_or, get_or, ltb, ltb-true, ltb-false, Some, None}
+use Rattle.std.proofs.Common.{◌≡◌, ℕ, zero, suc, ◌+◌, ◌<◌, ◌≤◌, true, false, cond, not, nat_le, ◌==◌, List, [], ◌∷◌, length, refl, sym, ap, ◌∙◌, arith, slice_index_or, get_or, ltb, ltb-true, ltb-false, Some, None, Bool, is_some, ◌||◌}
 use mathlib.Core.Bool.{true≢false}
-use Rattle.std.specs.List.{find, All, AllPairs}
+use Rattle.std.specs.List.{find, list_any, All, AllPairs}
 use Rattle.std.specs.List.Sorted.{IsNonDecreasingBy, IsPartitionedBy, IsPartitionPoint}
 use Rattle.std.proofs.lemmas.List.Elements.{All-head, All-tail, All-weaker}
 use Rattle.std.proofs.lemmas.List.Sorted.{IsPartitionedBy-ltb}
 use Rattle.std.proofs.lemmas.List.Sums.{position_or_len_is}
+use Rattle.rt_query.specs.Queries.{plain}
 use Rattle.rt_cover.specs.Cover.{Tagged}
 use Rattle.rt_cover.specs.inside.Places.{tag_place, does_stand_kept}
 use Rattle.rt_cover.specs.laws.Pairs.{AllPairs-first, AllPairs-rest}
@@ -70,6 +71,21 @@ find-there t (k ∷ ks) d e =
           ∙ find-there t ks d (ap (λ q. does_stand_kept (k ∷ ks) q t) (next (tag_place t ks)) ∙ f)
           ∙ ap (λ q. Some (get_or (k ∷ ks) q d)) (next (tag_place t ks))
     ] refl e
+
+any_found : {X : Type 0} (p : X → Bool) (xs : List X) → list_any p xs ≡ is_some (find p xs)
+any_found p [] = refl
+any_found p (x ∷ xs) = elim (p x) as (λ b. (b || list_any p xs) ≡ is_some (cond b (Some x) (find p xs))) [
+  | true ↦ refl
+  | false ↦ any_found p xs
+]
+
+-- so one of them has the tag where it stands at its place
+pub stands_any : (t : ℕ) (ks : List Tagged) → AllPairs (λ (j k : Tagged). j.tag < k.tag) ks → does_stand_kept ks (tag_place t ks) t ≡ list_any (λ (k : Tagged). k.tag == t) ks
+stands_any t ks rise = at (does_stand_kept ks (tag_place t ks) t) refl ∙ sym (any_found (λ (k : Tagged). k.tag == t) ks)
+  where
+    at : (b : Bool) → does_stand_kept ks (tag_place t ks) t ≡ b → does_stand_kept ks (tag_place t ks) t ≡ is_some (find (λ (k : Tagged). k.tag == t) ks)
+    at true e = e ∙ sym (ap is_some (find-there t ks (record { tag = t; form = plain [] }) e))
+    at false e = e ∙ sym (ap is_some (find-not_there t ks rise e))
 
 -- a listen that stands at a place is within the list
 pub stands_within : (t : ℕ) (ks : List Tagged) (p : ℕ) → does_stand_kept ks p t ≡ true → p < length ks

@@ -1,4 +1,5 @@
 pub mod ByPath
 pub mod Endings
+pub mod Index
 pub mod Places
 pub mod Sound

@@ -5,20 +5,21 @@ ghost use Rattle.std.specs.Prelude.{if◌then◌else◌};
 ghost use Rattle.std.specs.List.{All, enumerate_from};
 ghost use Rattle.std.specs.Option.{option_copied, option_map, option_map_or};
 
-use crate::adding::{has_number, insert_listener, keep_over, started_one, supplied_tags};
+use crate::adding::{has_number, insert_listener, started_one};
+use crate::by_path::HasForm;
 use crate::choice::Choice;
 use crate::delta::{Delta, Revoked};
 use crate::ending::{Ending, OfChoice, OfForm, OfNumbers};
 use crate::error::CoverError;
 use crate::forms::forms;
 use crate::kept::KeptList;
-use crate::leaving::{bereft_listeners, keep_instead, lost_listens, retain_left};
-use crate::listen::{self, Listen};
+use crate::leaving::{bereft_listeners, lost_listens, retain_left};
 use crate::listener::{self, Listener, into_form, numbers_of};
+use crate::listens::Listens;
 use crate::numbers::Numbers;
 use crate::plan::Plan;
 use crate::shown::shown;
-use crate::starting;
+use crate::{listen, starting};
 use rt_query::Query;
 use std::alloc::{AllocError, Global};
 use std::marker::Model;
@@ -27,7 +28,7 @@ use std::marker::Model;
 /// together supply every listener. Each kept listen has a tag, which no other listen ever gets.
 pub struct Cover {
     listeners: Vec<Listener>,
-    kept: Vec<Listen>,
+    kept: Listens,
     given: u64,
     last_tag: u64,
 }
@@ -52,14 +53,14 @@ impl Model for Cover {
 
     ghost view = { λ a. record {
       listeners = a.listeners.items;
-      kept = a.kept.items;
+      kept = a.kept;
       next_tag = a.given + 1;
       last_tag = a.last_tag;
     } };
 
     ghost invariant = { λ a. IsSound (record {
       listeners = a.listeners.items;
-      kept = a.kept.items;
+      kept = a.kept;
       next_tag = a.given + 1;
       last_tag = a.last_tag;
     }) };
@@ -88,7 +89,7 @@ impl Cover {
     {
         Cover {
             listeners: Vec::new(alloc),
-            kept: Vec::new(alloc),
+            kept: Listens::new(alloc),
             given: 0,
             last_tag,
         }
@@ -108,7 +109,7 @@ impl Cover {
     {
         let alloc = self.alloc();
         let listeners = listener::copies(alloc, &self.listeners)?;
-        let kept = listen::copies(alloc, &self.kept)?;
+        let kept = self.kept.copy()?;
         Ok(Cover {
             listeners,
             kept,
@@ -134,7 +135,7 @@ impl Cover {
         ensures listens { IfOk result (λ list. list ≡ shown self.now) }
         ensures sound { IsSound self.now }
     {
-        let items = shown(self.alloc(), &self.listeners, &self.kept)?;
+        let items = shown(self.alloc(), &self.listeners, self.kept.as_slice())?;
         Ok(KeptList::of(items))
     }
 
@@ -193,33 +194,35 @@ impl Cover {
         ensures apart { IfOk result (λ v. do_plains_overlap v.items ≡ false) }
         ensures fault { IfErr result (λ e. e ≡ CoverError.NoMemory) }
     {
-        Ok(listen::forms_of(self.alloc(), &self.kept)?)
+        Ok(listen::forms_of(self.alloc(), self.kept.as_slice())?)
     }
 
     /// The form of the kept listen with that tag.
     pub fn form_at(&self, tag: u64) -> Option<&Query>
         ensures { option_copied result ≡ option_map (λ k. k.form) (listen_at self.now tag) }
     {
-        match listen::listen_at(&self.kept, tag) {
-            Some(listen) => Some(&listen.form),
+        match listen::listen_at(self.kept.as_slice(), tag) {
+            Some(listen) => Some(listen.form()),
             None => None,
         }
     }
 
     /// The least tag of a kept listen that supplies the query.
+    ///
+    /// Looks at the listens of the query's path and of the paths above it, found by halving.
     pub fn supplier(&self, query: &Query) -> Option<u64>
         ensures exact { result ≡ supplier self.now query.now }
         ensures least { IfSome result (λ tag. IsLeastSupplier self.now.kept query.now tag) }
         ensures none { IfNone result
             (All (λ k. does_supply k.form query.now ≡ false) self.now.kept) }
     {
-        listen::supplier(&self.kept, query)
+        self.kept.supplier(query)
     }
 
     /// Whether a new listener of the query, of whatever number, would need a tag above the last one,
     /// so that [`Cover::add`] would answer `NoTag`.
     ///
-    /// Takes no memory. Looks at the listens kept only once the last tag is given.
+    /// Takes no memory. Asks for a supplier only once the last tag is given.
     pub fn lacks_tag_to_add(&self, query: &Query) -> bool
         ensures { (listener : ℕ) → is_registered self.now.listeners listener ≡ false
             → result
@@ -237,7 +240,7 @@ impl Cover {
         if self.listeners.len() as u64 <= room {
             return false;
         }
-        starting::exceeds(&self.listeners, &self.kept, ending, room)
+        starting::exceeds(&self.listeners, self.kept.as_slice(), ending, room)
     }
 
     /// Whether the end of these listeners would need a tag above the last one, so that
@@ -276,8 +279,10 @@ impl Cover {
         ensures { result ≡ option_map_or (λ _. lacks_tag self.now (left_after self.now tag))
             (listen_at self.now tag) false }
     {
-        match listen::listen_at(&self.kept, tag) {
-            Some(listen) => self.lacks_tag_to_end(&OfForm { form: &listen.form }),
+        match listen::listen_at(self.kept.as_slice(), tag) {
+            Some(listen) => self.lacks_tag_to_end(&OfForm {
+                form: listen.form(),
+            }),
             None => false,
         }
     }
@@ -299,7 +304,7 @@ impl Cover {
             + length (beginners (E.ended ending.now) self.now.kept self.now.listeners)) }
     {
         let alloc = self.alloc();
-        let lost = lost_listens(alloc, &self.listeners, &self.kept, ending)?;
+        let lost = lost_listens(alloc, &self.listeners, self.kept.as_slice(), ending)?;
         let bereft = bereft_listeners(alloc, &self.listeners, &lost, ending)?;
         // For the prover: no tag is above the last one.
         let _last_tag = self.last_tag;
@@ -326,9 +331,8 @@ impl Cover {
             started,
             given,
         } = self.plan(ending)?;
-        self.kept.reserve(kept.len())?;
+        self.kept.replace(&lost, kept)?;
         retain_left(&mut self.listeners, ending);
-        keep_instead(&mut self.kept, &lost, kept);
         self.given = given;
         Ok(Delta {
             started: KeptList::of(started),
@@ -352,7 +356,9 @@ impl Cover {
         ensures unchanged { OnErr result (self.new ≡ self.old) }
     {
         let alloc = self.alloc();
-        insert_listener(&mut self.listeners, listener, form)?;
+        let registered = Listener::new(alloc, listener, form)?;
+        self.listeners.reserve(1)?;
+        insert_listener(&mut self.listeners, registered);
         Ok(Delta {
             started: KeptList::of(Vec::new(alloc)),
             stopped: Numbers::of(Vec::new(alloc)),
@@ -380,14 +386,11 @@ impl Cover {
         let _last_tag = self.last_tag;
         let tag = self.given + 1;
         let started = started_one(alloc, tag, &form, listener)?;
-        let stopped = supplied_tags(alloc, &self.kept, &form)?;
-        let listen = Listen {
-            tag,
-            form: form.copy()?,
-        };
-        self.kept.reserve(1)?;
-        insert_listener(&mut self.listeners, listener, form)?;
-        keep_over(&mut self.kept, listen);
+        let registered = Listener::new(alloc, listener, form)?;
+        let listen = registered.listen(tag)?;
+        self.listeners.reserve(1)?;
+        let stopped = self.kept.start(listen)?;
+        insert_listener(&mut self.listeners, registered);
         self.given = tag;
         Ok(Delta {
             started: KeptList::of(started),
@@ -416,6 +419,9 @@ impl Cover {
     }
 
     /// Registers a listener, under a number that no registered one has.
+    ///
+    /// Costs by the path, and by the listens that stop: where none does, no other listen is looked at
+    /// but by halving, and the words of those behind it are moved.
     ///
     /// # Errors
     ///
@@ -484,11 +490,11 @@ impl Cover {
             ((e ≡ CoverError.UnknownTag) × (listen_at self.now tag ≡ None))
             ⊎ (e ≡ CoverError.NoMemory)) }
     {
-        let Some(listen) = listen::listen_at(&self.kept, tag) else {
+        let Some(listen) = listen::listen_at(self.kept.as_slice(), tag) else {
             return Err(CoverError::UnknownTag);
         };
-        let ended = numbers_of(self.alloc(), &self.listeners, &listen.form)?;
-        let form = listen.form.copy()?;
+        let ended = numbers_of(self.alloc(), &self.listeners, listen.form())?;
+        let form = listen.form().copy()?;
         Ok((form, ended))
     }
 

@@ -4,6 +4,7 @@ ghost use Rattle.std.specs.List.{list_any};
 ghost use Rattle.rt_query.specs.QueryEq.{query_eq};
 ghost use Rattle.rt_cover.specs.Cover.{Registered};
 
+use crate::by_path::HasForm;
 use crate::choice::Choice;
 use crate::listener::Listener;
 use rt_query::Query;
@@ -27,7 +28,7 @@ impl Ending for OfNumbers<'_> {
     ghost ended = { λ a l. list_any (λ n. n == l.0) a.numbers.now };
 
     fn ends(&self, listener: &Listener) -> bool {
-        self.numbers.contains(&listener.number)
+        self.numbers.contains(&listener.number())
     }
 }
 
@@ -41,7 +42,7 @@ impl Ending for OfForm<'_> {
     ghost ended = { λ a l. query_eq l.1 a.form.now };
 
     fn ends(&self, listener: &Listener) -> bool {
-        listener.form == *self.form
+        listener.form() == self.form
     }
 }
 
@@ -55,6 +56,6 @@ impl<C: Choice> Ending for OfChoice<'_, C> {
     ghost ended = { λ a l. C.chosen a.choice.now l.0 };
 
     fn ends(&self, listener: &Listener) -> bool {
-        self.choice.has(listener.number)
+        self.choice.has(listener.number())
     }
 }

@@ -3,7 +3,7 @@ ghost use Rattle.std.specs.Prelude.{◌≡◌, ◌<◌, IfOk};
 ghost use Rattle.std.specs.List.{AllPairs};
 ghost use Rattle.rt_cover.specs.Cover.{forms};
 
-use crate::by_path::{by_path, is_seen};
+use crate::by_path::{HasForm, by_path, is_seen};
 use crate::listener::Listener;
 use rt_query::Query;
 use std::alloc::{AllocError, Global};
@@ -17,7 +17,7 @@ pub(crate) fn forms(alloc: Global, listeners: &[Listener]) -> Result<Vec<Query>,
     let mut forms = Vec::new(alloc);
     for listener in listeners {
         if !is_seen(&by_path, listener) {
-            forms.push(listener.form.copy()?)?;
+            forms.push(listener.form().copy()?)?;
         }
     }
     Ok(forms)

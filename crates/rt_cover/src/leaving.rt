@@ -1,10 +1,11 @@
 // What the end of some listeners does to the lists.
-ghost use Rattle.std.specs.Prelude.{◌≡◌, ◌+◌, ◌≤◌, ◌++◌, ◌==◌, ◌&&◌, not, IfOk, vec_len, vec_capacity};
+ghost use Rattle.std.specs.Prelude.{◌≡◌, ◌&&◌, not, IfOk};
 ghost use Rattle.std.specs.List.{filter, list_any};
 ghost use Rattle.rt_query.specs.QueryEq.{query_eq};
 ghost use Rattle.rt_query.specs.Supply.{does_supply};
 ghost use Rattle.rt_cover.specs.inside.Endings.{left, is_left_form, bereft};
 
+use crate::by_path::HasForm;
 use crate::ending::Ending;
 use crate::listen::Listen;
 use crate::listener::Listener;
@@ -33,14 +34,14 @@ fn ended_listeners<E: Ending>(
 fn have_form(listeners: &[Listener], form: &Query) -> bool
     ensures { result ≡ list_any (λ l. query_eq l.1 form.now) listeners.now }
 {
-    listeners.iter().any(|listener| listener.form == *form)
+    listeners.iter().any(|listener| listener.form() == form)
 }
 
 // Whether a listener that is left has the form.
 fn is_left_form<E: Ending>(listeners: &[Listener], ending: &E, form: &Query) -> bool
     ensures { result ≡ is_left_form (E.ended ending.now) listeners.now form.now }
 {
-    listeners.iter().any(|listener| listener.form == *form && !ending.ends(listener))
+    listeners.iter().any(|listener| listener.form() == form && !ending.ends(listener))
 }
 
 // Whether a listener of the listen's form ended, and none is left.
@@ -53,7 +54,7 @@ fn is_lost<E: Ending>(
     ensures { result ≡ (list_any (λ l. query_eq l.1 listen.now.form) ended.now
         && not (is_left_form (E.ended ending.now) listeners.now listen.now.form)) }
 {
-    have_form(ended, &listen.form) && !is_left_form(listeners, ending, &listen.form)
+    have_form(ended, listen.form()) && !is_left_form(listeners, ending, listen.form())
 }
 
 // The kept listens of which a listener ended, and none is left.
@@ -97,7 +98,7 @@ pub(crate) fn lost_listens<E: Ending>(
 fn do_supply(listens: &[Listen], form: &Query) -> bool
     ensures { result ≡ list_any (λ k. does_supply k.form form.now) listens.now }
 {
-    listens.iter().any(|listen| supplies(&listen.form, form))
+    listens.iter().any(|listen| supplies(listen.form(), form))
 }
 
 // Whether the listener is left, and one of the lost listens supplied it.
@@ -105,7 +106,7 @@ fn is_bereft<E: Ending>(lost: &[Listen], ending: &E, listener: &Listener) -> boo
     ensures { result ≡ (list_any (λ k. does_supply k.form listener.now.1) lost.now
         && not (E.ended ending.now listener.now)) }
 {
-    do_supply(lost, &listener.form) && !ending.ends(listener)
+    do_supply(lost, listener.form()) && !ending.ends(listener)
 }
 
 // The listeners that are left, and that one of the lost listens supplied.
@@ -131,22 +132,4 @@ pub(crate) fn retain_left<E: Ending>(listeners: &mut Vec<Listener>, ending: &E)
     ensures { listeners.new.items ≡ left (E.ended ending.now) listeners.old.items }
 {
     listeners.retain(|listener| !ending.ends(listener));
-}
-
-// Whether one of the listens has the tag.
-fn have_tag(listens: &[Listen], tag: u64) -> bool
-    ensures { result ≡ list_any (λ j. j.tag == tag) listens.now }
-{
-    listens.iter().any(|listen| listen.tag == tag)
-}
-
-// Keeps the new listens in place of those that are lost; there is room for them.
-pub(crate) fn keep_instead(kept: &mut Vec<Listen>, lost: &[Listen], mut new: Vec<Listen>)
-    requires room { vec_len kept.old + vec_len new ≤ vec_capacity kept.old }
-    ensures { kept.new.items
-        ≡ filter (λ k. not (list_any (λ j. j.tag == k.tag) lost.now)) kept.old.items
-        ++ new.items }
-{
-    kept.retain(|listen| !have_tag(lost, listen.tag));
-    let _in_reserved_room = kept.append(&mut new);
 }

@@ -25,6 +25,7 @@ mod laws;
 mod leaving;
 mod listen;
 mod listener;
+mod listens;
 mod numbers;
 mod plan;
 mod shown;

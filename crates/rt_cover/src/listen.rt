@@ -1,20 +1,20 @@
 // Kept listens.
 ghost use Rattle.std.specs.Prelude.{◌≡◌, ◌<◌, ◌≤◌, ◌==◌, map, length, IfOk};
-ghost use Rattle.std.specs.List.{find, AllPairs};
-ghost use Rattle.std.specs.Option.{option_copied, option_map};
-ghost use Rattle.rt_query.specs.Supply.{does_supply};
+ghost use Rattle.std.specs.List.{find, list_any, AllPairs};
+ghost use Rattle.std.specs.Option.{option_copied};
 ghost use Rattle.rt_cover.specs.Cover.{is_kept};
 ghost use Rattle.rt_cover.specs.inside.Places.{tag_place, does_stand_kept};
 
-use crate::supply::supplies;
+use crate::by_path::HasForm;
 use rt_query::Query;
 use std::alloc::{AllocError, Global};
 use std::marker::Model;
+use std::sync::Arc;
 
-// A kept form and its tag.
+// A kept form, which copies of the listen share, and its tag.
 pub(crate) struct Listen {
-    pub(crate) tag: u64,
-    pub(crate) form: Query,
+    tag: u64,
+    form: Arc<Query>,
 }
 
 impl Drop for Listen {
@@ -28,15 +28,37 @@ impl Model for Listen {
 
     ghost Value = { Tagged };
 
-    ghost view = { λ a. record { tag = a.tag; form = a.form } };
+    ghost view = { λ a. record { tag = a.tag; form = a.form.value } };
+}
+
+impl HasForm for Listen {
+    ghost form_of = { λ k. k.form };
+
+    fn form(&self) -> &Query {
+        &self.form
+    }
 }
 
 impl Listen {
-    // An equal listen.
+    // A listen of the form.
+    pub(crate) fn of(tag: u64, form: Arc<Query>) -> Listen
+        ensures { result ≡ record { tag = tag; form = form.value } }
+    {
+        Listen { tag, form }
+    }
+
+    // Its tag.
+    pub(crate) fn tag(&self) -> u64
+        ensures { result ≡ self.now.tag }
+    {
+        self.tag
+    }
+
+    // An equal listen, which shares the form.
     pub(crate) fn copy(&self) -> Result<Listen, AllocError>
         ensures { IfOk result (λ listen. listen ≡ self.now) }
     {
-        let form = self.form.copy()?;
+        let form = Arc::try_clone(&self.form)?;
         Ok(Listen {
             tag: self.tag,
             form,
@@ -48,7 +70,7 @@ impl Listen {
 pub(crate) fn is_kept(kept: &[Listen], form: &Query) -> bool
     ensures { result ≡ is_kept kept.now form.now }
 {
-    kept.iter().any(|listen| listen.form == *form)
+    kept.iter().any(|listen| listen.form() == form)
 }
 
 // Equal listens.
@@ -68,7 +90,7 @@ pub(crate) fn forms_of(alloc: Global, kept: &[Listen]) -> Result<Vec<Query>, All
 {
     let mut forms = Vec::with_capacity(alloc, kept.len())?;
     for listen in kept {
-        forms.push(listen.form.copy()?)?;
+        forms.push(listen.form().copy()?)?;
     }
     Ok(forms)
 }
@@ -79,7 +101,7 @@ pub(crate) fn tags_of(alloc: Global, kept: &[Listen]) -> Result<Vec<u64>, AllocE
 {
     let mut tags = Vec::with_capacity(alloc, kept.len())?;
     for listen in kept {
-        tags.push(listen.tag)?;
+        tags.push(listen.tag())?;
     }
     Ok(tags)
 }
@@ -90,7 +112,7 @@ fn place_of(kept: &[Listen], tag: u64) -> usize
     ensures first { result ≡ tag_place tag kept.now }
     ensures within { result ≤ length kept.now }
 {
-    kept.partition_point(|other| other.tag < tag)
+    kept.partition_point(|other| other.tag() < tag)
 }
 
 // Whether the listen with that tag stands at the place.
@@ -98,9 +120,17 @@ fn stands_at(kept: &[Listen], place: usize, tag: u64) -> bool
     ensures { result ≡ does_stand_kept kept.now place tag }
 {
     match kept.get(place) {
-        Some(listen) => listen.tag == tag,
+        Some(listen) => listen.tag() == tag,
         None => false,
     }
+}
+
+// Whether one of them has the tag, by halving.
+pub(crate) fn have_tag(kept: &[Listen], tag: u64) -> bool
+    requires { AllPairs (λ j k. j.tag < k.tag) kept.now }
+    ensures { result ≡ list_any (λ k. k.tag == tag) kept.now }
+{
+    stands_at(kept, place_of(kept, tag), tag)
 }
 
 // The listen with that tag, by halving.
@@ -113,16 +143,4 @@ pub(crate) fn listen_at<'a>(kept: &'a [Listen], tag: u64) -> Option<&'a Listen>
         return None;
     }
     Some(&kept[place])
-}
-
-// The tag of the first listen that supplies the query.
-pub(crate) fn supplier(kept: &[Listen], query: &Query) -> Option<u64>
-    ensures { result ≡ option_map (λ k. k.tag) (find (λ k. does_supply k.form query.now) kept.now) }
-{
-    for listen in kept {
-        if supplies(&listen.form, query) {
-            return Some(listen.tag);
-        }
-    }
-    None
 }

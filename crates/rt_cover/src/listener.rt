@@ -4,14 +4,17 @@ ghost use Rattle.rt_query.specs.Supply.{form};
 ghost use Rattle.rt_cover.specs.Cover.{first_listener};
 ghost use Rattle.rt_cover.specs.State.{numbers_of};
 
+use crate::by_path::HasForm;
+use crate::listen::Listen;
 use rt_query::Query;
 use std::alloc::{AllocError, Global};
 use std::marker::Model;
+use std::sync::Arc;
 
-// A registered listener, with the form that is listened to for it.
+// A registered listener, with the form that is listened to for it, which copies share.
 pub(crate) struct Listener {
-    pub(crate) number: u64,
-    pub(crate) form: Query,
+    number: u64,
+    form: Arc<Query>,
 }
 
 impl Drop for Listener {
@@ -25,19 +28,50 @@ impl Model for Listener {
 
     ghost Value = { Registered };
 
-    ghost view = { λ a. (a.number, a.form) };
+    ghost view = { λ a. (a.number, a.form.value) };
 }
 
 impl Listener {
-    // An equal listener.
+    // A listener with a form.
+    pub(crate) fn new(alloc: Global, number: u64, form: Query) -> Result<Listener, AllocError>
+        ensures { IfOk result (λ listener. listener ≡ (number, form)) }
+    {
+        let form = Arc::new(alloc, form)?;
+        Ok(Listener { number, form })
+    }
+
+    // Its number.
+    pub(crate) fn number(&self) -> u64
+        ensures { result ≡ self.now.0 }
+    {
+        self.number
+    }
+
+    // A listen of its form, which it shares.
+    pub(crate) fn listen(&self, tag: u64) -> Result<Listen, AllocError>
+        ensures { IfOk result (λ listen. listen ≡ record { tag = tag; form = self.now.1 }) }
+    {
+        let form = Arc::try_clone(&self.form)?;
+        Ok(Listen::of(tag, form))
+    }
+
+    // An equal listener, which shares the form.
     pub(crate) fn copy(&self) -> Result<Listener, AllocError>
         ensures { IfOk result (λ listener. listener ≡ self.now) }
     {
-        let form = self.form.copy()?;
+        let form = Arc::try_clone(&self.form)?;
         Ok(Listener {
             number: self.number,
             form,
         })
+    }
+}
+
+impl HasForm for Listener {
+    ghost form_of = { λ l. l.1 };
+
+    fn form(&self) -> &Query {
+        &self.form
     }
 }
 
@@ -68,8 +102,8 @@ pub(crate) fn first_listener(listeners: &[Listener], form: &Query) -> u64
     ensures { result ≡ first_listener listeners.now form.now }
 {
     for listener in listeners {
-        if listener.form == *form {
-            return listener.number;
+        if listener.form() == form {
+            return listener.number();
         }
     }
     0
@@ -85,8 +119,8 @@ pub(crate) fn numbers_of(
 {
     let mut numbers = Vec::new(alloc);
     for listener in listeners {
-        if listener.form == *form {
-            numbers.push(listener.number)?;
+        if listener.form() == form {
+            numbers.push(listener.number())?;
         }
     }
     Ok(numbers)

@@ -4,11 +4,10 @@ ghost use Rattle.std.specs.List.{enumerate_from, All};
 ghost use Rattle.rt_query.specs.Supply.{form};
 ghost use Rattle.rt_cover.specs.inside.Endings.{first_among, tagged_of, told_of};
 
-use crate::by_path::{by_path, is_behind};
+use crate::by_path::{HasForm, by_path, is_behind};
 use crate::kept::Kept;
 use crate::listen::{Listen, tags_of};
 use crate::listener::Listener;
-use rt_query::Query;
 use std::alloc::{AllocError, Global};
 
 // The kept listens that are lost and their tags, the listens that start and what is told of them, and
@@ -41,26 +40,30 @@ impl Plan {
         })
     }
 
-    // Starts a listen of the form, under the next tag.
-    fn start(&mut self, form: &Query, listener: u64) -> Result<(), AllocError>
+    // Starts a listen for the listener, under the next tag.
+    fn start(&mut self, listener: &Listener) -> Result<(), AllocError>
         requires { self.old.given + 1 < 2 ^ 64 }
         ensures kept { OnOk result (self.new.kept.items ≡ self.old.kept.items
-            ++ record { tag = self.old.given + 1; form = form.now } ∷ []) }
+            ++ record { tag = self.old.given + 1; form = listener.now.1 } ∷ []) }
         ensures started { OnOk result (self.new.started.items ≡ self.old.started.items
-            ++ record { tag = self.old.given + 1; query = form.now; listener = listener } ∷ []) }
+            ++ record {
+              tag = self.old.given + 1;
+              query = listener.now.1;
+              listener = listener.now.0;
+            } ∷ []) }
         ensures given { OnOk result (self.new.given ≡ self.old.given + 1) }
         ensures stopped { OnOk result (self.new.stopped.items ≡ self.old.stopped.items) }
         ensures lost { OnOk result (self.new.lost.items ≡ self.old.lost.items) }
     {
         let tag = self.given + 1;
-        let query = form.copy()?;
-        let form = form.copy()?;
+        let query = listener.form().copy()?;
+        let listen = listener.listen(tag)?;
         self.started.push(Kept {
             tag,
             query,
-            listener,
+            listener: listener.number(),
         })?;
-        self.kept.push(Listen { tag, form })?;
+        self.kept.push(listen)?;
         self.given = tag;
         Ok(())
     }
@@ -83,7 +86,7 @@ impl Plan {
         let by_path = by_path(*self.kept.allocator(), listeners)?;
         for listener in listeners {
             if !is_behind(&by_path, listener) {
-                self.start(&listener.form, listener.number)?;
+                self.start(listener)?;
             }
         }
         Ok(())

@@ -2,7 +2,7 @@
 ghost use Rattle.std.specs.Prelude.{◌≡◌, map, IfOk};
 ghost use Rattle.rt_cover.specs.State.{shown_with};
 
-use crate::by_path::{by_path, first_at};
+use crate::by_path::{HasForm, by_path, first_at};
 use crate::kept::Kept;
 use crate::listen::Listen;
 use crate::listener::Listener;
@@ -19,10 +19,11 @@ pub(crate) fn shown(
     let by_path = by_path(alloc, listeners)?;
     let mut items = Vec::with_capacity(alloc, kept.len())?;
     for listen in kept {
-        let query = listen.form.copy()?;
-        let listener = first_at(&by_path, &listen.form);
+        let form = listen.form();
+        let query = form.copy()?;
+        let listener = first_at(&by_path, form);
         items.push(Kept {
-            tag: listen.tag,
+            tag: listen.tag(),
             query,
             listener,
         })?;

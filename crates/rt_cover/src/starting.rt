@@ -3,6 +3,7 @@ ghost use Rattle.std.specs.Prelude.{◌≡◌, nat_lt};
 ghost use Rattle.std.specs.List.{count_by};
 ghost use Rattle.rt_cover.specs.inside.Endings.{comes_before, is_replaced, starts};
 
+use crate::by_path::HasForm;
 use crate::ending::Ending;
 use crate::listen::{Listen, is_kept};
 use crate::listener::Listener;
@@ -13,10 +14,10 @@ use crate::supply::supplies;
 pub(crate) fn comes_before(other: &Listener, listener: &Listener) -> bool
     ensures { result ≡ comes_before other.now listener.now }
 {
-    if other.form == listener.form {
-        other.number < listener.number
+    if other.form() == listener.form() {
+        other.number() < listener.number()
     } else {
-        supplies(&other.form, &listener.form)
+        supplies(other.form(), listener.form())
     }
 }
 
@@ -38,7 +39,7 @@ fn starts<E: Ending>(
     ensures { result ≡ starts (E.ended ending.now) kept.now listeners.now listener.now }
 {
     !ending.ends(listener)
-        && !is_kept(kept, &listener.form)
+        && !is_kept(kept, listener.form())
         && !is_replaced(listeners, ending, listener)
 }
 

@@ -26,5 +26,5 @@ returns-else-is_seen c =
     let l : Registered = c.args.listener.now in
     let by : Bool = list_any (λ (m : Registered). not (query_eq m.1 l.1) && does_supply m.1 l.1) c.args.by_path.now in
     c.is_supplied.ensures
-    ∙ (λ i. list_any (λ (m : Registered). not (query_eq m.1 (c.listener.view_is i).1) && does_supply m.1 (c.listener.view_is i).1) c.args.by_path.now)
+    ∙ (λ i. list_any (λ (m : Registered). not (query_eq m.1 (c.form.ensures i)) && does_supply m.1 (c.form.ensures i)) c.args.by_path.now)
     ∙ sym (before_either c.args.by_path.now l ∙ ap (λ b. by || b) (sym c.is_seen.ensures ∙ c.if-is_seen.false) ∙ or_no by)

@@ -1,6 +1,7 @@
 use Rattle.std.proofs.Common.{◌≡◌, ◌&&◌, ◌||◌, length, sym, ap, ◌∙◌}
 use Rattle.std.specs.List.{list_any}
 use Rattle.rt_query.specs.Queries.{Query, is_filtered}
+use Rattle.rt_cover.specs.Cover.{Registered}
 use Rattle.rt_cover.proofs.ByPathLaws.{is_plain_above, is_plain_at, supplied_by_paths}
 use Rattle.rt_cover.proofs.by_path.is_supplied.Goals as goal
 
@@ -11,18 +12,18 @@ returns-then-has_plain_above c =
     let is : c.keys-path.result.now ≡ f.path = c.keys-path.ensures.keys ∙ c.path.ensures in
     c.if-has_plain_above.true
     ∙ sym (supplied_by_paths f ls c.requires.forms c.requires.own
-    ∙ ap (λ b. b || (is_filtered f && list_any (is_plain_at f.path) ls))
-    (ap (λ p. list_any (is_plain_above p (length p)) ls) (sym is) ∙ sym c.has_plain_above.ensures ∙ c.if-has_plain_above.true))
+    ∙ ap (λ b. b || (is_filtered f && list_any (is_plain_at (λ (x : Registered). x.1) f.path) ls))
+    (ap (λ p. list_any (is_plain_above (λ (x : Registered). x.1) p (length p)) ls) (sym is) ∙ sym c.has_plain_above.ensures ∙ c.if-has_plain_above.true))
 
 pub returns-then-is_filtered : goal.returns-then-is_filtered
 returns-then-is_filtered c =
     let f : Query = c.args.query.now in
     let ls = c.args.by_path.now in
     let is : c.keys-path.result.now ≡ f.path = c.keys-path.ensures.keys ∙ c.path.ensures in
-    c.has_plain.ensures ∙ ap (λ p. list_any (is_plain_at p) ls) is
+    c.has_plain.ensures ∙ ap (λ p. list_any (is_plain_at (λ (x : Registered). x.1) p) ls) is
     ∙ sym (supplied_by_paths f ls c.requires.forms c.requires.own
-    ∙ (λ i. (ap (λ p. list_any (is_plain_above p (length p)) ls) (sym is) ∙ sym c.has_plain_above.ensures ∙ c.if-has_plain_above.false) i
-    || ((sym c.is_filtered.ensures ∙ c.if-is_filtered.true) i && list_any (is_plain_at f.path) ls)))
+    ∙ (λ i. (ap (λ p. list_any (is_plain_above (λ (x : Registered). x.1) p (length p)) ls) (sym is) ∙ sym c.has_plain_above.ensures ∙ c.if-has_plain_above.false) i
+    || ((sym c.is_filtered.ensures ∙ c.if-is_filtered.true) i && list_any (is_plain_at (λ (x : Registered). x.1) f.path) ls)))
 
 pub returns-else-is_filtered : goal.returns-else-is_filtered
 returns-else-is_filtered c =
@@ -31,5 +32,5 @@ returns-else-is_filtered c =
     let is : c.keys-path.result.now ≡ f.path = c.keys-path.ensures.keys ∙ c.path.ensures in
     c.if-is_filtered.false
     ∙ sym (supplied_by_paths f ls c.requires.forms c.requires.own
-    ∙ (λ i. (ap (λ p. list_any (is_plain_above p (length p)) ls) (sym is) ∙ sym c.has_plain_above.ensures ∙ c.if-has_plain_above.false) i
-    || ((sym c.is_filtered.ensures ∙ c.if-is_filtered.false) i && list_any (is_plain_at f.path) ls)))
+    ∙ (λ i. (ap (λ p. list_any (is_plain_above (λ (x : Registered). x.1) p (length p)) ls) (sym is) ∙ sym c.has_plain_above.ensures ∙ c.if-has_plain_above.false) i
+    || ((sym c.is_filtered.ensures ∙ c.if-is_filtered.false) i && list_any (is_plain_at (λ (x : Registered). x.1) f.path) ls)))

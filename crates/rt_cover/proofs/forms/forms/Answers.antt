@@ -20,7 +20,7 @@ loop-listener-preserved c =
       | then-not-is_seen+in_ok-copy+in_ok-push w ↦
           formed_takes (λ x. not (is_seen ls x)) c.loop-listener.forms.items _ _ ls c.loop-listener.listener-index l c.loop-listener-test.true c.listener-item.is
           (ap not (seen ∙ w.if-not-is_seen.true))
-          ((λ i. (w.forms-is i).items) ∙ w.in_ok-push.ensures.items ∙ (λ i. c.loop-listener.forms.items ++ (w.in_ok-copy.ensures ∙ (λ j. (c.listener.view_is j).1)) i ∷ [])) c.loop-listener.invariant
+          ((λ i. (w.forms-is i).items) ∙ w.in_ok-push.ensures.items ∙ (λ i. c.loop-listener.forms.items ++ (w.in_ok-copy.ensures ∙ w.form.ensures) i ∷ [])) c.loop-listener.invariant
       | else-not-is_seen w ↦
           formed_leaves (λ x. not (is_seen ls x)) c.loop-listener.forms.items _ _ ls c.loop-listener.listener-index l c.loop-listener-test.true c.listener-item.is
           (ap not (seen ∙ w.if-not-is_seen.false)) (λ i. (w.forms-is i).items) c.loop-listener.invariant

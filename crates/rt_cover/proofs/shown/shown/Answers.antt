@@ -8,8 +8,8 @@ loop-listen-preserved c =
     shown_more c.args.listeners.now c.in_ok-by_path.by_path.items c.in_ok-by_path.ensures c.loop-listen.items.items _ _ c.args.kept.now c.loop-listen.listen-index c.listen-item.result
     c.loop-listen-test.true c.listen-item.is
     (c.in_ok-push.ensures.items ∙ (λ j. c.loop-listen.items.items ++ record {
-      tag = (c.listen.view_is j).tag;
-      query = (c.in_ok-query.ensures ∙ (λ t. (c.listen.view_is t).form)) j;
-      listener = (c.first_at-listener.ensures ∙ (λ t. first_listener (c.deref.ensures.value t) (c.listen.view_is t).form)) j;
+      tag = c.tag.ensures j;
+      query = (c.in_ok-query.ensures ∙ c.form-form.ensures) j;
+      listener = (c.first_at-listener.ensures ∙ (λ t. first_listener (c.deref.ensures.value t) (c.form-form.ensures t))) j;
     } ∷ []))
     c.loop-listen.invariant

@@ -1,10 +1,11 @@
-use Rattle.std.proofs.Common.{◌≡◌, ◌+◌, ◌≤◌, ◌∷◌, ◌++◌, [], not, map, sym, subst, ◌∙◌, arith}
-use Rattle.std.specs.List.{filter}
+use Rattle.std.proofs.Common.{◌≡◌, ◌+◌, ◌<◌, ◌≤◌, ◌∷◌, ◌++◌, [], not, map, sym, subst, ◌∙◌, arith}
+use Rattle.std.specs.List.{filter, list_any, AllPairs}
 use Rattle.rt_query.specs.Supply.{does_supply}
-use Rattle.rt_cover.specs.Cover.{Tagged}
+use Rattle.rt_cover.specs.Cover.{Registered, Tagged}
 use Rattle.rt_cover.specs.State.{Cover, with_listener, with_listeners, difference}
 use Rattle.rt_cover.specs.Shown.{IsTold}
 use Rattle.rt_cover.specs.inside.Sound.{IsSound}
+use Rattle.rt_cover.proofs.ListenLaws.{supplier_none}
 use Rattle.rt_cover.proofs.NewLaws.{is_started, tag_left, sound_with, told_with}
 use Rattle.rt_cover.proofs.cover.Cover.begin.Goals as goal
 
@@ -19,17 +20,35 @@ overflow_add-tag c =
     let last : c.self.inside.last_tag ≡ old.last_tag = (λ i. (c.self.view_is i).last_tag) in
     omega (arith, left, next, last)
 
+pub start-requires-clause-rise : goal.start-requires-clause-rise
+start-requires-clause-rise c =
+    let sound : IsSound c.args.self.now = subst IsSound c.self.view_is c.self.invariant in
+    subst (λ (z : Cover). AllPairs (λ (j k : Tagged). j.tag < k.tag) z.kept) (sym c.self.view_is) sound.tags
+
+pub start-requires-clause-unsupplied : goal.start-requires-clause-unsupplied
+start-requires-clause-unsupplied c =
+    let old : Cover = c.args.self.now in
+    let f = c.args.form in
+    let form_is : (c.in_ok-listen.listen).form ≡ f = (λ i. (c.in_ok-listen.ensures i).form) ∙ (λ i. (c.in_ok-registered.ensures i).1) in
+    (λ i. list_any (λ (k : Tagged). does_supply k.form (form_is i)) (c.self.view_is i).kept) ∙ supplier_none old f c.requires.unsupplied
+
+pub insert_listener-requires-clause-rise : goal.insert_listener-requires-clause-rise
+insert_listener-requires-clause-rise c =
+    let sound : IsSound c.args.self.now = subst IsSound c.self.view_is c.self.invariant in
+    subst (AllPairs (λ (l m : Registered). l.0 < m.0)) (sym (c.reserve.ensures.items ∙ (λ i. (c.self.view_is i).listeners))) sound.listeners
+
 pub invariant_of-self-2 : goal.invariant_of-self-2
 invariant_of-self-2 c =
     let old : Cover = c.args.self.now in
     let sound : IsSound old = subst IsSound c.self.view_is c.self.invariant in
     let n = c.args.listener in
     let f = c.args.form in
-    let copy : c.in_ok-copy.field-0 ≡ f = c.in_ok-copy.ensures in
-    let lists : c.insert_listener.new.listeners.items ≡ with_listener old.listeners n f = c.in_ok-insert_listener.ensures.ok ∙ (λ i. with_listener (c.self.view_is i).listeners n f) in
-    let kept : c.keep_over.new.kept.items ≡ filter (λ (k : Tagged). not (does_supply f k.form)) old.kept ++ record { tag = old.next_tag; form = f } ∷ [] =
-    c.keep_over.ensures ∙ (λ i. filter (λ (k : Tagged). not (does_supply (copy i) k.form)) ((c.reserve.ensures.items ∙ (λ j. (c.self.view_is j).kept)) i) ++ record { tag = (c.self.view_is i).next_tag; form = copy i } ∷ []) in
-    let new : record { listeners = c.insert_listener.new.listeners.items; kept = c.keep_over.new.kept.items; next_tag = c.self.inside.given + 1 + 1; last_tag = c.self.inside.last_tag } ≡ with_listeners old (with_listener old.listeners n f) =
+    let form_is : (c.in_ok-listen.listen).form ≡ f = (λ i. (c.in_ok-listen.ensures i).form) ∙ (λ i. (c.in_ok-registered.ensures i).1) in
+    let tag_is : (c.in_ok-listen.listen).tag ≡ old.next_tag = (λ i. (c.in_ok-listen.ensures i).tag) ∙ (λ i. (c.self.view_is i).next_tag) in
+    let lists : c.insert_listener.new.listeners.items ≡ with_listener old.listeners n f = c.insert_listener.ensures ∙ (λ i. with_listener ((c.reserve.ensures.items ∙ (λ j. (c.self.view_is j).listeners)) i) (c.in_ok-registered.ensures i).0 (c.in_ok-registered.ensures i).1) in
+    let kept : c.start.new.self ≡ filter (λ (k : Tagged). not (does_supply f k.form)) old.kept ++ record { tag = old.next_tag; form = f } ∷ [] =
+    c.in_ok-stopped.ensures.kept ∙ (λ i. filter (λ (k : Tagged). not (does_supply (form_is i) k.form)) (c.self.view_is i).kept ++ record { tag = tag_is i; form = form_is i } ∷ []) in
+    let new : record { listeners = c.insert_listener.new.listeners.items; kept = c.start.new.self; next_tag = c.self.inside.given + 1 + 1; last_tag = c.self.inside.last_tag } ≡ with_listeners old (with_listener old.listeners n f) =
     (λ i. record { listeners = lists i; kept = kept i; next_tag = (c.self.view_is i).next_tag + 1; last_tag = (c.self.view_is i).last_tag })
     ∙ sym (is_started old sound n f c.requires.own c.requires.free c.requires.unsupplied).cover in
     subst IsSound (sym new) (sound_with old sound n f c.requires.own c.requires.room)
@@ -40,10 +59,11 @@ returns-clause-cover c =
     let sound : IsSound old = subst IsSound c.self.view_is c.self.invariant in
     let n = c.args.listener in
     let f = c.args.form in
-    let copy : c.in_ok-copy.field-0 ≡ f = c.in_ok-copy.ensures in
-    let lists : c.insert_listener.new.listeners.items ≡ with_listener old.listeners n f = c.in_ok-insert_listener.ensures.ok ∙ (λ i. with_listener (c.self.view_is i).listeners n f) in
-    let kept : c.keep_over.new.kept.items ≡ filter (λ (k : Tagged). not (does_supply f k.form)) old.kept ++ record { tag = old.next_tag; form = f } ∷ [] =
-    c.keep_over.ensures ∙ (λ i. filter (λ (k : Tagged). not (does_supply (copy i) k.form)) ((c.reserve.ensures.items ∙ (λ j. (c.self.view_is j).kept)) i) ++ record { tag = (c.self.view_is i).next_tag; form = copy i } ∷ []) in
+    let form_is : (c.in_ok-listen.listen).form ≡ f = (λ i. (c.in_ok-listen.ensures i).form) ∙ (λ i. (c.in_ok-registered.ensures i).1) in
+    let tag_is : (c.in_ok-listen.listen).tag ≡ old.next_tag = (λ i. (c.in_ok-listen.ensures i).tag) ∙ (λ i. (c.self.view_is i).next_tag) in
+    let lists : c.insert_listener.new.listeners.items ≡ with_listener old.listeners n f = c.insert_listener.ensures ∙ (λ i. with_listener ((c.reserve.ensures.items ∙ (λ j. (c.self.view_is j).listeners)) i) (c.in_ok-registered.ensures i).0 (c.in_ok-registered.ensures i).1) in
+    let kept : c.start.new.self ≡ filter (λ (k : Tagged). not (does_supply f k.form)) old.kept ++ record { tag = old.next_tag; form = f } ∷ [] =
+    c.in_ok-stopped.ensures.kept ∙ (λ i. filter (λ (k : Tagged). not (does_supply (form_is i) k.form)) (c.self.view_is i).kept ++ record { tag = tag_is i; form = form_is i } ∷ []) in
     (λ i. record { listeners = lists i; kept = kept i; next_tag = (c.self.view_is i).next_tag + 1; last_tag = (c.self.view_is i).last_tag })
     ∙ sym (is_started old sound n f c.requires.own c.requires.free c.requires.unsupplied).cover
 
@@ -53,9 +73,10 @@ returns-clause-delta c =
     let sound : IsSound old = subst IsSound c.self.view_is c.self.invariant in
     let n = c.args.listener in
     let f = c.args.form in
+    let form_is : (c.in_ok-listen.listen).form ≡ f = (λ i. (c.in_ok-listen.ensures i).form) ∙ (λ i. (c.in_ok-registered.ensures i).1) in
     (λ i. record {
       started = (c.of.ensures ∙ c.in_ok-started.ensures ∙ (λ j. record { tag = (c.self.view_is j).next_tag; query = f; listener = n } ∷ [])) i;
-      stopped = (c.of-2.ensures ∙ c.in_ok-stopped.ensures ∙ (λ j. map (λ (k : Tagged). k.tag) (filter (λ (k : Tagged). does_supply f k.form) ((c.deref.ensures.value ∙ (λ m. (c.self.view_is m).kept)) j)))) i;
+      stopped = (c.of-2.ensures ∙ c.in_ok-stopped.ensures.stopped ∙ (λ j. map (λ (k : Tagged). k.tag) (filter (λ (k : Tagged). does_supply (form_is j) k.form) (c.self.view_is j).kept))) i;
     })
     ∙ sym (is_started old sound n f c.requires.own c.requires.free c.requires.unsupplied).delta
 
@@ -65,10 +86,11 @@ returns-clause-told c =
     let sound : IsSound old = subst IsSound c.self.view_is c.self.invariant in
     let n = c.args.listener in
     let f = c.args.form in
+    let form_is : (c.in_ok-listen.listen).form ≡ f = (λ i. (c.in_ok-listen.ensures i).form) ∙ (λ i. (c.in_ok-registered.ensures i).1) in
     let same : record { started = c.of.result; stopped = c.of-2.result } ≡ difference old (with_listeners old (with_listener old.listeners n f)) =
     (λ i. record {
       started = (c.of.ensures ∙ c.in_ok-started.ensures ∙ (λ j. record { tag = (c.self.view_is j).next_tag; query = f; listener = n } ∷ [])) i;
-      stopped = (c.of-2.ensures ∙ c.in_ok-stopped.ensures ∙ (λ j. map (λ (k : Tagged). k.tag) (filter (λ (k : Tagged). does_supply f k.form) ((c.deref.ensures.value ∙ (λ m. (c.self.view_is m).kept)) j)))) i;
+      stopped = (c.of-2.ensures ∙ c.in_ok-stopped.ensures.stopped ∙ (λ j. map (λ (k : Tagged). k.tag) (filter (λ (k : Tagged). does_supply (form_is j) k.form) (c.self.view_is j).kept))) i;
     })
     ∙ sym (is_started old sound n f c.requires.own c.requires.free c.requires.unsupplied).delta in
     subst (IsTold old.next_tag) (sym same) (told_with old sound n f)

@@ -1,12 +1,22 @@
-use Rattle.std.proofs.Common.{◌≡◌, ◌+◌, ◌++◌, ◌==◌, not, map, sym, subst, ◌∙◌}
-use Rattle.std.specs.List.{filter, list_any, enumerate_from}
+use Rattle.std.proofs.Common.{◌≡◌, ◌+◌, ◌<◌, ◌++◌, ◌==◌, not, map, sym, subst, ◌∙◌}
+use Rattle.std.specs.List.{filter, list_any, enumerate_from, AllPairs}
+use Rattle.std.proofs.lemmas.List.Kept.{AllPairs-filter}
 use Rattle.rt_cover.specs.Cover.{Tagged}
 use Rattle.rt_cover.specs.State.{Cover, with_listeners, difference}
 use Rattle.rt_cover.specs.Shown.{IsTold}
-use Rattle.rt_cover.specs.inside.Endings.{left, lost, beginners, tagged_of}
+use Rattle.rt_cover.specs.inside.Endings.{left, is_left_form, lost, beginners, tagged_of}
 use Rattle.rt_cover.specs.inside.Sound.{IsSound}
 use Rattle.rt_cover.proofs.EndLaws.{is_ended, sound_without, told_without}
 use Rattle.rt_cover.proofs.cover.Cover.end.Goals as goal
+
+pub replace-requires : goal.replace-requires
+replace-requires g c =
+    let old : Cover = c.args.self.now in
+    let sound : IsSound old = subst IsSound c.self.view_is c.self.invariant in
+    let ends = g.E.Ending.ended c.args.ending.now in
+    let gone : c.deref.result.now ≡ lost ends old.kept old.listeners = c.deref.ensures.value ∙ c.in_ok-lost.ensures.lost in
+    subst (AllPairs (λ (j k : Tagged). j.tag < k.tag)) (sym gone)
+    (AllPairs-filter (λ (j k : Tagged). j.tag < k.tag) (λ (k : Tagged). not (is_left_form ends old.listeners k.form)) old.kept sound.tags)
 
 pub invariant_of-self-2 : goal.invariant_of-self-2
 invariant_of-self-2 g c =
@@ -15,11 +25,11 @@ invariant_of-self-2 g c =
     let ends = g.E.Ending.ended c.args.ending.now in
     let listeners : c.retain_left.new.listeners.items ≡ left ends old.listeners = c.retain_left.ensures ∙ (λ i. left ends (c.self.view_is i).listeners) in
     let gone : c.deref.result.now ≡ lost ends old.kept old.listeners = c.deref.ensures.value ∙ c.in_ok-lost.ensures.lost in
-    let kept : c.keep_instead.new.kept.items
+    let kept : c.replace.new.self
     ≡ filter (λ (k : Tagged). not (list_any (λ (j : Tagged). j.tag == k.tag) (lost ends old.kept old.listeners))) old.kept ++ map tagged_of (enumerate_from old.next_tag (beginners ends old.kept old.listeners)) =
-    c.keep_instead.ensures
-    ∙ (λ i. filter (λ (k : Tagged). not (list_any (λ (j : Tagged). j.tag == k.tag) (gone i))) ((c.reserve.ensures.items ∙ (λ j. (c.self.view_is j).kept)) i) ++ c.in_ok-lost.ensures.kept i) in
-    let new : record { listeners = c.retain_left.new.listeners.items; kept = c.keep_instead.new.kept.items; next_tag = (c.in_ok-lost.field-0).given + 1; last_tag = c.self.inside.last_tag } ≡ with_listeners old (left ends old.listeners) =
+    c.in_ok-replace.ensures.kept
+    ∙ (λ i. filter (λ (k : Tagged). not (list_any (λ (j : Tagged). j.tag == k.tag) (gone i))) (c.self.view_is i).kept ++ c.in_ok-lost.ensures.kept i) in
+    let new : record { listeners = c.retain_left.new.listeners.items; kept = c.replace.new.self; next_tag = (c.in_ok-lost.field-0).given + 1; last_tag = c.self.inside.last_tag } ≡ with_listeners old (left ends old.listeners) =
     (λ i. record { listeners = listeners i; kept = kept i; next_tag = c.in_ok-lost.ensures.given i; last_tag = (c.self.view_is i).last_tag })
     ∙ sym (is_ended old sound ends).cover in
     subst IsSound (sym new) (sound_without old sound ends c.requires.room)
@@ -31,10 +41,10 @@ returns-clause-cover g c =
     let ends = g.E.Ending.ended c.args.ending.now in
     let listeners : c.retain_left.new.listeners.items ≡ left ends old.listeners = c.retain_left.ensures ∙ (λ i. left ends (c.self.view_is i).listeners) in
     let gone : c.deref.result.now ≡ lost ends old.kept old.listeners = c.deref.ensures.value ∙ c.in_ok-lost.ensures.lost in
-    let kept : c.keep_instead.new.kept.items
+    let kept : c.replace.new.self
     ≡ filter (λ (k : Tagged). not (list_any (λ (j : Tagged). j.tag == k.tag) (lost ends old.kept old.listeners))) old.kept ++ map tagged_of (enumerate_from old.next_tag (beginners ends old.kept old.listeners)) =
-    c.keep_instead.ensures
-    ∙ (λ i. filter (λ (k : Tagged). not (list_any (λ (j : Tagged). j.tag == k.tag) (gone i))) ((c.reserve.ensures.items ∙ (λ j. (c.self.view_is j).kept)) i) ++ c.in_ok-lost.ensures.kept i) in
+    c.in_ok-replace.ensures.kept
+    ∙ (λ i. filter (λ (k : Tagged). not (list_any (λ (j : Tagged). j.tag == k.tag) (gone i))) (c.self.view_is i).kept ++ c.in_ok-lost.ensures.kept i) in
     (λ i. record { listeners = listeners i; kept = kept i; next_tag = c.in_ok-lost.ensures.given i; last_tag = (c.self.view_is i).last_tag })
     ∙ sym (is_ended old sound ends).cover
 

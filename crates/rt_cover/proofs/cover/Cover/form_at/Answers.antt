@@ -9,5 +9,5 @@ pub listen_at-requires : goal.listen_at-requires
 listen_at-requires c =
     let old : Cover = c.args.self.now in
     let sound : IsSound old = subst IsSound c.self.view_is c.self.invariant in
-    let ks : c.deref.result.now ≡ old.kept = c.deref.ensures.value ∙ (λ i. (c.self.view_is i).kept) in
+    let ks : c.as_slice.result.now ≡ old.kept = c.as_slice.ensures ∙ (λ i. (c.self.view_is i).kept) in
     subst (AllPairs (λ (j k : Tagged). j.tag < k.tag)) (sym ks) sound.tags

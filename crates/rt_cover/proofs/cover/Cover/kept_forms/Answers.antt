@@ -10,5 +10,5 @@ pub returns-clause-apart : goal.returns-clause-apart
 returns-clause-apart c =
     let old : Cover = c.args.self.now in
     let sound : IsSound old = subst IsSound c.self.view_is c.self.invariant in
-    let e : c.in_ok-forms_of.field-0.items ≡ map (λ (k : Tagged). k.form) old.kept = c.in_ok-forms_of.ensures ∙ (λ i. map (λ (k : Tagged). k.form) ((c.deref.ensures.value ∙ (λ j. (c.self.view_is j).kept)) i)) in
+    let e : c.in_ok-forms_of.field-0.items ≡ map (λ (k : Tagged). k.form) old.kept = c.in_ok-forms_of.ensures ∙ (λ i. map (λ (k : Tagged). k.form) ((c.as_slice.ensures ∙ (λ j. (c.self.view_is j).kept)) i)) in
     subst (λ fs. do_plains_overlap fs ≡ false) (sym e) (sound_apart old sound)

@@ -26,7 +26,7 @@ returns g c =
     let last : c.self.inside.last_tag ≡ old.last_tag = (λ i. (c.self.view_is i).last_tag) in
     let is : (c.self.inside.last_tag - c.self.inside.given) + c.self.inside.given ≡ old.last_tag = omega (arith, next, last, sound.next) in
     let ls : c.deref.result.now ≡ old.listeners = c.deref.ensures.value ∙ (λ i. (c.self.view_is i).listeners) in
-    let kept : c.deref-2.result.now ≡ old.kept = c.deref-2.ensures.value ∙ (λ i. (c.self.view_is i).kept) in
+    let kept : c.as_slice.result.now ≡ old.kept = c.as_slice.ensures ∙ (λ i. (c.self.view_is i).kept) in
     c.exceeds.ensures
     ∙ (λ i. nat_lt (c.self.inside.last_tag - c.self.inside.given) (count_by (starts (g.E.Ending.ended c.args.ending.now) (kept i) (ls i)) (ls i)))
     ∙ lacks_by_room old c.self.inside.given (c.self.inside.last_tag - c.self.inside.given) (g.E.Ending.ended c.args.ending.now) sound next is

@@ -9,13 +9,13 @@ use Rattle.rt_cover.proofs.cover.Cover.lacks_tag_to_revoke.Goals as goal
 pub returns-in-Some : goal.returns-in-Some
 returns-in-Some c =
     let old : Cover = c.args.self.now in
-    let found : listen_at old c.args.tag ≡ Some c.in-Some.listen.now = sym (ap option_copied (sym c.in-Some.is) ∙ c.listen_at.ensures ∙ (λ i. find (λ (k : Tagged). k.tag == c.args.tag) ((c.deref.ensures.value ∙ (λ j. (c.self.view_is j).kept)) i))) in
-    c.lacks_tag_to_end.ensures ∙ (λ i. lacks_tag old (without_form old.listeners (c.listen.view_is i).form))
+    let found : listen_at old c.args.tag ≡ Some c.in-Some.listen.now = sym (ap option_copied (sym c.in-Some.is) ∙ c.listen_at.ensures ∙ (λ i. find (λ (k : Tagged). k.tag == c.args.tag) ((c.as_slice.ensures ∙ (λ j. (c.self.view_is j).kept)) i))) in
+    c.lacks_tag_to_end.ensures ∙ (λ i. lacks_tag old (without_form old.listeners (c.form.ensures i)))
     ∙ sym (λ i. option_map_or (λ (_ : Tagged). lacks_tag old (option_map_or (λ (k : Tagged). without_form old.listeners k.form) (found i) old.listeners)) (found i) false)
 
 pub listen_at-requires : goal.listen_at-requires
 listen_at-requires c =
     let old : Cover = c.args.self.now in
     let sound : IsSound old = subst IsSound c.self.view_is c.self.invariant in
-    let ks : c.deref.result.now ≡ old.kept = c.deref.ensures.value ∙ (λ i. (c.self.view_is i).kept) in
+    let ks : c.as_slice.result.now ≡ old.kept = c.as_slice.ensures ∙ (λ i. (c.self.view_is i).kept) in
     subst (AllPairs (λ (j k : Tagged). j.tag < k.tag)) (sym ks) sound.tags

@@ -8,12 +8,12 @@ use Rattle.rt_cover.proofs.cover.Cover.named.Goals as goal
 
 pub returns-in_default-clause-fault : goal.returns-in_default-clause-fault
 returns-in_default-clause-fault c =
-    let e : listen_at c.args.self.now c.args.tag ≡ None = sym (ap option_copied (sym c.in_default.is) ∙ c.listen_at.ensures ∙ (λ i. find (λ (k : Tagged). k.tag == c.args.tag) ((c.deref.ensures.value ∙ (λ j. (c.self.view_is j).kept)) i))) in
+    let e : listen_at c.args.self.now c.args.tag ≡ None = sym (ap option_copied (sym c.in_default.is) ∙ c.listen_at.ensures ∙ (λ i. find (λ (k : Tagged). k.tag == c.args.tag) ((c.as_slice.ensures ∙ (λ j. (c.self.view_is j).kept)) i))) in
     inl (refl, e)
 
 pub listen_at-requires : goal.listen_at-requires
 listen_at-requires c =
     let old : Cover = c.args.self.now in
     let sound : IsSound old = subst IsSound c.self.view_is c.self.invariant in
-    let ks : c.deref.result.now ≡ old.kept = c.deref.ensures.value ∙ (λ i. (c.self.view_is i).kept) in
+    let ks : c.as_slice.result.now ≡ old.kept = c.as_slice.ensures ∙ (λ i. (c.self.view_is i).kept) in
     subst (AllPairs (λ (j k : Tagged). j.tag < k.tag)) (sym ks) sound.tags

@@ -30,10 +30,10 @@ loop-listener-preserved c =
           let given : c.if-not-is_behind.self.given + 1 ≡ c.loop-listener.self.given + 1 + 1 = (λ j. one j + 1) in
           record {
             listens = more_numbered tagged_of c.loop-listener.self.kept.items _ _ (c.loop-listener.self.given + 1) _ l _ _
-                ((λ j. (w.self-is j).kept.items) ∙ w.in_ok-start.ensures.kept ∙ (λ j. c.loop-listener.self.kept.items ++ record { tag = c.loop-listener.self.given + 1; form = (c.listener.view_is j).1 } ∷ []))
+                ((λ j. (w.self-is j).kept.items) ∙ w.in_ok-start.ensures.kept)
                 given e c.loop-listener.invariant.listens;
             told = more_numbered told_of c.loop-listener.self.started.items _ _ (c.loop-listener.self.given + 1) _ l _ _
-                ((λ j. (w.self-is j).started.items) ∙ w.in_ok-start.ensures.started ∙ (λ j. c.loop-listener.self.started.items ++ record { tag = c.loop-listener.self.given + 1; query = (c.listener.view_is j).1; listener = (c.listener.view_is j).0 } ∷ []))
+                ((λ j. (w.self-is j).started.items) ∙ w.in_ok-start.ensures.started)
                 given e c.loop-listener.invariant.told;
             count = omega (arith, one, ap length e, c.loop-listener.invariant.count);
             others = (λ j. (w.self-is j).stopped.items) ∙ w.in_ok-start.ensures.stopped ∙ c.loop-listener.invariant.others;

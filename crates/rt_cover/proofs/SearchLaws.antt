@@ -1,0 +1,314 @@
+-- Lists that stand by the paths of their forms: those at a path stand together, and so do those at or
+-- under it.
+use Rattle.std.proofs.Common.{◌≡◌, ℕ, zero, suc, ◌+◌, ◌-◌, ◌<◌, ◌≤◌, nat_lt, Bool, true, false, cond, not, List, [], ◌∷◌, ◌++◌, length, take, drop, get_or, refl, sym, ap, subst, ◌∙◌, arith, ltb, ltb-true, ltb-false, None, is_some, append-nil}
+use mathlib.Core.Bool.{true≢false}
+use Rattle.std.specs.Cmp.{IsStrictWeakOrder}
+use Rattle.std.specs.List.{filter, insert, remove_range, All, AllPairs, AllWithin}
+use Rattle.std.specs.List.Sorted.{IsSorted, IsPartitionedBy, IsPartitionPoint, IsNonDecreasingBy}
+use Rattle.std.specs.Prelude.{slice_range}
+use Rattle.std.specs.Ordering.{is_lt, is_le, is_eq, ordering_index, ordering_then, ordering_reverse}
+use Rattle.std.specs.declared.cmp.Ordering.{Ordering}
+use Rattle.std.specs.declared.cmp.Ordering.TheVariants.{Less, Equal, Greater}
+use Rattle.std.proofs.lemmas.List.{get_or-take, get_or-drop, length-take-le, length-drop, take-append-drop}
+use Rattle.std.proofs.lemmas.List.Elements.{filter-append, All-append, All-cons, All-take, All-drop, All-tail}
+use Rattle.std.proofs.lemmas.List.Kept.{AllPairs-cons, AllPairs-filter}
+use Rattle.std.proofs.lemmas.List.Sorted.{searchable_from_sorted, IsPartitionedBy-ltb, IsNonDecreasingBy-drop, ranks_by, sorted_far}
+use Rattle.std.proofs.Math.Seq.{take-length}
+use Rattle.rt_tree.specs.PathTree.{Path, path_cmp, path_eq, paths_total, exact_paths, key_cmp, key_eq, key_eq-is, key_eq-symm, strip}
+use Rattle.rt_tree.specs.Assignments.{is_at_or_above}
+use Rattle.rt_query.specs.Queries.{Query}
+use Rattle.rt_cover.specs.inside.Index.{by_form}
+use Rattle.rt_cover.specs.laws.Pairs.{filter_none, filter_all, AllPairs-first, AllPairs-rest}
+use Rattle.rt_cover.specs.laws.Paths.{is_at_or_above-same}
+
+-- ---- where a path stands
+
+-- by its number an order is told
+before_one : (o : Ordering) → is_lt o ≡ ltb (ordering_index o) 1
+before_one Less = refl
+before_one Equal = refl
+before_one Greater = refl
+
+before_two : (o : Ordering) → is_le o ≡ ltb (ordering_index o) 2
+before_two Less = refl
+before_two Equal = refl
+before_two Greater = refl
+
+never_fall : {X : Type 0} (q : X → Query) (p : Path) (ls : List X) → IsSorted (by_form q) ls → IsNonDecreasingBy (λ (x : X). ordering_index (path_cmp (q x).path p)) ls
+never_fall {X = X} q p ls up = searchable_from_sorted paths_total (λ (x : X). (q x).path) ls p up
+
+pub befores_first : {X : Type 0} (q : X → Query) (p : Path) (ls : List X) → IsSorted (by_form q) ls → IsPartitionedBy (λ (x : X). is_lt (path_cmp (q x).path p)) ls
+befores_first {X = X} q p ls up i j d le lt e = before_one (path_cmp (q (get_or ls i d)).path p)
+    ∙ IsPartitionedBy-ltb (λ (x : X). ordering_index (path_cmp (q x).path p)) ls 1 (never_fall q p ls up) i j d le lt
+    (sym (before_one (path_cmp (q (get_or ls j d)).path p)) ∙ e)
+
+pub not_behind_first : {X : Type 0} (q : X → Query) (p : Path) (ls : List X) → IsNonDecreasingBy (λ (x : X). ordering_index (path_cmp (q x).path p)) ls → IsPartitionedBy (λ (x : X). is_le (path_cmp (q x).path p)) ls
+not_behind_first {X = X} q p ls up i j d le lt e = before_two (path_cmp (q (get_or ls i d)).path p)
+    ∙ IsPartitionedBy-ltb (λ (x : X). ordering_index (path_cmp (q x).path p)) ls 2 up i j d le lt
+    (sym (before_two (path_cmp (q (get_or ls j d)).path p)) ∙ e)
+
+-- ---- those of a path
+
+lt_apart : (o : Ordering) → is_lt o ≡ true → is_eq o ≡ false
+lt_apart Less e = refl
+lt_apart Equal e = absurd (true≢false (sym e))
+lt_apart Greater e = refl
+
+gt_apart : (o : Ordering) → is_le o ≡ false → is_eq o ≡ false
+gt_apart Less e = refl
+gt_apart Equal e = absurd (true≢false e)
+gt_apart Greater e = refl
+
+between : (o : Ordering) → is_lt o ≡ false → is_le o ≡ true → is_eq o ≡ true
+between Less e f = absurd (true≢false e)
+between Equal e f = refl
+between Greater e f = f
+
+-- from the first that is not before, so many that are not behind
+pub run_is : {X : Type 0} (q : X → Query) (p : Path) (ls : List X) (first count : ℕ) → first ≤ length ls → count ≤ length (drop first ls)
+    → IsPartitionPoint (λ (x : X). is_lt (path_cmp (q x).path p) ≡ true) (λ (x : X). is_lt (path_cmp (q x).path p) ≡ false) ls first
+    → IsPartitionPoint (λ (x : X). is_le (path_cmp (q x).path p) ≡ true) (λ (x : X). is_le (path_cmp (q x).path p) ≡ false) (drop first ls) count
+    → take count (drop first ls) ≡ filter (λ (x : X). path_eq (q x).path p) ls
+run_is {X = X} q p ls first count within inside a b =
+    sym (ap (filter here_is) (sym (take-append-drop first ls))
+    ∙ filter-append here_is (take first ls) rest
+    ∙ ap (λ z. z ++ filter here_is rest) (filter_none here_is (take first ls) before)
+    ∙ ap (filter here_is) (sym (take-append-drop count rest))
+    ∙ filter-append here_is (take count rest) (drop count rest)
+    ∙ (λ i. filter_all here_is (take count rest) at i ++ filter_none here_is (drop count rest) behind i)
+    ∙ append-nil (take count rest))
+  where
+    here_is : X → Bool
+    here_is x = path_eq (q x).path p
+
+    rest : List X
+    rest = drop first ls
+
+    before : All (λ (x : X). here_is x ≡ false) (take first ls)
+    before k d lt =
+        let here : k < first = omega (arith, lt, length-take-le first ls within) in
+        ap here_is (get_or-take first ls k d here) ∙ lt_apart (path_cmp (q (get_or ls k d)).path p) (a.0 k d (omega arith) here)
+
+    at : All (λ (x : X). here_is x ≡ true) (take count rest)
+    at k d lt =
+        let here : k < count = omega (arith, lt, length-take-le count rest inside) in
+        let there : first + k < length ls = omega (arith, here, inside, length-drop first ls, within) in
+        let is : get_or (take count rest) k d ≡ get_or rest k d = get_or-take count rest k d here in
+        let was : get_or rest k d ≡ get_or ls (first + k) d = get_or-drop first ls k d in
+        ap here_is is ∙ between (path_cmp (q (get_or rest k d)).path p)
+        (ap (λ (x : X). is_lt (path_cmp (q x).path p)) was ∙ a.1 (first + k) d (omega arith) there)
+        (b.0 k d (omega arith) here)
+
+    behind : All (λ (x : X). here_is x ≡ false) (drop count rest)
+    behind k d lt =
+        let there : count + k < length rest = omega (arith, lt, inside, length-drop count rest) in
+        ap here_is (get_or-drop count rest k d) ∙ gt_apart (path_cmp (q (get_or rest (count + k) d)).path p) (b.1 (count + k) d (omega arith) there)
+
+-- the list behind the first
+pub rest_is : {X : Type 0} (ls : List X) (first : ℕ) → take (length ls - first) (drop first ls) ≡ drop first ls
+rest_is ls first = ap (λ n. take n (drop first ls)) (sym (length-drop first ls)) ∙ take-length (drop first ls)
+
+pub rest_first : {X : Type 0} (q : X → Query) (p : Path) (ls rest : List X) (first : ℕ) → rest ≡ drop first ls → IsSorted (by_form q) ls → IsPartitionedBy (λ (x : X). is_le (path_cmp (q x).path p)) rest
+rest_first {X = X} q p ls rest first is up = not_behind_first q p rest
+    (subst (IsNonDecreasingBy (λ (x : X). ordering_index (path_cmp (q x).path p))) (sym is)
+    (IsNonDecreasingBy-drop (λ (x : X). ordering_index (path_cmp (q x).path p)) first ls (never_fall q p ls up)))
+
+pub run_of_rest : {X : Type 0} (q : X → Query) (p : Path) (ls rest : List X) (first count : ℕ) → rest ≡ drop first ls → first ≤ length ls → count ≤ length rest
+    → IsPartitionPoint (λ (x : X). is_lt (path_cmp (q x).path p) ≡ true) (λ (x : X). is_lt (path_cmp (q x).path p) ≡ false) ls first
+    → IsPartitionPoint (λ (x : X). is_le (path_cmp (q x).path p) ≡ true) (λ (x : X). is_le (path_cmp (q x).path p) ≡ false) rest count
+    → take count rest ≡ filter (λ (x : X). path_eq (q x).path p) ls
+run_of_rest {X = X} q p ls rest first count is within inside a b =
+    ap (take count) is ∙ run_is q p ls first count within (subst (λ z. count ≤ length z) is inside) a
+    (subst (λ z. IsPartitionPoint (λ (x : X). is_le (path_cmp (q x).path p) ≡ true) (λ (x : X). is_le (path_cmp (q x).path p) ≡ false) z count) is b)
+
+-- ---- those at or under a path
+
+less : (o : Ordering) → is_lt o ≡ true → o ≡ Less
+less Less e = refl
+less Equal e = absurd (true≢false (sym e))
+less Greater e = absurd (true≢false (sym e))
+
+not_back : (s r : Path) → is_lt (path_cmp s r) ≡ true → is_lt (path_cmp r s) ≡ false
+not_back s r e = ap is_lt (paths_total.antisymm r s ∙ ap ordering_reverse (less (path_cmp s r) e))
+
+-- what is at or above a path is not behind it
+above_first : (r p : Path) → is_at_or_above r p ≡ true → is_lt (path_cmp p r) ≡ false
+above_first [] [] e = refl
+above_first [] (j ∷ p) e = refl
+above_first (k ∷ r) [] e = absurd (true≢false (sym e))
+above_first (k ∷ r) (j ∷ p) e =
+    elim (key_eq k j) as (λ b. key_eq k j ≡ b → is_some (cond b (strip r p) None) ≡ true → is_lt (path_cmp (j ∷ p) (k ∷ r)) ≡ false) [
+      | true ↦ λ t f. elim (key_cmp j k) as (λ o. is_eq o ≡ true → is_lt (ordering_then o (path_cmp p r)) ≡ false) [
+        | Less ↦ λ x. absurd (true≢false (sym x))
+        | Equal ↦ λ x. above_first r p f
+        | Greater ↦ λ x. refl
+      ] (key_eq-symm j k ∙ t)
+      | false ↦ λ t f. absurd (true≢false (sym f))
+    ] refl e
+
+-- what stands between a path and one under it is under it too
+under_between : (r s p : Path) → is_at_or_above r p ≡ true → is_lt (path_cmp r s) ≡ true → is_lt (path_cmp p s) ≡ false → is_at_or_above r s ≡ true
+under_between [] s p a b c = refl
+under_between (k ∷ r) s [] a b c = absurd (true≢false (sym a))
+under_between (k ∷ r) [] (j ∷ p) a b c = absurd (true≢false (sym b))
+under_between (k ∷ r) (i ∷ s) (j ∷ p) a b c =
+    elim (key_eq k j) as (λ t. key_eq k j ≡ t → is_some (cond t (strip r p) None) ≡ true → is_at_or_above (k ∷ r) (i ∷ s) ≡ true) [
+      | true ↦ λ t under. elim (key_cmp k i) as (λ o. key_cmp k i ≡ o → is_lt (ordering_then o (path_cmp r s)) ≡ true → is_lt (ordering_then o (path_cmp p s)) ≡ false → is_at_or_above (k ∷ r) (i ∷ s) ≡ true) [
+        | Less ↦ λ q x y. absurd (true≢false y)
+        | Equal ↦ λ q x y. ap (λ o. is_some (cond (is_eq o) (strip r s) None)) q ∙ under_between r s p under x y
+        | Greater ↦ λ q x y. absurd (true≢false (sym x))
+      ] refl b (subst (λ x. is_lt (ordering_then (key_cmp x i) (path_cmp p s)) ≡ false) (sym (key_eq-is k j t)) c)
+      | false ↦ λ t under. absurd (true≢false (sym under))
+    ] refl a
+
+-- or at it
+under_from : (r s p : Path) → is_at_or_above r p ≡ true → is_lt (path_cmp s r) ≡ false → is_lt (path_cmp p s) ≡ false → is_at_or_above r s ≡ true
+under_from r s p a b c =
+    elim (path_cmp r s) as (λ o. path_cmp r s ≡ o → is_at_or_above r s ≡ true) [
+      | Less ↦ λ e. under_between r s p a (ap is_lt e) c
+      | Equal ↦ λ e. subst (λ z. is_at_or_above r z ≡ true) (exact_paths r s e) (is_at_or_above-same r)
+      | Greater ↦ λ e. absurd (true≢false (sym (ap is_lt (paths_total.antisymm s r ∙ ap ordering_reverse e)) ∙ b))
+    ] refl
+
+-- no element stands before one in front of it
+abbrev pub AreUp : {X : Type 0} → (X → Query) → List X → Type 0
+AreUp q xs = AllPairs (λ x y. is_lt (path_cmp (q y).path (q x).path) ≡ false) xs
+
+pub form_ranks : {X : Type 0} (q : X → Query) → IsStrictWeakOrder (λ (x y : X). is_lt (by_form q x y))
+form_ranks {X = X} q = ranks_by paths_total (λ (x : X). (q x).path)
+
+pub are_up : {X : Type 0} (q : X → Query) (xs : List X) → IsSorted (by_form q) xs → AreUp q xs
+are_up {X = X} q xs s i j d lt within = sorted_far (λ (x y : X). is_lt (by_form q x y)) (form_ranks q) xs s i j d (omega (arith, lt)) within
+
+pub up_sorted : {X : Type 0} (q : X → Query) (xs : List X) → AreUp q xs → IsSorted (by_form q) xs
+up_sorted q xs up k d low high = up k (k + 1) d (omega arith) high
+
+pub sorted_filter : {X : Type 0} (q : X → Query) (p : X → Bool) (xs : List X) → IsSorted (by_form q) xs → IsSorted (by_form q) (filter p xs)
+sorted_filter {X = X} q p xs s = up_sorted q (filter p xs) (AllPairs-filter (λ (x y : X). is_lt (path_cmp (q y).path (q x).path) ≡ false) p xs (are_up q xs s))
+
+-- those that are not before the path, and under it, come first
+pub under_first : {X : Type 0} (q : X → Query) (p : Path) (ls rest : List X) (first : ℕ) → rest ≡ drop first ls → first ≤ length ls → IsSorted (by_form q) ls
+    → IsPartitionPoint (λ (x : X). is_lt (path_cmp (q x).path p) ≡ true) (λ (x : X). is_lt (path_cmp (q x).path p) ≡ false) ls first
+    → IsPartitionedBy (λ (x : X). is_at_or_above p (q x).path) rest
+under_first {X = X} q p ls rest first is inside s a = subst (IsPartitionedBy (λ (x : X). is_at_or_above p (q x).path)) (sym is) parted
+  where
+    parted : IsPartitionedBy (λ (x : X). is_at_or_above p (q x).path) (drop first ls)
+    parted i j d le lt e =
+        let there : first + j < length ls = omega (arith, lt, length-drop first ls, inside) in
+        let under : is_at_or_above p (q (get_or ls (first + j) d)).path ≡ true = ap (λ (x : X). is_at_or_above p (q x).path) (sym (get_or-drop first ls j d)) ∙ e in
+        elim (nat_lt i j) as (λ b. nat_lt i j ≡ b → is_at_or_above p (q (get_or (drop first ls) i d)).path ≡ true) [
+          | true ↦ λ f.
+              let l : i < j = ltb-true i j f in
+              ap (λ (x : X). is_at_or_above p (q x).path) (get_or-drop first ls i d)
+              ∙ under_from p (q (get_or ls (first + i) d)).path (q (get_or ls (first + j) d)).path under
+              (a.1 (first + i) d (omega arith) (omega (arith, l, there)))
+              (are_up q ls s (first + i) (first + j) d (omega (arith, l)) there)
+          | false ↦ λ f.
+              let ge : j ≤ i = ltb-false i j f in
+              let same : j ≡ i = omega (arith, ge, le) in
+              subst (λ k. is_at_or_above p (q (get_or (drop first ls) k d)).path ≡ true) same e
+        ] refl
+
+-- so they are those of a span
+pub record IsSpan {X : Type 0} (q : X → Query) (p : Path) (ls : List X) (first count : ℕ) : Type 0 where
+  pub within : first + count ≤ length ls
+  pub exact : slice_range ls first (first + count) ≡ filter (λ x. is_at_or_above p (q x).path) ls
+  pub others : remove_range ls first (first + count) ≡ filter (λ x. not (is_at_or_above p (q x).path)) ls
+
+pub is_span : {X : Type 0} (q : X → Query) (p : Path) (ls rest : List X) (first count : ℕ) → rest ≡ drop first ls → first ≤ length ls → count ≤ length rest
+    → IsPartitionPoint (λ (x : X). is_lt (path_cmp (q x).path p) ≡ true) (λ (x : X). is_lt (path_cmp (q x).path p) ≡ false) ls first
+    → IsPartitionPoint (λ (x : X). is_at_or_above p (q x).path ≡ true) (λ (x : X). is_at_or_above p (q x).path ≡ false) rest count
+    → IsSpan q p ls first count
+is_span {X = X} q p ls rest first count is inside enough a b = record {
+  within = omega (arith, enough, ap length is, length-drop first ls, inside);
+  exact = (λ i. take (size i) (drop first ls)) ∙ sym (parts under ∙ (λ i. filter_none under (take first ls) before i ++ (halves under ∙ (λ j. filter_all under (take count behind) at j ++ filter_none under (drop count behind) after j)) i) ∙ append-nil (take count behind));
+  others = sym (parts other ∙ (λ i. filter_all other (take first ls) (all_not (take first ls) before) i
+      ++ (halves other ∙ (λ j. filter_none other (take count behind) (all_no (take count behind) at) j ++ filter_all other (drop count behind) (all_not (drop count behind) after) j)) i)
+      ∙ ap (λ z. take first ls ++ z) (drop_drop first count ls));
+}
+  where
+    under : X → Bool
+    under x = is_at_or_above p (q x).path
+
+    other : X → Bool
+    other x = not (under x)
+
+    behind : List X
+    behind = drop first ls
+
+    size : (first + count) - first ≡ count
+    size = omega arith
+
+    fits : count ≤ length behind
+    fits = subst (λ z. count ≤ length z) is enough
+
+    there : IsPartitionPoint (λ (x : X). is_at_or_above p (q x).path ≡ true) (λ (x : X). is_at_or_above p (q x).path ≡ false) behind count
+    there = subst (λ z. IsPartitionPoint (λ (x : X). is_at_or_above p (q x).path ≡ true) (λ (x : X). is_at_or_above p (q x).path ≡ false) z count) is b
+
+    no_more : (n : ℕ) → n ≡ 0 + n
+    no_more n = omega arith
+
+    next : (m n : ℕ) → suc (m + n) ≡ suc m + n
+    next m n = omega arith
+
+    drop_drop : (m n : ℕ) (xs : List X) → drop n (drop m xs) ≡ drop (m + n) xs
+    drop_drop zero n xs = ap (λ m. drop m xs) (no_more n)
+    drop_drop (suc m) zero [] = ap (λ k. drop k []) (next m zero)
+    drop_drop (suc m) (suc n) [] = ap (λ k. drop k []) (next m (suc n))
+    drop_drop (suc m) n (x ∷ xs) = drop_drop m n xs ∙ ap (λ k. drop k (x ∷ xs)) (next m n)
+
+    parts : (t : X → Bool) → filter t ls ≡ filter t (take first ls) ++ filter t behind
+    parts t = ap (filter t) (sym (take-append-drop first ls)) ∙ filter-append t (take first ls) behind
+
+    halves : (t : X → Bool) → filter t behind ≡ filter t (take count behind) ++ filter t (drop count behind)
+    halves t = ap (filter t) (sym (take-append-drop count behind)) ∙ filter-append t (take count behind) (drop count behind)
+
+    never : (b : Bool) → (b ≡ true → ⊥) → b ≡ false
+    never true h = absurd (h refl)
+    never false h = refl
+
+    all_not : (xs : List X) → All (λ x. under x ≡ false) xs → All (λ x. other x ≡ true) xs
+    all_not xs h k d lt = ap not (h k d lt)
+
+    all_no : (xs : List X) → All (λ x. under x ≡ true) xs → All (λ x. other x ≡ false) xs
+    all_no xs h k d lt = ap not (h k d lt)
+
+    before : All (λ x. under x ≡ false) (take first ls)
+    before k d lt =
+        let here : k < first = omega (arith, lt, length-take-le first ls inside) in
+        let less : is_lt (path_cmp (q (get_or ls k d)).path p) ≡ true = a.0 k d (omega arith) here in
+        ap under (get_or-take first ls k d here)
+        ∙ never (under (get_or ls k d)) (λ t. true≢false (sym less ∙ above_first p (q (get_or ls k d)).path t))
+
+    at : All (λ x. under x ≡ true) (take count behind)
+    at k d lt =
+        let here : k < count = omega (arith, lt, length-take-le count behind fits) in
+        ap under (get_or-take count behind k d here) ∙ there.0 k d (omega arith) here
+
+    after : All (λ x. under x ≡ false) (drop count behind)
+    after k d lt =
+        let here : count + k < length behind = omega (arith, lt, fits, length-drop count behind) in
+        ap under (get_or-drop count behind k d) ∙ there.1 (count + k) d (omega arith) here
+
+-- ---- one more in its place
+
+pub sorted_insert : {X : Type 0} (q : X → Query) (xs : List X) (i : ℕ) (y : X) → IsSorted (by_form q) xs
+    → IsPartitionPoint (λ (x : X). is_lt (path_cmp (q x).path (q y).path) ≡ true) (λ (x : X). is_lt (path_cmp (q x).path (q y).path) ≡ false) xs i
+    → IsSorted (by_form q) (insert xs i y)
+sorted_insert {X = X} q xs i y s at = up_sorted q (insert xs i y) (placed xs i (are_up q xs s) at.0 at.1)
+  where
+    R : X → X → Type 0
+    R x z = is_lt (path_cmp (q z).path (q x).path) ≡ false
+
+    placed : (zs : List X) (n : ℕ) → AllPairs R zs
+        → AllWithin (λ (x : X). is_lt (path_cmp (q x).path (q y).path) ≡ true) zs 0 n
+        → AllWithin (λ (x : X). is_lt (path_cmp (q x).path (q y).path) ≡ false) zs n (length zs)
+        → AllPairs R (insert zs n y)
+    placed zs zero up a b = AllPairs-cons R y zs (λ k d lt. b k d (omega arith) lt) up
+    placed [] (suc n) up a b = AllPairs-cons R y [] (λ k d lt. absurd (omega (arith, lt))) up
+    placed (z ∷ zs) (suc n) up a b =
+        let first : All (R z) zs = AllPairs-first R z zs up in
+        AllPairs-cons R z (insert zs n y)
+        (All-append (R z) (take n zs) (y ∷ drop n zs) (All-take (R z) n zs first)
+        (All-cons (R z) y (drop n zs) (not_back (q z).path (q y).path (a 0 z (omega arith) (omega arith))) (All-drop (R z) n zs first)))
+        (placed zs n (AllPairs-rest R z zs up) (λ k d low lt. a (suc k) d (omega arith) (omega (arith, lt))) (λ k d low lt. b (suc k) d (omega (arith, low)) (omega (arith, lt))))

@@ -1,0 +1,85 @@
+use Rattle.std.proofs.Common.{rules, ◌≡◌, ◌<◌, ◌++◌, ◌∷◌, [], List, false, not, map, sym, ap, subst, ◌∙◌}
+use Rattle.std.specs.List.{filter, list_any, AllPairs}
+use Rattle.std.specs.List.Sorted.{IsSorted}
+use Rattle.rt_query.specs.Queries.{Query}
+use Rattle.rt_query.specs.Supply.{does_supply}
+use Rattle.rt_cover.specs.Cover.{Tagged}
+use Rattle.rt_cover.specs.inside.Index.{by_form, form_of, SameCounts}
+use Rattle.rt_cover.proofs.CountLaws.{same_any, same_append, same_filter, same_trans}
+use Rattle.rt_cover.proofs.ListenLaws.{tags_are}
+use Rattle.rt_cover.proofs.SearchLaws.{sorted_filter}
+use Rattle.rt_cover.proofs.listens.Listens.start.Goals as goal
+
+pub tags_supplied-requires-clause-unsupplied : goal.tags_supplied-requires-clause-unsupplied
+tags_supplied-requires-clause-unsupplied c =
+    let f : Query = (c.args.listen).form in
+    let by_path = c.self.inside.by_path.items in
+    let by_tag = c.self.inside.by_tag.items in
+    (λ i. list_any (λ (k : Tagged). does_supply k.form (c.form.ensures i)) (c.deref.ensures.value i))
+    ∙ same_any (λ (k : Tagged). does_supply k.form f) by_path by_tag c.self.invariant.same
+    ∙ (λ i. list_any (λ (k : Tagged). does_supply k.form f) (c.self.view_is i)) ∙ c.requires.unsupplied
+
+pub take_supplied-requires-clause-unsupplied : goal.take_supplied-requires-clause-unsupplied
+take_supplied-requires-clause-unsupplied c =
+    let f : Query = (c.args.listen).form in
+    let by_path = c.self.inside.by_path.items in
+    let by_tag = c.self.inside.by_tag.items in
+    (λ i. list_any (λ (k : Tagged). does_supply k.form (c.form-2.ensures i)) (c.reserve-2.ensures.items i))
+    ∙ same_any (λ (k : Tagged). does_supply k.form f) by_path by_tag c.self.invariant.same
+    ∙ (λ i. list_any (λ (k : Tagged). does_supply k.form f) (c.self.view_is i)) ∙ c.requires.unsupplied
+
+pub place-requires-clause-sorted : goal.place-requires-clause-sorted
+place-requires-clause-sorted c =
+    let f : Query = (c.args.listen).form in
+    let by_path = c.self.inside.by_path.items in
+    let by_tag = c.self.inside.by_tag.items in
+    let left : c.take_supplied.new.by_path.items ≡ filter (λ (k : Tagged). not (does_supply f k.form)) by_path =
+    c.take_supplied.ensures.left ∙ (λ i. filter (λ (k : Tagged). not (does_supply (c.form-2.ensures i) k.form)) (c.reserve-2.ensures.items i)) in
+    subst (IsSorted (by_form form_of)) (sym left) (sorted_filter form_of (λ (k : Tagged). not (does_supply f k.form)) by_path c.self.invariant.sorted)
+
+pub take_stopped-requires : goal.take_stopped-requires
+take_stopped-requires c =
+    let f : Query = (c.args.listen).form in
+    let by_path = c.self.inside.by_path.items in
+    let by_tag = c.self.inside.by_tag.items in
+    let tags_is : c.in_ok-stopped.stopped.items ≡ map (λ (k : Tagged). k.tag) (filter (λ (k : Tagged). does_supply f k.form) by_tag) =
+    tags_are (λ k. does_supply f k.form) c.in_ok-stopped.stopped.items by_path by_tag c.self.invariant.same
+    (subst (AllPairs (λ (j k : Tagged). j.tag < k.tag)) (sym c.self.view_is) c.requires.rise)
+    (subst (λ (ks : List Tagged). SameCounts c.in_ok-stopped.stopped.items (map (λ (k : Tagged). k.tag) (filter (λ (k : Tagged). does_supply f k.form) ks))) c.deref.ensures.value
+    (subst (λ (g : Query). SameCounts c.in_ok-stopped.stopped.items (map (λ (k : Tagged). k.tag) (filter (λ (k : Tagged). does_supply g k.form) c.deref.result.now))) c.form.ensures c.in_ok-stopped.ensures.same))
+    c.in_ok-stopped.ensures.rise in
+    c.deref-2.ensures.value ∙ tags_is
+    ∙ sym (λ i. map (λ (k : Tagged). k.tag) (filter (λ (k : Tagged). does_supply (c.form-3.ensures i) k.form) (c.reserve.ensures.items i)))
+
+pub invariant_of-self-2 : goal.invariant_of-self-2
+invariant_of-self-2 c =
+    let f : Query = (c.args.listen).form in
+    let by_path = c.self.inside.by_path.items in
+    let by_tag = c.self.inside.by_tag.items in
+    let one : List Tagged = c.args.listen ∷ [] in
+    let left : c.take_supplied.new.by_path.items ≡ filter (λ (k : Tagged). not (does_supply f k.form)) by_path =
+    c.take_supplied.ensures.left ∙ (λ i. filter (λ (k : Tagged). not (does_supply (c.form-2.ensures i) k.form)) (c.reserve-2.ensures.items i)) in
+    let kept : c.take_stopped.new.by_tag.items ≡ filter (λ (k : Tagged). not (does_supply f k.form)) by_tag =
+    c.take_stopped.ensures.left ∙ (λ i. filter (λ (k : Tagged). not (does_supply (c.form-3.ensures i) k.form)) (c.reserve.ensures.items i)) in
+    let all : c.push_reserved.new.self.items ≡ c.take_stopped.new.by_tag.items ++ one = c.push_reserved.ensures.items in
+    record {
+      sorted = c.place.ensures.sorted;
+      same = same_trans c.place.new.by_path.items (filter (λ (k : Tagged). not (does_supply f k.form)) by_path ++ one) c.push_reserved.new.self.items
+          (subst (SameCounts c.place.new.by_path.items) (λ i. left i ++ c.in_ok-copy.ensures i ∷ []) c.place.ensures.same)
+          (subst (SameCounts (filter (λ (k : Tagged). not (does_supply f k.form)) by_path ++ one)) (sym (all ∙ ap (λ ks. ks ++ one) kept))
+          (same_append (filter (λ (k : Tagged). not (does_supply f k.form)) by_path) (filter (λ (k : Tagged). not (does_supply f k.form)) by_tag) one
+          (same_filter (λ (k : Tagged). not (does_supply f k.form)) by_path by_tag c.self.invariant.same)));
+    }
+
+pub returns-clause-stopped : goal.returns-clause-stopped
+returns-clause-stopped c =
+    let f : Query = (c.args.listen).form in
+    let by_path = c.self.inside.by_path.items in
+    let by_tag = c.self.inside.by_tag.items in
+    let tags_is : c.in_ok-stopped.stopped.items ≡ map (λ (k : Tagged). k.tag) (filter (λ (k : Tagged). does_supply f k.form) by_tag) =
+    tags_are (λ k. does_supply f k.form) c.in_ok-stopped.stopped.items by_path by_tag c.self.invariant.same
+    (subst (AllPairs (λ (j k : Tagged). j.tag < k.tag)) (sym c.self.view_is) c.requires.rise)
+    (subst (λ (ks : List Tagged). SameCounts c.in_ok-stopped.stopped.items (map (λ (k : Tagged). k.tag) (filter (λ (k : Tagged). does_supply f k.form) ks))) c.deref.ensures.value
+    (subst (λ (g : Query). SameCounts c.in_ok-stopped.stopped.items (map (λ (k : Tagged). k.tag) (filter (λ (k : Tagged). does_supply g k.form) c.deref.result.now))) c.form.ensures c.in_ok-stopped.ensures.same))
+    c.in_ok-stopped.ensures.rise in
+    tags_is ∙ (λ i. map (λ (k : Tagged). k.tag) (filter (λ (k : Tagged). does_supply f k.form) (c.self.view_is i)))

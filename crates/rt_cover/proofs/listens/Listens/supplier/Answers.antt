@@ -1,0 +1,27 @@
+use Rattle.std.proofs.Common.{◌≡◌, ◌==◌, ◌&&◌, true, false, sym, subst, ◌∙◌}
+use Rattle.std.specs.List.{list_any}
+use Rattle.rt_query.specs.Supply.{does_supply}
+use Rattle.rt_cover.specs.Cover.{Tagged}
+use Rattle.rt_cover.proofs.CountLaws.{same_any}
+use Rattle.rt_cover.proofs.ListenLaws.{if_some, if_none}
+use Rattle.rt_cover.proofs.listens.Listens.supplier.Goals as goal
+
+pub returns-clause-some : goal.returns-clause-some
+returns-clause-some c =
+    let q = c.args.query.now in
+    let old = c.self.inside.by_path.items in
+    let ks = c.self.inside.by_tag.items in
+    if_some (λ t. list_any (λ k. does_supply k.form q && k.tag == t) c.deref.result.now ≡ true) (λ t. list_any (λ k. does_supply k.form q && k.tag == t) c.args.self.now ≡ true) c.supplier.result
+    (λ t h. subst (λ xs. list_any (λ k. does_supply k.form q && k.tag == t) xs ≡ true) c.self.view_is
+    (sym (same_any (λ k. does_supply k.form q && k.tag == t) old ks c.self.invariant.same) ∙ subst (λ xs. list_any (λ k. does_supply k.form q && k.tag == t) xs ≡ true) c.deref.ensures.value h))
+    c.supplier.ensures.some
+
+pub returns-clause-none : goal.returns-clause-none
+returns-clause-none c =
+    let q = c.args.query.now in
+    let old = c.self.inside.by_path.items in
+    let ks = c.self.inside.by_tag.items in
+    if_none (list_any (λ (k : Tagged). does_supply k.form q) c.deref.result.now ≡ false) (list_any (λ (k : Tagged). does_supply k.form q) c.args.self.now ≡ false) c.supplier.result
+    (λ h. subst (λ xs. list_any (λ (k : Tagged). does_supply k.form q) xs ≡ false) c.self.view_is
+    (sym (same_any (λ (k : Tagged). does_supply k.form q) old ks c.self.invariant.same) ∙ subst (λ xs. list_any (λ (k : Tagged). does_supply k.form q) xs ≡ false) c.deref.ensures.value h))
+    c.supplier.ensures.none

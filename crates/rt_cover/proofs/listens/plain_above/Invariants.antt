@@ -1,0 +1,8 @@
+use Rattle.std.proofs.Common.{◌≡◌, false}
+use Rattle.std.specs.List.{list_any}
+use Rattle.rt_cover.specs.inside.Index.{form_of}
+use Rattle.rt_cover.proofs.ByPathLaws.{is_plain_above}
+use Rattle.rt_cover.proofs.listens.plain_above.Given as goal
+
+abbrev pub invariant-loop-count : goal.invariant-loop-count
+invariant-loop-count l = list_any (is_plain_above form_of l.path l.count) l.by_path ≡ false

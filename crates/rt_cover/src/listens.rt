@@ -1,0 +1,304 @@
+// The listens kept, by tag and by path.
+ghost use Rattle.std.specs.Prelude.{◌≡◌, ◌<◌, ◌≤◌, ◌==◌, ◌+◌, ◌++◌, ◌∷◌, [], ◌&&◌, true, false, not};
+ghost use Rattle.std.specs.Prelude.{map, length, nat_lt, vec_len, vec_capacity};
+ghost use Rattle.std.specs.Prelude.{IfOk, IfSome, IfNone, OnOk, OnErr};
+ghost use Rattle.std.specs.List.{filter, find, list_any, remove_range, AllPairs};
+ghost use Rattle.std.specs.List.Sorted.{IsSorted};
+ghost use Rattle.std.specs.Option.{option_map};
+ghost use Rattle.rt_tree.specs.PathTree.{path_eq};
+ghost use Rattle.rt_tree.specs.Assignments.{is_at_or_above};
+ghost use Rattle.rt_query.specs.Queries.{is_filtered};
+ghost use Rattle.rt_query.specs.QueryEq.{query_eq};
+ghost use Rattle.rt_query.specs.Supply.{does_supply};
+ghost use Rattle.rt_cover.specs.inside.Index.{by_form, form_of, SameCounts};
+
+use crate::by_path::{HasForm, at_path, first_from, span_under};
+use crate::listen::{Listen, copies, have_tag, tags_of};
+use crate::supply::supplies;
+use rt_query::Query;
+use rt_tree::Key;
+use std::alloc::{AllocError, Global};
+use std::marker::Model;
+
+// The listens kept, by tag. The same stand by path beside that, where they are looked for.
+pub(crate) struct Listens {
+    by_tag: Vec<Listen>,
+    by_path: Vec<Listen>,
+}
+
+impl Drop for Listens {
+    fn drop(self) {
+        let Listens {
+            by_tag: _,
+            by_path: _,
+        } = self;
+    }
+}
+
+impl Model for Listens {
+    ghost use Rattle.std.specs.Prelude.{List};
+    ghost use Rattle.rt_cover.specs.Cover.{Tagged};
+    ghost use Rattle.rt_cover.specs.inside.Index.{form_of, IsIndex};
+
+    ghost Value = { List Tagged };
+
+    ghost view = { λ a. a.by_tag.items };
+
+    ghost invariant = { λ a. IsIndex form_of a.by_tag.items a.by_path.items };
+}
+
+// The tag of the first plain one.
+fn plain_among(listens: &[Listen]) -> Option<u64>
+    ensures { result ≡ option_map (λ k. k.tag) (find (λ k. not (is_filtered k.form)) listens.now) }
+{
+    for listen in listens {
+        if !listen.form().is_filtered() {
+            return Some(listen.tag());
+        }
+    }
+    None
+}
+
+// The tag of the first of that form.
+fn equal_among(listens: &[Listen], form: &Query) -> Option<u64>
+    ensures { result ≡ option_map (λ k. k.tag) (find (λ k. query_eq k.form form.now) listens.now) }
+{
+    for listen in listens {
+        if listen.form() == form {
+            return Some(listen.tag());
+        }
+    }
+    None
+}
+
+// The tag of a plain one at the path.
+fn plain_at(by_path: &[Listen], path: &[Key]) -> Option<u64>
+    requires { IsSorted (by_form form_of) by_path.now }
+    ensures some { IfSome result (λ tag. list_any (λ k. path_eq k.form.path path.now
+        && (not (is_filtered k.form) && k.tag == tag)) by_path.now ≡ true) }
+    ensures none { IfNone result (list_any (λ k. path_eq k.form.path path.now
+        && not (is_filtered k.form)) by_path.now ≡ false) }
+{
+    plain_among(at_path(by_path, path))
+}
+
+// The tag of a plain one at the path or above it.
+fn plain_above(by_path: &[Listen], path: &[Key]) -> Option<u64>
+    requires { IsSorted (by_form form_of) by_path.now }
+    ensures some { IfSome result (λ tag. list_any (λ k. is_at_or_above k.form.path path.now
+        && (not (is_filtered k.form) && k.tag == tag)) by_path.now ≡ true) }
+    ensures none { IfNone result (list_any (λ k. (is_at_or_above k.form.path path.now
+        && nat_lt (length k.form.path) (length path.now + 1))
+        && not (is_filtered k.form)) by_path.now ≡ false) }
+{
+    for count in 0..path.len() + 1 {
+        if let Some(tag) = plain_at(by_path, &path[..count]) {
+            return Some(tag);
+        }
+    }
+    None
+}
+
+// The tag of one of that form.
+fn equal_at(by_path: &[Listen], form: &Query) -> Option<u64>
+    requires { IsSorted (by_form form_of) by_path.now }
+    ensures some { IfSome result (λ tag.
+        list_any (λ k. query_eq k.form form.now && k.tag == tag) by_path.now ≡ true) }
+    ensures none { IfNone result (list_any (λ k. query_eq k.form form.now) by_path.now ≡ false) }
+{
+    equal_among(at_path(by_path, form.path().keys()), form)
+}
+
+// The tag of one that supplies the query.
+fn supplier(by_path: &[Listen], query: &Query) -> Option<u64>
+    requires { IsSorted (by_form form_of) by_path.now }
+    ensures some { IfSome result (λ tag.
+        list_any (λ k. does_supply k.form query.now && k.tag == tag) by_path.now ≡ true) }
+    ensures none { IfNone result
+        (list_any (λ k. does_supply k.form query.now) by_path.now ≡ false) }
+{
+    match plain_above(by_path, query.path().keys()) {
+        Some(tag) => Some(tag),
+        None if query.is_filtered() => equal_at(by_path, query),
+        None => None,
+    }
+}
+
+// The tags of those that the form supplies, by tag, where none supplies it.
+fn tags_supplied(alloc: Global, by_path: &[Listen], form: &Query) -> Result<Vec<u64>, AllocError>
+    requires sorted { IsSorted (by_form form_of) by_path.now }
+    requires unsupplied { list_any (λ k. does_supply k.form form.now) by_path.now ≡ false }
+    ensures same { IfOk result (λ tags. SameCounts tags.items
+        (map (λ k. k.tag) (filter (λ k. does_supply form.now k.form) by_path.now))) }
+    ensures rise { IfOk result (λ tags. AllPairs (λ s t. s ≤ t) tags.items) }
+{
+    if form.is_filtered() {
+        return Ok(Vec::new(alloc));
+    }
+    let (first, count) = span_under(by_path, form.path());
+    let mut tags = tags_of(alloc, &by_path[first..first + count])?;
+    tags.sort_unstable_by_key(|tag| *tag);
+    Ok(tags)
+}
+
+// Takes out those that the form supplies, whose tags these are.
+fn take_stopped(by_tag: &mut Vec<Listen>, form: &Query, stopped: &[u64])
+    requires { stopped.now
+        ≡ map (λ k. k.tag) (filter (λ k. does_supply form.now k.form) by_tag.old.items) }
+    ensures left { by_tag.new.items
+        ≡ filter (λ k. not (does_supply form.now k.form)) by_tag.old.items }
+    ensures len { vec_len by_tag.new ≤ vec_len by_tag.old }
+    ensures room { vec_capacity by_tag.new ≡ vec_capacity by_tag.old }
+{
+    if stopped.is_empty() {
+        return;
+    }
+    by_tag.retain(|listen| !supplies(form, listen.form()));
+}
+
+// Puts a listen in its place by path; there is room for it.
+fn place(by_path: &mut Vec<Listen>, listen: Listen)
+    requires sorted { IsSorted (by_form form_of) by_path.old.items }
+    requires room { vec_len by_path.old < vec_capacity by_path.old }
+    ensures sorted { IsSorted (by_form form_of) by_path.new.items }
+    ensures same { SameCounts by_path.new.items (by_path.old.items ++ listen ∷ []) }
+    ensures len { vec_len by_path.new ≡ vec_len by_path.old + 1 }
+    ensures room { vec_capacity by_path.old ≤ vec_capacity by_path.new }
+{
+    let at = first_from(by_path, listen.form().path().keys());
+    let _in_reserved_room = by_path.insert(at, listen);
+}
+
+// Takes out so many, from the first on.
+fn take_span(listens: &mut Vec<Listen>, first: usize, count: usize)
+    requires { first + count ≤ length listens.old.items }
+    ensures left { listens.new.items ≡ remove_range listens.old.items first (first + count) }
+    ensures len { vec_len listens.new ≤ vec_len listens.old }
+    ensures room { vec_capacity listens.new ≡ vec_capacity listens.old }
+{
+    drop(listens.drain(first..first + count));
+}
+
+// Takes out those that the form supplies, where none supplies it.
+fn take_supplied(by_path: &mut Vec<Listen>, form: &Query)
+    requires sorted { IsSorted (by_form form_of) by_path.old.items }
+    requires unsupplied { list_any (λ k. does_supply k.form form.now) by_path.old.items ≡ false }
+    ensures left { by_path.new.items
+        ≡ filter (λ k. not (does_supply form.now k.form)) by_path.old.items }
+    ensures len { vec_len by_path.new ≤ vec_len by_path.old }
+    ensures room { vec_capacity by_path.new ≡ vec_capacity by_path.old }
+{
+    if form.is_filtered() {
+        return;
+    }
+    let (first, count) = span_under(by_path, form.path());
+    take_span(by_path, first, count);
+}
+
+// Puts each of them in its place by path; there is room for them.
+fn place_all(by_path: &mut Vec<Listen>, new: Vec<Listen>)
+    requires sorted { IsSorted (by_form form_of) by_path.old.items }
+    requires room { vec_len by_path.old + vec_len new ≤ vec_capacity by_path.old }
+    ensures sorted { IsSorted (by_form form_of) by_path.new.items }
+    ensures same { SameCounts by_path.new.items (by_path.old.items ++ new.items) }
+{
+    for listen in new {
+        place(by_path, listen);
+    }
+}
+
+// Takes those out that are lost.
+fn take_lost(listens: &mut Vec<Listen>, lost: &[Listen])
+    requires { AllPairs (λ j k. j.tag < k.tag) lost.now }
+    ensures left { listens.new.items
+        ≡ filter (λ k. not (list_any (λ j. j.tag == k.tag) lost.now)) listens.old.items }
+    ensures len { vec_len listens.new ≤ vec_len listens.old }
+    ensures room { vec_capacity listens.new ≡ vec_capacity listens.old }
+{
+    if lost.is_empty() {
+        return;
+    }
+    listens.retain(|listen| !have_tag(lost, listen.tag()));
+}
+
+impl Listens {
+    // No listen.
+    pub(crate) fn new(alloc: Global) -> Listens
+        ensures { result ≡ [] }
+    {
+        Listens {
+            by_tag: Vec::new(alloc),
+            by_path: Vec::new(alloc),
+        }
+    }
+
+    // Equal listens, which share the forms.
+    pub(crate) fn copy(&self) -> Result<Listens, AllocError>
+        ensures { IfOk result (λ listens. listens ≡ self.now) }
+    {
+        let alloc = *self.by_tag.allocator();
+        let by_tag = copies(alloc, &self.by_tag)?;
+        let by_path = copies(alloc, &self.by_path)?;
+        Ok(Listens { by_tag, by_path })
+    }
+
+    // The listens, by tag.
+    pub(crate) fn as_slice(&self) -> &[Listen]
+        ensures { result.now ≡ self.now }
+    {
+        self.by_tag.as_slice()
+    }
+
+    // The tag of one that supplies the query. Looks at those of the paths at and above it.
+    pub(crate) fn supplier(&self, query: &Query) -> Option<u64>
+        ensures some { IfSome result (λ tag.
+            list_any (λ k. does_supply k.form query.now && k.tag == tag) self.now ≡ true) }
+        ensures none { IfNone result (list_any (λ k. does_supply k.form query.now) self.now ≡ false) }
+    {
+        supplier(&self.by_path, query)
+    }
+
+    // Keeps a listen that none supplies, in place of those that it supplies; their tags.
+    pub(crate) fn start(&mut self, listen: Listen) -> Result<Vec<u64>, AllocError>
+        requires rise { AllPairs (λ j k. j.tag < k.tag) self.old }
+        requires unsupplied { list_any (λ k. does_supply k.form listen.form) self.old ≡ false }
+        ensures kept { OnOk result (self.new
+            ≡ filter (λ k. not (does_supply listen.form k.form)) self.old ++ listen ∷ []) }
+        ensures stopped { IfOk result (λ tags. tags.items ≡ map (λ k. k.tag)
+            (filter (λ k. does_supply listen.form k.form) self.old)) }
+        ensures unchanged { OnErr result (self.new ≡ self.old) }
+    {
+        let alloc = *self.by_tag.allocator();
+        let stopped = tags_supplied(alloc, &self.by_path, listen.form())?;
+        let copy = listen.copy()?;
+        self.by_tag.reserve(1)?;
+        self.by_path.reserve(1)?;
+        take_supplied(&mut self.by_path, listen.form());
+        place(&mut self.by_path, copy);
+        take_stopped(&mut self.by_tag, listen.form(), &stopped);
+        self.by_tag.push_reserved(listen);
+        Ok(stopped)
+    }
+
+    // Keeps new listens in place of those that are lost.
+    pub(crate) fn replace(
+        &mut self,
+        lost: &[Listen],
+        mut new: Vec<Listen>,
+    ) -> Result<(), AllocError>
+        requires { AllPairs (λ j k. j.tag < k.tag) lost.now }
+        ensures kept { OnOk result (self.new
+            ≡ filter (λ k. not (list_any (λ j. j.tag == k.tag) lost.now)) self.old ++ new.items) }
+        ensures unchanged { OnErr result (self.new ≡ self.old) }
+    {
+        let alloc = *self.by_tag.allocator();
+        let copies = copies(alloc, &new)?;
+        self.by_tag.reserve(new.len())?;
+        self.by_path.reserve(new.len())?;
+        take_lost(&mut self.by_path, lost);
+        place_all(&mut self.by_path, copies);
+        take_lost(&mut self.by_tag, lost);
+        let _in_reserved_room = self.by_tag.append(&mut new);
+        Ok(())
+    }
+}
