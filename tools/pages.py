@@ -10,7 +10,8 @@ Usage: tools/pages.py            says which lines don't keep to the rules, and f
   dates       stand in docs/BENCHMARKS.md and docs/GATE.md alone, which have figures, and once in each
   PROOFS.md   has at most 150 lines, none over 400 characters, and no word of how long anything took; what its table names as a contract
               of a crate stands in the crate's src/
-  MODEL.md    names each file of definitions in the section of its crate, but for `Errors`
+  MODEL.md    has one definition a line, and so no item or cell of two sentences or with a semicolon; names each file of definitions in the
+              section of its crate, but for `Errors`
   arrows      docs/ARCHITECTURE.md has for each crate what crates.txt has, but for the two crates of errors: behind a solid arrow what its
               code names, behind a dotted one what its contracts alone name; and a row that says what the crate holds
 
@@ -125,6 +126,13 @@ def wrong_names(root, page):
             yield f"{PROOFS}:{number}: {crate} has no {' '.join(lost)}"
 
 
+def wrong_lines(name, page):
+    """The items and cells that have more than one sentence or a semicolon."""
+    for number, kind, text in texts(page):
+        if kind in ("item", "cell") and (len(list(sentences(text, kind))) > 1 or re.search(r";\s", re.sub(r"`[^`]*`", "code", text))):
+            yield f"{name}:{number}: more than one definition: {text[:40]} .."
+
+
 def wrong_model(root):
     """The files of definitions that docs/MODEL.md doesn't name in a section whose heading has their folder."""
     sections = re.split(r"(?m)^## ", read(f"{root}/{MODEL}"))
@@ -203,6 +211,7 @@ def wrong_of(root):
         wrong += [] if name == WRITTEN else wrong_texts(name, page)
         wrong += wrong_dates(name, page)
         wrong += [*wrong_proofs(name, page), *wrong_names(root, page)] if name == PROOFS else []
+        wrong += wrong_lines(name, page) if name == MODEL else []
     return wrong, len(names)
 
 

@@ -4,6 +4,7 @@ import re
 import sys
 import tempfile
 
+import comments
 import names
 import pages
 from bodies import read, run
@@ -51,6 +52,12 @@ def readme_part():
     sources = {it: read(f"{ROOT}/crates/{it}/src/main.rt") for it in PROGRAMS_SHOWN}
     wrong = wrong_of_readme(read(f"{ROOT}/README.md"), read(f"{ROOT}/crates.txt"), sources)
     part("README.md's examples are as they are proved", "; ".join(wrong))
+
+
+def comments_part():
+    """Calls that are there for the prover say so."""
+    wrong, count = comments.wrong_of(ROOT)
+    part(f"{count} calls for the prover say so", some_of(wrong, count))
 
 
 def layout_part():

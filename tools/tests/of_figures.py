@@ -15,7 +15,7 @@ def loaded(path):
     return module
 
 
-gate_table, benchmarks = loaded("tools/gate_table"), loaded("benchmarks/run")
+gate_table, benchmarks, workspace = loaded("tools/gate_table"), loaded("benchmarks/run"), loaded("benchmarks/workspace")
 
 SAID = """ok      805 wrong bodies apply, 43 of them central
         rt_tree proved
@@ -43,6 +43,18 @@ class Figures(unittest.TestCase):
             self.assertIn(it, text)
         self.assertEqual(gate_table.replaced(text, gate_table.figures(SAID, "Here, then")), text)
 
+    def test_what_the_commands_take(self):
+        below = {"rt_low": [], "rt_other": [], "rt_mid": ["rt_low"], "rt_console": ["rt_mid"]}
+        said = SAID.replace("rt_calls 14.0, tests of rt_tests 1.9", "rt_console 5.3, rt_other 9.0, rt_mid 20.0, tests of rt_low 1.9")
+        rows = gate_table.rows_of(said, below)
+        self.assertEqual(rows["./kaltewi build"], ["27", "less than 36 minutes", "over 13 minutes"])
+        self.assertEqual(rows["./check"], ["82", "46 minutes", "over 41 minutes"])
+        page = "| `./kaltewi build`, once | 49 | x | y |\n| `./check` | 1 | 2 | 3 |\n"
+        due = "| `./kaltewi build`, once | 27 | less than 36 minutes | over 13 minutes |\n| `./check` | 82 | 46 minutes | over 41 minutes |\n"
+        self.assertEqual(gate_table.with_rows(page, rows), due)
+        with self.assertRaises(ValueError):
+            gate_table.with_rows(page.replace("./check", "./other"), rows)
+
     def test_what_says_nothing(self):
         with self.assertRaises(ValueError):
             gate_table.figures("43 passed, 0 failed\n", "Here")
@@ -68,6 +80,19 @@ class Benchmarks(unittest.TestCase):
             self.assertTrue(it == "machine" or os.access(f"{ROOT}/benchmarks/{it}", os.X_OK))
         with self.assertRaises(ValueError):
             benchmarks.replaced(page, "nothing", "")
+
+
+class Workspaces(unittest.TestCase):
+    CRATES = {"low": ["serde_json"], "beside": [], "mid": ["low", "thiserror"], "high": ["mid"]}
+
+    def test_below(self):
+        self.assertEqual(workspace.below(["mid"], self.CRATES), ["low", "mid"])
+        self.assertEqual(workspace.below(["high", "beside"], self.CRATES), ["low", "beside", "mid", "high"])
+
+    def test_flags(self):
+        found = workspace.flags(["mid"], self.CRATES, "/top")
+        self.assertEqual(found[:4], ["-L", "dependency=/top/crates/low/out/rlib", "-L", "dependency=/top/crates/mid/out/rlib"])
+        self.assertEqual(found[4:], ["--extern", "mid=/top/crates/mid/out/rlib/mid.rlib"])
 
 
 if __name__ == "__main__":

@@ -82,6 +82,12 @@ class Rules(unittest.TestCase):
         self.assertEqual(len(list(pages.wrong_proofs("docs/PROOFS.md", "x\n" * 151))), 1)
         self.assertEqual(len(list(pages.wrong_proofs("docs/PROOFS.md", "it took 12 minutes"))), 1)
 
+    def test_one_definition_a_line(self):
+        for text in ("- `A`: what it is (`a; b`).", "| a | what it is. | `A` |", "A paragraph. It may go on; so it does."):
+            self.assertEqual(list(pages.wrong_lines("docs/MODEL.md", text)), [], text)
+        for text in ("- `A`: what it is. `B`: so.", "- `A`: what it is; and more.", "| a | what it is; b | `A` |"):
+            self.assertEqual(len(list(pages.wrong_lines("docs/MODEL.md", text))), 1, text)
+
     def test_named_contracts(self):
         page = "| Crate | Promise | The contract |\n|---|---|---|\n| `rt_low` | it is so | `Low::new`, `put` (`ok`); `laws.rt` |\n| | and so | `low` |\n"
         self.assertEqual(

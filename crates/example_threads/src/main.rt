@@ -148,6 +148,7 @@ fn run<R: Threads + Wait + Sync>(
         rt,
         || talk_on(rt, alloc, client, first, ANN, ann, &talking),
         || {
+            // For the prover: the same in this closure.
             crossing_law();
             thread::join(
                 rt,

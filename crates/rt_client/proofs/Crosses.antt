@@ -3,7 +3,13 @@
 use denote.Param.Send.{IsSend, IsSync, sendable}
 use Rattle.std.proofs.Crossing.{crosses}
 use Rattle.std.proofs.MapsCrossing.{crosses as maps_cross}
-use Rattle.rt_tree.proofs.tree.Tree.TheLaws.TheKnot.{crosses as knot_crosses}
+use Rattle.std.specs.Prelude.{◌==◌}
+use Rattle.std.specs.Ordering.{as_partial_cmp, nat_cmp}
+use Rattle.std.specs.Cmp.Lexicographic.{slice_cmp, pointwise}
+use Rattle.std.specs.declared.cmp.Ord as ord
+use Rattle.std.specs.declared.cmp.PartialEq as eq
+use Rattle.std.specs.declared.cmp.PartialOrd as partial
+use Rattle.rt_tree.proofs.tree.Tree.TheLaws.TheKnot.{both_send-Tree, both_sync-Tree}
 use Rattle.rt_tree.specs.contracts.key.Key as key
 use Rattle.rt_tree.specs.contracts.leaf.Leaf as leaf
 use Rattle.rt_tree.specs.contracts.path.Path as path
@@ -15,6 +21,7 @@ use Rattle.rt_wire.specs.contracts.reason.Reason as reason
 use Rattle.rt_wire.specs.contracts.request.Action as action
 use Rattle.rt_wire.specs.contracts.request.Ending as ending
 use Rattle.rt_mail.specs.contracts.item.Item as item
+use Rattle.rt_client.proofs.MapCrosses.{map_send, map_sync}
 
 pub ruleset all_cross = (sendable, crosses, maps_cross)
 
@@ -33,14 +40,26 @@ leaf_sync = search all_cross depth 40 fits 20000
 pub path_send : IsSend path.the_row
 path_send = search (key_send, all_cross) depth 40 fits 20000
 
-ruleset parts_cross = (key_send, key_sync, leaf_send, leaf_sync, knot_crosses, all_cross)
+-- how keys compare
+abbrev key_ord : ord.Ghosts key.the_row.Denot
+key_ord = record { cmp = slice_cmp nat_cmp }
+
+abbrev key_eq : eq.Ghosts key.the_row.Denot
+key_eq = record { eq = pointwise ◌==◌ }
+
+abbrev key_partial : partial.Ghosts key.the_row.Denot
+key_partial = record { partial_cmp = as_partial_cmp (slice_cmp nat_cmp) }
 
 -- trees share their children
 pub tree_send : IsSend tree.the_row
-tree_send = search parts_cross depth 40 fits 20000
+tree_send =
+    both_send-Tree leaf_send (λ V s y. map_send key.the_row V key_ord key_eq key_partial key_send key_sync s y)
+    leaf_sync (λ V s y. map_sync key.the_row V key_ord key_eq key_partial key_send key_sync s y)
 
 pub tree_sync : IsSync tree.the_row
-tree_sync = search parts_cross depth 40 fits 20000
+tree_sync =
+    both_sync-Tree leaf_send (λ V s y. map_send key.the_row V key_ord key_eq key_partial key_send key_sync s y)
+    leaf_sync (λ V s y. map_sync key.the_row V key_ord key_eq key_partial key_send key_sync s y)
 
 pub ruleset trees_cross =
     (key_send, key_sync, leaf_send, leaf_sync, path_send, tree_send, tree_sync, all_cross)

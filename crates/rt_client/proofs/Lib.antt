@@ -7,6 +7,7 @@ pub mod Delivered
 pub mod Filters
 pub mod Followed
 pub mod Kept
+pub mod MapCrosses
 pub mod Mirrored
 pub mod Noted
 pub mod Numbers

@@ -1,5 +1,5 @@
 // Children in their places.
-ghost use Rattle.std.specs.Prelude.{◌≡◌, ◌<◌, ◌≤◌, ◌^◌, ◌∷◌, [], false, IfOk, IfSome, OnOk, length};
+ghost use Rattle.std.specs.Prelude.{◌≡◌, ◌≤◌, ◌∷◌, [], false, IfOk, IfSome, OnOk, length, map};
 ghost use Rattle.std.specs.Option.{option_copied};
 ghost use Rattle.rt_tree.specs.PathTree.{child_of, is_null, levels, null, put};
 ghost use Rattle.rt_tree.specs.Children.{children_of};
@@ -8,10 +8,10 @@ ghost use Rattle.rt_view.specs.inside.Kept.{IsWindowOf, placed, put_in};
 
 use crate::position::Position;
 use crate::window::Window;
+use rt_map::OrdMap;
 use rt_query::Query;
 use rt_tree::{Key, MAX_KEYS, Path, Tree, TreeError};
 use std::alloc::{AllocError, Global};
-use std::collections::BTreeMap;
 
 // Puts a child in its place, where it is in the range.
 fn place(
@@ -34,20 +34,35 @@ fn place(
     Ok(())
 }
 
-// Puts all children in their places.
+// The children, each with its key.
+fn listed<'a>(
+    alloc: Global,
+    children: &'a OrdMap<Key, Tree>,
+) -> Result<Vec<(&'a Key, &'a Tree)>, AllocError>
+    ensures { IfOk result (λ found. map (λ c. (c.0.now, c.1.now)) found.items
+        ≡ children.now.entries) }
+{
+    let mut found = Vec::with_capacity(alloc, children.len())?;
+    for child in children {
+        found.push(child)?;
+    }
+    Ok(found)
+}
+
+// Puts all children in their places, the last first.
 fn place_all(
     window: &mut Window,
     alloc: Global,
     query: &Query,
-    children: &BTreeMap<Key, Tree>,
+    children: &OrdMap<Key, Tree>,
 ) -> Result<(), AllocError>
     requires { HasAll window.old [] }
     ensures limit { window.new.limit ≡ window.old.limit }
     ensures placed { OnOk result
         (Becomes window.old window.new (placed query.now [] children.now.entries)) }
 {
-    let mut rest = children.iter();
-    while let Some((key, tree)) = rest.next_back() {
+    let mut rest = listed(alloc, children)?;
+    while let Some((key, tree)) = rest.pop() {
         place(window, alloc, query, key, tree)?;
     }
     Ok(())
@@ -67,8 +82,7 @@ pub fn window_of(alloc: Global, query: &Query, known: &Tree) -> Result<Window, A
 
 // How many children a tree has.
 pub fn count(tree: &Tree) -> u64
-    ensures count { result ≡ length (children_of tree.now) }
-    ensures small { result < 2 ^ 63 }
+    ensures { result ≡ length (children_of tree.now) }
 {
     match tree.children() {
         Some(children) => children.len() as u64,

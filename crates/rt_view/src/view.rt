@@ -165,7 +165,8 @@ impl View {
 
     /// Shows another tree in place of the one that is known, and answers the changes.
     ///
-    /// After `NoMemory` the view has failed.
+    /// After `NoMemory` the view has failed. So it has where the children of both trees together are
+    /// 2^64 or more, which no memory holds.
     pub fn renew(&mut self, alloc: Global, known: Tree) -> Result<ChangeList, ViewError>
         ensures renewed { OnOk result (self.new ≡ renewed self.old known) }
         ensures changes { IfOk result (λ list. list ≡ told self.old (renewed self.old known)) }
@@ -179,7 +180,11 @@ impl View {
             self.failed = true;
             return Err(ViewError::NoMemory);
         };
-        self.reads = count(&self.known) + count(&known);
+        let Some(reads) = count(&self.known).checked_add(count(&known)) else {
+            self.failed = true;
+            return Err(ViewError::NoMemory);
+        };
+        self.reads = reads;
         self.turns = self.turns.wrapping_add(1);
         drop(replace(&mut self.window, window));
         drop(replace(&mut self.tree, tree));
@@ -204,8 +209,8 @@ impl View {
 
     /// Puts the named children in the place of the tree's own, one after another, and answers the
     /// changes; null takes a child out. A named child has at most 31 keys above a leaf, as the
-    /// children of any tree. Costs by the named children and by the changes, and, the first time
-    /// after a copy of the tree or of a `Value` was kept, by the number of children too.
+    /// children of any tree. Costs by the named children and by the changes, also while somebody
+    /// holds a copy of the tree or of a `Value`.
     ///
     /// After `NoMemory` the view has failed.
     pub fn touch(&mut self, alloc: Global, named: Vec<(Key, Tree)>) -> Result<ChangeList, ViewError>
