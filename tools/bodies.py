@@ -8,7 +8,7 @@ no longer fits is no refusal: the run that judges takes such answers away, in it
             tactics don't prove them alone says less. Its goals are kept with it, so that they can be read
   ANSWER    with the answers taken away that no longer fit, all goals are proved: the contract admits the body
   PROVED    all goals are proved with all answers
-  UNTOLD    it could not be judged: it does not compile, changes no function, or is not proved for what a callee owes
+  UNTOLD    it could not be judged: it does not compile, changes no function, is not proved for what a callee owes, or its check was cut off
 """
 import os
 import re
@@ -163,6 +163,7 @@ def groups_of(edits, folder):
 class Said:
     """What a check of some functions says: which answers no longer fit, and which goals are not proved."""
 
+    FAULT = re.compile(r"(?:\./)?(?:src|specs|proofs)/\S+:\d+:\d+: error")
     STALE = re.compile(r"(?:\./)?(proofs/\S+\.antt):(\d+):\d+: error")
     LOST = re.compile(r"(?:\./)?(proofs/\S+\.antt):\d+:\d+: error: .*: module `\S+\.Goals` has no `\S+` that can be named")
     GOAL = re.compile(r"note: (src/\S+\.rt):(\d+):\d+: .* \(`(\S+?)`\)(.*)")
@@ -171,6 +172,8 @@ class Said:
     def __init__(self, text):
         self.lines = text.splitlines()
         self.has_judged = any(it.startswith("only=") for it in self.lines)
+        # one that ends without that and has found no fault of a source was cut off: nothing is known of whether its texts compile
+        self.is_cut_off = not self.has_judged and not any(map(self.FAULT.match, self.lines))
 
     def stale(self):
         """The places in proof files that no longer fit, by file."""
@@ -290,15 +293,24 @@ def verdict_of(function, goals, is_proved, taken, is_last):
 # ---- trying them
 
 
+def checked(functions, folder, flags):
+    """What a check of these functions says; where it was cut off, a second one."""
+    for _ in range(2):
+        said = Said(run(["rt", "check", *flags, *(word for it in functions for word in ("--only", it))], folder).stdout)
+        if not said.is_cut_off:
+            break
+    return said
+
+
 def judged(crate, functions, folder, flags):
     """Checks functions of a crate as it stands in the folder, and what they call, and answers the verdict of each; nothing where it doesn't compile."""
     left, found, texts = list(functions), {}, sources_of(folder)
     taken = Taken(folder, cycles_in(texts))
     try:
         for turn in range(ROUNDS):
-            said = Said(run(["rt", "check", *flags, *(word for it in left for word in ("--only", it))], folder).stdout)
+            said = checked(left, folder, flags)
             if not said.has_judged:
-                return dict.fromkeys(functions, UNTOLD) if turn else None
+                return dict.fromkeys(functions, UNTOLD) if turn or said.is_cut_off else None
             taken.lost |= said.lost()
             is_last = not taken.take(said.stale()) or turn == ROUNDS - 1
             for it in left:

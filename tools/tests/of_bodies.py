@@ -251,6 +251,13 @@ class Judging(unittest.TestCase):
         other = self.OPEN.replace("returns", "returns-then")
         self.assertEqual(self.judged(gone + other, other), bodies.OPEN)
 
+    def test_a_check_that_is_cut_off_is_made_again(self):
+        cut = "checked rt_mail::lane::filled, 1 of 3\n"
+        self.assertEqual(self.judged(cut, self.PROVED), bodies.PROVED)
+        self.assertEqual(self.judged(self.STALE, cut, self.OPEN), bodies.OPEN)
+        self.assertEqual(self.judged(cut, cut), bodies.UNTOLD)
+        self.assertFalse(bodies.Said("src/lane.rt:3:1: error: [borrow-e0382]\n").is_cut_off)
+
     def test_verdicts(self):
         self.assertEqual(self.judged(self.PROVED), bodies.PROVED)
         self.assertEqual(self.judged(self.OPEN), bodies.REFUSED)
