@@ -116,7 +116,7 @@ class Gate(unittest.TestCase):
         self.assertEqual([it.name for it in judge.chosen([edits[0].name], edits)[0]], [edits[0].name])
         with tempfile.TemporaryDirectory() as room:
             self.assertEqual(judge.why_not(edits, [], room), "")
-            self.assertEqual(judge.why_not(judging.edits_of("rt_order")[:1], ["x"], room), "no wrong body: x\nnot built: rt_tree")
+            self.assertEqual(judge.why_not(judging.edits_of("rt_order")[:1], ["x"], room), "no wrong body: x\nnot built: rt_map, rt_tree")
 
     def test_how_they_are_told(self):
         edit = judging.edits_of("rt_push")[0]

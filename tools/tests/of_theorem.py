@@ -14,7 +14,7 @@ from bodies import read
 from theorem.entries import BY_LAWS, laws_of
 from theorem.files import CLOSE, OPEN, Module, RustFile, compact
 from theorem.files import words_of as terms_of
-from theorem.page import together
+from theorem.page import PAGE, together
 from theorem.sources import Sources, Unplaced
 
 
@@ -33,7 +33,7 @@ def put_together(file):
 
 def printed_together(file):
     """The lines that the script prints of a file's definitions, in their order, with those of proofs that it leaves out behind each."""
-    found = dict.fromkeys(theorem.Module(file).definitions.values())
+    found = dict.fromkeys(Module(file).definitions.values())
     left_out = lambda it: it.text.removeprefix(it.signature) if it.is_proof() else ""
     return [line for it in found for line in lines_of(it.printed() + left_out(it))]
 
@@ -172,10 +172,10 @@ class Laws(unittest.TestCase):
 
 class Pages(unittest.TestCase):
     def test_the_page_has_whole_definitions(self):
-        by_laws = {name for _, name in theorem.BY_LAWS} | {law for _, laws in theorem.BY_LAWS.values() for law in laws}
+        by_laws = {name for _, name in BY_LAWS} | {law for _, laws in BY_LAWS.values() for law in laws}
         count = 0
-        for file, block in shown_on(theorem.read(f"{ROOT}/{theorem.PAGE}")):
-            whole = theorem.Module(file).definitions
+        for file, block in shown_on(read(f"{ROOT}/{PAGE}")):
+            whole = Module(file).definitions
             for name, it in of_text(block).items():
                 if name not in by_laws and not whole[name].is_proof():
                     with self.subTest(f"{os.path.relpath(file, ROOT)}, {name}"):
