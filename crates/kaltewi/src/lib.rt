@@ -40,6 +40,7 @@ pub use rt_client::{
 };
 pub use rt_cover::{Kept, KeptList};
 pub use rt_mail::{Inbox, Item, MailError, Mirror, Receipt};
+pub use rt_map::OrdMap;
 pub use rt_order::{Index, Mark};
 pub use rt_peer::{Peer, PeerError, Sent};
 pub use rt_push::{PushError, PushIds};

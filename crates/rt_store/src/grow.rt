@@ -25,10 +25,7 @@ pub(crate) struct Child<'a> {
 }
 
 // The children, the last in the order of keys first.
-fn falling<'a>(
-    alloc: Global,
-    children: &'a OrdMap<Key, Tree>,
-) -> Result<Vec<Child<'a>>, AllocError>
+fn falling<'a>(alloc: Global, children: &'a OrdMap<Key, Tree>) -> Result<Vec<Child<'a>>, AllocError>
     requires { IsOrdered key_cmp children.now }
     ensures { IfOk result (λ found. reverse (map seen found.items)
         ≡ in_key_order children.now.entries) }
