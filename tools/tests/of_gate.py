@@ -81,7 +81,7 @@ class Gate(unittest.TestCase):
         self.assertEqual(list(lacking.ends_in(data, b"abxx")), [(1, ended), (2, ended), (3, None)])
 
     def test_a_row_of_calls_says_once_that_memory_lacks(self):
-        row = rows.Row("calls/low/push")
+        row = rows.Row("calls/low/tree_children")
         whole = row.out
         self.assertTrue(lacking.told_by_calls(row, (0, b"NoMemory\n" + whole, b"")))
         self.assertFalse(lacking.told_by_calls(row, (0, whole, b"")))

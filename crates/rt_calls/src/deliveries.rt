@@ -2,13 +2,12 @@
 ghost use Rattle.std.specs.Prelude.{[], ◌∷◌, ◌++◌};
 ghost use Rattle.circular_buffer.specs.Buffer.{buffer, keep_last};
 
-use crate::clients::{Chair, say_error};
-use crate::fault::Fault;
+use crate::clients::refused;
+use crate::fault::{Fault, Told};
 use crate::line::Line;
-use crate::seats::failed;
 use crate::tell::tell_next;
 use circular_buffer::HeapCircularBuffer;
-use rt_client::{Client, ClientError, Gate, Sink};
+use rt_client::{Client, ClientError, Gate, Seat, Sink};
 use rt_mail::Item;
 use std::alloc::Global;
 use std::marker::PhantomData;
@@ -73,10 +72,9 @@ fn tell_all(basket: &mut Basket, line: &mut Line) {
 }
 
 // `hand_out`: what the ring holds, in order.
-pub(crate) fn hand_out(chair: &mut Chair, line: &mut Line) -> Result<(), Fault> {
+pub(crate) fn hand_out(seat: &mut Seat, line: &mut Line) -> Told {
     let mut basket = new_basket(line.alloc)?;
-    chair.seat.hand_out(&mut basket);
-    chair.owed = 0;
+    seat.hand_out(&mut basket);
     line.say("given");
     tell_all(&mut basket, line);
     Ok(())
@@ -84,11 +82,7 @@ pub(crate) fn hand_out(chair: &mut Chair, line: &mut Line) -> Result<(), Fault> 
 
 // `deliver TURNS`: how often the gate was asked, why it was refused, if it was, and what the sink
 // was given.
-pub(crate) fn deliver<R: Wait>(
-    client: &mut Client,
-    chair: &mut Chair,
-    line: &mut Line,
-) -> Result<(), Fault> {
+pub(crate) fn deliver<R: Wait>(client: &mut Client, seat: &mut Seat, line: &mut Line) -> Told {
     let turns = line.number();
     line.sound()?;
     let mut basket = new_basket(line.alloc)?;
@@ -96,17 +90,14 @@ pub(crate) fn deliver<R: Wait>(
         times: AtomicU64::new(0),
     };
     let rt = Waits::<R> { rt: PhantomData };
-    let answer = rt_client::deliver(&rt, client, &mut chair.seat, &mut basket, &gate, turns);
-    if basket.items.len() > 0 {
-        chair.owed = 0;
-    }
-    if answer == Err(ClientError::NoMemory) {
-        return Err(failed(client.shared.get_mut(), chair, line.alloc));
+    let answer = rt_client::deliver(&rt, client, seat, &mut basket, &gate, turns);
+    if let Err(ClientError::NoMemory | ClientError::Failed) = answer {
+        return Err(Fault::Lost);
     }
     line.display(&gate.times.load(Ordering::SeqCst));
     if let Err(error) = answer {
         line.say(" ");
-        say_error(error, line);
+        refused(error, line)?;
     }
     tell_all(&mut basket, line);
     Ok(())

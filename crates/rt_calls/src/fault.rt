@@ -1,15 +1,22 @@
 // Why a line said nothing.
-use rt_query::QueryError;
+use rt_lines::LineError;
+use rt_mail::MailError;
 use rt_tree::TreeError;
 use rt_wire::WireError;
 use std::alloc::{AllocError, AllocFailed};
 
+// Nothing, where what a line asks for is made and said.
+pub(crate) type Told = Result<(), Fault>;
+
 // Why a line said nothing.
 #[derive(Clone, Copy)]
 pub(crate) enum Fault {
-    // Memory was lacking, and nothing has changed: the line is made once more.
+    // Memory was lacking, and nothing has changed, or else what was called has failed for good: the line
+    // is made once more, and says then which it was.
     NoMemory,
-    // Memory was lacking, and what was called has failed for good, and has said so: all is made anew.
+    // Memory was lacking for a part of what the line asks for: all is made anew.
+    Lost,
+    // What is called has failed for good: all is made anew.
     Failed,
     // There is no such call, or a word of it stands for nothing.
     NoSuchCall,
@@ -37,22 +44,31 @@ impl From<TreeError> for Fault {
     }
 }
 
-// The fault of a query that is not itself what is tested.
-impl From<QueryError> for Fault {
-    fn from(error: QueryError) -> Fault {
-        match error {
-            QueryError::NoMemory => Fault::NoMemory,
-            _ => Fault::NoSuchCall,
-        }
-    }
-}
-
 // The fault of a message that is given to a call.
 impl From<WireError> for Fault {
     fn from(error: WireError) -> Fault {
         match error {
             WireError::NoMemory => Fault::NoMemory,
             _ => Fault::NoSuchCall,
+        }
+    }
+}
+
+// The fault of a line of a script that is given to a call.
+impl From<LineError> for Fault {
+    fn from(error: LineError) -> Fault {
+        match error {
+            LineError::NoMemory => Fault::NoMemory,
+            LineError::Bad | LineError::Refused(_) => Fault::NoSuchCall,
+        }
+    }
+}
+
+impl From<MailError> for Fault {
+    fn from(error: MailError) -> Fault {
+        match error {
+            MailError::NoMemory => Fault::NoMemory,
+            MailError::Failed => Fault::Failed,
         }
     }
 }

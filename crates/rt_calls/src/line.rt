@@ -1,7 +1,9 @@
 // A line of calls: its words, one space between two, and what they stand for; and all that is said.
-use crate::fault::Fault;
-use rt_order::Mark;
-use rt_tree::{Key, Leaf, Path, Tree};
+use crate::fault::{Fault, Told};
+use rt_lines::{Line as ScriptLine, LineError};
+use rt_query::Query;
+use rt_tree::{Key, Path, Tree};
+use rt_world::Step;
 use std::alloc::{AllocError, Global};
 use std::fmt::{Debug, Display};
 use std::num::ParseIntError;
@@ -13,16 +15,6 @@ use std::str::FromStr;
 pub(crate) struct Word {
     from: usize,
     to: usize,
-}
-
-impl Word {
-    pub(crate) fn len(self) -> usize {
-        self.to.saturating_sub(self.from)
-    }
-
-    pub(crate) fn is_empty(self) -> bool {
-        self.len() == 0
-    }
 }
 
 // A line, whose words are read one after another, and what was said of this one and of those before
@@ -43,6 +35,53 @@ pub(crate) struct Line {
 }
 
 const ROOM: usize = 1 << 20;
+
+// What words of a line stand for.
+pub(crate) trait FromLine: Drop + Sized {
+    fn from_line(line: &mut Line) -> Self;
+}
+
+impl FromLine for u64 {
+    fn from_line(line: &mut Line) -> u64 {
+        line.number()
+    }
+}
+
+impl FromLine for usize {
+    fn from_line(line: &mut Line) -> usize {
+        line.number()
+    }
+}
+
+// A path, as `/a/b`.
+impl FromLine for Path {
+    fn from_line(line: &mut Line) -> Path {
+        let word = line.word();
+        line.path_of(word)
+    }
+}
+
+// The tree of JSON data.
+impl FromLine for Tree {
+    fn from_line(line: &mut Line) -> Tree {
+        let word = line.word();
+        line.tree_of(word)
+    }
+}
+
+// A step, as the line of a script that asks for it, without spaces.
+impl FromLine for Step {
+    fn from_line(line: &mut Line) -> Step {
+        let word = line.word();
+        match line.step_of(word) {
+            Ok(step) => step,
+            Err(error) => {
+                line.fail(error.into());
+                Step::Disconnected
+            }
+        }
+    }
+}
 
 impl Line {
     // An empty line, with room for one of so many bytes, and nothing said yet.
@@ -73,12 +112,12 @@ impl Line {
     pub(crate) fn fail(&mut self, fault: Fault) {
         match fault {
             Fault::NoSuchCall => self.fault = self.fault.or(Some(fault)),
-            Fault::NoMemory | Fault::Failed => self.fault = Some(fault),
+            Fault::NoMemory | Fault::Lost | Fault::Failed => self.fault = Some(fault),
         }
     }
 
     // Why it has failed, if it has.
-    pub(crate) fn sound(&self) -> Result<(), Fault> {
+    pub(crate) fn sound(&self) -> Told {
         match self.fault {
             Some(fault) => Err(fault),
             None => Ok(()),
@@ -87,24 +126,15 @@ impl Line {
 
     // A value that was read, unless the line has failed.
     pub(crate) fn given<T: Drop>(&self, value: T) -> Result<T, Fault> {
-        match self.fault {
-            Some(fault) => Err(fault),
-            None => Ok(value),
-        }
+        self.sound()?;
+        Ok(value)
     }
 
     // Why it has failed, if it has. What is said from then on is said.
-    pub(crate) fn end(&mut self) -> Result<(), Fault> {
+    pub(crate) fn end(&mut self) -> Told {
         let answer = self.sound();
         self.fault = None;
         answer
-    }
-
-    // Adds a value to those before it.
-    pub(crate) fn push<T: Drop>(&mut self, values: &mut Vec<T>, value: T) {
-        if values.push(value).is_err() {
-            self.fail(Fault::NoMemory);
-        }
     }
 
     // ---- its words
@@ -119,34 +149,9 @@ impl Line {
         self.text.len().saturating_sub(self.from)
     }
 
-    // All that follows.
-    pub(crate) fn rest(&self) -> Word {
-        Word {
-            from: self.from,
-            to: self.text.len(),
-        }
-    }
-
     // The text of a word.
     pub(crate) fn at(&self, word: Word) -> &str {
         self.text.as_str().get(word.from..word.to).unwrap_or("")
-    }
-
-    // A word in two, at the first of these characters; the second is empty where there is none.
-    pub(crate) fn parts(&self, word: Word, between: char) -> (Word, Word) {
-        let text = self.at(word);
-        let (front, back) = text.split_once(between).unwrap_or((text, ""));
-        let to = word.from.saturating_add(front.len());
-        let from = word.to.saturating_sub(back.len());
-        (Word { to, ..word }, Word { from, ..word })
-    }
-
-    // What is behind the first of these characters in a word, where there is one.
-    pub(crate) fn behind(&self, word: Word, between: char) -> Option<&str> {
-        match self.at(word).split_once(between) {
-            Some((_, back)) => Some(back),
-            None => None,
-        }
     }
 
     // Where the next word stands; behind the last there is none.
@@ -154,8 +159,14 @@ impl Line {
         if self.is_empty() {
             self.fail(Fault::NoSuchCall);
         }
-        let (word, rest) = self.parts(self.rest(), ' ');
-        self.from = rest.from;
+        let (from, to) = (self.from, self.text.len());
+        let rest = self.at(Word { from, to });
+        let (front, back) = rest.split_once(' ').unwrap_or((rest, ""));
+        let word = Word {
+            from,
+            to: from.saturating_add(front.len()),
+        };
+        self.from = to.saturating_sub(back.len());
         word
     }
 
@@ -165,8 +176,28 @@ impl Line {
         self.at(word)
     }
 
-    // The number of a word; 0 where it is none of that type.
-    pub(crate) fn number_of<T: FromStr<Err = ParseIntError> + Default>(&mut self, word: Word) -> T {
+    // What the next words stand for.
+    pub(crate) fn read<T: FromLine>(&mut self) -> T {
+        T::from_line(self)
+    }
+
+    // What all words to the end stand for.
+    pub(crate) fn all<T: FromLine>(&mut self) -> Vec<T> {
+        let mut values = Vec::new(self.alloc);
+        for _ in 0..self.len() {
+            if self.is_empty() {
+                break;
+            }
+            if values.push(T::from_line(self)).is_err() {
+                self.fail(Fault::NoMemory);
+            }
+        }
+        values
+    }
+
+    // A number of that type; 0 where the word is none.
+    pub(crate) fn number<T: FromStr<Err = ParseIntError> + Default>(&mut self) -> T {
+        let word = self.word();
         match self.at(word).parse() {
             Ok(number) => number,
             Err(_) => {
@@ -176,13 +207,7 @@ impl Line {
         }
     }
 
-    // A number of that type.
-    pub(crate) fn number<T: FromStr<Err = ParseIntError> + Default>(&mut self) -> T {
-        let word = self.word();
-        self.number_of(word)
-    }
-
-    // The path of a word, as `/a/b`.
+    // The path of a word.
     pub(crate) fn path_of(&mut self, word: Word) -> Path {
         match Path::parse(self.alloc, self.at(word)) {
             Ok(path) => path,
@@ -193,35 +218,13 @@ impl Line {
         }
     }
 
-    // A path.
-    pub(crate) fn path(&mut self) -> Path {
-        let word = self.word();
-        self.path_of(word)
-    }
-
-    // The key of a word; there is no empty one.
-    pub(crate) fn key_of(&mut self, word: Word) -> Option<Key> {
-        match Key::parse(self.alloc, self.at(word)) {
-            Ok(key) => Some(key),
-            Err(error) => {
-                self.fail(error.into());
-                None
-            }
-        }
-    }
-
-    // A key, where the next word is one.
-    pub(crate) fn key_if(&mut self) -> Option<Key> {
-        let word = self.word();
-        self.key_of(word)
-    }
-
     // A key.
     pub(crate) fn key(&mut self) -> Result<Key, Fault> {
-        self.key_if().ok_or(Fault::NoSuchCall)
+        let word = self.word();
+        Ok(Key::parse(self.alloc, self.at(word))?)
     }
 
-    // The tree of JSON data.
+    // The tree of a word.
     pub(crate) fn tree_of(&mut self, word: Word) -> Tree {
         match Tree::read(self.alloc, self.at(word)) {
             Ok(tree) => tree,
@@ -232,99 +235,55 @@ impl Line {
         }
     }
 
-    // The tree of JSON data, of one word.
-    pub(crate) fn tree(&mut self) -> Tree {
-        let word = self.word();
-        self.tree_of(word)
-    }
-
-    // The leaf of JSON data, or null.
-    pub(crate) fn mark_of(&mut self, word: Word) -> Mark {
-        match self.tree_of(word).as_leaf() {
-            None => Mark::Null,
-            Some(leaf) => self.leaf_mark(leaf),
-        }
-    }
-
-    fn leaf_mark(&mut self, leaf: &Leaf) -> Mark {
-        match leaf.copy(self.alloc) {
-            Ok(copy) => Mark::Leaf(copy),
-            Err(error) => {
-                self.fail(error.into());
-                Mark::Null
-            }
-        }
-    }
-
     // A path, and the tree that stands or is to stand there.
     pub(crate) fn entry(&mut self) -> (Path, Tree) {
-        (self.path(), self.tree())
+        (self.read(), self.read())
     }
 
-    // So many entries.
-    pub(crate) fn entries(&mut self) -> Vec<(Path, Tree)> {
-        let mut entries = Vec::new(self.alloc);
-        for _ in 0..self.number::<u64>() {
-            let entry = self.entry();
-            self.push(&mut entries, entry);
+    // The step of a word that is a line of a script.
+    fn step_of(&mut self, word: Word) -> Result<Step, LineError> {
+        match ScriptLine::read(self.alloc, self.at(word).as_bytes())? {
+            ScriptLine::Step(step) => Ok(step),
+            ScriptLine::Out | ScriptLine::Cover => Err(LineError::Bad),
+            ScriptLine::View(_) | ScriptLine::Push { .. } => Err(LineError::Bad),
         }
-        entries
     }
 
-    // A text that a JSON string gives.
-    pub(crate) fn text(&mut self) -> String {
-        let tree = self.tree();
-        let mut text = String::new(self.alloc);
-        match tree.as_leaf().and_then(|leaf| leaf.as_str()) {
-            Some(piece) => self.add(&mut text, piece),
-            None => self.fail(Fault::NoSuchCall),
+    // A query: a path, or the line of a script that listens with it.
+    pub(crate) fn query(&mut self) -> Query {
+        let word = self.word();
+        if !self.at(word).starts_with('[') {
+            return Query::at(self.path_of(word)).done();
         }
-        text
-    }
-
-    // A text that a JSON string and a number give: the string so many times.
-    pub(crate) fn repeated(&mut self) -> String {
-        let piece = self.text();
-        let mut text = String::new(self.alloc);
-        for _ in 0..self.number::<u64>() {
-            self.add(&mut text, piece.as_str());
+        match self.step_of(word) {
+            Ok(Step::Listen { query, .. }) => return query,
+            Ok(_) => self.fail(Fault::NoSuchCall),
+            Err(error) => self.fail(error.into()),
         }
-        text
+        Query::at(Path::root(self.alloc)).done()
     }
 
     // The text of pieces: a word, and each that follows as many times as the number before it.
     pub(crate) fn pieces(&mut self) -> String {
         let mut text = String::new(self.alloc);
         let first = self.word();
-        self.add_word(&mut text, first);
+        self.add_times(&mut text, first, 1);
         for _ in 0..self.len() {
             if self.is_empty() {
                 break;
             }
-            self.add_piece(&mut text);
+            let count = self.number();
+            let piece = self.word();
+            self.add_times(&mut text, piece, count);
         }
         text
     }
 
-    fn add_piece(&mut self, text: &mut String) {
-        let count: u64 = self.number();
-        let piece = self.word();
+    fn add_times(&mut self, text: &mut String, word: Word, count: u64) {
         for _ in 0..count {
-            self.add_word(text, piece);
-        }
-    }
-
-    // Adds a word to a text.
-    fn add_word(&mut self, text: &mut String, word: Word) {
-        if text.push_str(self.at(word)).is_err() {
-            self.fail(Fault::NoMemory);
-        }
-    }
-
-    // Adds a piece to a text.
-    pub(crate) fn add(&mut self, text: &mut String, piece: &str) {
-        if text.push_str(piece).is_err() {
-            self.fail(Fault::NoMemory);
+            if text.push_str(self.at(word)).is_err() {
+                self.fail(Fault::NoMemory);
+            }
         }
     }
 
@@ -337,28 +296,33 @@ impl Line {
         }
     }
 
+    // Says the name of a refusal, which is all that is answered.
+    pub(crate) fn refused(&mut self, name: &str) -> Told {
+        self.say(name);
+        Ok(())
+    }
+
     // All that was said.
     pub(crate) fn said(&self) -> &str {
         self.said.as_str()
     }
 
-    // Says a made text. One that lacked memory is made once more by the caller.
+    // Says a made text. One that lacked memory is made once more by the caller; where the line has
+    // failed, all of it is.
     pub(crate) fn made(&mut self, made: Result<String, AllocError>) -> bool {
         match made {
-            Ok(text) => self.say(text.as_str()),
-            Err(_) => return self.lacks(),
+            Ok(text) => {
+                self.say(text.as_str());
+                true
+            }
+            Err(_) => {
+                if self.fault.is_some() {
+                    self.fail(Fault::NoMemory);
+                }
+                self.say("NoMemory\n");
+                false
+            }
         }
-        true
-    }
-
-    // Says that memory was lacking for a text, which is made once more. Where the line has failed,
-    // all of it is.
-    pub(crate) fn lacks(&mut self) -> bool {
-        if self.fault.is_some() {
-            self.fail(Fault::NoMemory);
-        }
-        self.say("NoMemory\n");
-        false
     }
 
     // Says the JSON text of a tree.
@@ -372,25 +336,10 @@ impl Line {
         let _ = self.made(format!(in alloc; "{value}")) || self.made(format!(in alloc; "{value}"));
     }
 
-    // Says what a value is for its programmer.
+    // Says numbers, truth values, and what is made of them.
     pub(crate) fn debug(&mut self, value: impl Debug + Drop) {
         let alloc = self.alloc;
         let _ = self.made(format!(in alloc; "{value:?}"))
             || self.made(format!(in alloc; "{value:?}"));
     }
-    // Says a refusal: its number and what it is for its programmer, its name, and its text.
-    pub(crate) fn refusal<E: Debug + Display>(&mut self, code: u8, name: &str, error: &E) {
-        let alloc = self.alloc;
-        let _ = self.made(refusal_of(alloc, code, name, error))
-            || self.made(refusal_of(alloc, code, name, error));
-    }
-}
-
-fn refusal_of<E: Debug + Display>(
-    alloc: Global,
-    code: u8,
-    name: &str,
-    error: &E,
-) -> Result<String, AllocError> {
-    format!(in alloc; "({code}, {error:?}){name}: {error}")
 }

@@ -1,10 +1,9 @@
 // The lines, one after another.
 use crate::State;
-use crate::fault::Fault;
+use crate::fault::{Fault, Told};
 use crate::line::Line;
 use std::alloc::Global;
 use std::io::{Read, Write};
-use std::process::ExitCode;
 use std::sync::Wait;
 
 fn is_passed_over(text: &str) -> bool {
@@ -13,24 +12,13 @@ fn is_passed_over(text: &str) -> bool {
 
 // Makes the call of a line. Why the line failed counts above what the call answers, but for a word
 // that stands for nothing, beside which memory may have lacked.
-fn call<R: Wait>(state: &mut State, text: &str, line: &mut Line) -> Result<(), Fault> {
+fn call<R: Wait>(state: &mut State, text: &str, line: &mut Line) -> Told {
     line.begin(text);
     let answer = state.call::<R>(line);
     match (line.end(), answer) {
         (Err(Fault::NoSuchCall), Err(fault)) => Err(fault),
         (Err(fault), _) => Err(fault),
         (Ok(()), answer) => answer,
-    }
-}
-
-// Makes the call of a line, behind those before it, and once more where memory was lacking.
-fn make<R: Wait>(state: &mut State, text: &str, line: &mut Line) -> Result<(), Fault> {
-    match call::<R>(state, text, line) {
-        Err(Fault::NoMemory) => {
-            line.say("NoMemory\n");
-            call::<R>(state, text, line)
-        }
-        answer => answer,
     }
 }
 
@@ -46,30 +34,37 @@ fn make_anew<R: Wait>(state: &mut State, texts: &str, count: usize, line: &mut L
     line.is_quiet = false;
 }
 
-// Makes the call of a line, behind so many, and where what is called has failed, these and then it
-// once more.
+// Makes the call of a line, behind so many, and says it and what it answers. Where memory was lacking it
+// is made once more, and where what is called has failed, these lines and then it are.
 fn make_line<R: Wait>(
     state: &mut State,
     texts: &str,
     count: usize,
     text: &str,
     line: &mut Line,
-) -> Result<(), Fault> {
-    match make::<R>(state, text, line) {
+) -> Told {
+    line.say(text);
+    line.say(" => ");
+    let mut answer = call::<R>(state, text, line);
+    if let Err(Fault::NoMemory | Fault::Lost) = answer {
+        line.say("NoMemory\n");
+    }
+    if let Err(Fault::NoMemory) = answer {
+        answer = call::<R>(state, text, line);
+    }
+    if let Err(Fault::Lost | Fault::Failed) = answer {
+        make_anew::<R>(state, texts, count, line);
+        answer = call::<R>(state, text, line);
+    }
+    match answer {
         Ok(()) => line.say("\n"),
         Err(Fault::NoSuchCall) => line.say("NoSuchCall\n"),
-        Err(Fault::NoMemory) => return Err(Fault::NoMemory),
-        Err(Fault::Failed) => {
-            line.say("NoMemory\n");
-            make_anew::<R>(state, texts, count, line);
-            make::<R>(state, text, line)?;
-            line.say("\n");
-        }
+        Err(fault) => return Err(fault),
     }
     Ok(())
 }
 
-fn make_lines<R: Wait>(texts: &str, line: &mut Line) -> Result<(), Fault> {
+fn make_lines<R: Wait>(texts: &str, line: &mut Line) -> Told {
     let mut state = State::new(line.alloc);
     for (count, text) in texts.lines().enumerate() {
         if !is_passed_over(text) {
@@ -79,8 +74,9 @@ fn make_lines<R: Wait>(texts: &str, line: &mut Line) -> Result<(), Fault> {
     Ok(())
 }
 
-// Nothing where a stream failed, or memory was lacking before the first call or for good.
-fn run_through<R: Wait>(
+// Makes the calls of the input's lines, and then writes what was said of them. Answers nothing where a
+// stream failed, or memory was lacking before the first call or for good.
+pub(crate) fn run<R: Wait>(
     alloc: Global,
     input: &mut impl Read,
     output: &mut impl Write,
@@ -91,17 +87,4 @@ fn run_through<R: Wait>(
     let made = make_lines::<R>(texts.as_str(), &mut line);
     output.write_all(line.said().as_bytes()).ok()?;
     made.ok()
-}
-
-// Makes the calls of the input's lines, and then writes what was said of them. The status is 1
-// where a stream failed or memory was lacking before the first call.
-pub(crate) fn run<R: Wait>(
-    alloc: Global,
-    input: &mut impl Read,
-    output: &mut impl Write,
-) -> ExitCode {
-    match run_through::<R>(alloc, input, output) {
-        Some(()) => ExitCode::SUCCESS,
-        None => ExitCode::FAILURE,
-    }
 }

@@ -1,9 +1,10 @@
-//! Makes calls of the libraries, one a line of its input, and prints what each answers.
+//! Makes calls of the libraries, one a line of its input, and prints each with what it answers: those
+//! that no script of the console makes.
 //!
-//! A line names a library, a call and what is given to it. A call that lacks memory prints
-//! `NoMemory`, and is made once more: since `./check` refuses one allocation of a run, all that is
-//! printed but for this line has to be what is printed with none refused. Empty lines, and those that
-//! begin with `#`, are passed over.
+//! A line names a library, a call and what is given to it. It is printed, and behind ` => ` its answer.
+//! A call that lacks memory prints `NoMemory`, and is made once more: since `./check` refuses one
+//! allocation of a run, all that is printed but for this line has to be what is printed with none
+//! refused. Empty lines, and those that begin with `#`, are passed over.
 #![tactic(auto)]
 
 mod cache;
@@ -11,18 +12,14 @@ mod clients;
 mod cores;
 mod cover;
 mod deliveries;
-mod drafts;
 mod errors;
 mod fault;
-mod items;
 mod lanes;
 mod line;
 mod lines;
 mod mirrors;
 mod order;
 mod peers;
-mod push;
-mod query;
 mod seats;
 mod store;
 mod tell;
@@ -31,53 +28,62 @@ mod view;
 mod wire;
 mod writes;
 
-use crate::clients::Held;
-use crate::fault::Fault;
+use crate::clients::Seats;
+use crate::fault::{Fault, Told};
 use crate::line::Line;
+use rt_cache::Brought;
+use rt_client::Client;
 use rt_cover::Cover;
-use rt_mail::{Inbox, Lane};
+use rt_mail::{Inbox, Lane, Mirror};
 use rt_peer::Peer;
-use rt_push::PushIds;
-use rt_query::{Draft, Query};
+use rt_store::{Node, Store};
 use rt_sync::Core;
-use rt_tree::{Path, Tree};
+use rt_tree::Tree;
+use rt_view::{Batch, ChangeList, View};
 use rt_world::Limits;
 use rt_writes::Pending;
 use std::alloc::Global;
 use std::process::ExitCode;
 use std::sync::Wait;
 
-// What the lines so far have made. There is no client and no ring at first, and the peer has no tree
-// and no denied path; the lane is the ring's, and the mirror is of what is taken from it or from seats.
+// What the lines so far have made. There is no client, no ring and no view at first, and the peer has no
+// tree and no denied path; the lane is the ring's, the mirror that of what seats gave. The copy is the
+// tree's, the node one of the store, found before its last changes; `told` is what the view told last.
 struct State {
-    cache: cache::State,
+    brought: Brought,
+    client: Option<Client>,
+    copy: Tree,
     core: Core,
     cover: Cover,
-    draft: Draft,
-    held: Held,
     inbox: Option<Inbox>,
     lane: Lane,
+    mirror: Mirror,
+    node: Option<Node>,
     peer: Peer,
-    ids: PushIds,
-    store: store::State,
-    tree: tree::State,
-    view: view::State,
+    seats: Seats,
+    store: Store,
+    told: Batch,
+    tree: Tree,
+    view: Option<View>,
     writes: Pending,
 }
 
 impl Drop for State {
     fn drop(self) {
         let State {
-            cache: _,
+            brought: _,
+            client: _,
+            copy: _,
             core: _,
             cover: _,
-            draft: _,
-            held: _,
             inbox: _,
             lane: _,
+            mirror: _,
+            node: _,
             peer: _,
-            ids: _,
+            seats: _,
             store: _,
+            told: _,
             tree: _,
             view: _,
             writes: _,
@@ -88,42 +94,49 @@ impl Drop for State {
 impl State {
     // What there is before the first line.
     fn new(alloc: Global) -> State {
+        let changes = ChangeList::of(Vec::new(alloc));
         State {
-            cache: cache::State::new(alloc),
+            brought: Brought::new(alloc),
+            client: None,
+            copy: Tree::null(),
             core: Core::new(alloc, Limits::full()),
             cover: Cover::new(alloc, 100),
-            draft: Query::at(Path::root(alloc)),
-            held: Held::new(alloc),
             inbox: None,
             lane: Lane::new(alloc),
+            mirror: Mirror::new(alloc),
+            node: None,
             peer: Peer::new(Tree::null(), Vec::new(alloc)),
-            ids: PushIds::new(),
-            store: store::State::new(alloc),
-            tree: tree::State::new(),
-            view: view::State::new(alloc),
+            seats: Vec::new(alloc),
+            store: Store::new(alloc),
+            told: Batch {
+                listener: 0,
+                changes,
+            },
+            tree: Tree::null(),
+            view: None,
             writes: Pending::new(alloc),
         }
     }
 
     // Makes the call of a line, of which the first word is the library, and says what it answers. Where
     // it lacks memory it has changed nothing, or else has Failed. A delivery may wait, as R may.
-    fn call<R: Wait>(&mut self, line: &mut Line) -> Result<(), Fault> {
+    fn call<R: Wait>(&mut self, line: &mut Line) -> Told {
         match line.next() {
-            "cache" => cache::call(&mut self.cache, line),
-            "client" => clients::call(&mut self.held, line),
+            "cache" => cache::call(&mut self.brought, line),
+            "client" => clients::call(&mut self.client, &mut self.seats, line),
             "core" => cores::call(&mut self.core, line),
             "cover" => cover::call(&mut self.cover, line),
             "errors" => errors::call(line),
             "lane" => lanes::call(&mut self.lane, &mut self.inbox, line),
-            "mirror" => mirrors::call(&mut self.held.mirror, &mut self.inbox, line),
+            "mirror" => mirrors::call(&mut self.mirror, line),
             "order" => order::call(line),
             "peer" => peers::call(&mut self.peer, line),
-            "push" => push::call(&mut self.ids, line),
-            "query" => query::call(&mut self.draft, line),
-            "seat" => seats::call::<R>(&mut self.held, line),
-            "store" => store::call(&mut self.store, line),
-            "tree" => tree::call(&mut self.tree, line),
-            "view" => view::call(&mut self.view, line),
+            "seat" => {
+                seats::call::<R>(&mut self.client, &mut self.seats, &mut self.mirror, line)
+            }
+            "store" => store::call(&mut self.store, &mut self.node, line),
+            "tree" => tree::call(&mut self.tree, &mut self.copy, line),
+            "view" => view::call(&mut self.view, &mut self.told, line),
             "wire" => wire::call(line),
             "writes" => writes::call(&mut self.writes, line),
             _ => Err(Fault::NoSuchCall),
@@ -132,5 +145,8 @@ impl State {
 }
 
 fn main(rt: HostRuntime) -> ExitCode {
-    lines::run::<HostRuntime>(rt.alloc(), &mut rt.stdin(), &mut rt.stdout())
+    match lines::run::<HostRuntime>(rt.alloc(), &mut rt.stdin(), &mut rt.stdout()) {
+        Some(()) => ExitCode::SUCCESS,
+        None => ExitCode::FAILURE,
+    }
 }

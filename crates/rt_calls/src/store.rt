@@ -1,59 +1,38 @@
 // A store, and its nodes.
-use crate::fault::Fault;
-use crate::line::Line;
+use crate::fault::{Fault, Told};
+use crate::line::{FromLine, Line};
 use rt_store::{Change, Node, Store, StoreError};
-use rt_tree::{Path, Tree, TreeError};
-use std::alloc::{AllocError, Global};
-
-// A store, and a node of it that was found before its last changes.
-pub(crate) struct State {
-    store: Store,
-    node: Option<Node>,
-}
-
-impl Drop for State {
-    fn drop(self) {
-        let State { store: _, node: _ } = self;
-    }
-}
-
-impl State {
-    pub(crate) fn new(alloc: Global) -> State {
-        State {
-            store: Store::new(alloc),
-            node: None,
-        }
-    }
-}
-
-fn fault(error: StoreError) -> Fault {
-    match error {
-        StoreError::NoMemory => Fault::NoMemory,
-        StoreError::TooDeep => Fault::NoSuchCall,
-    }
-}
+use rt_tree::{Leaf, LeafRef, Path};
 
 // ---- what stands in a store
 
-fn key_of(store: &Store, node: Option<Node>) -> &str {
+fn say_key(store: &Store, node: Option<Node>, line: &mut Line) {
     let key = node.and_then(|node| store.key(node));
-    key.map_or("no key", |key| key.text())
+    line.say(key.map_or("-", |key| key.text()));
 }
 
-// What is known of nodes: of each its leaf, its key, and the keys of its first child and of the
-// sibling behind it.
-fn known(store: &Store, nodes: &[Node], line: &mut Line) -> String {
-    let mut text = String::new(line.alloc);
-    for node in nodes {
-        let leaf = store.leaf(*node).map(|leaf| leaf.value());
-        let key = key_of(store, Some(*node));
-        let first = key_of(store, store.first_child(*node));
-        let next = key_of(store, store.next_sibling(*node));
-        if write!(text, "{leaf:?}, {key}, {first}, {next}; ").is_err() {
-            line.fail(Fault::NoMemory);
-        }
+fn say_leaf(leaf: &Leaf, line: &mut Line) {
+    match leaf.value() {
+        LeafRef::Truth(truth) => line.display(&truth),
+        LeafRef::Number(number) => line.display(&number),
+        LeafRef::Text(text) => line.say(text),
     }
-    text
+}
+
+// What is known of a node: its leaf, its key, and the keys of its first child and of the sibling
+// behind it.
+fn say_known(store: &Store, node: Node, line: &mut Line) {
+    match store.leaf(node) {
+        Some(leaf) => say_leaf(leaf, line),
+        None => line.say("-"),
+    }
+    line.say(" ");
+    say_key(store, Some(node), line);
+    line.say(" ");
+    say_key(store, store.first_child(node), line);
+    line.say(" ");
+    say_key(store, store.next_sibling(node), line);
+    line.say("; ");
 }
 
 // Adds the children of a node in the order of a walk. At most a thousand.
@@ -63,16 +42,18 @@ fn add_children(nodes: &mut Vec<Node>, store: &Store, node: Node, line: &mut Lin
         let Some(node) = next else {
             break;
         };
-        line.push(nodes, node);
+        if nodes.push(node).is_err() {
+            line.fail(Fault::NoMemory);
+        }
         next = store.next_sibling(node);
     }
 }
 
-// All nodes that a walk comes to, those of a level before those below it. At most some thousand.
-fn nodes(store: &Store, line: &mut Line) -> Vec<Node> {
+// Says all nodes that a walk comes to, those of a level before those below it. At most a thousand.
+fn walk(store: &Store, line: &mut Line) -> Told {
     let mut nodes = Vec::new(line.alloc);
     if let Some(root) = store.at(&Path::root(line.alloc)) {
-        line.push(&mut nodes, root);
+        nodes.push(root)?;
     }
     for place in 0..1000usize {
         let Some(node) = nodes.get(place).copied() else {
@@ -80,60 +61,43 @@ fn nodes(store: &Store, line: &mut Line) -> Vec<Node> {
         };
         add_children(&mut nodes, store, node, line);
     }
-    nodes
-}
-
-// Says what is known of nodes.
-fn say_known(store: &Store, nodes: &[Node], line: &mut Line) {
-    let text = known(store, nodes, line);
-    line.say(text.as_str());
-}
-
-// Says all nodes of a store.
-fn walk(store: &Store, line: &mut Line) -> Result<(), Fault> {
-    let nodes = nodes(store, line);
-    say_known(store, &nodes, line);
+    line.sound()?;
+    for node in nodes {
+        say_known(store, node, line);
+    }
     Ok(())
 }
 
-// Says the node at a path, which the state keeps.
-fn at(state: &mut State, line: &mut Line) -> Result<(), Fault> {
-    let path = line.path();
+// Says the node at a path, which is kept.
+fn at(store: &Store, node: &mut Option<Node>, line: &mut Line) -> Told {
+    let path: Path = line.read();
     line.sound()?;
-    state.node = state.store.at(&path);
-    kept(state, line)
+    *node = store.at(&path);
+    kept(store, *node, line);
+    Ok(())
 }
 
 // Says what the node that is kept stands for now.
-fn kept(state: &State, line: &mut Line) -> Result<(), Fault> {
-    match state.node {
-        Some(node) => say_known(&state.store, &[node], line),
+fn kept(store: &Store, node: Option<Node>, line: &mut Line) {
+    match node {
+        Some(node) => say_known(store, node, line),
         None => line.say("no node"),
     }
-    Ok(())
-}
-
-// The children of the node at a path, in the order of a walk.
-fn children(store: &Store, path: &Path, line: &mut Line) -> Vec<Node> {
-    let mut nodes = Vec::new(line.alloc);
-    if let Some(node) = store.at(path) {
-        add_children(&mut nodes, store, node, line);
-    }
-    nodes
 }
 
 // Says the part at a path, the keys of its children in the order of a walk, and whether something
 // stands there.
-fn part(store: &Store, line: &mut Line) -> Result<(), Fault> {
-    let path = line.path();
-    let nodes = children(store, &path, line);
-    match store.get(line.alloc, &path) {
-        Ok(part) => line.say_tree(&part),
-        Err(_) => return Err(Fault::NoMemory),
+fn part(store: &Store, line: &mut Line) -> Told {
+    let path: Path = line.read();
+    let mut nodes = Vec::new(line.alloc);
+    if let Some(node) = store.at(&path) {
+        add_children(&mut nodes, store, node, line);
     }
-    for node in nodes.as_slice() {
+    line.sound()?;
+    line.say_tree(&store.get(line.alloc, &path)?);
+    for node in nodes {
         line.say(" ");
-        line.say(key_of(store, Some(*node)));
+        say_key(store, Some(node), line);
     }
     line.debug((store.has(&path), store.is_null()));
     Ok(())
@@ -141,141 +105,56 @@ fn part(store: &Store, line: &mut Line) -> Result<(), Fault> {
 
 // ---- changes
 
-// Sets a tree. A refusal changes nothing, and each node stands for what it stood for.
-fn set_tree(store: &mut Store, path: &Path, tree: &Tree, line: &mut Line) -> Result<(), Fault> {
-    let nodes = nodes(store, line);
-    let before = known(store, &nodes, line);
-    line.sound()?;
-    let answer = store.set(line.alloc, path, tree);
-    if answer.is_err() && known(store, &nodes, line) != before {
-        line.say("has changed ");
-    }
-    tell_set(answer, line)
-}
-
-fn set(store: &mut Store, line: &mut Line) -> Result<(), Fault> {
+fn set(store: &mut Store, line: &mut Line) -> Told {
     let (path, tree) = line.entry();
-    set_tree(store, &path, &tree, line)
-}
-
-fn tell_set(answer: Result<(), StoreError>, line: &mut Line) -> Result<(), Fault> {
-    match answer {
+    line.sound()?;
+    match store.set(line.alloc, &path, &tree) {
         Ok(()) => line.say("Ok"),
         Err(StoreError::NoMemory) => return Err(Fault::NoMemory),
-        Err(error) => line.refusal(error.code(), error.name(), &error),
+        Err(error) => line.say(error.name()),
     }
     Ok(())
 }
 
-fn clear(store: &mut Store, line: &mut Line) -> Result<(), Fault> {
-    let path = line.path();
+fn clear(store: &mut Store, line: &mut Line) -> Told {
+    let path: Path = line.read();
     store.clear(&line.given(path)?);
     Ok(())
 }
 
-// ---- runs of changes
-
-// A change: a path and what is set there, or `-` where it is cleared.
-fn change(line: &mut Line) -> Change {
-    let path = line.path();
-    let word = line.word();
-    match line.at(word) {
-        "-" => Change::Clear(path),
-        _ => Change::Set(path, line.tree_of(word)),
-    }
-}
-
-fn changes(line: &mut Line) -> Vec<Change> {
-    let mut changes = Vec::new(line.alloc);
-    for _ in 0..1000 {
-        if line.is_empty() {
-            break;
-        }
-        let change = change(line);
-        line.push(&mut changes, change);
-    }
-    changes
-}
-
-// Makes a change of a tree, unless it is too deep.
-fn make(tree: &mut Tree, alloc: Global, change: &Change) -> Result<(), Fault> {
-    let (path, part) = match change {
-        Change::Set(path, part) => (path, part.copy(alloc)?),
-        Change::Clear(path) => (path, Tree::null()),
-    };
-    match tree.put(alloc, path, part) {
-        Err(TreeError::NoMemory) => Err(Fault::NoMemory),
-        _ => Ok(()),
-    }
-}
-
-// Whether a tree is what some of the changes, but not all, make of the tree before them, which is
-// changed.
-fn is_midway(tree: &Tree, before: &mut Tree, changes: &[Change], line: &mut Line) -> bool {
-    for change in changes {
-        if *before == *tree {
-            return true;
-        }
-        if let Err(fault) = make(before, line.alloc, change) {
-            line.fail(fault);
+// A path and what is set there, or `-` where it is cleared.
+impl FromLine for Change {
+    fn from_line(line: &mut Line) -> Change {
+        let path = line.read();
+        let word = line.word();
+        match line.at(word) {
+            "-" => Change::Clear(path),
+            _ => Change::Set(path, line.tree_of(word)),
         }
     }
-    false
 }
 
 // A run that lacks memory has made some of its changes, but not all.
-fn run(store: &mut Store, line: &mut Line) -> Result<(), Fault> {
-    let changes = changes(line);
-    let before = whole(store, line.alloc)?;
+fn run(store: &mut Store, line: &mut Line) -> Told {
+    let changes: Vec<Change> = line.all();
     line.sound()?;
-    match store.run(line.alloc, &changes) {
-        Ok(()) => line.say("Ok"),
-        Err(error) => return Err(midway(error, store, before, &changes, line)),
-    }
+    store.run(line.alloc, &changes).map_err(|_| Fault::Lost)?;
+    line.say("Ok");
     Ok(())
 }
 
-fn whole(store: &Store, alloc: Global) -> Result<Tree, AllocError> {
-    store.get(alloc, &Path::root(alloc))
-}
-
-fn midway(
-    error: StoreError,
-    store: &Store,
-    mut before: Tree,
-    changes: &[Change],
-    line: &mut Line,
-) -> Fault {
-    match whole(store, line.alloc) {
-        Ok(after) if is_midway(&after, &mut before, changes, line) => fault(error),
-        Ok(_) | Err(_) => Fault::NoSuchCall,
-    }
-}
-
-// Says how a store, its node, and the change that clears a path print.
-fn debug(state: &State, line: &mut Line) -> Result<(), Fault> {
-    let change = Change::Clear(line.path());
-    line.debug(&state.store);
-    line.debug((state.node, change));
-    Ok(())
-}
-
-fn renew(state: &mut State, alloc: Global) -> Result<(), Fault> {
-    *state = State::new(alloc);
-    Ok(())
-}
-
-pub(crate) fn call(state: &mut State, line: &mut Line) -> Result<(), Fault> {
+// Calls of a store, and of a node of it that was found before its last changes.
+pub(crate) fn call(store: &mut Store, node: &mut Option<Node>, line: &mut Line) -> Told {
     match line.next() {
-        "new" => renew(state, line.alloc),
-        "set" => set(&mut state.store, line),
-        "clear" => clear(&mut state.store, line),
-        "run" => run(&mut state.store, line),
-        "part" => part(&state.store, line),
-        "walk" => walk(&state.store, line),
-        "at" => at(state, line),
-        "kept" => kept(state, line),
-        "debug" => debug(state, line),
-        _ => Err(Fault::NoSuchCall),
+        "new" => *store = Store::new(line.alloc),
+        "set" => return set(store, line),
+        "clear" => return clear(store, line),
+        "run" => return run(store, line),
+        "part" => return part(store, line),
+        "walk" => return walk(store, line),
+        "at" => return at(store, node, line),
+        "kept" => kept(store, *node, line),
+        _ => return Err(Fault::NoSuchCall),
     }
+    Ok(())
 }

@@ -1,35 +1,12 @@
-// What several libraries hand out, told. Items are told in the words that say them: `items` reads
-// these, but for a query, which is told as its path and its text, and a reason, which is told bare.
+// What several libraries hand out, told.
 use crate::line::Line;
 use rt_cover::Kept;
 use rt_mail::{Item, Receipt};
-use rt_query::Query;
-use rt_tree::{Key, Path, Tree};
+use rt_tree::{Key, Tree};
 use rt_view::Change;
-use rt_wire::{Action, ClientMessage, Ending, Reason, query_text};
-use std::alloc::AllocError;
+use rt_wire::{Asked, ClientMessage, Reason};
 
-// The text of a query's order, range and limit, where it has one. One that lacked memory is made
-// once more by the caller.
-fn say_text(made: Result<Option<String>, AllocError>, line: &mut Line) -> bool {
-    match made {
-        Ok(Some(text)) => {
-            line.say(" ");
-            line.say(text.as_str());
-        }
-        Ok(None) => {}
-        Err(_) => return line.lacks(),
-    }
-    true
-}
-
-fn tell_query(query: &Query, line: &mut Line) {
-    line.display(query.path());
-    let _ = say_text(query_text(line.alloc, query), line)
-        || say_text(query_text(line.alloc, query), line);
-}
-
-pub(crate) fn tell_row(word: &str, key: &Key, value: &Tree, line: &mut Line) {
+fn tell_row(word: &str, key: &Key, value: &Tree, line: &mut Line) {
     line.say(word);
     line.say(key.text());
     line.say(" ");
@@ -58,28 +35,6 @@ pub(crate) fn tell_changes(changes: &[Change], line: &mut Line) {
     }
 }
 
-fn tell_entry(path: &Path, tree: &Tree, line: &mut Line) {
-    line.say(" ");
-    line.display(path);
-    line.say(" ");
-    line.say_tree(tree);
-}
-
-fn tell_action(action: &Action, line: &mut Line) {
-    match action {
-        Action::Put { path, tree } => {
-            line.say(" put");
-            tell_entry(path, tree, line);
-        }
-        Action::Merge { entries } => {
-            line.say(" merge");
-            for (path, tree) in entries.as_slice() {
-                tell_entry(path, tree, line);
-            }
-        }
-    }
-}
-
 fn tell_number(word: &str, number: u64, line: &mut Line) {
     line.say(word);
     line.display(&number);
@@ -92,60 +47,38 @@ pub(crate) fn tell_reason(why: Option<&Reason>, line: &mut Line) {
     }
 }
 
-fn tell_receipt(receipt: &Receipt, line: &mut Line) {
-    match receipt {
-        Receipt::Listened { listener, query } => {
-            tell_number("listened ", *listener, line);
-            line.say(" ");
-            tell_query(query, line);
-        }
-        Receipt::Unlistened { listener } => tell_number("unlistened ", *listener, line),
-        Receipt::Wrote { id, what } => {
-            tell_number("wrote ", *id, line);
-            tell_action(what, line);
-        }
-        Receipt::Asked { id, what } => {
-            tell_number("asked ", *id, line);
-            tell_ending(what, line);
-        }
-    }
-}
-
-fn tell_ending(ending: &Ending, line: &mut Line) {
-    match ending {
-        Ending::Run(action) => tell_action(action, line),
-        Ending::Cancel(path) => {
-            line.say(" cancel ");
-            line.display(path);
-        }
-    }
-}
-
-fn tell_item(item: &Item, line: &mut Line) {
-    match item {
-        Item::Receipt(receipt) => tell_receipt(receipt, line),
-        Item::Batch(batch) => {
-            tell_number("batch ", batch.listener, line);
-            tell_changes(batch.changes.as_slice(), line);
-        }
-        Item::Settled { id, why } => {
-            tell_number("settled ", *id, line);
-            tell_reason(why.as_ref(), line);
-        }
-        Item::Cancelled { listener, why } => {
-            tell_number("cancelled ", *listener, line);
-            tell_reason(Some(why), line);
-        }
-    }
+// The message that asks for what a receipt tells, with the listener's number as its tag.
+fn message_of(receipt: Receipt) -> ClientMessage {
+    let (id, asked) = match receipt {
+        Receipt::Listened {
+            listener: tag,
+            query,
+        } => return ClientMessage::Listen { tag, query },
+        Receipt::Unlistened { listener: tag } => return ClientMessage::Unlisten { tag },
+        Receipt::Wrote { id, what } => (id, Asked::Now(what)),
+        Receipt::Asked { id, what } => (id, Asked::AtDisconnect(what)),
+    };
+    ClientMessage::Ask { id, asked }
 }
 
 // An item, and that is the end of it; or `none`.
 pub(crate) fn tell_next(item: Option<Item>, line: &mut Line) {
-    match &item {
-        Some(item) => tell_item(item, line),
+    match item {
+        Some(Item::Receipt(receipt)) => tell_message(Some(message_of(receipt)), line),
+        Some(Item::Batch(batch)) => {
+            tell_number("batch ", batch.listener, line);
+            tell_changes(batch.changes.as_slice(), line);
+        }
+        Some(Item::Settled { id, why }) => {
+            tell_number("settled ", id, line);
+            tell_reason(why.as_ref(), line);
+        }
+        Some(Item::Cancelled { listener, why }) => {
+            tell_number("cancelled ", listener, line);
+            tell_reason(Some(&why), line);
+        }
         None => line.say("none"),
     }
-    drop(item);
 }
 
 // A message that is to be sent, which does not come again: a text that lacked memory is made once
