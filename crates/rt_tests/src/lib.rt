@@ -1,6 +1,6 @@
 //! Tests of what no line of `calls/` shows: that trees may go to another thread, that two threads work
-//! on one client at once, and that the cover is that of a list in which each form is compared with
-//! each.
+//! on one client at once, that the cover is that of a list in which each form is compared with each, and
+//! that the pending writes show what a list shows whose looks go over all of them.
 #![tactic(auto)]
 
 #[cfg(test)]
@@ -8,6 +8,10 @@ mod covers;
 #[cfg(test)]
 mod list_cover;
 #[cfg(test)]
+mod list_writes;
+#[cfg(test)]
 mod seats;
 #[cfg(test)]
 mod threads;
+#[cfg(test)]
+mod writes_two_ways;
