@@ -4,7 +4,7 @@ import struct
 import subprocess
 
 from cutting import ended, served
-from frames import BINARY, CLOSE, CLOSED, SECONDS, TEXT, Client
+from frames import BINARY, CLOSE, CLOSED, LAST_PART, PING, SECONDS, TEXT, Client
 from runs import differs
 from session import stop
 
@@ -47,7 +47,7 @@ def no_handshake(port):
 
 
 def strays(port):
-    """What is no message of a client is passed over, and a broken frame ends the connection."""
+    """What is no message of a client is passed over, and a close is answered with its code."""
     client = Client(port)
     client.frame(TEXT, b"x")
     client.frame(TEXT, b'{"k":"nope"}')
@@ -56,34 +56,52 @@ def strays(port):
     client.frame(CLOSE, b"\x0f\xa0bye")
     yield "a close with a code", client.stream.read(), b"\x88\x05\x0f\xa0bye"
     client.socket.close()
-    broken = Client(port)
-    broken.socket.sendall(b"\x81\x01x")  # a client's frames are masked
-    yield "a frame that is not masked", broken.stream.read(), b"\x88\x02\x03\xea"
-    broken.socket.close()
+
+
+# Frames that break the protocol, and the code of the close that they are answered by (RFC 6455, section 7.4.1).
+NO_MASK, MASK = b"", bytes(4)
+BROKEN = {
+    "a frame that is not masked": (bytes([TEXT, 1]) + NO_MASK + b"x", 1002),
+    "a reserved bit": (bytes([0xC1, 0x80]) + MASK, 1002),
+    "an unknown kind of frame": (bytes([0x83, 0x80]) + MASK, 1002),
+    "a long ping": (bytes([PING, 0x80 | 126, 0, 126]) + MASK + bytes(126), 1002),
+    "a part of no message": (bytes([LAST_PART, 0x80]) + MASK, 1002),
+    "a text that is no UTF-8": (bytes([TEXT, 0x81]) + MASK + b"\xff", 1007),
+    "a frame of more bytes than are read": (bytes([TEXT, 0x80 | 127]) + (1 << 28).to_bytes(8, "big") + MASK, 1009),
+}
+
+
+def breaks(port):
+    """A client that breaks the protocol is told so by the code of a close."""
+    for what, (frame, code) in BROKEN.items():
+        client = Client(port)
+        client.socket.sendall(frame)
+        yield what, client.stream.read(), bytes([CLOSE, 2]) + code.to_bytes(2, "big")
+        client.socket.close()
 
 
 # What `serve` tells with --verbose, for each of these.
 BEGINS, CLOSED_IT = "connection 1 begins", "connection 1 ends: the client closed it"
 TOLD = {
     two_clients: [BEGINS, CLOSED_IT, BEGINS, CLOSED_IT],
-    denied_client: [BEGINS, "connection 1 ends: "],
-    no_handshake: ["a stream is no WebSocket: ", "a stream is no WebSocket: ", BEGINS, CLOSED_IT, BEGINS, CLOSED_IT],
+    denied_client: [BEGINS, "connection 1 ends: .."],
+    no_handshake: ["a stream is no WebSocket: ..", "a stream is no WebSocket: ..", BEGINS, CLOSED_IT, BEGINS, CLOSED_IT],
     strays: [
         BEGINS,
         "connection 1: a text is passed over: 1 NotJson",
         "connection 1: a text is passed over: 2 UnknownKind",
         "connection 1: a binary message is passed over: 1 NotJson",
         "connection 1 ends: the client closed it with 4000",
-        BEGINS,
-        "connection 1 ends: ",
     ],
+    breaks: [line for _, code in BROKEN.values() for line in (BEGINS, f"connection 1 ends: ..; it is closed with {code}")],
 }
 
 
 def is_told(line, wanted):
-    """Whether that is the line; of one that gives a cause only what stands before it is compared."""
+    """Whether that is the line; of one that gives a cause only what stands before and behind it is compared."""
     line = line.decode().removeprefix("kaltewi: ").removesuffix("\n")
-    return line.startswith(wanted) if wanted.endswith(": ") else line == wanted
+    before, cause, behind = wanted.partition("..")
+    return line.startswith(before) and line.endswith(behind) if cause else line == wanted
 
 
 def session(program, count, words, clients):
@@ -119,6 +137,7 @@ def wrong_of(programs):
         wrong.append(session(program, 2, [], two_clients))
         wrong.append(session(program, 1, ["--tree", '{"a":{"b":1}}', "--deny", "/s"], denied_client))
         wrong.append(session(program, 2, [], no_handshake))
-        wrong.append(session(program, 2, [], strays))
+        wrong.append(session(program, 1, [], strays))
+        wrong.append(session(program, len(BROKEN), [], breaks))
         wrong.append(taken_port(program))
-    return [it for it in wrong if it], 9 * len(programs)
+    return [it for it in wrong if it], (8 + len(BROKEN)) * len(programs)
