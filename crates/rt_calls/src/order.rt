@@ -1,6 +1,7 @@
 // The order of an object's children.
 use crate::fault::{Fault, Told};
 use crate::line::Line;
+use rt_map::OrdMap;
 use rt_order::{Index, entry_cmp};
 use rt_tree::{Key, Tree};
 use std::cmp::Ordering;
@@ -15,14 +16,23 @@ fn sign(order: Ordering) -> &'static str {
 
 // How each child of an object compares with all of them, in the order of their keys' bytes.
 fn tell_matrix(index: &Index, tree: &Tree, line: &mut Line) {
-    for (key, child) in tree.children().into_iter().flatten() {
-        tell_signs(index, key, child, tree, line);
+    let Some(children) = tree.children() else {
+        return;
+    };
+    for (key, child) in children {
+        tell_signs(index, key, child, children, line);
         line.say(" ");
     }
 }
 
-fn tell_signs(index: &Index, key: &Key, child: &Tree, tree: &Tree, line: &mut Line) {
-    for (other, beside) in tree.children().into_iter().flatten() {
+fn tell_signs(
+    index: &Index,
+    key: &Key,
+    child: &Tree,
+    children: &OrdMap<Key, Tree>,
+    line: &mut Line,
+) {
+    for (other, beside) in children {
         line.say(sign(entry_cmp(index, (key, child), (other, beside))));
     }
 }
