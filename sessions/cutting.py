@@ -109,6 +109,9 @@ class Saying(threading.Thread):
         self.is_known.set()
 
 
+PATIENCE = 5  # for how many seconds a line may be in coming on a busy host before it counts as lost
+
+
 def served(program, count, environment, words=()):
     """A program that serves so many clients at a port, once it says that it listens there; no port where it has ended. What it tells of its
     connections is its `told`, once it has ended."""
@@ -117,8 +120,8 @@ def served(program, count, environment, words=()):
     ran = subprocess.Popen(words, env={**os.environ, **environment}, **ends)
     ran.saying, ran.stderr = Saying(ran.stderr, port), None
     ran.saying.start()
-    for _ in range(SECONDS):
-        if ran.saying.is_known.wait(1) or b"refused\n" in ran.saying.lines:
+    for _ in range(0, SECONDS, PATIENCE):
+        if ran.saying.is_known.wait(PATIENCE) or b"refused\n" in ran.saying.lines:
             break  # where memory was refused for that line, it is lost
     return ran, port if ran.saying.listens else None
 

@@ -30,7 +30,7 @@ def meet(programs, given):
         server, port = served(programs["serve"], 1, given.get("serve", {}))
         if port:
             client = begun([programs["connect"], "connect", str(port)], LINES, given.get("connect", {}))
-        if not port and server.poll() is None:
+        if not port and not server.saying.is_known.is_set():
             return None, LOST
         of_client = ended(client) if client else None
         if of_client and not of_client[1]:
