@@ -200,7 +200,7 @@ base_fits b q short h =
 
 -- ---- pushes
 
--- and of one child of it
+-- the base with one child alone is no deeper
 pub base_child_fits : (b : Brought) (q : Query) (k : Key) → length q.path ≤ MAX_KEYS → FitsLevels b
     → IfSome (base_child b q k) (λ x. length (q.path ++ k ∷ []) + levels x.tree ≤ MAX_LEVELS)
 base_child_fits b q k short h = at (base b q) (base_fits b q short h)

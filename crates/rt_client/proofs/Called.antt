@@ -204,7 +204,7 @@ call_gave_up old new lanes w seat c report r ring left is applies e hands = (
   },
 )
 
--- or before it
+-- where the call is not made
 pub call_not_made : (old : Held) (w : World) (seat : ℕ) (c : Call) (ring : Ring) → old.core ≡ Some w → HasRoom ring (lane_of old.lanes seat) → HandsSome old seat ring c ring
 call_not_made old w seat c ring is has =
     let found = lane_with_room ring (lane_of old.lanes seat) has in

@@ -10,7 +10,7 @@ use Rattle.rt_client.specs.Delivery.{emptied, HandsOut, AfterTurns}
 more : (n capacity first rest : ℕ) → first ≤ n * capacity → rest ≤ 1 * capacity → first + rest ≤ (n + 1) * capacity
 more n capacity first rest a b = grind arith
 
--- after some turns another one
+-- one more turn after some turns
 hands_again : {S : Type 0} (after : S → Item → S) (n : ℕ) (had : Seated) (old : S) (mid : Seated) (between : S) (left : Seated) (new : S)
     → HandsOut after n had old mid between → HandsOut after 1 mid between left new → HandsOut after (n + 1) had old left new
 hands_again after n had old mid between left new h t =

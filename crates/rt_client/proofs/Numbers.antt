@@ -57,7 +57,7 @@ has_number n ls = list_any (λ m. m.number == n) ls
 pub not_above : (n : ℕ) (ls : List Listener) → All (λ (m : Listener). n < m.number) ls → has_number n ls ≡ false
 not_above n ls h = list_any_none (λ m. m.number == n) ls (λ k d lt. other_number (slice_index_or ls k d).number n (λ e. omega (arith, e, h k d lt)))
 
--- some of them rise as they all do
+-- some of the listeners rise as all of them do
 pub Rises-filter : (p : Listener → Bool) (ls : List Listener) → Rises ls → Rises (filter p ls)
 Rises-filter p [] r = tt
 Rises-filter p (l ∷ ls) r = elim (p l) as (λ b. Rises (cond b (l ∷ filter p ls) (filter p ls))) [
@@ -65,7 +65,7 @@ Rises-filter p (l ∷ ls) r = elim (p l) as (λ b. Rises (cond b (l ∷ filter p
   | false ↦ Rises-filter p ls r.1
 ]
 
--- and so does one more behind them
+-- and they rise with one more behind them
 pub Rises-push : (n : ℕ) (ls : List Listener) (l : Listener) → l.number ≡ n → All (λ (m : Listener). m.number < n) ls → Rises ls → Rises (ls ++ l ∷ [])
 Rises-push n [] l e b h = (λ k d lt. absurd (omega arith), tt)
 Rises-push n (m ∷ ls) l e b h =

@@ -49,7 +49,7 @@ seat_at (suc k) one = omega arith
 pub lane_there : (xs : Lines) (seat : ℕ) (d : Option Line) → 1 ≤ seat → seat - 1 < length xs → lane_of xs seat ≡ get_or xs (seat - 1) d
 lane_there xs seat d one lt = ap (lane_of xs) (seat_at seat one) ∙ lane_of_at xs (seat - 1) d lt
 
--- and of one past it
+-- a seat past the list has no lane
 pub lane_past : (xs : Lines) (seat : ℕ) → 1 ≤ seat → length xs ≤ seat - 1 → lane_of xs seat ≡ None
 lane_past xs seat one le = ap (lane_of xs) (seat_at seat one) ∙ lane_of_past xs (seat - 1) le
 

@@ -46,7 +46,7 @@ pub new_member : (ls : List Registered) (n : ℕ) (f : Query) → Contains (with
 new_member ls n f = Contains-append_right (filter (λ (x : Registered). nat_lt x.0 n) ls) ((n, f) ∷ filter (λ (x : Registered). nat_lt n x.0) ls) (n, f)
     (Contains-head (n, f) (filter (λ (x : Registered). nat_lt n x.0) ls))
 
--- and each that was
+-- and each listener that was registered is one of them
 pub old_member : (ls : List Registered) (n : ℕ) (f : Query) → is_registered ls n ≡ false → (l : Registered) → Contains ls l → Contains (with_listener ls n f) l
 old_member ls n f free l m =
     elim (nat_lt l.0 n) as (λ b. nat_lt l.0 n ≡ b → Contains (with_listener ls n f) l) [
@@ -132,7 +132,7 @@ fresh_one c s n f free = one (fresh c n f) (fresh_form c s n f free)
     one (x ∷ (y ∷ fs)) h p = absurd (All-contains (λ z. x ≢ z) (y ∷ fs) y (AllPairs-first (λ u v. u ≢ v) x (y ∷ fs) p) (Contains-head y fs)
         (sym (h x (Contains-head x (y ∷ fs))) ∙ h y (Contains-later x (y ∷ fs) y (Contains-head y fs))))
 
--- none, where a kept listen supplies it
+-- no listen starts where a kept one supplies the form
 pub fresh_none : (c : Cover) → IsSound c → (n : ℕ) (f : Query) → is_registered c.listeners n ≡ false
     → (k : Tagged) → Contains c.kept k → Supplies k.form f → length (fresh c n f) ≡ 0
 fresh_none c s n f free k m sup = none (fresh c n f) (λ g there. there)
@@ -156,7 +156,7 @@ fresh_none c s n f free k m sup = none (fresh c n f) (λ g there. there)
         let same : k.form ≡ g = needed_alone (forms ls) g k.form (is_needed c n f g there) registered (subst (Supplies k.form) is sup) in
         absurd (true≢false (sym (list_any_with (λ (x : Tagged). query_eq x.form g) c.kept k m ((query_eq_tells k.form g).1 same)) ∙ is_new c n f g there))
 
--- one, where none does
+-- a listen of the form starts where no kept one supplies it
 pub fresh_some : (c : Cover) → IsSound c → (n : ℕ) (f : Query) → form f ≡ f → is_registered c.listeners n ≡ false
     → All (λ (k : Tagged). does_supply k.form f ≡ false) c.kept → Contains (fresh c n f) f
 fresh_some c s n f own free none = Contains-filter (λ x. not (is_kept c.kept x)) (needed_forms ls) f

@@ -76,7 +76,7 @@ pub struct Reading<R: Read + Drop> {
     reader: R,
     given: u64,
     failures: u64,
-    // Why the last read that failed did.
+    // Why the last failed read failed.
     cause: Option<io::Error>,
     ghost caused: { IsSome cause ↔ 0 < failures },
 }
@@ -96,7 +96,7 @@ impl<R: Read + Drop> Reading<R> {
         }
     }
 
-    /// Why the last read that failed did; none where no read failed.
+    /// Why the last failed read failed; none where no read did.
     pub fn into_cause(self) -> Option<io::Error>
         ensures { IsSome result ↔ 0 < ⟦<Reading<R> as Source>⟧.failures self }
     {
@@ -132,7 +132,7 @@ impl<R: Read + Drop> Source for Reading<R> {
 pub struct Writing<W: Write + Drop> {
     writer: W,
     failures: u64,
-    // Why the last write that failed did.
+    // Why the last failed write failed.
     cause: Option<io::Error>,
     ghost caused: { IsSome cause ↔ 0 < failures },
 }
@@ -150,7 +150,7 @@ impl<W: Write + Drop> Writing<W> {
         }
     }
 
-    /// Why the last write that failed did; none where no write failed.
+    /// Why the last failed write failed; none where no write did.
     pub fn into_cause(self) -> Option<io::Error>
         ensures { IsSome result ↔ 0 < ⟦<Writing<W> as Drain>⟧.failures self }
     {

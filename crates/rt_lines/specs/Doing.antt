@@ -116,7 +116,7 @@ line_done (line.Push now random) s = record {
 }
 
 -- what the line of that number does, by what it asks for: one of no form, and one of a refused word,
--- change nothing. What a line asks for never lacks memory: reading it does
+-- change nothing. Where memory lacks it lacks for reading the line
 abbrev pub asked_done : ℕ → Result Line LineError → State → Done
 asked_done number (Ok l) s = line_done l s
 asked_done number (Err Bad) s = only_prints (bad_line number) s

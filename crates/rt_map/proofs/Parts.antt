@@ -226,7 +226,7 @@ module _ {K V : Type 0} (cmp : K → K → Ordering) (k : K) where
         | Greater ↦ λ h. omega (arith, length-insert_new es v h)
       ] n
 
-  -- and a key that is there none
+  -- and a key that is there brings no entry more
   pub length-insert_old : IsTotalOrder cmp → (es : List (K × V)) (v w : V) → IsStrictlySortedBy cmp (keys_of es) → lookup (is_at (cmp k)) es ≡ Some w → length (insert_entry cmp es k v) ≡ length es
   length-insert_old o [] v w s n = cc
   length-insert_old o (e ∷ es) v w s n =

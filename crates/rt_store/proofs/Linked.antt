@@ -109,7 +109,7 @@ locate s o parent previous (node m key leaf below behind) h n some =
           (λ d. locate s (first behind) parent (Some m) behind (behind_row s o parent previous m key leaf below behind h) n d)
     ] refl some
 
--- and each number of the slab does
+-- and each number of the slab has a place in it
 pub place_in_store : (s : Slab Slot) (o parent previous : Option ℕ) (f : Forest) → IsRow s o parent previous f → (n : ℕ) → times n f ≡ one_if (is_some (get s n)) → (slot : Slot) → get s n ≡ Some slot → IsPlace s (Some n)
 place_in_store s o parent previous f h n once slot there =
     locate s o parent previous f h n (let one : times n f ≡ 1 = once ∙ ap (λ g. one_if (is_some g)) there in omega (arith, one))

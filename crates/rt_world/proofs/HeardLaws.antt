@@ -213,7 +213,7 @@ started_for-same n kept fs all = ap (λ new. map (λ (x : ℕ × Query). record 
         let x = Contains-from_map (λ (y : Tagged). y.form) kept a.0 f (subst (λ z. a.0 < z) (length_of_map (λ (y : Tagged). y.form) kept) a.1) a.2 in
         ap not (list_any_at (λ k. query_eq k.form f) kept (x.1).0 x.0 (x.1).1 (ap (λ (k : Tagged). query_eq k.form f) (x.1).2 ∙ (query_eq_tells (x.0).form f).1 x.2)))
 
--- and nothing goes
+-- where the forms are those of the kept listens, these stay as they are
 kept_for-same : (n : ℕ) (kept : List Tagged) (fs : List Query) → All (Contains fs) (map (λ (k : Tagged). k.form) kept) → All (Contains (map (λ (k : Tagged). k.form) kept)) fs → kept_for n kept fs ≡ kept
 kept_for-same n kept fs only all =
     (λ i. filter_all (λ k. list_any (query_eq k.form) fs) kept passes i ++ started_for-same n kept fs all i)

@@ -1,4 +1,4 @@
--- The listens stay where the listeners do.
+-- The listens stay where the listeners stay.
 use Rattle.std.proofs.Common.{◌≡◌, ◌==◌, not, List, [], refl, ap, ◌∙◌, slice_index_or}
 use Rattle.std.specs.Cmp.{nat_eq_equiv}
 use Rattle.std.specs.List.{list_any}

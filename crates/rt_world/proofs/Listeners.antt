@@ -66,7 +66,7 @@ find-number_at (m ∷ ls) (suc k) l a lt e =
 pub find-number : (ls : List Listener) (l : Listener) → Rises ls → Contains ls l → find (λ m. m.number == l.number) ls ≡ Some l
 find-number ls l a m = find-number_at ls m.0 l a m.1 m.2
 
--- and none where none has it
+-- and none is found where none has the number
 pub find-no_number : (ls : List Listener) (n : ℕ) → has_number n ls ≡ false → find (λ m. m.number == n) ls ≡ None
 find-no_number [] n h = refl
 find-no_number (m ∷ ls) n h = ap (λ b. cond b (Some m) (find (λ x. x.number == n) ls)) (or_false_left (m.number == n) _ h) ∙ find-no_number ls n (or_false_right (m.number == n) _ h)

@@ -29,7 +29,7 @@ use Rattle.rt_world.proofs.ReachedLaws.{push_is_brought, listen_brings_nothing}
 abbrev pub AreUnfiltered : List Listener → Type 0
 AreUnfiltered ls = All (λ (l : Listener). is_filtered l.query ≡ false) ls
 
--- so no listen that is kept is
+-- so no listen that is kept is filtered
 unfiltered_kept : (w : World) → IsSound w → AreUnfiltered w.listeners → (f : Query) → Contains (forms_kept w.kept) f → is_filtered f ≡ false
 unfiltered_kept w h p f m =
     let x = form_of w.listeners f (kept_registered w h f m) in

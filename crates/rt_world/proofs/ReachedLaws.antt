@@ -40,11 +40,11 @@ record AreReached (fs kept : List Query) (b : Brought) : Type 0 where
   regions : All (λ (r : Path × PathTree). reaches kept r.0 ≡ true) b.regions
   windows : All (λ (x : Query × Window). Contains fs x.0) b.windows
 
--- before the step
+-- what is reached before the step
 abbrev AreReachedIn : World → Brought → Type 0
 AreReachedIn w b = AreReached (forms (registered w.listeners)) (forms_kept w.kept) b
 
--- after it
+-- what is reached after the step
 abbrev AreReachedAfter : World → Step → Brought → Type 0
 AreReachedAfter w s b = AreReached (forms_after w s) (forms_kept (kept_after w s)) b
 

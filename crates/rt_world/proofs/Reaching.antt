@@ -81,14 +81,14 @@ module _ (w : World) (s : Step) where
                 reached_by (forms_kept (kept_after w s)) g p there t (is_at_or_above-trans g.path f.path p (sym (supply_unfiltered g f t) ∙ supplies) under)
           ] refl
 
--- where each listener stays, its form does
+-- where each listener stays, each form stays registered
 pub registered_still : (w : World) (s : Step) → ((l : Listener) → Contains w.listeners l → Contains (listeners_after w s) l)
     → (f : Query) → Contains (forms (registered w.listeners)) f → Contains (forms_after w s) f
 registered_still w s stay f m =
     let l = form_of w.listeners f m in
     subst (Contains (forms_after w s)) l.2 (form_stays (listeners_after w s) l.0 (stay l.0 l.1))
 
--- and what was reached is
+-- and what was reached is reached still
 pub reached_still : (w : World) (s : Step) → IsSound w → ((l : Listener) → Contains w.listeners l → Contains (listeners_after w s) l)
     → (p : Path) → reaches (forms_kept w.kept) p ≡ true → reaches (forms_kept (kept_after w s)) p ≡ true
 reached_still w s h stay p r =

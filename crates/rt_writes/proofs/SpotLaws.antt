@@ -48,7 +48,7 @@ pub bare_full : (s : Spot) → (under_of s).full.keys ≡ [] → (below_of s).en
 bare_full s e f [] j = ap (list_any (is_at (nat_cmp j))) e
 bare_full s e f (k ∷ q) j = ap (λ es. option_map_or (λ c. has_full c q j) (lookup (is_at (key_cmp k)) es) false) f
 
--- where a place is kept its write is
+-- a write is kept where its place is
 pub has_place : (s : Spot) (q : Path) (j : ℕ) → has_here s q j ≡ is_some (place_at s q j)
 has_place s [] j = refl
 has_place s (k ∷ q) j =

@@ -64,7 +64,7 @@ impl Marks {
         is_last_after(&self.all, last)
     }
 
-    // Whether one of those that set something is.
+    // Whether the number of a write that sets something is after the last one.
     pub(crate) fn has_full_after(&self, last: Option<u64>) -> bool
         ensures { IsTrue result ↔ HasLater last self.now.full }
     {

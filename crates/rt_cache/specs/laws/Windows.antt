@@ -38,7 +38,7 @@ abbrev pub ends : Query → Call → Bool
 ends q (Put r p t) = if is_filtered r then query_eq r q && path_eq p q.path else is_at_or_above p q.path
 ends q (Recover registered kept) = not (is_registered registered q)
 
--- whether none of the calls does
+-- whether none of the calls ends q's children
 abbrev pub lets_be : Query → List Call → Bool
 lets_be q calls = not (list_any (ends q) calls)
 

@@ -63,7 +63,7 @@ pub(crate) fn stands_too_deep(path: &Path, tree: &Tree) -> bool
     MAX_LEVELS < path.keys().len() + tree.levels()
 }
 
-// Whether one of these entries would.
+// Whether a leaf of one of these entries would stand under too many keys.
 pub(crate) fn stand_too_deep(entries: &Entries) -> bool
     ensures { result ≡ list_any stands_too_deep entries.now }
 {
@@ -73,7 +73,7 @@ pub(crate) fn stand_too_deep(entries: &Entries) -> bool
         .any(|entry| stands_too_deep(&entry.0, &entry.1))
 }
 
-// Whether a leaf of the action would.
+// Whether a leaf of the action would stand under too many keys.
 fn is_too_deep(action: &Action) -> bool
     ensures { result ≡ list_any stands_too_deep (entries_of action.now) }
 {

@@ -46,7 +46,7 @@ fn lacks_window(brought: &Brought, query: &Query, entry: &(Path, Tree)) -> bool
     brought.lacks_window(query, &entry.0)
 }
 
-// Whether each of these entries would.
+// Whether each of these entries would want one.
 fn lack_window(brought: &Brought, query: &Query, entries: &[(Path, Tree)]) -> bool
     ensures { result ≡ list_all (is_without_window brought.now query.now) entries.now }
 {
@@ -117,7 +117,7 @@ impl State {
         }
     }
 
-    // Whether the path of a tree is.
+    // Whether the path of a pushed tree is outside the listen's.
     fn is_path_outside(&self, tag: u64, path: &Path, tree: &Tree) -> bool
         ensures { result ≡ not (is_within_listen self.now.world (tag, (path.now, tree.now) ∷ [])) }
     {

@@ -80,13 +80,13 @@ settled_told w id why =
     option_to_list (option_and_then (settled_note (id, why)) (find (λ r. r.id == id) w.requests))
     ++ all_told (entries_settled w id) w.brought writes w.listeners
 
--- an accepted request
+-- what the acceptance of a request makes
 abbrev pub AcceptedIsMade : Type 0
 AcceptedIsMade =
     (w : World) (id : ℕ) → let s = Step.Accepted id in
     IsMade w s → IsReached w → Leaves w s (settled_world w id) (settled_told w id None)
 
--- a refused one
+-- what the refusal of a request makes
 abbrev pub RefusedIsMade : Type 0
 RefusedIsMade =
     (w : World) (id : ℕ) (why : Reason) → let s = Step.Refused id why in

@@ -89,7 +89,7 @@ PushIsBrought =
     (w : World) (s : Step) → IsSound w → IsCalled w.brought → IsReached w → refusal w s ≡ None
     → changes_listeners s ≡ false → brought_after w s ≡ pushed w s
 
--- and where it registers one
+-- where a step registers a listener its change of cover leaves what is brought
 abbrev pub ListenBringsNothing : Type 0
 ListenBringsNothing =
     (w : World) (seat : ℕ) (query : Query) → IsSound w → IsCalled w.brought → IsReached w
@@ -104,14 +104,14 @@ WriteIsPending =
     → pending (rs ++ record { id = id; seat = seat; asked = Now action } ∷ [])
     ≡ pending rs ++ record { id = id; entries = entries_of action } ∷ []
 
--- one for the end of the connection is not
+-- a request for the end of the connection is not pending
 abbrev pub EndingIsNotPending : Type 0
 EndingIsNotPending =
     (rs : List Request) (id : ℕ) (seat : Option ℕ) (ending : Ending)
     → pending (rs ++ record { id = id; seat = seat; asked = AtDisconnect ending } ∷ [])
     ≡ pending rs
 
--- nor is a settled one
+-- a settled request is not pending
 abbrev pub SettledIsNotPending : Type 0
 SettledIsNotPending =
     (rs : List Request) (id : ℕ)

@@ -157,7 +157,7 @@ abbrev pub is_later : Option ℕ → ℕ → Bool
 is_later None j = true
 is_later (Some m) j = nat_lt m j
 
--- one of the numbers is
+-- one of the numbers is after the last one
 abbrev pub HasLater : Option ℕ → BTreeSet ℕ → Type 0
 HasLater last numbers = (j : ℕ) × (is_later last j ≡ true) × (contains nat_cmp numbers j ≡ true)
 
