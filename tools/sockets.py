@@ -1,4 +1,4 @@
-"""The console at both ends of a socket: the parts that sessions/ has."""
+"""The console at both ends of a socket: the parts that tools/sessions/ has."""
 import tempfile
 
 import connecting
@@ -15,7 +15,7 @@ from rows import builds_of
 
 
 def sockets_part(name, wrong_of, *given):
-    """A part that sessions/ has: what is wrong, and how much was tried."""
+    """A part that tools/sessions/ has: what is wrong, and how much was tried."""
     clock = Clock()
     wrong, count = wrong_of(*given)
     part(name.format(count), some_of(wrong, count), clock)

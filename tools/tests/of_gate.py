@@ -7,7 +7,7 @@ import tempfile
 import unittest
 
 ROOT = os.path.realpath(f"{os.path.dirname(os.path.realpath(__file__))}/../..")
-sys.path[:0] = [f"{ROOT}/sessions", f"{ROOT}/tools"]
+sys.path[:0] = [f"{ROOT}/tools/sessions", f"{ROOT}/tools"]
 import bodies
 import judging
 import lacking

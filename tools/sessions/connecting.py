@@ -10,7 +10,7 @@ from runs import differs
 from session import SESSIONS, data, goes, hears, listen, ok, put, session, stop
 
 assert endings  # it adds its sessions where it is read
-ROOT = os.path.dirname(os.path.dirname(os.path.realpath(__file__)))
+ROOT = os.path.dirname(os.path.dirname(os.path.dirname(os.path.realpath(__file__))))
 ENDS = {"stdout": subprocess.PIPE, "stderr": subprocess.PIPE}
 
 # ---- faults, and words

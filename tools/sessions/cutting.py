@@ -11,7 +11,7 @@ from frames import CLOSED, SECONDS, TEXT, Client, free_port
 from runs import differs
 
 HERE = os.path.dirname(os.path.realpath(__file__))
-CUT = b"cut\n"  # what sessions/cut.c says where it cuts
+CUT = b"cut\n"  # what tools/sessions/cut.c says where it cuts
 
 # The lines whose connection is cut: those of the row, behind what is asked for the connection's end.
 LINES = '["onDisconnect",1,"set","/p",true]\n["read",1]\n' + ROW
@@ -256,7 +256,7 @@ def wrong_of(programs, room):
     """What is wrong with these builds of the program, each as either side, and how many calls were cut."""
     library, why = library_of(room)
     if why:
-        return [f"sessions/cut.c can't be compiled: {why[:300]}"], 0
+        return [f"tools/sessions/cut.c can't be compiled: {why[:300]}"], 0
     wrong = [row({"serve": server, "connect": client}) for server in programs for client in programs]
     wrong, count = [it for it in wrong if it], 0
     for one, other in zip(programs, reversed(programs)):

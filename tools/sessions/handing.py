@@ -79,7 +79,7 @@ def wrong_of(programs, room):
     """What is wrong with these builds of the program, and how many sessions there were."""
     library, why = library_of(room)
     if why:
-        return [f"sessions/cut.c can't be compiled: {why[:300]}"], 0
+        return [f"tools/sessions/cut.c can't be compiled: {why[:300]}"], 0
     slow = {"LD_PRELOAD": library, "SLOW_MICROSECONDS": SLOW}
     wrong, count = [], 0
     for program in programs:
