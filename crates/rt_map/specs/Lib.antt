@@ -1,4 +1,5 @@
--- The definitions that the contracts name beside std's of a map (`insert_entry`, `remove_entry`, `set_value`, `lookup`):
+-- The definitions that the contracts name beside std's of a map (`insert_entry`, `remove_entry`,
+-- `set_value`, `lookup`):
 --   Maps      a map as a value: its entries
 --   Updates   what a change of one key does to the others
 --   Lent      what a map ends as once a value that it lent comes back

@@ -1,6 +1,6 @@
 // The map.
-ghost use Rattle.std.specs.Prelude.{◌≡◌, [], ◌-◌, length, IfOk, IfSome, OnOk, OnErr, IsSome, IsTrue};
-ghost use Rattle.std.specs.Prelude.{is_some, MatchOption, None, Some, slice_get, ◌↔◌};
+ghost use Rattle.std.specs.Prelude.{◌≡◌, [], ◌-◌, length, IfOk, IfSome, OnOk, OnErr, IsSome};
+ghost use Rattle.std.specs.Prelude.{IsTrue, is_some, MatchOption, None, Some, slice_get, ◌↔◌};
 ghost use Rattle.std.specs.Option.{option_copied};
 ghost use Rattle.std.specs.List.{IsAmong};
 ghost use Rattle.std.specs.List.Sorted.{IsStrictlySortedBy};

@@ -1,5 +1,6 @@
 // What a map stands on: one chunk while it is small, a table from then on.
-ghost use Rattle.std.specs.Prelude.{◌≡◌, ◌<◌, ◌-◌, [], length, IfOk, IfSome, OnOk, OnErr, slice_index_or};
+ghost use Rattle.std.specs.Prelude.{◌≡◌, ◌<◌, ◌-◌, [], length, IfOk, IfSome, OnOk, OnErr};
+ghost use Rattle.std.specs.Prelude.{slice_index_or};
 ghost use Rattle.std.specs.Option.{option_copied};
 ghost use Rattle.std.specs.BTreeMap.{insert_entry, is_at};
 ghost use Rattle.std.specs.Map.{lookup, remove_entry, keys_of};
@@ -98,7 +99,8 @@ impl<K, V> Root<K, V> {
     /// The last entry.
     pub fn last(&self) -> &(K, V)
         requires { 0 < length (root_entries self.now) }
-        ensures { result.now ≡ slice_index_or (root_entries self.now) (length (root_entries self.now) - 1) result.now }
+        ensures { result.now ≡ slice_index_or (root_entries self.now)
+            (length (root_entries self.now) - 1) result.now }
     {
         match self {
             Root::Small(chunk) => chunk.last(),

@@ -1,5 +1,6 @@
 // A run of chunks.
-ghost use Rattle.std.specs.Prelude.{◌≡◌, [], ◌∷◌, ◌++◌, ◌<◌, ◌≤◌, ◌+◌, ◌-◌, ◌↔◌, length, IfOk, IfSome, IsSome, IsTrue, OnOk, OnErr, Some, slice_index_or};
+ghost use Rattle.std.specs.Prelude.{◌≡◌, [], ◌∷◌, ◌++◌, ◌<◌, ◌≤◌, ◌+◌, ◌-◌, ◌↔◌, length, IfOk};
+ghost use Rattle.std.specs.Prelude.{IfSome, IsSome, IsTrue, OnOk, OnErr, Some, slice_index_or};
 ghost use Rattle.std.specs.Option.{option_copied};
 ghost use Rattle.std.specs.Arc.{arc_value};
 ghost use Rattle.std.specs.BTreeMap.{insert_entry, is_at};
@@ -65,11 +66,6 @@ impl<K, V> Row<K, V> {
         self.chunks.as_slice()
     }
 
-    /// How many parts.
-    pub fn width(&self) -> usize {
-        self.chunks.len()
-    }
-
     /// Whether there is no entry.
     pub fn is_empty(&self) -> bool
         ensures { IsTrue result ↔ (self.now ≡ []) }
@@ -107,7 +103,8 @@ fn first_of<K, V>(parts: &[Arc<Chunk<K, V>, Global>]) -> &(K, V)
 fn last_of<K, V>(parts: &[Arc<Chunk<K, V>, Global>]) -> &(K, V)
     requires some { 0 < length (joined parts.now) }
     requires filled { AllFilled parts.now }
-    ensures { result.now ≡ slice_index_or (joined parts.now) (length (joined parts.now) - 1) result.now }
+    ensures { result.now
+        ≡ slice_index_or (joined parts.now) (length (joined parts.now) - 1) result.now }
 {
     parts[parts.len() - 1].last()
 }

@@ -1,5 +1,6 @@
 // A run of rows.
-ghost use Rattle.std.specs.Prelude.{◌≡◌, [], ◌∷◌, ◌++◌, ◌<◌, ◌≤◌, ◌+◌, ◌-◌, ◌↔◌, length, IfOk, IsSome, OnOk, OnErr, Some, slice_index_or};
+ghost use Rattle.std.specs.Prelude.{◌≡◌, [], ◌∷◌, ◌++◌, ◌<◌, ◌≤◌, ◌+◌, ◌-◌, ◌↔◌, length, IfOk};
+ghost use Rattle.std.specs.Prelude.{IsSome, OnOk, OnErr, Some, slice_index_or};
 ghost use Rattle.std.specs.Option.{option_copied};
 ghost use Rattle.std.specs.Arc.{arc_value};
 ghost use Rattle.std.specs.BTreeMap.{insert_entry, is_at};
@@ -83,7 +84,8 @@ fn first_of<K, V>(parts: &[Arc<Row<K, V>, Global>]) -> &(K, V)
 fn last_of<K, V>(parts: &[Arc<Row<K, V>, Global>]) -> &(K, V)
     requires some { 0 < length (joined parts.now) }
     requires filled { AllFilled parts.now }
-    ensures { result.now ≡ slice_index_or (joined parts.now) (length (joined parts.now) - 1) result.now }
+    ensures { result.now
+        ≡ slice_index_or (joined parts.now) (length (joined parts.now) - 1) result.now }
 {
     parts[parts.len() - 1].last()
 }
@@ -145,7 +147,7 @@ fn part_with_room<K: Ord + Share, V: Share>(
     ensures ok { IfOk result (λ at. IsPart K.cmp key.now parts.new.items at) }
 {
     let at = find_part(parts.as_slice(), key);
-    let len = parts[at].width();
+    let len = parts[at].parts().len();
     if len < MAX_CHUNKS {
         return Ok(at);
     }

@@ -18,7 +18,7 @@ use Rattle.rt_tree.specs.laws.PathTree.{is_null-null, null_of_is_null}
 use Rattle.rt_tree.specs.laws.Parts.{sub-put_under, sub-put_other}
 use Rattle.rt_tree.specs.inside.Puts.{child_or_null, PutsBelow}
 use Rattle.rt_tree.specs.inside.TreeView.{IsObject}
-use Rattle.rt_tree.proofs.Trees.{is_null-of_leaf, is_null-object, sub-root, sub-null, sub-object, put-root, put-null-null, put-of_leaf-null, put-object, puts_nothing, puts_one}
+use Rattle.rt_tree.proofs.Trees.{is_null-of_leaf, is_null-object, is_null-put, sub-root, sub-null, sub-object, put-root, put-null-null, put-of_leaf-null, put-object, puts_nothing, puts_one}
 
 -- ---- at the root, in null, in a leaf, where no child is
 pub emptied-root : (t : PathTree) (p : Path) → length p ≡ 0 → is_null (put t p null) ≡ true
@@ -106,6 +106,21 @@ emptied-one (e ∷ []) k p t one is =
           ] refl in
           sym (ap is_null (put-object (e ∷ []) [] k p null gone) ∙ is_null-null)
     ] refl
+
+-- an only child stays where something is left of the object
+pub only_child_stays : (es : List (Key × PathTree)) (k : Key) (p : Path) (u t : PathTree) → length es ≡ 1 → child_of es k ≡ Some t → is_null (put (object es) (k ∷ p) u) ≡ false → is_null (put t p u) ≡ false
+only_child_stays es k p u t one is left =
+    elim (is_null u) as (λ b. is_null u ≡ b → is_null (put t p u) ≡ false) [
+      | true ↦ λ n.
+          ap (λ v. is_null (put t p v)) (null_of_is_null u n) ∙ emptied-one es k p t one is
+          ∙ ap (λ v. is_null (put (object es) (k ∷ p) v)) (sym (null_of_is_null u n)) ∙ left
+      | false ↦ λ full. is_null-put t p u full
+    ] refl
+
+-- what a put leaves something of has children left
+pub children_left : (es fs : List (Key × PathTree)) (k : Key) (p : Path) (u : PathTree) → PutsBelow es fs k p u → is_null (put (object es) (k ∷ p) u) ≡ false → 0 < length fs
+children_left es [] k p u puts left = cc (ap is_null (put-object es [] k p u puts), left, is_null-null)
+children_left es (f ∷ fs) k p u puts left = omega arith
 
 -- ---- what a step of `put` does to the children
 -- the child went, of which nothing was left

@@ -212,13 +212,19 @@ impl Tree {
         if tree.levels() > MAX_LEVELS - keys.len() {
             return Err(TreeError::TooDeep);
         }
+        if self.is_emptied(keys, &tree) {
+            *self = Tree::null();
+            return Ok(());
+        }
         self.put_at(alloc, keys, tree)?;
         Ok(())
     }
 
+    // Puts a tree at keys where something is left then.
     #[cycle(put)]
     fn put_at(&mut self, alloc: Global, keys: &[Key], tree: Tree) -> Result<(), AllocError>
-        requires { MayStandAt keys.now tree }
+        requires fits { MayStandAt keys.now tree }
+        requires left { is_null (put self.old keys.now tree) ≡ false }
         ensures ok { OnOk result (self.new ≡ put self.old keys.now tree) }
         ensures err { OnErr result (self.new ≡ self.old) }
     {
@@ -228,9 +234,6 @@ impl Tree {
         };
         if let Node::Object(children) = &mut self.node {
             put_below(children, alloc, key, rest, tree)?;
-            if children.is_empty() {
-                self.node = Node::Null;
-            }
             return Ok(());
         }
         if !tree.is_null() {
@@ -345,8 +348,19 @@ fn set_child(
     Ok(())
 }
 
+// Whether nothing is left of a child once `tree` comes at `rest` below it. Something is left of all
+// children, so of an only child too: that is not asked again.
+fn goes(children: &OrdMap<Key, Tree>, key: &Key, child: &Tree, rest: &[Key], tree: &Tree) -> bool
+    requires child { child_of children.now.entries key.now ≡ Some child.now }
+    requires left { is_null (put (object children.now.entries) (key.now ∷ rest.now) tree.now) ≡ false }
+    ensures { result ≡ is_null (put child.now rest.now tree.now) }
+{
+    children.len() > 1 && child.is_emptied(rest, tree)
+}
+
 // Puts a tree at a path below the child at `key`, or takes that child out where nothing is left of
-// it. Children that another tree shares are copied on the way to `key` alone.
+// it. Something is left of all children. Those that another tree shares are copied on the way to
+// `key` alone.
 #[cycle(put)]
 fn put_below(
     children: &mut OrdMap<Key, Tree>,
@@ -357,6 +371,7 @@ fn put_below(
 ) -> Result<(), AllocError>
     requires allowed { MayStandAt (key.now ∷ rest.now) tree }
     requires kept { IsObject children.old.entries }
+    requires left { is_null (put (object children.old.entries) (key.now ∷ rest.now) tree) ≡ false }
     ensures ok { OnOk result
         (PutsBelow children.old.entries children.new.entries key.now rest.now tree) }
     ensures err { OnErr result (children.new.entries ≡ children.old.entries) }
@@ -371,7 +386,7 @@ fn put_below(
         children.insert(alloc, key, branch)?;
         return Ok(());
     };
-    if child.is_emptied(rest, &tree) {
+    if goes(children, key, child, rest, &tree) {
         children.remove(key)?;
         return Ok(());
     }
