@@ -482,11 +482,14 @@ rising_pending ws vs merged h is = subst Rising is (rising_of ws h.kept.rises)
 pub merged_pending : (ws vs : List Write) (merged : Option Spot) (root : Spot) → IsPending ws merged → ws ≡ vs → merged ≡ Some root → IsMerged vs root
 merged_pending ws vs merged root h is some = subst (λ o. IfSome o (IsMerged vs)) some (subst (λ xs. IfSome merged (IsMerged xs)) is h.tree)
 
+pub nothing_merged : (s : Spot) → ((q : Path) (j : ℕ) → has_here s q j ≡ false) → ((q : Path) (j : ℕ) → place_at s q j ≡ None) → ((q : Path) (j : ℕ) → has_under s q j ≡ false) → ((q : Path) (j : ℕ) → has_full s q j ≡ false) → IsMerged [] s
+nothing_merged s here place under full = record { here = here; under = under; full = full; places = λ q j i e. cc (sym (place q j) ∙ e) }
+
 pub nothing_pending : (ws : List Write) (s : Spot) → ws ≡ [] → ((q : Path) (j : ℕ) → has_here s q j ≡ false) → ((q : Path) (j : ℕ) → place_at s q j ≡ None) → ((q : Path) (j : ℕ) → has_under s q j ≡ false) → ((q : Path) (j : ℕ) → has_full s q j ≡ false) → IsPending ws (Some s)
 nothing_pending ws s is here place under full = subst (λ xs. IsPending xs (Some s)) (sym is) (record {
   kept = record { rises = λ i j d l m. absurd (omega arith); shallow = λ k d l. absurd (omega arith) };
   apart = λ k d l. absurd (omega arith);
-  tree = record { here = here; under = under; full = full; places = λ q j i e. cc (sym (place q j) ∙ e) };
+  tree = nothing_merged s here place under full;
 })
 
 pub whole_child : (ws : List Write) (p : Path) (k : Key) → sets_whole ws p ≡ true → true ≡ sets_child_whole ws p k

@@ -8,6 +8,7 @@ use crate::spots::Spot;
 use crate::write::Write;
 use rt_tree::{Path, Tree};
 use std::alloc::Global;
+use std::collections::VecDeque;
 
 // With the entries of one write more.
 pub(crate) fn merged_with(
@@ -46,12 +47,22 @@ pub(crate) fn merged_without(
 }
 
 // Of all these writes.
-pub(crate) fn merged_anew(alloc: Global, writes: &[Write]) -> Option<Spot>
-    ensures { IfSome result (IsMerged writes.now) }
+pub(crate) fn merged_anew(alloc: Global, writes: &VecDeque<Write>) -> Option<Spot>
+    ensures { IfSome result (IsMerged writes.now.items) }
 {
-    let mut merged = Some(Spot::new(alloc));
+    let (first, others) = writes.as_slices();
+    let merged = merged_with_each(Some(Spot::new(alloc)), alloc, first);
+    merged_with_each(merged, alloc, others)
+}
+
+// With the entries of these writes more.
+fn merged_with_each(merged: Option<Spot>, alloc: Global, writes: &[Write]) -> Option<Spot>
+    ensures { (before : List PendingWrite) → IfSome merged (IsMerged before)
+        → IfSome result (IsMerged (before ++ writes.now)) }
+{
+    let mut all = merged;
     for write in writes {
-        merged = merged_with(merged, alloc, write.id, write.entries.as_slice());
+        all = merged_with(all, alloc, write.id, write.entries.as_slice());
     }
-    merged
+    all
 }

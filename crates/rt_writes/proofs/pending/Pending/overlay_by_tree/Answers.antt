@@ -16,7 +16,7 @@ returns-in-Some-clause-overlay c =
     (c.in-Some.ensures ∙ ap (spot_at c.args.root.now) c.keys-2.ensures.keys)
     (subst (λ ws. IfOk c.lay_below.result (λ done. (x : Path) → AreApart ws → IsMergedAt ws x c.in-Some.spot.now → sets_whole (after c.last_whole-last.result ws) x ≡ false
     → Laid (LaysAt ws x c.last_whole-last.result) c.args.path.now c.in_ok-after.after done))
-    (c.as_slice.ensures.value ∙ c.self.view_is) c.lay_below.ensures.laid)
+    c.self.view_is c.lay_below.ensures.laid)
 
 pub returns-in-None-clause-overlay : goal.returns-in-None-clause-overlay
 returns-in-None-clause-overlay c =
