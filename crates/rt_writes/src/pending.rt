@@ -8,7 +8,8 @@ ghost use Rattle.rt_tree.specs.Assignments.{have_overlap};
 ghost use Rattle.rt_writes.specs.Kept.{IsKept};
 ghost use Rattle.rt_writes.specs.Writes.{IsShallow, overlay, touches, sets_whole, sets_child_whole};
 ghost use Rattle.rt_writes.specs.Writes.{entries_of, without};
-ghost use Rattle.rt_writes.specs.inside.Spots.{IsMerged, overlaid_last};
+ghost use Rattle.rt_tree.specs.PathTree.{PathTree};
+ghost use Rattle.rt_writes.specs.inside.Spots.{IsAbove, IsLast, IsMerged, overlaid_last};
 
 use crate::entries::Entries;
 use crate::error::WriteError;
@@ -209,8 +210,8 @@ impl Pending {
         overlaid_by_each(others, alloc, path, after)
     }
 
-    // The same, by the last write at or above the path, which hides all before it, and then spot by
-    // spot by what came after it below the path.
+    // The same, by the last write at or above the path, which hides all before it: by the tree that is
+    // kept where it shows, else spot by spot by what came after it below the path.
     fn overlay_by_tree(&self, root: &Spot, path: &Path, tree: Tree) -> Result<Tree, AllocError>
         requires shallow { IsShallow (path.now, tree) }
         requires merged { IsMerged self.now root.now }
@@ -218,9 +219,47 @@ impl Pending {
         ensures shallow { IfOk result (λ after. IsShallow (path.now, after)) }
         ensures touched { OnErr result (touches self.now path.now ≡ true) }
     {
+        // For the prover: no leaf of an entry is too deep.
+        let _is_kept = self.len();
+        let last = root.last_whole(path.keys());
+        match self.kept(root, last, path)? {
+            Some(after) => Ok(after),
+            None => self.overlay_by_spots(root, last, path, tree),
+        }
+    }
+
+    // The same where a tree is kept in which the last write at or above the path shows; none where
+    // there is no such write, or none is kept.
+    fn kept(&self, root: &Spot, last: Option<u64>, path: &Path) -> Result<Option<Tree>, AllocError>
+        requires merged { IsMerged self.now root.now }
+        requires last { IsLast (IsAbove root.now path.now) last }
+        ensures overlay { IfOk result (λ kept. IfSome kept (λ after. (tree : PathTree)
+            → after ≡ overlay path.now tree self.now)) }
+        ensures touched { OnErr result (touches self.now path.now ≡ true) }
+    {
+        match last {
+            Some(number) => root.copy_kept(*self.writes.allocator(), number, path.keys()),
+            None => Ok(None),
+        }
+    }
+
+    // The same, by the last write at or above the path, and spot by spot by what came after it.
+    fn overlay_by_spots(
+        &self,
+        root: &Spot,
+        last: Option<u64>,
+        path: &Path,
+        tree: Tree,
+    ) -> Result<Tree, AllocError>
+        requires shallow { IsShallow (path.now, tree) }
+        requires merged { IsMerged self.now root.now }
+        requires last { IsLast (IsAbove root.now path.now) last }
+        ensures overlay { IfOk result (λ after. after ≡ overlay path.now tree self.now) }
+        ensures shallow { IfOk result (λ after. IsShallow (path.now, after)) }
+        ensures touched { OnErr result (touches self.now path.now ≡ true) }
+    {
         // For the prover: the numbers of the writes rise.
         let _numbers_rise = self.len();
-        let last = root.last_whole(path.keys());
         let after = self.overlaid_last(last, path, tree)?;
         match root.at(path.keys()) {
             Some(spot) => lay_below(spot, &self.writes, last, path, after),
