@@ -12,13 +12,13 @@ use Rattle.std.proofs.lemmas.List.Sums.{fold-append}
 use Rattle.std.proofs.lemmas.List.Elements.{All-head, All-tail}
 use Rattle.std.proofs.lemmas.Option.{slice_get_past, slice_get_read}
 use Rattle.std.proofs.lemmas.Result.{on_err_weaker}
-use Rattle.rt_tree.specs.PathTree.{Key, Path, PathTree, key_cmp, path_eq, path_eq-is, is_null, of_leaf, not_null_of_leaf, leaf_at, leaf_at-of_leaf, leaf_alone, levels, levels_le}
+use Rattle.rt_tree.specs.PathTree.{Key, Path, PathTree, key_cmp, path_eq, path_eq-is, null, is_null, of_leaf, not_null_of_leaf, leaf_at, leaf_at-of_leaf, leaf_alone, levels, levels_le}
 use Rattle.rt_tree.specs.Leaf.{LeafValue, truth}
 use Rattle.rt_tree.specs.Assignments.{Assignment, is_at_or_above, do_overlap, have_overlap}
 use Rattle.rt_writes.specs.Writes.{Write, IsShallow, assignments, overlaid, overlay, sets_whole, touches}
 use Rattle.rt_writes.specs.laws.TouchLaws.{fold-untouched}
 use Rattle.rt_writes.specs.declared.spots.Spot.{Spot}
-use Rattle.rt_writes.specs.inside.Spots.{under_of, below_of, spot_at, has_here, place_at, is_entry, is_full, IsLast, later_of, some_write, some_entry, IsMergedAt, AreApart, is_later, HasLater, after, entry_at, fills, LaysAt, SetsAt, Laid, marked}
+use Rattle.rt_writes.specs.inside.Spots.{under_of, below_of, spot_at, has_here, place_at, tree_at, within, is_entry, is_full, IsLast, later_of, some_write, some_entry, IsMergedAt, AreApart, is_later, HasLater, after, entry_at, fills, LaysAt, SetsAt, Laid, marked}
 use Rattle.rt_writes.proofs.SpotLaws.{here_in, under_in, full_in, place_in, both_true}
 use Rattle.rt_writes.proofs.NumberLaws.{Rising, sets, equal_itself, not_so, any_of, any_either, or_left, or_right, own, none_pass, whole_after, at_child}
 use Rattle.rt_writes.proofs.LeafLaws.{overlaid-own, only_entry}
@@ -105,6 +105,9 @@ merged_child ws x s c k h is = record {
   places = λ q j i e.
       ap (λ z. some_write (λ w. is_entry w.entries i z) ws j) (sym (joined x k q))
       ∙ h.places (k ∷ q) j i (ap (λ o. place_in o q j) is ∙ e);
+  trees = λ q u e.
+      h.trees (k ∷ q) u (ap (λ o. option_map_or (λ c. tree_at c q) o None) is ∙ e)
+      ∙ ap (λ z. fold (overlaid z) null (within (assignments ws) z)) (joined x k q);
 }
 
 pub merged_at : (ws : List Write) (q x : Path) (r s : Spot) → IsMergedAt ws x r → spot_at r q ≡ Some s → IsMergedAt ws (x ++ q) s

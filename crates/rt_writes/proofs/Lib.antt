@@ -1,4 +1,5 @@
 pub mod AtChild
+pub mod KeptLaws
 pub mod LayLaws
 pub mod LeafLaws
 pub mod Lists

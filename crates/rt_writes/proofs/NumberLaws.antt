@@ -15,7 +15,7 @@ use Rattle.std.specs.Prelude.{IsTrue, IfSome}
 use mathlib.Core.List.{append-nil}
 use Rattle.std.proofs.lemmas.List.Sums.{fold-append}
 use Rattle.std.proofs.lemmas.List.Concat.{flat_map-append}
-use Rattle.rt_tree.specs.PathTree.{Key, Path, PathTree, key_cmp, path_eq, path_eq-is, path_eq-same, strip, strip-some, strip-append}
+use Rattle.rt_tree.specs.PathTree.{Key, Path, PathTree, null, key_cmp, path_eq, path_eq-is, path_eq-same, strip, strip-some, strip-append}
 use Rattle.rt_tree.specs.Assignments.{Assignment, is_at_or_above, do_overlap, have_overlap}
 use Rattle.rt_writes.specs.Writes.{Write, assignments, overlaid, overlay, sets_whole, sets_child_whole, without, touches, IsShallow}
 use Rattle.rt_writes.specs.Kept.{IsKept}
@@ -24,7 +24,7 @@ use Rattle.std.proofs.lemmas.List.Elements.{All-filter}
 use Rattle.std.proofs.lemmas.List.Quantifiers.{position-Some}
 use Rattle.rt_writes.specs.laws.TouchLaws.{fold-whole}
 use Rattle.rt_writes.specs.declared.spots.Spot.{Spot}
-use Rattle.rt_writes.specs.inside.Spots.{under_of, below_of, spot_at, has_here, has_under, has_full, place_at, is_entry, is_full, AddsAll, ForgetsAll, IsAbove, IsLast, some_write, some_entry, IsMerged, IsPending, is_later, after}
+use Rattle.rt_writes.specs.inside.Spots.{under_of, below_of, spot_at, has_here, has_under, has_full, place_at, tree_at, within, is_entry, is_full, AddsAll, ForgetsAll, IsAbove, IsLast, some_write, some_entry, IsMerged, IsPending, is_later, after}
 use Rattle.rt_writes.proofs.Lists.{list_any-flat_map, find-position, remove-without}
 use Rattle.rt_writes.proofs.SpotLaws.{has_place}
 use Rattle.rt_writes.proofs.AtChild.{at_itself, at_other}
@@ -133,9 +133,14 @@ or_left b c e = ap (λ x. x || c) e
 pub or_right : (b c : Bool) → c ≡ true → (b || c) ≡ true
 or_right b c e = ap (λ x. b || x) e ∙ or_true b
 
-pub merged_more : (ws : List Write) (r s : Spot) (id : ℕ) (es : List Assignment) → AddsAll r s es id → IsMerged ws r
+-- what a spot keeps is what the entries at or below it make
+abbrev pub TreesOf : List Write → Spot → Type 0
+TreesOf ws s = (q : Path) (u : PathTree) → tree_at s q ≡ Some u → u ≡ fold (overlaid q) null (within (assignments ws) q)
+
+pub merged_more : (ws : List Write) (r s : Spot) (id : ℕ) (es : List Assignment) → AddsAll r s es id → TreesOf (ws ++ record { id = id; entries = es } ∷ []) s → IsMerged ws r
     → IsMerged (ws ++ record { id = id; entries = es } ∷ []) s
-merged_more ws r s id es h m = record {
+merged_more ws r s id es h trees m = record {
+  trees = trees;
   here = λ q j.
       h.here q j ∙ ap (λ b. (list_any (λ a. path_eq a.0 q) es && (id == j)) || b) (m.here q j)
       ∙ swapped (list_any (λ a. path_eq a.0 q) es) (id == j) (some_entry (λ a. path_eq a.0 q) ws j)
@@ -212,9 +217,9 @@ and_first : (b c : Bool) → (b && c) ≡ true → (b && true) ≡ true
 and_first true c e = refl
 and_first false c e = e
 
-pub merged_less : (ws : List Write) (r s : Spot) (id : ℕ) (es : List Assignment) → ForgetsAll r s es id → Rising ws
+pub merged_less : (ws : List Write) (r s : Spot) (id : ℕ) (es : List Assignment) → ForgetsAll r s es id → TreesOf (without id ws) s → Rising ws
     → find (λ w. w.id == id) ws ≡ Some (record { id = id; entries = es }) → IsMerged ws r → IsMerged (without id ws) s
-merged_less ws r s id es h rises e m = record { here = at_here; under = at_under; full = at_full; places = at_place }
+merged_less ws r s id es h trees rises e m = record { here = at_here; under = at_under; full = at_full; places = at_place; trees = trees }
   where
     at_here : (q : Path) (j : ℕ) → has_here s q j ≡ some_entry (λ a. path_eq a.0 q) (without id ws) j
     at_here q j =
@@ -482,11 +487,14 @@ rising_pending ws vs merged h is = subst Rising is (rising_of ws h.kept.rises)
 pub merged_pending : (ws vs : List Write) (merged : Option Spot) (root : Spot) → IsPending ws merged → ws ≡ vs → merged ≡ Some root → IsMerged vs root
 merged_pending ws vs merged root h is some = subst (λ o. IfSome o (IsMerged vs)) some (subst (λ xs. IfSome merged (IsMerged xs)) is h.tree)
 
-pub nothing_pending : (ws : List Write) (s : Spot) → ws ≡ [] → ((q : Path) (j : ℕ) → has_here s q j ≡ false) → ((q : Path) (j : ℕ) → place_at s q j ≡ None) → ((q : Path) (j : ℕ) → has_under s q j ≡ false) → ((q : Path) (j : ℕ) → has_full s q j ≡ false) → IsPending ws (Some s)
-nothing_pending ws s is here place under full = subst (λ xs. IsPending xs (Some s)) (sym is) (record {
+pub nothing_merged : (s : Spot) → ((q : Path) (j : ℕ) → has_here s q j ≡ false) → ((q : Path) (j : ℕ) → place_at s q j ≡ None) → ((q : Path) (j : ℕ) → has_under s q j ≡ false) → ((q : Path) (j : ℕ) → has_full s q j ≡ false) → ((q : Path) → tree_at s q ≡ None) → IsMerged [] s
+nothing_merged s here place under full tree = record { here = here; under = under; full = full; places = λ q j i e. cc (sym (place q j) ∙ e); trees = λ q u e. cc (sym (tree q) ∙ e) }
+
+pub nothing_pending : (ws : List Write) (s : Spot) → ws ≡ [] → ((q : Path) (j : ℕ) → has_here s q j ≡ false) → ((q : Path) (j : ℕ) → place_at s q j ≡ None) → ((q : Path) (j : ℕ) → has_under s q j ≡ false) → ((q : Path) (j : ℕ) → has_full s q j ≡ false) → ((q : Path) → tree_at s q ≡ None) → IsPending ws (Some s)
+nothing_pending ws s is here place under full tree = subst (λ xs. IsPending xs (Some s)) (sym is) (record {
   kept = record { rises = λ i j d l m. absurd (omega arith); shallow = λ k d l. absurd (omega arith) };
   apart = λ k d l. absurd (omega arith);
-  tree = record { here = here; under = under; full = full; places = λ q j i e. cc (sym (place q j) ∙ e) };
+  tree = nothing_merged s here place under full tree;
 })
 
 pub whole_child : (ws : List Write) (p : Path) (k : Key) → sets_whole ws p ≡ true → true ≡ sets_child_whole ws p k

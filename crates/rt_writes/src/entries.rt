@@ -172,7 +172,7 @@ pub(crate) fn overlaid(
 }
 
 // A copy of the part of the tree below these keys; null where there is none.
-fn copy_part(alloc: Global, tree: &Tree, keys: &[Key]) -> Result<Tree, AllocError>
+pub(crate) fn copy_part(alloc: Global, tree: &Tree, keys: &[Key]) -> Result<Tree, AllocError>
     ensures { IfOk result (λ copy. copy ≡ sub tree.now keys.now) }
 {
     match tree.at(keys) {
@@ -194,7 +194,12 @@ fn path_of(alloc: Global, keys: &[Key]) -> Result<Path, AllocError>
 }
 
 // The tree with a copy of the other one put below these keys.
-fn put_copy(alloc: Global, tree: Tree, keys: &[Key], part: &Tree) -> Result<Tree, AllocError>
+pub(crate) fn put_copy(
+    alloc: Global,
+    tree: Tree,
+    keys: &[Key],
+    part: &Tree,
+) -> Result<Tree, AllocError>
     requires short { length keys.now ≤ MAX_KEYS }
     requires shallow { IsShallow (keys.now, part.now) }
     ensures { IfOk result (λ after. after ≡ put tree keys.now part.now) }

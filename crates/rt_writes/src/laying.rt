@@ -16,22 +16,23 @@ use crate::spots::{Spot, later};
 use crate::write::Write;
 use rt_tree::{Leaf, Path, Tree};
 use std::alloc::AllocError;
+use std::collections::VecDeque;
 
 // The tree at the path after what the writes with later numbers set below the spot: of each spot
 // there the last tree alone, and of those below it what came after.
 pub(crate) fn lay_below(
     spot: &Spot,
-    writes: &[Write],
+    writes: &VecDeque<Write>,
     last: Option<u64>,
     path: &Path,
     tree: Tree,
 ) -> Result<Tree, AllocError>
     requires tree { IsShallow (path.now, tree) }
-    requires kept { IsKept writes.now }
-    ensures laid { IfOk result (λ done. (x : Keys) → AreApart writes.now → IsMergedAt writes.now x spot.now
-        → sets_whole (after last writes.now) x ≡ false → Laid (LaysAt writes.now x last) path.now tree done) }
+    requires kept { IsKept writes.now.items }
+    ensures laid { IfOk result (λ done. (x : Keys) → AreApart writes.now.items → IsMergedAt writes.now.items x spot.now
+        → sets_whole (after last writes.now.items) x ≡ false → Laid (LaysAt writes.now.items x last) path.now tree done) }
     ensures shallow { IfOk result (λ done. IsShallow (path.now, done)) }
-    ensures touched { OnErr result (touches writes.now path.now ≡ true) }
+    ensures touched { OnErr result (touches writes.now.items path.now ≡ true) }
 {
     if !spot.under.has_after(last) {
         return Ok(tree);
@@ -50,18 +51,18 @@ pub(crate) fn lay_below(
 fn lay_here(
     spot: &Spot,
     here: Option<u64>,
-    writes: &[Write],
+    writes: &VecDeque<Write>,
     last: Option<u64>,
     path: &Path,
     tree: Tree,
 ) -> Result<Tree, AllocError>
     requires tree { IsShallow (path.now, tree) }
-    requires kept { IsKept writes.now }
+    requires kept { IsKept writes.now.items }
     requires here { IsLast (λ j. has_here spot.now [] j ≡ true) here }
-    ensures laid { IfOk result (λ done. (x : Keys) → AreApart writes.now → IsMergedAt writes.now x spot.now
-        → Laid (SetsAt writes.now x last here) path.now tree done) }
+    ensures laid { IfOk result (λ done. (x : Keys) → AreApart writes.now.items → IsMergedAt writes.now.items x spot.now
+        → Laid (SetsAt writes.now.items x last here) path.now tree done) }
     ensures shallow { IfOk result (λ done. IsShallow (path.now, done)) }
-    ensures touched { OnErr result (touches writes.now path.now ≡ true) }
+    ensures touched { OnErr result (touches writes.now.items path.now ≡ true) }
 {
     let Some(number) = here else {
         return Ok(tree);
@@ -98,9 +99,9 @@ fn lay_entry(entry: &(Path, Tree), fills: bool, path: &Path, tree: Tree) -> Resu
 }
 
 // The entry at that place of the write of that number.
-fn entry_of(writes: &[Write], id: u64, place: usize) -> Option<&(Path, Tree)>
-    requires kept { IsKept writes.now }
-    ensures { option_copied result ≡ entry_at writes.now id place }
+fn entry_of(writes: &VecDeque<Write>, id: u64, place: usize) -> Option<&(Path, Tree)>
+    requires kept { IsKept writes.now.items }
+    ensures { option_copied result ≡ entry_at writes.now.items id place }
 {
     let Some(at) = place_of(writes, id) else {
         return None;

@@ -16,6 +16,7 @@ mod error;
 pub mod examples;
 mod laws;
 mod laying;
+mod list;
 mod marks;
 mod merged;
 mod numbers;

@@ -1,28 +1,38 @@
 // Numbers of writes.
-ghost use Rattle.std.specs.Prelude.{◌≡◌, ◌==◌, ◌||◌, ◌&&◌, [], ℕ, not, true, ◌↔◌, IsTrue, OnOk};
+ghost use Rattle.std.specs.Prelude.{◌≡◌, ◌==◌, ◌≤◌, ◌||◌, ◌&&◌, [], ℕ, not, true, ◌↔◌, IsTrue, OnOk};
+ghost use Rattle.std.specs.Prelude.{IfOk, IfSome, None, Some, length};
 ghost use Rattle.std.specs.Ordering.{nat_cmp};
 ghost use Rattle.std.specs.BTreeSet.{contains};
-ghost use Rattle.rt_writes.specs.inside.Spots.{is_later, IsNone, HasLater};
+ghost use Rattle.rt_tree.specs.PathTree.{is_null};
+ghost use Rattle.rt_writes.specs.Writes.{IsShallow};
+ghost use Rattle.rt_writes.specs.inside.Spots.{is_later, IsNone, HasLater, with_put};
 
+use crate::entries::put_copy;
+use rt_tree::{Key, MAX_KEYS, Tree};
 use std::alloc::{AllocError, Global};
 use std::collections::BTreeSet;
+use std::mem;
 
-// The numbers of the writes with an entry at a path or below it, and of those that set something
-// there and not null alone.
+// The entries at a path or below it: the numbers of their writes, and of those that set something
+// there and not null alone; and the tree that the entries make, one after another. It is kept from
+// the time that one sits at the path itself.
 #[derive(Drop)]
 pub(crate) struct Marks {
     all: BTreeSet<u64>,
     full: BTreeSet<u64>,
+    pub(crate) tree: Option<Tree>,
 }
 
 impl Marks {
-    // No number.
+    // No entry.
     pub(crate) fn new(alloc: Global) -> Marks
-        ensures { IsNone result }
+        ensures none { IsNone result }
+        ensures tree { result.tree ≡ None }
     {
         Marks {
             all: BTreeSet::new(alloc),
             full: BTreeSet::new(alloc),
+            tree: None,
         }
     }
 
@@ -33,28 +43,44 @@ impl Marks {
         self.all.is_empty() && self.full.is_empty()
     }
 
-    // Adds a number, and says whether its write sets something.
-    pub(crate) fn note(&mut self, id: u64, fills: bool) -> Result<(), AllocError>
+    // Adds the number of a write with an entry below these keys, and lays its tree over the one that
+    // is kept.
+    pub(crate) fn note(
+        &mut self,
+        alloc: Global,
+        id: u64,
+        keys: &[Key],
+        tree: &Tree,
+    ) -> Result<(), AllocError>
+        requires short { length keys.now ≤ MAX_KEYS }
+        requires shallow { IsShallow (keys.now, tree.now) }
         ensures all { OnOk result ((j : ℕ) → contains nat_cmp self.new.all j
             ≡ ((id == j) || contains nat_cmp self.old.all j)) }
         ensures full { OnOk result ((j : ℕ) → contains nat_cmp self.new.full j
-            ≡ ((fills && (id == j)) || contains nat_cmp self.old.full j)) }
+            ≡ ((not (is_null tree.now) && (id == j)) || contains nat_cmp self.old.full j)) }
+        ensures tree { OnOk result (self.new.tree ≡ with_put self.old.tree keys.now tree.now) }
     {
-        if fills {
+        let before = mem::replace(&mut self.tree, None);
+        self.tree = with_put(before, alloc, keys, tree)?;
+        if !tree.is_null() {
             note(&mut self.full, id)?;
         }
         note(&mut self.all, id)
     }
 
-    // Takes a number out.
-    pub(crate) fn strike(&mut self, id: u64)
+    // Takes a number out. The tree stays only where it has no part in it.
+    pub(crate) fn strike(&mut self, id: u64, has_no_part: bool)
         ensures all { (j : ℕ) → contains nat_cmp self.new.all j
             ≡ (not (id == j) && contains nat_cmp self.old.all j) }
         ensures full { (j : ℕ) → contains nat_cmp self.new.full j
             ≡ (not (id == j) && contains nat_cmp self.old.full j) }
+        ensures tree { IfSome self.new.tree (λ t. (self.old.tree ≡ Some t) × IsTrue has_no_part) }
     {
         strike(&mut self.all, id);
         strike(&mut self.full, id);
+        if !has_no_part {
+            self.tree = None;
+        }
     }
 
     // Whether a number is after the last one.
@@ -69,6 +95,27 @@ impl Marks {
         ensures { IsTrue result ↔ HasLater last self.now.full }
     {
         is_last_after(&self.full, last)
+    }
+}
+
+// The tree, if one is kept, with a copy of another put below these keys. At no keys the copy is kept
+// from then on.
+fn with_put(
+    kept: Option<Tree>,
+    alloc: Global,
+    keys: &[Key],
+    tree: &Tree,
+) -> Result<Option<Tree>, AllocError>
+    requires short { length keys.now ≤ MAX_KEYS }
+    requires shallow { IsShallow (keys.now, tree.now) }
+    ensures { IfOk result (λ after. after ≡ with_put kept keys.now tree.now) }
+{
+    if keys.is_empty() {
+        return Ok(Some(tree.copy(alloc)?));
+    }
+    match kept {
+        Some(before) => Ok(Some(put_copy(alloc, before, keys, tree)?)),
+        None => Ok(None),
     }
 }
 

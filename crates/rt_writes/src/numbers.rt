@@ -4,14 +4,15 @@ ghost use Rattle.std.specs.List.{AllPairs, position};
 ghost use Rattle.rt_writes.specs.Writes.{Write as PendingWrite};
 
 use crate::write::Write;
+use std::collections::VecDeque;
 
 // How many writes have lesser numbers, by halving.
-fn count_below(writes: &[Write], id: u64) -> usize
-    ensures within { result ≤ length writes.now }
+fn count_below(writes: &VecDeque<Write>, id: u64) -> usize
+    ensures within { result ≤ length writes.now.items }
     ensures front { (k : ℕ) (d : PendingWrite) → suc k ≡ result
-        → (slice_index_or writes.now k d).id < id }
-    ensures behind { (d : PendingWrite) → result < length writes.now
-        → id ≤ (slice_index_or writes.now result d).id }
+        → (slice_index_or writes.now.items k d).id < id }
+    ensures behind { (d : PendingWrite) → result < length writes.now.items
+        → id ≤ (slice_index_or writes.now.items result d).id }
 {
     let mut low = 0;
     let mut high = writes.len();
@@ -27,9 +28,9 @@ fn count_below(writes: &[Write], id: u64) -> usize
 }
 
 // Where the write of that number stands, if it is pending.
-pub(crate) fn place_of(writes: &[Write], id: u64) -> Option<usize>
-    requires { AllPairs (λ v w. v.id < w.id) writes.now }
-    ensures { result ≡ position (λ w. w.id == id) writes.now }
+pub(crate) fn place_of(writes: &VecDeque<Write>, id: u64) -> Option<usize>
+    requires { AllPairs (λ v w. v.id < w.id) writes.now.items }
+    ensures { result ≡ position (λ w. w.id == id) writes.now.items }
 {
     let place = count_below(writes, id);
     if place == writes.len() {

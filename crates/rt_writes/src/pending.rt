@@ -8,17 +8,20 @@ ghost use Rattle.rt_tree.specs.Assignments.{have_overlap};
 ghost use Rattle.rt_writes.specs.Kept.{IsKept};
 ghost use Rattle.rt_writes.specs.Writes.{IsShallow, overlay, touches, sets_whole, sets_child_whole};
 ghost use Rattle.rt_writes.specs.Writes.{entries_of, without};
-ghost use Rattle.rt_writes.specs.inside.Spots.{IsMerged, overlaid_last};
+ghost use Rattle.rt_tree.specs.PathTree.{PathTree};
+ghost use Rattle.rt_writes.specs.inside.Spots.{IsAbove, IsLast, IsMerged, overlaid_last};
 
 use crate::entries::Entries;
 use crate::error::WriteError;
 use crate::laying::lay_below;
+use crate::list::{overlaid_by_each, some_sets_child_whole, some_sets_whole};
 use crate::merged::{merged_anew, merged_with, merged_without};
 use crate::numbers::place_of;
 use crate::spots::Spot;
 use crate::write::Write;
 use rt_tree::{Key, Path, Tree};
 use std::alloc::{AllocError, Global};
+use std::collections::VecDeque;
 use std::marker::Model;
 use std::{fmt, mem};
 
@@ -30,7 +33,7 @@ use std::{fmt, mem};
 /// settlement by the paths of its write. Where memory lacks for that tree it is given up, looks go
 /// over all writes, and the next write makes it anew.
 pub struct Pending {
-    writes: Vec<Write>,
+    writes: VecDeque<Write>,
     // Where each write sets something; none where memory lacked for it, and then the list decides.
     merged: Option<Spot>,
 }
@@ -71,7 +74,7 @@ impl Pending {
         ensures { result ≡ [] }
     {
         Pending {
-            writes: Vec::new(alloc),
+            writes: VecDeque::new(alloc),
             merged: Some(Spot::new(alloc)),
         }
     }
@@ -96,7 +99,7 @@ impl Pending {
     pub fn is_above_all(&self, id: u64) -> bool
         ensures { IsTrue result ↔ All (λ w. w.id < id) self.now }
     {
-        match self.writes.last() {
+        match self.writes.back() {
             Some(last) => last.id < id,
             None => true,
         }
@@ -128,7 +131,7 @@ impl Pending {
         let alloc = *self.writes.allocator();
         let before = self.give_merged();
         let merged = merged_with(before, alloc, id, entries.as_slice());
-        self.writes.push(Write { id, entries })?;
+        self.writes.push_back(Write { id, entries })?;
         self.merged = merged;
         Ok(())
     }
@@ -140,7 +143,7 @@ impl Pending {
     {
         match mem::replace(&mut self.merged, None) {
             Some(root) => Some(root),
-            None => merged_anew(*self.writes.allocator(), self.writes.as_slice()),
+            None => merged_anew(*self.writes.allocator(), &self.writes),
         }
     }
 
@@ -148,7 +151,7 @@ impl Pending {
     fn place(&self, id: u64) -> Option<usize>
         ensures { result ≡ position (λ w. w.id == id) self.now }
     {
-        place_of(self.writes.as_slice(), id)
+        place_of(&self.writes, id)
     }
 
     /// Takes out the write of that number, accepted or refused, and gives its entries back; none
@@ -167,7 +170,9 @@ impl Pending {
         let Some(place) = self.place(id) else {
             return Ok(None);
         };
-        let write = self.writes.remove(place);
+        let Some(write) = self.writes.remove(place) else {
+            return Ok(None);
+        };
         let merged = mem::replace(&mut self.merged, None);
         self.merged = merged_without(merged, id, write.entries.as_slice());
         Ok(Some(write.entries.into_vec()))
@@ -200,15 +205,13 @@ impl Pending {
         ensures touched { OnErr result (touches self.now path.now ≡ true) }
     {
         let alloc = *self.writes.allocator();
-        let mut after = tree;
-        for write in &self.writes {
-            after = write.entries.overlaid(alloc, path, after)?;
-        }
-        Ok(after)
+        let (first, others) = self.writes.as_slices();
+        let after = overlaid_by_each(first, alloc, path, tree)?;
+        overlaid_by_each(others, alloc, path, after)
     }
 
-    // The same, by the last write at or above the path, which hides all before it, and then spot by
-    // spot by what came after it below the path.
+    // The same, by the last write at or above the path, which hides all before it: by the tree that is
+    // kept where it shows, else spot by spot by what came after it below the path.
     fn overlay_by_tree(&self, root: &Spot, path: &Path, tree: Tree) -> Result<Tree, AllocError>
         requires shallow { IsShallow (path.now, tree) }
         requires merged { IsMerged self.now root.now }
@@ -216,12 +219,50 @@ impl Pending {
         ensures shallow { IfOk result (λ after. IsShallow (path.now, after)) }
         ensures touched { OnErr result (touches self.now path.now ≡ true) }
     {
+        // For the prover: no leaf of an entry is too deep.
+        let _is_kept = self.len();
+        let last = root.last_whole(path.keys());
+        match self.kept(root, last, path)? {
+            Some(after) => Ok(after),
+            None => self.overlay_by_spots(root, last, path, tree),
+        }
+    }
+
+    // The same where a tree is kept in which the last write at or above the path shows; none where
+    // there is no such write, or none is kept.
+    fn kept(&self, root: &Spot, last: Option<u64>, path: &Path) -> Result<Option<Tree>, AllocError>
+        requires merged { IsMerged self.now root.now }
+        requires last { IsLast (IsAbove root.now path.now) last }
+        ensures overlay { IfOk result (λ kept. IfSome kept (λ after. (tree : PathTree)
+            → after ≡ overlay path.now tree self.now)) }
+        ensures touched { OnErr result (touches self.now path.now ≡ true) }
+    {
+        match last {
+            Some(number) => root.copy_kept(*self.writes.allocator(), number, path.keys()),
+            None => Ok(None),
+        }
+    }
+
+    // The same, by the last write at or above the path, and spot by spot by what came after it.
+    fn overlay_by_spots(
+        &self,
+        root: &Spot,
+        last: Option<u64>,
+        path: &Path,
+        tree: Tree,
+    ) -> Result<Tree, AllocError>
+        requires shallow { IsShallow (path.now, tree) }
+        requires merged { IsMerged self.now root.now }
+        requires last { IsLast (IsAbove root.now path.now) last }
+        ensures overlay { IfOk result (λ after. after ≡ overlay path.now tree self.now) }
+        ensures shallow { IfOk result (λ after. IsShallow (path.now, after)) }
+        ensures touched { OnErr result (touches self.now path.now ≡ true) }
+    {
         // For the prover: the numbers of the writes rise.
         let _numbers_rise = self.len();
-        let last = root.last_whole(path.keys());
         let after = self.overlaid_last(last, path, tree)?;
         match root.at(path.keys()) {
-            Some(spot) => lay_below(spot, self.writes.as_slice(), last, path, after),
+            Some(spot) => lay_below(spot, &self.writes, last, path, after),
             None => Ok(after),
         }
     }
@@ -268,9 +309,8 @@ impl Pending {
     pub(crate) fn sets_whole_by_list(&self, path: &Path) -> bool
         ensures { result ≡ sets_whole self.now path.now }
     {
-        self.writes
-            .iter()
-            .any(|write| write.entries.set_whole(path))
+        let (first, others) = self.writes.as_slices();
+        some_sets_whole(first, path) || some_sets_whole(others, path)
     }
 
     /// Whether a write sets the whole of the child of that key, also where its path would have more than
@@ -287,8 +327,7 @@ impl Pending {
     pub(crate) fn sets_child_whole_by_list(&self, path: &Path, key: &Key) -> bool
         ensures { result ≡ sets_child_whole self.now path.now key.now }
     {
-        self.writes
-            .iter()
-            .any(|write| write.entries.set_child_whole(path, key))
+        let (first, others) = self.writes.as_slices();
+        some_sets_child_whole(first, path, key) || some_sets_child_whole(others, path, key)
     }
 }

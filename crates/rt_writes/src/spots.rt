@@ -1,23 +1,28 @@
 // One tree of the paths at which something is pending.
 ghost use Rattle.std.specs.Prelude.{◌≡◌, ◌==◌, ◌↔◌, ◌++◌, ◌∷◌, [], ℕ, true, false, IsTrue, OnOk};
-ghost use Rattle.std.specs.Prelude.{Some, None, if◌then◌else◌};
+ghost use Rattle.std.specs.Prelude.{Some, None, if◌then◌else◌, ◌<◌, ◌≤◌, IfOk, IfSome, not, length};
+ghost use Rattle.std.specs.List.{All};
 ghost use Rattle.std.specs.Option.{option_copied};
 ghost use Rattle.std.specs.Ordering.{nat_cmp};
 ghost use Rattle.std.specs.BTreeMap.{get};
-ghost use Rattle.rt_tree.specs.PathTree.{Path as Keys};
+ghost use Rattle.rt_tree.specs.PathTree.{Path as Keys, null, is_null};
 ghost use Rattle.rt_writes.specs.inside.Spots.{spot_at, has_here, has_under, has_full, place_at};
 ghost use Rattle.rt_writes.specs.inside.Spots.{Adds, Forgets, AddsAll, ForgetsAll};
 ghost use Rattle.rt_writes.specs.inside.Spots.{IsLast, IsAbove, IsBare, later_of};
+ghost use Rattle.rt_writes.specs.inside.Spots.{tree_at, AddsTrees, KeepsTrees, KeepsPart};
+ghost use Rattle.rt_writes.specs.Writes.{IsShallow};
 
+use crate::entries::copy_part;
 use crate::marks::Marks;
-use rt_tree::{Key, Path, Tree};
+use rt_tree::{Key, MAX_KEYS, Path, Tree};
 use std::alloc::{AllocError, Global};
 use std::collections::BTreeMap;
 
 // A path at or above which, or below which, an entry of a pending write sits: the numbers of the
 // writes that set the whole of what stands there, each with the place of that entry in its write;
-// those of the writes with an entry there or below; and the paths one key further down. The numbers
-// say which write shows, and what shows again once one is settled.
+// those of the writes with an entry there or below, and the tree that these entries make; and the
+// paths one key further down. The numbers say which write shows, and what shows again once one is
+// settled.
 #[derive(Drop)]
 pub(crate) struct Spot {
     pub(crate) here: BTreeMap<u64, usize>,
@@ -32,6 +37,7 @@ impl Spot {
         ensures place { (q : Keys) (j : ℕ) → place_at result q j ≡ None }
         ensures under { (q : Keys) (j : ℕ) → has_under result q j ≡ false }
         ensures full { (q : Keys) (j : ℕ) → has_full result q j ≡ false }
+        ensures trees { (q : Keys) → tree_at result q ≡ None }
     {
         Spot {
             here: BTreeMap::new(alloc),
@@ -47,27 +53,32 @@ impl Spot {
         self.here.is_empty() && self.under.is_empty() && self.below.is_empty()
     }
 
-    // Adds an entry of the write of that number, at these keys: its place among the entries, and
-    // whether it sets something.
+    // Adds an entry of the write of that number, at these keys: its place among the entries, and its
+    // tree.
     pub(crate) fn add(
         &mut self,
         alloc: Global,
         id: u64,
         keys: &[Key],
         place: usize,
-        fills: bool,
+        tree: &Tree,
     ) -> Result<(), AllocError>
-        ensures { OnOk result (Adds self.old self.new keys.now id place fills) }
+        requires short { length keys.now ≤ MAX_KEYS }
+        requires shallow { IsShallow (keys.now, tree.now) }
+        ensures adds { OnOk result
+            (Adds self.old self.new keys.now id place (not (is_null tree.now))) }
+        ensures trees { OnOk result
+            (AddsTrees self.old self.new ((keys.now, tree.now) ∷ [])) }
     {
-        self.under.note(id, fills)?;
+        self.under.note(alloc, id, keys, tree)?;
         let Some((key, rest)) = keys.split_first() else {
             return note(&mut self.here, id, place);
         };
         if let Some(child) = self.below.get_mut(key) {
-            return child.add(alloc, id, rest, place, fills);
+            return child.add(alloc, id, rest, place, tree);
         }
         let mut child = Spot::new(alloc);
-        child.add(alloc, id, rest, place, fills)?;
+        child.add(alloc, id, rest, place, tree)?;
         let key = key.copy()?;
         drop(self.below.insert(key, child)?);
         Ok(())
@@ -75,9 +86,11 @@ impl Spot {
 
     // Takes the write of that number off the way to these keys, and drops what is bare then.
     pub(crate) fn forget(&mut self, id: u64, keys: &[Key])
-        ensures { Forgets self.old self.new keys.now id }
+        ensures forgets { Forgets self.old self.new keys.now id }
+        ensures trees { KeepsTrees self.old self.new ((keys.now, null) ∷ []) id }
     {
-        self.under.strike(id);
+        let is_hidden = self.is_set_after(id);
+        self.under.strike(id, is_hidden);
         let Some((key, rest)) = keys.split_first() else {
             strike(&mut self.here, id);
             return;
@@ -98,11 +111,13 @@ impl Spot {
         id: u64,
         entries: &[(Path, Tree)],
     ) -> Result<(), AllocError>
-        ensures { OnOk result (AddsAll self.old self.new entries.now id) }
+        requires { All IsShallow entries.now }
+        ensures adds { OnOk result (AddsAll self.old self.new entries.now id) }
+        ensures trees { OnOk result (AddsTrees self.old self.new entries.now) }
     {
         let mut place = 0;
         for entry in entries {
-            self.add(alloc, id, entry.0.keys(), place, !entry.1.is_null())?;
+            self.add(alloc, id, entry.0.keys(), place, &entry.1)?;
             place += 1;
         }
         Ok(())
@@ -110,7 +125,8 @@ impl Spot {
 
     // Takes a write off the ways to all its entries.
     pub(crate) fn forget_all(&mut self, id: u64, entries: &[(Path, Tree)])
-        ensures { ForgetsAll self.old self.new entries.now id }
+        ensures forgets { ForgetsAll self.old self.new entries.now id }
+        ensures trees { KeepsTrees self.old self.new entries.now id }
     {
         for entry in entries {
             self.forget(id, entry.0.keys());
@@ -138,6 +154,41 @@ impl Spot {
         match self.here.last_key_value() {
             Some((number, _)) => Some(*number),
             None => None,
+        }
+    }
+
+    // Whether a write with a greater number sets the whole of what stands here.
+    fn is_set_after(&self, id: u64) -> bool
+        ensures { IsTrue result → (j : ℕ) × (id < j) × (has_here self.now [] j ≡ true) }
+    {
+        match self.last_here() {
+            Some(last) => id < last,
+            None => false,
+        }
+    }
+
+    // The part below these keys of the tree that is kept where that write sets the whole of what stands
+    // at or above them; none where none is kept there.
+    pub(crate) fn copy_kept(
+        &self,
+        alloc: Global,
+        id: u64,
+        keys: &[Key],
+    ) -> Result<Option<Tree>, AllocError>
+        ensures { IfOk result (λ part. IfSome part (λ t. KeepsPart self.now keys.now id t)) }
+    {
+        if self.here.contains_key(&id) {
+            return match &self.under.tree {
+                Some(tree) => Ok(Some(copy_part(alloc, tree, keys)?)),
+                None => Ok(None),
+            };
+        }
+        let Some((key, rest)) = keys.split_first() else {
+            return Ok(None);
+        };
+        match self.below.get(key) {
+            Some(child) => child.copy_kept(alloc, id, rest),
+            None => Ok(None),
         }
     }
 

@@ -1,12 +1,12 @@
 -- What the tree of paths keeps of the pending writes.
-use Rattle.std.specs.Prelude.{◌≡◌, ◌≤◌, ◌==◌, ℕ, Bool, true, false, not, ◌&&◌, ◌||◌, List, [], ◌∷◌}
+use Rattle.std.specs.Prelude.{◌≡◌, ◌≤◌, ◌<◌, ◌==◌, ℕ, Bool, true, false, not, ◌&&◌, ◌||◌, List, [], ◌∷◌}
 use Rattle.std.specs.Prelude.{◌++◌, ◌⊎◌, max, nat_lt, Option, Some, None, is_some, IfSome, if◌then◌else◌}
 use Rattle.std.specs.List.{All, fold, filter, find, list_any, slice_get}
-use Rattle.std.specs.Option.{option_map_or, option_and_then}
+use Rattle.std.specs.Option.{option_map, option_map_or, option_and_then}
 use Rattle.std.specs.Ordering.{nat_cmp}
 use Rattle.std.specs.BTreeMap.{BTreeMap, get}
 use Rattle.std.specs.BTreeSet.{BTreeSet, contains}
-use Rattle.rt_tree.specs.PathTree.{Key, Path, PathTree, is_null, of_leaf, key_cmp, path_eq}
+use Rattle.rt_tree.specs.PathTree.{Key, Path, PathTree, null, is_null, of_leaf, key_cmp, path_eq, put, sub}
 use Rattle.rt_tree.specs.Leaf.{truth}
 use Rattle.rt_tree.specs.Assignments.{Assignment, is_at_or_above, have_overlap}
 use Rattle.rt_writes.specs.declared.marks.Marks.{Marks}
@@ -15,8 +15,9 @@ use Rattle.rt_writes.specs.declared.spots.Spot.TheViews.{out-Spot}
 use Rattle.rt_writes.specs.Kept.{IsKept}
 use Rattle.rt_writes.specs.Writes.{Write, assignments, overlaid, overlay}
 
--- the writes that set the whole of what stands at the spot, each with the place of its entry; the
--- numbers of those that set something there or below; and the spots one key further down
+-- the writes that set the whole of what stands at the spot, each with the place of its entry; what is
+-- known of the entries there or below, their numbers and the tree that they make; and the spots one
+-- key further down
 abbrev pub here_of : Spot → BTreeMap ℕ ℕ
 here_of s = (out-Spot s).here
 
@@ -51,6 +52,11 @@ abbrev pub has_full : Spot → Path → ℕ → Bool
 has_full s [] j = contains nat_cmp (under_of s).full j
 has_full s (k ∷ q) j = option_map_or (λ c. has_full c q j) (get key_cmp (below_of s) k) false
 
+-- the tree that is kept at q, if one is
+abbrev pub tree_at : Spot → Path → Option PathTree
+tree_at s [] = (under_of s).tree
+tree_at s (k ∷ q) = option_map_or (λ c. tree_at c q) (get key_cmp (below_of s) k) None
+
 -- no number
 pub record IsNone (m : Marks) : Type 0 where
   pub all : m.all.keys ≡ []
@@ -83,6 +89,36 @@ Forgets old new keys id = Changes (λ now before. not now && before) None true o
 -- whether the entry at a place has that path
 abbrev pub is_entry : List Assignment → ℕ → Path → Bool
 is_entry es i q = option_map_or (λ a. path_eq a.0 q) (slice_get es i) false
+
+-- ---- the trees that spots keep
+-- the entries at or below the path
+abbrev pub within : List Assignment → Path → List Assignment
+within es q = filter (λ a. is_at_or_above q a.0) es
+
+-- a tree that is kept, once u is put below these keys: at the path itself u is kept from then on
+abbrev pub with_put : Option PathTree → Path → PathTree → Option PathTree
+with_put o [] u = Some u
+with_put o (k ∷ p) u = option_map (λ t. put t (k ∷ p) u) o
+
+-- what is kept once these entries came: what was kept, with those at or below its path laid over; and
+-- at the path of one of them their own
+abbrev pub AddsTrees : Spot → Spot → List Assignment → Type 0
+AddsTrees old new es = (q : Path) (u : PathTree) → tree_at new q ≡ Some u
+    → (t : PathTree) × (u ≡ fold (overlaid q) t (within es q))
+    × ((list_any (λ a. path_eq a.0 q) es ≡ true) ⊎ (tree_at old q ≡ Some t))
+
+-- what is kept once these entries of write id went: what was kept, away from their paths, and where a
+-- later write sets the whole of what stands there
+abbrev pub KeepsTrees : Spot → Spot → List Assignment → ℕ → Type 0
+KeepsTrees old new es id = (q : Path) (u : PathTree) → tree_at new q ≡ Some u
+    → (tree_at old q ≡ Some u)
+    × ((list_any (λ a. is_at_or_above q a.0) es ≡ false) ⊎ ((j : ℕ) × (id < j) × (has_here old q j ≡ true)))
+
+-- u is the part below these keys of the tree that is kept at or above them, where write j sets the
+-- whole of what stands
+abbrev pub KeepsPart : Spot → Path → ℕ → PathTree → Type 0
+KeepsPart s keys j u = (x : Path) × (y : Path) × (t : PathTree)
+    × (keys ≡ x ++ y) × (has_here s x j ≡ true) × (tree_at s x ≡ Some t) × (u ≡ sub t y)
 
 -- the same of each entry of a write
 pub record ChangesAll (F : Bool → Bool → Bool) (fills : Assignment → Bool) (old new : Spot) (es : List Assignment) (id : ℕ) : Type 0 where
@@ -137,6 +173,8 @@ pub record IsMergedAt (writes : List Write) (x : Path) (s : Spot) : Type 0 where
       → has_full s q j ≡ some_entry (λ a. is_at_or_above (x ++ q) a.0 && is_full a) writes j
   pub places : (q : Path) (j i : ℕ) → place_at s q j ≡ Some i
       → some_write (λ w. is_entry w.entries i (x ++ q)) writes j ≡ true
+  pub trees : (q : Path) (u : PathTree) → tree_at s q ≡ Some u
+      → u ≡ fold (overlaid (x ++ q)) null (within (assignments writes) (x ++ q))
 
 abbrev pub IsMerged : List Write → Spot → Type 0
 IsMerged writes s = IsMergedAt writes [] s

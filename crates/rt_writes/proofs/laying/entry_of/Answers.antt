@@ -8,17 +8,18 @@ use Rattle.rt_writes.proofs.laying.entry_of.Goals as goal
 
 pub returns-in_default : goal.returns-in_default
 returns-in_default c =
-    sym (ap (option_and_then (λ w. slice_get w.entries c.args.place)) (find-no_position (λ w. w.id == c.args.id) c.args.writes.now (sym c.in_default.ensures)))
+    sym (ap (option_and_then (λ w. slice_get w.entries c.args.place)) (find-no_position (λ w. w.id == c.args.id) c.args.writes.now.items (sym c.in_default.ensures)))
 
 pub returns : goal.returns
 returns c =
-    let at : position (λ w. w.id == c.args.id) c.args.writes.now ≡ Some c.in-Some.at = search rules in
-    let found : find (λ w. w.id == c.args.id) c.args.writes.now ≡ Some (get_or c.args.writes.now c.in-Some.at c.index-writes-at.result) =
-    find-position (λ w. w.id == c.args.id) c.args.writes.now c.in-Some.at c.index-writes-at.result at in
+    let at : position (λ w. w.id == c.args.id) c.args.writes.now.items ≡ Some c.in-Some.at = search rules in
+    let found : find (λ w. w.id == c.args.id) c.args.writes.now.items ≡ Some (get_or c.args.writes.now.items c.in-Some.at c.index.result.now) =
+    find-position (λ w. w.id == c.args.id) c.args.writes.now.items c.in-Some.at c.index.result.now at in
     let es = c.as_slice.result.now in
     elim c.get.result as (λ r. is_some r ≡ nat_lt c.args.place (length es) → IfSome r (λ x. x.now ≡ get_or es c.args.place x.now) → option_copied r ≡ slice_get es c.args.place) [
       | None ↦ λ e h. slice_got es c.args.place None e h
       | Some x ↦ λ e h. slice_got es c.args.place (Some x.now) e h
     ] c.get.ensures.lookup.0 c.get.ensures.lookup.1
     ∙ ap (λ es. slice_get es c.args.place) c.as_slice.ensures
+    ∙ ap (λ w. slice_get w.entries c.args.place) c.index.ensures
     ∙ sym (ap (option_and_then (λ w. slice_get w.entries c.args.place)) found)

@@ -6,9 +6,9 @@ use Rattle.rt_writes.proofs.numbers.count_below.Given as goal
 abbrev pub invariant-loop-low : goal.invariant-loop-low
 invariant-loop-low l =
     (l.low ≤ l.high)
-    × (l.high ≤ length l.writes)
-    × ((k : ℕ) (d : Write) → suc k ≡ l.low → (get_or l.writes k d).id < l.id)
-    × ((d : Write) → l.high < length l.writes → l.id ≤ (get_or l.writes l.high d).id)
+    × (l.high ≤ length l.writes.items)
+    × ((k : ℕ) (d : Write) → suc k ≡ l.low → (get_or l.writes.items k d).id < l.id)
+    × ((d : Write) → l.high < length l.writes.items → l.id ≤ (get_or l.writes.items l.high d).id)
 
 abbrev pub decreases-loop-low : goal.decreases-loop-low
 decreases-loop-low l = l.high - l.low

@@ -1,17 +1,10 @@
-use Rattle.std.proofs.Common.{◌≡◌, List, true, ap, sym, ◌∙◌, rules}
-use Rattle.std.specs.List.{list_any}
-use Rattle.std.proofs.lemmas.List.Folds.{list_any_at}
-use Rattle.rt_tree.specs.Assignments.{do_overlap}
-use Rattle.rt_writes.specs.Writes.{Write, touches}
-use Rattle.rt_writes.proofs.Lists.{list_any-flat_map}
+use Rattle.std.proofs.Common.{sym, subst}
+use Rattle.std.specs.List.{All}
+use Rattle.rt_writes.specs.Writes.{IsShallow}
+use Rattle.rt_writes.proofs.Lists.{all_right}
 use Rattle.rt_writes.proofs.pending.Pending.overlay_by_list.Goals as goal
 
-pub returns-in_err-after-clause-touched : goal.returns-in_err-after-clause-touched
-returns-in_err-after-clause-touched c =
-    let writes : List Write = c.deref-write-items.result.now in
-    let this : list_any (λ a. do_overlap a.0 c.args.path.now) c.write-item.result.entries ≡ true = c.in_err-after.ensures.touched in
-    let found : touches writes c.args.path.now ≡ true = list_any-flat_map (λ a. do_overlap a.0 c.args.path.now) (λ w. w.entries) writes
-    ∙ list_any_at (λ w. list_any (λ a. do_overlap a.0 c.args.path.now) w.entries) writes c.loop-write.write-index c.write-item.result (search rules)
-    (ap (λ w. list_any (λ a. do_overlap a.0 c.args.path.now) w.entries) (sym c.write-item.is) ∙ this) in
-    let all : touches c.args.self.now c.args.path.now ≡ true = ap (λ ws. touches ws c.args.path.now) (sym c.self.view_is ∙ sym c.deref-write-items.ensures.value) ∙ found in
-    search rules
+pub overlaid_by_each-requires-2-clause-entries : goal.overlaid_by_each-requires-2-clause-entries
+overlaid_by_each-requires-2-clause-entries c =
+    all_right (λ w. All IsShallow w.entries) c.as_slices.result.0.now c.as_slices.result.1.now
+    (subst (All (λ w. All IsShallow w.entries)) (sym c.as_slices.ensures.items) c.self.invariant.kept.shallow)

@@ -1,27 +1,13 @@
-use Rattle.std.proofs.Common.{◌≡◌, false, IfOk, ap, subst, ◌∙◌}
-use Rattle.rt_tree.specs.PathTree.{Path}
-use Rattle.rt_writes.specs.Writes.{sets_whole}
-use Rattle.rt_writes.specs.inside.Spots.{spot_at, IsAbove, IsLast, AreApart, IsMergedAt, Laid, LaysAt, after}
-use Rattle.rt_writes.proofs.NumberLaws.{rising_of}
-use Rattle.rt_writes.proofs.TopLaws.{laid_below, laid_alone}
+use Rattle.std.proofs.Common.{◌≡◌, sym, subst, arith}
+use Rattle.std.specs.Prelude.{IfSome}
+use Rattle.rt_tree.specs.PathTree.{PathTree}
+use Rattle.rt_writes.specs.Writes.{IsShallow, overlay}
+use Rattle.rt_writes.specs.laws.ShallowLaws.{shallow-overlay}
 use Rattle.rt_writes.proofs.pending.Pending.overlay_by_tree.Goals as goal
 
-pub returns-in-Some-clause-overlay : goal.returns-in-Some-clause-overlay
-returns-in-Some-clause-overlay c =
-    laid_below c.args.self.now c.args.root.now c.in-Some.spot.now c.args.path.now c.args.tree c.in_ok-after.after c.last_whole-last.result c.lay_below.result
-    (rising_of c.args.self.now c.len-numbers_rise.ensures.kept.rises)
-    (subst AreApart c.self.view_is c.self.invariant.apart) c.requires.merged
-    (subst (λ p. IsLast (IsAbove c.args.root.now p) c.last_whole-last.result) c.keys.ensures.keys c.last_whole-last.ensures)
-    c.in_ok-after.ensures.overlay
-    (c.in-Some.ensures ∙ ap (spot_at c.args.root.now) c.keys-2.ensures.keys)
-    (subst (λ ws. IfOk c.lay_below.result (λ done. (x : Path) → AreApart ws → IsMergedAt ws x c.in-Some.spot.now → sets_whole (after c.last_whole-last.result ws) x ≡ false
-    → Laid (LaysAt ws x c.last_whole-last.result) c.args.path.now c.in_ok-after.after done))
-    (c.as_slice.ensures.value ∙ c.self.view_is) c.lay_below.ensures.laid)
-
-pub returns-in-None-clause-overlay : goal.returns-in-None-clause-overlay
-returns-in-None-clause-overlay c =
-    laid_alone c.args.self.now c.args.root.now c.args.path.now c.args.tree c.in_ok-after.after c.last_whole-last.result
-    (rising_of c.args.self.now c.len-numbers_rise.ensures.kept.rises) c.requires.merged
-    (subst (λ p. IsLast (IsAbove c.args.root.now p) c.last_whole-last.result) c.keys.ensures.keys c.last_whole-last.ensures)
-    c.in_ok-after.ensures.overlay
-    (c.in-None.ensures ∙ ap (spot_at c.args.root.now) c.keys-2.ensures.keys)
+pub returns-in-Some-clause-shallow : goal.returns-in-Some-clause-shallow
+returns-in-Some-clause-shallow c =
+    let is : (t : PathTree) → c.in-Some.after ≡ overlay c.args.path.now t c.args.self.now =
+    subst (λ o. IfSome o (λ u. (t : PathTree) → u ≡ overlay c.args.path.now t c.args.self.now)) c.in-Some.is c.in_ok-after.ensures.overlay in
+    subst (λ u. IsShallow (c.args.path.now, u)) (sym (is c.args.tree))
+    (shallow-overlay c.args.path.now c.args.tree c.args.self.now (omega (arith, c.keys.ensures.valid.short)) c.requires.shallow c.len-is_kept.ensures.kept.shallow)

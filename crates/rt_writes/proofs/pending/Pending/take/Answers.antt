@@ -21,21 +21,21 @@ pub returns-clause-taken : goal.returns-clause-taken
 returns-clause-taken c =
     let writes = c.self.inside.writes.items in
     let at : position (λ w. w.id == c.args.id) writes ≡ Some c.in-Some.place = search rules in
-    ap Some (c.into_vec.ensures ∙ ap (λ w. w.entries) c.remove-write.ensures.value)
-    ∙ sym (ap (option_map (λ w. w.entries)) (find-position (λ w. w.id == c.args.id) writes c.in-Some.place c.remove-write.result at))
+    ap Some (c.into_vec.ensures ∙ ap (λ w. w.entries) c.in-Some-remove.ensures.value)
+    ∙ sym (ap (option_map (λ w. w.entries)) (find-position (λ w. w.id == c.args.id) writes c.in-Some.place c.in-Some-remove.write at))
     ∙ ap (entries_of c.args.id) c.self.view_is
 
 pub returns-clause-rest : goal.returns-clause-rest
 returns-clause-rest c =
     let writes = c.self.inside.writes.items in
     let at : position (λ w. w.id == c.args.id) writes ≡ Some c.in-Some.place = search rules in
-    let within = (position-Some (λ w. w.id == c.args.id) writes c.in-Some.place c.remove-write.result at).0 in
-    c.remove-write.ensures.items ∙ remove-without c.args.id writes c.in-Some.place within c.self.invariant.kept.rises at ∙ ap (without c.args.id) c.self.view_is
+    let within = (position-Some (λ w. w.id == c.args.id) writes c.in-Some.place c.in-Some-remove.write at).0 in
+    c.in-Some-remove.ensures.items ∙ remove-without c.args.id writes c.in-Some.place within c.self.invariant.kept.rises at ∙ ap (without c.args.id) c.self.view_is
 
-pub invariant_of-self : goal.invariant_of-self
-invariant_of-self c =
+pub invariant_of-self-2 : goal.invariant_of-self-2
+invariant_of-self-2 c =
     let writes = c.self.inside.writes.items in
     let at : position (λ w. w.id == c.args.id) writes ≡ Some c.in-Some.place = search rules in
-    pending_without writes c.remove-write.new.self.items c.args.id c.in-Some.place c.remove-write.result c.self.inside.merged c.merged_without.result c.as_slice.result.now
-    c.self.invariant at c.remove-write.ensures.value c.as_slice.ensures c.remove-write.ensures.items
+    pending_without writes c.remove.new.self.items c.args.id c.in-Some.place c.in-Some-remove.write c.self.inside.merged c.merged_without.result c.as_slice.result.now
+    c.self.invariant at c.in-Some-remove.ensures.value c.as_slice.ensures c.in-Some-remove.ensures.items
     (λ vs rises found merged. c.merged_without.ensures vs rises found (subst (λ o. IfSome o (IsMerged vs)) (sym c.replace-merged.ensures.value) merged))
