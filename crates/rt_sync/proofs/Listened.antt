@@ -18,10 +18,10 @@ use Rattle.rt_world.specs.declared.request.Request.{Request}
 use Rattle.rt_world.specs.declared.step.Step.{Step}
 use Rattle.rt_world.specs.World.{Reason, World, Listener, registered, pending, listen_of}
 use Rattle.rt_world.specs.After.{renewed}
-use Rattle.rt_world.specs.steps.Closing.{unseated}
+use Rattle.rt_world.specs.steps.Closing.{numbers_of, unseated}
 use Rattle.rt_world.specs.Messages.{next}
 use Rattle.rt_world.specs.Met.{told}
-use Rattle.rt_world.specs.Covering.{cover_in, cover_after, numbers_of}
+use Rattle.rt_world.specs.Covering.{cover_in, cover_after}
 use Rattle.rt_world.specs.Sound.{IsSound}
 use Rattle.rt_world.specs.laws.Listened.{CloseSeatIsMade, ListenIsMade, RevokedIsMade, UnlistenIsMade}
 use Rattle.rt_world.specs.laws.Holds.{CoverFollows}

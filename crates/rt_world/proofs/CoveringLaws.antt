@@ -21,7 +21,8 @@ use Rattle.rt_world.specs.steps.Revoking.{is_cancelled}
 use Rattle.rt_world.specs.After.{listeners_after, requests_after, brought_after, started_by}
 use Rattle.rt_world.specs.Messages.{next}
 use Rattle.rt_world.specs.Sound.{IsSound}
-use Rattle.rt_world.specs.Covering.{cover_in, numbers_of, cover_after}
+use Rattle.rt_world.specs.Covering.{cover_in, cover_after}
+use Rattle.rt_world.specs.steps.Closing.{numbers_of}
 use Rattle.rt_world.proofs.Listeners.{same_number, registered-renewed}
 use Rattle.rt_world.proofs.ShowLaws.{filter_true}
 use Rattle.rt_world.proofs.HeardLaws.{map-append, kept-same, started-same}

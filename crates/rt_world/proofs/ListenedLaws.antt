@@ -16,12 +16,12 @@ use Rattle.rt_world.specs.declared.report.Note.{Note}
 use Rattle.rt_world.specs.declared.step.Step.{Step}
 use Rattle.rt_world.specs.World.{World, Listener, registered, pending}
 use Rattle.rt_world.specs.steps.Revoking.{is_cancelled}
-use Rattle.rt_world.specs.steps.Closing.{unseated}
+use Rattle.rt_world.specs.steps.Closing.{numbers_of, unseated}
 use Rattle.rt_world.specs.After.{listeners_after, requests_after, started_by, pushed, brought_after, renewed, renewed_after}
 use Rattle.rt_world.specs.Messages.{stopped_by, listens, unlistens, request_sent, messages_online, next}
 use Rattle.rt_world.specs.Answers.{batch_from, batch_note, batch_notes}
 use Rattle.rt_world.specs.Met.{told}
-use Rattle.rt_world.specs.Covering.{cover_in, numbers_of, delta_by}
+use Rattle.rt_world.specs.Covering.{cover_in, delta_by}
 use Rattle.rt_world.specs.laws.World.{changes_listeners}
 use Rattle.rt_world.specs.laws.Steps.{note_of}
 use Rattle.rt_world.specs.laws.Made.{IsMade}

@@ -1,5 +1,5 @@
 -- What plain listens brought is said by the pushes and the answers.
-use Rattle.std.proofs.Common.{◌≡◌, ℕ, Bool, true, false, cond, List, [], ◌∷◌, refl, sym, ap, ◌∙◌, slice_index_or, Option, Some, None, is_some}
+use Rattle.std.proofs.Common.{◌≡◌, ℕ, Bool, true, false, cond, List, [], ◌∷◌, refl, sym, ap, ◌∙◌, slice_index_or, Option, Some, None, Ok, Err, is_some}
 use mathlib.Core.Bool.{true≢false}
 use Rattle.std.specs.List.{fold, list_all, All, Contains}
 use Rattle.std.specs.Option.{option_map_or}
@@ -12,11 +12,12 @@ use Rattle.rt_cover.specs.laws.FormLaws.{form_unfiltered}
 use Rattle.rt_world.specs.declared.error.CoreError.{CoreError}
 use Rattle.rt_world.specs.declared.step.Step.{Step}
 use Rattle.rt_world.specs.World.{World, Listener, pending, listen_of}
-use Rattle.rt_world.specs.After.{listeners_after, pushed, brought_after, requests_after, renewed}
+use Rattle.rt_world.specs.steps.Kind.{Part}
+use Rattle.rt_world.specs.After.{kind, listeners_after, pushed, brought_after, requests_after, renewed}
 use Rattle.rt_world.specs.Messages.{next}
 use Rattle.rt_world.specs.Refusals.{refusal, is_stale}
-use Rattle.rt_world.specs.Answers.{step, step_by}
-use Rattle.rt_world.specs.Plain.{IsPlainStep, brought_by}
+use Rattle.rt_world.specs.Answers.{Answer, step, step_by, stale_report}
+use Rattle.rt_world.specs.Plain.{IsPlainStep, with_push, brought_by}
 use Rattle.rt_world.specs.Sound.{IsSound}
 use Rattle.rt_world.specs.laws.Holds.{IsSteady}
 use Rattle.rt_world.proofs.Listeners.{query-renewed}
@@ -37,7 +38,7 @@ unfiltered_kept w h p f m =
     ap is_filtered (sym x.2) ∙ ap is_filtered (form_unfiltered (x.0).query low)
 
 all_unfiltered : (w : World) (s : Step) → AreUnfiltered w.listeners → IsPlainStep s → AreUnfiltered (listeners_after w s)
-all_unfiltered w (Step.Listen seat query) p u = All-push (λ (l : Listener). is_filtered l.query ≡ false) w.listeners _ p u
+all_unfiltered w (Step.Listen seat query) p u = All-push (λ (l : Listener). is_filtered l.query ≡ false) w.listeners _ p (u w)
 all_unfiltered w (Step.Write seat action) p u = p
 all_unfiltered w (Step.Data tag path tree) p u = p
 all_unfiltered w (Step.DataMerge tag entries) p u = p
@@ -46,9 +47,9 @@ all_unfiltered w (Step.Refused id why) p u = p
 all_unfiltered w Step.Connected p u = p
 all_unfiltered w Step.Disconnected p u = p
 all_unfiltered w (Step.OnDisconnect seat ending) p u = p
-all_unfiltered w (Step.Unlisten seat listener) p u = absurd u
-all_unfiltered w (Step.Revoked tag why) p u = absurd u
-all_unfiltered w (Step.CloseSeat seat) p u = absurd u
+all_unfiltered w (Step.Unlisten seat listener) p u = absurd (u w)
+all_unfiltered w (Step.Revoked tag why) p u = absurd (u w)
+all_unfiltered w (Step.CloseSeat seat) p u = absurd (u w)
 
 unfiltered_next : (w : World) (s : Step) → AreUnfiltered w.listeners → IsPlainStep s → AreUnfiltered (next w s).listeners
 unfiltered_next w s p u =
@@ -81,9 +82,9 @@ brings w (Step.Refused id why) h u free = push_is_brought w (Step.Refused id why
 brings w Step.Connected h u free = push_is_brought w Step.Connected h.sound h.called h.reached free refl
 brings w Step.Disconnected h u free = push_is_brought w Step.Disconnected h.sound h.called h.reached free refl
 brings w (Step.OnDisconnect seat ending) h u free = push_is_brought w (Step.OnDisconnect seat ending) h.sound h.called h.reached free refl
-brings w (Step.Unlisten seat listener) h u free = absurd u
-brings w (Step.Revoked tag why) h u free = absurd u
-brings w (Step.CloseSeat seat) h u free = absurd u
+brings w (Step.Unlisten seat listener) h u free = absurd (u w)
+brings w (Step.Revoked tag why) h u free = absurd (u w)
+brings w (Step.CloseSeat seat) h u free = absurd (u w)
 
 -- ---- what is brought is said by the answer
 
@@ -110,66 +111,31 @@ stale_data w tag path tree e = ap (λ o. option_map_or (λ q. list_all (is_witho
 stale_merge : (w : World) (tag : ℕ) (entries : List Assignment) → listen_of w tag ≡ None → is_stale w (Step.DataMerge tag entries) ≡ true
 stale_merge w tag entries e = ap (λ o. option_map_or (λ q. list_all (is_without_window w.brought q) entries) o true) e
 
-brought_done : (w : World) (s : Step) → IsSound w → AreUnfiltered w.listeners → IsPlainStep s → is_stale w s ≡ false → pushed w s ≡ brought_by w.brought s (step_by None false w s).1
-brought_done w (Step.Listen seat query) h p u fresh = refl
-brought_done w (Step.Write seat action) h p u fresh = refl
-brought_done w (Step.Data tag path tree) h p u fresh = taken_is w tag ((path, tree) ∷ []) h p (listened w (Step.Data tag path tree) tag (stale_data w tag path tree) fresh)
-brought_done w (Step.DataMerge tag entries) h p u fresh = taken_is w tag entries h p (listened w (Step.DataMerge tag entries) tag (stale_merge w tag entries) fresh)
-brought_done w (Step.Accepted id) h p u fresh = refl
-brought_done w (Step.Refused id why) h p u fresh = refl
-brought_done w Step.Connected h p u fresh = refl
-brought_done w (Step.Unlisten seat listener) h p u fresh = absurd u
-brought_done w (Step.OnDisconnect seat ending) h p u fresh = refl
-brought_done w (Step.Revoked tag why) h p u fresh = absurd u
-brought_done w Step.Disconnected h p u fresh = refl
-brought_done w (Step.CloseSeat seat) h p u fresh = absurd u
+-- what a step takes in that is done
+brought_done : (w : World) (s : Step) → IsSound w → AreUnfiltered w.listeners → is_stale w s ≡ false → pushed w s ≡ brought_by w.brought s (step_by None false w s).1
+brought_done w (Step.Data tag path tree) h p fresh = taken_is w tag ((path, tree) ∷ []) h p (listened w (Step.Data tag path tree) tag (stale_data w tag path tree) fresh)
+brought_done w (Step.DataMerge tag entries) h p fresh = taken_is w tag entries h p (listened w (Step.DataMerge tag entries) tag (stale_merge w tag entries) fresh)
+brought_done w (Step.Listen seat query) h p fresh = refl
+brought_done w (Step.Unlisten seat listener) h p fresh = refl
+brought_done w (Step.Write seat action) h p fresh = refl
+brought_done w (Step.OnDisconnect seat ending) h p fresh = refl
+brought_done w (Step.Accepted id) h p fresh = refl
+brought_done w (Step.Refused id why) h p fresh = refl
+brought_done w (Step.Revoked tag why) h p fresh = refl
+brought_done w Step.Connected h p fresh = refl
+brought_done w Step.Disconnected h p fresh = refl
+brought_done w (Step.CloseSeat seat) h p fresh = refl
 
-brought_not : (w : World) (s : Step) (o : Option CoreError) → w.brought ≡ brought_by w.brought s (step_by o true w s).1
-brought_not w (Step.Listen seat query) (Some e) = refl
-brought_not w (Step.Listen seat query) None = refl
-brought_not w (Step.Unlisten seat listener) (Some e) = refl
-brought_not w (Step.Unlisten seat listener) None = refl
-brought_not w (Step.Write seat action) (Some e) = refl
-brought_not w (Step.Write seat action) None = refl
-brought_not w (Step.OnDisconnect seat ending) (Some e) = refl
-brought_not w (Step.OnDisconnect seat ending) None = refl
-brought_not w (Step.Data tag path tree) (Some e) = refl
-brought_not w (Step.Data tag path tree) None = refl
-brought_not w (Step.DataMerge tag entries) (Some e) = refl
-brought_not w (Step.DataMerge tag entries) None = refl
-brought_not w (Step.Accepted id) (Some e) = refl
-brought_not w (Step.Accepted id) None = refl
-brought_not w (Step.Refused id why) (Some e) = refl
-brought_not w (Step.Refused id why) None = refl
-brought_not w (Step.Revoked tag why) (Some e) = refl
-brought_not w (Step.Revoked tag why) None = refl
-brought_not w Step.Connected (Some e) = refl
-brought_not w Step.Connected None = refl
-brought_not w Step.Disconnected (Some e) = refl
-brought_not w Step.Disconnected None = refl
-brought_not w (Step.CloseSeat seat) (Some e) = refl
-brought_not w (Step.CloseSeat seat) None = refl
-
-brought_refused : (w : World) (s : Step) (e : CoreError) → w.brought ≡ brought_by w.brought s (step_by (Some e) false w s).1
-brought_refused w (Step.Listen seat query) e = refl
-brought_refused w (Step.Unlisten seat listener) e = refl
-brought_refused w (Step.Write seat action) e = refl
-brought_refused w (Step.OnDisconnect seat ending) e = refl
-brought_refused w (Step.Data tag path tree) e = refl
-brought_refused w (Step.DataMerge tag entries) e = refl
-brought_refused w (Step.Accepted id) e = refl
-brought_refused w (Step.Refused id why) e = refl
-brought_refused w (Step.Revoked tag why) e = refl
-brought_refused w Step.Connected e = refl
-brought_refused w Step.Disconnected e = refl
-brought_refused w (Step.CloseSeat seat) e = refl
+-- an answer by which no push is taken in leaves what is brought
+not_taken : (answer : Answer) → ((b : Brought) (entries : List Assignment) → b ≡ with_push b entries answer) → (parts : List Part) (b : Brought) → b ≡ fold (λ c p. with_push c p.1 answer) b parts
+not_taken answer same [] b = refl
+not_taken answer same (p ∷ parts) b = same b p.1 ∙ not_taken answer same parts (with_push b p.1 answer)
 
 brought_at : (w : World) (s : Step) (o : Option CoreError) (b : Bool) → refusal w s ≡ o → is_stale w s ≡ b → IsSteady w → AreUnfiltered w.listeners → IsPlainStep s
     → (step_by o b w s).0.brought ≡ brought_by w.brought s (step_by o b w s).1
-brought_at w s (Some e) true f g h p u = brought_not w s (Some e)
-brought_at w s (Some e) false f g h p u = brought_refused w s e
-brought_at w s None true f g h p u = brought_not w s None
-brought_at w s None false f g h p u = brings w s h u f ∙ brought_done w s h.sound p u g
+brought_at w s (Some e) b f g h p u = not_taken (Err e) (λ c entries. refl) (kind s).parts w.brought
+brought_at w s None true f g h p u = not_taken (Ok stale_report) (λ c entries. refl) (kind s).parts w.brought
+brought_at w s None false f g h p u = brings w s h u f ∙ brought_done w s h.sound p g
 
 pub brought_step : (w : World) (s : Step) → IsSteady w → AreUnfiltered w.listeners → IsPlainStep s → (step w s).0.brought ≡ brought_by w.brought s (step w s).1
 brought_step w s h p u = brought_at w s (refusal w s) (is_stale w s) refl refl h p u

@@ -13,7 +13,8 @@ use Rattle.rt_world.specs.declared.step.Step.{Step}
 use Rattle.rt_world.specs.World.{World, Listener, registered}
 use Rattle.rt_world.specs.Refusals.{needs_tag, is_stale}
 use Rattle.rt_world.specs.Answers.{step_by}
-use Rattle.rt_world.specs.Covering.{cover_in, numbers_of}
+use Rattle.rt_world.specs.Covering.{cover_in}
+use Rattle.rt_world.specs.steps.Closing.{numbers_of}
 use Rattle.rt_world.specs.laws.Listened.{ListenMayAdd, UnlistenMayRemove, CloseSeatMayRemove, RevokedMayRevoke}
 use Rattle.rt_world.specs.laws.Refused.{RefusedIsNothing, StaleIsNothing, OtherIsMade, RefusalIsOfKind, OwnIsNotStale, AcceptedIsStale, RefusedIsStale, RevokedIsStale, ListenNeedsTag, UnlistenNeedsTag, CloseSeatNeedsTag, RevokedNeedsTag}
 use Rattle.rt_world.proofs.CoveringLaws.{one_more, revoked_left, unlistened, closed}

@@ -1,8 +1,9 @@
 -- The pending writes after a step.
-use Rattle.std.proofs.Common.{◌≡◌, ℕ, Bool, true, false, cond, not, ◌==◌, List, [], ◌∷◌, ◌++◌, map, refl, ap, ◌∙◌, append-nil, Option, Some, None}
+use Rattle.std.proofs.Common.{◌≡◌, ℕ, Bool, true, false, cond, not, ◌==◌, List, [], ◌∷◌, ◌++◌, map, refl, ap, ◌∙◌, append-nil, Option, Some, None, Ok, Err}
 use Rattle.std.specs.List.{filter, cons_option}
-use Rattle.std.specs.Option.{option_eq}
+use Rattle.std.specs.Option.{option_eq, option_map_or}
 use Rattle.std.proofs.lemmas.List.Elements.{filter_map-append}
+use Rattle.rt_tree.specs.Assignments.{Assignment}
 use Rattle.rt_writes.specs.Writes.{Write, without}
 use Rattle.rt_wire.specs.declared.request.Action.{Action}
 use Rattle.rt_wire.specs.declared.request.Asked.{Asked}
@@ -10,10 +11,11 @@ use Rattle.rt_wire.specs.declared.request.Asked.TheVariants.{Now, AtDisconnect}
 use Rattle.rt_world.specs.declared.error.CoreError.{CoreError}
 use Rattle.rt_world.specs.declared.request.Request.{Request}
 use Rattle.rt_world.specs.declared.step.Step.{Step}
-use Rattle.rt_world.specs.World.{World, entries_of, pending, write_asked}
+use Rattle.rt_world.specs.World.{Reason, World, entries_of, pending, write_asked}
 use Rattle.rt_world.specs.steps.Closing.{unseated}
-use Rattle.rt_world.specs.Answers.{step_by}
-use Rattle.rt_world.specs.Plain.{writes_by}
+use Rattle.rt_world.specs.After.{kind}
+use Rattle.rt_world.specs.Answers.{Answer, step_by, stale_report}
+use Rattle.rt_world.specs.Plain.{with_write, with_settled, with_asked, writes_by}
 
 -- one more request
 pub pending-more : (rs : List Request) (r : Request) → pending (rs ++ r ∷ []) ≡ pending rs ++ cons_option (write_asked r.id r.asked) []
@@ -53,32 +55,19 @@ pending-unseated seat (r ∷ rs) =
     same true = refl
     same false = refl
 
+-- an answer by which no write is made and none is settled leaves the pending writes
+not_written : (answer : Answer) → ((ws : List Write) (entries : List Assignment) → ws ≡ with_write ws entries answer) → ((ws : List Write) (id : ℕ) → ws ≡ with_settled ws id answer)
+    → (settled : Option (ℕ × Option Reason)) (asked : Option (ℕ × Asked)) (ws : List Write)
+    → ws ≡ option_map_or (λ d. with_settled ws d.0 answer) settled (option_map_or (λ a. with_asked ws a.1 answer) asked ws)
+not_written answer write settle (Some d) asked ws = settle ws d.0
+not_written answer write settle None None ws = refl
+not_written answer write settle None (Some (seat, Now action)) ws = write ws (entries_of action)
+not_written answer write settle None (Some (seat, AtDisconnect ending)) ws = refl
+
 -- what a step makes of the pending writes is said by its answer
 pub written_step : (w : World) (s : Step) (o : Option CoreError) (b : Bool) → pending (step_by o b w s).0.requests ≡ writes_by (pending w.requests) s (step_by o b w s).1
-written_step w (Step.Listen seat query) (Some e) b = refl
-written_step w (Step.Unlisten seat listener) (Some e) b = refl
-written_step w (Step.Write seat action) (Some e) b = refl
-written_step w (Step.OnDisconnect seat ending) (Some e) b = refl
-written_step w (Step.Data tag path tree) (Some e) b = refl
-written_step w (Step.DataMerge tag entries) (Some e) b = refl
-written_step w (Step.Accepted id) (Some e) b = refl
-written_step w (Step.Refused id why) (Some e) b = refl
-written_step w (Step.Revoked tag why) (Some e) b = refl
-written_step w Step.Connected (Some e) b = refl
-written_step w Step.Disconnected (Some e) b = refl
-written_step w (Step.CloseSeat seat) (Some e) b = refl
-written_step w (Step.Listen seat query) None true = refl
-written_step w (Step.Unlisten seat listener) None true = refl
-written_step w (Step.Write seat action) None true = refl
-written_step w (Step.OnDisconnect seat ending) None true = refl
-written_step w (Step.Data tag path tree) None true = refl
-written_step w (Step.DataMerge tag entries) None true = refl
-written_step w (Step.Accepted id) None true = refl
-written_step w (Step.Refused id why) None true = refl
-written_step w (Step.Revoked tag why) None true = refl
-written_step w Step.Connected None true = refl
-written_step w Step.Disconnected None true = refl
-written_step w (Step.CloseSeat seat) None true = refl
+written_step w s (Some e) b = not_written (Err e) (λ ws entries. refl) (λ ws id. refl) (kind s).settled (kind s).asked (pending w.requests)
+written_step w s None true = not_written (Ok stale_report) (λ ws entries. refl) (λ ws id. refl) (kind s).settled (kind s).asked (pending w.requests)
 written_step w (Step.Listen seat query) None false = refl
 written_step w (Step.Unlisten seat listener) None false = refl
 written_step w (Step.Write seat action) None false = pending-write w.requests w.next_request (Some seat) action

@@ -1,16 +1,19 @@
 -- Which children of a listener's path a step can change.
-use Rattle.std.specs.Prelude.{◌≡◌, ℕ, Bool, List, [], ◌∷◌, map, Option, unwrap_or}
-use Rattle.std.specs.List.{filter_map, list_any, Contains}
-use Rattle.std.specs.Option.{option_and_then}
+use Rattle.std.specs.Prelude.{◌≡◌, ℕ, Bool, List, [], ◌++◌, map, Option, unwrap_or}
+use Rattle.std.specs.List.{filter_map, fold, list_any, Contains}
+use Rattle.std.specs.Option.{option_and_then, option_map_or}
 use Rattle.rt_tree.specs.PathTree.{Key, Path, PathTree, key_eq, strip, child, first_key}
 use Rattle.rt_tree.specs.Assignments.{Assignment, is_at_or_above}
 use Rattle.rt_query.specs.Queries.{Query}
 use Rattle.rt_writes.specs.Writes as writes
 use Rattle.rt_cache.specs.Brought.{base}
 use Rattle.rt_cover.specs.Cover.{distinct}
+use Rattle.rt_wire.specs.declared.request.Asked.{Asked}
+use Rattle.rt_wire.specs.declared.request.Asked.TheVariants.{Now, AtDisconnect}
 use Rattle.rt_world.specs.declared.step.Step.{Step}
 use Rattle.rt_world.specs.Views.{seen_over}
 use Rattle.rt_world.specs.World.{Listener, World, entries_of, pending}
+use Rattle.rt_world.specs.After.{kind}
 
 -- ---- what a step names
 
@@ -18,20 +21,21 @@ use Rattle.rt_world.specs.World.{Listener, World, entries_of, pending}
 abbrev pub entries_settled : World → ℕ → List Assignment
 entries_settled w id = unwrap_or (writes.entries_of id (pending w.requests)) []
 
--- the entries of a step: those of its write, of its push, or of the write that it settles
+-- the entries that show once this is asked for: those of a write
+abbrev pub entries_asked : Asked → List Assignment
+entries_asked (Now action) = entries_of action
+entries_asked (AtDisconnect ending) = []
+
+-- the entries of a step: those of the write that it settles, of its write, or of its push
 abbrev pub entries_by : World → Step → List Assignment
-entries_by w (Step.Listen seat query) = []
-entries_by w (Step.Unlisten seat listener) = []
-entries_by w (Step.Write seat action) = entries_of action
-entries_by w (Step.OnDisconnect seat ending) = []
-entries_by w (Step.Data tag path tree) = (path, tree) ∷ []
-entries_by w (Step.DataMerge tag entries) = entries
-entries_by w (Step.Accepted id) = entries_settled w id
-entries_by w (Step.Refused id why) = entries_settled w id
-entries_by w (Step.Revoked tag why) = []
-entries_by w Step.Connected = []
-entries_by w Step.Disconnected = []
-entries_by w (Step.CloseSeat seat) = []
+entries_by w s =
+    option_map_or
+    (λ d. entries_settled w d.0)
+    (kind s).settled
+    (option_map_or
+    (λ a. entries_asked a.1)
+    (kind s).asked
+    (fold (λ entries p. entries ++ p.1) [] (kind s).parts))
 
 -- whether an entry sits at or above p
 abbrev pub is_covered : Path → List Assignment → Bool

@@ -14,11 +14,11 @@ use Rattle.rt_world.specs.declared.report.Body.TheVariants.{Cancelled}
 use Rattle.rt_world.specs.declared.step.Step.{Step}
 use Rattle.rt_world.specs.World.{Reason, Listener, World, registered, pending}
 use Rattle.rt_world.specs.steps.Revoking.{is_cancelled}
-use Rattle.rt_world.specs.steps.Closing.{unseated}
+use Rattle.rt_world.specs.steps.Closing.{numbers_of, unseated}
 use Rattle.rt_world.specs.After.{renewed}
 use Rattle.rt_world.specs.Refusals.{refusal, is_stale}
 use Rattle.rt_world.specs.Met.{told}
-use Rattle.rt_world.specs.Covering.{cover_in, numbers_of}
+use Rattle.rt_world.specs.Covering.{cover_in}
 use Rattle.rt_world.specs.Reached.{IsReached}
 use Rattle.rt_world.specs.Sound.{IsSound}
 use Rattle.rt_world.specs.laws.Made.{IsMade, Leaves}

@@ -1,23 +1,21 @@
 -- What a step answers, by kind: which refusals it can have, when it is stale, when a tag is lacking.
-use Rattle.std.specs.Prelude.{◌≡◌, ℕ, Bool, true, false, not, List, [], ◌∷◌, ◌==◌}
+use Rattle.std.specs.Prelude.{◌≡◌, ℕ, Bool, true, false, ◌&&◌, not, List, [], ◌∷◌, ◌==◌}
 use Rattle.std.specs.Prelude.{Option, Some, None, Ok, Err, is_some}
-use Rattle.std.specs.List.{find, list_any}
+use Rattle.std.specs.List.{filter, find, list_any}
 use Rattle.std.specs.Option.{option_map}
 use Rattle.rt_query.specs.Queries.{Query}
 use Rattle.rt_query.specs.Supply.{form}
 use Rattle.rt_cover.specs.State.{with_listener, without_listeners, left_after, lacks_tag}
 use Rattle.rt_world.specs.declared.error.CoreError.{CoreError}
-use Rattle.rt_world.specs.declared.error.CoreError.TheVariants.{UnknownListener, TooManyListeners}
-use Rattle.rt_world.specs.declared.error.CoreError.TheVariants.{TooManyRequests, Overlap}
-use Rattle.rt_world.specs.declared.error.CoreError.TheVariants.{EmptyUpdate, TooDeep, BadPush}
-use Rattle.rt_world.specs.declared.error.CoreError.TheVariants.{AlreadyConnected, NotConnected}
 use Rattle.rt_world.specs.declared.step.Step.{Step}
 use Rattle.rt_world.specs.World.{Reason, World, registered, listen_of}
 use Rattle.rt_world.specs.After.{kind}
 use Rattle.rt_world.specs.Messages.{next}
-use Rattle.rt_world.specs.Refusals.{is_unknown_listener, needs_tag, refusal, is_stale}
+use Rattle.rt_world.specs.Codes.{code_of}
+use Rattle.rt_world.specs.Refusals.{conditions, needs_tag, refusal, is_stale}
 use Rattle.rt_world.specs.Answers.{step, stale_report, done_report}
-use Rattle.rt_world.specs.Covering.{cover_in, numbers_of}
+use Rattle.rt_world.specs.Covering.{cover_in}
+use Rattle.rt_world.specs.steps.Closing.{numbers_of}
 use Rattle.rt_world.specs.Sound.{IsSound}
 
 -- ---- answers
@@ -45,47 +43,13 @@ OtherIsMade =
 abbrev pub first_of : List (Bool × CoreError) → Option CoreError
 first_of conditions = option_map (λ c. c.1) (find (λ c. c.0) conditions)
 
--- what a seat asks for
-abbrev pub asking_conditions : World → Step → List (Bool × CoreError)
-asking_conditions w s =
-    ((kind s).has_too_many_requests w, TooManyRequests)
-    ∷ ((kind s).has_overlap, Overlap)
-    ∷ ((kind s).is_empty, EmptyUpdate)
-    ∷ ((kind s).is_too_deep, TooDeep)
-    ∷ []
-
--- what the server pushes
-abbrev pub push_conditions : World → Step → List (Bool × CoreError)
-push_conditions w s =
-    ((kind s).is_too_deep, TooDeep)
-    ∷ ((kind s).is_bad_push w, BadPush)
-    ∷ (not w.is_connected, NotConnected)
-    ∷ []
+-- whether the kind of step can have that refusal
+abbrev pub can_have : Step → CoreError → Bool
+can_have s e = list_any (λ f. code_of f == code_of e) (kind s).refusals
 
 -- the refusals that the step can have, each with its condition, in order
 abbrev pub conditions_for : World → Step → List (Bool × CoreError)
-conditions_for w (Step.Listen seat query) =
-    let s = Step.Listen seat query in
-    ((kind s).has_too_many w (needs_tag w s), TooManyListeners) ∷ []
-conditions_for w (Step.Unlisten seat listener) =
-    (is_unknown_listener w (Step.Unlisten seat listener), UnknownListener)
-    ∷ (needs_tag w (Step.Unlisten seat listener), TooManyListeners)
-    ∷ []
-conditions_for w (Step.Write seat action) = asking_conditions w (Step.Write seat action)
-conditions_for w (Step.OnDisconnect seat ending) =
-    asking_conditions w (Step.OnDisconnect seat ending)
-conditions_for w (Step.Data tag path tree) = push_conditions w (Step.Data tag path tree)
-conditions_for w (Step.DataMerge tag entries) = push_conditions w (Step.DataMerge tag entries)
-conditions_for w (Step.Accepted id) = (not w.is_connected, NotConnected) ∷ []
-conditions_for w (Step.Refused id why) = (not w.is_connected, NotConnected) ∷ []
-conditions_for w (Step.Revoked tag why) =
-    (not w.is_connected, NotConnected)
-    ∷ (needs_tag w (Step.Revoked tag why), TooManyListeners)
-    ∷ []
-conditions_for w Step.Connected = (w.is_connected, AlreadyConnected) ∷ []
-conditions_for w Step.Disconnected = (not w.is_connected, NotConnected) ∷ []
-conditions_for w (Step.CloseSeat seat) =
-    (needs_tag w (Step.CloseSeat seat), TooManyListeners) ∷ []
+conditions_for w s = filter (λ c. can_have s c.1) (conditions w s)
 
 -- no other condition ever holds of it
 abbrev pub RefusalIsOfKind : Type 0
@@ -93,21 +57,11 @@ RefusalIsOfKind = (w : World) (s : Step) → refusal w s ≡ first_of (condition
 
 -- ---- stale steps
 
--- a step that the server did not send is never stale
+-- what the server sends comes over a connection, and ends none
 abbrev pub comes_from_server : Step → Bool
-comes_from_server (Step.Listen seat query) = false
-comes_from_server (Step.Unlisten seat listener) = false
-comes_from_server (Step.Write seat action) = false
-comes_from_server (Step.OnDisconnect seat ending) = false
-comes_from_server (Step.Data tag path tree) = true
-comes_from_server (Step.DataMerge tag entries) = true
-comes_from_server (Step.Accepted id) = true
-comes_from_server (Step.Refused id why) = true
-comes_from_server (Step.Revoked tag why) = true
-comes_from_server Step.Connected = false
-comes_from_server Step.Disconnected = false
-comes_from_server (Step.CloseSeat seat) = false
+comes_from_server s = (kind s).needs_connection && not (kind s).closes
 
+-- a step that the server did not send is never stale
 abbrev pub OwnIsNotStale : Type 0
 OwnIsNotStale = (w : World) (s : Step) → comes_from_server s ≡ false → is_stale w s ≡ false
 

@@ -14,6 +14,7 @@ use Rattle.rt_world.specs.declared.request.Request.{Request}
 use Rattle.rt_world.specs.declared.step.Step.{Step}
 use Rattle.rt_world.specs.Plain.{IsPlainStep, fold_both, writes_by, brought_by}
 use Rattle.rt_world.specs.World.{Listener, World, empty_world, pending}
+use Rattle.rt_world.specs.After.{kind}
 use Rattle.rt_world.specs.Messages.{listens, request_message}
 use Rattle.rt_world.specs.Refusals.{refusal}
 use Rattle.rt_world.specs.Answers.{step, answers, world_after}
@@ -37,18 +38,7 @@ HeadlineHolds =
 
 -- whether a step registers or ends listeners
 abbrev pub changes_listeners : Step → Bool
-changes_listeners (Step.Listen seat query) = true
-changes_listeners (Step.Unlisten seat listener) = true
-changes_listeners (Step.Write seat action) = false
-changes_listeners (Step.OnDisconnect seat ending) = false
-changes_listeners (Step.Data tag path tree) = false
-changes_listeners (Step.DataMerge tag entries) = false
-changes_listeners (Step.Accepted id) = false
-changes_listeners (Step.Refused id why) = false
-changes_listeners (Step.Revoked tag why) = true
-changes_listeners Step.Connected = false
-changes_listeners Step.Disconnected = false
-changes_listeners (Step.CloseSeat seat) = true
+changes_listeners s = is_some (kind s).change
 
 -- the listeners that were there and stay are as they were, with their views and primed marks
 abbrev pub StayAsTheyWere : World → World → Type 0

@@ -9,6 +9,8 @@ use Rattle.rt_wire.specs.declared.request.Action.TheVariants.{Put, Merge}
 use Rattle.rt_wire.specs.declared.request.Asked.{Asked}
 use Rattle.rt_wire.specs.declared.request.Asked.TheVariants.{Now, AtDisconnect}
 use Rattle.rt_wire.specs.declared.request.Ending.TheVariants.{Run, Cancel}
+use Rattle.rt_world.specs.declared.error.CoreError.TheVariants.{TooManyRequests, Overlap}
+use Rattle.rt_world.specs.declared.error.CoreError.TheVariants.{EmptyUpdate, TooDeep}
 use Rattle.rt_world.specs.declared.request.Request.{Request}
 use Rattle.rt_world.specs.World.{World, entries_of}
 use Rattle.rt_world.specs.steps.Kind.{Kind, quiet, stands_too_deep}
@@ -36,6 +38,7 @@ requests_with w asked =
 abbrev pub ask : ℕ → Asked → Kind
 ask seat asked = record quiet {
   asked = Some (seat, asked);
+  refusals = TooManyRequests ∷ Overlap ∷ EmptyUpdate ∷ TooDeep ∷ [];
   has_too_many_requests = λ w.
       nat_le w.limits.requests (length w.requests) || nat_lt w.limits.last_number w.next_request;
   has_overlap = option_map_or (λ a. have_overlap (entries_of a)) (action_in asked) false;

@@ -3,7 +3,9 @@ use Rattle.std.specs.Prelude.{ℕ, ◌+◌, Bool, false, List, [], length, nat_l
 use Rattle.rt_tree.specs.declared.limits.TheConstants.{MAX_LEVELS}
 use Rattle.rt_tree.specs.PathTree.{levels}
 use Rattle.rt_tree.specs.Assignments.{Assignment}
+use Rattle.rt_cover.specs.Runs.{Change}
 use Rattle.rt_wire.specs.declared.request.Asked.{Asked}
+use Rattle.rt_world.specs.declared.error.CoreError.{CoreError}
 use Rattle.rt_world.specs.declared.request.Request.{Request}
 use Rattle.rt_world.specs.World.{Reason, Listener, World}
 
@@ -15,7 +17,7 @@ Part = ℕ × List Assignment
 abbrev pub stands_too_deep : Assignment → Bool
 stands_too_deep a = nat_lt MAX_LEVELS (length a.0 + levels a.1)
 
--- what comes with it, when it is refused, when it is stale, and what it leaves
+-- what comes with it, what it changes, when it is refused, when it is stale, and what it leaves
 pub record Kind : Type 0 where
   -- the parts of a push; what a seat asks for; the request that is settled, and why it is refused; the
   -- listen that is revoked, and why
@@ -23,6 +25,10 @@ pub record Kind : Type 0 where
   pub asked : Option (ℕ × Asked)
   pub settled : Option (ℕ × Option Reason)
   pub revoked : Option (ℕ × Reason)
+  -- the change of listeners that the cover takes, if it registers or ends some; the refusals that it can
+  -- have
+  pub change : Option (World → Change)
+  pub refusals : List CoreError
   -- it names a listener that is none of its seat's; there are too many listeners, by whether a tag is
   -- lacking, and where that is looked at last; too many requests
   pub is_unknown : World → Bool
@@ -52,6 +58,8 @@ quiet = record {
   asked = None;
   settled = None;
   revoked = None;
+  change = None;
+  refusals = [];
   is_unknown = λ w. false;
   has_too_many = λ w lacks_tag. false;
   has_too_many_last = λ lacks_tag. false;

@@ -4,6 +4,7 @@ use Rattle.std.specs.List.{list_all, list_any}
 use Rattle.std.specs.Option.{option_map_or}
 use Rattle.rt_tree.specs.Assignments.{Assignment, is_at_or_above, have_overlap}
 use Rattle.rt_cache.specs.Brought.{is_without_window}
+use Rattle.rt_world.specs.declared.error.CoreError.TheVariants.{TooDeep, BadPush, NotConnected}
 use Rattle.rt_world.specs.World.{World, listen_of}
 use Rattle.rt_world.specs.steps.Kind.{Kind, Part, quiet, stands_too_deep}
 
@@ -23,6 +24,7 @@ is_no_merge (a ∷ rest) = have_overlap (a ∷ rest)
 abbrev pub push_of : ℕ → List Assignment → Kind
 push_of tag entries = record quiet {
   parts = (tag, entries) ∷ [];
+  refusals = TooDeep ∷ BadPush ∷ NotConnected ∷ [];
   is_too_deep = list_any stands_too_deep entries;
   is_bad_push = λ w. not (is_within_listen w (tag, entries)) || is_no_merge entries;
   needs_connection = true;

@@ -1,6 +1,7 @@
 -- The server accepts a request, or refuses it.
-use Rattle.std.specs.Prelude.{ℕ, true, not, ◌==◌, Option, Some, None}
+use Rattle.std.specs.Prelude.{ℕ, true, not, [], ◌∷◌, ◌==◌, Option, Some, None}
 use Rattle.std.specs.List.{filter, list_any}
+use Rattle.rt_world.specs.declared.error.CoreError.TheVariants.{NotConnected}
 use Rattle.rt_world.specs.World.{Reason}
 use Rattle.rt_world.specs.steps.Kind.{Kind, quiet}
 
@@ -8,6 +9,7 @@ use Rattle.rt_world.specs.steps.Kind.{Kind, quiet}
 abbrev pub settle : ℕ → Option Reason → Kind
 settle id why = record quiet {
   settled = Some (id, why);
+  refusals = NotConnected ∷ [];
   needs_connection = true;
   is_stale = λ w. not (list_any (λ r. r.id == id) w.requests);
   requests = λ w. filter (λ r. not (r.id == id)) w.requests;

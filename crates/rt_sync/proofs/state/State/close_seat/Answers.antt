@@ -3,7 +3,8 @@ use Rattle.std.specs.List.{filter}
 use Rattle.rt_cover.specs.State.{remove_fault}
 use Rattle.rt_world.specs.declared.step.Step.{Step}
 use Rattle.rt_world.specs.World.{World, Listener}
-use Rattle.rt_world.specs.Covering.{cover_in, numbers_of}
+use Rattle.rt_world.specs.Covering.{cover_in}
+use Rattle.rt_world.specs.steps.Closing.{numbers_of}
 use Rattle.rt_listeners.specs.Listeners.{views_left}
 use Rattle.rt_sync.specs.Core.{Held}
 use Rattle.rt_sync.specs.declared.told.Told.{Told}
