@@ -8,6 +8,7 @@ Usage: tools/pages.py            says which lines don't keep to the rules, and f
               What stands in italics is a quotation, and in a code block no sentence
   paragraphs  and items of a list have less than 6 lines of 110 characters
   dates       stand in docs/BENCHMARKS.md and docs/GATE.md alone, which have figures, and once in each
+  cells       of the tables of docs/BENCHMARKS.md are all filled, each from the run that its script made
   PROOFS.md   has at most 150 lines, none over 400 characters, and no word of how long anything took; what its table names as a contract
               of a crate stands in the crate's src/
   MODEL.md    has one definition a line, and so no item or cell of two sentences or with a semicolon; names each file of definitions in the
@@ -25,9 +26,9 @@ import sys
 ROOT = os.path.realpath(f"{os.path.dirname(os.path.realpath(__file__))}/..")
 WORDS, LINES, COLUMNS = 40, 6, 110
 WRITTEN = "docs/THEOREM.md"
-WITH_FIGURES = ("docs/BENCHMARKS.md", "docs/GATE.md")
+ARCHITECTURE, MODEL, BENCHMARKS = "docs/ARCHITECTURE.md", "docs/MODEL.md", "docs/BENCHMARKS.md"
+WITH_FIGURES = (BENCHMARKS, "docs/GATE.md")
 PROOFS, PROOFS_LINES, PROOFS_COLUMNS = "docs/PROOFS.md", 150, 400
-ARCHITECTURE, MODEL = "docs/ARCHITECTURE.md", "docs/MODEL.md"
 OF_ERRORS = {"thiserror", "anyhow"}
 MONTHS = "January February March April May June July August September October November December".split()
 DATE = re.compile(rf"\b\d{{1,2}}\.? (?:{'|'.join(MONTHS)})\b|\b(?:{'|'.join(MONTHS)}) \d{{1,2}}\b(?! ?to)|\b20\d\d-\d\d-\d\d\b")
@@ -94,6 +95,14 @@ def wrong_dates(name, page):
     found = [(number, it[0]) for number, line in enumerate(page.splitlines(), 1) for it in DATE.finditer(line)]
     for number, date in found[1:] if name in WITH_FIGURES else found:
         yield f"{name}:{number}: a date: {date}"
+
+
+def wrong_cells(name, page):
+    """The rows of tables that have an empty cell."""
+    for number, line in enumerate(page.splitlines(), 1):
+        cells = re.split(r"(?<!\\)\|", line.strip().removeprefix("|").removesuffix("|")) if line.startswith("|") else []
+        if any(not it.strip() for it in cells):
+            yield f"{name}:{number}: an empty cell: {line[:40]} .."
 
 
 def wrong_proofs(name, page):
@@ -212,6 +221,7 @@ def wrong_of(root):
         wrong += wrong_dates(name, page)
         wrong += [*wrong_proofs(name, page), *wrong_names(root, page)] if name == PROOFS else []
         wrong += wrong_lines(name, page) if name == MODEL else []
+        wrong += wrong_cells(name, page) if name == BENCHMARKS else []
     return wrong, len(names)
 
 

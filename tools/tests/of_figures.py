@@ -16,6 +16,7 @@ def loaded(path):
 
 
 gate_table, benchmarks, workspace = loaded("tools/gate_table"), loaded("benchmarks/run"), loaded("benchmarks/workspace")
+beside = loaded("benchmarks/beside")
 
 SAID = """ok      805 wrong bodies apply, 43 of them central
         rt_tree proved
@@ -68,7 +69,7 @@ class Benchmarks(unittest.TestCase):
     def test_table(self):
         due = "| µs a touch | 100 | last/first |\n| --- | --- | --- |\n| all by key | 1.30 | 1.38 |\n"
         self.assertEqual(benchmarks.table(self.PRINTED), due)
-        for it in ("proving and building\n", self.PRINTED + "a | b\n"):
+        for it in ("proving and building\n", self.PRINTED + "a | b\n", self.PRINTED + "all |  | 1.38\n", self.PRINTED + "all | 1.3 |\n"):
             with self.assertRaises(ValueError):
                 benchmarks.table(it)
 
@@ -80,6 +81,17 @@ class Benchmarks(unittest.TestCase):
             self.assertTrue(it == "machine" or os.access(f"{ROOT}/benchmarks/{it}", os.X_OK))
         with self.assertRaises(ValueError):
             benchmarks.replaced(page, "nothing", "")
+
+
+class Beside(unittest.TestCase):
+    def test_tables_are_filled(self):
+        page = benchmarks.read(benchmarks.PAGE)
+        for part, name, costs in (("beside", "plain", [(4.95, 0.66), (6.11, 1.31)]), ("beside_texts", "read", [(520, 383)])):
+            lines = [beside.line_of(beside.HEADS[part]), beside.line_of(beside.cells(name, 100, costs))]
+            text = benchmarks.table("\n".join(lines))
+            self.assertIn(f"| {name} | 100 |", text)
+            self.assertIn(text, benchmarks.replaced(page, part, text))
+        self.assertEqual(beside.cells("read", 100, [(520, 383)]), ["read", "100", "520", "383", "1.4"])
 
 
 class Workspaces(unittest.TestCase):

@@ -76,6 +76,13 @@ class Rules(unittest.TestCase):
             self.assertEqual(len(list(pages.wrong_dates("docs/GATE.md", f"{text}\n{text}"))), 1)
         self.assertEqual(list(pages.wrong_dates("docs/DECISIONS.md", "December 1993 to May 2109, 1,048,576 and 4-5")), [])
 
+    def test_cells(self):
+        table = "| part | proved | ratio |\n| --- | --- | --- |\n| put | 1.2 | 1.8 |\n"
+        self.assertEqual(list(pages.wrong_cells("it.md", f"words\n\n{table}")), [])
+        for row in ("| get | | 1.8 |", "| get | 1.2 |  |", "|  | 1.2 | 1.8 |", "| get | 1.2 ||"):
+            self.assertEqual(list(pages.wrong_cells("it.md", f"{table}{row}\n")), [f"it.md:4: an empty cell: {row} .."])
+        self.assertEqual(list(pages.wrong_cells("it.md", f"{table}| a \\| b | 1.2 | 1.8 |\n")), [])
+
     def test_proofs(self):
         self.assertEqual(list(pages.wrong_proofs("docs/PROOFS.md", "x" * 400)), [])
         self.assertEqual(len(list(pages.wrong_proofs("docs/PROOFS.md", "x" * 401))), 1)
