@@ -28,7 +28,7 @@ use Rattle.rt_cover.specs.Cover.{Registered, Tagged, forms, first_listener}
 use Rattle.rt_cover.specs.State.{shown_with}
 use Rattle.rt_cover.specs.declared.kept.Kept.{Kept}
 use Rattle.rt_cover.specs.inside.ByPath.{by_path_cmp, IsByPath}
-use Rattle.rt_cover.specs.inside.Endings.{comes_before}
+use Rattle.rt_cover.specs.inside.Endings.{left, comes_before}
 use Rattle.rt_cover.specs.laws.FormLaws.{form_unfiltered, supply_filtered, supply_unfiltered}
 use Rattle.rt_cover.specs.laws.Pairs.{filter_none, filter_all, All-from_contained, Contains-head, Contains-later, filter_agreeing}
 use Rattle.rt_cover.specs.laws.Paths.{rest_of_above, is_at_or_above-same}
@@ -45,17 +45,38 @@ by_path_ranks = ranks_by paths_total (λ (l : Registered). (l.1).path)
 pub same_form : (f g : Query) → query_eq f g ≡ true → path_eq f.path g.path ≡ true
 same_form f g e = subst (λ h. path_eq f.path h.path ≡ true) ((query_eq_tells f g).0 e) (path_eq-same f.path)
 
-pub of_one_path : (l : Registered) (by_path : List Registered)
-    → list_any (λ (m : Registered). query_eq m.1 l.1 && nat_lt m.0 l.0) (filter (λ (m : Registered). path_eq (m.1).path (l.1).path) by_path)
-    ≡ list_any (λ (m : Registered). query_eq m.1 l.1 && nat_lt m.0 l.0) by_path
-of_one_path l by_path = sym (list_any_filtered (λ (m : Registered). path_eq (m.1).path (l.1).path) (λ (m : Registered). query_eq m.1 l.1 && nat_lt m.0 l.0) by_path)
-    ∙ list_any_agreeing (λ (m : Registered). path_eq (m.1).path (l.1).path && (query_eq m.1 l.1 && nat_lt m.0 l.0)) (λ (m : Registered). query_eq m.1 l.1 && nat_lt m.0 l.0) by_path
-    (λ m. weaker (path_eq (m.1).path (l.1).path) (query_eq m.1 l.1) (nat_lt m.0 l.0) (same_form m.1 l.1))
+-- so a test of those of a form is one of those of its path
+pub of_form_path : (f : Query) (t : Registered → Bool) (ls : List Registered)
+    → list_any (λ (m : Registered). query_eq m.1 f && t m) (filter (λ (m : Registered). path_eq (m.1).path f.path) ls)
+    ≡ list_any (λ (m : Registered). query_eq m.1 f && t m) ls
+of_form_path f t ls = sym (list_any_filtered (λ (m : Registered). path_eq (m.1).path f.path) (λ (m : Registered). query_eq m.1 f && t m) ls)
+    ∙ list_any_agreeing (λ (m : Registered). path_eq (m.1).path f.path && (query_eq m.1 f && t m)) (λ (m : Registered). query_eq m.1 f && t m) ls
+    (λ m. weaker (path_eq (m.1).path f.path) (query_eq m.1 f) (t m) (same_form m.1 f))
   where
     weaker : (a b c : Bool) → (b ≡ true → a ≡ true) → (a && (b && c)) ≡ (b && c)
     weaker true b c h = refl
     weaker false true c h = absurd (true≢false (sym (h refl)))
     weaker false false c h = refl
+
+pub of_one_path : (l : Registered) (by_path : List Registered)
+    → list_any (λ (m : Registered). query_eq m.1 l.1 && nat_lt m.0 l.0) (filter (λ (m : Registered). path_eq (m.1).path (l.1).path) by_path)
+    ≡ list_any (λ (m : Registered). query_eq m.1 l.1 && nat_lt m.0 l.0) by_path
+of_one_path l by_path = of_form_path l.1 (λ m. nat_lt m.0 l.0) by_path
+
+-- a test of those that are left, among some
+pub left_among : (at t ends : Registered → Bool) (ls : List Registered)
+    → list_any (λ m. t m && not (ends m)) (filter at ls) ≡ list_any (λ m. at m && t m) (left ends ls)
+left_among at t ends ls = sym (list_any_filtered at (λ m. t m && not (ends m)) ls)
+    ∙ list_any_agreeing (λ m. at m && (t m && not (ends m))) (λ m. not (ends m) && (at m && t m)) ls (λ m. turned (at m) (t m) (not (ends m)))
+    ∙ list_any_filtered (λ m. not (ends m)) (λ m. at m && t m) ls
+  where
+    turned : (a b c : Bool) → (a && (b && c)) ≡ (c && (a && b))
+    turned true true true = refl
+    turned true true false = refl
+    turned true false true = refl
+    turned true false false = refl
+    turned false b true = refl
+    turned false b false = refl
 
 -- ---- the paths above a path
 

@@ -230,6 +230,35 @@ bereft_new c s ends l m stay e = fails (is_kept c.kept l.1) (λ t.
     (subst (λ f. does_supply (k.listen).form f ≡ true) (sym j.2) k.supplies) in
     true≢false (sym (subst (λ f. is_left_form ends c.listeners f ≡ true) (sym (same ∙ j.2)) (has_left ends c.listeners l m stay)) ∙ k.is_lost))
 
+-- so one starts for each of those that is left, and that none replaces
+pub starts_as : (c : Cover) → IsSound c → (ends : Registered → Bool) (l : Registered) → Contains c.listeners l
+    → starts ends c.kept c.listeners l
+    ≡ (list_any (λ (k : Tagged). does_supply k.form l.1) (lost ends c.kept c.listeners) && (not (ends l) && not (is_replaced ends c.listeners l)))
+starts_as c s ends l m = same_tests (starts ends c.kept c.listeners l) (was && (not (ends l) && not other)) there back
+  where
+    was : Bool
+    was = was_supplied c ends l
+
+    other : Bool
+    other = is_replaced ends c.listeners l
+
+    there : starts ends c.kept c.listeners l ≡ true → (was && (not (ends l) && not other)) ≡ true
+    there e =
+        let stay : not (ends l) ≡ true = both_first (not (ends l)) (not (is_kept c.kept l.1) && not other) e in
+        let rest : (not (is_kept c.kept l.1) && not other) ≡ true = both_second (not (ends l)) (not (is_kept c.kept l.1) && not other) e in
+        let first : not other ≡ true = both_second (not (is_kept c.kept l.1)) (not other) rest in
+        both was (not (ends l) && not other)
+        (starts_bereft c s ends l m (not_true (ends l) stay) (not_true (is_kept c.kept l.1) (both_first (not (is_kept c.kept l.1)) (not other) rest)) (not_true other first))
+        (both (not (ends l)) (not other) stay first)
+
+    back : (was && (not (ends l) && not other)) ≡ true → starts ends c.kept c.listeners l ≡ true
+    back e =
+        let sup : was ≡ true = both_first was (not (ends l) && not other) e in
+        let rest : (not (ends l) && not other) ≡ true = both_second was (not (ends l) && not other) e in
+        let stay : not (ends l) ≡ true = both_first (not (ends l)) (not other) rest in
+        both (not (ends l)) (not (is_kept c.kept l.1) && not other) stay
+        (both (not (is_kept c.kept l.1)) (not other) (ap not (bereft_new c s ends l m (not_true (ends l) stay) sup)) (both_second (not (ends l)) (not other) rest))
+
 -- what comes before it was supplied by a lost one too
 before_bereft : (c : Cover) → IsSound c → (ends : Registered → Bool) (l o : Registered) → Contains c.listeners l → Contains c.listeners o → ends l ≡ false → ends o ≡ false
     → was_supplied c ends l ≡ true → comes_before o l ≡ true → was_supplied c ends o ≡ true
@@ -251,7 +280,7 @@ before_bereft c s ends l o ml mo stay also e before =
         supplied_by c ends o j.0 j.1 (subst (λ f. is_left_form ends c.listeners f ≡ false) (sym one) k.is_lost) j.2
 
 -- so a listen starts just for the first of those that were supplied
-starts_first : (c : Cover) → IsSound c → (ends : Registered → Bool)
+pub starts_first : (c : Cover) → IsSound c → (ends : Registered → Bool)
     → filter (starts ends c.kept c.listeners) c.listeners ≡ beginners ends c.kept c.listeners
 starts_first c s ends =
     filter_agreeing (starts ends c.kept c.listeners) (λ (l : Registered). cand l && q l) c.listeners

@@ -1,10 +1,13 @@
 pub mod AddLaws
 pub mod ApartLaws
 pub mod ByPathLaws
+pub mod ChangeLaws
 pub mod CountLaws
 pub mod EndLaws
+pub mod FoundLaws
 pub mod ListenLaws
 pub mod NewLaws
+pub mod PickLaws
 pub mod PlaceLaws
 pub mod RefusalLaws
 pub mod RunLaws

@@ -47,6 +47,9 @@ not_behind_first {X = X} q p ls up i j d le lt e = before_two (path_cmp (q (get_
     ∙ IsPartitionedBy-ltb (λ (x : X). ordering_index (path_cmp (q x).path p)) ls 2 up i j d le lt
     (sym (before_two (path_cmp (q (get_or ls j d)).path p)) ∙ e)
 
+pub not_behind_sorted : {X : Type 0} (q : X → Query) (p : Path) (ls : List X) → IsSorted (by_form q) ls → IsPartitionedBy (λ (x : X). is_le (path_cmp (q x).path p)) ls
+not_behind_sorted q p ls up = not_behind_first q p ls (never_fall q p ls up)
+
 -- ---- those of a path
 
 lt_apart : (o : Ordering) → is_lt o ≡ true → is_eq o ≡ false
@@ -290,25 +293,38 @@ is_span {X = X} q p ls rest first count is inside enough a b = record {
         let here : count + k < length behind = omega (arith, lt, fits, length-drop count behind) in
         ap under (get_or-drop count behind k d) ∙ there.1 (count + k) d (omega arith) here
 
--- ---- one more in its place
+-- ---- one more in its place, behind those of its path
+
+not_lt : (o : Ordering) → is_le o ≡ true → is_lt (ordering_reverse o) ≡ false
+not_lt Less e = refl
+not_lt Equal e = refl
+not_lt Greater e = absurd (true≢false (sym e))
+
+not_le : (o : Ordering) → is_le o ≡ false → is_lt o ≡ false
+not_le Less e = absurd (true≢false e)
+not_le Equal e = refl
+not_le Greater e = refl
 
 pub sorted_insert : {X : Type 0} (q : X → Query) (xs : List X) (i : ℕ) (y : X) → IsSorted (by_form q) xs
-    → IsPartitionPoint (λ (x : X). is_lt (path_cmp (q x).path (q y).path) ≡ true) (λ (x : X). is_lt (path_cmp (q x).path (q y).path) ≡ false) xs i
+    → IsPartitionPoint (λ (x : X). is_le (path_cmp (q x).path (q y).path) ≡ true) (λ (x : X). is_le (path_cmp (q x).path (q y).path) ≡ false) xs i
     → IsSorted (by_form q) (insert xs i y)
 sorted_insert {X = X} q xs i y s at = up_sorted q (insert xs i y) (placed xs i (are_up q xs s) at.0 at.1)
   where
     R : X → X → Type 0
     R x z = is_lt (path_cmp (q z).path (q x).path) ≡ false
 
+    before : (z : X) → is_le (path_cmp (q z).path (q y).path) ≡ true → R z y
+    before z e = ap is_lt (paths_total.antisymm (q y).path (q z).path) ∙ not_lt (path_cmp (q z).path (q y).path) e
+
     placed : (zs : List X) (n : ℕ) → AllPairs R zs
-        → AllWithin (λ (x : X). is_lt (path_cmp (q x).path (q y).path) ≡ true) zs 0 n
-        → AllWithin (λ (x : X). is_lt (path_cmp (q x).path (q y).path) ≡ false) zs n (length zs)
+        → AllWithin (λ (x : X). is_le (path_cmp (q x).path (q y).path) ≡ true) zs 0 n
+        → AllWithin (λ (x : X). is_le (path_cmp (q x).path (q y).path) ≡ false) zs n (length zs)
         → AllPairs R (insert zs n y)
-    placed zs zero up a b = AllPairs-cons R y zs (λ k d lt. b k d (omega arith) lt) up
+    placed zs zero up a b = AllPairs-cons R y zs (λ k d lt. not_le (path_cmp (q (get_or zs k d)).path (q y).path) (b k d (omega arith) lt)) up
     placed [] (suc n) up a b = AllPairs-cons R y [] (λ k d lt. absurd (omega (arith, lt))) up
     placed (z ∷ zs) (suc n) up a b =
         let first : All (R z) zs = AllPairs-first R z zs up in
         AllPairs-cons R z (insert zs n y)
         (All-append (R z) (take n zs) (y ∷ drop n zs) (All-take (R z) n zs first)
-        (All-cons (R z) y (drop n zs) (not_back (q z).path (q y).path (a 0 z (omega arith) (omega arith))) (All-drop (R z) n zs first)))
+        (All-cons (R z) y (drop n zs) (before z (a 0 z (omega arith) (omega arith))) (All-drop (R z) n zs first)))
         (placed zs n (AllPairs-rest R z zs up) (λ k d low lt. a (suc k) d (omega arith) (omega (arith, lt))) (λ k d low lt. b (suc k) d (omega (arith, low)) (omega (arith, lt))))

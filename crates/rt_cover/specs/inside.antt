@@ -1,5 +1,7 @@
 pub mod ByPath
 pub mod Endings
+pub mod Held
 pub mod Index
+pub mod Picked
 pub mod Places
 pub mod Sound

@@ -1,7 +1,8 @@
 // What a new listener does to the lists.
-ghost use Rattle.std.specs.Prelude.{◌≡◌, ◌<◌, ◌≤◌, ◌∷◌, [], false, length};
+ghost use Rattle.std.specs.Prelude.{◌≡◌, ◌<◌, ◌≤◌, ◌∷◌, [], ◌==◌, false, length};
 ghost use Rattle.std.specs.Prelude.{IfOk, vec_len, vec_capacity};
-ghost use Rattle.std.specs.List.{AllPairs};
+ghost use Rattle.std.specs.List.{find, AllPairs};
+ghost use Rattle.std.specs.Option.{option_copied};
 ghost use Rattle.rt_cover.specs.State.{is_registered, with_listener};
 ghost use Rattle.rt_cover.specs.inside.Places.{place, does_stand};
 
@@ -35,6 +36,18 @@ pub(crate) fn has_number(listeners: &[Listener], number: u64) -> bool
     ensures { result ≡ is_registered listeners.now number }
 {
     stands_at(listeners, place_of(listeners, number), number)
+}
+
+// The listener of that number, by halving.
+pub(crate) fn listener_at<'a>(listeners: &'a [Listener], number: u64) -> Option<&'a Listener>
+    requires { AllPairs (λ l m. l.0 < m.0) listeners.now }
+    ensures { option_copied result ≡ find (λ l. l.0 == number) listeners.now }
+{
+    let place = place_of(listeners, number);
+    if !stands_at(listeners, place, number) {
+        return None;
+    }
+    Some(&listeners[place])
 }
 
 // Registers a listener, in its place by number; there is room for it.

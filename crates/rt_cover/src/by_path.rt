@@ -70,6 +70,16 @@ pub(crate) fn first_from<T: HasForm>(by_path: &[T], path: &[Key]) -> usize
     by_path.partition_point(|item| is_before(item, path))
 }
 
+// Where the first stands that is behind the path, by halving.
+pub(crate) fn first_behind<T: HasForm>(by_path: &[T], path: &[Key]) -> usize
+    requires { IsSorted (by_form T.form_of) by_path.now }
+    ensures within { result ≤ length by_path.now }
+    ensures point { IsPartitionPoint (λ x. is_le (path_cmp (T.form_of x).path path.now) ≡ true)
+        (λ x. is_le (path_cmp (T.form_of x).path path.now) ≡ false) by_path.now result }
+{
+    by_path.partition_point(|item| is_not_behind(item, path))
+}
+
 // Those of a path.
 pub(crate) fn at_path<'a, T: HasForm>(by_path: &'a [T], path: &[Key]) -> &'a [T]
     requires { IsSorted (by_form T.form_of) by_path.now }
@@ -119,60 +129,6 @@ pub(crate) fn is_seen(by_path: &[Listener], listener: &Listener) -> bool
         ≡ list_any (λ m. query_eq m.1 listener.now.1 && nat_lt m.0 listener.now.0) by_path.now }
 {
     is_repeated(at_path(by_path, listener.form().path().keys()), listener)
-}
-
-// Whether one has a plain query.
-fn is_some_plain(listeners: &[Listener]) -> bool
-    ensures { result ≡ list_any (λ l. not (is_filtered l.1)) listeners.now }
-{
-    listeners
-        .iter()
-        .any(|listener| !listener.form().is_filtered())
-}
-
-// Whether one has the plain query of the path.
-fn has_plain(by_path: &[Listener], path: &[Key]) -> bool
-    requires { IsSorted by_path_cmp by_path.now }
-    ensures { result
-        ≡ list_any (λ l. path_eq (l.1).path path.now && not (is_filtered l.1)) by_path.now }
-{
-    is_some_plain(at_path(by_path, path))
-}
-
-// Whether one has the plain query of a path above.
-fn has_plain_above(by_path: &[Listener], path: &[Key]) -> bool
-    requires { IsSorted by_path_cmp by_path.now }
-    ensures { result ≡ list_any (λ l. (is_at_or_above (l.1).path path.now
-        && nat_lt (length (l.1).path) (length path.now)) && not (is_filtered l.1)) by_path.now }
-{
-    for count in 0..path.len() {
-        if has_plain(by_path, &path[..count]) {
-            return true;
-        }
-    }
-    false
-}
-
-// Whether one has another form, which supplies this one.
-fn is_supplied(by_path: &[Listener], query: &Query) -> bool
-    requires sorted { IsSorted by_path_cmp by_path.now }
-    requires forms { All (λ l. form l.1 ≡ l.1) by_path.now }
-    requires own { form query.now ≡ query.now }
-    ensures { result ≡ list_any (λ l. not (query_eq l.1 query.now) && does_supply l.1 query.now)
-        by_path.now }
-{
-    let path = query.path().keys();
-    has_plain_above(by_path, path) || query.is_filtered() && has_plain(by_path, path)
-}
-
-// Whether one comes before the listener.
-pub(crate) fn is_behind(by_path: &[Listener], listener: &Listener) -> bool
-    requires sorted { IsSorted by_path_cmp by_path.now }
-    requires forms { All (λ l. form l.1 ≡ l.1) by_path.now }
-    requires own { form listener.now.1 ≡ listener.now.1 }
-    ensures { result ≡ list_any (λ m. comes_before m listener.now) by_path.now }
-{
-    is_seen(by_path, listener) || is_supplied(by_path, listener.form())
 }
 
 // The least number of a listener with that form, where those of one path are by number; 0 where there

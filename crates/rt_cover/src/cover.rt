@@ -1,11 +1,11 @@
 // The cover.
-ghost use Rattle.std.specs.Prelude.{◌≡◌, ◌<◌, ◌+◌, ◌⊎◌, false, true, not, map, length, IfOk, IfErr};
-ghost use Rattle.std.specs.Prelude.{OnOk, OnErr, IfSome, IfNone, is_some, ℕ, List};
+ghost use Rattle.std.specs.Prelude.{◌≡◌, ◌∷◌, [], ◌<◌, ◌+◌, ◌⊎◌, ◌==◌, false, true, not, map, length, IfOk, IfErr};
+ghost use Rattle.std.specs.Prelude.{OnOk, OnErr, IfSome, IfNone, is_some, ℕ, Bool, List};
 ghost use Rattle.std.specs.Prelude.{if◌then◌else◌};
-ghost use Rattle.std.specs.List.{All, enumerate_from};
+ghost use Rattle.std.specs.List.{list_any, All, enumerate_from};
 ghost use Rattle.std.specs.Option.{option_copied, option_map, option_map_or};
 
-use crate::adding::{has_number, insert_listener, started_one};
+use crate::adding::started_one;
 use crate::by_path::HasForm;
 use crate::choice::Choice;
 use crate::delta::{Delta, Revoked};
@@ -13,11 +13,13 @@ use crate::ending::{Ending, OfChoice, OfForm, OfNumbers};
 use crate::error::CoverError;
 use crate::forms::forms;
 use crate::kept::KeptList;
-use crate::leaving::{bereft_listeners, lost_listens, retain_left};
-use crate::listener::{self, Listener, into_form, numbers_of};
+use crate::listen::{Listen, listens_at};
+use crate::listener::{Listener, into_form};
+use crate::listeners::Listeners;
 use crate::listens::Listens;
 use crate::numbers::Numbers;
 use crate::plan::Plan;
+use crate::rising::{add_some, sort_once};
 use crate::shown::shown;
 use crate::{listen, starting};
 use rt_query::Query;
@@ -27,7 +29,7 @@ use std::marker::Model;
 /// The registered listeners, and the listens kept for them: the fewest registered queries that
 /// together supply every listener. Each kept listen has a tag, which no other listen ever gets.
 pub struct Cover {
-    listeners: Vec<Listener>,
+    listeners: Listeners,
     kept: Listens,
     given: u64,
     last_tag: u64,
@@ -69,6 +71,7 @@ impl Model for Cover {
 impl Cover {
     ghost use Rattle.rt_query.specs.Supply.{form, does_supply};
     ghost use Rattle.rt_query.specs.Supply as Supply;
+    ghost use Rattle.rt_query.specs.QueryEq.{query_eq};
     ghost use Rattle.rt_cover.specs.Cover.{forms};
     ghost use Rattle.rt_cover.specs.Apart.{do_plains_overlap};
     ghost use Rattle.rt_cover.specs.State.{empty_cover, is_registered};
@@ -80,7 +83,8 @@ impl Cover {
     ghost use Rattle.rt_cover.specs.State.{fault_of, add_fault, remove_fault, revoke_fault};
     ghost use Rattle.rt_cover.specs.State.{has_unknown, AreChosen, FailsBy};
     ghost use Rattle.rt_cover.specs.Shown.{AreFewest, IsCertified, IsLeastSupplier, IsTold};
-    ghost use Rattle.rt_cover.specs.inside.Endings.{left, lost, beginners, tagged_of, told_of};
+    ghost use Rattle.rt_cover.specs.inside.Endings.{left, lost, is_lost_by, beginners};
+    ghost use Rattle.rt_cover.specs.inside.Endings.{tagged_of, told_of};
     ghost use Rattle.rt_cover.specs.inside.Sound.{IsSound};
 
     /// The cover of no listener. Tags count from 1, and none is above the last one.
@@ -88,7 +92,7 @@ impl Cover {
         ensures { result ≡ empty_cover last_tag }
     {
         Cover {
-            listeners: Vec::new(alloc),
+            listeners: Listeners::new(alloc),
             kept: Listens::new(alloc),
             given: 0,
             last_tag,
@@ -107,8 +111,7 @@ impl Cover {
         ensures same { IfOk result (λ copy. copy ≡ self.now) }
         ensures fault { IfErr result (λ e. e ≡ CoverError.NoMemory) }
     {
-        let alloc = self.alloc();
-        let listeners = listener::copies(alloc, &self.listeners)?;
+        let listeners = self.listeners.copy()?;
         let kept = self.kept.copy()?;
         Ok(Cover {
             listeners,
@@ -120,14 +123,14 @@ impl Cover {
 
     // The allocator of its lists.
     fn alloc(&self) -> Global {
-        *self.listeners.allocator()
+        self.listeners.alloc()
     }
 
     /// Whether a listener of that number is registered, found by halving.
     pub fn is_registered(&self, listener: u64) -> bool
         ensures { result ≡ is_registered self.now.listeners listener }
     {
-        has_number(&self.listeners, listener)
+        self.listeners.has(listener)
     }
 
     // The kept listens, each with the least-numbered listener of its form.
@@ -135,7 +138,11 @@ impl Cover {
         ensures listens { IfOk result (λ list. list ≡ shown self.now) }
         ensures sound { IsSound self.now }
     {
-        let items = shown(self.alloc(), &self.listeners, self.kept.as_slice())?;
+        let items = shown(
+            self.alloc(),
+            self.listeners.as_slice(),
+            self.kept.as_slice(),
+        )?;
         Ok(KeptList::of(items))
     }
 
@@ -169,7 +176,7 @@ impl Cover {
 
     /// The registered forms, each once, in order of their least-numbered listeners.
     ///
-    /// Copies each form, and sorts the listeners by path to find the first of each.
+    /// Copies each form, and looks for the first of each among the listeners of its path, found by halving.
     ///
     /// # Errors
     ///
@@ -178,7 +185,7 @@ impl Cover {
         ensures forms { IfOk result (λ v. v.items ≡ forms self.now.listeners) }
         ensures fault { IfErr result (λ e. e ≡ CoverError.NoMemory) }
     {
-        Ok(forms(self.alloc(), &self.listeners)?)
+        Ok(forms(&self.listeners)?)
     }
 
     /// The forms of the kept listens, by tag. Of those that are plain queries none is at or above
@@ -237,10 +244,11 @@ impl Cover {
         ensures { result ≡ lacks_tag self.now (left (E.ended ending.now) self.now.listeners) }
     {
         let room = self.last_tag - self.given;
-        if self.listeners.len() as u64 <= room {
+        let listeners = self.listeners.as_slice();
+        if listeners.len() as u64 <= room {
             return false;
         }
-        starting::exceeds(&self.listeners, self.kept.as_slice(), ending, room)
+        starting::exceeds(listeners, self.kept.as_slice(), ending, room)
     }
 
     /// Whether the end of these listeners would need a tag above the last one, so that
@@ -287,8 +295,67 @@ impl Cover {
         }
     }
 
-    // What the end of these listeners starts and stops.
-    fn plan<E: Ending>(&self, ending: &E) -> Result<Plan, AllocError>
+    // The tag of the listen that the end of these listeners loses for that number's: its form's, where it
+    // is the first of the form and none is left.
+    fn lost_tag<E: Ending>(&self, number: u64, ending: &E) -> Option<u64>
+        ensures { (p : ℕ → Bool) → option_map_or p result false
+            ≡ list_any (is_lost_by (E.ended ending.now) self.now.listeners p number)
+            self.now.kept }
+    {
+        let Some(listener) = self.listeners.at(number) else {
+            return None;
+        };
+        let form = listener.form();
+        if !self.listeners.is_first(listener) {
+            return None;
+        }
+        if self.listeners.is_left(ending, form) {
+            return None;
+        }
+        self.kept.tag_of(form)
+    }
+
+    // The tags of the listens that the end of these listeners loses for these numbers.
+    fn tags_lost<E: Ending>(&self, numbers: &[u64], ending: &E) -> Result<Vec<u64>, AllocError>
+        ensures { IfOk result (λ tags. (p : ℕ → Bool) → list_any p tags.items
+            ≡ list_any (λ n. list_any (is_lost_by (E.ended ending.now) self.now.listeners p n)
+            self.now.kept) numbers.now) }
+    {
+        let mut tags = Vec::new(self.alloc());
+        for number in numbers {
+            add_some(&mut tags, self.lost_tag(*number, ending))?;
+        }
+        Ok(tags)
+    }
+
+    // The tags of the listens that the end of the listeners of these numbers loses.
+    fn lost_tags(&self, numbers: &[u64]) -> Result<Vec<u64>, AllocError>
+        ensures { IfOk result (λ tags. tags.items ≡ map (λ k. k.tag)
+            (lost (λ l. list_any (λ n. n == l.0) numbers.now) self.now.kept
+            self.now.listeners)) }
+    {
+        // For the prover: the cover is sound.
+        let _last_tag = self.last_tag;
+        let mut tags = self.tags_lost(numbers, &OfNumbers { numbers })?;
+        sort_once(&mut tags);
+        Ok(tags)
+    }
+
+    // The numbers of those for whom a listen starts once these are lost.
+    fn begun<E: Ending>(&self, ending: &E, gone: &[Listen]) -> Result<Vec<u64>, AllocError>
+        requires { gone.now ≡ lost (E.ended ending.now) self.now.kept self.now.listeners }
+        ensures { IfOk result (λ numbers. numbers.items ≡ map (λ l. l.0)
+            (beginners (E.ended ending.now) self.now.kept self.now.listeners)) }
+    {
+        let mut numbers = self.listeners.numbers_begun(ending, gone)?;
+        sort_once(&mut numbers);
+        Ok(numbers)
+    }
+
+    // What the end of these listeners starts and stops, where the listens of these tags are lost.
+    fn plan<E: Ending>(&self, ending: &E, tags: &[u64]) -> Result<Plan, AllocError>
+        requires tags { tags.now ≡ map (λ k. k.tag)
+            (lost (E.ended ending.now) self.now.kept self.now.listeners) }
         requires room { lacks_tag self.now (left (E.ended ending.now) self.now.listeners) ≡ false }
         ensures lost { IfOk result (λ plan. plan.lost.items
             ≡ lost (E.ended ending.now) self.now.kept self.now.listeners) }
@@ -304,17 +371,19 @@ impl Cover {
             + length (beginners (E.ended ending.now) self.now.kept self.now.listeners)) }
     {
         let alloc = self.alloc();
-        let lost = lost_listens(alloc, &self.listeners, self.kept.as_slice(), ending)?;
-        let bereft = bereft_listeners(alloc, &self.listeners, &lost, ending)?;
+        let lost = listens_at(alloc, self.kept.as_slice(), tags)?;
+        let numbers = self.begun(ending, &lost)?;
         // For the prover: no tag is above the last one.
         let _last_tag = self.last_tag;
         let mut plan = Plan::of_lost(alloc, lost, self.given)?;
-        plan.start_first(&bereft)?;
+        plan.start_at(self.listeners.as_slice(), &numbers)?;
         Ok(plan)
     }
 
-    // Ends these listeners, where no tag is lacking.
-    fn end<E: Ending>(&mut self, ending: &E) -> Result<Delta, CoverError>
+    // Ends these listeners, where no tag is lacking, and the listens of these tags are lost.
+    fn end<E: Ending>(&mut self, ending: &E, tags: &[u64]) -> Result<Delta, CoverError>
+        requires tags { tags.now ≡ map (λ k. k.tag)
+            (lost (E.ended ending.now) self.old.kept self.old.listeners) }
         requires room { lacks_tag self.old (left (E.ended ending.now) self.old.listeners) ≡ false }
         ensures cover { OnOk result (self.new
             ≡ with_listeners self.old (left (E.ended ending.now) self.old.listeners)) }
@@ -330,9 +399,9 @@ impl Cover {
             kept,
             started,
             given,
-        } = self.plan(ending)?;
+        } = self.plan(ending, tags)?;
         self.kept.replace(&lost, kept)?;
-        retain_left(&mut self.listeners, ending);
+        self.listeners.retain_left(ending);
         self.given = given;
         Ok(Delta {
             started: KeptList::of(started),
@@ -357,8 +426,9 @@ impl Cover {
     {
         let alloc = self.alloc();
         let registered = Listener::new(alloc, listener, form)?;
-        self.listeners.reserve(1)?;
-        insert_listener(&mut self.listeners, registered);
+        let copy = registered.copy()?;
+        self.listeners.reserve()?;
+        self.listeners.insert(registered, copy);
         Ok(Delta {
             started: KeptList::of(Vec::new(alloc)),
             stopped: Numbers::of(Vec::new(alloc)),
@@ -388,9 +458,10 @@ impl Cover {
         let started = started_one(alloc, tag, &form, listener)?;
         let registered = Listener::new(alloc, listener, form)?;
         let listen = registered.listen(tag)?;
-        self.listeners.reserve(1)?;
+        let copy = registered.copy()?;
+        self.listeners.reserve()?;
         let stopped = self.kept.start(listen)?;
-        insert_listener(&mut self.listeners, registered);
+        self.listeners.insert(registered, copy);
         self.given = tag;
         Ok(Delta {
             started: KeptList::of(started),
@@ -477,7 +548,8 @@ impl Cover {
         if self.lacks_tag_to_remove(listeners) {
             return Err(CoverError::NoTag);
         }
-        self.end(&OfNumbers { numbers: listeners })
+        let tags = self.lost_tags(listeners)?;
+        self.end(&OfNumbers { numbers: listeners }, &tags)
     }
 
     // The form of the listen with this tag, and the numbers of the listeners with that form.
@@ -485,6 +557,8 @@ impl Cover {
         ensures form { IfOk result (λ parts.
             option_map (λ k. k.form) (listen_at self.now tag) ≡ Some parts.0) }
         ensures ended { IfOk result (λ parts. parts.1.items ≡ ended_by self.now tag) }
+        ensures lost { IfOk result (λ parts. tag ∷ [] ≡ map (λ k. k.tag)
+            (lost (λ l. query_eq l.1 parts.0) self.now.kept self.now.listeners)) }
         ensures unknown { listen_at self.now tag ≡ None → result ≡ Err CoverError.UnknownTag }
         ensures fault { IfErr result (λ e.
             ((e ≡ CoverError.UnknownTag) × (listen_at self.now tag ≡ None))
@@ -493,7 +567,7 @@ impl Cover {
         let Some(listen) = listen::listen_at(self.kept.as_slice(), tag) else {
             return Err(CoverError::UnknownTag);
         };
-        let ended = numbers_of(self.alloc(), &self.listeners, listen.form())?;
+        let ended = self.listeners.numbers_of(listen.form())?;
         let form = listen.form().copy()?;
         Ok((form, ended))
     }
@@ -525,7 +599,7 @@ impl Cover {
         let Delta {
             started,
             mut stopped,
-        } = self.end(&OfForm { form: &form })?;
+        } = self.end(&OfForm { form: &form }, &[tag])?;
         stopped.take_out(tag);
         Ok(Revoked {
             ended: Numbers::of(ended),

@@ -12,6 +12,8 @@
 #![tactic(auto)]
 
 mod adding;
+mod beginning;
+mod behind;
 mod by_path;
 mod choice;
 mod cover;
@@ -25,9 +27,12 @@ mod laws;
 mod leaving;
 mod listen;
 mod listener;
+mod listeners;
 mod listens;
 mod numbers;
+mod placing;
 mod plan;
+mod rising;
 mod shown;
 mod starting;
 mod supply;

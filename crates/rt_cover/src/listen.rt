@@ -3,6 +3,7 @@ ghost use Rattle.std.specs.Prelude.{◌≡◌, ◌<◌, ◌≤◌, ◌==◌, map
 ghost use Rattle.std.specs.List.{find, list_any, AllPairs};
 ghost use Rattle.std.specs.Option.{option_copied};
 ghost use Rattle.rt_cover.specs.Cover.{is_kept};
+ghost use Rattle.rt_cover.specs.inside.Picked.{picked};
 ghost use Rattle.rt_cover.specs.inside.Places.{tag_place, does_stand_kept};
 
 use crate::by_path::HasForm;
@@ -143,4 +144,22 @@ pub(crate) fn listen_at<'a>(kept: &'a [Listen], tag: u64) -> Option<&'a Listen>
         return None;
     }
     Some(&kept[place])
+}
+
+// The listens with these tags, by halving.
+pub(crate) fn listens_at(
+    alloc: Global,
+    kept: &[Listen],
+    tags: &[u64],
+) -> Result<Vec<Listen>, AllocError>
+    requires { AllPairs (λ j k. j.tag < k.tag) kept.now }
+    ensures { IfOk result (λ v. v.items ≡ picked (λ k. k.tag) kept.now tags.now) }
+{
+    let mut listens = Vec::with_capacity(alloc, tags.len())?;
+    for tag in tags {
+        if let Some(listen) = listen_at(kept, *tag) {
+            listens.push(listen.copy()?)?;
+        }
+    }
+    Ok(listens)
 }

@@ -12,8 +12,9 @@ ghost use Rattle.rt_query.specs.QueryEq.{query_eq};
 ghost use Rattle.rt_query.specs.Supply.{does_supply};
 ghost use Rattle.rt_cover.specs.inside.Index.{by_form, form_of, SameCounts};
 
-use crate::by_path::{HasForm, at_path, first_from, span_under};
+use crate::by_path::{HasForm, at_path, span_under};
 use crate::listen::{Listen, copies, have_tag, tags_of};
+use crate::placing::place;
 use crate::supply::supplies;
 use rt_query::Query;
 use rt_tree::Key;
@@ -156,19 +157,6 @@ fn take_stopped(by_tag: &mut Vec<Listen>, form: &Query, stopped: &[u64])
     by_tag.retain(|listen| !supplies(form, listen.form()));
 }
 
-// Puts a listen in its place by path; there is room for it.
-fn place(by_path: &mut Vec<Listen>, listen: Listen)
-    requires sorted { IsSorted (by_form form_of) by_path.old.items }
-    requires room { vec_len by_path.old < vec_capacity by_path.old }
-    ensures sorted { IsSorted (by_form form_of) by_path.new.items }
-    ensures same { SameCounts by_path.new.items (by_path.old.items ++ listen ∷ []) }
-    ensures len { vec_len by_path.new ≡ vec_len by_path.old + 1 }
-    ensures room { vec_capacity by_path.old ≤ vec_capacity by_path.new }
-{
-    let at = first_from(by_path, listen.form().path().keys());
-    let _in_reserved_room = by_path.insert(at, listen);
-}
-
 // Takes out so many, from the first on.
 fn take_span(listens: &mut Vec<Listen>, first: usize, count: usize)
     requires { first + count ≤ length listens.old.items }
@@ -256,6 +244,15 @@ impl Listens {
         ensures none { IfNone result (list_any (λ k. does_supply k.form query.now) self.now ≡ false) }
     {
         supplier(&self.by_path, query)
+    }
+
+    // The tag of one of that form. Looks at those of its path.
+    pub(crate) fn tag_of(&self, form: &Query) -> Option<u64>
+        ensures some { IfSome result (λ tag.
+            list_any (λ k. query_eq k.form form.now && k.tag == tag) self.now ≡ true) }
+        ensures none { IfNone result (list_any (λ k. query_eq k.form form.now) self.now ≡ false) }
+    {
+        equal_at(&self.by_path, form)
     }
 
     // Keeps a listen that none supplies, in place of those that it supplies; their tags.

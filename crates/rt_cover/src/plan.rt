@@ -1,10 +1,11 @@
 // What the end of some listeners starts and stops.
 ghost use Rattle.std.specs.Prelude.{◌≡◌, ◌+◌, ◌<◌, ◌^◌, ◌++◌, ◌∷◌, [], map, length, IfOk, OnOk};
-ghost use Rattle.std.specs.List.{enumerate_from, All};
-ghost use Rattle.rt_query.specs.Supply.{form};
-ghost use Rattle.rt_cover.specs.inside.Endings.{first_among, tagged_of, told_of};
+ghost use Rattle.std.specs.List.{enumerate_from, AllPairs};
+ghost use Rattle.rt_cover.specs.inside.Endings.{tagged_of, told_of};
+ghost use Rattle.rt_cover.specs.inside.Picked.{picked};
 
-use crate::by_path::{HasForm, by_path, is_behind};
+use crate::adding::listener_at;
+use crate::by_path::HasForm;
 use crate::kept::Kept;
 use crate::listen::{Listen, tags_of};
 use crate::listener::Listener;
@@ -68,24 +69,28 @@ impl Plan {
         Ok(())
     }
 
-    // Starts a listen for each of these listeners that none of them comes before.
-    pub(crate) fn start_first(&mut self, listeners: &[Listener]) -> Result<(), AllocError>
-        requires room { self.old.given + length (first_among listeners.now listeners.now) < 2 ^ 64 }
-        requires forms { All (λ l. form l.1 ≡ l.1) listeners.now }
+    // Starts a listen for each listener of these numbers.
+    pub(crate) fn start_at(
+        &mut self,
+        listeners: &[Listener],
+        numbers: &[u64],
+    ) -> Result<(), AllocError>
+        requires rise { AllPairs (λ l m. l.0 < m.0) listeners.now }
+        requires room { self.old.given
+            + length (picked (λ l. l.0) listeners.now numbers.now) < 2 ^ 64 }
         ensures kept { OnOk result (self.new.kept.items ≡ self.old.kept.items
-            ++ map tagged_of
-            (enumerate_from (self.old.given + 1) (first_among listeners.now listeners.now))) }
+            ++ map tagged_of (enumerate_from (self.old.given + 1)
+            (picked (λ l. l.0) listeners.now numbers.now))) }
         ensures started { OnOk result (self.new.started.items ≡ self.old.started.items
-            ++ map told_of
-            (enumerate_from (self.old.given + 1) (first_among listeners.now listeners.now))) }
+            ++ map told_of (enumerate_from (self.old.given + 1)
+            (picked (λ l. l.0) listeners.now numbers.now))) }
         ensures given { OnOk result (self.new.given
-            ≡ self.old.given + length (first_among listeners.now listeners.now)) }
+            ≡ self.old.given + length (picked (λ l. l.0) listeners.now numbers.now)) }
         ensures stopped { OnOk result (self.new.stopped.items ≡ self.old.stopped.items) }
         ensures lost { OnOk result (self.new.lost.items ≡ self.old.lost.items) }
     {
-        let by_path = by_path(*self.kept.allocator(), listeners)?;
-        for listener in listeners {
-            if !is_behind(&by_path, listener) {
+        for number in numbers {
+            if let Some(listener) = listener_at(listeners, *number) {
                 self.start(listener)?;
             }
         }

@@ -1,7 +1,8 @@
 -- The listeners that a change ends, and those for which a listen starts then.
-use Rattle.std.specs.Prelude.{ℕ, Bool, ◌&&◌, not, nat_lt, if◌then◌else◌, List}
+use Rattle.std.specs.Prelude.{ℕ, Bool, ◌&&◌, ◌==◌, not, nat_lt, if◌then◌else◌, List}
 use Rattle.std.specs.List.{filter, list_any}
-use Rattle.rt_query.specs.Queries.{Query}
+use Rattle.rt_tree.specs.Assignments.{is_at_or_above}
+use Rattle.rt_query.specs.Queries.{Query, is_filtered}
 use Rattle.rt_query.specs.QueryEq.{query_eq}
 use Rattle.rt_query.specs.Supply.{does_supply}
 use Rattle.rt_cover.specs.declared.kept.Kept.{Kept}
@@ -34,6 +35,17 @@ is_left_form ends listeners f = list_any (λ l. query_eq l.1 f && not (ends l)) 
 abbrev pub lost : (Registered → Bool) → List Tagged → List Registered → List Tagged
 lost ends kept listeners = filter (λ k. not (is_left_form ends listeners k.form)) kept
 
+-- whether no listener of a lesser number has the listener's form
+abbrev pub is_first : List Registered → Registered → Bool
+is_first listeners l = not (list_any (λ m. query_eq m.1 l.1 && nat_lt m.0 l.0) listeners)
+
+-- whether the listen is lost by the end of the listener of that number, the first of its form, and its
+-- tag passes a test
+abbrev pub is_lost_by : (Registered → Bool) → List Registered → (ℕ → Bool) → ℕ → Tagged → Bool
+is_lost_by ends listeners p n k =
+    list_any (λ l. n == l.0 && (query_eq l.1 k.form && is_first listeners l)) listeners
+    && (not (is_left_form ends listeners k.form) && p k.tag)
+
 -- the listeners that are left, and that one of these listens supplied
 abbrev pub bereft : (Registered → Bool) → List Tagged → List Registered → List Registered
 bereft ends gone listeners =
@@ -48,6 +60,11 @@ abbrev pub beginners : (Registered → Bool) → List Tagged → List Registered
 beginners ends kept listeners =
     first_among (bereft ends (lost ends kept listeners) listeners)
     (bereft ends (lost ends kept listeners) listeners)
+
+-- whether a listen starts for one whose number passes a test, at or under the path of a lost plain listen
+abbrev pub begins_under : (Registered → Bool) → List Registered → (ℕ → Bool) → Tagged → Bool
+begins_under ends listeners p k = not (is_filtered k.form) && list_any (λ l.
+    (is_at_or_above (k.form).path (l.1).path && (not (ends l) && not (is_replaced ends listeners l))) && p l.0) listeners
 
 -- a listen that starts, by its tag and its listener, and as it is told
 abbrev pub tagged_of : ℕ × Registered → Tagged

@@ -5,4 +5,4 @@ use Rattle.rt_cover.proofs.StartLaws.{is_seen}
 use Rattle.rt_cover.proofs.forms.forms.Given as goal
 
 abbrev pub invariant-loop-listener : goal.invariant-loop-listener
-invariant-loop-listener l = l.forms.items ++ map (λ (x : Registered). x.1) (filter (λ (x : Registered). not (is_seen l.listeners x)) (drop l.listener-index l.listeners)) ≡ forms l.listeners
+invariant-loop-listener l = l.forms.items ++ map (λ (x : Registered). x.1) (filter (λ (x : Registered). not (is_seen l.by_number x)) (drop l.listener-index l.by_number)) ≡ forms l.by_number

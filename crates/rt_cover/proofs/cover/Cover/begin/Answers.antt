@@ -32,8 +32,8 @@ start-requires-clause-unsupplied c =
     let form_is : (c.in_ok-listen.listen).form ≡ f = (λ i. (c.in_ok-listen.ensures i).form) ∙ (λ i. (c.in_ok-registered.ensures i).1) in
     (λ i. list_any (λ (k : Tagged). does_supply k.form (form_is i)) (c.self.view_is i).kept) ∙ supplier_none old f c.requires.unsupplied
 
-pub insert_listener-requires-clause-rise : goal.insert_listener-requires-clause-rise
-insert_listener-requires-clause-rise c =
+pub insert-requires-clause-rise : goal.insert-requires-clause-rise
+insert-requires-clause-rise c =
     let sound : IsSound c.args.self.now = subst IsSound c.self.view_is c.self.invariant in
     subst (AllPairs (λ (l m : Registered). l.0 < m.0)) (sym (c.reserve.ensures.items ∙ (λ i. (c.self.view_is i).listeners))) sound.listeners
 
@@ -45,10 +45,10 @@ invariant_of-self-2 c =
     let f = c.args.form in
     let form_is : (c.in_ok-listen.listen).form ≡ f = (λ i. (c.in_ok-listen.ensures i).form) ∙ (λ i. (c.in_ok-registered.ensures i).1) in
     let tag_is : (c.in_ok-listen.listen).tag ≡ old.next_tag = (λ i. (c.in_ok-listen.ensures i).tag) ∙ (λ i. (c.self.view_is i).next_tag) in
-    let lists : c.insert_listener.new.listeners.items ≡ with_listener old.listeners n f = c.insert_listener.ensures ∙ (λ i. with_listener ((c.reserve.ensures.items ∙ (λ j. (c.self.view_is j).listeners)) i) (c.in_ok-registered.ensures i).0 (c.in_ok-registered.ensures i).1) in
+    let lists : c.insert.new.self.items ≡ with_listener old.listeners n f = c.insert.ensures ∙ (λ i. with_listener ((c.reserve.ensures.items ∙ (λ j. (c.self.view_is j).listeners)) i) (c.in_ok-registered.ensures i).0 (c.in_ok-registered.ensures i).1) in
     let kept : c.start.new.self ≡ filter (λ (k : Tagged). not (does_supply f k.form)) old.kept ++ record { tag = old.next_tag; form = f } ∷ [] =
     c.in_ok-stopped.ensures.kept ∙ (λ i. filter (λ (k : Tagged). not (does_supply (form_is i) k.form)) (c.self.view_is i).kept ++ record { tag = tag_is i; form = form_is i } ∷ []) in
-    let new : record { listeners = c.insert_listener.new.listeners.items; kept = c.start.new.self; next_tag = c.self.inside.given + 1 + 1; last_tag = c.self.inside.last_tag } ≡ with_listeners old (with_listener old.listeners n f) =
+    let new : record { listeners = c.insert.new.self.items; kept = c.start.new.self; next_tag = c.self.inside.given + 1 + 1; last_tag = c.self.inside.last_tag } ≡ with_listeners old (with_listener old.listeners n f) =
     (λ i. record { listeners = lists i; kept = kept i; next_tag = (c.self.view_is i).next_tag + 1; last_tag = (c.self.view_is i).last_tag })
     ∙ sym (is_started old sound n f c.requires.own c.requires.free c.requires.unsupplied).cover in
     subst IsSound (sym new) (sound_with old sound n f c.requires.own c.requires.room)
@@ -61,7 +61,7 @@ returns-clause-cover c =
     let f = c.args.form in
     let form_is : (c.in_ok-listen.listen).form ≡ f = (λ i. (c.in_ok-listen.ensures i).form) ∙ (λ i. (c.in_ok-registered.ensures i).1) in
     let tag_is : (c.in_ok-listen.listen).tag ≡ old.next_tag = (λ i. (c.in_ok-listen.ensures i).tag) ∙ (λ i. (c.self.view_is i).next_tag) in
-    let lists : c.insert_listener.new.listeners.items ≡ with_listener old.listeners n f = c.insert_listener.ensures ∙ (λ i. with_listener ((c.reserve.ensures.items ∙ (λ j. (c.self.view_is j).listeners)) i) (c.in_ok-registered.ensures i).0 (c.in_ok-registered.ensures i).1) in
+    let lists : c.insert.new.self.items ≡ with_listener old.listeners n f = c.insert.ensures ∙ (λ i. with_listener ((c.reserve.ensures.items ∙ (λ j. (c.self.view_is j).listeners)) i) (c.in_ok-registered.ensures i).0 (c.in_ok-registered.ensures i).1) in
     let kept : c.start.new.self ≡ filter (λ (k : Tagged). not (does_supply f k.form)) old.kept ++ record { tag = old.next_tag; form = f } ∷ [] =
     c.in_ok-stopped.ensures.kept ∙ (λ i. filter (λ (k : Tagged). not (does_supply (form_is i) k.form)) (c.self.view_is i).kept ++ record { tag = tag_is i; form = form_is i } ∷ []) in
     (λ i. record { listeners = lists i; kept = kept i; next_tag = (c.self.view_is i).next_tag + 1; last_tag = (c.self.view_is i).last_tag })

@@ -23,13 +23,13 @@ invariant_of-self-2 g c =
     let old : Cover = c.args.self.now in
     let sound : IsSound old = subst IsSound c.self.view_is c.self.invariant in
     let ends = g.E.Ending.ended c.args.ending.now in
-    let listeners : c.retain_left.new.listeners.items ≡ left ends old.listeners = c.retain_left.ensures ∙ (λ i. left ends (c.self.view_is i).listeners) in
+    let listeners : c.retain_left.new.self.items ≡ left ends old.listeners = c.retain_left.ensures ∙ (λ i. left ends (c.self.view_is i).listeners) in
     let gone : c.deref.result.now ≡ lost ends old.kept old.listeners = c.deref.ensures.value ∙ c.in_ok-lost.ensures.lost in
     let kept : c.replace.new.self
     ≡ filter (λ (k : Tagged). not (list_any (λ (j : Tagged). j.tag == k.tag) (lost ends old.kept old.listeners))) old.kept ++ map tagged_of (enumerate_from old.next_tag (beginners ends old.kept old.listeners)) =
     c.in_ok-replace.ensures.kept
     ∙ (λ i. filter (λ (k : Tagged). not (list_any (λ (j : Tagged). j.tag == k.tag) (gone i))) (c.self.view_is i).kept ++ c.in_ok-lost.ensures.kept i) in
-    let new : record { listeners = c.retain_left.new.listeners.items; kept = c.replace.new.self; next_tag = (c.in_ok-lost.field-0).given + 1; last_tag = c.self.inside.last_tag } ≡ with_listeners old (left ends old.listeners) =
+    let new : record { listeners = c.retain_left.new.self.items; kept = c.replace.new.self; next_tag = (c.in_ok-lost.field-0).given + 1; last_tag = c.self.inside.last_tag } ≡ with_listeners old (left ends old.listeners) =
     (λ i. record { listeners = listeners i; kept = kept i; next_tag = c.in_ok-lost.ensures.given i; last_tag = (c.self.view_is i).last_tag })
     ∙ sym (is_ended old sound ends).cover in
     subst IsSound (sym new) (sound_without old sound ends c.requires.room)
@@ -39,7 +39,7 @@ returns-clause-cover g c =
     let old : Cover = c.args.self.now in
     let sound : IsSound old = subst IsSound c.self.view_is c.self.invariant in
     let ends = g.E.Ending.ended c.args.ending.now in
-    let listeners : c.retain_left.new.listeners.items ≡ left ends old.listeners = c.retain_left.ensures ∙ (λ i. left ends (c.self.view_is i).listeners) in
+    let listeners : c.retain_left.new.self.items ≡ left ends old.listeners = c.retain_left.ensures ∙ (λ i. left ends (c.self.view_is i).listeners) in
     let gone : c.deref.result.now ≡ lost ends old.kept old.listeners = c.deref.ensures.value ∙ c.in_ok-lost.ensures.lost in
     let kept : c.replace.new.self
     ≡ filter (λ (k : Tagged). not (list_any (λ (j : Tagged). j.tag == k.tag) (lost ends old.kept old.listeners))) old.kept ++ map tagged_of (enumerate_from old.next_tag (beginners ends old.kept old.listeners)) =

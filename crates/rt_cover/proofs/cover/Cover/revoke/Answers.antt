@@ -11,6 +11,7 @@ pub end-requires : goal.end-requires
 end-requires c =
     let old : Cover = c.args.self.now in
     record {
+      tags = c.in_ok-form.ensures.lost;
       room = subst (λ ls. lacks_tag old ls ≡ false) (left_of_form old c.args.tag c.in_ok-form.form c.in_ok-form.ensures.form)
           (revoke_room old c.args.tag (sym c.if-lacks_tag_to_revoke.ensures) (known_of_form old c.args.tag c.in_ok-form.form c.in_ok-form.ensures.form));
     }
