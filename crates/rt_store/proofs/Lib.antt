@@ -9,6 +9,7 @@ pub mod Linked
 pub mod Near
 pub mod Orders
 pub mod Paths
+pub mod Pieces
 pub mod Places
 pub mod Planting
 pub mod Putting

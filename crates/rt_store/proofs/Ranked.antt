@@ -1,24 +1,14 @@
 -- What the ranks have of a slab's nodes.
-use Rattle.std.proofs.Common.{◌≡◌, ◌≢◌, ◌<◌, ℕ, ◌+◌, List, [], ◌∷◌, zero, suc, Option, Some, None, Bool, true, false, refl, sym, ap, ◌∙◌, arith}
-use Rattle.std.specs.Prelude.{slice_get, nat_eq, ◌&&◌}
-use Rattle.std.specs.List.{remove}
+use Rattle.std.proofs.Common.{◌≡◌, ◌≢◌, ◌<◌, ℕ, Option, Some, None, Bool, true, false, refl, sym, ap, ◌∙◌, arith}
+use Rattle.std.specs.Prelude.{nat_eq, ◌&&◌}
 use Rattle.std.specs.Option.{option_map}
 use Rattle.std.proofs.lemmas.Bool.{eqb-true, eq-eqb}
-use Rattle.std.proofs.lemmas.List.Sums.{sum_by-remove}
-use Rattle.std.proofs.lemmas.Option.{get_or_from_slice_get, slice_get_within}
 use Rattle.slab.specs.Slab.{Slab, get, Updates}
 use Rattle.rt_store.specs.inside.Forest.{one_if}
-use Rattle.rt_store.specs.inside.Often.{often}
-use Rattle.rt_store.specs.inside.Ranks.{listed, same_link, is_child, Added, IsAlike, IsRanked}
+use Rattle.rt_store.specs.inside.Ranks.{held, same_link, is_child, Added, IsAlike, IsRanked}
 use Rattle.rt_store.specs.inside.Changes.{Same}
 use Rattle.rt_store.specs.declared.slot.Slot.{Slot}
 use Rattle.rt_store.specs.declared.ranks.Ranks.{Ranks}
-
--- a child less, where one stands
-pub often-remove : (m : ℕ) (xs : List ℕ) (i x : ℕ) → slice_get xs i ≡ Some x → often m (remove xs i) + one_if (nat_eq m x) ≡ often m xs
-often-remove m xs i x there =
-    ap (λ y. often m (remove xs i) + one_if (nat_eq m y)) (sym (get_or_from_slice_get xs i x x there))
-    ∙ sum_by-remove (λ y. one_if (nat_eq m y)) xs i x (slice_get_within xs i x there)
 
 -- ---- a node that is there
 same_same : (p : Option ℕ) → same_link p p ≡ true
@@ -26,9 +16,9 @@ same_same None = refl
 same_same (Some n) = eq-eqb n n refl
 
 -- stands in the row of its parent
-pub ranked_there : (s : Slab Slot) (r : Ranks) (n : ℕ) (slot : Slot) → IsRanked s r → get s n ≡ Some slot → 0 < often n (listed r slot.parent)
+pub ranked_there : (s : Slab Slot) (r : Ranks) (n : ℕ) (slot : Slot) → IsRanked s r → get s n ≡ Some slot → 0 < held n r slot.parent
 ranked_there s r n slot h there =
-    let one : often n (listed r slot.parent) ≡ 1 = h slot.parent n ∙ ap (λ o. one_if (is_child slot.parent o)) there ∙ ap one_if (same_same slot.parent) in
+    let one : held n r slot.parent ≡ 1 = h slot.parent n ∙ ap (λ o. one_if (is_child slot.parent o)) there ∙ ap one_if (same_same slot.parent) in
     omega (arith, one)
 
 -- ---- the nodes change
@@ -73,10 +63,10 @@ ranked_alike s r q alike h p m = alike p m ∙ h p m
 
 -- a node more
 pub ranked_more : (s t : Slab Slot) (r q : Ranks) (n : ℕ) (slot : Slot) → get s n ≡ None → Updates s t n (Some slot) → Added r q slot.parent n → IsRanked s r → IsRanked t q
-ranked_more s t r q n slot none updates added h p m = either_node (often m (listed q p) ≡ one_if (is_child p (get t m))) m n
+ranked_more s t r q n slot none updates added h p m = either_node (held m q p ≡ one_if (is_child p (get t m))) m n
     (λ e.
     let same : m ≡ n = eqb-true m n e in
-    let was : often m (listed r p) ≡ 0 = h p m ∙ ap (λ x. one_if (is_child p (get s x))) same ∙ ap (λ o. one_if (is_child p o)) none in
+    let was : held m r p ≡ 0 = h p m ∙ ap (λ x. one_if (is_child p (get s x))) same ∙ ap (λ o. one_if (is_child p o)) none in
     let one : one_if (same_link p slot.parent && nat_eq m n) ≡ one_if (same_link p slot.parent) = ap (λ b. one_if (same_link p slot.parent && b)) e ∙ ap one_if (and-true (same_link p slot.parent)) in
     let now : one_if (is_child p (get t m)) ≡ one_if (same_link p slot.parent) = ap (λ x. one_if (is_child p (get t x))) same ∙ ap (λ o. one_if (is_child p o)) updates.changed in
     omega (arith, added p m, was, one, now))
@@ -87,10 +77,10 @@ ranked_more s t r q n slot none updates added h p m = either_node (often m (list
 
 -- a node less
 pub ranked_fewer : (s t : Slab Slot) (r q : Ranks) (n : ℕ) (slot : Slot) → get s n ≡ Some slot → Updates s t n None → Added q r slot.parent n → IsRanked s r → IsRanked t q
-ranked_fewer s t r q n slot there updates added h p m = either_node (often m (listed q p) ≡ one_if (is_child p (get t m))) m n
+ranked_fewer s t r q n slot there updates added h p m = either_node (held m q p ≡ one_if (is_child p (get t m))) m n
     (λ e.
     let same : m ≡ n = eqb-true m n e in
-    let was : often m (listed r p) ≡ one_if (same_link p slot.parent) = h p m ∙ ap (λ x. one_if (is_child p (get s x))) same ∙ ap (λ o. one_if (is_child p o)) there in
+    let was : held m r p ≡ one_if (same_link p slot.parent) = h p m ∙ ap (λ x. one_if (is_child p (get s x))) same ∙ ap (λ o. one_if (is_child p o)) there in
     let one : one_if (same_link p slot.parent && nat_eq m n) ≡ one_if (same_link p slot.parent) = ap (λ b. one_if (same_link p slot.parent && b)) e ∙ ap one_if (and-true (same_link p slot.parent)) in
     let now : one_if (is_child p (get t m)) ≡ 0 = ap (λ x. one_if (is_child p (get t x))) same ∙ ap (λ o. one_if (is_child p o)) updates.changed in
     omega (arith, added p m, was, one, now))
@@ -100,5 +90,5 @@ ranked_fewer s t r q n slot there updates added h p m = either_node (often m (li
     omega (arith, added p m, h p m, none_less, now))
 
 -- ---- no nodes
-pub ranked_none : (s : Slab Slot) (r : Ranks) → ((n : ℕ) → get s n ≡ None) → ((p : Option ℕ) (m : ℕ) → often m (listed r p) ≡ 0) → IsRanked s r
+pub ranked_none : (s : Slab Slot) (r : Ranks) → ((n : ℕ) → get s n ≡ None) → ((p : Option ℕ) (m : ℕ) → held m r p ≡ 0) → IsRanked s r
 ranked_none s r none empty p m = empty p m ∙ sym (ap (λ o. one_if (is_child p o)) (none m))

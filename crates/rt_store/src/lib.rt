@@ -12,9 +12,11 @@
 #![tactic(auto)]
 
 mod build;
+mod children;
 mod clear;
 mod error;
 mod grow;
+mod head;
 mod laws;
 mod links;
 mod node;

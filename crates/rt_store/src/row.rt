@@ -53,36 +53,18 @@ fn nearest(
     }
 }
 
-// Where a search begins: behind which sibling, and at which.
-fn start(
+// Passes the siblings in front of a key, from `next` on, which stands behind `previous`.
+fn walk(
     nodes: &Slab<Slot>,
-    ranks: &Ranks,
-    row: Siblings,
+    previous: Option<usize>,
+    next: Option<usize>,
     key: &PlacedRef<'_>,
-) -> (Option<usize>, Option<usize>)
-    requires row { IsRow nodes.now row.first row.parent None (row_at nodes.now row.first) }
-    requires told { Told nodes.now row.first row.parent }
-    ensures place { IsPlace nodes.now result.1 }
-    ensures spot { spot_in key.now None (row_at nodes.now row.first)
-        ≡ spot_in key.now result.0 (row_at nodes.now result.1) }
+) -> Spot
+    requires { IsPlace nodes.now next }
+    ensures { result ≡ spot_in key.now previous (row_at nodes.now next) }
 {
-    let Some(index) = nearest(nodes, ranks, row.parent, key) else {
-        return (None, row.first);
-    };
-    let slot = nodes.get(index).unwrap();
-    match order(key, slot) {
-        Ordering::Less => (None, row.first),
-        _ => (slot.previous, Some(index)),
-    }
-}
-
-// `seek`, with the key's place known. Passes the siblings in front of the key, from the nearest one on.
-fn pass(nodes: &Slab<Slot>, ranks: &Ranks, row: Siblings, key: &PlacedRef<'_>) -> Spot
-    requires row { IsRow nodes.now row.first row.parent None (row_at nodes.now row.first) }
-    requires told { Told nodes.now row.first row.parent }
-    ensures { result ≡ spot_in key.now None (row_at nodes.now row.first) }
-{
-    let (mut previous, mut next) = start(nodes, ranks, row, key);
+    let mut previous = previous;
+    let mut next = next;
     while let Some(index) = next {
         let slot = nodes.get(index).unwrap();
         match order(key, slot) {
@@ -95,6 +77,23 @@ fn pass(nodes: &Slab<Slot>, ranks: &Ranks, row: Siblings, key: &PlacedRef<'_>) -
         }
     }
     Spot::Gap(previous, None)
+}
+
+// `seek`, with the key's place known. The search begins at the nearest sibling.
+fn pass(nodes: &Slab<Slot>, ranks: &Ranks, row: Siblings, key: &PlacedRef<'_>) -> Spot
+    requires row { IsRow nodes.now row.first row.parent None (row_at nodes.now row.first) }
+    requires told { Told nodes.now row.first row.parent }
+    ensures { result ≡ spot_in key.now None (row_at nodes.now row.first) }
+{
+    let Some(index) = nearest(nodes, ranks, row.parent, key) else {
+        return walk(nodes, None, row.first, key);
+    };
+    let slot = nodes.get(index).unwrap();
+    match order(key, slot) {
+        Ordering::Less => walk(nodes, None, row.first, key),
+        Ordering::Equal => Spot::Here(index),
+        Ordering::Greater => walk(nodes, Some(index), slot.next, key),
+    }
 }
 
 // The spot of a key in a row.

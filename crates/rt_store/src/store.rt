@@ -78,8 +78,7 @@ impl Store {
     /// other tree replaces a leaf above the path by an object.
     ///
     /// Costs by the path, the logarithm of the number of siblings at each of its keys, the tree
-    /// that is put and what it replaces; a child that is new also moves a word for each sibling
-    /// behind it.
+    /// that is put and what it replaces.
     ///
     /// # Errors
     ///
@@ -137,7 +136,7 @@ impl Store {
     /// children. Takes no memory.
     ///
     /// Costs by the path, the logarithm of the number of siblings at each of its keys and what is
-    /// taken out; a child that goes also moves a word for each sibling behind it.
+    /// taken out.
     pub fn clear(&mut self, path: &Path)
         ensures { self.new.tree ≡ put self.old.tree path.now null }
     {

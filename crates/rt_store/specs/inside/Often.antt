@@ -1,13 +1,22 @@
--- How often a number stands in a row.
-use Rattle.std.specs.Prelude.{◌≡◌, ℕ, List, [], nat_eq, slice_get}
+-- How often a child stands in a row of the index.
+use Rattle.std.specs.Prelude.{◌+◌, ℕ, List, nat_eq, slice_get}
 use Rattle.std.specs.List.{sum_by}
 use Rattle.std.specs.Option.{option_map_or}
 use Rattle.std.specs.Global.{Vec}
 use Rattle.rt_store.specs.inside.Forest.{one_if}
+use Rattle.rt_store.specs.declared.children.Place.{Place}
+use Rattle.rt_store.specs.declared.children.Children.{Children}
 
-abbrev pub often : ℕ → List ℕ → ℕ
-often m xs = sum_by (λ x. one_if (nat_eq m x)) xs
+-- in one of the pieces
+abbrev pub in_piece : ℕ → List Place → ℕ
+in_piece m places = sum_by (λ place. one_if (nat_eq m place.child)) places
 
--- the n-th row; none where there are fewer
-abbrev pub nth_row : List (Vec ℕ) → ℕ → List ℕ
-nth_row rs n = option_map_or (λ r. r.items) (slice_get rs n) []
+abbrev pub in_pieces : ℕ → List (Vec Place) → ℕ
+in_pieces m pieces = sum_by (λ piece. in_piece m piece.items) pieces
+
+abbrev pub in_row : ℕ → Children → ℕ
+in_row m row = in_piece m row.first.items + in_pieces m row.more.items
+
+-- in the n-th row; nowhere where there are fewer
+abbrev pub in_nth : ℕ → List Children → ℕ → ℕ
+in_nth m rows n = option_map_or (in_row m) (slice_get rows n) 0

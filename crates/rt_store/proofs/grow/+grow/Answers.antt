@@ -7,8 +7,8 @@ use Rattle.rt_tree.specs.Children.{is_object, children_of, children_sorted}
 use Rattle.rt_store.specs.Rows.{in_key_order}
 use Rattle.rt_store.specs.inside.Forest.{row_at, entries}
 use Rattle.rt_store.specs.inside.Growing.{seen}
-use Rattle.rt_store.specs.inside.Changes.{linked_in}
-use Rattle.rt_store.proofs.Ranked.{ranked_mapped, ranked_more, ranked_fewer, ranked_written, ranked_there}
+use Rattle.rt_store.specs.inside.Changes.{linked_in, with_content}
+use Rattle.rt_store.proofs.Ranked.{ranked_mapped, ranked_more, ranked_fewer, ranked_written}
 use Rattle.rt_store.proofs.Linked.{row_at-none}
 use Rattle.rt_store.proofs.Falling.{onto, object-in_key_order}
 use Rattle.rt_store.proofs.Growing.{put_key, put_whole, put_leaf, no_path, full-children_of, full_row, grown_none, still_place, still_once, undone, one_grown, one_entry, next_child, next_made}
@@ -117,3 +117,8 @@ pub grow-returns-in-Err-content-clause-ranked : goal.grow-returns-in-Err-content
 grow-returns-in-Err-content-clause-ranked t c =
     ranked_fewer c.content.new.nodes c.try_remove-in-Err-content.new.self c.content.new.ranks c.remove.new.self c.in_ok-index.index _
     (c.in-Err-content.ensures.err.kept c.in_ok-index.index ∙ c.in_ok-index.ensures.updates.changed) c.try_remove-in-Err-content.ensures.updates c.remove.ensures c.in-Err-content.ensures.ranked
+
+pub grow-returns-in-Ok-clause-ranked : goal.grow-returns-in-Ok-clause-ranked
+grow-returns-in-Ok-clause-ranked t c =
+    ranked_written c.content.new.nodes c.set_content.new.nodes c.content.new.ranks (with_content c.in-Ok.leaf c.in-Ok.first) c.in_ok-index.index (λ slot. refl)
+    c.set_content.ensures.written c.set_content.ensures.others c.in-Ok.ensures.ranked

@@ -1,39 +1,43 @@
-use Rattle.std.proofs.Common.{◌≡◌, Some, None, sym, ◌∙◌, rules}
+use Rattle.std.proofs.Common.{◌≡◌, Some, None, refl, sym, ◌∙◌, rules}
+use Rattle.std.specs.declared.cmp.Ordering.TheVariants.{Equal, Greater}
 use Rattle.slab.specs.Slab.{get}
-use Rattle.rt_store.proofs.Paths.{spotted_by, is_there, fewer, next_place, missing}
+use Rattle.rt_order.specs.KeyOrder.{key_cmp}
+use Rattle.rt_store.specs.inside.Forest.{row_at}
+use Rattle.rt_store.specs.inside.Changes.{InRow}
+use Rattle.rt_store.proofs.Near.{near_place, spot_near}
+use Rattle.rt_store.proofs.Paths.{spotted_by, next_place}
 use Rattle.rt_store.proofs.row.pass.Goals as goal
 
-pub returns-in-Less : goal.returns-in-Less
-returns-in-Less c =
+pub walk-requires : goal.walk-requires
+walk-requires c = (c.args.row.parent, None, c.requires.row)
+
+pub walk-requires-in-Less : goal.walk-requires-in-Less
+walk-requires-in-Less c = (c.args.row.parent, None, c.requires.row)
+
+pub walk-requires-in-Greater : goal.walk-requires-in-Greater
+walk-requires-in-Greater c =
     let slot = c.unwrap-slot.result.now in
     let there : get c.args.nodes.now c.in-Some.index ≡ Some slot = search rules in
-    sym (c.loop-next.invariant.1 ∙ spotted_by c.args.nodes.now c.loop-next.next c.loop-next.previous c.in-Some.index slot c.args.key.now c.in-Some.is c.loop-next.invariant.0 there _ (sym c.order.ensures ∙ c.in-Less.is))
+    let is : InRow c.in-Some.index (row_at c.args.nodes.now c.args.row.first) = c.requires.told.here c.in-Some.index c.in-Some.ensures.0 c.in-Some.ensures.1 c.in-Some.ensures.2 in
+    next_place c.args.nodes.now (Some c.in-Some.index) c.in-Some.index slot refl (near_place c.args.nodes.now c.args.row.first c.args.row.parent c.in-Some.index c.requires.row is) there
 
 pub returns-in-Equal : goal.returns-in-Equal
 returns-in-Equal c =
     let slot = c.unwrap-slot.result.now in
     let there : get c.args.nodes.now c.in-Some.index ≡ Some slot = search rules in
-    sym (c.loop-next.invariant.1 ∙ spotted_by c.args.nodes.now c.loop-next.next c.loop-next.previous c.in-Some.index slot c.args.key.now c.in-Some.is c.loop-next.invariant.0 there _ (sym c.order.ensures ∙ c.in-Equal.is))
+    let is : InRow c.in-Some.index (row_at c.args.nodes.now c.args.row.first) = c.requires.told.here c.in-Some.index c.in-Some.ensures.0 c.in-Some.ensures.1 c.in-Some.ensures.2 in
+    let order : key_cmp c.args.key.now slot.key ≡ Equal = sym c.order.ensures ∙ c.in-Equal.is in
+    let place = near_place c.args.nodes.now c.args.row.first c.args.row.parent c.in-Some.index c.requires.row is in
+    sym (spot_near c.args.nodes.now c.args.row.first c.args.row.parent None (row_at c.args.nodes.now c.args.row.first) c.requires.row c.args.key.now c.in-Some.index slot there is (λ less. cc (less, order))
+    ∙ spotted_by c.args.nodes.now (Some c.in-Some.index) slot.previous c.in-Some.index slot c.args.key.now refl place there _ order)
 
-pub loop-next-smaller : goal.loop-next-smaller
-loop-next-smaller c =
-    let there : get c.args.nodes.now c.in-Some.index ≡ Some c.unwrap-slot.result.now = search rules in
-    fewer c.args.nodes.now c.loop-next.next c.in-Some.index c.unwrap-slot.result.now c.in-Some.is c.loop-next.invariant.0 there
-
-pub loop-next-preserved : goal.loop-next-preserved
-loop-next-preserved c =
+pub returns-in-Greater : goal.returns-in-Greater
+returns-in-Greater c =
     let slot = c.unwrap-slot.result.now in
-    let there : get c.args.nodes.now c.in-Some.index ≡ Some slot = search rules in (
-      next_place c.args.nodes.now c.loop-next.next c.in-Some.index slot c.in-Some.is c.loop-next.invariant.0 there,
-      c.loop-next.invariant.1 ∙ spotted_by c.args.nodes.now c.loop-next.next c.loop-next.previous c.in-Some.index slot c.args.key.now c.in-Some.is c.loop-next.invariant.0 there _ (sym c.order.ensures ∙ c.in-Greater.is),
-    )
-
-pub returns : goal.returns
-returns c =
-    let none : c.loop-next.next ≡ None = search rules in
-    sym (c.loop-next.invariant.1 ∙ missing c.args.nodes.now c.loop-next.next c.loop-next.previous c.args.key.now none)
-
-pub unwrap-slot-requires : goal.unwrap-slot-requires
-unwrap-slot-requires c =
-    let lost : get c.args.nodes.now c.in-Some.index ≡ None → ⊥ = is_there c.args.nodes.now c.loop-next.next c.in-Some.index c.in-Some.is c.loop-next.invariant.0 in
-    search (rules, lost)
+    let there : get c.args.nodes.now c.in-Some.index ≡ Some slot = search rules in
+    let is : InRow c.in-Some.index (row_at c.args.nodes.now c.args.row.first) = c.requires.told.here c.in-Some.index c.in-Some.ensures.0 c.in-Some.ensures.1 c.in-Some.ensures.2 in
+    let order : key_cmp c.args.key.now slot.key ≡ Greater = sym c.order.ensures ∙ c.in-Greater.is in
+    let place = near_place c.args.nodes.now c.args.row.first c.args.row.parent c.in-Some.index c.requires.row is in
+    c.walk-in-Greater.ensures
+    ∙ sym (spot_near c.args.nodes.now c.args.row.first c.args.row.parent None (row_at c.args.nodes.now c.args.row.first) c.requires.row c.args.key.now c.in-Some.index slot there is (λ less. cc (less, order))
+    ∙ spotted_by c.args.nodes.now (Some c.in-Some.index) slot.previous c.in-Some.index slot c.args.key.now refl place there _ order)

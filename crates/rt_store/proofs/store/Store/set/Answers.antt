@@ -1,4 +1,4 @@
-use Rattle.std.proofs.Common.{◌≡◌, ◌∷◌, ◌≤◌, ◌+◌, false, Some, None, length, sym, ap, ◌∙◌, arith, rules}
+use Rattle.std.proofs.Common.{◌≡◌, ◌∷◌, ◌≤◌, ◌+◌, false, None, length, sym, ap, ◌∙◌, arith, rules}
 use Rattle.rt_tree.specs.PathTree.{is_null, null_of_is_null, put, levels, levels-null}
 use Rattle.rt_store.proofs.Storing.{once_in}
 use Rattle.rt_store.proofs.Putting.{old_place, old_once, set_nothing, set_as_before, set_root, set_root_tree, set_part, set_part_tree}

@@ -1,10 +1,10 @@
-use Rattle.std.proofs.Common.{◌≡◌, None}
+use Rattle.std.proofs.Common.{◌≡◌}
 use Rattle.rt_store.specs.inside.Forest.{row_at, size}
 use Rattle.rt_store.specs.inside.Walks.{spot_in, IsPlace}
-use Rattle.rt_store.proofs.row.pass.Given as goal
+use Rattle.rt_store.proofs.row.walk.Given as goal
 
 abbrev pub invariant-loop-next : goal.invariant-loop-next
-invariant-loop-next l = IsPlace l.nodes l.next × (spot_in l.key None (row_at l.nodes l.fn.row.first) ≡ spot_in l.key l.previous (row_at l.nodes l.next))
+invariant-loop-next l = IsPlace l.nodes l.next × (spot_in l.key l.fn.previous (row_at l.nodes l.fn.next) ≡ spot_in l.key l.previous (row_at l.nodes l.next))
 
 abbrev pub decreases-loop-next : goal.decreases-loop-next
 decreases-loop-next l = size (row_at l.nodes l.next)
