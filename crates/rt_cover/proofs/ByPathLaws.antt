@@ -1,22 +1,19 @@
 -- Listeners by path: those of a path stand together, and whoever asks after the paths above one finds
 -- what supplies it.
-use Rattle.std.proofs.Common.{◌≡◌, ℕ, zero, suc, ◌+◌, ◌<◌, ◌≤◌, ◌==◌, nat_lt, Bool, true, false, cond, not, ◌&&◌, ◌||◌, List, [], ◌∷◌, ◌++◌, length, take, drop, get_or, refl, sym, ap, subst, ◌∙◌, arith, ltb, ltb-true, ltb-false, ◌-◌, Some, None, is_some, map, append_assoc, append-nil, eqb-true}
+use Rattle.std.proofs.Common.{◌≡◌, ℕ, zero, suc, ◌+◌, ◌<◌, ◌≤◌, ◌==◌, nat_lt, Bool, true, false, cond, not, ◌&&◌, ◌||◌, List, [], ◌∷◌, ◌++◌, length, take, drop, get_or, refl, sym, ap, subst, ◌∙◌, arith, ltb-true, ltb-false, ◌-◌, Some, None, is_some, map, append_assoc, append-nil, eqb-true}
 use mathlib.Core.Bool.{true≢false}
 use Rattle.std.specs.Cmp.{IsStrictWeakOrder}
 use Rattle.std.specs.List.{filter, find, list_any, All, AllPairs, Contains}
 use Rattle.std.specs.Option.{option_map_or}
 use Rattle.std.proofs.lemmas.List.{drop_more}
-use Rattle.std.specs.List.Sorted.{IsSorted, IsPartitionedBy, IsPartitionPoint, IsNonDecreasingBy, ties}
-use Rattle.std.specs.Ordering.{is_lt, is_le, is_eq, ordering_index, ordering_then, ordering_reverse}
+use Rattle.std.specs.List.Sorted.{ties}
+use Rattle.std.specs.Ordering.{is_lt, is_eq, ordering_then, ordering_reverse}
 use Rattle.std.specs.declared.cmp.Ordering.{Ordering}
 use Rattle.std.specs.declared.cmp.Ordering.TheVariants.{Less, Equal, Greater}
 use Rattle.std.proofs.lemmas.Bool.Decides.{nat_tests}
-use Rattle.std.proofs.lemmas.List.{get_or-take, get_or-drop, length-take-le, length-drop, take-append-drop}
-use Rattle.std.proofs.lemmas.List.Elements.{filter-append, All-contains}
-use Rattle.std.proofs.lemmas.List.Sorted.{list_any-IsPermutation, All-permutation}
+use Rattle.std.proofs.lemmas.List.Elements.{All-contains}
 use Rattle.std.proofs.lemmas.List.Folds.{list_any_none}
-use Rattle.std.proofs.lemmas.List.Sorted.{searchable_from_sorted, IsPartitionedBy-ltb, IsNonDecreasingBy-drop, ranks_by}
-use Rattle.std.proofs.Math.Seq.{take-length}
+use Rattle.std.proofs.lemmas.List.Sorted.{ranks_by}
 use Rattle.rt_tree.specs.PathTree.{Path, path_cmp, path_eq, key_cmp, strip}
 use Rattle.rt_tree.specs.Assignments.{is_at_or_above}
 use Rattle.rt_tree.specs.laws.Prefixes.{paths_total, path_eq-is, path_eq-same, length-strip, strip-some}
@@ -28,9 +25,9 @@ use Rattle.rt_cover.specs.Cover.{Registered, Tagged, forms, first_listener}
 use Rattle.rt_cover.specs.State.{shown_with}
 use Rattle.rt_cover.specs.declared.kept.Kept.{Kept}
 use Rattle.rt_cover.specs.inside.ByPath.{by_path_cmp, IsByPath}
-use Rattle.rt_cover.specs.inside.Endings.{left, comes_before}
+use Rattle.rt_cover.specs.inside.Endings.{left}
 use Rattle.rt_cover.specs.laws.FormLaws.{form_unfiltered, supply_filtered, supply_unfiltered}
-use Rattle.rt_cover.specs.laws.Pairs.{filter_none, filter_all, All-from_contained, Contains-head, Contains-later, filter_agreeing}
+use Rattle.rt_cover.specs.laws.Pairs.{filter_all, All-from_contained, Contains-head, Contains-later, filter_agreeing}
 use Rattle.rt_cover.specs.laws.Paths.{rest_of_above, is_at_or_above-same}
 use Rattle.rt_cover.proofs.StartLaws.{list_any_agreeing, list_any_either, list_any_filtered, lt_true, lt_false, is_seen, forms_of_firsts}
 
@@ -193,7 +190,7 @@ no_rest p q a le =
     empty (k ∷ r) le = absurd (omega arith)
 
 -- tests that agree on what is there
-list_any_agreed : {X : Type 0} (p q : X → Bool) (xs : List X) → ((x : X) → Contains xs x → p x ≡ q x) → list_any p xs ≡ list_any q xs
+pub list_any_agreed : {X : Type 0} (p q : X → Bool) (xs : List X) → ((x : X) → Contains xs x → p x ≡ q x) → list_any p xs ≡ list_any q xs
 list_any_agreed p q [] h = refl
 list_any_agreed p q (x ∷ xs) h = λ i. h x (Contains-head x xs) i || list_any_agreed p q xs (λ y m. h y (Contains-later x xs y m)) i
 
@@ -262,23 +259,6 @@ supplied_by_paths f ls own own_f =
     once : (b : Bool) → list_any (λ l. b && is_plain_at (λ (x : Registered). x.1) f.path l) ls ≡ (b && list_any (is_plain_at (λ (x : Registered). x.1) f.path) ls)
     once true = refl
     once false = list_any_none (λ (l : Registered). false) ls (λ k d lt. refl)
-
--- ---- the same listeners
-
--- what comes before a listener, among those by path
-pub behind_all : (ls by_path : List Registered) → IsByPath ls by_path → (l : Registered)
-    → list_any (λ (m : Registered). comes_before m l) ls ≡ list_any (λ (m : Registered). comes_before m l) by_path
-behind_all ls by_path is l = list_any-IsPermutation (λ (m : Registered). comes_before m l) ls by_path is.same
-
-pub seen_all : (ls by_path : List Registered) → IsByPath ls by_path → (l : Registered)
-    → is_seen ls l ≡ list_any (λ (m : Registered). query_eq m.1 l.1 && nat_lt m.0 l.0) by_path
-seen_all ls by_path is l = list_any-IsPermutation (λ (m : Registered). query_eq m.1 l.1 && nat_lt m.0 l.0) ls by_path is.same
-
-pub own_all : (ls by_path : List Registered) → IsByPath ls by_path → All (λ (l : Registered). form l.1 ≡ l.1) ls → All (λ (l : Registered). form l.1 ≡ l.1) by_path
-own_all ls by_path is own = All-permutation (λ (l : Registered). form l.1 ≡ l.1) ls by_path is.same own
-
-pub own_one : (ls : List Registered) (i : ℕ) (l : Registered) → i < length ls → l ≡ get_or ls i l → All (λ (l : Registered). form l.1 ≡ l.1) ls → form l.1 ≡ l.1
-own_one ls i l lt is own = subst (λ (x : Registered). form x.1 ≡ x.1) (sym is) (own i l lt)
 
 -- ---- the first of a form
 

@@ -1,11 +1,10 @@
 -- What the end of some listeners loses and starts, as the code finds it: by the numbers of those that
 -- end, and by the paths of the listens that are lost.
-use Rattle.std.proofs.Common.{◌≡◌, ◌≢◌, ℕ, ◌+◌, ◌<◌, ◌≤◌, ◌==◌, nat_lt, Bool, true, false, cond, not, ◌&&◌, ◌||◌, inl, inr, List, [], ◌∷◌, ◌++◌, map, length, drop, get_or, refl, sym, ap, subst, ◌∙◌, arith, ltb-true, eqb-true, eq-eqb, Option, Some, None, IfSome, IfNone}
+use Rattle.std.proofs.Common.{◌≡◌, ◌≢◌, ℕ, ◌+◌, ◌<◌, ◌≤◌, ◌==◌, nat_lt, Bool, true, false, cond, not, ◌&&◌, ◌||◌, inl, inr, List, [], ◌∷◌, ◌++◌, map, refl, sym, ap, subst, ◌∙◌, arith, ltb-true, eqb-true, eq-eqb, Option, Some, None, IfSome, IfNone}
 use mathlib.Core.Bool.{true≢false}
-use Rattle.std.specs.List.{filter, find, list_any, All, AllPairs, Any, Contains}
+use Rattle.std.specs.List.{filter, find, list_any, All, AllPairs, Contains}
 use Rattle.std.specs.Option.{option_map, option_map_or}
 use Rattle.std.proofs.lemmas.Bool.Decides.{nat_tests}
-use Rattle.std.proofs.lemmas.List.{drop_more}
 use Rattle.std.proofs.lemmas.List.Elements.{All-contains}
 use Rattle.std.proofs.lemmas.List.Folds.{Any-from_list_any, list_any_none, list_any-append}
 use Rattle.std.proofs.lemmas.List.Kept.{AllPairs-filter}
@@ -16,7 +15,7 @@ use Rattle.rt_query.specs.Queries.{Query, is_filtered}
 use Rattle.rt_query.specs.QueryEq.{query_eq}
 use Rattle.rt_query.specs.Supply.{form, does_supply}
 use Rattle.rt_query.specs.laws.QueryEq.{query_eq_tells}
-use Rattle.rt_cover.specs.Cover.{Registered, Tagged, forms, first_listener, is_kept}
+use Rattle.rt_cover.specs.Cover.{Registered, Tagged, forms, first_listener}
 use Rattle.rt_cover.specs.State.{Cover, numbers_of}
 use Rattle.rt_cover.specs.inside.Endings.{comes_before, is_replaced, starts, is_left_form, is_first, is_lost_by, lost, beginners, begins_under}
 use Rattle.rt_cover.specs.inside.Index.{SameCounts}
@@ -24,13 +23,13 @@ use Rattle.rt_cover.specs.inside.Picked.{picked}
 use Rattle.rt_cover.specs.inside.Sound.{IsSound}
 use Rattle.rt_cover.specs.laws.CoverLaws.{Contains-filter, Contains-from_filter, passes-from_filter}
 use Rattle.rt_cover.specs.laws.FormLaws.{same_tests, supply_filtered, supply_unfiltered}
-use Rattle.rt_cover.specs.laws.Pairs.{Contains-head, Contains-later, AllPairs-map, AllPairs-three, All-from_contained, filter_agreeing}
+use Rattle.rt_cover.specs.laws.Pairs.{Contains-head, Contains-later, AllPairs-map, AllPairs-three, All-from_contained}
 use Rattle.rt_cover.specs.laws.ShownLaws.{found, first_least, form_in}
 use Rattle.rt_cover.proofs.StartLaws.{list_any_with, list_any_agreeing, list_any_either, list_any_filtered}
 use Rattle.rt_cover.proofs.EndLaws.{starts_first, starts_as, lost_by_ended}
 use Rattle.rt_cover.proofs.NewLaws.{kept_registered}
 use Rattle.rt_cover.proofs.PickLaws.{rising_any, picked_same}
-use Rattle.rt_cover.proofs.ByPathLaws.{same_form}
+use Rattle.rt_cover.proofs.ByPathLaws.{same_form, list_any_agreed}
 use Rattle.rt_cover.proofs.CountLaws.{same_any, same_filter, same_map, same_trans, rising_same}
 use Rattle.rt_cover.proofs.SeenLaws.{filter_both}
 
@@ -43,11 +42,6 @@ fails false h = refl
 not_true : (b : Bool) → not b ≡ true → b ≡ false
 not_true true e = absurd (true≢false (sym e))
 not_true false e = refl
-
--- tests that agree on what is there
-pub list_any_agreed : {X : Type 0} (p q : X → Bool) (xs : List X) → ((x : X) → Contains xs x → p x ≡ q x) → list_any p xs ≡ list_any q xs
-list_any_agreed p q [] h = refl
-list_any_agreed p q (x ∷ xs) h = λ i. h x (Contains-head x xs) i || list_any_agreed p q xs (λ y m. h y (Contains-later x xs y m)) i
 
 -- what a test has beside it
 pub list_any_beside : {X : Type 0} (p : X → Bool) (b : Bool) (xs : List X) → list_any (λ x. p x && b) xs ≡ (list_any p xs && b)
@@ -87,17 +81,6 @@ turned f g = same_tests (query_eq f g) (query_eq g f) (λ e. (query_eq_tells g f
 
 same_number : (m n : ℕ) → (m == n) ≡ (n == m)
 same_number m n = grind (arith, nat_tests)
-
--- one step of a loop that adds what a test of one more tells
-pub one_more : {X : Type 0} (w : X → Bool) (xs : List X) (i : ℕ) (x : X) (a b : Bool) → i < length xs → x ≡ get_or xs i x
-    → b ≡ (a || w x) → (a || list_any w (drop i xs)) ≡ list_any w xs → (b || list_any w (drop (i + 1) xs)) ≡ list_any w xs
-one_more w xs i x a b lt is e inv =
-    ap (λ r. r || list_any w (drop (i + 1) xs)) e ∙ or_assoc a (w x) (list_any w (drop (i + 1) xs))
-    ∙ ap (λ ys. a || list_any w ys) (ap (λ y. y ∷ drop (i + 1) xs) is ∙ sym (drop_more xs i x lt)) ∙ inv
-  where
-    or_assoc : (p q r : Bool) → ((p || q) || r) ≡ (p || (q || r))
-    or_assoc true q r = refl
-    or_assoc false q r = refl
 
 -- ---- the tags of the lost listens
 

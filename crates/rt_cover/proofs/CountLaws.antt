@@ -1,5 +1,5 @@
 -- Lists with as many elements of each kind, in whatever order.
-use Rattle.std.proofs.Common.{◌≡◌, ℕ, zero, suc, ◌+◌, ◌<◌, ◌≤◌, ◌==◌, nat_lt, Bool, true, false, cond, not, ◌&&◌, ◌||◌, List, [], ◌∷◌, ◌++◌, map, refl, sym, ap, ◌∙◌, arith, eqb-true, eq-eqb, length, slice_index_or}
+use Rattle.std.proofs.Common.{◌≡◌, ℕ, zero, suc, ◌+◌, ◌<◌, ◌≤◌, ◌==◌, nat_lt, Bool, true, false, cond, ◌&&◌, ◌||◌, List, [], ◌∷◌, ◌++◌, map, refl, sym, ap, ◌∙◌, arith, eqb-true, eq-eqb, length, slice_index_or}
 use mathlib.Core.Bool.{true≢false}
 use Rattle.std.specs.List.{filter, insert, list_any, count_by, AllPairs}
 use Rattle.std.specs.List.Sorted.{IsPermutation}

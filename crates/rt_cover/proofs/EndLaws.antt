@@ -1,9 +1,8 @@
 -- What the end of some listeners makes of the listens kept: those stop whose form no listener has
 -- that is left, and in place of them those forms start that they alone supplied.
-use Rattle.std.proofs.Common.{◌≡◌, ◌≢◌, ℕ, ◌+◌, ◌<◌, ◌≤◌, ◌==◌, nat_lt, Bool, true, false, cond, not, ◌&&◌, ◌⊎◌, inl, inr, List, [], ◌∷◌, ◌++◌, map, length, drop, get_or, append_assoc, refl, sym, ap, subst, ◌∙◌, arith, suc, ltb, ltb-true, ltb-false, eqb-true, eq-eqb, Some, None, is_some}
+use Rattle.std.proofs.Common.{◌≡◌, ◌≢◌, ℕ, ◌+◌, ◌<◌, ◌≤◌, ◌==◌, nat_lt, Bool, true, false, cond, not, ◌&&◌, ◌⊎◌, inl, inr, List, [], ◌∷◌, ◌++◌, map, length, refl, sym, ap, subst, ◌∙◌, arith, suc, ltb, ltb-true, ltb-false, eqb-true, eq-eqb, Some, None, is_some}
 use mathlib.Core.Bool.{true≢false}
 use Rattle.std.specs.List.{filter, list_any, enumerate_from, AllPairs, Any, Contains}
-use Rattle.std.proofs.lemmas.List.{drop_more}
 use Rattle.std.proofs.lemmas.List.Elements.{All-contains, All-filter}
 use Rattle.std.proofs.lemmas.List.Folds.{Any-from_list_any}
 use Rattle.std.proofs.lemmas.List.Kept.{AllPairs-filter}
@@ -17,7 +16,7 @@ use Rattle.rt_query.specs.laws.QueryEq.{query_eq_tells}
 use Rattle.rt_cover.specs.Cover.{Registered, Supplies, Tagged, forms, first_listener, is_kept}
 use Rattle.rt_cover.specs.State.{Cover, needed_forms, started_for, shown_with, with_listeners, lacks_tag, difference}
 use Rattle.rt_cover.specs.Shown.{IsTold}
-use Rattle.rt_cover.specs.inside.Endings.{left, comes_before, is_replaced, starts, is_left_form, lost, bereft, first_among, beginners, tagged_of, told_of}
+use Rattle.rt_cover.specs.inside.Endings.{left, comes_before, is_replaced, starts, is_left_form, lost, bereft, beginners, tagged_of, told_of}
 use Rattle.rt_cover.specs.inside.Sound.{IsSound}
 use Rattle.rt_cover.specs.laws.CoverLaws.{is_covered, Contains-filter, Contains-from_filter, passes-from_filter, needed_fewest, supplies_trans, supplies_antisymm}
 use Rattle.rt_cover.specs.laws.FormLaws.{same_tests, supply_filtered, supply_unfiltered}
@@ -463,29 +462,3 @@ told_without c s ends = is_told c (left ends c.listeners) s (AllPairs-filter (λ
 
 pub tags_left : (c : Cover) (ends : Registered → Bool) → IsEnded c ends → lacks_tag c (left ends c.listeners) ≡ false → c.next_tag + length (who c ends) ≤ c.last_tag + 1
 tags_left c ends h room = omega (arith, ltb-false (c.last_tag + 1) (c.next_tag + length (started_for c (left ends c.listeners))) room, h.count)
-
--- ---- one listener after another
-
-drop_one : (ls : List Registered) (i : ℕ) (l : Registered) → i < length ls → l ≡ get_or ls i l → drop i ls ≡ l ∷ drop (i + 1) ls
-drop_one ls i l lt is = drop_more ls i l lt ∙ ap (λ x. x ∷ drop (i + 1) ls) (sym is)
-
--- one that is first is taken
-pub first_takes : (all ls : List Registered) (i : ℕ) (l : Registered) → i < length ls → l ≡ get_or ls i l → list_any (λ m. comes_before m l) all ≡ false
-    → first_among all (drop i ls) ≡ l ∷ first_among all (drop (i + 1) ls)
-first_takes all ls i l lt is e = ap (first_among all) (drop_one ls i l lt is)
-    ∙ ap (λ b. cond (not b) (l ∷ first_among all (drop (i + 1) ls)) (first_among all (drop (i + 1) ls))) e
-
--- another is left out
-pub first_leaves : (all ls : List Registered) (i : ℕ) (l : Registered) → i < length ls → l ≡ get_or ls i l → list_any (λ m. comes_before m l) all ≡ true
-    → first_among all (drop i ls) ≡ first_among all (drop (i + 1) ls)
-first_leaves all ls i l lt is e = ap (first_among all) (drop_one ls i l lt is)
-    ∙ ap (λ b. cond (not b) (l ∷ first_among all (drop (i + 1) ls)) (first_among all (drop (i + 1) ls))) e
-
--- one more gets the next number
-pub more_numbered : {X : Type 0} (f : ℕ × Registered → X) (done new all : List X) (n m : ℕ) (l : Registered) (now rest : List Registered)
-    → new ≡ done ++ f (n, l) ∷ [] → m ≡ n + 1 → now ≡ l ∷ rest → done ++ map f (enumerate_from n now) ≡ all → new ++ map f (enumerate_from m rest) ≡ all
-more_numbered f done new all n m l now rest added next is inv =
-    (λ i. added i ++ map f (enumerate_from (next i) rest))
-    ∙ append_assoc done (f (n, l) ∷ []) (map f (enumerate_from (n + 1) rest))
-    ∙ ap (λ z. done ++ map f (enumerate_from n z)) (sym is)
-    ∙ inv

@@ -1,8 +1,8 @@
 -- The listens by path: who supplies a query, and what a new one takes over.
-use Rattle.std.proofs.Common.{◌≡◌, ◌≢◌, ℕ, ◌+◌, ◌<◌, ◌≤◌, ◌==◌, nat_lt, Bool, true, false, cond, not, ◌&&◌, inl, inr, ◌||◌, List, [], ◌∷◌, ◌++◌, map, length, take, refl, sym, ap, subst, ◌∙◌, arith, eqb-true, eq-eqb, Option, Some, None, IfSome, IfNone}
+use Rattle.std.proofs.Common.{◌≡◌, ◌≢◌, ℕ, ◌+◌, ◌<◌, ◌≤◌, ◌==◌, nat_lt, Bool, true, false, cond, not, ◌&&◌, inl, inr, ◌||◌, List, [], ◌∷◌, map, length, take, refl, sym, ap, subst, ◌∙◌, arith, eqb-true, eq-eqb, Option, Some, None, IfSome, IfNone}
 use mathlib.Core.Bool.{true≢false}
 use Rattle.std.specs.List.{filter, find, list_any, All, AllPairs, Contains}
-use Rattle.std.specs.List.Sorted.{IsNonDecreasingBy, IsPermutation}
+use Rattle.std.specs.List.Sorted.{IsNonDecreasingBy}
 use Rattle.std.specs.Option.{option_map}
 use Rattle.std.proofs.lemmas.List.Folds.{Any-from_list_any}
 use Rattle.std.proofs.lemmas.List.Kept.{AllPairs-filter}
@@ -19,11 +19,11 @@ use Rattle.rt_cover.specs.State.{Cover, supplier}
 use Rattle.rt_cover.specs.inside.Index.{form_of, SameCounts}
 use Rattle.rt_cover.specs.inside.Sound.{IsSound}
 use Rattle.rt_cover.specs.laws.FormLaws.{supply_filtered, supply_unfiltered}
-use Rattle.rt_cover.specs.laws.Pairs.{Contains-head, Contains-later, AllPairs-map, AllPairs-three, All-from_contained, filter_none, filter_all, filter_agreeing}
+use Rattle.rt_cover.specs.laws.Pairs.{Contains-head, AllPairs-map, AllPairs-three, All-from_contained, filter_none, filter_all, filter_agreeing}
 use Rattle.rt_cover.specs.laws.Paths.{rest_of_above}
 use Rattle.rt_cover.specs.laws.ShownLaws.{needed_alone}
 use Rattle.rt_cover.proofs.ByPathLaws.{is_plain_above, list_any_implied, prefix_at}
-use Rattle.rt_cover.proofs.CountLaws.{same_any, same_filter, same_map, same_permuted, same_trans, rising_same}
+use Rattle.rt_cover.proofs.CountLaws.{same_filter, same_map, same_trans, rising_same}
 use Rattle.rt_cover.proofs.EndLaws.{kept_same}
 use Rattle.rt_cover.proofs.NewLaws.{kept_needed, kept_registered}
 use Rattle.rt_cover.proofs.StartLaws.{list_any_filtered, list_any_with, lt_true}

@@ -1,16 +1,12 @@
 -- Elements found by numbers that rise, and numbers fixed by which of them there are.
-use Rattle.std.proofs.Common.{◌≡◌, ℕ, zero, suc, ◌+◌, ◌<◌, ◌≤◌, ◌==◌, nat_cmp, eqb, Bool, true, false, cond, not, ◌&&◌, ◌||◌, inl, inr, List, [], ◌∷◌, ◌++◌, map, length, drop, get_or, slice_index_or, refl, sym, ap, subst, ◌∙◌, arith, append_assoc, eqb-true, eq-eqb, Option, Some, None}
+use Rattle.std.proofs.Common.{◌≡◌, ℕ, zero, suc, ◌<◌, ◌≤◌, ◌==◌, true, false, cond, ◌||◌, inl, inr, List, [], ◌∷◌, map, length, get_or, slice_index_or, refl, sym, ap, subst, ◌∙◌, arith, eqb-true, eq-eqb, Some}
 use mathlib.Core.Bool.{true≢false}
-use Rattle.std.specs.List.{find, list_any, dedup, All, AllPairs, Any, Contains}
+use Rattle.std.specs.List.{find, list_any, All, AllPairs, Contains}
 use Rattle.std.specs.Option.{option_map_or}
-use Rattle.std.proofs.lemmas.Bool.Decides.{nat_tests}
-use Rattle.std.proofs.lemmas.List.{drop_more}
 use Rattle.std.proofs.lemmas.List.Elements.{All-contains}
 use Rattle.std.proofs.lemmas.List.Folds.{Any-from_list_any, list_any_none}
-use Rattle.rt_cover.specs.laws.FormLaws.{same_tests}
 use Rattle.rt_cover.specs.laws.Pairs.{Contains-cases, AllPairs-first, AllPairs-rest}
 use Rattle.rt_cover.proofs.PlaceLaws.{differs}
-use Rattle.rt_cover.proofs.StartLaws.{list_any_with}
 use Rattle.rt_cover.specs.inside.Picked.{picked}
 
 -- ---- numbers that rise
@@ -70,24 +66,3 @@ picked_same key xs [] up there = refl
 picked_same {X = X} key xs (b ∷ bs) up there =
     ap (λ o. option_map_or (λ (x : X). x ∷ picked key xs (map key bs)) o (picked key xs (map key bs))) (find_one key xs b up (there 0 b (omega arith)))
     ∙ ap (λ z. b ∷ z) (picked_same key xs bs up (λ k d lt. there (suc k) d (omega (arith, lt))))
-
--- one number on
-pub picked_more : {X : Type 0} (key : X → ℕ) (xs done new all : List X) (ns : List ℕ) (i n : ℕ) → i < length ns → n ≡ get_or ns i n
-    → new ≡ option_map_or (λ (x : X). done ++ x ∷ []) (find (λ (x : X). key x == n) xs) done
-    → done ++ picked key xs (drop i ns) ≡ all → new ++ picked key xs (drop (i + 1) ns) ≡ all
-picked_more {X = X} key xs done new all ns i n lt is e inv = by (find (λ (x : X). key x == n) xs) e ∙ ap (λ z. done ++ z) here ∙ inv
-  where
-    rest : List X
-    rest = picked key xs (drop (i + 1) ns)
-
-    here : picked key xs (n ∷ drop (i + 1) ns) ≡ picked key xs (drop i ns)
-    here = ap (picked key xs) (ap (λ y. y ∷ drop (i + 1) ns) is ∙ sym (drop_more ns i n lt))
-
-    by : (o : Option X) → new ≡ option_map_or (λ (x : X). done ++ x ∷ []) o done → new ++ rest ≡ done ++ option_map_or (λ (x : X). x ∷ rest) o rest
-    by (Some x) f = ap (λ z. z ++ rest) f ∙ append_assoc done (x ∷ []) rest
-    by None f = ap (λ z. z ++ rest) f
-
--- the number at hand, and those behind it
-pub picked_on : {X : Type 0} (key : X → ℕ) (xs : List X) (ns : List ℕ) (i n : ℕ) → i < length ns → n ≡ get_or ns i n
-    → picked key xs (drop i ns) ≡ option_map_or (λ (x : X). x ∷ picked key xs (drop (i + 1) ns)) (find (λ (x : X). key x == n) xs) (picked key xs (drop (i + 1) ns))
-picked_on key xs ns i n lt is = ap (picked key xs) (drop_more ns i n lt ∙ ap (λ y. y ∷ drop (i + 1) ns) (sym is))

@@ -10,7 +10,7 @@ use Rattle.std.specs.Ordering.{is_lt, is_le, is_eq, ordering_index, ordering_the
 use Rattle.std.specs.declared.cmp.Ordering.{Ordering}
 use Rattle.std.specs.declared.cmp.Ordering.TheVariants.{Less, Equal, Greater}
 use Rattle.std.proofs.lemmas.List.{get_or-take, get_or-drop, length-take-le, length-drop, take-append-drop}
-use Rattle.std.proofs.lemmas.List.Elements.{filter-append, All-append, All-cons, All-take, All-drop, All-tail}
+use Rattle.std.proofs.lemmas.List.Elements.{filter-append, All-append, All-cons, All-take, All-drop}
 use Rattle.std.proofs.lemmas.List.Kept.{AllPairs-cons, AllPairs-filter}
 use Rattle.std.proofs.lemmas.List.Sorted.{searchable_from_sorted, IsPartitionedBy-ltb, IsNonDecreasingBy-drop, ranks_by, sorted_far}
 use Rattle.std.proofs.Math.Seq.{take-length}
@@ -130,9 +130,6 @@ less : (o : Ordering) → is_lt o ≡ true → o ≡ Less
 less Less e = refl
 less Equal e = absurd (true≢false (sym e))
 less Greater e = absurd (true≢false (sym e))
-
-not_back : (s r : Path) → is_lt (path_cmp s r) ≡ true → is_lt (path_cmp r s) ≡ false
-not_back s r e = ap is_lt (paths_total.antisymm r s ∙ ap ordering_reverse (less (path_cmp s r) e))
 
 -- what is at or above a path is not behind it
 above_first : (r p : Path) → is_at_or_above r p ≡ true → is_lt (path_cmp p r) ≡ false

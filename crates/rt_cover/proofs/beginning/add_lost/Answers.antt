@@ -1,11 +1,10 @@
-use Rattle.std.proofs.Common.{◌≡◌, ◌||◌, ◌&&◌, ◌++◌, Bool, ℕ, not, map, sym, ap, ◌∙◌}
+use Rattle.std.proofs.Common.{◌≡◌, ◌&&◌, ◌++◌, Bool, not, map, sym, ap, ◌∙◌}
 use Rattle.std.specs.List.{filter, list_any}
 use Rattle.std.proofs.lemmas.Result.{on_ok_weaker}
 use Rattle.rt_tree.specs.Assignments.{is_at_or_above}
-use Rattle.rt_tree.specs.PathTree.{Path}
 use Rattle.rt_query.specs.Queries.{is_filtered}
 use Rattle.rt_cover.specs.Cover.{Registered, Tagged}
-use Rattle.rt_cover.specs.inside.Endings.{is_replaced, begins_under}
+use Rattle.rt_cover.specs.inside.Endings.{is_replaced}
 use Rattle.rt_cover.proofs.ChangeLaws.{under_adds}
 use Rattle.rt_cover.proofs.beginning.add_lost.Goals as goal
 

@@ -1,4 +1,4 @@
-use Rattle.std.proofs.Common.{◌≡◌, ◌&&◌, Bool, not, ap, ◌∙◌}
+use Rattle.std.proofs.Common.{◌≡◌, Bool, not, ap, ◌∙◌}
 use Rattle.std.specs.List.{filter}
 use Rattle.rt_tree.specs.PathTree.{path_eq}
 use Rattle.rt_query.specs.Queries.{Query}

@@ -1,5 +1,5 @@
 use Rattle.std.proofs.Common.{◌≡◌, ◌<◌, ◌++◌, ◌∷◌, [], not, nat_lt, ◌&&◌, sym, ap, subst, ◌∙◌}
-use Rattle.std.specs.List.{list_any, AllPairs}
+use Rattle.std.specs.List.{AllPairs}
 use Rattle.rt_query.specs.QueryEq.{query_eq}
 use Rattle.rt_cover.specs.Cover.{Registered}
 use Rattle.rt_cover.specs.inside.Index.{SameCounts}

@@ -1,4 +1,4 @@
-use Rattle.std.proofs.Common.{◌≡◌, ℕ, ◌<◌, ◌≤◌, ◌+◌, ◌&&◌, ◌||◌, ◌==◌, not, true, false, length, take, subst, ◌∙◌, arith, IfSome, IfNone}
+use Rattle.std.proofs.Common.{◌≡◌, ℕ, ◌<◌, ◌+◌, ◌&&◌, ◌||◌, ◌==◌, true, false, length, take, subst, ◌∙◌, arith, IfSome, IfNone}
 use Rattle.std.specs.List.{list_any}
 use Rattle.rt_tree.specs.PathTree.{path_eq}
 use Rattle.rt_cover.specs.Cover.{Tagged}

@@ -1,8 +1,4 @@
-use Rattle.std.proofs.Common.{◌≡◌, ap, ◌∙◌}
-use Rattle.std.specs.List.{filter, find}
-use Rattle.std.specs.Option.{option_map}
 use Rattle.rt_tree.specs.PathTree.{path_eq}
-use Rattle.rt_cover.specs.Cover.{Tagged}
 use Rattle.rt_cover.proofs.ListenLaws.{is_plain, found_at, none_at}
 use Rattle.rt_cover.proofs.listens.plain_at.Goals as goal
 

@@ -1,5 +1,5 @@
 use Rattle.std.proofs.Common.{◌≡◌, ◌==◌, rules, not, length, sym}
-use Rattle.std.specs.List.{filter, list_any}
+use Rattle.std.specs.List.{list_any}
 use Rattle.std.proofs.lemmas.Fn.{filter_same}
 use Rattle.rt_cover.specs.Cover.{Tagged}
 use Rattle.rt_cover.proofs.ListenLaws.{none_lost}

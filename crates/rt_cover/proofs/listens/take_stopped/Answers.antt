@@ -1,5 +1,4 @@
-use Rattle.std.proofs.Common.{◌≡◌, ◌<◌, rules, not, map, length, sym, ap, ◌∙◌, arith}
-use Rattle.std.specs.List.{filter}
+use Rattle.std.proofs.Common.{◌≡◌, rules, not, length, sym, ap, ◌∙◌}
 use Rattle.std.proofs.lemmas.Fn.{filter_same}
 use Rattle.rt_query.specs.Supply.{does_supply}
 use Rattle.rt_cover.specs.Cover.{Tagged}

@@ -1,6 +1,5 @@
-use Rattle.std.proofs.Common.{◌≡◌, ◌<◌, ℕ, Bool, true, eqb, nat_cmp, List, rules, sym, ap, subst, ◌∙◌}
-use Rattle.std.specs.List.{dedup, list_any, AllPairs, Contains}
-use Rattle.std.specs.List.Sorted.{IsPermutation, IsSorted}
+use Rattle.std.proofs.Common.{◌≡◌, ◌<◌, ℕ, Bool, eqb, List, sym, ap, subst, ◌∙◌}
+use Rattle.std.specs.List.{dedup, list_any, AllPairs}
 use Rattle.std.proofs.lemmas.List.Filters.{dedup_is}
 use Rattle.std.proofs.lemmas.List.Folds.{Any-from_list_any}
 use Rattle.std.proofs.lemmas.List.Kept.{AllPairs-from_increasing, Contains-dedup_nat, Contains-from_dedup}

@@ -1,4 +1,4 @@
-use Rattle.std.proofs.Common.{◌≡◌, ◌<◌, sym, subst, ◌∙◌}
+use Rattle.std.proofs.Common.{◌<◌, sym, subst}
 use Rattle.std.specs.List.{AllPairs}
 use Rattle.rt_cover.specs.Cover.{Registered}
 use Rattle.rt_cover.specs.State.{Cover}

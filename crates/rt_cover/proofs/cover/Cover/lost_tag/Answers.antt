@@ -1,4 +1,4 @@
-use Rattle.std.proofs.Common.{◌≡◌, ◌<◌, ◌&&◌, ◌==◌, Bool, true, false, ℕ, Option, Some, None, IfSome, IfNone, sym, ap, subst, ◌∙◌}
+use Rattle.std.proofs.Common.{◌≡◌, ◌<◌, ◌&&◌, ◌==◌, Bool, true, false, ℕ, Some, None, IfSome, IfNone, sym, ap, subst, ◌∙◌}
 use Rattle.std.specs.List.{find, list_any, AllPairs}
 use Rattle.std.specs.Option.{option_copied}
 use Rattle.rt_query.specs.Queries.{Query}

@@ -1,4 +1,4 @@
-use Rattle.std.proofs.Common.{◌≡◌, ◌==◌, Bool, List, ℕ, sym, subst, ◌∙◌}
+use Rattle.std.proofs.Common.{◌==◌, List, ℕ, subst, ◌∙◌}
 use Rattle.std.specs.List.{list_any}
 use Rattle.rt_cover.specs.Cover.{Registered}
 use Rattle.rt_cover.specs.State.{Cover}

@@ -1,7 +1,7 @@
 use Rattle.std.proofs.Common.{◌≡◌, ◌<◌, ◌++◌, ◌∷◌, [], List, false, sym, ap, subst, ◌∙◌}
 use Rattle.std.specs.List.{insert, count_by, AllPairs}
 use Rattle.rt_cover.specs.Cover.{Registered}
-use Rattle.rt_cover.specs.State.{is_registered, with_listener}
+use Rattle.rt_cover.specs.State.{is_registered}
 use Rattle.rt_cover.specs.inside.Places.{place}
 use Rattle.rt_cover.proofs.CountLaws.{same_insert}
 use Rattle.rt_cover.proofs.PlaceLaws.{insert_place}

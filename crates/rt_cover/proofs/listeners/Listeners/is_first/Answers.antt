@@ -1,4 +1,4 @@
-use Rattle.std.proofs.Common.{◌≡◌, ◌&&◌, not, nat_lt, ap, ◌∙◌}
+use Rattle.std.proofs.Common.{◌&&◌, not, nat_lt, ap, ◌∙◌}
 use Rattle.std.specs.List.{list_any}
 use Rattle.rt_query.specs.QueryEq.{query_eq}
 use Rattle.rt_cover.specs.Cover.{Registered}

@@ -1,4 +1,4 @@
-use Rattle.std.proofs.Common.{◌≡◌, ◌&&◌, Bool, not, ap, ◌∙◌}
+use Rattle.std.proofs.Common.{◌&&◌, Bool, not, ap, ◌∙◌}
 use Rattle.rt_query.specs.Queries.{Query}
 use Rattle.rt_query.specs.QueryEq.{query_eq}
 use Rattle.rt_cover.specs.Cover.{Registered}

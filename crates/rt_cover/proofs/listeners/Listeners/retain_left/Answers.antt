@@ -1,4 +1,4 @@
-use Rattle.std.proofs.Common.{◌≡◌, Bool, List, not, sym, ap, subst, ◌∙◌}
+use Rattle.std.proofs.Common.{Bool, List, not, sym, ap, subst, ◌∙◌}
 use Rattle.std.specs.List.{count_by}
 use Rattle.std.specs.List.Sorted.{IsSorted}
 use Rattle.rt_cover.specs.Cover.{Registered}

@@ -1,4 +1,4 @@
-use Rattle.std.proofs.Common.{rules, ◌≡◌, ◌<◌, ◌++◌, ◌∷◌, [], List, false, not, map, sym, ap, subst, ◌∙◌}
+use Rattle.std.proofs.Common.{◌≡◌, ◌<◌, ◌++◌, ◌∷◌, [], List, not, map, sym, ap, subst, ◌∙◌}
 use Rattle.std.specs.List.{filter, list_any, AllPairs}
 use Rattle.std.specs.List.Sorted.{IsSorted}
 use Rattle.rt_query.specs.Queries.{Query}
