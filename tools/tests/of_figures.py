@@ -50,6 +50,9 @@ class Figures(unittest.TestCase):
         rows = gate_table.rows_of(said, below)
         self.assertEqual(rows["./kaltewi build"], ["27", "less than 36 minutes", "over 13 minutes"])
         self.assertEqual(rows["./check"], ["82", "46 minutes", "over 41 minutes"])
+        on_two = gate_table.rows_of(said, below, SAID.replace("35.4 by", "55.9 by").replace("45.5 by", "74.6 by"))
+        self.assertEqual([it[2] for it in on_two.values()], ["less than 56 minutes", "75 minutes"])
+        self.assertEqual([it[:2] for it in on_two.values()], [it[:2] for it in rows.values()])
         page = "| `./kaltewi build`, once | 49 | x | y |\n| `./check` | 1 | 2 | 3 |\n"
         due = "| `./kaltewi build`, once | 27 | less than 36 minutes | over 13 minutes |\n| `./check` | 82 | 46 minutes | over 41 minutes |\n"
         self.assertEqual(gate_table.with_rows(page, rows), due)
