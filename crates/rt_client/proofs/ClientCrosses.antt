@@ -22,7 +22,7 @@ use Rattle.rt_client.specs.contracts.lanes.Lanes as lanes
 use Rattle.rt_client.specs.contracts.held.Held as held
 use Rattle.rt_client.specs.contracts.shared.Shared as shared
 use Rattle.rt_client.specs.contracts.client.Client as client
-use Rattle.rt_client.proofs.Crosses.{all_cross, calls_cross, item_send, key_send, trees_cross}
+use Rattle.rt_client.proofs.Crosses.{all_cross, calls_cross, item_send, trees_cross}
 
 pub mirror_send : IsSend mirror.the_row
 mirror_send = search trees_cross depth 40 fits 20000
@@ -62,7 +62,7 @@ request_send = search calls_cross depth 40 fits 20000
 
 -- the tree beside the pending writes holds itself
 spot_send : IsSend spot.the_row
-spot_send = search (key_send, spots_cross, all_cross) depth 40 fits 20000
+spot_send = search (spots_cross, trees_cross) depth 40 fits 20000
 
 writes_send : IsSend writes.the_row
 writes_send = search (spot_send, calls_cross) depth 40 fits 20000
