@@ -7,10 +7,10 @@ use Rattle.rt_mail.specs.contracts.lane.Lane as lane
 use Rattle.rt_cache.specs.contracts.brought.Brought as brought
 use Rattle.rt_cover.specs.contracts.cover.Cover as cover
 use Rattle.rt_view.specs.contracts.view.View as view
-use Rattle.rt_listeners.specs.contracts.held.Held as listening
-use Rattle.rt_listeners.specs.contracts.listeners.Listeners as listeners
+use Rattle.rt_parts.specs.contracts.held.Held as listening
+use Rattle.rt_parts.specs.contracts.listeners.Listeners as listeners
 use Rattle.rt_world.specs.contracts.request.Request as request
-use Rattle.rt_requests.specs.contracts.requests.Requests as requests
+use Rattle.rt_parts.specs.contracts.requests.Requests as requests
 use Rattle.rt_writes.specs.contracts.spots.Spot as spot
 use Rattle.rt_writes.specs.contracts.pending.Pending as writes
 use Rattle.rt_writes.proofs.spots.Spot.TheLaws.TheKnot.{crosses as spots_cross}

@@ -91,7 +91,7 @@ fn queue_each(lanes: &mut Vec<Option<Lane>>, notes: Vec<Note>) -> Result<(), Mai
 }
 
 // The lane hands over what the ring has room for, if it is open.
-fn settle_in(lane: &mut Option<Lane>, inbox: &mut Inbox) -> Result<(), MailError>
+fn flush_lane(lane: &mut Option<Lane>, inbox: &mut Inbox) -> Result<(), MailError>
     ensures lane { OnOk result (lane.new ≡ option_map (settled inbox.old) lane.old) }
     ensures ring { OnOk result (inbox.new ≡ option_map_or (settled_ring inbox.old) lane.old inbox.old) }
     ensures refused { IfErr result (λ e. (l m : Line) × (lane.old ≡ Some l) × (lane.new ≡ Some m)
@@ -104,7 +104,7 @@ fn settle_in(lane: &mut Option<Lane>, inbox: &mut Inbox) -> Result<(), MailError
 }
 
 // The seat's lane hands over what its ring has room for, if it is open.
-fn settle_at(lanes: &mut Vec<Option<Lane>>, seat: u64, inbox: &mut Inbox) -> Result<(), MailError>
+fn flush_at(lanes: &mut Vec<Option<Lane>>, seat: u64, inbox: &mut Inbox) -> Result<(), MailError>
     ensures lane { OnOk result (IsChanged seat (option_map (settled inbox.old) (lane_of lanes.old.items seat))
         lanes.old.items lanes.new.items) }
     ensures ring { OnOk result (inbox.new
@@ -115,7 +115,7 @@ fn settle_at(lanes: &mut Vec<Option<Lane>>, seat: u64, inbox: &mut Inbox) -> Res
     if seat == 0 || (seat - 1) as usize >= lanes.len() {
         return Ok(());
     }
-    settle_in(&mut lanes[(seat - 1) as usize], inbox)
+    flush_lane(&mut lanes[(seat - 1) as usize], inbox)
 }
 
 // The lane hands over all that waits and then a receipt, if it is open.
@@ -241,7 +241,7 @@ impl Lanes {
             ≡ option_map_or (settled_ring inbox.old) (lane_of self.old seat) inbox.old) }
         ensures refused { IfErr result (λ e. RefusesToHand seat self.old inbox.old e self.new inbox.new) }
     {
-        settle_at(&mut self.lanes, seat, inbox)
+        flush_at(&mut self.lanes, seat, inbox)
     }
 
     // The seat's lane hands over all that waits and then a receipt; without a lane nothing changes.

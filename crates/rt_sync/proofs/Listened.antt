@@ -12,7 +12,7 @@ use Rattle.rt_cover.specs.declared.delta.Delta.{Delta}
 use Rattle.rt_cover.specs.Cover.{Tagged, forms}
 use Rattle.rt_cover.specs.State.{Cover, added, difference, listen_at, removed, revoked, without_tag}
 use Rattle.rt_wire.specs.declared.client.ClientMessage.{ClientMessage}
-use Rattle.rt_listeners.specs.Listeners.{cancelled_note, new_listener}
+use Rattle.rt_parts.specs.Listeners.{cancelled_note, new_listener}
 use Rattle.rt_world.specs.declared.limits.Limits.{Limits}
 use Rattle.rt_world.specs.declared.request.Request.{Request}
 use Rattle.rt_world.specs.declared.step.Step.{Step}

@@ -2,7 +2,7 @@
 use Rattle.std.proofs.Common.{◌≡◌, ℕ, ◌+◌, Bool, true, false, cond, not, ◌||◌, List, [], ◌∷◌, ◌++◌, map, refl, sym, ap, subst, ◌∙◌, Option, Some, None}
 use mathlib.Core.Bool.{true≢false}
 use Rattle.std.specs.Prelude.{◌==◌, is_some}
-use Rattle.rt_requests.specs.declared.settled.Settled.{Settled as Left}
+use Rattle.rt_parts.specs.declared.settled.Settled.{Settled as Left}
 use Rattle.std.specs.List.{filter, find, fold, list_all, list_any}
 use Rattle.std.specs.Option.{option_and_then, option_map, option_map_or, option_to_list}
 use Rattle.rt_query.specs.Queries.{Query}
@@ -24,7 +24,7 @@ use Rattle.rt_world.specs.declared.report.Note.{Note}
 use Rattle.rt_world.specs.World.{Reason, World, Listener, registered, pending, entries_of, listen_of}
 use Rattle.rt_world.specs.After.{renewed}
 use Rattle.rt_world.specs.Messages.{listens, request_message}
-use Rattle.rt_requests.specs.Settling.{settled}
+use Rattle.rt_parts.specs.Settling.{settled}
 use Rattle.rt_world.specs.Refusals.{is_stale}
 use Rattle.rt_world.specs.Answers.{settled_note, done_report}
 use Rattle.rt_world.specs.Touched.{entries_settled}

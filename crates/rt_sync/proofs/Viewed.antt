@@ -15,8 +15,8 @@ use Rattle.rt_writes.specs.Writes.{Write}
 use Rattle.rt_cache.specs.Brought.{Brought}
 use Rattle.rt_view.specs.Views.{View, shown_of, first_view, stays_object, touched, with_named}
 use Rattle.rt_view.specs.Views.{renewed as taken}
-use Rattle.rt_listeners.specs.Listeners.{first_view_of, new_listener, views_left, views_where}
-use Rattle.rt_listeners.specs.Refreshed.{FollowNamed, is_touched, named_children, view_after, view_met}
+use Rattle.rt_parts.specs.Listeners.{first_view_of, new_listener, views_left, views_where}
+use Rattle.rt_parts.specs.Refreshed.{FollowNamed, is_touched, named_children, view_after, view_met}
 use Rattle.rt_world.specs.declared.step.Step.{Step}
 use Rattle.rt_world.specs.declared.request.Request.{Request}
 use Rattle.rt_world.specs.World.{Reason, World, Listener, entries_of, pending}

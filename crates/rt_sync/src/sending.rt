@@ -4,6 +4,7 @@ ghost use Rattle.rt_world.specs.Messages.{request_message};
 ghost use Rattle.rt_sync.specs.inside.Parts.{asking, changing, listens_shown, unlistens_of};
 
 use rt_cover::{Delta, Kept};
+use rt_parts::Requests;
 use rt_wire::Asked;
 use rt_world::{ClientMessage, Request};
 use std::alloc::{AllocError, Global};
@@ -69,8 +70,8 @@ pub(crate) fn send_asked(
     Ok(())
 }
 
-// Asks for all these requests.
-pub(crate) fn send_requests(
+// Asks for these requests.
+fn send_part(
     alloc: Global,
     outgoing: &mut VecDeque<ClientMessage>,
     requests: &[Request],
@@ -82,4 +83,18 @@ pub(crate) fn send_requests(
         send_asked(alloc, outgoing, true, request.id, &request.asked)?;
     }
     Ok(())
+}
+
+// Asks for all unsettled requests.
+pub(crate) fn send_requests(
+    alloc: Global,
+    outgoing: &mut VecDeque<ClientMessage>,
+    requests: &Requests,
+) -> Result<(), AllocError>
+    ensures { OnOk result
+        (outgoing.new.items ≡ outgoing.old.items ++ map request_message requests.now) }
+{
+    let (front, back) = requests.as_slices();
+    send_part(alloc, outgoing, front)?;
+    send_part(alloc, outgoing, back)
 }

@@ -5,7 +5,7 @@ ghost use Rattle.rt_sync.specs.Core.{HasView, first_message, view_in, without_fi
 
 use crate::state::State;
 use rt_cover::KeptList;
-use rt_listeners::ShownError;
+use rt_parts::ShownError;
 use rt_query::Shown;
 use rt_world::{ClientMessage, CoreError};
 

@@ -3,8 +3,7 @@ ghost use Rattle.std.specs.Prelude.{◌≡◌};
 
 use rt_cache::Brought;
 use rt_cover::Cover;
-use rt_listeners::Listeners;
-use rt_requests::Requests;
+use rt_parts::{Listeners, Requests};
 use rt_world::{ClientMessage, Limits};
 use std::alloc::Global;
 use std::collections::VecDeque;

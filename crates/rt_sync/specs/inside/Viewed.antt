@@ -12,8 +12,8 @@ use Rattle.rt_world.specs.After.{renewed}
 use Rattle.rt_world.specs.Met.{renewed_met}
 use Rattle.rt_world.specs.Touched.{entries_settled}
 use Rattle.rt_world.specs.laws.Touch.{HasSeen}
-use Rattle.rt_listeners.specs.Listeners.{first_view_of, new_listener, views_left}
-use Rattle.rt_listeners.specs.Refreshed.{view_met}
+use Rattle.rt_parts.specs.Listeners.{first_view_of, new_listener, views_left}
+use Rattle.rt_parts.specs.Refreshed.{view_met}
 use Rattle.rt_sync.specs.Core.{Held}
 use Rattle.rt_sync.specs.Reads.{ReadsNamed}
 use Rattle.rt_sync.specs.inside.Due.{IsGood}

@@ -7,7 +7,7 @@ use crate::state::State;
 use crate::steps::listening::{lose, uncover};
 use crate::told::Told;
 use rt_cover::Choice;
-use rt_listeners::Listeners;
+use rt_parts::Listeners;
 use rt_world::{CoreError, covered_law, following_law, listened_law, tag_law};
 use std::alloc::AllocError;
 

@@ -67,7 +67,7 @@ impl State {
         let mut state = self;
         let mut outgoing = VecDeque::new(alloc);
         send_listens(&mut outgoing, kept_listens(&state.cover)?)?;
-        send_requests(alloc, &mut outgoing, state.requests.as_slice())?;
+        send_requests(alloc, &mut outgoing, &state.requests)?;
         state.outgoing = outgoing;
         state.is_connected = true;
         let notes = Vec::new(alloc);

@@ -6,7 +6,7 @@ ghost use Rattle.rt_world.specs.Touched.{entries_settled};
 
 use crate::state::State;
 use crate::told::Told;
-use rt_requests::Settled;
+use rt_parts::Settled;
 use rt_world::{
     Body, CoreError, Note, Reason, brought_law, pending_law, settled_law, stay_law, touch_law,
 };

@@ -5,7 +5,7 @@ use Rattle.rt_world.specs.declared.step.Step.{Step}
 use Rattle.rt_world.specs.World.{World, Listener}
 use Rattle.rt_world.specs.Covering.{cover_in}
 use Rattle.rt_world.specs.steps.Closing.{numbers_of}
-use Rattle.rt_listeners.specs.Listeners.{views_left}
+use Rattle.rt_parts.specs.Listeners.{views_left}
 use Rattle.rt_sync.specs.Core.{Held}
 use Rattle.rt_sync.specs.declared.told.Told.{Told}
 use Rattle.rt_sync.specs.inside.Due.{IsDue, IsNext}

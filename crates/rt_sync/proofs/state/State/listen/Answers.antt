@@ -1,7 +1,7 @@
 use Rattle.std.proofs.Common.{◌≡◌, ◌+◌, ◌++◌, ◌∷◌, [], ap, sym, subst, ◌∙◌, refl, Some, rules}
 use Rattle.std.specs.Option.{option_to_list}
 use Rattle.rt_cover.specs.State.{added, difference}
-use Rattle.rt_listeners.specs.Listeners.{new_listener, first_view_of}
+use Rattle.rt_parts.specs.Listeners.{new_listener, first_view_of}
 use Rattle.rt_world.specs.declared.step.Step.{Step}
 use Rattle.rt_world.specs.World.{World, pending}
 use Rattle.rt_world.specs.After.{renewed}

@@ -3,7 +3,7 @@ use Rattle.std.specs.List.{filter}
 use Rattle.rt_query.specs.QueryEq.{query_eq}
 use Rattle.rt_query.specs.Supply.{form}
 use Rattle.rt_cover.specs.State.{Cover, revoke_fault, listen_at}
-use Rattle.rt_listeners.specs.Listeners.{cancelled_note, views_left}
+use Rattle.rt_parts.specs.Listeners.{cancelled_note, views_left}
 use Rattle.rt_world.specs.declared.step.Step.{Step}
 use Rattle.rt_world.specs.World.{Listener, World}
 use Rattle.rt_world.specs.Covering.{cover_in}

@@ -2,8 +2,8 @@ use Rattle.std.proofs.Common.{◌≡◌, ◌++◌, [], map, ap, ◌∙◌, refl,
 use Rattle.std.specs.Option.{option_and_then, option_map, option_map_or, option_to_list}
 use Rattle.std.specs.Prelude.{◌==◌}
 use Rattle.std.specs.List.{find, zip}
-use Rattle.rt_requests.specs.Settling.{entries_set}
-use Rattle.rt_requests.specs.declared.settled.Settled.{Settled as Left}
+use Rattle.rt_parts.specs.Settling.{entries_set}
+use Rattle.rt_parts.specs.declared.settled.Settled.{Settled as Left}
 use Rattle.rt_world.specs.declared.report.Body.TheVariants.{Settled}
 use Rattle.rt_world.specs.declared.request.Request.{Request}
 use Rattle.rt_world.specs.World.{pending}
@@ -11,7 +11,7 @@ use Rattle.rt_world.specs.Met.{all_told, renewed_met}
 use Rattle.rt_sync.specs.Core.{Held}
 use Rattle.rt_sync.specs.inside.Due.{settling, IsDue}
 use Rattle.rt_sync.proofs.NextWorlds.{along, seat_left, settle_made, settled_entries, tied_after, w}
-use Rattle.rt_listeners.specs.Refreshed.{view_met}
+use Rattle.rt_parts.specs.Refreshed.{view_met}
 use Rattle.rt_world.specs.Touched.{entries_settled}
 use Rattle.rt_sync.specs.inside.Viewed.{AreViewed}
 use Rattle.rt_sync.specs.inside.StateView.{world_of}

@@ -12,7 +12,7 @@ use Rattle.rt_sync.specs.Core.{Held}
 use Rattle.rt_sync.specs.inside.Due.{IsDue}
 use Rattle.rt_sync.specs.inside.StateView.{world_of}
 use Rattle.rt_sync.proofs.NextWorlds.{along, merge_made, tied_after}
-use Rattle.rt_listeners.specs.Refreshed.{view_met}
+use Rattle.rt_parts.specs.Refreshed.{view_met}
 use Rattle.rt_sync.specs.inside.Viewed.{AreViewed}
 use Rattle.rt_sync.proofs.Viewed.{TouchLaws, follows_at}
 use Rattle.rt_sync.proofs.state.State.take_merge.Goals as goal

@@ -2,7 +2,7 @@ use Rattle.std.proofs.Common.{Bool, None, ◌∙◌, sym, subst, refl, not, ap}
 use Rattle.std.specs.List.{filter}
 use Rattle.rt_world.specs.declared.step.Step.{Step}
 use Rattle.rt_world.specs.World.{World, Listener}
-use Rattle.rt_listeners.specs.Listeners.{views_left}
+use Rattle.rt_parts.specs.Listeners.{views_left}
 use Rattle.rt_sync.specs.Core.{Held}
 use Rattle.rt_sync.specs.declared.told.Told.{Told}
 use Rattle.rt_sync.specs.inside.Due.{IsDue, IsNext}

@@ -8,7 +8,7 @@ use Rattle.rt_sync.specs.inside.Due.{IsDue}
 use Rattle.rt_sync.specs.inside.Parts.{asking}
 use Rattle.rt_sync.proofs.NextWorlds.{along, tied_after, write_made}
 use Rattle.std.specs.List.{zip}
-use Rattle.rt_listeners.specs.Refreshed.{view_met}
+use Rattle.rt_parts.specs.Refreshed.{view_met}
 use Rattle.rt_sync.specs.inside.Viewed.{AreViewed}
 use Rattle.rt_sync.specs.inside.StateView.{world_of}
 use Rattle.rt_sync.proofs.Viewed.{TouchLaws, follows_at}

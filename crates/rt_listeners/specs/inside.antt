@@ -1,2 +1,0 @@
-pub mod HeldView
-pub mod Unknown

@@ -1,0 +1,17 @@
+use Rattle.std.proofs.Common.{◌≡◌, ◌++◌, true, false, not, OnOk, sym, ap, subst, ◌∙◌, rules}
+use Rattle.std.specs.Option.{option_map_or, option_to_list}
+use Rattle.rt_view.specs.Views.{View, stays_object}
+use Rattle.rt_world.specs.Answers.{batch_note}
+use Rattle.rt_world.specs.Met.{told}
+use Rattle.rt_parts.specs.inside.HeldView.{listener_of}
+use Rattle.rt_parts.proofs.ViewLaws.{touched_told}
+use Rattle.rt_parts.proofs.views.touch_or_renew.Goals as goal
+
+pub returns-clause-notes : goal.returns-clause-notes
+returns-clause-notes c =
+    let same : c.deref.result.now ≡ c.in_ok-named.named.items = search rules in
+    let stays : option_map_or (λ (v : View). stays_object v.tree c.in_ok-named.named.items) c.args.listener.now.view false ≡ true =
+    ap (λ n. option_map_or (λ (v : View). stays_object v.tree n) c.args.listener.now.view false) (sym same) ∙ sym c.stays_object.ensures ∙ search rules in
+    let note = touched_told c.args.brought.now c.args.pending.now c.args.entries.now c.args.listener.now c.in_ok-named.named.items c.in_ok-named.ensures.children c.requires.low stays c.requires.held c.requires.follow
+    c.touch.new.listener c.in_ok-changes.ensures.listener c.in_ok-changes.changes c.in_ok-changes.ensures.changes in
+    subst (λ o. OnOk c.tell.result (c.tell.new.notes.items ≡ c.args.notes.now.items ++ option_to_list o)) note c.tell.ensures

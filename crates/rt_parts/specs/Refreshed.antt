@@ -1,0 +1,54 @@
+-- What becomes of the view of a listener whose path an entry meets.
+use Rattle.std.specs.Prelude.{◌≡◌, Bool, true, not, ◌&&◌, if◌then◌else◌, List, Option, Some, None}
+use Rattle.std.specs.List.{All, zip}
+use Rattle.rt_tree.specs.PathTree.{Key, PathTree}
+use Rattle.rt_tree.specs.Assignments.{Assignment}
+use Rattle.rt_query.specs.Queries.{Query}
+use Rattle.rt_writes.specs.Writes.{Write}
+use Rattle.rt_cache.specs.Brought.{Brought, base}
+use Rattle.rt_view.specs.Views.{View, renewed, stays_object, touched, with_named}
+use Rattle.rt_world.specs.Met.{do_meet}
+use Rattle.rt_world.specs.Touched.{children_at, children_named, is_covered}
+use Rattle.rt_world.specs.Views.{seen_over}
+use Rattle.rt_world.specs.World.{Listener}
+use Rattle.rt_parts.specs.Listeners.{Listeners, first_view_of}
+
+-- the children of the query's path that the entries name, as they are seen
+abbrev pub named_children : List Assignment → Brought → List Write → Query → List (Key × PathTree)
+named_children entries b writes q =
+    children_at (seen_over (base b q) writes q) (children_named q.path entries)
+
+-- whether a view is touched with the named children: no entry sits at or above the path, no leaf is
+-- there, and a child is left
+abbrev pub is_touched : List Assignment → Brought → List Write → Query → View → Bool
+is_touched entries b writes q v =
+    not (is_covered q.path entries) && stays_object v.tree (named_children entries b writes q)
+
+-- the view once an entry meets the path: touched, or taken from scratch
+abbrev pub view_with : List Assignment → Brought → List Write → Query → View → View
+view_with entries b writes q v =
+    if is_touched entries b writes q v
+    then touched v (named_children entries b writes q)
+    else renewed v (seen_over (base b q) writes q)
+
+-- a listener with no view gets its first, where something is known for it
+abbrev pub view_after : List Assignment → Brought → List Write → Query → Option View → Option View
+view_after entries b writes q None = first_view_of b writes q
+view_after entries b writes q (Some v) = Some (view_with entries b writes q v)
+
+-- so it is where an entry meets the path; else the view stays
+abbrev pub view_met : List Assignment → Brought → List Write → Listener × Option View → Option View
+view_met entries b writes p =
+    if do_meet entries p.0.query.path then view_after entries b writes p.0.query p.1 else p.1
+
+-- where the view is touched, its tree with the named children put into it is what is seen
+abbrev pub FollowsNamed : List Assignment → Brought → List Write → Listener × Option View → Type 0
+FollowsNamed entries b writes p =
+    (v : View) → p.1 ≡ Some v → is_touched entries b writes p.0.query v ≡ true
+    → with_named v.tree (named_children entries b writes p.0.query)
+    ≡ seen_over (base b p.0.query) writes p.0.query
+
+-- so it is of each listener
+abbrev pub FollowNamed : List Assignment → Brought → List Write → Listeners → Type 0
+FollowNamed entries b writes all =
+    All (FollowsNamed entries b writes) (zip all.listeners all.views)

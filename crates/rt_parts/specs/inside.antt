@@ -1,0 +1,4 @@
+pub mod HeldView
+pub mod Rising
+pub mod Unknown
+pub mod Writes

@@ -1,0 +1,97 @@
+-- What is held of the listeners, as the world has them.
+use Rattle.std.specs.Prelude.{◌≡◌, ℕ, ◌<◌, Bool, false, if◌then◌else◌, List, map}
+use Rattle.std.specs.Prelude.{Option, Some, None, is_some, ◌==◌}
+use Rattle.std.specs.List.{All, AllPairs, filter_map}
+use Rattle.std.specs.Option.{option_map}
+use Rattle.rt_tree.specs.PathTree.{PathTree}
+use Rattle.rt_tree.specs.Assignments.{Assignment}
+use Rattle.rt_query.specs.Queries.{Query}
+use Rattle.rt_query.specs.QueryEq.{query_eq}
+use Rattle.rt_query.specs.Select.{Shown}
+use Rattle.rt_query.specs.Supply.{form}
+use Rattle.rt_writes.specs.Writes.{Write}
+use Rattle.rt_cache.specs.Brought.{Brought, base}
+use Rattle.rt_view.specs.Views.{View, first_view, renewed, shown_of}
+use Rattle.rt_world.specs.declared.report.Note.{Note}
+use Rattle.rt_world.specs.Met.{renewed_met}
+use Rattle.rt_world.specs.Views.{seen_over}
+use Rattle.rt_world.specs.World.{Listener, Reason}
+use Rattle.rt_parts.specs.declared.held.Held.{Held}
+use Rattle.rt_parts.specs.Listeners.{cancelled_note, first_view_of, Listeners}
+use Rattle.rt_parts.specs.Refreshed.{view_met}
+
+-- what a view shows
+abbrev pub shown_in : Option View → Option Shown
+shown_in view = option_map shown_of view
+
+-- the listener; primed where it has a view
+abbrev pub listener_of : Held → Listener
+listener_of l = record {
+  number = l.number;
+  seat = l.seat;
+  query = l.query;
+  is_primed = is_some l.view;
+  view = shown_in l.view;
+}
+
+-- all of them
+abbrev pub listeners_of : List Held → List Listener
+listeners_of held = map listener_of held
+
+-- the views that they hold
+abbrev pub views_of : List Held → List (Option View)
+views_of held = map (λ h. h.view) held
+
+-- the listeners with their views
+abbrev pub all_of : List Held → Listeners
+all_of held = record { listeners = listeners_of held; views = views_of held }
+
+-- a listener with its view
+abbrev pub pair_of : Held → Listener × Option View
+pair_of l = (listener_of l, l.view)
+
+-- both after entries
+abbrev pub refreshed : List Assignment → Brought → List Write
+    → Listener × Option View → Listener × Option View
+refreshed entries b writes p = (renewed_met entries b writes p.0, view_met entries b writes p)
+
+-- what a view becomes that sees that tree; the first where there is none
+abbrev pub view_over : Query → PathTree → Option View → View
+view_over q t None = first_view q t
+view_over q t (Some v) = renewed v t
+
+-- and where it is due
+abbrev pub view_anew : Brought → List Write → Query → Option View → Option View
+view_anew b writes q None = first_view_of b writes q
+view_anew b writes q (Some v) = Some (renewed v (seen_over (base b q) writes q))
+
+-- a listener's number with its view, if it passes
+abbrev pub own_view : (Listener → Bool) → Held → Option (ℕ × Option View)
+own_view test l = if test (listener_of l) then Some (l.number, l.view) else None
+
+-- the views of the listeners that pass
+abbrev pub own_views : (Listener → Bool) → List Held → List (ℕ × Option View)
+own_views test held = filter_map (own_view test) held
+
+-- the listener's number, if it is the seat's
+abbrev pub own_number : ℕ → Held → Option ℕ
+own_number seat l = if l.seat == seat then Some l.number else None
+
+-- the note of a listener that ends with its form
+abbrev pub ended_note : Query → Reason → Listener → Option Note
+ended_note listened why l =
+    if query_eq (form l.query) listened then Some (cancelled_note why l) else None
+
+-- a view is of the listener's query, and has not failed
+abbrev pub IsViewOf : Query → Option View → Type 0
+IsViewOf q None = Unit {0}
+IsViewOf q (Some v) = (v.query ≡ q) × (v.failed ≡ false)
+
+-- the view is the listener's
+pub record IsHeld (l : Held) : Type 0 where
+  pub view : IsViewOf l.query l.view
+
+-- the numbers rise, and each is held so
+pub record AreHeld (held : List Held) : Type 0 where
+  pub rising : AllPairs (λ l m. l.number < m.number) held
+  pub each : All IsHeld held

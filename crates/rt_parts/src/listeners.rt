@@ -1,0 +1,218 @@
+// The registered listeners.
+ghost use Rattle.std.specs.Prelude.{◌≡◌, ◌≢◌, ◌==◌, ◌↔◌, ◌&&◌, ◌<◌, ◌++◌, ◌∷◌, [], not, map};
+ghost use Rattle.std.specs.Prelude.{length, IsTrue, IfOk, OnOk, OnErr, None, Err};
+ghost use Rattle.std.specs.List.{All, filter, find, list_any, zip};
+ghost use Rattle.std.specs.Option.{option_to_list};
+ghost use Rattle.rt_query.specs.QueryEq.{query_eq};
+ghost use Rattle.rt_query.specs.Supply.{form};
+ghost use Rattle.rt_world.specs.Answers.{view_before};
+ghost use Rattle.rt_world.specs.Met.{all_told, renewed_met, told};
+ghost use Rattle.rt_world.specs.After.{renewed};
+ghost use Rattle.rt_parts.specs.Listeners.{cancelled_note, first_view_of, new_listener};
+ghost use Rattle.rt_parts.specs.Listeners.{no_listeners, views_left};
+ghost use Rattle.rt_parts.specs.Refreshed.{FollowNamed, view_met};
+
+use crate::adding::first;
+use crate::ending::{end_form, end_number, end_seat, tell_ends};
+use crate::error::ShownError;
+use crate::held::{Held, is_seats};
+use crate::reading::{numbers_of, shown};
+use crate::views::refresh;
+use rt_cache::Brought;
+use rt_query::{Query, Shown};
+use rt_tree::{Path, Tree};
+use rt_wire::Reason;
+use rt_world::Note;
+use rt_writes::Pending;
+use std::alloc::{AllocError, Global};
+use std::marker::Model;
+use std::mem::replace;
+
+/// The registered listeners, by number. A listener gets a view once something is known for its
+/// query, and keeps it.
+pub struct Listeners {
+    held: Vec<Held>,
+}
+
+impl Drop for Listeners {
+    fn drop(self) {
+        let Listeners { held: _ } = self;
+    }
+}
+
+impl Model for Listeners {
+    ghost use Rattle.rt_parts.specs.Listeners as what;
+
+    ghost Value = { what.Listeners };
+
+    ghost use Rattle.rt_parts.specs.inside.HeldView.{all_of, AreHeld};
+
+    ghost view = { λ a. all_of a.held.items };
+
+    ghost invariant = { λ a. AreHeld a.held.items };
+}
+
+impl Listeners {
+    /// No listener.
+    pub fn new(alloc: Global) -> Listeners
+        ensures { result ≡ no_listeners }
+    {
+        Listeners {
+            held: Vec::new(alloc),
+        }
+    }
+
+    /// How many listeners are registered.
+    pub fn len(&self) -> usize
+        ensures { result ≡ length self.now.listeners }
+    {
+        self.held.len()
+    }
+
+    /// Whether no listener is registered.
+    pub fn is_empty(&self) -> bool
+        ensures { IsTrue result ↔ (self.now ≡ no_listeners) }
+    {
+        self.held.is_empty()
+    }
+
+    /// Whether the seat has the listener of that number. Finds it by halving.
+    pub fn is_seats(&self, seat: u64, number: u64) -> bool
+        ensures { result ≡ list_any (λ l. l.number == number && l.seat == seat) self.now.listeners }
+    {
+        is_seats(&self.held, seat, number)
+    }
+
+    /// Takes anew what the entries meet, and tells the seats what changes. A view below whose path
+    /// all of them lie is touched with the children that they name, where an object stays, and costs
+    /// by these; any other view that one meets is taken from scratch, and a listener without one gets
+    /// its first, where something is known for it. Of each other listener the path alone is looked
+    /// at.
+    ///
+    /// # Errors
+    ///
+    /// Want of memory. The listeners are gone then, and some seats may be told.
+    pub fn refresh(
+        &mut self,
+        entries: &[(Path, Tree)],
+        brought: &Brought,
+        pending: &Pending,
+        notes: &mut Vec<Note>,
+    ) -> Result<(), AllocError>
+        requires follow { FollowNamed entries.now brought.now pending.now self.old }
+        ensures listeners { OnOk result (self.new.listeners
+            ≡ map (renewed_met entries.now brought.now pending.now) self.old.listeners) }
+        ensures views { OnOk result (self.new.views
+            ≡ map (view_met entries.now brought.now pending.now)
+            (zip self.old.listeners self.old.views)) }
+        ensures notes { OnOk result (notes.new.items ≡ notes.old.items
+            ++ all_told entries.now brought.now pending.now self.old.listeners) }
+        ensures gives_up { OnErr result (self.new ≡ no_listeners) }
+    {
+        let alloc = *self.held.allocator();
+        let mut held = replace(&mut self.held, Vec::new(alloc));
+        refresh(alloc, held.as_mut_slice(), entries, brought, pending, notes)?;
+        self.held = held;
+        Ok(())
+    }
+
+    /// Adds a listener. It gets its first view where something is known for its query, and its seat
+    /// is told.
+    ///
+    /// # Errors
+    ///
+    /// Want of memory. The listeners stay as they were; the seat may be told all the same.
+    pub fn add(
+        &mut self,
+        number: u64,
+        seat: u64,
+        query: Query,
+        brought: &Brought,
+        pending: &Pending,
+        notes: &mut Vec<Note>,
+    ) -> Result<(), AllocError>
+        requires above { All (λ l. l.number < number) self.old.listeners }
+        ensures listeners { OnOk result (self.new.listeners ≡ self.old.listeners
+            ++ renewed brought.now pending.now (new_listener number seat query) ∷ []) }
+        ensures views { OnOk result (self.new.views ≡ self.old.views
+            ++ first_view_of brought.now pending.now query ∷ []) }
+        ensures notes { OnOk result (notes.new.items ≡ notes.old.items
+            ++ option_to_list (told brought.now pending.now (new_listener number seat query))) }
+        ensures unchanged { OnErr result (self.new ≡ self.old) }
+    {
+        let alloc = *self.held.allocator();
+        let listener = first(alloc, number, seat, query, brought, pending, notes)?;
+        self.held.push(listener)?;
+        Ok(())
+    }
+
+    /// Takes the listener of that number out, if it is registered. Finds it by halving, and takes
+    /// no memory.
+    pub fn remove(&mut self, number: u64)
+        ensures listeners { self.new.listeners
+            ≡ filter (λ l. not (l.number == number)) self.old.listeners }
+        ensures views { self.new.views ≡ views_left (λ l. not (l.number == number)) self.old }
+    {
+        end_number(&mut self.held, number);
+    }
+
+    /// Takes all listeners of the seat out. Takes no memory.
+    pub fn close(&mut self, seat: u64)
+        ensures listeners { self.new.listeners
+            ≡ filter (λ l. not (l.seat == seat)) self.old.listeners }
+        ensures views { self.new.views ≡ views_left (λ l. not (l.seat == seat)) self.old }
+    {
+        end_seat(&mut self.held, seat);
+    }
+
+    /// Takes the listeners out that this form is listened to for, since it is revoked, and tells
+    /// their seats why, by number.
+    ///
+    /// # Errors
+    ///
+    /// Want of memory. The listeners stay as they were; some seats may be told all the same.
+    pub fn cancel(
+        &mut self,
+        listened: &Query,
+        why: &Reason,
+        notes: &mut Vec<Note>,
+    ) -> Result<(), AllocError>
+        ensures listeners { OnOk result (self.new.listeners
+            ≡ filter (λ l. not (query_eq (form l.query) listened.now)) self.old.listeners) }
+        ensures views { OnOk result (self.new.views
+            ≡ views_left (λ l. not (query_eq (form l.query) listened.now)) self.old) }
+        ensures notes { OnOk result (notes.new.items ≡ notes.old.items
+            ++ map (cancelled_note why.now)
+            (filter (λ l. query_eq (form l.query) listened.now) self.old.listeners)) }
+        ensures unchanged { OnErr result (self.new ≡ self.old) }
+    {
+        let alloc = *self.held.allocator();
+        tell_ends(alloc, &self.held, listened, why, notes)?;
+        end_form(&mut self.held, listened);
+        Ok(())
+    }
+
+    /// The numbers of the seat's listeners, which rise. An `Err` is want of memory.
+    pub fn numbers_of(&self, alloc: Global, seat: u64) -> Result<Vec<u64>, AllocError>
+        ensures { IfOk result (λ numbers. numbers.items
+            ≡ map (λ l. l.number) (filter (λ l. l.seat == seat) self.now.listeners)) }
+    {
+        numbers_of(alloc, &self.held, seat)
+    }
+
+    /// What the view of the listener of that number shows; `None` where it has none yet. The trees
+    /// are shared, and it costs by the rows.
+    ///
+    /// # Errors
+    ///
+    /// `NoListener` where no listener has that number; `NoMemory` where it has a view.
+    pub fn shown(&self, number: u64) -> Result<Option<Shown>, ShownError>
+        ensures shown { IfOk result (λ shown. shown ≡ view_before self.now.listeners number) }
+        ensures unknown { (result ≡ Err ShownError.NoListener)
+            ↔ (find (λ l. l.number == number) self.now.listeners ≡ None) }
+        ensures memory { result ≡ Err ShownError.NoMemory
+            → view_before self.now.listeners number ≢ None }
+    {
+        shown(&self.held, number)
+    }
+}

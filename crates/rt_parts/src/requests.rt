@@ -1,0 +1,188 @@
+// The unsettled requests.
+ghost use Rattle.std.specs.Prelude.{◌≡◌, ◌==◌, ◌<◌, ◌++◌, ◌∷◌, [], false, not, length, map};
+ghost use Rattle.std.specs.Prelude.{IfOk, OnOk, OnErr, IsOk, Some, None, option_map};
+ghost use Rattle.std.specs.List.{All, filter, find, list_any};
+ghost use Rattle.std.specs.Option.{option_map_or};
+ghost use Rattle.rt_tree.specs.Assignments.{have_overlap};
+ghost use Rattle.rt_world.specs.World.{entries_of, pending};
+ghost use Rattle.rt_world.specs.steps.Asking.{action_in, is_empty_action};
+ghost use Rattle.rt_world.specs.steps.Kind.{stands_too_deep};
+ghost use Rattle.rt_world.specs.steps.Closing.{unseated};
+ghost use Rattle.rt_parts.specs.Settling.{settled};
+
+use crate::numbers::{place_of, take};
+use crate::settled::Settled;
+use crate::writes::{add, entries_asked};
+use rt_wire::Asked;
+use rt_world::{Request, pending_law};
+use rt_writes::{Entries, Pending};
+use std::alloc::{AllocError, Global};
+use std::collections::VecDeque;
+use std::marker::Model;
+
+/// The unsettled requests by number, and the pending writes, which are those among them.
+pub struct Requests {
+    items: VecDeque<Request>,
+    pending: Pending,
+}
+
+impl Drop for Requests {
+    fn drop(self) {
+        let Requests {
+            items: _,
+            pending: _,
+        } = self;
+    }
+}
+
+impl Model for Requests {
+    ghost use Rattle.std.specs.Prelude.{List};
+    ghost use Rattle.rt_world.specs.declared.request.Request.{Request};
+    ghost use Rattle.rt_parts.specs.inside.Rising.{IsTied};
+
+    ghost Value = { List Request };
+
+    ghost view = { λ a. a.items.items };
+
+    ghost invariant = { λ a. IsTied a.items.items a.pending };
+}
+
+// A request of a closed seat stays without a seat.
+fn unseat(request: &mut Request, seat: u64)
+    ensures { request.new ≡ unseated seat request.old }
+{
+    if request.seat == Some(seat) {
+        request.seat = None;
+    }
+}
+
+// Each of these requests that is a closed seat's stays without a seat.
+fn unseat_each(requests: &mut [Request], seat: u64)
+    ensures { requests.new ≡ map (unseated seat) requests.old }
+{
+    for request in requests.iter_mut() {
+        unseat(request, seat);
+    }
+}
+
+// All requests of a closed seat stay without a seat.
+fn unseat_all(requests: &mut VecDeque<Request>, seat: u64)
+    ensures { requests.new.items ≡ map (unseated seat) requests.old.items }
+{
+    unseat_each(requests.make_contiguous(), seat);
+}
+
+impl Requests {
+    /// No request.
+    pub fn new(alloc: Global) -> Requests
+        ensures { result ≡ [] }
+    {
+        Requests {
+            items: VecDeque::new(alloc),
+            pending: Pending::new(alloc),
+        }
+    }
+
+    /// How many are unsettled.
+    pub fn len(&self) -> usize
+        ensures { result ≡ length self.now }
+    {
+        self.items.len()
+    }
+
+    /// The requests, by number, in two parts: the second goes on where the first ends.
+    pub fn as_slices(&self) -> (&[Request], &[Request])
+        ensures { result.0.now ++ result.1.now ≡ self.now }
+    {
+        self.items.as_slices()
+    }
+
+    /// The writes among them, in order of number.
+    pub fn pending(&self) -> &Pending
+        ensures { result.now ≡ pending self.now }
+    {
+        &self.pending
+    }
+
+    /// Whether a request has that number. Finds it by halving.
+    pub fn is_unsettled(&self, id: u64) -> bool
+        ensures { result ≡ list_any (λ r. r.id == id) self.now }
+    {
+        place_of(&self.items, id).is_some()
+    }
+
+    /// Adds a request of a seat, under a number above all others; a write is pending then. What is
+    /// asked has no two entries of which one is at or above the other, is no update without entries,
+    /// and sets no leaf under more than 32 keys.
+    ///
+    /// # Errors
+    ///
+    /// Want of memory; nothing changes then.
+    pub fn add(&mut self, id: u64, seat: u64, asked: Asked) -> Result<(), AllocError>
+        requires above { All (λ r. r.id < id) self.old }
+        requires apart { option_map_or (λ a. have_overlap (entries_of a)) (action_in asked) false
+            ≡ false }
+        requires some { option_map_or is_empty_action (action_in asked) false ≡ false }
+        requires shallow { option_map_or (λ a. list_any stands_too_deep (entries_of a))
+            (action_in asked) false ≡ false }
+        ensures added { OnOk result (self.new
+            ≡ self.old ++ record { id = id; seat = Some seat; asked = asked } ∷ []) }
+        ensures unchanged { OnErr result (self.new ≡ self.old) }
+    {
+        // For the prover: what is pending of requests.
+        pending_law();
+        let entries = entries_asked(*self.items.allocator(), &asked)?;
+        self.items.push_back(Request {
+            id,
+            seat: Some(seat),
+            asked,
+        })?;
+        let Some(entries) = entries else {
+            return Ok(());
+        };
+        match add(&mut self.pending, id, entries) {
+            Ok(()) => Ok(()),
+            Err(error) => {
+                drop(self.items.pop_back());
+                Err(error)
+            }
+        }
+    }
+
+    /// Takes the request of that number out, accepted or refused, and says whose it was and which
+    /// entries are pending no more; none where it is not unsettled. Finds the request by halving; where
+    /// it is the oldest, no other moves.
+    ///
+    /// # Errors
+    ///
+    /// Want of memory, where the request is unsettled. It stays so then.
+    pub fn settle(&mut self, id: u64) -> Result<Option<Settled>, AllocError>
+        ensures settled { IfOk result (λ taken. taken ≡ settled id self.old) }
+        ensures left { OnOk result (self.new ≡ filter (λ r. not (r.id == id)) self.old) }
+        ensures absent { find (λ r. r.id == id) self.old ≡ None → IsOk result }
+        ensures unchanged { OnErr result (self.new ≡ self.old) }
+    {
+        // For the prover: what is pending of requests.
+        pending_law();
+        let entries = self.pending.take(id)?;
+        let Some(request) = take(&mut self.items, id) else {
+            return Ok(None);
+        };
+        let Request { seat, asked, .. } = request;
+        drop(asked);
+        let entries = entries.unwrap_or(Vec::new(*self.items.allocator()));
+        Ok(Some(Settled {
+            seat,
+            entries: Entries::of(entries),
+        }))
+    }
+
+    /// A seat goes: its requests stay, without a seat, and its writes stay pending. Takes no memory.
+    pub fn close(&mut self, seat: u64)
+        ensures { self.new ≡ map (unseated seat) self.old }
+    {
+        // For the prover: what is pending of requests.
+        pending_law();
+        unseat_all(&mut self.items, seat);
+    }
+}

@@ -1,0 +1,236 @@
+// The view of a listener, and what its seat is told.
+ghost use Rattle.std.specs.Prelude.{◌≡◌, ◌≤◌, ◌++◌, ◌||◌, false, map, IfOk, OnOk, Some};
+ghost use Rattle.std.specs.List.{All};
+ghost use Rattle.std.specs.Option.{option_map, option_map_or, option_to_list};
+ghost use Rattle.rt_tree.specs.PathTree.{levels};
+ghost use Rattle.rt_query.specs.Select.{select};
+ghost use Rattle.rt_view.specs.Changes.{changes};
+ghost use Rattle.rt_world.specs.Views.{is_known};
+ghost use Rattle.rt_world.specs.After.{renewed};
+ghost use Rattle.rt_world.specs.Answers.{batch_note};
+ghost use Rattle.rt_parts.specs.inside.HeldView.{IsHeld, AreHeld, listener_of, listeners_of};
+ghost use Rattle.rt_parts.specs.inside.HeldView.{pair_of, refreshed, shown_in, view_anew};
+ghost use Rattle.rt_parts.specs.inside.HeldView.{view_over};
+ghost use Rattle.rt_parts.specs.Refreshed.{FollowsNamed, view_after};
+ghost use Rattle.rt_view.specs.Views.{stays_object, touched};
+ghost use Rattle.rt_view.specs.Views.{told as told_of};
+ghost use Rattle.rt_world.specs.Met.{all_told, do_meet, seeing, told, told_met};
+ghost use Rattle.rt_world.specs.Touched.{is_covered};
+
+use crate::held::Held;
+use crate::named::named_children;
+use crate::seeing::{is_known, seen};
+use rt_cache::Brought;
+use rt_tree::{Key, MAX_KEYS, Path, Tree};
+use rt_view::{Batch, ChangeList, View};
+use rt_world::{Body, Note};
+use rt_writes::Pending;
+use std::alloc::{AllocError, Global};
+
+// Whether the listener has a view, or gets its first.
+fn is_due(listener: &Held, brought: &Brought, pending: &Pending) -> bool
+    ensures { result ≡ ((listener_of listener.now).is_primed
+        || is_known brought.now pending.now listener.now.query) }
+{
+    listener.view.is_some() || is_known(brought, pending, &listener.query)
+}
+
+// The listener sees that tree from now on: the changes of its view.
+fn show(alloc: Global, listener: &mut Held, seen: Tree) -> Result<ChangeList, AllocError>
+    requires { IsHeld listener.old }
+    ensures view { OnOk result (listener_of listener.new ≡ seeing seen (listener_of listener.old)) }
+    ensures held { OnOk result (IsHeld listener.new) }
+    ensures number { listener.new.number ≡ listener.old.number }
+    ensures taken { OnOk result (listener.new.view
+        ≡ Some (view_over listener.old.query seen listener.old.view)) }
+    ensures changes { IfOk result (λ list. list
+        ≡ changes listener.old.query.index (shown_in listener.old.view)
+        (select listener.old.query seen)) }
+{
+    if let Some(view) = &mut listener.view {
+        return match view.renew(alloc, seen) {
+            Ok(changes) => Ok(changes),
+            Err(_) => Err(AllocError),
+        };
+    }
+    let query = listener.query.copy()?;
+    let (view, changes) = View::first(alloc, query, seen)?;
+    listener.view = Some(view);
+    Ok(changes)
+}
+
+// Tells the listener's seat of these changes, if there are any.
+fn tell(notes: &mut Vec<Note>, listener: &Held, changes: ChangeList) -> Result<(), AllocError>
+    ensures { OnOk result (notes.new.items
+        ≡ notes.old.items ++ option_to_list (batch_note (listener_of listener.now) changes)) }
+{
+    if changes.is_empty() {
+        return Ok(());
+    }
+    notes.push(Note {
+        seat: listener.seat,
+        body: Body::Batch(Batch {
+            listener: listener.number,
+            changes,
+        }),
+    })?;
+    Ok(())
+}
+
+// Takes the view from scratch, where the listener has one or something is known for it, and tells
+// its seat what changes.
+pub(crate) fn renew(
+    alloc: Global,
+    listener: &mut Held,
+    brought: &Brought,
+    pending: &Pending,
+    notes: &mut Vec<Note>,
+) -> Result<(), AllocError>
+    requires held { IsHeld listener.old }
+    ensures view { OnOk result (listener_of listener.new
+        ≡ renewed brought.now pending.now (listener_of listener.old)) }
+    ensures held { OnOk result (IsHeld listener.new) }
+    ensures number { listener.new.number ≡ listener.old.number }
+    ensures taken { OnOk result (listener.new.view
+        ≡ view_anew brought.now pending.now listener.old.query listener.old.view) }
+    ensures notes { OnOk result (notes.new.items ≡ notes.old.items
+        ++ option_to_list (told brought.now pending.now (listener_of listener.old))) }
+{
+    if !is_due(listener, brought, pending) {
+        return Ok(());
+    }
+    let seen = seen(brought, pending, &listener.query)?;
+    let changes = show(alloc, listener, seen)?;
+    tell(notes, listener, changes)
+}
+
+// Whether the listener's view stays an object once these children are put into it; without a view it does not.
+fn stays_object(listener: &Held, named: &[(Key, Tree)]) -> bool
+    ensures { result ≡ option_map_or (λ v. stays_object v.tree named.now) listener.now.view false }
+{
+    match &listener.view {
+        Some(view) => view.stays_object(named),
+        None => false,
+    }
+}
+
+// Puts these children into the listener's view, which it has: the changes of the view.
+fn touch(
+    alloc: Global,
+    listener: &mut Held,
+    named: Vec<(Key, Tree)>,
+) -> Result<ChangeList, AllocError>
+    requires held { IsHeld listener.old }
+    requires levels { All (λ c. levels c.1 ≤ MAX_KEYS) named.items }
+    ensures listener { OnOk result (listener.new ≡ record listener.old {
+      view =
+          option_map (λ v. touched v named.items) listener.old.view;
+    }) }
+    ensures number { listener.new.number ≡ listener.old.number }
+    ensures changes { IfOk result (λ list. (v : View) → listener.old.view ≡ Some v
+        → list ≡ told_of v (touched v named.items)) }
+{
+    let Some(view) = &mut listener.view else {
+        drop(named);
+        return Err(AllocError);
+    };
+    match view.touch(alloc, named) {
+        Ok(changes) => Ok(changes),
+        Err(_) => Err(AllocError),
+    }
+}
+
+// Touches the view with the children that the entries name, if it stays an object; else takes it from
+// scratch.
+fn touch_or_renew(
+    alloc: Global,
+    listener: &mut Held,
+    entries: &[(Path, Tree)],
+    brought: &Brought,
+    pending: &Pending,
+    notes: &mut Vec<Note>,
+) -> Result<(), AllocError>
+    requires held { IsHeld listener.old }
+    requires low { is_covered listener.old.query.path entries.now ≡ false }
+    requires follow { FollowsNamed entries.now brought.now pending.now (pair_of listener.old) }
+    ensures view { OnOk result (listener_of listener.new
+        ≡ renewed brought.now pending.now (listener_of listener.old)) }
+    ensures held { OnOk result (IsHeld listener.new) }
+    ensures number { listener.new.number ≡ listener.old.number }
+    ensures taken { OnOk result (listener.new.view
+        ≡ view_after entries.now brought.now pending.now listener.old.query listener.old.view) }
+    ensures notes { OnOk result (notes.new.items ≡ notes.old.items
+        ++ option_to_list (told brought.now pending.now (listener_of listener.old))) }
+{
+    let named = named_children(alloc, entries, brought, pending, &listener.query)?;
+    if !stays_object(listener, &named) {
+        return renew(alloc, listener, brought, pending, notes);
+    }
+    let changes = touch(alloc, listener, named)?;
+    tell(notes, listener, changes)
+}
+
+// Whether one of the entries sits at, above or below the path.
+fn do_meet(entries: &[(Path, Tree)], path: &Path) -> bool
+    ensures { result ≡ do_meet entries.now path.now }
+{
+    entries.iter().any(|entry| entry.0.is_prefix_of(path) || path.is_prefix_of(&entry.0))
+}
+
+// Whether one of them sits at or above it.
+fn is_covered(entries: &[(Path, Tree)], path: &Path) -> bool
+    ensures { result ≡ is_covered path.now entries.now }
+{
+    entries.iter().any(|entry| entry.0.is_prefix_of(path))
+}
+
+// Touches or renews the view, where an entry meets the listener's path; else it isn't looked at.
+fn refresh_one(
+    alloc: Global,
+    listener: &mut Held,
+    entries: &[(Path, Tree)],
+    brought: &Brought,
+    pending: &Pending,
+    notes: &mut Vec<Note>,
+) -> Result<(), AllocError>
+    requires held { IsHeld listener.old }
+    requires follow { FollowsNamed entries.now brought.now pending.now (pair_of listener.old) }
+    ensures pair { OnOk result (pair_of listener.new
+        ≡ refreshed entries.now brought.now pending.now (pair_of listener.old)) }
+    ensures held { OnOk result (IsHeld listener.new) }
+    ensures number { listener.new.number ≡ listener.old.number }
+    ensures notes { OnOk result (notes.new.items ≡ notes.old.items ++ option_to_list
+        (told_met entries.now brought.now pending.now (listener_of listener.old))) }
+{
+    if !do_meet(entries, listener.query.path()) {
+        return Ok(());
+    }
+    if is_covered(entries, listener.query.path()) {
+        return renew(alloc, listener, brought, pending, notes);
+    }
+    touch_or_renew(alloc, listener, entries, brought, pending, notes)
+}
+
+// Touches or renews the views of all listeners that an entry meets.
+pub(crate) fn refresh(
+    alloc: Global,
+    listeners: &mut [Held],
+    entries: &[(Path, Tree)],
+    brought: &Brought,
+    pending: &Pending,
+    notes: &mut Vec<Note>,
+) -> Result<(), AllocError>
+    requires held { AreHeld listeners.old }
+    requires follow { All (FollowsNamed entries.now brought.now pending.now)
+        (map pair_of listeners.old) }
+    ensures pairs { OnOk result (map pair_of listeners.new
+        ≡ map (refreshed entries.now brought.now pending.now) (map pair_of listeners.old)) }
+    ensures held { OnOk result (AreHeld listeners.new) }
+    ensures notes { OnOk result (notes.new.items ≡ notes.old.items
+        ++ all_told entries.now brought.now pending.now (listeners_of listeners.old)) }
+{
+    for listener in listeners.iter_mut() {
+        refresh_one(alloc, listener, entries, brought, pending, notes)?;
+    }
+    Ok(())
+}

@@ -1,4 +1,0 @@
-pub mod Loops
-pub mod Pendings
-pub mod Places
-pub mod Rises
