@@ -1,4 +1,6 @@
+mod Costs
 mod Counting
+mod Sending
 mod Taking
 mod Telling
 mod Waiting
