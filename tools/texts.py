@@ -1,10 +1,11 @@
-"""Parts of the gate that read texts, and prove nothing: the tests of tools/, the pages, the examples of README.md, the layout."""
+"""Parts of the gate that read texts, and prove nothing: the tests of tools/, the pages, the examples of README.md and of kaltewi's page, the layout."""
 import os
 import re
 import sys
 import tempfile
 
 import comments
+import examples
 import names
 import pages
 from bodies import read, run
@@ -52,6 +53,12 @@ def readme_part():
     sources = {it: read(f"{ROOT}/crates/{it}/src/main.rt") for it in PROGRAMS_SHOWN}
     wrong = wrong_of_readme(read(f"{ROOT}/README.md"), read(f"{ROOT}/crates.txt"), sources)
     part("README.md's examples are as they are proved", "; ".join(wrong))
+
+
+def examples_part():
+    """The examples of kaltewi's page."""
+    wrong, count = examples.wrong_of(ROOT)
+    part(f"{count} examples of kaltewi's page are as they are proved", some_of(wrong, count))
 
 
 def comments_part():

@@ -30,26 +30,36 @@
 //! while let Some(item) = seats[0].next() { .. }                 // with no lock
 //! ```
 //!
+//! Each name has an example above the line that hands it on, in the module of its topic: `trees`, `queries`,
+//! `steps`, `client`, `told`, `messages`, `ids`, `errors`. They are quoted from the program `example_calls`.
+//! There `rt` is the runtime that `main` is given, and `alloc` its allocator.
+//!
 //! `example_chat` and `example_threads` are whole programs over this crate. Each call's contract, which says
 //! all that it does, stands in the crate that it comes from; `docs/PROOFS.md` has them by crate.
 #![tactic(auto)]
 
-pub use rt_client::{
-    Call, Client, ClientError, Done, Gate, MAX_SEATS, Seat, Shared, Sink, Unclosed, crossing_law,
-    deliver, ids_are_keys, keys_rise, with_core, with_seat,
+mod client;
+mod errors;
+mod ids;
+mod messages;
+mod queries;
+mod steps;
+mod told;
+mod trees;
+
+pub use client::{
+    Call, Client, Done, Gate, MAX_SEATS, Seat, Shared, Sink, Unclosed, crossing_law, deliver,
+    with_core, with_seat,
 };
-pub use rt_cover::{Kept, KeptList};
-pub use rt_mail::{Inbox, Item, MailError, Mirror, Receipt};
-pub use rt_map::OrdMap;
-pub use rt_order::{Index, Mark};
-pub use rt_peer::{Peer, PeerError, Sent};
-pub use rt_push::{PushError, PushIds};
-pub use rt_query::{Draft, Limit, Query, QueryError, Row, Shown};
-pub use rt_sync::{Answers, Core, Room, run, run_in};
-pub use rt_tree::{Key, Leaf, LeafRef, Path, Tree, TreeError};
-pub use rt_view::{Batch, Change, Kinds, apply_changes, of_kinds};
-pub use rt_wire::{ClientMessage, Reason, ServerMessage, WireError, query_text};
-pub use rt_world::{
-    Action, Asked, Body, CoreError, Ending, Limits, Note, Notes, Outcome, Report, Step,
+pub use errors::{
+    ClientError, CoreError, MailError, PeerError, PushError, QueryError, TreeError, WireError,
 };
-pub use rt_writes::Entries;
+pub use ids::{PushIds, ids_are_keys, keys_rise};
+pub use messages::{Asked, ClientMessage, Peer, Reason, Sent, ServerMessage};
+pub use queries::{Draft, Index, Limit, Mark, Query, Row, Shown, query_text};
+pub use steps::{
+    Action, Answers, Body, Core, Ending, Kept, KeptList, Limits, NoRoom, Note, Notes, Outcome,
+    Report, Room, Step, run, run_in,
+};
+pub use told::{Batch, Change, Inbox, Item, Kinds, Mirror, Receipt, apply_changes, of_kinds};
+pub use trees::{Entries, Key, Leaf, LeafRef, OrdMap, Path, Tree};

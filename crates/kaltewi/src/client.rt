@@ -1,0 +1,223 @@
+// A client that threads share, and the calls on it.
+
+/// A client, which threads share by reference, with a seat for each ring's capacity. Whoever calls it
+/// locks it, for that call alone.
+///
+/// ```rust
+/// pub(crate) fn open(alloc: Global) -> Result<(Client, Vec<Seat>), ClientError> {
+///     Client::open(alloc, 1, &[64, 8], Limits::full())
+/// }
+///
+/// fn seats_left(seats: usize) -> usize {
+///     MAX_SEATS.saturating_sub(seats)
+/// }
+///
+/// fn connect(rt: &impl Wait, client: &Client) -> Result<Outcome, ClientError> {
+///     client.shared.lock(rt).connected()
+/// }
+/// ```
+pub use rt_client::{Client, MAX_SEATS};
+
+/// What a client's lock keeps. A call of a seat is answered by the number of the new listener or
+/// request; the others are those of whoever holds the connection.
+///
+/// ```rust
+/// pub(crate) fn listen(
+///     shared: &mut Shared,
+///     seat: &mut Seat,
+///     query: Query,
+/// ) -> Result<u64, ClientError> {
+///     shared.listen(seat, query)
+/// }
+///
+/// fn end_listener(shared: &mut Shared, seat: &mut Seat, listener: u64) -> Result<(), ClientError> {
+///     shared.unlisten(seat, listener)
+/// }
+///
+/// fn set(shared: &mut Shared, seat: &mut Seat, path: Path, tree: Tree) -> Result<u64, ClientError> {
+///     shared.set(seat, path, tree)
+/// }
+///
+/// fn update(
+///     shared: &mut Shared,
+///     seat: &mut Seat,
+///     entries: Vec<(Path, Tree)>,
+/// ) -> Result<u64, ClientError> {
+///     shared.update(seat, entries)
+/// }
+///
+/// fn remove(shared: &mut Shared, seat: &mut Seat, path: Path) -> Result<u64, ClientError> {
+///     shared.remove(seat, path)
+/// }
+///
+/// fn remove_at_end(shared: &mut Shared, seat: &mut Seat, path: Path) -> Result<u64, ClientError> {
+///     let tree = Tree::null();
+///     shared.on_disconnect(seat, Action::Put { path, tree })
+/// }
+///
+/// fn keep_at_end(shared: &mut Shared, seat: &mut Seat, path: Path) -> Result<u64, ClientError> {
+///     shared.cancel_disconnect(seat, path)
+/// }
+///
+/// pub(crate) fn receive(shared: &mut Shared, message: ServerMessage) -> Result<Outcome, ClientError> {
+///     shared.server_message(message)
+/// }
+///
+/// fn show_connection(rt: &impl Print, shared: &mut Shared) -> Result<()> {
+///     let (has_message, kept) = (shared.take_outgoing()?.is_some(), shared.cover()?.len());
+///     let is_ended = shared.disconnected()? == Outcome::Done;
+///     println!(rt; "to be sent: {has_message}, kept: {kept}, ended: {is_ended}")?;
+///     Ok(())
+/// }
+///
+/// fn new_id(shared: &mut Shared, now_ms: u64, random: [u8; 12]) -> Result<[u8; 20], PushError> {
+///     shared.push_key(now_ms, random)
+/// }
+/// ```
+pub use rt_client::Shared;
+
+/// A thread's own end of a client. What waits for it comes into its ring under the lock, and is taken
+/// from there with none.
+///
+/// ```rust
+/// pub(crate) fn settle(shared: &mut Shared, seat: &mut Seat) -> Result<(), ClientError> {
+///     shared.settle(seat)
+/// }
+///
+/// pub(crate) fn next_item(seat: &mut Seat) -> Option<Item> {
+///     seat.next()
+/// }
+///
+/// fn hear(seat: &mut Seat, heard: &mut Heard) {
+///     seat.hand_out(heard);
+/// }
+/// ```
+pub use rt_client::Seat;
+
+/// A seat that was not closed, handed back, and why.
+///
+/// ```rust
+/// fn close(shared: &mut Shared, seat: Seat) -> Option<ClientError> {
+///     match shared.close_seat(seat) {
+///         Ok(()) => None,
+///         Err(Unclosed { seat: _, why }) => Some(why),
+///     }
+/// }
+/// ```
+pub use rt_client::Unclosed;
+
+/// A seat's call as a value. It is a step of the core, under the seat's number.
+///
+/// ```rust
+/// fn listen_to(query: Query) -> Call {
+///     Call::Listen { query }
+/// }
+///
+/// fn is_of_first(alloc: Global, call: &Call) -> Result<bool, AllocError> {
+///     Ok(is_listen(&call.step(alloc, 1)?))
+/// }
+///
+/// fn listen_as_step(query: Query) -> Step {
+///     listen_to(query).into_step(1)
+/// }
+/// ```
+pub use rt_client::Call;
+
+/// Makes a seat's call: one step of the core, whose receipt comes into the seat's ring behind all
+/// that waited.
+///
+/// ```rust
+/// fn make_call(shared: &mut Shared, seat: &mut Seat, call: Call) -> Result<Done, ClientError> {
+///     with_seat(shared, seat, call)
+/// }
+///
+/// fn show_done(rt: &impl Print, done: Done) -> Result<()> {
+///     let is_done = done.outcome == Outcome::Done;
+///     println!(rt; "done: {is_done}, number {}", done.given.unwrap_or(0))?;
+///     Ok(())
+/// }
+/// ```
+pub use rt_client::{Done, with_seat};
+
+/// Makes a step that is no seat's call.
+///
+/// ```rust
+/// fn connect_core(shared: &mut Shared) -> Result<Done, ClientError> {
+///     with_core(shared, Step::Connected)
+/// }
+/// ```
+pub use rt_client::with_core;
+
+/// Who takes what a seat is told. `after_item` says in contracts what it is after an item.
+///
+/// ```rust
+/// #[derive(Drop)]
+/// struct Heard {
+///     any: bool,
+/// }
+///
+/// impl Sink for Heard {
+///     ghost after_item = { λ heard _. record heard { any = true } };
+///
+///     fn take(&mut self, item: Item) {
+///         drop(item);
+///         self.any = true;
+///     }
+/// }
+///
+/// fn hear(seat: &mut Seat, heard: &mut Heard) {
+///     seat.hand_out(heard);
+/// }
+/// ```
+pub use rt_client::Sink;
+
+/// Who says whether a delivery goes on. `may_stop` says in contracts when it may say no.
+///
+/// ```rust
+/// struct Always;
+///
+/// impl Gate for Always {
+///     ghost may_stop = { λ _. ⊥ };
+///
+///     fn go(&self) -> bool {
+///         true
+///     }
+/// }
+/// ```
+pub use rt_client::Gate;
+
+/// Settles a seat under the lock and hands out, turn after turn, for as long as the gate says so.
+///
+/// ```rust
+/// fn hear_turns(
+///     rt: &impl Wait,
+///     client: &Client,
+///     seat: &mut Seat,
+///     heard: &mut Heard,
+/// ) -> Result<(), ClientError> {
+///     deliver(rt, client, seat, heard, &Always, 3)
+/// }
+/// ```
+pub use rt_client::deliver;
+
+/// The law that threads may share a client, and may be handed seats and what is told. Who starts
+/// threads calls it.
+///
+/// ```rust
+/// fn settle_both<R: Threads + Wait + Sync>(
+///     rt: &R,
+///     client: &Client,
+///     first: &mut Seat,
+///     second: &mut Seat,
+/// ) -> Result<(), ClientError> {
+///     // For the prover: what may go to another thread.
+///     crossing_law();
+///     let (first, second) = thread::join(
+///         rt,
+///         || client.shared.lock(rt).settle(first),
+///         || client.shared.lock(rt).settle(second),
+///     );
+///     first.and(second)
+/// }
+/// ```
+pub use rt_client::crossing_law;
