@@ -123,6 +123,37 @@ def in_copies(row, program, library, first, last, room=0):
     return found
 
 
+# ---- of a test
+
+
+MAP_TEST = "rt_map", "tests::a_refusal_changes_nothing"
+
+
+def ends_of_test(program, test, library, number):
+    """How a test ended with that allocation refused, and whether there was such an allocation."""
+    given = {**os.environ, "LD_PRELOAD": library, "REFUSED_ALLOCATION": str(number)}
+    ran = subprocess.run([program, test], stdin=subprocess.DEVNULL, capture_output=True, timeout=60, env=given)
+    return ran.returncode, REFUSED in ran.stderr
+
+
+def map_part(copy):
+    """Refuses each allocation of the test of maps that looks at what a refusal leaves: it passes each time."""
+    (crate, test), clock = MAP_TEST, Clock()
+    program = f"{copy}/crates/{crate}/out/{crate}_tests"
+    with tempfile.TemporaryDirectory(prefix="kaltewi-refuse-") as room, concurrent.futures.ThreadPoolExecutor(os.cpu_count()) as pool:
+        library, why = refuser(room)
+        if why or not os.path.exists(program):
+            part(f"{crate}: {test}", why or f"there is no program {crate}_tests")
+            return
+        count, wrong, is_there = 0, [], True
+        while is_there and not wrong:
+            numbers = range(count + 1, count + AT_ONCE + 1)
+            ends = list(pool.map(lambda it: ends_of_test(program, test, library, it), numbers))
+            wrong = [f"allocation {number} refused: status {status}" for number, (status, _) in zip(numbers, ends) if status]
+            count, is_there = count + sum(it for _, it in ends), ends[-1][1]
+    part(f"{crate}: {count} allocations of a test refused, each of them", some_of(wrong, count), clock)
+
+
 # ---- of all rows
 
 
