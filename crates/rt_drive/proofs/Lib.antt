@@ -1,4 +1,7 @@
+mod Costs
 mod Counting
+mod Seating
+mod Sending
 mod Taking
 mod Telling
 mod Waiting

@@ -1,11 +1,15 @@
 // What a server was sent and may not have read yet, and what was read of it before a line asked for it.
-ghost use Rattle.std.specs.Prelude.{◌≡◌};
+ghost use Rattle.std.specs.Prelude.{◌≡◌, true, false, IfOk, OnOk};
+ghost use Rattle.std.specs.List.{slice_get};
 ghost use Rattle.rt_drive.specs.Answers.{answer_to, answered_by};
+ghost use Rattle.rt_drive.specs.Ahead.{answered, fits, has_way, is_due, is_same, nothing_ahead};
+ghost use Rattle.rt_drive.specs.Ahead.{up_to, with_kept, with_sent, without_first};
 
 use crate::socket::Told;
 use rt_wire::{ClientMessage, ServerMessage};
 use std::alloc::{AllocError, Global};
 use std::collections::VecDeque;
+use std::marker::Model;
 
 /// How many bytes may be on their way to the server while it owes an answer: where more are to be sent,
 /// what it sends is read first.
@@ -22,6 +26,17 @@ const COST: usize = 64;
 pub(crate) enum Name {
     Request(u64),
     Listen(u64),
+}
+
+// Whether they are one name.
+fn is_same(one: Name, other: Name) -> bool
+    ensures { result ≡ is_same one other }
+{
+    match (one, other) {
+        (Name::Request(id), Name::Request(other)) => id == other,
+        (Name::Listen(tag), Name::Listen(other)) => tag == other,
+        (Name::Request(_), Name::Listen(_)) | (Name::Listen(_), Name::Request(_)) => false,
+    }
 }
 
 // The name that the answer to a message will have; none where it is not answered.
@@ -49,9 +64,33 @@ pub(crate) fn answered_by(message: &ServerMessage) -> Name
 
 // A message that is to be answered, and how many bytes were sent up to its end.
 #[derive(Clone, Copy, Debug)]
-struct Due {
+pub(crate) struct Due {
     name: Name,
     sent: u64,
+}
+
+// Whether an answer of that name is due.
+fn is_due(due: &VecDeque<Due>, name: Name) -> bool
+    ensures { result ≡ is_due name due.now.items }
+{
+    for place in 0..due.len() {
+        if is_same(due[place].name, name) {
+            return true;
+        }
+    }
+    false
+}
+
+// Takes out what is due up to the first of that name, and says how many bytes were sent up to there.
+fn take_up_to(due: &mut VecDeque<Due>, name: Name) -> Option<u64>
+    ensures { up_to name due.old.items ≡ (result, due.new.items) }
+{
+    'due: while let Some(first) = due.pop_front() {
+        if is_same(first.name, name) {
+            return Some(first.sent);
+        }
+    }
+    None
 }
 
 // How far the server is behind what it was sent, and what was read ahead.
@@ -62,11 +101,30 @@ pub(crate) struct Ahead {
     sent: u64,
     read: u64,
     kept: VecDeque<Told>,
+    // How many bytes what is kept takes.
     cost: usize,
 }
 
+impl Model for Ahead {
+    ghost use Rattle.std.specs.Prelude.{◌≡◌};
+    ghost use Rattle.rt_drive.specs.Ahead.{ReadAhead, cost_of};
+
+    ghost Value = { ReadAhead };
+
+    ghost view = { λ a. record {
+      due = a.due.items;
+      sent = a.sent;
+      read = a.read;
+      kept = a.kept.items;
+    } };
+
+    ghost invariant = { λ a. a.cost ≡ cost_of a.kept.items };
+}
+
 impl Ahead {
-    pub(crate) fn new(alloc: Global) -> Ahead {
+    pub(crate) fn new(alloc: Global) -> Ahead
+        ensures { result ≡ nothing_ahead }
+    {
         Ahead {
             due: VecDeque::new(alloc),
             sent: 0,
@@ -77,13 +135,14 @@ impl Ahead {
     }
 
     // Whether so many bytes may be sent before more is read.
-    pub(crate) fn has_way(&self, len: usize) -> bool {
-        self.due.is_empty()
-            || self
-                .sent
-                .saturating_sub(self.read)
-                .saturating_add(len as u64)
-                <= MAX_UNANSWERED_BYTES
+    pub(crate) fn has_way(&self, len: usize) -> bool
+        ensures { result ≡ has_way len self.now }
+    {
+        if self.due.is_empty() {
+            return true;
+        }
+        let behind = self.sent.saturating_sub(self.read);
+        behind.saturating_add(len as u64) <= MAX_UNANSWERED_BYTES
     }
 
     // Notes a message that was sent, of so many bytes.
@@ -91,33 +150,35 @@ impl Ahead {
         &mut self,
         message: &ClientMessage,
         len: usize,
-    ) -> Result<(), AllocError> {
+    ) -> Result<(), AllocError>
+        ensures { OnOk result (self.new ≡ with_sent message.now len self.old) }
+    {
         self.sent = self.sent.saturating_add(len as u64);
         if let Some(name) = answer_to(message) {
-            let due = Due {
-                name,
-                sent: self.sent,
-            };
-            self.due.push_back(due)?;
+            let sent = self.sent;
+            self.due.push_back(Due { name, sent })?;
         }
         Ok(())
     }
 
     // Notes what a message of that name says: what was sent up to what it answers was read.
-    pub(crate) fn note_answer(&mut self, name: Name) {
-        let Some(place) = self.due.iter().position(|due| due.name == name) else {
+    pub(crate) fn note_answer(&mut self, name: Name)
+        ensures { self.new ≡ answered name self.old }
+    {
+        if !is_due(&self.due, name) {
             return;
-        };
-        for _ in 0..place {
-            let _ = self.due.pop_front();
         }
-        if let Some(due) = self.due.pop_front() {
-            self.read = due.sent;
+        if let Some(sent) = take_up_to(&mut self.due, name) {
+            self.read = sent;
         }
     }
 
     // Keeps a message that was read ahead, and answers whether there is room for it.
-    pub(crate) fn keep(&mut self, told: Told) -> Result<bool, AllocError> {
+    pub(crate) fn keep(&mut self, told: Told) -> Result<bool, AllocError>
+        ensures room { IfOk result (λ is_kept. is_kept ≡ fits told self.old) }
+        ensures kept { IfOk result (λ is_kept. is_kept ≡ true → self.new ≡ with_kept told self.old) }
+        ensures full { IfOk result (λ is_kept. is_kept ≡ false → self.new ≡ self.old) }
+    {
         let cost = self.cost.saturating_add(told.len()).saturating_add(COST);
         if cost > MAX_KEPT_BYTES {
             return Ok(false);
@@ -128,9 +189,12 @@ impl Ahead {
     }
 
     // The first message that was read ahead.
-    pub(crate) fn next(&mut self) -> Option<Told> {
+    pub(crate) fn next(&mut self) -> Option<Told>
+        ensures first { result ≡ slice_get self.old.kept 0 }
+        ensures rest { self.new ≡ without_first self.old }
+    {
         let told = self.kept.pop_front()?;
-        self.cost = self.cost.saturating_sub(COST.saturating_add(told.len()));
+        self.cost -= COST + told.len();
         Some(told)
     }
 }

@@ -1,6 +1,11 @@
 // A client's socket: its handshake, its messages, what is sent, and its end.
-ghost use Rattle.std.specs.Prelude.{◌≡◌};
-ghost use Rattle.rt_drive.specs.Hearing.{closed_by, heard_of};
+ghost use Rattle.std.specs.Prelude.{◌≡◌, ◌==◌, ◌≤◌, [], None, false, IfOk, IfSome};
+ghost use Rattle.tungstenite.specs.Connection.{close_step, write_step};
+ghost use Rattle.tungstenite.specs.Content.{text as text_content};
+ghost use Rattle.tungstenite.specs.Socket.{Writes};
+ghost use Rattle.rt_input.specs.Counted.{known_output};
+ghost use Rattle.rt_drive.specs.Ahead.{byte_count};
+ghost use Rattle.rt_drive.specs.Hearing.{closed_by, heard_from, heard_of, is_close, is_spent};
 
 use crate::lost::Lost;
 use rt_input::{Counted, MAX_MESSAGE_BYTES};
@@ -30,7 +35,9 @@ pub(crate) enum Told {
 
 impl Told {
     // How many bytes of it are kept.
-    pub(crate) fn len(&self) -> usize {
+    pub(crate) fn len(&self) -> usize
+        ensures { result ≡ byte_count self.now }
+    {
         match self {
             Told::Text(words) => words.len(),
             Told::Binary => 0,
@@ -96,21 +103,39 @@ fn told_by(message: Message) -> Option<Heard>
     }
 }
 
-// The next message of the socket; none for a ping or a pong.
-fn read<S: Read + Write + Drop, N: RandomSource + Drop>(
-    socket: &mut Socket<S, N>,
-) -> Result<Option<Heard>, AllocError> {
-    match socket.read() {
-        Ok(message) => {
-            if message.is_close() {
-                // A close is answered by one, which waits to be sent.
-                let _ = socket.flush();
-            }
-            Ok(told_by(message))
-        }
+// What a read of the socket says; none for a ping or a pong.
+fn heard_from(read: Result<Message, Error>) -> Result<Option<Heard>, AllocError>
+    ensures { result ≡ heard_from read }
+{
+    match read {
+        Ok(message) => Ok(told_by(message)),
         Err(Error::OutOfMemory) => Err(AllocError),
         Err(why) => Ok(Some(Heard::Ended(Lost::Failed(why)))),
     }
+}
+
+// Whether a read gave a close.
+fn is_close(read: &Result<Message, Error>) -> bool
+    ensures { result ≡ is_close read.now }
+{
+    match read {
+        Ok(message) => message.is_close(),
+        Err(_) => false,
+    }
+}
+
+// The next message of the socket; none for a ping or a pong.
+fn read<S: Read + Write + Drop, N: RandomSource + Drop>(
+    socket: &mut Socket<S, N>,
+) -> Result<Option<Heard>, AllocError>
+    ensures { IfOk result (λ heard. IfSome heard (λ h. is_spent h ≡ false)) }
+{
+    let read = socket.read();
+    if is_close(&read) {
+        // A close is answered by one, which waits to be sent.
+        let _ = socket.flush();
+    }
+    heard_from(read)
 }
 
 // The next message of the socket. Pings and pongs are passed over, so many of them: with the last the
@@ -118,7 +143,10 @@ fn read<S: Read + Write + Drop, N: RandomSource + Drop>(
 pub(crate) fn hear<S: Read + Write + Drop, N: RandomSource + Drop>(
     socket: &mut Socket<S, N>,
     pings: &mut u32,
-) -> Result<Heard, AllocError> {
+) -> Result<Heard, AllocError>
+    ensures fewer { pings.new ≤ pings.old }
+    ensures spent { IfOk result (λ heard. is_spent heard ≡ (pings.new == 0)) }
+{
     socket.get_mut().await_message();
     'pings: while *pings > 0 {
         if let Some(heard) = read(socket)? {
@@ -134,7 +162,12 @@ pub(crate) fn send<S: Read + Write + Drop, N: RandomSource + Drop>(
     alloc: Global,
     socket: &mut Socket<S, N>,
     text: &str,
-) -> Result<Option<Lost>, AllocError> {
+) -> Result<Option<Lost>, AllocError>
+    ensures wrote { IfOk result (λ lost. lost ≡ None
+        → Writes (known_output S.contents) socket.old socket.new
+        (write_step socket.old.conn (text_content text.now))) }
+    ensures empty { IfOk result (λ lost. lost ≡ None → socket.new.output ≡ []) }
+{
     match socket.send(Message::text(alloc, text)?) {
         Ok(()) => Ok(None),
         Err(Error::OutOfMemory) => Err(AllocError),
@@ -142,22 +175,31 @@ pub(crate) fn send<S: Read + Write + Drop, N: RandomSource + Drop>(
     }
 }
 
-// Says that the client goes, and passes over what the server still sends, up to its close or the end of
-// the stream: a server that was left while it sent would lose what it had not read. Of that no more is
-// read than for one message. Answers how the connection ended.
-pub(crate) fn close_socket<S: Read + Write + Drop, N: RandomSource + Drop>(
-    mut socket: Socket<S, N>,
-) -> Result<Lost, AllocError> {
+// Says that the client goes, and answers why that could not be said, if it could not.
+fn say_close<S: Read + Write + Drop, N: RandomSource + Drop>(
+    socket: &mut Socket<S, N>,
+) -> Result<Option<Lost>, AllocError>
+    ensures wrote { IfOk result (λ lost. lost ≡ None
+        → Writes (known_output S.contents) socket.old socket.new (close_step socket.old.conn None)) }
+    ensures empty { IfOk result (λ lost. lost ≡ None → socket.new.output ≡ []) }
+{
     match socket.close(None) {
-        Ok(()) => {}
-        Err(Error::OutOfMemory) => return Err(AllocError),
-        Err(why) => return Ok(Lost::Failed(why)),
+        Ok(()) => Ok(None),
+        Err(Error::OutOfMemory) => Err(AllocError),
+        Err(why) => Ok(Some(Lost::Failed(why))),
     }
+}
+
+// Passes over what the server still sends, up to its close or the end of the stream, and answers how the
+// connection ended. No more is read than for one message.
+fn pass_over<S: Read + Write + Drop, N: RandomSource + Drop>(
+    socket: &mut Socket<S, N>,
+) -> Result<Lost, AllocError> {
     socket.get_mut().await_message();
     let mut pings = MAX_PINGS;
     // The bytes that are read for a message end this loop before the number does.
     for _ in 0..u64::MAX {
-        match read(&mut socket)? {
+        match read(socket)? {
             Some(Heard::Ended(why)) => return Ok(why),
             Some(Heard::Told(_)) => {}
             None if pings <= 1 => return Ok(Lost::Pings),
@@ -165,4 +207,15 @@ pub(crate) fn close_socket<S: Read + Write + Drop, N: RandomSource + Drop>(
         }
     }
     Ok(Lost::Kept)
+}
+
+// Says that the client goes, and passes over what the server still sends: a server that was left while it
+// sent would lose what it had not read. Answers how the connection ended.
+pub(crate) fn close_socket<S: Read + Write + Drop, N: RandomSource + Drop>(
+    mut socket: Socket<S, N>,
+) -> Result<Lost, AllocError> {
+    match say_close(&mut socket)? {
+        Some(why) => Ok(why),
+        None => pass_over(&mut socket),
+    }
 }

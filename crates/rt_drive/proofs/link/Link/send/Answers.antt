@@ -1,0 +1,15 @@
+use Rattle.std.proofs.Common.{rules, ◌≡◌, length, refl}
+use Rattle.rt_input.specs.Counted.{known_output}
+use Rattle.rt_drive.specs.Sending.{linked, text_of}
+use Rattle.rt_drive.proofs.Sending.{sent_one}
+use Rattle.rt_drive.proofs.link.Link.send.Goals as goal
+
+pub returns : goal.returns
+returns g c =
+    let is : c.as_str-words.result.now ≡ text_of c.args.message.now = search rules in λ _.
+    sent_one (known_output g.S.Write.contents) (linked c.args.self.now.socket c.args.self.now.ahead)
+    (linked c.make_way.new.self.socket c.make_way.new.self.ahead)
+    (linked c.send.new.socket c.note_sent.new.self) c.args.message.now
+    (length c.as_str-words.result.now) c.as_str-words.result.now is refl (c.in_ok-why.ensures.way c.in_default.is)
+    (c.in_ok-why-2.ensures.wrote c.in_default-2.is) (c.in_ok-why-2.ensures.empty c.in_default-2.is)
+    c.in_ok-note_sent.ensures
