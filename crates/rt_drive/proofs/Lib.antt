@@ -1,5 +1,6 @@
 mod Costs
 mod Counting
+mod Seating
 mod Sending
 mod Taking
 mod Telling

@@ -2,7 +2,7 @@
 use Rattle.std.proofs.Common.{◌≡◌, ◌+◌, ◌-◌, ◌≤◌, ℕ, List, [], ◌∷◌, ◌++◌, length, take, drop, Option, Some, None}
 use Rattle.std.proofs.Common.{Result, Ok, Err, refl, sym, ap, subst, ◌∙◌, arith}
 use Rattle.std.specs.Prelude.{◌==◌, true, if◌then◌else◌}
-use Rattle.std.specs.Option.{option_map_or}
+use Rattle.std.specs.Option.{option_map, option_map_or}
 use Rattle.std.proofs.lemmas.Bool.Decides.{nat_tests}
 use Rattle.std.proofs.lemmas.List.{length-append, take-append-drop}
 use Rattle.rt_wire.specs.declared.client.ClientMessage.{ClientMessage}
@@ -16,7 +16,7 @@ use Rattle.rt_client.specs.Calls.{IsSame, Locked, Seated}
 use Rattle.rt_client.specs.Lanes.{due, lane_of, settled}
 use Rattle.rt_client.specs.Settling.{RefusesSettle, Settles, TakesMessage}
 use Rattle.rt_client.specs.Shared.{Held}
-use Rattle.rt_drive.specs.inside.Ahead.{ahead_of, emptied, waiting_for, waiting_in, waiting_of}
+use Rattle.rt_drive.specs.inside.Waiting.{ahead_of, emptied, nothing_waits, waiting_for, waiting_in, waiting_of, without_waiting}
 
 abbrev pub listed : Option ClientMessage → List ClientMessage
 listed None = []
@@ -39,6 +39,43 @@ taken old new m t =
     was ∙ first_and_rest w.outgoing
     ∙ ap (λ f. listed f ++ drop 1 w.outgoing) (sym t.takes.first)
     ∙ ap (λ ms. listed m ++ ms) (sym is)
+
+-- what was to be sent is all that changes
+emptied_old : (old : Locked) (before : Held) (world : World) → old.held ≡ Some before → before.core ≡ Some world
+    → without_waiting old
+    ≡ record old { held = Some (record before { core = Some (record world { outgoing = [] }) }) }
+emptied_old old before world held core =
+    ap (λ h. record old { held = option_map nothing_waits h }) held
+    ∙ ap (λ c. record old {
+      held = Some (record before { core = option_map (λ (w : World). record w { outgoing = [] }) c });
+    }) core
+
+pub taken_rest : (old new : Locked) (m : Option ClientMessage) → TakesMessage old m new
+    → without_waiting new ≡ without_waiting old
+taken_rest old new m t =
+    ap without_waiting t.locked
+    ∙ ap (λ (a : Held). record old { held = Some (nothing_waits a) }) t.takes.left
+    ∙ sym (emptied_old old t.before t.takes.world t.held t.takes.core)
+
+no_first : (ms : List ClientMessage) → None ≡ first_message ms → drop 1 ms ≡ []
+no_first [] e = refl
+no_first (m ∷ ms) e = cc
+
+-- where there is no message nothing is left
+pub none_taken : (old new : Locked) → TakesMessage old None new → new ≡ without_waiting old
+none_taken old new t =
+    t.locked
+    ∙ ap (λ (a : Held). record old { held = Some a }) t.takes.left
+    ∙ ap (λ ms. record old {
+      held = Some (record (t.before) { core = Some (record (t.takes.world) { outgoing = ms }) });
+    }) (no_first t.takes.world.outgoing t.takes.first)
+    ∙ sym (emptied_old old t.before t.takes.world t.held t.takes.core)
+
+-- a client that has failed has none
+pub failed_rest : (old : Locked) → old.held ≡ None → without_waiting old ≡ old
+failed_rest old held =
+    ap (λ h. record old { held = option_map nothing_waits h }) held
+    ∙ ap (λ h. record old { held = h }) (sym held)
 
 equal : (n : ℕ) → (n == n) ≡ true
 equal n = grind (arith, nat_tests)

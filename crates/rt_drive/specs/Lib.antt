@@ -1,10 +1,12 @@
 -- What a reader must believe stands here; what only the code needs stands in inside/.
 -- Hearing (what a message of the socket is), Taking (what a text of the server makes of a client, and
--- prints), Printing (what is printed of a client), Answers (what is answered by what), Ahead (how far the
--- server is behind, and what was read ahead), Sending (what is sent, and what is read ahead before it), Run
--- (how many lines of an input are bad).
+-- prints), Doing (what lines and the connection do to a client and its seats, and what is printed for it),
+-- Printing (what is printed of a client), Answers (what is answered by what), Ahead (how far the server is
+-- behind, and what was read ahead), Sending (what is sent, and what is read ahead before it), Run (how many
+-- lines of an input are bad).
 pub mod Ahead
 pub mod Answers
+pub mod Doing
 pub mod Hearing
 pub mod inside
 pub mod Printing

@@ -1,1 +1,1 @@
-pub mod Ahead
+pub mod Waiting

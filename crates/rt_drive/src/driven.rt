@@ -1,6 +1,6 @@
 // A client behind a WebSocket, driven by lines.
-ghost use Rattle.std.specs.Prelude.{◌≡◌, ◌+◌, ◌<◌, ◌≤◌, ◌^◌, ℕ, List, Some};
-ghost use Rattle.std.specs.Prelude.{IfOk, IfErr, OnOk, OnErr};
+ghost use Rattle.std.specs.Prelude.{◌≡◌, ◌+◌, ◌<◌, ◌≤◌, ◌^◌, ℕ, List, Some, None, Ok};
+ghost use Rattle.std.specs.Prelude.{is_some, IfOk, IfErr, OnOk, OnErr};
 ghost use Rattle.std.specs.Io.KnownBytes.{IsAtEnd};
 ghost use Rattle.rt_input.specs.Faults.{counts, NoneFailed, Tells, WriteTells};
 ghost use Rattle.rt_input.specs.Lines.{lines_of, most_input};
@@ -11,14 +11,13 @@ use crate::link::Link;
 use crate::lost::Lost;
 use crate::say::{say_bad_line, say_lost};
 use crate::seats::{
-    Seats, close_seat, make_call, open_seats, settle_all, show_cover, take_messages, take_text,
+    Seats, obey, open_seats, settle_all, take_messages, take_told, tell_connected,
+    tell_disconnected, tell_lost,
 };
 use crate::socket::{Heard, MAX_PINGS, Told, opened};
-use crate::tell::write_why;
 use rt_client::{Client, Seat};
 use rt_input::{ConsoleError, Drain, LineReader, Log, Silent, Source};
 use rt_lines::{LineError, Order, Refusal, write_bad_line, write_refusal};
-use rt_wire::WireError;
 use rt_world::{Call, CoreError};
 use std::alloc::{AllocError, Global};
 use std::io::{Read, Write};
@@ -52,39 +51,50 @@ impl<'a, R: Wait, S: Read + Write + Drop, N: RandomSource + Drop> Driven<'a, R, 
         self.send_waiting(log)
     }
 
+    // The client is told that it is connected.
     fn tell_connected(&mut self) -> Result<(), AllocError> {
         let mut shared = self.client.shared.lock(self.rt);
-        match shared.connected() {
-            Ok(_) => Ok(()),
-            Err(why) => write_why(&mut self.printed, why),
-        }
+        tell_connected(&mut self.printed, &mut shared)
     }
 
-    fn tell_disconnected(&mut self) -> Result<(), AllocError> {
+    // The client is told that its connection has ended.
+    fn tell_disconnected(&mut self) -> Result<(), AllocError>
+        ensures { self.new.link ≡ self.old.link }
+    {
         let mut shared = self.client.shared.lock(self.rt);
-        match shared.disconnected() {
-            Ok(_) => Ok(()),
-            Err(why) => write_why(&mut self.printed, why),
-        }
+        tell_disconnected(&mut self.printed, &mut shared)
+    }
+
+    // The client is told that its connection is gone, which is printed.
+    fn tell_lost(&mut self) -> Result<(), AllocError>
+        ensures { self.new.link ≡ self.old.link }
+    {
+        let mut shared = self.client.shared.lock(self.rt);
+        tell_lost(&mut self.printed, &mut shared)
     }
 
     // The connection is gone.
-    fn lose_link<L: Log>(&mut self, why: &Lost, log: &mut L) -> Result<(), AllocError> {
+    fn lose_link<L: Log>(&mut self, why: &Lost, log: &mut L) -> Result<(), AllocError>
+        ensures { self.new.link ≡ None }
+    {
         drop(self.link.take());
         say_lost(self.alloc, why, log)?;
-        self.printed.push_str("disconnected\n")?;
-        self.tell_disconnected()?;
+        self.tell_lost()?;
         self.settle()
     }
 
     // Settles the seats, and prints what they are told.
-    fn settle(&mut self) -> Result<(), AllocError> {
+    fn settle(&mut self) -> Result<(), AllocError>
+        ensures { self.new.link ≡ self.old.link }
+    {
         let mut shared = self.client.shared.lock(self.rt);
         settle_all(&mut self.printed, self.alloc, &mut shared, &mut self.seats)
     }
 
-    // Sends what the client has to send.
-    fn send_waiting<L: Log>(&mut self, log: &mut L) -> Result<(), AllocError> {
+    // Sends what the client has to send, where the connection stands.
+    fn send_waiting<L: Log>(&mut self, log: &mut L) -> Result<(), AllocError>
+        ensures { self.old.link ≡ None → (result ≡ Ok tt) × (self.new ≡ self.old) × (log.new ≡ log.old) }
+    {
         let Some(link) = &mut self.link else {
             return Ok(());
         };
@@ -96,18 +106,17 @@ impl<'a, R: Wait, S: Read + Write + Drop, N: RandomSource + Drop> Driven<'a, R, 
     }
 
     // Takes a message of the server.
-    fn take(&mut self, told: Told) -> Result<(), AllocError> {
-        match told {
-            Told::Text(words) => {
-                let mut shared = self.client.shared.lock(self.rt);
-                take_text(&mut self.printed, self.alloc, &mut shared, words.as_str())
-            }
-            Told::Binary => write_refusal(&mut self.printed, Refusal::Wire(WireError::NotJson)),
-        }
+    fn take(&mut self, told: Told) -> Result<(), AllocError>
+        ensures { self.new.link ≡ self.old.link }
+    {
+        let mut shared = self.client.shared.lock(self.rt);
+        take_told(&mut self.printed, self.alloc, &mut shared, told)
     }
 
     // Reads a message, where the connection stands, and answers whether it stands then.
-    fn read_message<L: Log>(&mut self, log: &mut L) -> Result<bool, AllocError> {
+    fn read_message<L: Log>(&mut self, log: &mut L) -> Result<bool, AllocError>
+        ensures { IfOk result (λ stands. stands ≡ is_some self.new.link) }
+    {
         let Some(link) = &mut self.link else {
             return Ok(false);
         };
@@ -149,22 +158,16 @@ impl<'a, R: Wait, S: Read + Write + Drop, N: RandomSource + Drop> Driven<'a, R, 
         Ok(())
     }
 
-    // Makes a call of a seat.
-    fn call(&mut self, seat: u64, call: Call) -> Result<(), AllocError> {
+    // Does what an order asks of the client and its seats.
+    fn obey(&mut self, order: Order) -> Result<(), AllocError> {
         let mut shared = self.client.shared.lock(self.rt);
-        make_call(&mut self.printed, &mut shared, &mut self.seats, seat, call)
-    }
-
-    // Ends a seat.
-    fn close(&mut self, seat: u64) -> Result<(), AllocError> {
-        let mut shared = self.client.shared.lock(self.rt);
-        close_seat(&mut self.printed, &mut shared, &mut self.seats, seat)
-    }
-
-    // Prints the listens that are kept.
-    fn cover(&mut self) -> Result<(), AllocError> {
-        let shared = self.client.shared.lock(self.rt);
-        show_cover(&mut self.printed, self.alloc, &shared)
+        obey(
+            &mut self.printed,
+            self.alloc,
+            &mut shared,
+            &mut self.seats,
+            order,
+        )
     }
 
     // Does what a line asks for, and answers whether it is good.
@@ -183,9 +186,9 @@ impl<'a, R: Wait, S: Read + Write + Drop, N: RandomSource + Drop> Driven<'a, R, 
     {
         match Order::read(self.alloc, bytes) {
             Ok(Order::Read { times }) => self.read_messages(times, writer, log)?,
-            Ok(Order::Seat { seat, call }) => self.call(seat, call)?,
-            Ok(Order::Close { seat }) => self.close(seat)?,
-            Ok(Order::Cover) => self.cover()?,
+            Ok(order @ (Order::Seat { .. } | Order::Close { .. } | Order::Cover)) => {
+                self.obey(order)?;
+            }
             Err(LineError::Refused(refusal)) => write_refusal(&mut self.printed, refusal)?,
             Err(LineError::Bad) => {
                 write_bad_line(&mut self.printed, number)?;
@@ -272,7 +275,9 @@ impl<'a, R: Wait, S: Read + Write + Drop, N: RandomSource + Drop> Driven<'a, R, 
     }
 
     // The connection is closed, and the client is told of it.
-    fn end<L: Log>(&mut self, log: &mut L) -> Result<(), AllocError> {
+    fn end<L: Log>(&mut self, log: &mut L) -> Result<(), AllocError>
+        ensures { self.new.link ≡ None }
+    {
         let Some(link) = self.link.take() else {
             return Ok(());
         };

@@ -1,14 +1,19 @@
 // What lines and messages ask of a client's locked value and its seats, and what they print.
-ghost use Rattle.std.specs.Prelude.{◌≡◌, ◌<◌, ℕ, List, [], false, true, length, IfOk, IfSome, OnOk};
+ghost use Rattle.std.specs.Prelude.{◌≡◌, ◌+◌, ◌<◌, ◌++◌, ℕ, List, [], false, true, length};
+ghost use Rattle.std.specs.Prelude.{None, IfOk, IfSome, OnOk};
+ghost use Rattle.rt_world.specs.declared.step.Step.TheVariants as step;
 ghost use Rattle.rt_wire.specs.Server.{server_message};
 ghost use Rattle.rt_lines.specs.inside.Appending.{Appends};
+ghost use Rattle.rt_drive.specs.Doing.{Calls, ClosesAt, IsCalled, IsClosed, IsTold, Obeys, Shows};
+ghost use Rattle.rt_drive.specs.Doing.{TakesTold, disconnected, seat_at};
 ghost use Rattle.rt_drive.specs.Printing.{items_text};
 ghost use Rattle.rt_drive.specs.Taking.{Takes};
-ghost use Rattle.rt_drive.specs.inside.Ahead.{ahead_of, emptied, waiting_of};
+ghost use Rattle.rt_drive.specs.inside.Waiting.{ahead_of, emptied, waiting_of, without_waiting};
 
+use crate::socket::Told;
 use crate::tell::{write_item, write_why};
 use rt_client::{Call, ClientError, Seat, Shared, with_seat};
-use rt_lines::{Refusal, write_cover, write_outcome, write_refusal};
+use rt_lines::{Order, Refusal, write_cover, write_outcome, write_refusal};
 use rt_wire::{ServerMessage, WireError};
 use rt_world::{ClientMessage, Outcome};
 use std::alloc::{AllocError, Global};
@@ -27,12 +32,34 @@ pub(crate) fn open_seats(alloc: Global, seats: Vec<Seat>) -> Result<Seats, Alloc
 
 // The place of the seat of that number, if the client has it.
 fn place_of(seats: &Seats, number: u64) -> Option<usize>
-    ensures { IfSome result (λ place. place < length seats.now.items) }
+    ensures here { IfSome result (λ place.
+        (place < length seats.now.items) × (number ≡ place + 1)) }
+    ensures none { result ≡ None → seat_at seats.now.items number ≡ None }
 {
-    if number == 0 || (number - 1) as usize >= seats.len() {
+    if number == 0 {
         return None;
     }
-    Some((number - 1) as usize)
+    let place = (number - 1) as usize;
+    if place >= seats.len() {
+        return None;
+    }
+    Some(place)
+}
+
+// Makes a call of a seat, and prints what became of it.
+fn call_open(
+    out: &mut String,
+    shared: &mut Shared,
+    seat: &mut Seat,
+    call: Call,
+) -> Result<(), AllocError>
+    ensures { OnOk result ((text : List ℕ) × Appends out.old out.new text
+        × IsCalled shared.old seat.old call text shared.new seat.new) }
+{
+    match with_seat(shared, seat, call) {
+        Ok(done) => write_outcome(out, done.outcome, done.given),
+        Err(why) => write_why(out, why),
+    }
 }
 
 // Makes a call of the seat of that number, and prints what became of it.
@@ -42,17 +69,33 @@ pub(crate) fn make_call(
     seats: &mut Seats,
     number: u64,
     call: Call,
-) -> Result<(), AllocError> {
-    let made = match place_of(seats, number) {
-        Some(place) => match &mut seats[place] {
-            Some(seat) => with_seat(shared, seat, call),
-            None => Err(ClientError::WrongSeat),
-        },
-        None => Err(ClientError::WrongSeat),
+) -> Result<(), AllocError>
+    ensures { OnOk result ((text : List ℕ) × Appends out.old out.new text
+        × Calls shared.old seats.old.items number call text shared.new seats.new.items) }
+{
+    let Some(place) = place_of(seats, number) else {
+        return write_why(out, ClientError::WrongSeat);
     };
-    match made {
-        Ok(done) => write_outcome(out, done.outcome, done.given),
-        Err(why) => write_why(out, why),
+    match &mut seats[place] {
+        Some(seat) => call_open(out, shared, seat, call),
+        None => write_why(out, ClientError::WrongSeat),
+    }
+}
+
+// Ends a seat, and prints what became of it. Answers the seat where it stays.
+fn close_open(out: &mut String, shared: &mut Shared, seat: Seat) -> Result<Option<Seat>, AllocError>
+    ensures { IfOk result (λ left. (text : List ℕ) × Appends out.old out.new text
+        × IsClosed shared.old seat text shared.new left) }
+{
+    match shared.close_seat(seat) {
+        Ok(()) => {
+            write_outcome(out, Outcome::Done, None)?;
+            Ok(None)
+        }
+        Err(unclosed) => {
+            write_why(out, unclosed.why)?;
+            Ok(Some(unclosed.seat))
+        }
     }
 }
 
@@ -62,28 +105,25 @@ pub(crate) fn close_seat(
     shared: &mut Shared,
     seats: &mut Seats,
     number: u64,
-) -> Result<(), AllocError> {
+) -> Result<(), AllocError>
+    ensures { OnOk result ((text : List ℕ) × Appends out.old out.new text
+        × ClosesAt shared.old seats.old.items number text shared.new seats.new.items) }
+{
     let Some(place) = place_of(seats, number) else {
         return write_why(out, ClientError::WrongSeat);
     };
     let Some(seat) = seats[place].take() else {
         return write_why(out, ClientError::WrongSeat);
     };
-    match shared.close_seat(seat) {
-        Ok(()) => write_outcome(out, Outcome::Done, None),
-        Err(unclosed) => {
-            seats[place] = Some(unclosed.seat);
-            write_why(out, unclosed.why)
-        }
-    }
+    seats[place] = close_open(out, shared, seat)?;
+    Ok(())
 }
 
 // Prints the listens that are kept.
-pub(crate) fn show_cover(
-    out: &mut String,
-    alloc: Global,
-    shared: &Shared,
-) -> Result<(), AllocError> {
+pub(crate) fn show_cover(out: &mut String, alloc: Global, shared: &Shared) -> Result<(), AllocError>
+    ensures { OnOk result ((text : List ℕ) × Appends out.old out.new text
+        × Shows shared.now text) }
+{
     match shared.cover() {
         Ok(kept) => write_cover(out, alloc, kept.as_slice()),
         Err(why) => write_why(out, why),
@@ -111,13 +151,81 @@ pub(crate) fn take_text(
     }
 }
 
+// Takes a message of the server, and prints what became of it.
+pub(crate) fn take_told(
+    out: &mut String,
+    alloc: Global,
+    shared: &mut Shared,
+    told: Told,
+) -> Result<(), AllocError>
+    ensures { OnOk result ((text : List ℕ) × Appends out.old out.new text
+        × TakesTold told shared.old shared.new text) }
+{
+    match told {
+        Told::Text(words) => take_text(out, alloc, shared, words.as_str()),
+        Told::Binary => write_refusal(out, Refusal::Wire(WireError::NotJson)),
+    }
+}
+
+// Tells the client that it is connected. Prints nothing, but why that is refused.
+pub(crate) fn tell_connected(out: &mut String, shared: &mut Shared) -> Result<(), AllocError>
+    ensures { OnOk result ((text : List ℕ) × Appends out.old out.new text
+        × IsTold shared.old step.Connected shared.new text) }
+{
+    match shared.connected() {
+        Ok(_) => Ok(()),
+        Err(why) => write_why(out, why),
+    }
+}
+
+// Tells the client that its connection has ended. Prints nothing, but why that is refused.
+pub(crate) fn tell_disconnected(out: &mut String, shared: &mut Shared) -> Result<(), AllocError>
+    ensures { OnOk result ((text : List ℕ) × Appends out.old out.new text
+        × IsTold shared.old step.Disconnected shared.new text) }
+{
+    match shared.disconnected() {
+        Ok(_) => Ok(()),
+        Err(why) => write_why(out, why),
+    }
+}
+
+// Tells the client that its connection is gone, and prints it.
+pub(crate) fn tell_lost(out: &mut String, shared: &mut Shared) -> Result<(), AllocError>
+    ensures { OnOk result ((text : List ℕ) × Appends out.old out.new (disconnected ++ text)
+        × IsTold shared.old step.Disconnected shared.new text) }
+{
+    out.push_str("disconnected\n")?;
+    tell_disconnected(out, shared)
+}
+
+// Does what an order asks of the client and its seats, and prints what became of it. Messages are read
+// elsewhere.
+pub(crate) fn obey(
+    out: &mut String,
+    alloc: Global,
+    shared: &mut Shared,
+    seats: &mut Seats,
+    order: Order,
+) -> Result<(), AllocError>
+    ensures { OnOk result ((text : List ℕ) × Appends out.old out.new text
+        × Obeys order shared.old seats.old.items text shared.new seats.new.items) }
+{
+    match order {
+        Order::Seat { seat, call } => make_call(out, shared, seats, seat, call),
+        Order::Close { seat } => close_seat(out, shared, seats, seat),
+        Order::Cover => show_cover(out, alloc, shared),
+        Order::Read { .. } => Ok(()),
+    }
+}
+
 // Takes out the messages that are to be sent; a client that has failed has none.
-#[tactic(auto, using(crate::proofs::Waiting::taken))]
+#[tactic(auto, using(crate::proofs::Waiting::taken, crate::proofs::Waiting::taken_rest, crate::proofs::Waiting::none_taken, crate::proofs::Waiting::failed_rest))]
 pub(crate) fn take_messages(
     alloc: Global,
     shared: &mut Shared,
 ) -> Result<Vec<ClientMessage>, AllocError>
-    ensures { IfOk result (λ messages. messages.items ≡ waiting_of shared.old) }
+    ensures taken { IfOk result (λ messages. messages.items ≡ waiting_of shared.old) }
+    ensures left { OnOk result (shared.new ≡ without_waiting shared.old) }
 {
     let mut messages = Vec::new(alloc);
     'messages: loop {

@@ -1,4 +1,4 @@
-use Rattle.rt_drive.specs.inside.Ahead.{ahead_of}
+use Rattle.rt_drive.specs.inside.Waiting.{ahead_of}
 use Rattle.rt_drive.proofs.seats.settle_seat.Given as goal
 
 abbrev pub invariant-rounds : goal.invariant-rounds

@@ -3,7 +3,7 @@ use Rattle.std.specs.List.{slice_get}
 use Rattle.rt_client.specs.Calls.{Seated}
 use Rattle.rt_mail.specs.declared.item.Item.{Item}
 use Rattle.rt_drive.specs.Printing.{item_text, items_text}
-use Rattle.rt_drive.specs.inside.Ahead.{emptied}
+use Rattle.rt_drive.specs.inside.Waiting.{emptied}
 use Rattle.rt_drive.proofs.Telling.{had_one, told_more}
 use Rattle.rt_drive.proofs.seats.tell_ring.Goals as goal
 

@@ -1,6 +1,6 @@
 -- What waits in a client's locked value for a seat, and to be sent.
 use Rattle.std.specs.Prelude.{ℕ, ◌+◌, length, List, [], Option, Some, None}
-use Rattle.std.specs.Option.{option_map_or}
+use Rattle.std.specs.Option.{option_map, option_map_or}
 use Rattle.rt_wire.specs.declared.client.ClientMessage.{ClientMessage}
 use Rattle.rt_world.specs.World.{World}
 use Rattle.rt_mail.specs.Lanes.{Line}
@@ -14,6 +14,13 @@ waiting_in h = option_map_or (λ (w : World). w.outgoing) h.core []
 
 abbrev pub waiting_of : Locked → List ClientMessage
 waiting_of locked = option_map_or waiting_in locked.held []
+
+-- the same with nothing to be sent
+abbrev pub nothing_waits : Held → Held
+nothing_waits h = record h { core = option_map (λ (w : World). record w { outgoing = [] }) h.core }
+
+abbrev pub without_waiting : Locked → Locked
+without_waiting locked = record locked { held = option_map nothing_waits locked.held }
 
 -- how many items wait in a lane
 abbrev pub waiting_for : Option Line → ℕ
