@@ -46,7 +46,7 @@ def run(words, folder, **given):
 
 # ---- functions of a file
 
-IMPL = r"impl(?:<.*?>)? (?:(?:\w+::)*(?P<trait>\w+)(?:<(?:\w+::)*(?P<of>\w+).*>)? for )?(?:\w+::)*(?P<type>\w+)"
+IMPL = r"impl(?:<.*?>)? (?:(?:\w+::)*(?P<trait>\w+)(?:<(?:\w+::)*(?P<of>\w+).*>)? for )?(?P<lent>&(?:'\w+ )?)?(?:\w+::)*(?P<type>\w+)"
 HEAD = re.compile(rf"(?m)^(?:{IMPL}|(?P<indent> *)(?:pub(?:\(\w+\))? )?(?:const )?fn (?P<name>\w+))")
 CYCLE = re.compile(r"#\[cycle\((\w+)\)\]\n(?: *#\[.*\]\n)*\Z")
 
@@ -57,8 +57,10 @@ def functions_in(path, text):
     modules = [] if inside in (["lib"], ["main"]) else inside
     for it in HEAD.finditer(text):
         if it["name"] is None:
-            # an impl's function stands below its type, wherever the type is, and a trait's, but Drop's, below both names joined, and that of the trait's own type
-            owner = f"{it['type']}{it['trait'] or '' if it['trait'] != 'Drop' else ''}{it['of'] or ''}"
+            # an impl's function stands below its type, wherever the type is, and a trait's, but Drop's, below both names joined, and that of the trait's own type;
+            # where a reference to the type has the trait, Ref stands before them
+            lent, trait = "Ref" if it["lent"] else "", it["trait"] if it["trait"] != "Drop" else ""
+            owner = f"{lent}{it['type']}{trait or ''}{it['of'] or ''}"
         elif it["indent"]:
             yield f"{owner}::{it['name']}", it.start()
         else:

@@ -94,6 +94,10 @@ class Functions(unittest.TestCase):
         self.assertEqual([name for name, _ in bodies.functions_in("src/lib.rt", "pub fn run() {\n}\n")], ["run"])
         self.assertEqual([name for name, _ in bodies.functions_in("src/steps/mod.rt", "fn kind() {\n}\n")], ["steps::kind"])
 
+    def test_names_of_a_lent_type(self):
+        code = "impl<'a, T> IntoIterator for &'a Lane<T> {\n    fn into_iter(self) -> Iter<'a, T> {\n    }\n}\n"
+        self.assertEqual([name for name, _ in bodies.functions_in("src/lane.rt", code)], ["RefLaneIntoIterator::into_iter"])
+
     def test_place(self):
         at = CODE.index("self.waits += 1")
         self.assertEqual(bodies.function_at("src/lane.rt", CODE, at), "Lane::put")

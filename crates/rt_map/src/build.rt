@@ -51,11 +51,14 @@ pub fn chunks_of<K: Drop, V: Drop>(
     ensures filled { IfOk result (λ chunks. AllFilled chunks.items) }
     ensures entries { IfOk result (λ chunks. joined chunks.items ≡ entries.items) }
 {
+    let mut left = entries.len();
     let mut chunks = Vec::new(alloc);
-    let mut open = Vec::new(alloc);
+    let mut open = Vec::with_capacity(alloc, left.min(MAX_ENTRIES))?;
     for entry in entries {
         if open.len() >= MAX_ENTRIES {
-            let full = mem::replace(&mut open, Vec::new(alloc));
+            left = left.saturating_sub(MAX_ENTRIES);
+            let next = Vec::with_capacity(alloc, left.min(MAX_ENTRIES))?;
+            let full = mem::replace(&mut open, next);
             push_chunk(&mut chunks, alloc, full)?;
         }
         open.push(entry)?;

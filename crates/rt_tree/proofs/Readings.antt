@@ -140,14 +140,6 @@ pub distinct_items : (m : ℕ) (ds : Items) → m + items_len ds ≤ 2 ^ 64 → 
 distinct_items m no_items small = tt
 distinct_items m (item d ds) small = (none_at_place m (suc m) ds (omega arith) (omega arith), distinct_items (suc m) ds (omega arith))
 
-none_named : (k : String Global) (es : List (String Global × Value)) → AllByRecursion (λ y. string_cmp k y ≡ Less) (keys_of es) → child_of (member_trees (members_view es)) (string_bytes k) ≡ None
-none_named k [] h = refl
-none_named k (e ∷ es) h = ap (λ o. cond (is_eq o) (Some (tree_of_data (view e.1))) (child_of (member_trees (members_view es)) (string_bytes k))) h.0 ∙ none_named k es h.1
-
-pub distinct_members : (es : List (String Global × Value)) → IsStrictlySortedBy string_cmp (keys_of es) → Distinct (member_trees (members_view es))
-distinct_members [] h = tt
-distinct_members (e ∷ es) h = (none_named e.0 es (sorted_head string_cmp e.0 (keys_of es) h), distinct_members es (sorted_tail string_cmp e.0 (keys_of es) h))
-
 -- ---- how deep the tree of data is
 pub visits-first : (vs ws : List Visit) → AllByRecursion HasPlace (vs ++ ws) → AllByRecursion HasPlace vs
 visits-first [] ws h = tt
@@ -263,10 +255,15 @@ building_items xs short children none =
     subst (λ fs. Building (item_trees 0 (items_view xs)) fs (item_trees 0 (items_view xs))) (sym none)
     (building_begins _ (distinct_items 0 (items_view xs) (omega (arith, short, items_len-items_view xs))))
 
-pub building_members : (es : List (String Global × Value)) → IsStrictlySortedBy string_cmp (keys_of es) → (children : List (Key × PathTree)) → children ≡ [] → Building (member_trees (members_view es)) children (member_trees (members_view es))
-building_members es sorted children none =
-    subst (λ fs. Building (member_trees (members_view es)) fs (member_trees (members_view es))) (sym none)
-    (building_begins _ (distinct_members es sorted))
+pub building_next : (all children new : List (Key × PathTree)) (xs rest : List Value) (i : ℕ) (x : Value) (k : Key) (t : PathTree) → xs ≡ x ∷ rest
+    → Building all children (item_trees i (items_view xs)) → k ≡ decimal i → t ≡ tree_of_data (view x)
+    → MayStandAt (decimal i ∷ []) t → AddsChild children new k t → IsStrictlySortedBy key_cmp (keys_of new) → Building all new (item_trees (i + 1) (items_view rest))
+building_next all children new xs rest i x k t is h key tree stands adds sorted =
+    let next : suc i ≡ i + 1 = omega arith in
+    subst (λ n. Building all new (item_trees n (items_view rest))) next
+    (building_goes_on all children new (item_trees (suc i) (items_view rest)) (decimal i) (tree_of_data (view x))
+    (subst (λ ys. Building all children (item_trees i (items_view ys))) is h)
+    (subst (λ u. AddsChild children new (decimal i) u) tree (subst (λ j. AddsChild children new j t) key adds)) (subst (MayStandAt (decimal i ∷ [])) tree stands) sorted)
 
 pub building_item : (all children new : List (Key × PathTree)) (xs : List Value) (i : ℕ) (x : Value) (k : Key) (t : PathTree) → i < length xs → x ≡ get_or xs i x
     → Building all children (item_trees i (items_view (drop i xs))) → k ≡ decimal i → t ≡ tree_of_data (view x)
@@ -278,19 +275,22 @@ building_item all children new xs i x k t within is h key tree stands adds sorte
     (subst (λ ds. Building all children (item_trees i ds)) (item_next xs i x within is) h)
     (subst (λ u. AddsChild children new (decimal i) u) tree (subst (λ j. AddsChild children new j t) key adds)) (subst (MayStandAt (decimal i ∷ [])) tree stands) sorted)
 
-pub building_member : (all children new : List (Key × PathTree)) (es rest : List (String Global × Value)) (name : String Global) (x : Value) (k : Key) (t : PathTree) → es ≡ (name, x) ∷ rest
-    → Building all children (member_trees (members_view es)) → k ≡ string_bytes name → t ≡ tree_of_data (view x)
-    → MayStandAt (string_bytes name ∷ []) t → AddsChild children new k t → IsStrictlySortedBy key_cmp (keys_of new) → Building all new (member_trees (members_view rest))
-building_member all children new es rest name x k t is h key tree stands adds sorted =
-    building_goes_on all children new (member_trees (members_view rest)) (string_bytes name) (tree_of_data (view x))
-    (subst (λ ms. Building all children (member_trees ms)) (member_next es rest name x is) h)
-    (subst (λ u. AddsChild children new (string_bytes name) u) tree (subst (λ j. AddsChild children new j t) key adds)) (subst (MayStandAt (string_bytes name ∷ [])) tree stands) sorted
-
 pub no_items_left : (all children : List (Key × PathTree)) (xs : List Value) (i : ℕ) → length xs ≤ i → Building all children (item_trees i (items_view (drop i xs))) → object children ≡ object all
 no_items_left all children xs i past h = building_ends all children (subst (λ ys. Building all children (item_trees i (items_view ys))) (drop_all i xs past) h)
 
-pub no_members_left : (all children : List (Key × PathTree)) (es : List (String Global × Value)) → es ≡ [] → Building all children (member_trees (members_view es)) → object children ≡ object all
-no_members_left all children es none h = building_ends all children (subst (λ fs. Building all children (member_trees (members_view fs))) none h)
+pub no_item_left : (all children : List (Key × PathTree)) (xs : List Value) (i : ℕ) → length xs ≡ 0 → Building all children (item_trees i (items_view xs)) → object children ≡ object all
+no_item_left all children [] i none h = building_ends all children h
+no_item_left all children (x ∷ xs) i none h = absurd (omega (arith, none))
+
+-- ---- values that are taken apart
+-- the name of data without a fault is a key
+pub name_is_key : (level : ℕ) (k : List ℕ) (d : Data) → AllByRecursion HasPlace (visits level (Some k) d) → IsKey k
+name_is_key level k d h = key_place level k d (head_place level (Some k) d h)
+
+-- its tree may stand at a key
+pub data_stands : (level : ℕ) (name : Option (List ℕ)) (k : Key) (d : Data) (t : PathTree) → 0 < level → AllByRecursion HasPlace (visits level name d) → t ≡ tree_of_data d → IsKey k → IsAllowed t → MayStandAt (k ∷ []) t
+data_stands level name k d t below h is key allowed =
+    may_stand (k ∷ []) t (one_key k key) allowed (omega (arith, below, ap levels is, levels-data d level name h))
 
 -- ---- what a walk without a fault says
 place_of_step : (n : ℕ) (m : ℕ) (v : Visit) (vs : List Visit) → walked n (v ∷ vs) ≡ Ok m → HasPlace v × (walked (suc n) vs ≡ Ok m)

@@ -21,14 +21,14 @@ use Rattle.rt_tree.specs.Key.{IsKey}
 use Rattle.rt_tree.specs.Path.{IsPath}
 use Rattle.rt_tree.specs.Leaf.{LeafValue, truth, number, text, IsWhole, IsInRange}
 use Rattle.rt_tree.specs.Leaves.{Key, Path, Leaves, is_empty, get, key_cmp, key_eq}
-use Rattle.rt_tree.specs.Trees.{PathTree, leaf_at, is_null, sub, child_of, non_null, levels, MayStandAt, IsAllowed, children_of}
+use Rattle.rt_tree.specs.Trees.{PathTree, leaf_at, is_null, sub, object, child_of, non_null, levels, MayStandAt, IsAllowed, children_of}
 use Rattle.rt_tree.specs.laws.Prefixes.{key_eq-same, path_eq-same}
-use Rattle.rt_tree.specs.laws.PathTree.{leaf_at-sub}
+use Rattle.rt_tree.specs.laws.PathTree.{leaf_at-sub, leaf_of_root, null_of_levels, child_levels}
 use Rattle.rt_tree.specs.laws.Children.{children_sorted, child_of-children_of}
-use Rattle.rt_tree.specs.Reading.{Visit, visit, visits, member_visits, name_fault, number_fault, value_fault, place_fault, HasPlace, walked, data_fault}
+use Rattle.rt_tree.specs.Reading.{tree_of_data, member_trees, Visit, visit, visits, member_visits, name_fault, number_fault, value_fault, place_fault, HasPlace, walked, data_fault}
 use Rattle.rt_tree.specs.Writing.{leaf_data, members_with, object_data, leaf_or, data_at, data_of, value_count, back_fault}
 use Rattle.rt_tree.proofs.Trees.{full_of_non_null}
-use Rattle.rt_tree.proofs.Writings.{integer_back}
+use Rattle.rt_tree.proofs.Writings.{integer_back, leaf_back, object-children_of}
 
 -- ---- one value
 -- a value in its place
@@ -147,3 +147,30 @@ walked-all n m (v ∷ vs) few sum h =
 
 pub data_fault-data_of : (t : PathTree) → IsAllowed t → data_fault (data_of t) ≡ back_fault t
 data_fault-data_of t h = walked-all 0 (value_count t) (visits 0 None (data_of t)) (omega arith) (omega arith) (places-data_of t h)
+
+-- ---- the data is read back as the tree
+object_back : (ms : Members) → tree_of_data (object_data ms) ≡ object (member_trees ms)
+object_back no_members = refl
+object_back (member k d ms) = refl
+
+members_back : (f : PathTree → Data) (es : List (Key × PathTree)) → AllByRecursion (λ e. tree_of_data (f e.1) ≡ e.1) es → member_trees (members_with f es) ≡ es
+members_back f [] h = refl
+members_back f (e ∷ es) h = λ i. (e.0, h.0 i) ∷ members_back f es h.1 i
+
+back : (n : ℕ) (t : PathTree) (p : Path) → levels t ≤ n → MayStandAt p t → tree_of_data (data_at n t) ≡ t
+back zero t p low may = sym (null_of_levels t (omega arith))
+back (suc n) t p low may =
+    elim (leaf_at t []) as (λ o. leaf_at t [] ≡ o → tree_of_data (leaf_or o (members_with (data_at n) (children_of t))) ≡ t) [
+      | Some l ↦ λ e. leaf_back l (may [] l e).1 ∙ sym (leaf_of_root t l e)
+      | None ↦ λ e.
+          object_back (members_with (data_at n) (children_of t))
+          ∙ ap object (members_back (data_at n) (children_of t) (all_children (λ c. tree_of_data (data_at n c.1) ≡ c.1) (children_of t) (children_sorted t) (λ k u is.
+          let part : non_null (sub t (k ∷ [])) ≡ Some u = sym (child_of-children_of t k) ∙ is in
+          let deeper : levels u + 1 ≤ levels (object (children_of t)) = child_levels (children_of t) k u is (full_of_non_null (sub t (k ∷ [])) u part) in
+          back n u (p ++ k ∷ []) (omega (arith, low, deeper, ap levels (object-children_of t e))) (child_may t p k u may (same_part (sub t (k ∷ [])) u part)))))
+          ∙ object-children_of t e
+    ] refl
+
+pub tree_of_data-data_of : (t : PathTree) → IsAllowed t → tree_of_data (data_of t) ≡ t
+unfolding data_of
+tree_of_data-data_of t h = back (levels t) t [] (omega arith) h

@@ -1,14 +1,14 @@
 -- A walk over some values and then others.
-use Rattle.std.proofs.Common.{◌≡◌, ℕ, suc, ◌+◌, ◌<◌, length, get_or, drop, String, Global, string_bytes, true, false, cond, List, [], ◌∷◌, ◌++◌, nat_le, Some, None, Result, Ok, Err, refl, sym, ap, ◌∙◌}
+use Rattle.std.proofs.Common.{◌≡◌, ℕ, suc, ◌+◌, ◌<◌, length, get_or, drop, String, Global, string_bytes, true, false, cond, List, [], ◌∷◌, ◌++◌, nat_le, Some, None, Result, Ok, Err, ◌⊎◌, inl, inr, refl, sym, ap, ◌∙◌, subst}
 use Rattle.std.proofs.lemmas.List.{drop_more}
 use Rattle.std.proofs.lemmas.Result.{err_from_is_err_and}
 use Rattle.std.specs.Option.{option_map_or}
-use Rattle.std.specs.Result.{IsErrAnd}
+use Rattle.std.specs.Result.{IsErrAnd, IfErr}
 use Rattle.serde_json.specs.Data.{item, member}
 use Rattle.serde_json.specs.View.{view, items_view, members_view}
 use Rattle.serde_json.specs.declared.value.Value.{Value}
 use Rattle.rt_tree.specs.declared.error.TreeError.{TreeError}
-use Rattle.rt_tree.specs.declared.error.TreeError.TheVariants.{TooManyNodes}
+use Rattle.rt_tree.specs.declared.error.TreeError.TheVariants.{TooManyNodes, NoMemory}
 use Rattle.rt_tree.specs.Reading.{Visit, walked, place_fault}
 
 abbrev after : Result ℕ TreeError → List Visit → Result ℕ TreeError
@@ -35,6 +35,14 @@ walked-stops n f vs ws e = both n vs ws ∙ ap (λ r. after r ws) (sym e)
 -- the fault that a `?` passes on
 pub passed_on : (r : Result ℕ TreeError) (f : TreeError) → IsErrAnd r (λ e. e ≡ f) → r ≡ Err f
 passed_on r f h = let p = err_from_is_err_and r h in p.1 ∙ ap Err p.2
+
+pub passes_on : {A : Type 0} (r : Result A TreeError) (f : TreeError) (P : TreeError → Type 0) → IsErrAnd r (λ e. e ≡ f) → P f → IfErr r P
+passes_on r f P h p = let q = err_from_is_err_and r h in subst (λ s. IfErr s P) (sym (q.1 ∙ ap Err q.2)) p
+
+-- a walk that has come to vs ends there, or memory lacks
+pub stops_there : (r : Result ℕ TreeError) (n : ℕ) (vs ws : List Visit) (e : TreeError) → r ≡ walked n (vs ++ ws) → (walked n vs ≡ Err e) ⊎ (e ≡ NoMemory) → (r ≡ Err e) ⊎ (e ≡ NoMemory)
+stops_there r n vs ws e so_far (inl f) = inl (so_far ∙ walked-stops n e vs ws (sym f))
+stops_there r n vs ws e so_far (inr f) = inr f
 
 -- ---- over items and over members
 pub item_next : (xs : List Value) (i : ℕ) (x : Value) → i < length xs → x ≡ get_or xs i x → items_view (drop i xs) ≡ item (view x) (items_view (drop (i + 1) xs))

@@ -1,5 +1,5 @@
 -- The data that a tree is written as.
-use Rattle.std.proofs.Common.{rules, ◌≡◌, ℕ, zero, suc, ◌+◌, ◌<◌, ◌≤◌, false, ◌||◌, ℤ, pos, negsuc, List, [], ◌∷◌, ◌++◌, length, Some, None, Less, refl, sym, ap, ◌∙◌, arith, subst, append_assoc, append-nil}
+use Rattle.std.proofs.Common.{rules, ◌≡◌, ℕ, zero, suc, ◌+◌, ◌^◌, ◌<◌, ◌≤◌, false, ◌||◌, ℤ, pos, negsuc, List, [], ◌∷◌, ◌++◌, length, Some, None, Less, refl, sym, ap, ◌∙◌, arith, subst, append_assoc, append-nil, decimal}
 use Rattle.std.specs.Ordering.{ordering_reverse, match_ordering}
 use Rattle.std.specs.Cmp.Lexicographic.{nat_list_cmp_total}
 use Rattle.std.specs.List.{AllByRecursion}
@@ -8,10 +8,19 @@ use Rattle.std.specs.Map.{keys_of, values_of}
 use Rattle.std.specs.Option.{option_and_then}
 use Rattle.std.proofs.lemmas.Grind.{common_steps}
 use Rattle.std.proofs.lemmas.Map.Keys.{sorted_head, sorted_tail}
-use Rattle.serde_json.specs.Data.{Data, Members, no_members, member, put, depth, members_depth}
+use Rattle.json.specs.Token.{Token}
+use Rattle.json.specs.Lex.{tokens}
+use Rattle.json.specs.Print.{print}
+use Rattle.serde_json.specs.Data.{Data, Members, no_members, member, put, depth, members_depth, unsigned, negative}
 use Rattle.serde_json.specs.Data as json
 use Rattle.serde_json.specs.Find.{as_i64, of_integer, is_float}
-use Rattle.serde_json.specs.Written.{has_float, members_have_float}
+use Rattle.serde_json.specs.Read.{read, max_depth, number_of, of_json}
+use Rattle.serde_json.specs.Written.{has_float, members_have_float, compact_text, number_text, unless_float, WritesValue}
+use Rattle.serde_json.proofs.Numbers.{number_of-decimal, number_of-negative}
+use Rattle.serde_json.proofs.Texts.{unless_float-number_of, tokens_from_order, print-outline}
+use Rattle.json.specs.Json as grammar
+use Rattle.json.proofs.Printed.Trees.{value-json_tokens}
+use Rattle.std.specs.Fmt.{signed_decimal}
 use Rattle.serde_json.specs.View.{view}
 use Rattle.serde_json.specs.declared.value.Value.{Null, the_lemmas}
 use denote.Param.Weighed.{most}
@@ -28,7 +37,7 @@ use Rattle.rt_tree.proofs.Depths.{levels-of_leaf, levels-object, most_levels}
 use Rattle.rt_tree.proofs.Trees.{leaf_at-non_null, full_of_non_null, children_of-none, children_of-object, is_object-null}
 
 -- ---- a tree by its children
-object-children_of : (t : PathTree) → leaf_at t [] ≡ None → object (children_of t) ≡ t
+pub object-children_of : (t : PathTree) → leaf_at t [] ≡ None → object (children_of t) ≡ t
 object-children_of t e = same_tree _ _ at
   where
     at : (q : Path) → leaf_at (object (children_of t)) q ≡ leaf_at t q
@@ -108,7 +117,7 @@ middle k [] rest j t h = h.0
 middle k (e ∷ es) rest j t h = middle k es rest j t h.1
 
 -- a name above all others goes to the end
-put-last : (es rest : List (Key × PathTree)) (k : Key) (t : PathTree) → IsStrictlySortedBy key_cmp (keys_of (es ++ (k, t) ∷ rest)) → put k (data_of t) (members_with data_of es) ≡ members_with data_of (es ++ (k, t) ∷ [])
+pub put-last : (es rest : List (Key × PathTree)) (k : Key) (t : PathTree) → IsStrictlySortedBy key_cmp (keys_of (es ++ (k, t) ∷ rest)) → put k (data_of t) (members_with data_of es) ≡ members_with data_of (es ++ (k, t) ∷ [])
 put-last [] rest k t h = refl
 put-last (e ∷ es) rest k t h =
     let below = middle e.0 es rest k t (sorted_head key_cmp e.0 (keys_of (es ++ (k, t) ∷ rest)) h) in
@@ -198,6 +207,28 @@ depth-data_at (suc n) t =
 pub depth-data_of : (t : PathTree) → depth (data_of t) ≤ levels t
 unfolding data_of
 depth-data_of t = depth-data_at (levels t) t
+
+-- ---- what is written is read
+pub integer_reads : (z : ℤ) → IsInRange (number z) → (number_of (signed_decimal z) ≡ Some (of_integer z)) × (unless_float (signed_decimal z) ≡ number_text (of_integer z))
+integer_reads (pos n) h =
+    let small : n < 2 ^ 64 = grind (arith, common_steps) in
+    let read = number_of-decimal n small in (read, unless_float-number_of (decimal n) (unsigned n) read)
+integer_reads (negsuc n) h =
+    let small : n < 2 ^ 63 = grind (arith, common_steps) in
+    let read = number_of-negative n small in (read, unless_float-number_of (signed_decimal (negsuc n)) (negative (negsuc n)) read)
+
+module _ (d : Data) (ts : List Token) (bytes : List ℕ) (writes : WritesValue d [] ts) (is : bytes ≡ print ts) (reads : tokens (print ts) ≡ ts) where
+  same_tokens : tokens bytes ≡ ts
+  same_tokens = ap tokens is ∙ reads
+
+  pub written_text : has_float d ≡ false → bytes ≡ compact_text d
+  written_text h = is ∙ ap print (sym same_tokens ∙ tokens_from_order bytes d (writes.0, same_tokens ∙ writes.1, writes.4) h) ∙ print-outline d
+
+  pub written_reads : depth d ≤ max_depth → read bytes ≡ Some d
+  written_reads h =
+      ap (λ o. option_and_then of_json (option_and_then (λ p. grammar.if_last p.0 p.1) o))
+      (ap (grammar.value max_depth) (same_tokens ∙ writes.1 ∙ sym (append-nil _)) ∙ value-json_tokens writes.0 max_depth [] (omega (arith, h, writes.3)))
+      ∙ writes.2
 
 -- ---- a leaf is read back
 pub integer_back : (z : ℤ) → IsInRange (number z) → as_i64 (of_integer z) ≡ Some z

@@ -1,5 +1,5 @@
 // A key of an object.
-ghost use Rattle.std.specs.Prelude.{◌≡◌, ◌⊎◌, IfOk, IfErr, IfSome, OnOk, Some, decimal};
+ghost use Rattle.std.specs.Prelude.{◌≡◌, ◌⊎◌, IfOk, IfErr, IfSome, OnOk, Some, decimal, string_bytes};
 ghost use Rattle.std.specs.List.{list_all};
 ghost use Rattle.std.specs.Result.{result_err};
 ghost use Rattle.rt_tree.specs.Key.{IsKey, is_allowed, key_fault};
@@ -78,6 +78,16 @@ pub fn valid_key(alloc: Global, text: &str) -> Result<Key, AllocError>
 {
     let text = ArcStr::from_str(alloc, text)?;
     Ok(Key { text })
+}
+
+// The key of a text that is one, which becomes the key's own.
+pub fn moved_key(text: String) -> Result<Key, AllocError>
+    requires { IsKey (string_bytes text) }
+    ensures { IfOk result (λ key. key ≡ string_bytes text) }
+{
+    Ok(Key {
+        text: ArcStr::from_string(text)?,
+    })
 }
 
 // The key of a place in an array.

@@ -14,6 +14,7 @@ ghost use Rattle.rt_tree.specs.inside.TreeView.{IsObject};
 
 mod children;
 mod reading;
+mod taking;
 mod writing;
 
 use crate::error::TreeError;

@@ -1,8 +1,8 @@
 -- What a step of `put` and of reading does to the children of an object.
-use Rattle.std.specs.Prelude.{◌≡◌, cond, List, Some}
+use Rattle.std.specs.Prelude.{◌≡◌, cond, List, [], ◌∷◌, Some}
 use Rattle.std.specs.Option.{option_map_or}
 use Rattle.rt_tree.specs.Leaves.{Key, Path, key_eq}
-use Rattle.rt_tree.specs.Trees.{PathTree, null, put, child_of, non_null}
+use Rattle.rt_tree.specs.Trees.{PathTree, null, is_null, put, child_of, non_null}
 
 -- the child at k, or null
 abbrev pub child_or_null : List (Key × PathTree) → Key → PathTree
@@ -19,3 +19,7 @@ abbrev pub AddsChild : List (Key × PathTree) → List (Key × PathTree) → Key
 AddsChild es fs k u =
     (j : Key) → child_of fs j ≡ cond (key_eq k j) (option_map_or Some (non_null u) (child_of es j))
     (child_of es j)
+
+-- u at k, unless it is null
+abbrev pub unless_null : Key → PathTree → List (Key × PathTree)
+unless_null k u = cond (is_null u) [] ((k, u) ∷ [])

@@ -1,6 +1,7 @@
-// Trees are read from JSON: first the data is walked for a fault, and then the tree is built, which
-// only memory can stop.
+// Trees are read from JSON. Of data that is lent, first a walk looks for a fault, and then the tree is
+// built, which only memory can stop.
 ghost use Rattle.std.specs.Prelude.{None, Some, OnOk, IfOk, IfErr, IfSome, ◌≡◌, ◌<◌, ◌≤◌, ◌^◌, ◌⊎◌};
+ghost use Rattle.std.specs.Prelude.{◌++◌};
 ghost use Rattle.std.specs.Prelude.{length};
 ghost use Rattle.std.specs.Option.{option_map};
 ghost use Rattle.rt_map.specs.Maps.{IsOrdered};
@@ -8,11 +9,12 @@ ghost use Rattle.serde_json.specs.Read.{read};
 ghost use Rattle.serde_json.specs.View.{view, items_view, members_view};
 ghost use Rattle.rt_tree.specs.Leaves.{key_cmp};
 ghost use Rattle.rt_tree.specs.Trees.{object};
-ghost use Rattle.rt_tree.specs.inside.Puts.{AddsChild};
+ghost use Rattle.rt_tree.specs.inside.Puts.{AddsChild, unless_null};
 ghost use Rattle.rt_tree.specs.Reading.{tree_of_data, item_trees, member_trees, visits};
 ghost use Rattle.rt_tree.specs.Reading.{item_visits, member_visits, walked, data_fault, text_fault};
 ghost use Rattle.rt_tree.specs.Reading.{IsTreeData, AreTreeItems, AreTreeMembers};
 
+use super::taking::taken;
 use super::{Tree, set_child};
 use crate::error::TreeError;
 use crate::key::{Key, check_key, index_key, valid_key};
@@ -39,7 +41,10 @@ impl Tree {
         ensures fine { IfOk result (λ _. text_fault text.now ≡ None) }
     {
         match Value::from_str(alloc, text) {
-            Ok(value) => Tree::from_value(alloc, &value),
+            Ok(value) => {
+                let mut seen = 0;
+                taken(alloc, value, 0, None, &mut seen)
+            }
             Err(error) if error.is_memory() => Err(TreeError::NoMemory),
             Err(_) => Err(TreeError::NotJson),
         }
@@ -111,18 +116,18 @@ impl Tree {
         ensures { IfOk result (λ tree. tree
             ≡ object (member_trees (members_view members.now.entries))) }
     {
-        let mut children = OrdMap::new(alloc)?;
+        let mut row = Vec::with_capacity(alloc, members.len())?;
         for (name, member) in members.iter() {
             let child = Tree::build(alloc, member)?;
             let key = valid_key(alloc, name.as_str())?;
-            add_child(&mut children, alloc, key, child)?;
+            push_child(&mut row, key, child)?;
         }
-        Ok(Tree::object(children))
+        Ok(Tree::object(OrdMap::from_sorted(alloc, row)?))
     }
 }
 
 // Puts a child at its key, unless it is null.
-fn add_child(
+pub fn add_child(
     children: &mut OrdMap<Key, Tree>,
     alloc: Global,
     key: Key,
@@ -135,6 +140,17 @@ fn add_child(
     if !child.is_null() {
         set_child(children, alloc, key, child)?;
     }
+    Ok(())
+}
+
+// Appends a child to a row, unless it is null.
+pub fn push_child(row: &mut Vec<(Key, Tree)>, key: Key, child: Tree) -> Result<(), AllocError>
+    ensures { OnOk result (row.new.items ≡ row.old.items ++ unless_null key child) }
+{
+    if child.is_null() {
+        return Ok(());
+    }
+    row.push((key, child))?;
     Ok(())
 }
 

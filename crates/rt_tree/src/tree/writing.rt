@@ -1,10 +1,10 @@
 // Trees are written as JSON.
-ghost use Rattle.std.specs.Prelude.{Some, OnOk, IfOk, ◌≡◌, ◌≤◌, string_bytes};
+ghost use Rattle.std.specs.Prelude.{Some, OnOk, IfOk, IsUtf8, ◌≡◌, ◌≤◌, string_bytes};
 ghost use Rattle.rt_map.specs.Maps.{IsOrdered};
 ghost use Rattle.serde_json.specs.Data.{put};
 ghost use Rattle.serde_json.specs.Read.{read};
 ghost use Rattle.serde_json.specs.View.{view, members_view};
-ghost use Rattle.serde_json.specs.Written.{compact_text};
+ghost use Rattle.serde_json.specs.Written.{compact_text, WritesValue, WritesMembers};
 ghost use Rattle.rt_tree.specs.Trees.{IsAllowed, of_leaf};
 ghost use Rattle.rt_tree.specs.Leaves.{key_cmp};
 ghost use Rattle.rt_tree.specs.Reading.{tree_of_data, member_trees, text_fault};
@@ -13,6 +13,7 @@ ghost use Rattle.rt_tree.specs.Writing.{leaf_data, members_with, data_of, back_f
 use super::{Node, Tree};
 use crate::key::Key;
 use crate::leaf::{Leaf, LeafRef};
+use json::Writer;
 use rt_map::OrdMap;
 use serde_json::{Map, Value};
 use std::alloc::{AllocError, Global};
@@ -46,9 +47,61 @@ impl Tree {
         ensures read_fault { IfOk result (λ text. text_fault (string_bytes text)
             ≡ back_fault self.now) }
     {
-        let value = self.to_value(alloc)?;
-        value.to_string(alloc)
+        let mut out = Writer::new(Vec::with_capacity(alloc, 128)?);
+        self.write(&mut out)?;
+        Ok(text_of(out.into_inner()))
     }
+
+    // Writes the tree behind what `out` has.
+    #[cycle(write)]
+    fn write(&self, out: &mut Writer) -> Result<(), AllocError>
+        ensures ok { OnOk result (WritesValue (data_of self.now) out.old.tokens out.new.tokens) }
+        ensures before { out.new.before ≡ out.old.before }
+        ensures allowed { IsAllowed self.now }
+    {
+        match &self.node {
+            Node::Null => out.null(),
+            Node::Leaf(leaf) => write_leaf(leaf, out),
+            Node::Object(children) => {
+                out.begin_object()?;
+                write_children(children, out)
+            }
+        }
+    }
+}
+
+// The text of these bytes, which are UTF-8.
+fn text_of(bytes: Vec<u8>) -> String
+    requires { IsUtf8 bytes.items }
+    ensures { string_bytes result ≡ bytes.items }
+{
+    String::from_utf8(bytes).unwrap()
+}
+
+fn write_leaf(leaf: &Leaf, out: &mut Writer) -> Result<(), AllocError>
+    ensures ok { OnOk result (WritesValue (leaf_data leaf.now) out.old.tokens out.new.tokens) }
+    ensures before { out.new.before ≡ out.old.before }
+{
+    match leaf.value() {
+        LeafRef::Truth(value) => out.boolean(value),
+        LeafRef::Number(value) => out.i64(value),
+        LeafRef::Text(value) => out.string(value),
+    }
+}
+
+// A member for each child, and the end of the object.
+#[cycle(write)]
+fn write_children(children: &OrdMap<Key, Tree>, out: &mut Writer) -> Result<(), AllocError>
+    requires { IsOrdered key_cmp children.now }
+    ensures ok { OnOk result
+        (WritesMembers (members_with data_of children.now.entries) out.old.tokens out.new.tokens) }
+    ensures before { out.new.before ≡ out.old.before }
+{
+    for (key, child) in children {
+        out.key(key.text())?;
+        child.write(out)?;
+    }
+    out.end_object()
 }
 
 fn leaf_value(alloc: Global, leaf: &Leaf) -> Result<Value, AllocError>

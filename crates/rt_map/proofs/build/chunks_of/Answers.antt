@@ -5,7 +5,7 @@ use Rattle.std.specs.Vec.Iter.{into_iter_items}
 use Rattle.rt_map.specs.inside.Joined.{joined, AllFilled}
 use Rattle.rt_map.proofs.Parts.{moved}
 use Rattle.rt_map.proofs.build.chunks_of.Goals as goal
-use Rattle.rt_map.proofs.build.chunks_of.Goals.{then-len-ge-MAX_ENTRIES+in_ok-push_chunk, else-len-ge-MAX_ENTRIES, then-not-is_empty+in_ok-push_chunk-2, else-not-is_empty}
+use Rattle.rt_map.proofs.build.chunks_of.Goals.{then-len-ge-MAX_ENTRIES+in_ok-next+in_ok-push_chunk, else-len-ge-MAX_ENTRIES, then-not-is_empty+in_ok-push_chunk-2, else-not-is_empty}
 
 pub loop-entry-preserved : goal.loop-entry-preserved
 loop-entry-preserved g c =
@@ -13,8 +13,9 @@ loop-entry-preserved g c =
     let now = c.if-len-ge-MAX_ENTRIES in
     let kept : AllFilled now.chunks.items × (joined now.chunks.items ++ now.open.items ≡ joined at.chunks.items ++ at.open.items)
     = elim c.if-len-ge-MAX_ENTRIES.branch [
-      | then-len-ge-MAX_ENTRIES+in_ok-push_chunk w ↦
-          let empty : now.open.items ≡ [] = ap (λ v. v.items) (w.open-is ∙ w.replace-full.ensures.after) ∙ w.new.ensures.items in
+      | then-len-ge-MAX_ENTRIES+in_ok-next+in_ok-push_chunk w ↦
+          let none : w.in_ok-next.next.items ≡ [] = search rules in
+          let empty : now.open.items ≡ [] = ap (λ v. v.items) (w.open-is ∙ w.replace-full.ensures.after) ∙ none in
           let full : w.replace-full.result.items ≡ at.open.items = ap (λ v. v.items) w.replace-full.ensures.value in (
             subst AllFilled (sym (ap (λ v. v.items) w.chunks-is)) w.in_ok-push_chunk.ensures.filled,
             (λ i. joined (w.chunks-is i).items ++ empty i) ∙ append-nil (joined w.push_chunk.new.chunks.items) ∙ w.in_ok-push_chunk.ensures.entries ∙ ap (λ l. joined at.chunks.items ++ l) full,

@@ -5,6 +5,7 @@ use Rattle.serde_json.proofs.value.Value.TheLaws.{the_size}
 use Rattle.serde_json.specs.View.{items_view, members_view}
 use Rattle.rt_tree.specs.Reading.{item_trees, member_trees, AreTreeItems, AreTreeMembers}
 use Rattle.rt_tree.proofs.Readings.{Building}
+use Rattle.rt_tree.proofs.Rows.{Filling}
 use Rattle.rt_tree.proofs.tree.Tree.+build.Given as goal
 
 abbrev pub invariant-of_items-loop-item : goal.invariant-of_items-loop-item
@@ -15,6 +16,6 @@ invariant-of_items-loop-item l =
 
 abbrev pub invariant-of_members-loop-name : goal.invariant-of_members-loop-name
 invariant-of_members-loop-name l =
-    Building (member_trees (members_view l.members.entries)) l.children.entries (member_trees (members_view l.name-iterator))
+    Filling (member_trees (members_view l.members.entries)) l.row.items (member_trees (members_view l.name-iterator))
     × AreTreeMembers (members_view l.name-iterator)
     × (most the_size (values_of l.name-iterator) ≤ most the_size (values_of l.members.entries))
