@@ -1,17 +1,15 @@
 -- Children that are put together one by one, and how deep the tree of data is.
-use Rattle.std.proofs.Common.{◌≡◌, ℕ, ℤ, suc, ◌+◌, ◌-◌, ◌<◌, ◌≤◌, ◌^◌, get_or, drop, Ok, Err, nat_le, Bool, true, false, cond, List, [], ◌∷◌, ◌++◌, length, Option, Some, None, is_some, String, Global, string_bytes, string_cmp, Less, decimal, nat_lt, refl, sym, ap, ◌∙◌, arith, subst}
+use Rattle.std.proofs.Common.{◌≡◌, ℕ, ℤ, suc, ◌+◌, ◌-◌, ◌<◌, ◌≤◌, ◌^◌, get_or, drop, Ok, Err, nat_le, Bool, true, false, cond, List, [], ◌∷◌, ◌++◌, length, Option, Some, None, is_some, decimal, nat_lt, refl, sym, ap, ◌∙◌, arith, subst}
 use Rattle.std.specs.Option.{option_and_then, option_map_or, option_or}
-use Rattle.std.specs.Ordering.{is_eq}
 use Rattle.std.specs.List.{AllByRecursion}
 use Rattle.std.specs.List.Sorted.{IsStrictlySortedBy}
 use Rattle.std.specs.Map.{keys_of}
 use Rattle.std.proofs.lemmas.Fmt.{decimal_injective}
-use Rattle.std.proofs.lemmas.Map.Keys.{sorted_head, sorted_tail}
 use Rattle.serde_json.specs.Data.{Data, Items, Members, no_items, item, no_members, member}
 use Rattle.serde_json.specs.Data as json
 use Rattle.serde_json.specs.Events.{items_len}
 use Rattle.serde_json.specs.Find.{as_i64}
-use Rattle.serde_json.specs.View.{view, items_view, members_view}
+use Rattle.serde_json.specs.View.{view, items_view}
 use Rattle.serde_json.proofs.Views.{items_len-items_view}
 use Rattle.std.proofs.lemmas.Bool.{ltb-false}
 use Rattle.std.proofs.lemmas.List.{drop_all}
@@ -28,7 +26,7 @@ use Rattle.rt_tree.specs.laws.PathTree.{same_tree, levels-null, leaf_at-object-r
 use Rattle.rt_tree.specs.inside.Puts.{AddsChild}
 use Rattle.rt_tree.specs.Reading.{tree_of_data, number_tree, item_trees, member_trees, Visit, visit, visits, item_visits, member_visits, place_fault, name_fault, value_fault, HasPlace, IsTreeData, AreTreeItems, AreTreeMembers, walked}
 use Rattle.rt_tree.proofs.Depths.{levels-of_leaf}
-use Rattle.rt_tree.proofs.Walks.{item_next, member_next}
+use Rattle.rt_tree.proofs.Walks.{item_next}
 use Rattle.rt_tree.proofs.Trees.{leaf_at-non_null}
 
 -- the child at j, where it isn't null

@@ -1,14 +1,12 @@
 -- Children that come in the order of their keys, and without those that are null.
-use Rattle.std.proofs.Common.{◌≡◌, ◌+◌, ◌<◌, ◌≤◌, ◌^◌, suc, ℕ, Bool, true, false, cond, List, [], ◌∷◌, ◌++◌, length, Option, Some, None, Ok, Err, String, Global, string_bytes, string_cmp, Less, decimal, refl, sym, ap, ◌∙◌, arith, subst, append_assoc, append-nil}
+use Rattle.std.proofs.Common.{◌≡◌, ◌+◌, Bool, true, false, cond, List, [], ◌∷◌, ◌++◌, Option, Some, None, String, Global, string_bytes, string_cmp, Less, refl, sym, ap, ◌∙◌, subst, append_assoc, append-nil}
 use Rattle.std.specs.Option.{option_and_then}
 use Rattle.std.specs.Ordering.{is_eq}
 use Rattle.std.specs.List.{AllByRecursion}
 use Rattle.std.specs.List.Sorted.{IsStrictlySortedBy}
 use Rattle.std.specs.Map.{keys_of}
-use Rattle.serde_json.specs.Data.{Data, Items, Members}
 use Rattle.serde_json.specs.View.{view, members_view}
 use Rattle.serde_json.specs.declared.value.Value.{Value}
-use Rattle.rt_tree.specs.Key.{IsKey}
 use Rattle.rt_tree.specs.Leaves.{Key, Path, key_cmp, key_eq}
 use Rattle.rt_tree.specs.Trees.{PathTree, leaf_at, is_null, object, child_of, AllFull, MayStandAt, IsAllowed}
 use Rattle.rt_tree.specs.laws.Prefixes.{key_eq-is}

@@ -2,11 +2,11 @@ use Rattle.std.proofs.Common.{rules, ◌≡◌, ◌++◌, [], Some, IsUtf8, stri
 use Rattle.std.specs.Option.{option_map_or}
 use Rattle.json.specs.Print.{print}
 use Rattle.serde_json.specs.Read.{read}
-use Rattle.serde_json.specs.Written.{compact_text, WritesValue}
+use Rattle.serde_json.specs.Written.{WritesValue}
 use Rattle.rt_tree.specs.laws.Allowed.{shallow_of}
 use Rattle.rt_tree.specs.declared.error.TreeError.TheVariants.{NotJson}
-use Rattle.rt_tree.specs.Reading.{data_fault, text_fault}
-use Rattle.rt_tree.specs.Writing.{data_of, back_fault}
+use Rattle.rt_tree.specs.Reading.{data_fault}
+use Rattle.rt_tree.specs.Writing.{data_of}
 use Rattle.rt_tree.proofs.Standing.{data_fault-data_of, tree_of_data-data_of}
 use Rattle.rt_tree.proofs.Writings.{has_float-data_of, depth-data_of, written_text, written_reads}
 use Rattle.rt_tree.proofs.tree.Tree.text.Goals as goal

@@ -1,4 +1,4 @@
-use Rattle.std.proofs.Common.{◌≡◌, ◌∷◌, ◌+◌, ◌<◌, ◌^◌, ◌∙◌, [], ap, sym, subst, decimal, refl, arith, rules, length, Some, None, Ok, Err, ◌⊎◌, string_bytes, string_cmp}
+use Rattle.std.proofs.Common.{◌≡◌, ◌∷◌, ◌<◌, ◌^◌, ◌∙◌, [], ap, sym, subst, decimal, refl, arith, rules, length, Some, None, Err, ◌⊎◌, string_bytes, string_cmp}
 use Rattle.std.proofs.lemmas.List.{nil_from_length}
 use Rattle.std.specs.List.Sorted.{IsStrictlySortedBy}
 use Rattle.std.specs.Map.{keys_of, values_of}
@@ -6,13 +6,12 @@ use Rattle.std.specs.Vec.Iter.{into_iter_items, into_iter_len}
 use denote.Param.Weighed.{most}
 use Rattle.serde_json.proofs.value.Value.TheLaws.{the_size}
 use Rattle.serde_json.specs.View.{view, items_view, members_view}
-use Rattle.rt_tree.specs.Key.{IsKey}
 use Rattle.rt_tree.specs.Trees.{IsAllowed, AllFull, object}
-use Rattle.rt_tree.specs.Reading.{tree_of_data, item_trees, member_trees, walked, visits, item_visits, member_visits}
+use Rattle.rt_tree.specs.Reading.{item_trees, member_trees, walked, visits, item_visits, member_visits}
 use Rattle.rt_tree.proofs.Nodes.{allowed-node}
 use Rattle.rt_tree.proofs.Walks.{walked-goes_on, passes_on, stops_there}
 use Rattle.rt_tree.specs.declared.error.TreeError.TheVariants.{NoMemory}
-use Rattle.rt_tree.proofs.Readings.{Building, building_items, building_next, no_item_left, allowed_children, name_is_key, data_stands, places}
+use Rattle.rt_tree.proofs.Readings.{building_items, building_next, no_item_left, allowed_children, name_is_key, data_stands, places}
 use Rattle.rt_tree.proofs.Rows.{Filling, filling_begins, next_filled, row_sorted, row_full, row_object, allowed_row}
 use Rattle.rt_tree.proofs.tree.taking.+taken.Goals as goal
 
