@@ -21,7 +21,8 @@ use Rattle.rt_tree.proofs.Trees.{leaf_at-found}
 use Rattle.rt_order.specs.KeyOrder.{bytes_cmp, key_cmp}
 use Rattle.rt_order.specs.laws.KeyOrder.{key_cmp_total, key_cmp-IsAntisymmetric}
 use Rattle.rt_store.specs.Rows.{Row, in_key_order}
-use Rattle.rt_store.specs.inside.Forest.{Forest, bare, node, entries, AllAfter}
+use Rattle.rt_links.specs.Forest.{bare, node, AllAfter}
+use Rattle.rt_store.specs.inside.Entries.{entries, Trees}
 use Rattle.rt_store.specs.inside.Growing.{seen}
 use Rattle.rt_store.specs.declared.grow.Child.{Child}
 use Rattle.rt_store.proofs.Orders.{tests_alike, find-child_of, sorted-in_key_order, find-in_key_order}
@@ -44,12 +45,12 @@ less Less h = refl
 less Equal h = absurd h
 less Greater h = absurd h
 
-after_from_below : (k : Key) (f : Forest) → T (below_all key_cmp k (entries f)) → AllAfter k f
+after_from_below : (k : Key) (f : Trees) → T (below_all key_cmp k (entries f)) → AllAfter k f
 after_from_below k bare h = tt
 after_from_below k (node n key leaf below behind) h = (less (key_cmp k key) (first _ _ h), after_from_below k behind (second (is_lt (key_cmp k key)) _ h))
 
 -- a key in front of a row that rises stands in front of each
-pub after_from_sorted : (k : Key) (t : PathTree) (f : Forest) → T (is_sorted key_cmp ((k, t) ∷ entries f)) → AllAfter k f
+pub after_from_sorted : (k : Key) (t : PathTree) (f : Trees) → T (is_sorted key_cmp ((k, t) ∷ entries f)) → AllAfter k f
 after_from_sorted k t f h = after_from_below k f (first _ _ h)
 
 pub child_of-in_key_order : (es : Row) (k : Key) → child_of (in_key_order es) k ≡ child_of es k

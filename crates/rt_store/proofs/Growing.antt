@@ -1,32 +1,35 @@
 -- Nodes that are made of trees.
-use Rattle.std.proofs.Common.{◌≡◌, ◌≢◌, ◌≤◌, ◌<◌, ℕ, zero, suc, ◌+◌, List, [], ◌∷◌, length, Option, Some, None, true, false, cond, is_some, refl, sym, ap, subst, ◌∙◌, arith, drop, map, get_or}
+use Rattle.std.proofs.Common.{◌≡◌, ◌≢◌, ◌≤◌, ◌<◌, ℕ, ◌+◌, List, [], ◌∷◌, length, Option, Some, None, true, false, cond, refl, sym, ap, subst, ◌∙◌, arith, drop, map, get_or}
 use Rattle.std.specs.Prelude.{nat_eq, ◌&&◌, T}
 use Rattle.std.specs.declared.cmp.Ordering.TheVariants.{Less, Equal, Greater}
 use Rattle.std.specs.Ordering.{is_lt}
 use Rattle.std.specs.FinMap.Entries.{is_sorted, below_all}
 use Rattle.std.proofs.lemmas.List.{at_drop_more}
-use Rattle.std.proofs.lemmas.Bool.{eqb-true}
+use Rattle.std.proofs.lemmas.Bool.{eqb-true, eq-eqb}
 use Rattle.std.specs.Option.{option_map}
-use Rattle.slab.specs.Slab.{Slab, get, slab_len, Updates}
+use Rattle.slab.specs.Slab.{get, slab_len, Updates}
 use Rattle.rt_tree.specs.Leaf.{LeafValue}
 use Rattle.rt_tree.specs.PathTree.{Key, Path, PathTree, first as both_first, key_eq, key_eq-is, key_eq-same, key_eq-symm, levels, child_levels, null, is_null, is_null-null, put, of_leaf, leaf_of_root, leaf_at, object, child_of, AllFull, sub}
 use Rattle.rt_tree.specs.Children.{children_of, child_of-children_of}
 use Rattle.rt_tree.proofs.Trees.{put-root, put-object, is_null-put, some_non_null, full_of_non_null}
 use Rattle.rt_order.specs.KeyOrder.{key_cmp}
+use Rattle.rt_links.specs.Forest.{bare, node, AllAfter, IsRow, row_at}
+use Rattle.rt_links.specs.Nodes.{Inserted}
+use Rattle.rt_links.specs.Walks.{spot_in}
+use Rattle.rt_links.specs.Changes.{Same, Changed, Grown, with_content, linked_in, planted}
+use Rattle.rt_links.specs.declared.row.Spot.TheVariants.{Gap}
+use Rattle.rt_links.proofs.Reached.{row_at_is, row_at-none}
+use Rattle.rt_links.proofs.Planting.{spot_in-front, planted-front, planted_row, planted_changed}
+use Rattle.rt_links.proofs.Growing.{grown_none, changed_then, one_grown, one_is}
 use Rattle.rt_store.specs.Rows.{Row, in_key_order}
 use Rattle.rt_store.specs.inside.Growing.{seen}
-use Rattle.rt_store.specs.inside.Forest.{Forest, bare, node, one_if, first, size, times, entries, tree_with, AllAfter, IsFull, IsRow, row_at}
-use Rattle.rt_store.specs.inside.Walks.{IsPlace, spot_in}
-use Rattle.rt_store.specs.inside.Changes.{Same, Felled, Changed, Grown, with_content, linked_in, planted}
-use Rattle.rt_store.specs.declared.row.Spot.TheVariants.{Gap}
+use Rattle.rt_store.specs.inside.Entries.{entries, tree_with, IsFull, Filled, Nodes, Trees}
+use Rattle.rt_store.specs.inside.Changes.{IsGrown}
 use Rattle.rt_store.specs.declared.grow.Child.{Child}
-use Rattle.rt_store.specs.declared.slot.Slot.{Slot}
-use Rattle.rt_store.proofs.Linked.{row_at_is, row_at-none, place_of}
-use Rattle.rt_store.proofs.Felling.{one_of, links_kept, row_kept}
 use Rattle.rt_store.proofs.Orders.{find-child_of, sorted-in_key_order, find-in_key_order}
 use Rattle.rt_store.proofs.Paths.{differs}
 use Rattle.rt_store.proofs.Falling.{onto, sorted_so_far, after_from_sorted}
-use Rattle.rt_store.proofs.Planting.{IsOne, one_node, spot_in-front, planted-front, planted_row, planted_changed}
+use Rattle.rt_store.proofs.Planting.{IsOne, one_node, filled_planted}
 
 -- ---- trees put into nothing
 pub put_key : (k : Key) (p : Path) (u : PathTree) → is_null u ≡ false → object ((k, put null p u) ∷ []) ≡ put null (k ∷ p) u
@@ -49,130 +52,40 @@ pub full-children_of : (t : PathTree) → AllFull (children_of t)
 full-children_of t k u is = full_of_non_null (sub t (k ∷ [])) u (sym (child_of-children_of t k) ∙ is)
 
 -- a row of something that isn't null
-pub full_row : (f : Forest) → is_null (object (entries f)) ≡ false → IsFull None f
+pub full_row : (f : Trees) → is_null (object (entries f)) ≡ false → IsFull None f
 full_row bare full = cc (full, is_null-null)
 full_row (node n key leaf below behind) full = tt
 
 -- ---- nothing was made yet
-pub grown_none : (s : Slab Slot) (parent : Option ℕ) → Grown s s None parent
-grown_none s parent =
-    let is : row_at s None ≡ bare = row_at-none s in record {
-      row = subst (IsRow s None parent None) (sym is) (record { links = tt; sound = tt; starts = refl; fits = omega arith });
-      changed = subst (Changed s s bare) (sym is) (record {
-        kept = λ n none left. refl;
-        gone = λ n some left. absurd (omega (arith, some));
-        fresh = λ n some none. absurd (omega (arith, some));
-        once = λ n. omega arith;
-        len = refl;
-      });
-    }
-
--- nodes that were made became others
-pub changed_then : (s t u : Slab Slot) (f g : Forest) → Changed s t bare f → Changed t u f g → Changed s u bare g
-changed_then s t u f g a b = record {
-  kept = λ n none left. kept n left (times n f) refl;
-  gone = λ n some left. absurd (omega (arith, some));
-  fresh = λ n some none. fresh n some (times n f) refl;
-  once = b.once;
-  len = omega (arith, a.len, b.len);
-}
-  where
-    kept : (n : ℕ) → times n g ≡ 0 → (c : ℕ) → times n f ≡ c → get u n ≡ get s n
-    kept n left zero e = b.kept n e left ∙ a.kept n refl e
-    kept n left (suc c) e =
-        let some : 0 < times n f = omega (arith, e) in
-        b.gone n some left ∙ sym (a.fresh n some refl)
-
-    fresh : (n : ℕ) → 0 < times n g → (c : ℕ) → times n f ≡ c → get s n ≡ None
-    fresh n some zero e = sym (a.kept n refl e) ∙ b.fresh n some e
-    fresh n some (suc c) e = a.fresh n (omega (arith, e)) refl
-
--- ---- what was made is taken out again
-module _ (s t u : Slab Slot) (o parent : Option ℕ) (h : Grown s t o parent) (same : Same t u) where
-  still : IsRow u o parent None (row_at t o)
-  still =
-      let fits : size (row_at t o) ≤ slab_len t = h.row.fits in
-      row_kept t u o parent None (row_at t o) h.row (λ n some. same.kept n) (omega (arith, fits, same.len))
-
-  still_is : row_at u o ≡ row_at t o
-  still_is = row_at_is u o parent None (row_at t o) still
-
-  pub still_place : IsPlace u o
-  still_place = place_of u o parent None (row_at t o) still
-
-  pub still_once : (n : ℕ) → times n (row_at u o) ≤ 1
-  still_once n = omega (arith, ap (times n) still_is, h.changed.once n)
-
-  pub undone : (w : Slab Slot) → Felled u w (row_at u o) → Same s w
-  undone w felled = record {
-    kept = λ n. kept n (times n (row_at t o)) refl;
-    len = let len : slab_len t + 0 ≡ slab_len s + size (row_at t o) = h.changed.len in omega (arith, felled.len, same.len, len, ap size still_is);
-  }
-    where
-      kept : (n : ℕ) (c : ℕ) → times n (row_at t o) ≡ c → get w n ≡ get s n
-      kept n zero e = felled.kept n (ap (times n) still_is ∙ e) ∙ same.kept n ∙ h.changed.kept n refl e
-      kept n (suc c) e = felled.gone n (omega (arith, ap (times n) still_is, e)) ∙ sym (h.changed.fresh n (omega (arith, e)) refl)
+pub nothing_grown : (s : Nodes) (parent : Option ℕ) → IsGrown s s None parent
+nothing_grown s parent = record { grown = grown_none s parent; filled = subst Filled (sym (row_at-none s)) tt }
 
 -- ---- one node: s before, u with the node, t with what stands below it, v with both linked
-module _ (s u : Slab Slot) (n : ℕ) (key : Key) (parent : Option ℕ) (vacant : get s n ≡ None)
-    (put_in : Updates s u n (Some (record { key = key; parent = parent; first_child = None; previous = None; next = None; leaf = None }))) (more : slab_len u ≡ slab_len s + 1)
-    (t v : Slab Slot) (leaf : Option LeafValue) (o : Option ℕ) (B : Forest) (is_row : IsRow t o (Some n) None B) (below : Changed u t bare B) (full : IsFull leaf B)
+module _ (s u : Nodes) (n : ℕ) (key : Key) (parent : Option ℕ) (put_in : Inserted s u n key parent None)
+    (t v : Nodes) (leaf : Option LeafValue) (o : Option ℕ) (below : IsGrown u t o (Some n)) (full : IsFull leaf (row_at t o))
     (written : get v n ≡ option_map (with_content leaf o) (get t n)) (others : (m : ℕ) → m ≢ n → get v m ≡ get t m) (len : slab_len v ≡ slab_len t) where
-  apart : (m : ℕ) → 0 < times m B → m ≢ n
-  apart m some same = cc (ap is_some (sym (below.fresh m some refl) ∙ ap (get u) same ∙ put_in.changed))
+  is : row_at v (Some n) ≡ node n key leaf (row_at t o) bare
+  is = one_is s u n key parent None put_in.vacant put_in.updates put_in.len t v leaf o (row_at t o) below.grown.row below.grown.changed written others len
 
-  lens : slab_len v ≡ slab_len s + suc (size B)
-  lens = omega (arith, below.len, len, more)
-
-  none_below : times n B ≡ 0
-  none_below = of (times n B) refl
-    where
-      of : (c : ℕ) → times n B ≡ c → c ≡ 0
-      of zero e = refl
-      of (suc c) e = absurd (apart n (omega (arith, e)) refl)
-
-  there : get v n ≡ Some (record { key = key; parent = parent; first_child = first B; previous = None; next = None; leaf = leaf })
-  there =
-      written ∙ ap (option_map (with_content leaf o)) (below.kept n refl none_below ∙ put_in.changed)
-      ∙ ap (λ x. Some (record { key = key; parent = parent; first_child = x; previous = None; next = None; leaf = leaf })) (sym is_row.starts)
-
-  row : IsRow v (Some n) parent None (node n key leaf B bare)
-  row = record {
-    links = (there, links_kept t v (Some n) None B is_row.links (λ m some. others m (apart m some)), tt);
-    sound = (tt, full, is_row.sound, tt);
-    starts = refl;
-    fits = omega (arith, lens);
+  pub node_grown : IsGrown s v (Some n) parent
+  node_grown = record {
+    grown = one_grown s u n key parent None put_in.vacant put_in.updates put_in.len t v leaf o (row_at t o) below.grown.row below.grown.changed written others len;
+    filled = subst Filled (sym is) (full, below.filled, tt);
   }
 
-  beside : (m : ℕ) → one_if (nat_eq m n) ≡ 0 → m ≢ n
-  beside m none same = absurd (omega (arith, none, one_of n, ap (λ x. one_if (nat_eq x n)) same))
-
-  either : (A : Type 0) (m : ℕ) → (m ≡ n → A) → (one_if (nat_eq m n) ≡ 0 → A) → A
-  either A m f g = elim (nat_eq m n) as (λ b. nat_eq m n ≡ b → A) [ true ↦ λ e. f (eqb-true m n e) | false ↦ λ e. g (ap one_if e) ] refl
-
-  changed : Changed s v bare (node n key leaf B bare)
-  changed = record {
-    kept = λ m none left.
-        let other : m ≢ n = beside m (omega (arith, left)) in
-        others m other ∙ below.kept m refl (omega (arith, left)) ∙ put_in.others m other;
-    gone = λ m some left. absurd (omega (arith, some));
-    fresh = λ m some none. either (get s m ≡ None) m (λ same. ap (get s) same ∙ vacant) (λ other.
-        let inside : 0 < times m B = omega (arith, some, other) in
-        sym (put_in.others m (apart m inside)) ∙ below.fresh m inside refl);
-    once = λ m. either (times m (node n key leaf B bare) ≤ 1) m
-        (λ same. omega (arith, ap (λ x. times x B) same, none_below, ap (λ x. one_if (nat_eq x n)) same, one_of n))
-        (λ other. omega (arith, other, below.once m));
-    len = omega (arith, lens);
-  }
-
-  is : row_at v (Some n) ≡ node n key leaf B bare
-  is = row_at_is v (Some n) parent None (node n key leaf B bare) row
-
-  pub one_grown : Grown s v (Some n) parent
-  one_grown = record { row = subst (IsRow v (Some n) parent None) (sym is) row; changed = subst (Changed s v bare) (sym is) changed }
-
-  pub one_entry : (tree : PathTree) → tree_with leaf (entries B) ≡ tree → entries (row_at v (Some n)) ≡ (key, tree) ∷ []
+  pub one_entry : (tree : PathTree) → tree_with leaf (entries (row_at t o)) ≡ tree → entries (row_at v (Some n)) ≡ (key, tree) ∷ []
   one_entry tree same = ap entries is ∙ ap (λ x. (key, x) ∷ []) same
+
+-- a node that was made is taken out again: s before, u with the node, t after what didn't get on, w without it
+pub taken_back : (s u t w : Nodes) (n : ℕ) (key : Key) (parent : Option ℕ) (leaf : Option LeafValue) → Inserted s u n key parent leaf → Same u t
+    → Updates t w n None → (get t n ≢ None → slab_len w + 1 ≡ slab_len t) → Same s w
+taken_back s u t w n key parent leaf put_in same taken less = record {
+  kept = λ m. elim (nat_eq m n) as (λ b. nat_eq m n ≡ b → get w m ≡ get s m) [
+    | true ↦ λ e. let is : m ≡ n = eqb-true m n e in ap (get w) is ∙ taken.changed ∙ sym (ap (get s) is ∙ put_in.vacant)
+    | false ↦ λ e. let other : m ≢ n = λ is. cc (e, eq-eqb m n is) in taken.others m other ∙ same.kept m ∙ put_in.updates.others m other
+  ] refl;
+  len = omega (arith, less (λ none. cc (sym none ∙ same.kept n ∙ put_in.updates.changed)), same.len, put_in.len);
+}
 
 -- ---- a row that is made from behind
 -- what stands in front of each is not among them
@@ -198,8 +111,11 @@ found_onto (c ∷ cs) es k t h is =
     ] refl)
 
 -- x is the next child
-module _ (s0 s : Slab Slot) (o parent : Option ℕ) (es : Row) (xs : List Child) (i : ℕ) (x : Child) (h : Grown s0 s o parent)
+module _ (s0 s : Nodes) (o parent : Option ℕ) (es : Row) (xs : List Child) (i : ℕ) (x : Child) (made : IsGrown s0 s o parent)
     (left : onto (map seen (drop i xs)) (entries (row_at s o)) ≡ in_key_order es) (inside : i < length xs) (is : x ≡ get_or xs i x) where
+  h : Grown s0 s o parent
+  h = made.grown
+
   next_left : onto (map seen (drop (i + 1) xs)) (seen x ∷ entries (row_at s o)) ≡ in_key_order es
   next_left =
       ap (λ y. onto (map seen (drop (i + 1) xs)) (seen y ∷ entries (row_at s o))) is
@@ -224,9 +140,12 @@ module _ (s0 s : Slab Slot) (o parent : Option ℕ) (es : Row) (xs : List Child)
       (child_levels (in_key_order es) x.key.now x.tree.now next_is some, some)
 
   -- its node was made, and put in front
-  module _ (t u : Slab Slot) (n : ℕ) (p : Path) (end : p ≡ []) (one : Grown s t (Some n) parent)
+  module _ (t u : Nodes) (n : ℕ) (p : Path) (end : p ≡ []) (one_made : IsGrown s t (Some n) parent)
       (entry : entries (row_at t (Some n)) ≡ (x.key.now, put null p x.tree.now) ∷ [])
       (each : (m : ℕ) → get u m ≡ option_map (linked_in None n o m) (get t m)) (len : slab_len u ≡ slab_len t) where
+    one : Grown s t (Some n) parent
+    one = one_made.grown
+
     its : IsOne (row_at t (Some n)) n x.key.now x.tree.now
     its = one_node (row_at t (Some n)) n x.key.now x.tree.now one.row.starts (entry ∙ ap (λ y. (x.key.now, y) ∷ []) (ap (λ q. put null q x.tree.now) end ∙ put-root null x.tree.now))
 
@@ -243,14 +162,20 @@ module _ (s0 s : Slab Slot) (o parent : Option ℕ) (es : Row) (xs : List Child)
         planted_changed s t u o parent None o (row_at s o) n x.key.now its.leaf its.below h.row h.changed.once spot
         (subst (IsRow t (Some n) parent None) its.is one.row) (subst (Changed s t bare) its.is one.changed) each len
 
+    filled_one : Filled (node n x.key.now its.leaf its.below bare)
+    filled_one = subst Filled its.is one_made.filled
+
     planted_is : row_at u (Some n) ≡ planted n x.key.now its.leaf its.below (row_at s o)
     planted_is = row_at_is u (Some n) parent None (planted n x.key.now its.leaf its.below (row_at s o)) row_then
 
-    pub next_made : Grown s0 u (Some n) parent × onto (map seen (drop (i + 1) xs)) (entries (row_at u (Some n))) ≡ in_key_order es
+    pub next_made : IsGrown s0 u (Some n) parent × onto (map seen (drop (i + 1) xs)) (entries (row_at u (Some n))) ≡ in_key_order es
     next_made = (
       record {
-        row = subst (IsRow u (Some n) parent None) (sym planted_is) row_then;
-        changed = subst (Changed s0 u bare) (sym planted_is) (changed_then s0 s u (row_at s o) (planted n x.key.now its.leaf its.below (row_at s o)) h.changed changed_so);
+        grown = record {
+          row = subst (IsRow u (Some n) parent None) (sym planted_is) row_then;
+          changed = subst (Changed s0 u bare) (sym planted_is) (changed_then s0 s u (row_at s o) (planted n x.key.now its.leaf its.below (row_at s o)) h.changed changed_so);
+        };
+        filled = subst Filled (sym planted_is) (filled_planted n x.key.now its.leaf its.below (row_at s o) made.filled filled_one.0 filled_one.1);
       },
       ap (λ f. onto (map seen (drop (i + 1) xs)) (entries f)) (planted_is ∙ planted-front n x.key.now its.leaf its.below (row_at s o) next_after)
           ∙ ap (λ y. onto (map seen (drop (i + 1) xs)) ((x.key.now, y) ∷ entries (row_at s o))) its.tree ∙ next_left,

@@ -16,7 +16,8 @@ use Rattle.rt_order.specs.KeyOrder.{key_cmp}
 use Rattle.rt_order.specs.laws.KeyOrder.{key_cmp_total, key_cmp-IsAntisymmetric}
 use Rattle.rt_store.specs.Rows.{Row, in_key_order, row, root_row}
 use Rattle.rt_store.specs.Stored.{first_tree}
-use Rattle.rt_store.specs.inside.Forest.{Forest, bare, node, first, tree_with, entries, AllAfter, IsFull, Sound}
+use Rattle.rt_links.specs.Forest.{bare, node, first, AllAfter, Sound}
+use Rattle.rt_store.specs.inside.Entries.{tree_with, entries, IsFull, Filled, Trees}
 
 -- the test of either order tells equal keys
 pub tests_alike : (j k : Key) → eq_by_cmp key_cmp j k ≡ key_eq j k
@@ -54,20 +55,20 @@ row-of_leaf l = ap in_key_order (children_of-none (of_leaf l) (is_object-of_leaf
 lt_of : (o : Ordering) → o ≡ Less → T (is_lt o)
 lt_of o e = subst (λ r. T (is_lt r)) (sym e) tt
 
-below_all_of : (k : Key) (f : Forest) → AllAfter k f → T (below_all key_cmp k (entries f))
+below_all_of : (k : Key) (f : Trees) → AllAfter k f → T (below_all key_cmp k (entries f))
 below_all_of k bare h = tt
 below_all_of k (node n key leaf below behind) h = both _ _ (lt_of (key_cmp k key) h.0) (below_all_of k behind h.1)
 
-pub sorted_of : (f : Forest) → Sound f → T (is_sorted key_cmp (entries f))
+pub sorted_of : (f : Trees) → Sound f → T (is_sorted key_cmp (entries f))
 sorted_of bare h = tt
-sorted_of (node n key leaf below behind) h = both _ _ (below_all_of key behind h.0) (sorted_of behind h.3)
+sorted_of (node n key leaf below behind) h = both _ _ (below_all_of key behind h.0) (sorted_of behind h.2)
 
 -- a leaf, or children of which the first is not null
-pub full_tree : (leaf : Option LeafValue) (f : Forest) → Sound f → IsFull leaf f → is_null (tree_with leaf (entries f)) ≡ false
+pub full_tree : (leaf : Option LeafValue) (f : Trees) → Filled f → IsFull leaf f → is_null (tree_with leaf (entries f)) ≡ false
 full_tree (Some l) f h full = is_null-of_leaf l
 full_tree None bare h full = absurd full
 full_tree None (node n key leaf below behind) h full =
-    object_full (key) (tree_with leaf (entries below)) (entries behind) (full_tree leaf below h.2 h.1)
+    object_full (key) (tree_with leaf (entries below)) (entries behind) (full_tree leaf below h.1 h.0)
   where
     object_full : (k : Key) (t : PathTree) (es : Row) → is_null t ≡ false → is_null (object ((k, t) ∷ es)) ≡ false
     object_full k t es some =
@@ -79,18 +80,18 @@ full_tree None (node n key leaf below behind) h full =
           | false ↦ λ n. refl
         ] refl
 
-pub full_of : (f : Forest) → Sound f → AllFull (entries f)
+pub full_of : (f : Trees) → Filled f → AllFull (entries f)
 full_of bare h k t is = cc
 full_of (node n key leaf below behind) h k t is =
     elim (key_eq k key) as (λ b. cond b (Some (tree_with leaf (entries below))) (child_of (entries behind) k) ≡ Some t → is_null t ≡ false) [
-      | true ↦ λ e. ap is_null (sym (let same : tree_with leaf (entries below) ≡ t = cc in same)) ∙ full_tree leaf below h.2 h.1
-      | false ↦ λ e. full_of behind h.3 k t e
+      | true ↦ λ e. ap is_null (sym (let same : tree_with leaf (entries below) ≡ t = cc in same)) ∙ full_tree leaf below h.1 h.0
+      | false ↦ λ e. full_of behind h.2 k t e
     ] is
 
 -- the row of the tree at linked nodes
-pub row-tree_with : (leaf : Option LeafValue) (f : Forest) → Sound f → (is_some leaf ≡ true → f ≡ bare) → row (tree_with leaf (entries f)) ≡ entries f
-row-tree_with None f h top = row-object (entries f) (sorted_of f h) (full_of f h)
-row-tree_with (Some l) f h top = row-of_leaf l ∙ sym (ap entries (top refl))
+pub row-tree_with : (leaf : Option LeafValue) (f : Trees) → Sound f → Filled f → (is_some leaf ≡ true → f ≡ bare) → row (tree_with leaf (entries f)) ≡ entries f
+row-tree_with None f h filled top = row-object (entries f) (sorted_of f h) (full_of f filled)
+row-tree_with (Some l) f h filled top = row-of_leaf l ∙ sym (ap entries (top refl))
 
 -- the root's row
 pub root_row-full : (t : PathTree) → is_null t ≡ false → root_row t ≡ ([], t) ∷ []
@@ -105,11 +106,11 @@ first_of_root t = elim (is_null t) as (λ b. is_null t ≡ b → first_tree (con
   | false ↦ λ n. refl
 ] refl
 
-pub top_of_full : (leaf : Option LeafValue) (f : Forest) → IsFull leaf f → is_some leaf ≡ true → f ≡ bare
+pub top_of_full : (leaf : Option LeafValue) (f : Trees) → IsFull leaf f → is_some leaf ≡ true → f ≡ bare
 top_of_full None f h e = cc
 top_of_full (Some l) bare h e = refl
 top_of_full (Some l) (node n key leaf below behind) h e = absurd h
 
-pub bare_of_first : (f : Forest) → first f ≡ None → f ≡ bare
+pub bare_of_first : (f : Trees) → first f ≡ None → f ≡ bare
 bare_of_first bare e = refl
 bare_of_first (node n key leaf below behind) e = cc

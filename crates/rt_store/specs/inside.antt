@@ -1,8 +1,5 @@
--- What only the representation needs: the linked nodes, how they change, and the ranks beside them.
+-- What only the representation needs: the trees at linked nodes, and how these change.
 pub mod Changes
-pub mod Forest
+pub mod Entries
 pub mod Growing
-pub mod Often
-pub mod Ranks
 pub mod StoreView
-pub mod Walks

@@ -2,13 +2,13 @@
 ghost use Rattle.std.specs.Prelude.{◌≡◌, IfOk, OnOk, List, ℕ, Some, if◌then◌else◌};
 ghost use Rattle.rt_tree.specs.PathTree.{key_eq, child_of};
 ghost use Rattle.rt_tree.specs.Allowed.{IsAllowed};
-ghost use Rattle.rt_store.specs.inside.Forest.{row_at, entries, tree_with};
-ghost use Rattle.rt_store.specs.inside.Walks.{IsPlace};
+ghost use Rattle.rt_links.specs.Forest.{row_at};
+ghost use Rattle.rt_store.specs.inside.Entries.{entries, tree_with, Filled};
+ghost use Rattle.rt_links.specs.Walks.{IsPlace};
 
-use crate::slot::Slot;
+use rt_links::Linked;
 use rt_map::OrdMap;
 use rt_tree::{Key, Leaf, Tree};
-use slab::Slab;
 use std::alloc::{AllocError, Global};
 
 // `insert`, at a key that is new.
@@ -28,11 +28,12 @@ fn add_child(
 // The tree of a leaf, or else of the children from `first` on.
 pub(crate) fn build(
     alloc: Global,
-    nodes: &Slab<Slot>,
+    nodes: &Linked<Option<Leaf>>,
     leaf: &Option<Leaf>,
     first: Option<usize>,
 ) -> Result<Tree, AllocError>
     requires place { IsPlace nodes.now first }
+    requires filled { Filled (row_at nodes.now first) }
     requires allowed { IsAllowed (tree_with leaf.now (entries (row_at nodes.now first))) }
     ensures { IfOk result (λ tree. tree ≡ tree_with leaf.now (entries (row_at nodes.now first))) }
 {
@@ -45,7 +46,7 @@ pub(crate) fn build(
     while let Some(index) = next {
         let slot = nodes.get(index).unwrap();
         let key = slot.key.key().copy()?;
-        let child = build(alloc, nodes, &slot.leaf, slot.first_child)?;
+        let child = build(alloc, nodes, &slot.value, slot.first_child)?;
         add_child(&mut children, alloc, key, child)?;
         next = slot.next;
     }

@@ -1,20 +1,22 @@
 // What stands at a path is taken out, with each node above it that is left without children.
 ghost use Rattle.std.specs.Prelude.{◌≡◌, ◌≤◌, ℕ, Option, None};
-ghost use Rattle.rt_store.specs.inside.Forest.{IsRow, row_at, times};
-ghost use Rattle.rt_store.specs.inside.Walks.{IsPlace};
-ghost use Rattle.rt_store.specs.inside.Changes.{Changed, is_bare, cleared, Told};
-ghost use Rattle.rt_store.specs.inside.Ranks.{IsRanked};
+ghost use Rattle.rt_store.specs.inside.Entries.{Filled};
+ghost use Rattle.rt_links.specs.Forest.{IsRow, row_at, times};
+ghost use Rattle.rt_links.specs.Walks.{IsPlace};
+ghost use Rattle.rt_links.specs.Changes.{Changed, Told};
+ghost use Rattle.rt_store.specs.inside.Changes.{is_bare, cleared};
 
-use crate::links::{set_content, take_out};
-use crate::ranks::Ranks;
-use crate::row::{Siblings, find};
-use crate::slot::Slot;
+use rt_links::{Linked, Siblings};
 use rt_order::key_cmp;
-use rt_tree::Key;
-use slab::Slab;
+use rt_tree::{Key, Leaf};
 
 // Whether nothing is left of a row, once what stands at the path is taken out.
-pub(crate) fn vanishes(nodes: &Slab<Slot>, first: Option<usize>, key: &Key, rest: &[Key]) -> bool
+pub(crate) fn vanishes(
+    nodes: &Linked<Option<Leaf>>,
+    first: Option<usize>,
+    key: &Key,
+    rest: &[Key],
+) -> bool
     requires { IsPlace nodes.now first }
     ensures { result ≡ is_bare (cleared key.now rest.now (row_at nodes.now first)) }
 {
@@ -28,15 +30,14 @@ pub(crate) fn vanishes(nodes: &Slab<Slot>, first: Option<usize>, key: &Key, rest
     match rest.split_first() {
         None => true,
         Some((child, rest)) => {
-            slot.leaf.is_none() && vanishes(nodes, slot.first_child, child, rest)
+            slot.value.is_none() && vanishes(nodes, slot.first_child, child, rest)
         }
     }
 }
 
 // Clears a path below a row. The answer is the first node that is left.
 pub(crate) fn clear_row(
-    nodes: &mut Slab<Slot>,
-    ranks: &mut Ranks,
+    nodes: &mut Linked<Option<Leaf>>,
     row: Siblings,
     key: &Key,
     rest: &[Key],
@@ -44,21 +45,20 @@ pub(crate) fn clear_row(
     requires row { IsRow nodes.old row.first row.parent None (row_at nodes.old row.first) }
     requires told { Told nodes.old row.first row.parent }
     requires once { (n : ℕ) → times n (row_at nodes.old row.first) ≤ 1 }
-    requires ranked { IsRanked nodes.old ranks.old }
+    requires filled { Filled (row_at nodes.old row.first) }
     ensures row { (parent : Option ℕ)
         → IsRow nodes.old row.first parent None (row_at nodes.old row.first)
         → IsRow nodes.new result parent None (cleared key.now rest.now (row_at nodes.old row.first)) }
     ensures changed { Changed nodes.old nodes.new (row_at nodes.old row.first)
         (cleared key.now rest.now (row_at nodes.old row.first)) }
-    ensures ranked { IsRanked nodes.new ranks.new }
 {
-    let Some(index) = find(nodes, ranks, row, key) else {
+    let Some(index) = nodes.find(row, key) else {
         return row.first;
     };
     let slot = nodes.get(index).unwrap();
     let below = slot.first_child;
     if let Some((child, rest)) = rest.split_first() {
-        if slot.leaf.is_some() {
+        if slot.value.is_some() {
             return row.first;
         }
         if !vanishes(nodes, below, child, rest) {
@@ -66,10 +66,10 @@ pub(crate) fn clear_row(
                 parent: Some(index),
                 first: below,
             };
-            let below = clear_row(nodes, ranks, below, child, rest);
-            set_content(nodes, index, None, below);
+            let below = clear_row(nodes, below, child, rest);
+            nodes.set_content(index, None, below);
             return row.first;
         }
     }
-    take_out(nodes, ranks, row.first, index)
+    nodes.take_out(row.first, index)
 }

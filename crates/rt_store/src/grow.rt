@@ -3,18 +3,16 @@ ghost use Rattle.std.specs.Prelude.{◌≡◌, ◌∷◌, [], false, IfOk, OnErr
 ghost use Rattle.rt_map.specs.Maps.{IsOrdered};
 ghost use Rattle.rt_tree.specs.PathTree.{key_cmp, null, is_null, put, AllFull};
 ghost use Rattle.rt_store.specs.Rows.{in_key_order};
-ghost use Rattle.rt_store.specs.inside.Forest.{row_at, entries, tree_with, IsFull};
-ghost use Rattle.rt_store.specs.inside.Changes.{Grown, Same};
+ghost use Rattle.rt_links.specs.Forest.{row_at};
+ghost use Rattle.rt_store.specs.inside.Entries.{entries, tree_with, IsFull};
+ghost use Rattle.rt_links.specs.Changes.{Same};
+ghost use Rattle.rt_store.specs.inside.Changes.{IsGrown};
 ghost use Rattle.rt_store.specs.inside.Growing.{seen};
-ghost use Rattle.rt_store.specs.inside.Ranks.{IsRanked};
 
-use crate::links::{fell, link, set_content};
-use crate::ranks::Ranks;
-use crate::slot::Slot;
+use rt_links::Linked;
 use rt_map::OrdMap;
-use rt_order::{PlacedKey, PlacedRef, key_cmp};
+use rt_order::key_cmp;
 use rt_tree::{Key, Leaf, Tree};
-use slab::Slab;
 use std::alloc::{AllocError, Global};
 
 // A child where it stands.
@@ -41,8 +39,7 @@ fn falling<'a>(alloc: Global, children: &'a OrdMap<Key, Tree>) -> Result<Vec<Chi
 // Makes a node of what a tree put at `rest` is, with all below it.
 #[cycle(grow)]
 pub(crate) fn grow(
-    nodes: &mut Slab<Slot>,
-    ranks: &mut Ranks,
+    nodes: &mut Linked<Option<Leaf>>,
     alloc: Global,
     parent: Option<usize>,
     key: &Key,
@@ -50,35 +47,19 @@ pub(crate) fn grow(
     tree: &Tree,
 ) -> Result<usize, AllocError>
     requires full { is_null tree.now ≡ false }
-    requires ranked { IsRanked nodes.old ranks.old }
-    ensures grown { IfOk result (λ index. Grown nodes.old nodes.new (Some index) parent) }
+    ensures grown { IfOk result (λ index. IsGrown nodes.old nodes.new (Some index) parent) }
     ensures is { IfOk result (λ index. entries (row_at nodes.new (Some index))
         ≡ (key.now, put null rest.now tree.now) ∷ []) }
     ensures err { OnErr result (Same nodes.old nodes.new) }
-    ensures ranked { IsRanked nodes.new ranks.new }
 {
-    let copy = key.copy()?;
-    let name = PlacedKey::of(copy);
-    let index = nodes.insert(Slot {
-        key: name,
-        parent,
-        first_child: None,
-        previous: None,
-        next: None,
-        leaf: None,
-    })?;
-    if let Err(error) = ranks.add(alloc, nodes, parent, &PlacedRef::of(key), index) {
-        drop(nodes.try_remove(index));
-        return Err(error);
-    }
-    match content(nodes, ranks, alloc, Some(index), rest, tree) {
+    let index = nodes.insert(alloc, parent, key, None)?;
+    match content(nodes, alloc, Some(index), rest, tree) {
         Ok((leaf, first)) => {
-            set_content(nodes, index, leaf, first);
+            nodes.set_content(index, leaf, first);
             Ok(index)
         }
         Err(error) => {
-            drop(nodes.try_remove(index));
-            ranks.remove(nodes, parent, &PlacedRef::of(key), index);
+            nodes.remove(index);
             Err(error)
         }
     }
@@ -88,31 +69,28 @@ pub(crate) fn grow(
 // children.
 #[cycle(grow)]
 pub(crate) fn content(
-    nodes: &mut Slab<Slot>,
-    ranks: &mut Ranks,
+    nodes: &mut Linked<Option<Leaf>>,
     alloc: Global,
     parent: Option<usize>,
     rest: &[Key],
     tree: &Tree,
 ) -> Result<(Option<Leaf>, Option<usize>), AllocError>
     requires full { is_null tree.now ≡ false }
-    requires ranked { IsRanked nodes.old ranks.old }
-    ensures grown { IfOk result (λ r. Grown nodes.old nodes.new r.1 parent) }
+    ensures grown { IfOk result (λ r. IsGrown nodes.old nodes.new r.1 parent) }
     ensures full { IfOk result (λ r. IsFull r.0 (row_at nodes.new r.1)) }
     ensures is { IfOk result (λ r. tree_with r.0 (entries (row_at nodes.new r.1))
         ≡ put null rest.now tree.now) }
     ensures err { OnErr result (Same nodes.old nodes.new) }
-    ensures ranked { IsRanked nodes.new ranks.new }
 {
     if let Some((key, rest)) = rest.split_first() {
-        let index = grow(nodes, ranks, alloc, parent, key, rest, tree)?;
+        let index = grow(nodes, alloc, parent, key, rest, tree)?;
         return Ok((None, Some(index)));
     }
     if let Some(leaf) = tree.as_leaf() {
         return Ok((Some(leaf.copy(alloc)?), None));
     }
     match tree.children() {
-        Some(children) => Ok((None, grow_row(nodes, ranks, alloc, parent, rest, children)?)),
+        Some(children) => Ok((None, grow_row(nodes, alloc, parent, rest, children)?)),
         None => Ok((None, None)),
     }
 }
@@ -120,8 +98,7 @@ pub(crate) fn content(
 // Makes a row of nodes of some children.
 #[cycle(grow)]
 pub(crate) fn grow_row(
-    nodes: &mut Slab<Slot>,
-    ranks: &mut Ranks,
+    nodes: &mut Linked<Option<Leaf>>,
     alloc: Global,
     parent: Option<usize>,
     rest: &[Key],
@@ -130,22 +107,20 @@ pub(crate) fn grow_row(
     requires end { rest.now ≡ [] }
     requires ordered { IsOrdered key_cmp children.now }
     requires full { AllFull children.now.entries }
-    requires ranked { IsRanked nodes.old ranks.old }
-    ensures grown { IfOk result (λ first. Grown nodes.old nodes.new first parent) }
+    ensures grown { IfOk result (λ first. IsGrown nodes.old nodes.new first parent) }
     ensures is { IfOk result (λ first. entries (row_at nodes.new first)
         ≡ in_key_order children.now.entries) }
     ensures err { OnErr result (Same nodes.old nodes.new) }
-    ensures ranked { IsRanked nodes.new ranks.new }
 {
     let mut first = None;
     for child in &falling(alloc, children)? {
-        match grow(nodes, ranks, alloc, parent, child.key, rest, child.tree) {
+        match grow(nodes, alloc, parent, child.key, rest, child.tree) {
             Ok(index) => {
-                link(nodes, None, index, first);
+                nodes.link(None, index, first);
                 first = Some(index);
             }
             Err(error) => {
-                fell(nodes, ranks, first);
+                nodes.fell(first);
                 return Err(error);
             }
         }

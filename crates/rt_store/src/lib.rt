@@ -12,19 +12,13 @@
 #![tactic(auto)]
 
 mod build;
-mod children;
 mod clear;
 mod error;
 mod grow;
-mod head;
 mod laws;
-mod links;
 mod node;
 mod put;
-mod ranks;
-mod row;
 mod run;
-mod slot;
 mod store;
 
 pub use error::StoreError;

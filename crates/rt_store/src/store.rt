@@ -11,14 +11,10 @@ use crate::build::build;
 use crate::clear::clear_row;
 use crate::error::StoreError;
 use crate::grow::content;
-use crate::links::fell;
 use crate::node::Node;
 use crate::put::put_row;
-use crate::ranks::Ranks;
-use crate::row::{Siblings, descend};
-use crate::slot::Slot;
+use rt_links::{Linked, Siblings};
 use rt_tree::{Key, Leaf, MAX_LEVELS, Path, Tree};
-use slab::Slab;
 use std::alloc::{AllocError, Global};
 use std::marker::Model;
 
@@ -27,13 +23,11 @@ use std::marker::Model;
 /// Siblings stand in the order of keys. To find a child costs by the logarithm of their number.
 #[derive(Debug)]
 pub struct Store {
-    nodes: Slab<Slot>,
+    nodes: Linked<Option<Leaf>>,
     // The first child of the root.
     first: Option<usize>,
     // The leaf that the whole tree is, where it is one.
     leaf: Option<Leaf>,
-    // The children of each node in the order of keys, from which searches begin.
-    ranks: Ranks,
 }
 
 impl Drop for Store {
@@ -42,7 +36,6 @@ impl Drop for Store {
             nodes: _,
             first: _,
             leaf: _,
-            ranks: _,
         } = self;
     }
 }
@@ -67,10 +60,9 @@ impl Store {
         ensures { result.tree ≡ null }
     {
         Store {
-            nodes: Slab::new(alloc),
+            nodes: Linked::new(alloc),
             first: None,
             leaf: None,
-            ranks: Ranks::new(alloc),
         }
     }
 
@@ -99,16 +91,9 @@ impl Store {
         }
         match keys.split_first() {
             None => {
-                let (leaf, first) = content(
-                    &mut self.nodes,
-                    &mut self.ranks,
-                    alloc,
-                    None,
-                    keys,
-                    tree,
-                )?;
+                let (leaf, first) = content(&mut self.nodes, alloc, None, keys, tree)?;
                 self.leaf = leaf;
-                fell(&mut self.nodes, &mut self.ranks, self.first);
+                self.nodes.fell(self.first);
                 self.first = first;
             }
             Some((key, rest)) => {
@@ -116,15 +101,7 @@ impl Store {
                     parent: None,
                     first: self.first,
                 };
-                let first = put_row(
-                    &mut self.nodes,
-                    &mut self.ranks,
-                    alloc,
-                    row,
-                    key,
-                    rest,
-                    tree,
-                )?;
+                let first = put_row(&mut self.nodes, alloc, row, key, rest, tree)?;
                 self.leaf = None;
                 self.first = first;
             }
@@ -143,7 +120,7 @@ impl Store {
         match path.keys().split_first() {
             None => {
                 self.leaf = None;
-                fell(&mut self.nodes, &mut self.ranks, self.first);
+                self.nodes.fell(self.first);
                 self.first = None;
             }
             Some((key, rest)) => {
@@ -151,7 +128,7 @@ impl Store {
                     parent: None,
                     first: self.first,
                 };
-                self.first = clear_row(&mut self.nodes, &mut self.ranks, row, key, rest);
+                self.first = clear_row(&mut self.nodes, row, key, rest);
             }
         }
     }
@@ -187,7 +164,7 @@ impl Store {
             parent: None,
             first: self.first,
         };
-        Node::linked(descend(&self.nodes, &self.ranks, row, key, rest))
+        Node::linked(self.nodes.descend(row, key, rest))
     }
 
     /// The part of the tree at the path; null where nothing stands there. Costs by the path, the
@@ -202,11 +179,11 @@ impl Store {
             parent: None,
             first: self.first,
         };
-        let Some(index) = descend(&self.nodes, &self.ranks, row, key, rest) else {
+        let Some(index) = self.nodes.descend(row, key, rest) else {
             return Ok(Tree::null());
         };
         let slot = self.nodes.get(index).unwrap();
-        build(alloc, &self.nodes, &slot.leaf, slot.first_child)
+        build(alloc, &self.nodes, &slot.value, slot.first_child)
     }
 
     /// The first child in the order of keys.
@@ -255,7 +232,7 @@ impl Store {
         match node.index() {
             None => self.leaf.as_ref(),
             Some(index) => match self.nodes.get(index) {
-                Some(slot) => slot.leaf.as_ref(),
+                Some(slot) => slot.value.as_ref(),
                 None => None,
             },
         }

@@ -2,8 +2,9 @@ use Rattle.std.proofs.Common.{◌≡◌, Some, None, sym, ap, ◌∙◌, arith, 
 use Rattle.slab.specs.Slab.{get}
 use Rattle.rt_tree.specs.PathTree.{object}
 use Rattle.rt_tree.specs.Allowed.{IsAllowed}
-use Rattle.rt_store.specs.inside.Forest.{row_at, entries, tree_with}
-use Rattle.rt_store.proofs.Building.{child_place, child_smaller, child_allowed, building_next, fewer_left, built, same_object, built_full}
+use Rattle.rt_links.specs.Forest.{row_at}
+use Rattle.rt_store.specs.inside.Entries.{entries, tree_with}
+use Rattle.rt_store.proofs.Building.{child_place, child_filled, child_smaller, child_allowed, building_next, fewer_left, built, same_object, built_full}
 use Rattle.rt_store.proofs.build.+build.Goals as goal
 
 pub build-requires : goal.build-requires
@@ -16,7 +17,10 @@ build-requires t c =
       omega (arith, c.decreases, child_smaller c.args.nodes.now f c.loop-next.children.entries c.loop-next.next c.in-Some-next.index slot c.loop-next.invariant c.in-Some-next.is there),
       (
         child_place c.args.nodes.now f c.loop-next.children.entries c.loop-next.next c.in-Some-next.index slot c.loop-next.invariant c.in-Some-next.is there,
-        child_allowed c.args.nodes.now f c.loop-next.children.entries c.loop-next.next c.in-Some-next.index slot c.loop-next.invariant c.in-Some-next.is there allowed,
+        (
+          child_filled c.args.nodes.now f c.loop-next.children.entries c.loop-next.next c.in-Some-next.index slot c.loop-next.invariant c.in-Some-next.is there,
+          child_allowed c.args.nodes.now f c.loop-next.children.entries c.loop-next.next c.in-Some-next.index slot c.loop-next.invariant c.in-Some-next.is there allowed,
+        ),
       ),
     )
 
@@ -31,7 +35,7 @@ loop-next-preserved t c =
     let slot = c.unwrap-slot.result.now in
     let there : get c.args.nodes.now c.in-Some-next.index ≡ Some slot = search rules in
     let key : c.in_ok-key.key ≡ slot.key = search rules in
-    let child : c.in_ok-child.child ≡ tree_with slot.leaf (entries (row_at c.args.nodes.now slot.first_child)) = search rules in
+    let child : c.in_ok-child.child ≡ tree_with slot.value (entries (row_at c.args.nodes.now slot.first_child)) = search rules in
     building_next c.args.nodes.now (row_at c.args.nodes.now c.args.first) c.loop-next.children.entries c.loop-next.next c.in-Some-next.index slot c.loop-next.invariant c.in-Some-next.is there
     c.add_child.new.children.entries c.in_ok-key.key c.in_ok-child.child key child c.in_ok-add_child.ensures
 
@@ -39,7 +43,7 @@ pub object-requires-clause-full : goal.object-requires-clause-full
 object-requires-clause-full t c =
     let f = row_at c.args.nodes.now c.args.first in
     let end : c.loop-next.next ≡ None = search rules in
-    built_full f c.loop-next.children.entries c.requires.place.2.sound (built c.args.nodes.now f c.loop-next.children.entries c.loop-next.next c.loop-next.invariant end)
+    built_full f c.loop-next.children.entries c.requires.filled (built c.args.nodes.now f c.loop-next.children.entries c.loop-next.next c.loop-next.invariant end)
 
 pub object-requires-clause-allowed : goal.object-requires-clause-allowed
 object-requires-clause-allowed t c =

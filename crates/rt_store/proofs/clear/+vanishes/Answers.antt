@@ -3,7 +3,7 @@ use Rattle.std.specs.Prelude.{◌&&◌}
 use Rattle.std.specs.Ordering.{is_eq}
 use Rattle.slab.specs.Slab.{get}
 use Rattle.rt_order.specs.KeyOrder.{key_cmp}
-use Rattle.rt_store.specs.inside.Forest.{row_at}
+use Rattle.rt_links.specs.Forest.{row_at}
 use Rattle.rt_store.specs.inside.Changes.{is_bare, cleared}
 use Rattle.rt_store.proofs.Vanishing.{vanish_more, vanish_other, vanish_end, vanish_below, vanish_place}
 use Rattle.rt_store.proofs.clear.+vanishes.Goals as goal
@@ -43,7 +43,7 @@ returns-then-is_none t c =
     let there : get c.args.nodes.now c.in-Some.index ≡ Some slot = search rules in
     let last : is_some slot.next ≡ false = search rules in
     let same : is_eq (key_cmp c.args.key.now slot.key) ≡ true = search rules in
-    let leaf : not (is_some slot.leaf) ≡ true = search rules in
+    let leaf : not (is_some slot.value) ≡ true = search rules in
     rw c.in-Some-split_first.ensures.cases.0
     (c.vanishes.ensures
     ∙ sym (vanish_below c.args.nodes.now c.args.first c.in-Some.index slot c.in-Some.is c.requires there c.args.key.now c.in-Some-split_first.child.now c.in-Some-split_first.rest.now same last
@@ -55,7 +55,7 @@ returns-else-is_none t c =
     let there : get c.args.nodes.now c.in-Some.index ≡ Some slot = search rules in
     let last : is_some slot.next ≡ false = search rules in
     let same : is_eq (key_cmp c.args.key.now slot.key) ≡ true = search rules in
-    let leaf : not (is_some slot.leaf) ≡ false = search rules in
+    let leaf : not (is_some slot.value) ≡ false = search rules in
     rw c.in-Some-split_first.ensures.cases.0
     (c.if-is_none.false
     ∙ sym (vanish_below c.args.nodes.now c.args.first c.in-Some.index slot c.in-Some.is c.requires there c.args.key.now c.in-Some-split_first.child.now c.in-Some-split_first.rest.now same last

@@ -1,21 +1,21 @@
-use Rattle.std.proofs.Common.{rules, ◌≡◌, ◌+◌, ◌≤◌, [], ◌∷◌, true, false, Some, None, length, map, reverse, refl, sym, ap, subst, ◌∙◌, arith}
+use Rattle.std.proofs.Common.{rules, ◌≡◌, ◌+◌, ◌≤◌, [], true, false, Some, None, length, map, reverse, sym, ap, subst, ◌∙◌, arith}
 use Rattle.std.specs.Map.{keys_of}
 use Rattle.std.specs.List.Sorted.{IsStrictlySortedBy}
 use Rattle.std.proofs.lemmas.List.{drop_all}
 use Rattle.rt_tree.specs.PathTree.{key_cmp, null, is_null, put, of_leaf, leaf_at, object, levels, AllFull}
 use Rattle.rt_tree.specs.Children.{is_object, children_of, children_sorted}
+use Rattle.rt_links.specs.Forest.{row_at}
+use Rattle.rt_links.proofs.Reached.{row_at-none}
+use Rattle.rt_links.proofs.Growing.{still_place, still_once, undone}
 use Rattle.rt_store.specs.Rows.{in_key_order}
-use Rattle.rt_store.specs.inside.Forest.{row_at, entries}
+use Rattle.rt_store.specs.inside.Entries.{entries}
 use Rattle.rt_store.specs.inside.Growing.{seen}
-use Rattle.rt_store.specs.inside.Changes.{linked_in, with_content}
-use Rattle.rt_store.proofs.Ranked.{ranked_mapped, ranked_more, ranked_fewer, ranked_written}
-use Rattle.rt_store.proofs.Linked.{row_at-none}
 use Rattle.rt_store.proofs.Falling.{onto, object-in_key_order}
-use Rattle.rt_store.proofs.Growing.{put_key, put_whole, put_leaf, no_path, full-children_of, full_row, grown_none, still_place, still_once, undone, one_grown, one_entry, next_child, next_made}
+use Rattle.rt_store.proofs.Growing.{put_key, put_whole, put_leaf, no_path, full-children_of, full_row, nothing_grown, node_grown, one_entry, taken_back, next_child, next_made}
 use Rattle.rt_store.proofs.grow.+grow.Goals as goal
 
 pub content-grow-requires : goal.content-grow-requires
-content-grow-requires t c = (omega (arith, c.decreases, ap length c.in-Some.ensures.cases.0), (c.requires.full, c.requires.ranked))
+content-grow-requires t c = (omega (arith, c.decreases, ap length c.in-Some.ensures.cases.0), c.requires.full)
 
 pub content-returns-in-Some-clause-is : goal.content-returns-in-Some-clause-is
 content-returns-in-Some-clause-is t c =
@@ -34,7 +34,7 @@ content-grow_row-requires t c =
       omega (arith, c.decreases, ap (λ es. levels (object (in_key_order es))) is, ap levels (object-in_key_order T object_is)),
       (
         no_path c.args.rest.now c.in_default.ensures.cases,
-        (subst (λ es. IsStrictlySortedBy key_cmp (keys_of es)) (sym is) (children_sorted T), (subst AllFull (sym is) (full-children_of T), c.requires.ranked)),
+        (subst (λ es. IsStrictlySortedBy key_cmp (keys_of es)) (sym is) (children_sorted T), subst AllFull (sym is) (full-children_of T)),
       ),
     )
 
@@ -55,33 +55,28 @@ content-returns-in_ok-grow_row-in-Some-children-clause-is t c =
     ∙ sym (put_whole null c.args.rest.now T c.in_default.ensures.cases)
 
 pub grow-content-requires : goal.grow-content-requires
-grow-content-requires t c = (
-  omega (arith, c.decreases),
-  (
-    c.requires.full,
-    ranked_more c.args.nodes.now c.insert.new.self c.args.ranks.now c.add.new.self c.in_ok-index.index _ c.in_ok-index.ensures.was_vacant c.in_ok-index.ensures.updates c.in_default.ensures.ok c.requires.ranked,
-  ),
-)
+grow-content-requires t c = (omega (arith, c.decreases), c.requires.full)
 
 pub grow-returns-in-Ok-clause-grown : goal.grow-returns-in-Ok-clause-grown
 grow-returns-in-Ok-clause-grown t c =
-    one_grown c.args.nodes.now c.insert.new.self c.in_ok-index.index c.of-name.result c.args.parent c.in_ok-index.ensures.was_vacant
-    c.in_ok-index.ensures.updates c.in_ok-index.ensures.len
-    c.content.new.nodes c.set_content.new.nodes c.in-Ok.leaf c.in-Ok.first (row_at c.content.new.nodes c.in-Ok.first) c.in-Ok.ensures.grown.row c.in-Ok.ensures.grown.changed c.in-Ok.ensures.full c.set_content.ensures.written c.set_content.ensures.others c.set_content.ensures.len
+    node_grown c.args.nodes.now c.insert.new.self c.in_ok-index.index c.args.key.now c.args.parent c.in_ok-index.ensures.ok
+    c.content.new.nodes c.set_content.new.self c.in-Ok.leaf c.in-Ok.first c.in-Ok.ensures.grown c.in-Ok.ensures.full c.set_content.ensures.written c.set_content.ensures.others c.set_content.ensures.len
 
 pub grow-returns-in-Ok-clause-is : goal.grow-returns-in-Ok-clause-is
 grow-returns-in-Ok-clause-is t c =
-    one_entry c.args.nodes.now c.insert.new.self c.in_ok-index.index c.of-name.result c.args.parent c.in_ok-index.ensures.was_vacant
-    c.in_ok-index.ensures.updates c.in_ok-index.ensures.len
-    c.content.new.nodes c.set_content.new.nodes c.in-Ok.leaf c.in-Ok.first (row_at c.content.new.nodes c.in-Ok.first) c.in-Ok.ensures.grown.row c.in-Ok.ensures.grown.changed c.in-Ok.ensures.full c.set_content.ensures.written c.set_content.ensures.others c.set_content.ensures.len
+    one_entry c.args.nodes.now c.insert.new.self c.in_ok-index.index c.args.key.now c.args.parent c.in_ok-index.ensures.ok
+    c.content.new.nodes c.set_content.new.self c.in-Ok.leaf c.in-Ok.first c.in-Ok.ensures.grown c.in-Ok.ensures.full c.set_content.ensures.written c.set_content.ensures.others c.set_content.ensures.len
     (put null c.args.rest.now c.args.tree.now) c.in-Ok.ensures.is
-    ∙ ap (λ k. (k, put null c.args.rest.now c.args.tree.now) ∷ []) (c.of-name.ensures ∙ c.in_ok-copy.ensures)
+
+pub grow-returns-in-Err-clause-err : goal.grow-returns-in-Err-clause-err
+grow-returns-in-Err-clause-err t c =
+    taken_back c.args.nodes.now c.insert.new.self c.content.new.nodes c.remove.new.self c.in_ok-index.index c.args.key.now c.args.parent None
+    c.in_ok-index.ensures.ok c.in-Err.ensures.err c.remove.ensures.updates c.remove.ensures.len
 
 pub grow_row-loop-child-init : goal.grow_row-loop-child-init
 grow_row-loop-child-init t c = (
-  grown_none c.args.nodes.now c.args.parent,
+  nothing_grown c.args.nodes.now c.args.parent,
   ap (λ f. onto (map seen c.deref-child-items.result.now) (entries f)) (row_at-none c.args.nodes.now) ∙ ap (λ xs. reverse (map seen xs)) c.deref-child-items.ensures.value ∙ c.in_ok-falling.ensures,
-  c.requires.ranked,
 )
 
 pub grow_row-grow-requires : goal.grow_row-grow-requires
@@ -89,36 +84,26 @@ grow_row-grow-requires t c =
     let next : (levels c.child-item.result.tree.now + 1 ≤ levels (object (in_key_order c.args.children.now.entries))) × (is_null c.child-item.result.tree.now ≡ false) =
     next_child c.args.nodes.now c.loop-child.nodes c.loop-child.first c.args.parent c.args.children.now.entries c.deref-child-items.result.now c.loop-child.child-index c.child-item.result
     c.loop-child.invariant.0 c.loop-child.invariant.1 c.loop-child-test.true c.child-item.is c.requires.full in
-    (omega (arith, c.decreases, next.0, ap length c.requires.end), (next.1, c.loop-child.invariant.2))
+    (omega (arith, c.decreases, next.0, ap length c.requires.end), next.1)
 
 pub grow_row-fell-requires-clause-place : goal.grow_row-fell-requires-clause-place
-grow_row-fell-requires-clause-place t c = still_place c.args.nodes.now c.loop-child.nodes c.grow.new.nodes c.loop-child.first c.args.parent c.loop-child.invariant.0 c.in-Err.ensures.err
+grow_row-fell-requires-clause-place t c = still_place c.args.nodes.now c.loop-child.nodes c.grow.new.nodes c.loop-child.first c.args.parent c.loop-child.invariant.0.grown c.in-Err.ensures.err
 
 pub grow_row-fell-requires-clause-once : goal.grow_row-fell-requires-clause-once
-grow_row-fell-requires-clause-once t c = still_once c.args.nodes.now c.loop-child.nodes c.grow.new.nodes c.loop-child.first c.args.parent c.loop-child.invariant.0 c.in-Err.ensures.err
+grow_row-fell-requires-clause-once t c = still_once c.args.nodes.now c.loop-child.nodes c.grow.new.nodes c.loop-child.first c.args.parent c.loop-child.invariant.0.grown c.in-Err.ensures.err
 
 pub grow_row-returns-in-Err-clause-err : goal.grow_row-returns-in-Err-clause-err
-grow_row-returns-in-Err-clause-err t c = undone c.args.nodes.now c.loop-child.nodes c.grow.new.nodes c.loop-child.first c.args.parent c.loop-child.invariant.0 c.in-Err.ensures.err c.fell.new.nodes c.fell.ensures.felled
+grow_row-returns-in-Err-clause-err t c = undone c.args.nodes.now c.loop-child.nodes c.grow.new.nodes c.loop-child.first c.args.parent c.loop-child.invariant.0.grown c.in-Err.ensures.err c.fell.new.self c.fell.ensures
 
 pub grow_row-loop-child-preserved : goal.grow_row-loop-child-preserved
 grow_row-loop-child-preserved t c =
     let made = next_made c.args.nodes.now c.loop-child.nodes c.loop-child.first c.args.parent c.args.children.now.entries c.deref-child-items.result.now c.loop-child.child-index c.child-item.result
-    c.loop-child.invariant.0 c.loop-child.invariant.1 c.loop-child-test.true c.child-item.is c.grow.new.nodes c.link.new.nodes c.in-Ok.index c.args.rest.now c.requires.end
+    c.loop-child.invariant.0 c.loop-child.invariant.1 c.loop-child-test.true c.child-item.is c.grow.new.nodes c.link.new.self c.in-Ok.index c.args.rest.now c.requires.end
     c.in-Ok.ensures.grown c.in-Ok.ensures.is c.link.ensures.each c.link.ensures.len in
-    (made.0, made.1, ranked_mapped c.grow.new.nodes c.link.new.nodes c.grow.new.ranks (linked_in None c.in-Ok.index c.loop-child.first) (λ n slot. refl) c.link.ensures.each c.in-Ok.ensures.ranked)
+    (made.0, made.1)
 
 pub grow_row-returns-clause-is : goal.grow_row-returns-clause-is
 grow_row-returns-clause-is t c =
     let xs = c.deref-child-items.result.now in
     let end : length xs ≤ c.loop-child.child-index = omega (arith, c.loop-child-test.false) in
     ap (λ ys. onto (map seen ys) (entries (row_at c.loop-child.nodes c.loop-child.first))) (sym (drop_all c.loop-child.child-index xs end)) ∙ c.loop-child.invariant.1
-
-pub grow-returns-in-Err-content-clause-ranked : goal.grow-returns-in-Err-content-clause-ranked
-grow-returns-in-Err-content-clause-ranked t c =
-    ranked_fewer c.content.new.nodes c.try_remove-in-Err-content.new.self c.content.new.ranks c.remove.new.self c.in_ok-index.index _
-    (c.in-Err-content.ensures.err.kept c.in_ok-index.index ∙ c.in_ok-index.ensures.updates.changed) c.try_remove-in-Err-content.ensures.updates c.remove.ensures c.in-Err-content.ensures.ranked
-
-pub grow-returns-in-Ok-clause-ranked : goal.grow-returns-in-Ok-clause-ranked
-grow-returns-in-Ok-clause-ranked t c =
-    ranked_written c.content.new.nodes c.set_content.new.nodes c.content.new.ranks (with_content c.in-Ok.leaf c.in-Ok.first) c.in_ok-index.index (λ slot. refl)
-    c.set_content.ensures.written c.set_content.ensures.others c.in-Ok.ensures.ranked

@@ -1,11 +1,11 @@
 use Rattle.std.proofs.Common.{◌≡◌, ◌+◌, ◌*◌, length, drop, map}
 use Rattle.rt_tree.specs.PathTree.{levels, object}
 use Rattle.rt_store.specs.Rows.{in_key_order}
-use Rattle.rt_store.specs.inside.Forest.{row_at, entries}
-use Rattle.rt_store.specs.inside.Changes.{Grown}
+use Rattle.rt_links.specs.Forest.{row_at}
+use Rattle.rt_store.specs.inside.Entries.{entries}
+use Rattle.rt_store.specs.inside.Changes.{IsGrown}
 use Rattle.rt_store.specs.inside.Growing.{seen}
 use Rattle.rt_store.proofs.Falling.{onto}
-use Rattle.rt_store.specs.inside.Ranks.{IsRanked}
 use Rattle.rt_store.proofs.grow.+grow.Given as goal
 
 abbrev pub decreases-content : goal.decreases-content
@@ -19,6 +19,5 @@ decreases-grow_row l = 3 * levels (object (in_key_order l.children.now.entries))
 
 abbrev pub invariant-grow_row-loop-child : goal.invariant-grow_row-loop-child
 invariant-grow_row-loop-child l =
-    Grown l.initial.nodes l.nodes l.first l.parent
+    IsGrown l.initial.nodes l.nodes l.first l.parent
     × onto (map seen (drop l.child-index l.child-items)) (entries (row_at l.nodes l.first)) ≡ in_key_order l.children.entries
-    × IsRanked l.nodes l.ranks

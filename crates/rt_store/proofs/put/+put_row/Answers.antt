@@ -1,26 +1,25 @@
 use Rattle.std.proofs.Common.{◌≡◌, Some, length, sym, ap, refl, ◌∙◌, arith, rules}
 use Rattle.slab.specs.Slab.{get}
-use Rattle.rt_store.proofs.Putting.{put_new, put_there, put_place, put_once, old_place, old_once, put_here, put_below}
-use Rattle.rt_store.proofs.Near.{told_below}
-use Rattle.rt_store.specs.inside.Changes.{with_content}
-use Rattle.rt_store.proofs.Ranked.{ranked_written}
+use Rattle.rt_store.proofs.Putting.{put_new, put_there, put_place, put_once, put_filled, put_here, put_below}
+use Rattle.rt_links.proofs.Growing.{old_place, old_once}
+use Rattle.rt_links.proofs.Near.{told_below}
 use Rattle.rt_store.proofs.put.+put_row.Goals as goal
 
 pub returns-in-None-clause-ok : goal.returns-in-None-clause-ok
 returns-in-None-clause-ok t c =
-    put_new c.args.nodes.now c.grow.new.nodes c.link.new.nodes c.args.row.first (Some c.in_ok-index-in-Gap.index) c.args.row.parent c.in-Gap.previous c.in-Gap.next c.in_ok-index-in-Gap.index
-    c.args.key.now c.args.rest.now c.args.tree.now c.requires.row c.requires.once c.requires.full (sym c.seek.ensures ∙ c.in-Gap.is)
+    put_new c.args.nodes.now c.grow.new.nodes c.link.new.self c.args.row.first (Some c.in_ok-index-in-Gap.index) c.args.row.parent c.in-Gap.previous c.in-Gap.next c.in_ok-index-in-Gap.index
+    c.args.key.now c.args.rest.now c.args.tree.now c.requires.row c.requires.once c.requires.filled c.requires.full (sym c.seek.ensures ∙ c.in-Gap.is)
     c.in_ok-index-in-Gap.ensures.grown c.in_ok-index-in-Gap.ensures.is c.link.ensures.each c.link.ensures.len (λ none. refl) (λ x some. cc (c.in-None.is, some))
 
 pub returns-in-Some-clause-ok : goal.returns-in-Some-clause-ok
 returns-in-Some-clause-ok t c =
-    put_new c.args.nodes.now c.grow.new.nodes c.link.new.nodes c.args.row.first c.args.row.first c.args.row.parent c.in-Gap.previous c.in-Gap.next c.in_ok-index-in-Gap.index
-    c.args.key.now c.args.rest.now c.args.tree.now c.requires.row c.requires.once c.requires.full (sym c.seek.ensures ∙ c.in-Gap.is)
+    put_new c.args.nodes.now c.grow.new.nodes c.link.new.self c.args.row.first c.args.row.first c.args.row.parent c.in-Gap.previous c.in-Gap.next c.in_ok-index-in-Gap.index
+    c.args.key.now c.args.rest.now c.args.tree.now c.requires.row c.requires.once c.requires.filled c.requires.full (sym c.seek.ensures ∙ c.in-Gap.is)
     c.in_ok-index-in-Gap.ensures.grown c.in_ok-index-in-Gap.ensures.is c.link.ensures.each c.link.ensures.len (λ none. cc (c.in-Some.is, none)) (λ x some. refl)
 
 pub unwrap-requires : goal.unwrap-requires
 unwrap-requires t c =
-    let node = put_there c.args.nodes.now c.args.row.first c.args.row.parent c.args.key.now c.in-Here.index c.requires.row (sym c.seek.ensures ∙ c.in-Here.is) in
+    let node = put_there c.args.nodes.now c.args.row.first c.args.row.parent c.args.key.now c.in-Here.index c.requires.row c.requires.filled (sym c.seek.ensures ∙ c.in-Here.is) in
     let there : get c.args.nodes.now c.in-Here.index ≡ Some node.slot = node.there in
     search (rules, there)
 
@@ -29,18 +28,18 @@ fell-requires-clause-place t c =
     let slot = c.unwrap.result.now in
     let there : get c.args.nodes.now c.in-Here.index ≡ Some slot = search rules in
     old_place c.args.nodes.now c.content.new.nodes slot.first_child c.in_ok-leaf-in-None-split_first.grown (Some c.in-Here.index)
-    (put_place c.args.nodes.now c.args.row.first c.args.row.parent c.args.key.now c.in-Here.index slot c.requires.row c.requires.once (sym c.seek.ensures ∙ c.in-Here.is) there)
-    (put_once c.args.nodes.now c.args.row.first c.args.row.parent c.args.key.now c.in-Here.index slot c.requires.row c.requires.once (sym c.seek.ensures ∙ c.in-Here.is) there)
-    c.in_ok-leaf-in-None-split_first.ensures.grown
+    (put_place c.args.nodes.now c.args.row.first c.args.row.parent c.args.key.now c.in-Here.index slot c.requires.row c.requires.once c.requires.filled (sym c.seek.ensures ∙ c.in-Here.is) there)
+    (put_once c.args.nodes.now c.args.row.first c.args.row.parent c.args.key.now c.in-Here.index slot c.requires.row c.requires.once c.requires.filled (sym c.seek.ensures ∙ c.in-Here.is) there)
+    c.in_ok-leaf-in-None-split_first.ensures.grown.grown
 
 pub fell-requires-clause-once : goal.fell-requires-clause-once
 fell-requires-clause-once t c =
     let slot = c.unwrap.result.now in
     let there : get c.args.nodes.now c.in-Here.index ≡ Some slot = search rules in
     old_once c.args.nodes.now c.content.new.nodes slot.first_child c.in_ok-leaf-in-None-split_first.grown (Some c.in-Here.index)
-    (put_place c.args.nodes.now c.args.row.first c.args.row.parent c.args.key.now c.in-Here.index slot c.requires.row c.requires.once (sym c.seek.ensures ∙ c.in-Here.is) there)
-    (put_once c.args.nodes.now c.args.row.first c.args.row.parent c.args.key.now c.in-Here.index slot c.requires.row c.requires.once (sym c.seek.ensures ∙ c.in-Here.is) there)
-    c.in_ok-leaf-in-None-split_first.ensures.grown
+    (put_place c.args.nodes.now c.args.row.first c.args.row.parent c.args.key.now c.in-Here.index slot c.requires.row c.requires.once c.requires.filled (sym c.seek.ensures ∙ c.in-Here.is) there)
+    (put_once c.args.nodes.now c.args.row.first c.args.row.parent c.args.key.now c.in-Here.index slot c.requires.row c.requires.once c.requires.filled (sym c.seek.ensures ∙ c.in-Here.is) there)
+    c.in_ok-leaf-in-None-split_first.ensures.grown.grown
 
 pub put_row-requires : goal.put_row-requires
 put_row-requires t c =
@@ -48,10 +47,10 @@ put_row-requires t c =
     let there : get c.args.nodes.now c.in-Here.index ≡ Some slot = search rules in (
       omega (arith, c.decreases, ap length c.in-Some-split_first.ensures.cases.0),
       (
-        put_place c.args.nodes.now c.args.row.first c.args.row.parent c.args.key.now c.in-Here.index slot c.requires.row c.requires.once (sym c.seek.ensures ∙ c.in-Here.is) there,
+        put_place c.args.nodes.now c.args.row.first c.args.row.parent c.args.key.now c.in-Here.index slot c.requires.row c.requires.once c.requires.filled (sym c.seek.ensures ∙ c.in-Here.is) there,
         (
           told_below c.args.nodes.now c.args.row.first c.args.row.parent c.in-Here.index slot c.requires.told there,
-          (put_once c.args.nodes.now c.args.row.first c.args.row.parent c.args.key.now c.in-Here.index slot c.requires.row c.requires.once (sym c.seek.ensures ∙ c.in-Here.is) there, (c.requires.full, c.requires.ranked)),
+          (put_once c.args.nodes.now c.args.row.first c.args.row.parent c.args.key.now c.in-Here.index slot c.requires.row c.requires.once c.requires.filled (sym c.seek.ensures ∙ c.in-Here.is) there, (put_filled c.args.nodes.now c.args.row.first c.args.row.parent c.args.key.now c.in-Here.index slot c.requires.row c.requires.once c.requires.filled (sym c.seek.ensures ∙ c.in-Here.is) there, c.requires.full)),
         ),
       ),
     )
@@ -60,9 +59,9 @@ pub returns-in_ok-leaf-in-None-split_first-clause-ok : goal.returns-in_ok-leaf-i
 returns-in_ok-leaf-in-None-split_first-clause-ok t c =
     let slot = c.unwrap.result.now in
     let there : get c.args.nodes.now c.in-Here.index ≡ Some slot = search rules in
-    put_here c.args.nodes.now c.args.row.first c.args.row.parent c.args.key.now c.in-Here.index slot c.requires.row c.requires.once (sym c.seek.ensures ∙ c.in-Here.is) there
-    c.content.new.nodes c.fell.new.nodes c.set_content.new.nodes c.in_ok-leaf-in-None-split_first.grown c.in_ok-leaf-in-None-split_first.leaf c.args.rest.now c.args.tree.now
-    c.requires.full c.in-None-split_first.ensures.cases c.in_ok-leaf-in-None-split_first.ensures.grown c.fell.ensures.felled
+    put_here c.args.nodes.now c.args.row.first c.args.row.parent c.args.key.now c.in-Here.index slot c.requires.row c.requires.once c.requires.filled (sym c.seek.ensures ∙ c.in-Here.is) there
+    c.content.new.nodes c.fell.new.self c.set_content.new.self c.in_ok-leaf-in-None-split_first.grown c.in_ok-leaf-in-None-split_first.leaf c.args.rest.now c.args.tree.now
+    c.requires.full c.in-None-split_first.ensures.cases c.in_ok-leaf-in-None-split_first.ensures.grown c.fell.ensures
     c.in_ok-leaf-in-None-split_first.ensures.full c.in_ok-leaf-in-None-split_first.ensures.is
     c.set_content.ensures.written c.set_content.ensures.others c.set_content.ensures.len
 
@@ -71,12 +70,7 @@ returns-in_ok-below-in-Some-split_first-clause-ok t c =
     let slot = c.unwrap.result.now in
     let there : get c.args.nodes.now c.in-Here.index ≡ Some slot = search rules in
     rw c.in-Some-split_first.ensures.cases.0
-    (put_below c.args.nodes.now c.args.row.first c.args.row.parent c.args.key.now c.in-Here.index slot c.requires.row c.requires.once (sym c.seek.ensures ∙ c.in-Here.is) there
-    c.put_row.new.nodes c.set_content-in-Some-split_first.new.nodes c.in_ok-below-in-Some-split_first.below c.in-Some-split_first.key.now c.in-Some-split_first.rest.now c.args.tree.now
+    (put_below c.args.nodes.now c.args.row.first c.args.row.parent c.args.key.now c.in-Here.index slot c.requires.row c.requires.once c.requires.filled (sym c.seek.ensures ∙ c.in-Here.is) there
+    c.put_row.new.nodes c.set_content-in-Some-split_first.new.self c.in_ok-below-in-Some-split_first.below c.in-Some-split_first.key.now c.in-Some-split_first.rest.now c.args.tree.now
     c.requires.full c.in_ok-below-in-Some-split_first.ensures.ok
     c.set_content-in-Some-split_first.ensures.written c.set_content-in-Some-split_first.ensures.others c.set_content-in-Some-split_first.ensures.len)
-
-pub returns-in_ok-leaf-in-None-split_first-clause-ranked : goal.returns-in_ok-leaf-in-None-split_first-clause-ranked
-returns-in_ok-leaf-in-None-split_first-clause-ranked t c =
-    ranked_written c.fell.new.nodes c.set_content.new.nodes c.fell.new.ranks (with_content c.in_ok-leaf-in-None-split_first.leaf c.in_ok-leaf-in-None-split_first.grown) c.in-Here.index (λ slot. refl)
-    c.set_content.ensures.written c.set_content.ensures.others c.fell.ensures.ranked

@@ -1,7 +1,7 @@
 use Rattle.std.proofs.Common.{◌≡◌, Some, sym, ap, ◌∙◌, length, ◌∷◌, rules}
 use Rattle.std.specs.Option.{option_map}
 use Rattle.rt_store.proofs.Paths.{at_null-row, at_null-there, at_root-row, at_root-there, at_path-row, at_path-there}
-use Rattle.rt_store.proofs.Near.{told}
+use Rattle.rt_links.proofs.Near.{told}
 use Rattle.rt_store.proofs.store.Store.at.Goals as goal
 
 pub returns-then-is_null-clause-row : goal.returns-then-is_null-clause-row
@@ -35,4 +35,4 @@ returns-clause-there c =
     at_path-there c.self.inside c.args.self.now c.linked.result c.args.path.now c.in-Some.key.now c.in-Some.rest.now c.self.invariant c.self.view_is goes (c.linked.ensures ∙ ap (option_map (λ n. Some n)) c.descend.ensures)
 
 pub descend-requires-clause-told : goal.descend-requires-clause-told
-descend-requires-clause-told c = told c.self.inside c.self.invariant
+descend-requires-clause-told c = told c.self.inside.nodes c.self.inside.first c.self.invariant.row c.self.invariant.once

@@ -1,0 +1,11 @@
+pub mod Felling
+pub mod Growing
+pub mod Joining
+pub mod Near
+pub mod Paths
+pub mod Pieces
+pub mod Planting
+pub mod Ranked
+pub mod Reached
+pub mod Replacing
+pub mod Taking
