@@ -5,16 +5,17 @@ use Rattle.std.specs.declared.cmp.Ordering.{Ordering}
 use Rattle.std.specs.declared.cmp.Ordering.TheVariants.{Less, Equal, Greater}
 use Rattle.std.specs.Ordering.{is_eq, is_le, is_lt}
 use Rattle.std.specs.Cmp.{tied_itself}
-use Rattle.std.specs.List.{AllByRecursion, filter}
-use Rattle.std.proofs.lemmas.List.{take_more}
+use Rattle.std.specs.List.{All, AllByRecursion, filter}
+use Rattle.std.proofs.lemmas.List.{map-append, take_more}
+use Rattle.std.proofs.lemmas.List.Elements.{All-cons, All-nil}
 use Rattle.std.specs.FinMap as map_of
-use Rattle.std.specs.FinMap.Entries.{is_sorted, below_all}
+use Rattle.std.specs.FinMap.Entries.{by_order, is_sorted, below_all}
 use Rattle.rt_tree.specs.PathTree.{Key, PathTree, first, second, key_eq, key_eq-is, key_eq-same, child_of}
 use Rattle.rt_tree.specs.Children.{children_of}
 use Rattle.rt_tree.specs.TreeEq.{tree_eq_tells}
 use Rattle.rt_order.specs.Entries.{Entry, entry, entry_cmp, sort_value}
 use Rattle.rt_order.specs.declared.index.Index.{Index}
-use Rattle.rt_order.specs.laws.EntryOrder.{entry_cmp_total, value_cmp_total}
+use Rattle.rt_order.specs.laws.EntryOrder.{entry_cmp_total, entry_cmp-IsAntisymmetric, value_cmp_total}
 use Rattle.rt_query.specs.declared.row.Row.{Row}
 use Rattle.rt_query.specs.Rows.{row_at}
 use Rattle.rt_query.specs.Select.{row_of}
@@ -25,7 +26,11 @@ use Rattle.rt_view.specs.declared.kind.Kind.TheVariants as kind
 use Rattle.rt_view.specs.Changes.{placed, removals, placed_changes, is_moved}
 use Rattle.rt_view.specs.inside.Given.{change_of, is_given}
 use Rattle.rt_view.specs.inside.Windows.{Entries, value_at, before, last_key}
-use Rattle.rt_view.specs.inside.Kept.{is_noted, Notes, noted_in, gone_at, gone_from, removed_of, given_in, rows_in_tree}
+use Rattle.rt_view.specs.inside.Kept.{is_noted, Notes, NotesAll, noted_in, gone_at, gone_from, removed_of, given_in, rows_in_tree}
+use Rattle.rt_view.specs.declared.told.Told.{Told}
+use Rattle.rt_view.specs.declared.told.Was.{Was}
+use Rattle.rt_view.specs.declared.window.Window.{Window}
+use Rattle.rt_view.specs.inside.Telling.{WasShown, given_of, gone_too, keys_in, told_in, told_of, told_too, was_in}
 use Rattle.rt_view.proofs.Listed.{IsListed, Once, same_listed, passing, listed-filter, value_at-filter, listed-puts, value_at-puts_all, puts_there, value_at-cons, value_at-children}
 use Rattle.rt_view.proofs.WindowLaws.{above_head, below_of, last_key-push}
 use Rattle.rt_view.proofs.TouchLaws.{is_noted-push}
@@ -176,8 +181,61 @@ gone_more index ks k v new old h is =
     none_there None e = refl
     none_there (Some x) e = cc
 
+-- what is gone from one key more, where it was shown and is no more
+pub gone_also : (index : Index) (ks : List Key) (k : Key) (new old : Entries) → IsListed index old → gone_too index k (gone_at (value_at new k) (value_at old k)) (gone_from ks new old) ≡ gone_from (ks ++ k ∷ []) new old
+gone_also index ks k new old h = at (gone_at (value_at new k) (value_at old k)) refl
+  where
+    at : (o : Option PathTree) → o ≡ gone_at (value_at new k) (value_at old k) → gone_too index k o (gone_from ks new old) ≡ gone_from (ks ++ k ∷ []) new old
+    at None e = gone_no_more index ks k new old h e
+    at (Some v) e = gone_more index ks k v new old h e
+
+-- what is told of entries of which one more is put
+told_in-puts : (t : PathTree) (shown : Entries) (e : Entry) (v : PathTree) (es : Entries) → map_of.put entry_cmp e (told_of t shown (e, v)) (told_in t shown es) ≡ told_in t shown (map_of.put entry_cmp e v es)
+told_in-puts t shown e v [] = refl
+told_in-puts t shown e v (x ∷ es) =
+    elim (entry_cmp e x.0) as (λ o. entry_cmp e x.0 ≡ o → by_order o ((e, told_of t shown (e, v)) ∷ told_in t shown (x ∷ es)) ((x.0, told_of t shown (e, v)) ∷ told_in t shown es) ((x.0, told_of t shown x) ∷ map_of.put entry_cmp e (told_of t shown (e, v)) (told_in t shown es))
+    ≡ told_in t shown (by_order o ((e, v) ∷ x ∷ es) ((x.0, v) ∷ es) (x ∷ map_of.put entry_cmp e v es))) [
+      | Less ↦ λ h. refl
+      | Equal ↦ λ h. ap (λ (z : Entry). (x.0, told_of t shown (z, v)) ∷ told_in t shown es) (entry_cmp-IsAntisymmetric e x.0 h)
+      | Greater ↦ λ h. ap (λ rs. (x.0, told_of t shown x) ∷ rs) (told_in-puts t shown e v es)
+    ] refl
+
+-- and of the noted ones with one key more
+pub told_also : (index : Index) (ks : List Key) (k : Key) (t : PathTree) (shown : Entries) → IsListed index shown → told_too index (record { key = k; old = child_of (children_of t) k }) shown (value_at shown k) (told_in t shown (noted_in ks shown)) ≡ told_in t shown (noted_in (ks ++ k ∷ []) shown)
+told_also index ks k t shown h = at (value_at shown k) refl
+  where
+    at : (o : Option PathTree) → value_at shown k ≡ o → told_too index (record { key = k; old = child_of (children_of t) k }) shown o (told_in t shown (noted_in ks shown)) ≡ told_in t shown (noted_in (ks ++ k ∷ []) shown)
+    at None e = ap (told_in t shown) (noted_none index ks k shown h e)
+    at (Some v) e = told_in-puts t shown (entry index (k, v)) v (noted_in ks shown) ∙ ap (told_in t shown) (noted_some index ks k v shown h e)
+
+-- what was shown under one key more
+pub keys_in-more : (was : List Was) (w : Was) → keys_in (was ++ w ∷ []) ≡ keys_in was ++ w.key ∷ []
+keys_in-more was w = map-append (λ v. v.key) was (w ∷ [])
+
+pub keys_in-was : (t : PathTree) (ks : List Key) → keys_in (was_in t ks) ≡ ks
+keys_in-was t [] = refl
+keys_in-was t (k ∷ ks) = ap (λ js. k ∷ js) (keys_in-was t ks)
+
+had_all : (t : PathTree) (ks : List Key) → All (λ w. w.old ≡ child_of (children_of t) w.key) (was_in t ks)
+had_all t [] = All-nil (λ w. w.old ≡ child_of (children_of t) w.key)
+had_all t (k ∷ ks) = All-cons (λ w. w.old ≡ child_of (children_of t) w.key) (record { key = k; old = child_of (children_of t) k }) (was_in t ks) refl (had_all t ks)
+
+pub was_in-shown : (index : Index) (t : PathTree) (w : Window) (ks : List Key) (was : List Was) → was ≡ was_in t ks → NotesAll index ks t w → WasShown index t w was
+was_in-shown index t w ks was is notes =
+    subst (λ x. WasShown index t w x) (sym is) (record { had = had_all t ks; notes = subst (λ js. NotesAll index js t w) (sym (keys_in-was t ks)) notes })
+
+-- the changes of one kind, by what is told
+pub given_of-told : (k : Kind) (index : Index) (t : PathTree) (shown es : Entries) → given_of k index (told_in t shown es) ≡ given_in k index t shown es
+given_of-told k index t shown [] = refl
+given_of-told k index t shown (x ∷ es) =
+    elim (is_given k index (child_of (children_of t) x.0.1) x.1) as (λ b. map (λ (e : Entry × Told). change_of k e.0.1 e.1.new e.1.after) (cond b ((x.0, told_of t shown x) ∷ filter (λ (e : Entry × Told). is_given k index e.1.old e.1.new) (told_in t shown es)) (filter (λ (e : Entry × Told). is_given k index e.1.old e.1.new) (told_in t shown es)))
+    ≡ map (λ (e : Entry × PathTree). change_of k e.0.1 e.1 (before e.0 shown)) (cond b (x ∷ filter (λ (e : Entry × PathTree). is_given k index (child_of (children_of t) e.0.1) e.1) es) (filter (λ (e : Entry × PathTree). is_given k index (child_of (children_of t) e.0.1) e.1) es))) [
+      | true ↦ ap (λ cs. change_of k x.0.1 x.1 (before x.0 shown) ∷ cs) (given_of-told k index t shown es)
+      | false ↦ given_of-told k index t shown es
+    ]
+
 -- the first keys, and one more
-pub next_taken : (ks : List Key) (i : ℕ) (k : Key) → i < length ks → k ≡ get_or ks i k → take (i + 1) ks ≡ take i ks ++ k ∷ []
+pub next_taken : {X : Type 0} (ks : List X) (i : ℕ) (k : X) → i < length ks → k ≡ get_or ks i k → take (i + 1) ks ≡ take i ks ++ k ∷ []
 next_taken ks i k below is = take_more ks i k below ∙ ap (λ j. take i ks ++ j ∷ []) (sym is)
 
 -- none of the rows is among no keys

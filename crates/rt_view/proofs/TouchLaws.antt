@@ -1,27 +1,30 @@
 -- A child that is put into a tree, in the order of the tree's children.
 use Rattle.std.specs.Prelude.{T}
-use Rattle.std.proofs.Common.{◌≡◌, Bool, true, false, cond, not, ◌||◌, List, [], ◌∷◌, ◌++◌, refl, sym, ap, subst, ◌∙◌, arith, ◌≤◌, Option, Some, None}
+use Rattle.std.proofs.Common.{◌≡◌, Bool, true, false, cond, not, ◌&&◌, ◌||◌, List, [], ◌∷◌, ◌++◌, refl, sym, ap, subst, ◌∙◌, arith, ◌≤◌, Option, Some, None, is_some}
 use Rattle.std.specs.Ordering.{is_eq, eq_by_cmp}
 use Rattle.std.specs.Option.{option_map_or}
-use Rattle.std.specs.Cmp.{tied_itself}
+use Rattle.std.specs.Cmp.{tied_itself, Equal-is}
 use Rattle.std.specs.List.{list_any}
 use Rattle.std.proofs.lemmas.List.Folds.{list_any-append}
 use Rattle.std.specs.FinMap as map_of
-use Rattle.std.specs.FinMap.Entries.{find}
+use Rattle.std.specs.FinMap.Entries.{find, is_sorted}
 use Rattle.rt_tree.specs.Allowed.{IsAllowed}
 use Rattle.rt_tree.specs.PathTree.{Key, PathTree, leaf_at-sub, levels, levels_le, key_eq, key_eq-is, key_eq-same, child, child_of, is_null, non_null, put}
 use Rattle.rt_tree.specs.Children.{children_of, child_of-children_of}
 use Rattle.rt_tree.specs.Parts.{child-put, child-put_other}
-use Rattle.rt_order.specs.Entries.{Entry, entry, entry_cmp}
+use Rattle.rt_order.specs.Entries.{Entry, entry, entry_cmp, sort_value}
 use Rattle.rt_order.specs.declared.index.Index.{Index}
 use Rattle.rt_order.specs.Cuts.{has}
-use Rattle.rt_order.specs.laws.EntryOrder.{entry_cmp_total}
+use Rattle.rt_order.specs.laws.EntryOrder.{entry_cmp_total, value_cmp-IsAntisymmetric}
+use Rattle.rt_order.specs.Values.{value_cmp}
 use Rattle.rt_query.specs.Queries.{Query}
+use Rattle.rt_query.specs.Select.{limited}
 use Rattle.rt_view.specs.declared.window.Window.{Window}
 use Rattle.rt_view.specs.inside.Windows.{Entries, IsWindow, joined, value_at, without}
 use Rattle.rt_view.specs.inside.Kept.{IsWindowOf, in_order, put_in, brought_in, taken_out, is_noted, noted_too}
 use Rattle.rt_view.proofs.Listed.{IsListed, same_listed, passing, at_entry, find-value_at, apart_keys, listed-filter, value_at-filter, listed-puts, value_at-puts_all, listed-in_order, value_at-in_order, listed-shown}
-use Rattle.rt_view.proofs.WindowLaws.{parts_rise}
+use Rattle.rt_view.specs.inside.Telling.{left_by, takes_place}
+use Rattle.rt_view.proofs.WindowLaws.{parts_rise, puts-without}
 
 -- the children of a tree with one put in its place
 pub child_of-put : (t : PathTree) (k j : Key) (u : PathTree) → child_of (children_of (put t (k ∷ []) u)) j ≡ cond (key_eq k j) (non_null u) (child_of (children_of t) j)
@@ -174,6 +177,13 @@ child_fits t k v allowed e = at (is_null (child t k)) refl (sym (child_of-childr
         let low : levels (child t k) ≤ 32 = levels_le (child t k) 32 (λ q l f. omega (arith, (allowed (k ∷ q) l (sym (leaf_at-sub t (k ∷ []) q) ∙ f)).0.short)) in
         subst (λ x. (is_null x ≡ false) × (levels x ≤ 32)) same (s, low)
 
+-- without a limit each child in the range is shown
+pub shown_unlimited : (q : Query) (t : PathTree) (w : Window) (k : Key) (v : PathTree) → IsWindowOf q t w → q.limit ≡ None → child_of (children_of t) k ≡ Some v
+    → cond (has q.range (entry q.index (k, v))) (Some v) None ≡ value_at w.shown.entries k
+shown_unlimited q t w k v h none is =
+    ap (passing (has q.range) q.index k) (sym is) ∙ sym (value_at-in_order q t k)
+    ∙ ap (λ (es : Entries). value_at es k) (sym (ap (λ l. limited l (in_order q (children_of t))) none) ∙ h.cut.cut)
+
 -- what stands at the child's entry says whether it is shown
 pub shown_child : (q : Query) (t : PathTree) (w : Window) (k : Key) (v : PathTree) (o : Option PathTree) → IsWindowOf q t w → child_of (children_of t) k ≡ Some v
     → o ≡ find entry_cmp (entry q.index (k, v)) w.shown.entries → option_map_or (λ x. Some v) o None ≡ value_at w.shown.entries k
@@ -191,17 +201,50 @@ shown_child q t w k v o h is e =
         passed true e = cc
         passed false e = cc
 
+-- and says so as a test
+pub shown_limited : (q : Query) (t : PathTree) (w : Window) (k : Key) (v : PathTree) (o : Option PathTree) → IsWindowOf q t w → child_of (children_of t) k ≡ Some v
+    → o ≡ find entry_cmp (entry q.index (k, v)) w.shown.entries → cond (is_some o) (Some v) None ≡ value_at w.shown.entries k
+shown_limited q t w k v o h is e = as_test o ∙ shown_child q t w k v o h is e
+  where
+    as_test : (o : Option PathTree) → cond (is_some o) (Some v) None ≡ option_map_or (λ (x : PathTree). Some v) o None
+    as_test None = refl
+    as_test (Some x) = refl
+
+-- a child that takes the place of another one needs no room made for it
+pub left_same : (q : Query) (k : Key) (o : Option PathTree) (u : PathTree) (es : Entries) → T (is_sorted entry_cmp es) → brought_in q k u (left_by q k o u es) ≡ brought_in q k u (taken_out q k o es)
+left_same q k None u es up = refl
+left_same q k (Some t) u es up =
+    elim (takes_place q.index t u) as (λ b. takes_place q.index t u ≡ b → brought_in q k u (cond b es (taken_out q k (Some t) es)) ≡ brought_in q k u (taken_out q k (Some t) es)) [
+      | true ↦ λ e. here (is_null u) (is_eq (value_cmp (sort_value q.index t) (sort_value q.index u))) refl refl e
+      | false ↦ λ e. refl
+    ] refl
+  where
+    there : (b : Bool) → has q.range (entry q.index (k, u)) ≡ b
+        → cond b (map_of.put entry_cmp (entry q.index (k, u)) u es) es ≡ cond b (map_of.put entry_cmp (entry q.index (k, u)) u (cond b (without (entry q.index (k, u)) es) es)) (cond b (without (entry q.index (k, u)) es) es)
+    there true e = sym (puts-without (entry q.index (k, u)) u es up)
+    there false e = refl
+
+    placed : entry q.index (k, t) ≡ entry q.index (k, u) → put_in q (k, u) es ≡ put_in q (k, u) (taken_out q k (Some t) es)
+    placed same =
+        there (has q.range (entry q.index (k, u))) refl
+        ∙ ap (λ (e : Entry). put_in q (k, u) (cond (has q.range e) (without e es) es)) (sym same)
+
+    here : (n s : Bool) → is_null u ≡ n → is_eq (value_cmp (sort_value q.index t) (sort_value q.index u)) ≡ s → (not n && s) ≡ true → cond n es (put_in q (k, u) es) ≡ cond n (taken_out q k (Some t) es) (put_in q (k, u) (taken_out q k (Some t) es))
+    here true s null tie e = cc
+    here false false null tie e = cc
+    here false true null tie e = placed (λ i. (value_cmp-IsAntisymmetric (sort_value q.index t) (sort_value q.index u) ((Equal-is (value_cmp (sort_value q.index t) (sort_value q.index u))).0 tie) i, k))
+
 -- the window after a child was taken out and another one brought in
 pub touched_window : (q : Query) (t u : PathTree) (k : Key) (v : PathTree) (o : Option PathTree) (a b c : Window) → IsWindowOf q t a → o ≡ child_of (children_of t) k
-    → b.limit ≡ a.limit → IsWindow a.limit b.shown.entries b.rest.entries (taken_out q k o (joined a.limit a.shown.entries a.rest.entries))
+    → b.limit ≡ a.limit → IsWindow a.limit b.shown.entries b.rest.entries (left_by q k o v (joined a.limit a.shown.entries a.rest.entries))
     → c.limit ≡ b.limit → IsWindow b.limit c.shown.entries c.rest.entries (brought_in q k v (joined b.limit b.shown.entries b.rest.entries))
     → u ≡ put t (k ∷ []) v → IsWindowOf q u c
 touched_window q t u k v o a b c h is limit_b cut_b limit_c cut_c e =
     let whole_a : joined a.limit a.shown.entries a.rest.entries ≡ in_order q (children_of t) = ap (λ l. joined l a.shown.entries a.rest.entries) h.limit ∙ h.cut.whole in
-    let whole_b : joined b.limit b.shown.entries b.rest.entries ≡ taken_out q k (child_of (children_of t) k) (in_order q (children_of t)) =
-    ap (λ l. joined l b.shown.entries b.rest.entries) limit_b ∙ cut_b.whole ∙ (λ i. taken_out q k (is i) (whole_a i)) in
+    let whole_b : joined b.limit b.shown.entries b.rest.entries ≡ left_by q k (child_of (children_of t) k) v (in_order q (children_of t)) =
+    ap (λ l. joined l b.shown.entries b.rest.entries) limit_b ∙ cut_b.whole ∙ (λ i. left_by q k (is i) v (whole_a i)) in
     let all : brought_in q k v (joined b.limit b.shown.entries b.rest.entries) ≡ in_order q (children_of u) =
-    ap (brought_in q k v) whole_b ∙ touched_order q t k v ∙ ap (λ (x : PathTree). in_order q (children_of x)) (sym e) in
+    ap (brought_in q k v) whole_b ∙ left_same q k (child_of (children_of t) k) v (in_order q (children_of t)) h.cut.rises ∙ touched_order q t k v ∙ ap (λ (x : PathTree). in_order q (children_of x)) (sym e) in
     record {
       limit = limit_c ∙ limit_b ∙ h.limit;
       cut = subst (λ l. IsWindow l c.shown.entries c.rest.entries (in_order q (children_of u))) (limit_b ∙ h.limit) (subst (λ es. IsWindow b.limit c.shown.entries c.rest.entries es) all cut_c);

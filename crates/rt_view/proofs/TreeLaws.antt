@@ -1,7 +1,7 @@
 -- What is shown, as a tree and as rows.
 use Rattle.std.specs.Prelude.{T, if◌then◌else◌, ◌==◌}
-use Rattle.std.proofs.Common.{◌≡◌, Bool, true, false, cond, not, ◌&&◌, length, List, [], ◌∷◌, ◌++◌, map, refl, sym, ap, subst, ◌∙◌, arith, eqb-true, append-nil, Option, Some, None, is_some}
-use Rattle.std.specs.Option.{option_eq}
+use Rattle.std.proofs.Common.{◌≡◌, Bool, true, false, cond, not, ◌&&◌, ◌||◌, length, List, [], ◌∷◌, ◌++◌, map, refl, sym, ap, subst, ◌∙◌, arith, eqb-true, append-nil, Option, Some, None, is_some}
+use Rattle.std.specs.Option.{option_eq, unwrap_or}
 use Rattle.std.specs.Cmp.Lexicographic.{pointwise}
 use Rattle.rt_tree.specs.Leaf.{LeafValue}
 use Rattle.rt_tree.specs.PathTree.{Key, PathTree, path_eq-same, leaf_of, leaf_at, leaf_at-sub, leaf_at-null, leaf_at-of_leaf, leaf_at-object-root, leaf_alone, leaf_of_root, null, null_of_no_leaf, is_null, is_null-null, non_null, child, child_of, object, of_leaf, put, leaf_at-put, key_eq, key_eq-is}
@@ -9,6 +9,7 @@ use Rattle.rt_tree.specs.Children.{children_of, child_of-children_of, is_object}
 use Rattle.rt_tree.specs.TreeEq.{leaf_eq}
 use Rattle.rt_order.specs.declared.index.Index.{Index}
 use Rattle.rt_query.specs.declared.row.Row.{Row}
+use Rattle.rt_query.specs.declared.limit.Limit.{Limit}
 use Rattle.rt_query.specs.Queries.{Query, is_filtered}
 use Rattle.rt_query.specs.Rows.{row_at}
 use Rattle.rt_query.specs.Select.{Shown, row_of, rows_of, select, as_children, tree_by, tree_of}
@@ -23,7 +24,7 @@ use Rattle.rt_view.specs.declared.change.Change.TheVariants.{Value}
 use Rattle.rt_view.specs.declared.window.Window.{Window}
 use Rattle.rt_view.specs.Changes.{row_changes, changes, replay, by_keys}
 use Rattle.rt_view.specs.inside.Windows.{Entries, value_at}
-use Rattle.rt_view.specs.inside.Kept.{IsWindowOf, IsKept, Notes, SetsChild, SetsNoted, is_noted, in_order, leaf_in, rows_in_tree, shown_by}
+use Rattle.rt_view.specs.inside.Kept.{IsWindowOf, Notes, own_tree, SetsChild, SetsNoted, is_noted, in_order, leaf_in, rows_in_tree, shown_by}
 use Rattle.rt_view.proofs.ReplayLaws.{row_at-by_keys, replay-row_changes}
 use Rattle.rt_view.proofs.TurnLaws.{row_changes-same}
 use Rattle.rt_view.proofs.Listed.{IsListed, same_listed, listed-children, value_at-children, listed-in_order, listed-shown}
@@ -70,12 +71,12 @@ shown_by-shown q t w h =
     λ i. record { leaf = leaf i; rows = map row_of (rows i) }
 
 -- what is kept, as a view
-pub kept_shown : (q : Query) (t : PathTree) (w : Window) (tree u : PathTree) (leaf : Option LeafValue) (rows : List Row) → IsKept q t w tree
+pub kept_shown : (q : Query) (t : PathTree) (w : Window) (tree u : PathTree) (leaf : Option LeafValue) (rows : List Row) → IsWindowOf q t w → tree ≡ tree_of (select q t)
     → u ≡ tree → leaf ≡ leaf_of tree → rows ≡ map row_of w.shown.entries → IsShown leaf rows u × (record { leaf = leaf; rows = rows } ≡ select q t)
-kept_shown q t w tree u leaf rows h is of_tree of_window =
-    let same_leaf : leaf ≡ leaf_in q t = of_tree ∙ ap leaf_of h.tree ∙ leaf_of-tree_by (leaf_in q t) (rows_of q (children_of t)) in
-    let same_rows : rows ≡ rows_of q (children_of t) = of_window ∙ ap (map row_of) (sym h.children.cut.cut) in (
-      subst (λ l. IsShown l rows u) (sym same_leaf) (subst (λ rs. IsShown (leaf_in q t) rs u) (sym same_rows) (subst (λ x. IsShown (leaf_in q t) (rows_of q (children_of t)) x) (sym (is ∙ h.tree)) (select-shown q t))),
+kept_shown q t w tree u leaf rows h kept is of_tree of_window =
+    let same_leaf : leaf ≡ leaf_in q t = of_tree ∙ ap leaf_of kept ∙ leaf_of-tree_by (leaf_in q t) (rows_of q (children_of t)) in
+    let same_rows : rows ≡ rows_of q (children_of t) = of_window ∙ ap (map row_of) (sym h.cut.cut) in (
+      subst (λ l. IsShown l rows u) (sym same_leaf) (subst (λ rs. IsShown (leaf_in q t) rs u) (sym same_rows) (subst (λ x. IsShown (leaf_in q t) (rows_of q (children_of t)) x) (sym (is ∙ kept)) (select-shown q t))),
       λ i. record { leaf = same_leaf i; rows = same_rows i },
     )
 
@@ -128,6 +129,15 @@ other_view q known tree w h some =
       | false ↦ λ e. refl
     ] refl
 
+not_empty : (d : Change) (ds : List Change) → (length (d ∷ ds) == 0) ≡ false
+not_empty d ds = elim (length (d ∷ ds) == 0) as (λ b. (length (d ∷ ds) == 0) ≡ b → b ≡ false) [
+  | true ↦ λ e. absurd (omega (arith, eqb-true (length (d ∷ ds)) 0 e))
+  | false ↦ λ e. refl
+] refl
+
+some_list : (d : Change) (ds : List Change) → d ∷ ds ≡ [] → ⊥
+some_list d ds f = absurd (omega (arith, ap (λ (xs : List Change). length xs) f))
+
 -- the changes, where nothing differs, and where something does
 pub told_same : (q : Query) (known tree : PathTree) (w : Window) → IsWindowOf q known w → shown_eq (shown_by q.index tree) (select q known) ≡ true
     → row_changes q.index (map row_of (rows_in_tree q.index tree)) (map row_of w.shown.entries) ≡ changes q.index (Some (shown_by q.index tree)) (select q known)
@@ -146,13 +156,82 @@ told_other q known tree w h e =
 pub tree_same : (q : Query) (known tree : PathTree) → shown_eq (shown_by q.index tree) (select q known) ≡ true → tree ≡ tree_of (select q known)
 tree_same q known tree e = sym (tree_of-shown_by q.index tree) ∙ ap tree_of ((shown_eq_tells (shown_by q.index tree) (select q known)).0 e)
 
--- ---- the tree of what is shown now
+-- a filtered query shows no leaf
+pub filtered_leaf : (q : Query) (t : PathTree) → is_filtered q ≡ true → leaf_in q t ≡ None
+filtered_leaf q t filtered = ap (λ b. cond b None (leaf_of t)) filtered
 
--- the children of null and of a leaf
-pub no_children : (t : PathTree) (l : LeafValue) (k : Key) → leaf_of t ≡ Some l → child_of (children_of t) k ≡ child_of (children_of null) k
-no_children t l k e =
-    child_of-children_of t k ∙ ap non_null (null_of_no_leaf (child t k) (λ q. leaf_at-sub t (k ∷ []) q ∙ leaf_alone t [] l k q e))
-    ∙ sym (ap non_null (null_of_no_leaf (child null k) (λ q. leaf_at-sub null (k ∷ []) q ∙ leaf_at-null (k ∷ q)))) ∙ sym (child_of-children_of null k)
+pub filtered_object : (q : Query) (t u : PathTree) → is_filtered q ≡ true → u ≡ tree_of (select q t) → leaf_of u ≡ None
+filtered_object q t u filtered is = ap leaf_of is ∙ leaf_of-tree_by (leaf_in q t) (rows_of q (children_of t)) ∙ filtered_leaf q t filtered
+
+-- so nothing differs where no row changed
+pub filtered_same : (q : Query) (known tree : PathTree) (w : Window) (cs : List Change) → IsWindowOf q known w → is_filtered q ≡ true → leaf_of tree ≡ None
+    → cs ≡ row_changes q.index (map row_of (rows_in_tree q.index tree)) (map row_of w.shown.entries) → (length cs == 0) ≡ shown_eq (shown_by q.index tree) (select q known)
+filtered_same q known tree w [] h filtered object is =
+    (λ i. option_eq leaf_eq (sym object i) (sym (filtered_leaf q known filtered) i)) ∙ sym (same_view q known tree w h (sym is))
+filtered_same q known tree w (d ∷ ds) h filtered object is = not_empty d ds ∙ sym (other_view q known tree w h (λ f. some_list d ds (is ∙ f)))
+
+-- where the query isn't filtered: no row changed, and the leaf is the same
+pub plain_same : (q : Query) (known tree : PathTree) (w : Window) (cs : List Change) (leaf : Option LeafValue) → IsWindowOf q known w → is_filtered q ≡ false
+    → cs ≡ row_changes q.index (map row_of (rows_in_tree q.index tree)) (map row_of w.shown.entries) → leaf_of tree ≡ leaf
+    → ((length cs == 0) && option_eq leaf_eq leaf (leaf_of known)) ≡ shown_eq (shown_by q.index tree) (select q known)
+plain_same q known tree w cs leaf h plain is old = at cs is
+  where
+    plain_leaf : leaf_in q known ≡ leaf_of known
+    plain_leaf = ap (λ b. cond b None (leaf_of known)) plain
+
+    at : (ds : List Change) → ds ≡ row_changes q.index (map row_of (rows_in_tree q.index tree)) (map row_of w.shown.entries)
+        → ((length ds == 0) && option_eq leaf_eq leaf (leaf_of known)) ≡ shown_eq (shown_by q.index tree) (select q known)
+    at [] e = (λ i. option_eq leaf_eq (sym old i) (sym plain_leaf i)) ∙ sym (same_view q known tree w h (sym e))
+    at (d ∷ ds) e =
+        ap (λ b. b && option_eq leaf_eq leaf (leaf_of known)) (not_empty d ds) ∙ sym (other_view q known tree w h (λ f. some_list d ds (e ∙ f)))
+
+-- what is kept as a tree of its own, or the known one, is what is shown
+pub kept_tree : (q : Query) (t : PathTree) (tree : Option PathTree) → tree ≡ own_tree q t → unwrap_or tree t ≡ tree_of (select q t)
+kept_tree q t tree is =
+    ap (λ o. unwrap_or o t) is ∙ elim (is_filtered q) as (λ b. is_filtered q ≡ b → unwrap_or (cond b (Some (tree_of (select q t))) None) t ≡ tree_of (select q t)) [
+      | true ↦ λ e. refl
+      | false ↦ λ e. sym (select-whole q t e)
+    ] refl
+
+-- whether there is a tree of its own says whether the query is filtered
+pub own_filtered : (q : Query) (t x : PathTree) → Some x ≡ own_tree q t → (is_filtered q ≡ true) × (x ≡ tree_of (select q t))
+own_filtered q t x is =
+    elim (is_filtered q) as (λ b. Some x ≡ cond b (Some (tree_of (select q t))) None → (b ≡ true) × (x ≡ tree_of (select q t))) [
+      | true ↦ λ e. (refl, cc)
+      | false ↦ λ e. cc
+    ] is
+
+pub own_plain : (q : Query) (t : PathTree) → None ≡ own_tree q t → is_filtered q ≡ false
+own_plain q t is =
+    elim (is_filtered q) as (λ b. None ≡ cond b (Some (tree_of (select q t))) None → b ≡ false) [
+      | true ↦ λ e. cc
+      | false ↦ λ e. refl
+    ] is
+
+pub filtered_own : (q : Query) (t x : PathTree) → is_filtered q ≡ true → x ≡ tree_of (select q t) → Some x ≡ own_tree q t
+filtered_own q t x filtered is = ap Some is ∙ sym (ap (λ b. cond b (Some (tree_of (select q t))) None) filtered)
+
+pub plain_own : (q : Query) (t : PathTree) → is_filtered q ≡ false → None ≡ own_tree q t
+plain_own q t plain = sym (ap (λ b. cond b (Some (tree_of (select q t))) None) plain)
+
+-- a query with no limit and no range has no limit
+pub plain_limit : (q : Query) → is_filtered q ≡ false → q.limit ≡ None
+plain_limit q plain = at (is_some q.range.lower) (is_some q.range.upper) q.limit plain
+  where
+    at : (a b : Bool) (l : Option Limit) → (a || b || is_some l) ≡ false → l ≡ None
+    at a b None e = refl
+    at true b (Some l) e = cc
+    at false true (Some l) e = cc
+    at false false (Some l) e = cc
+
+-- what a query that isn't filtered shows
+pub plain_rows : (q : Query) (t : PathTree) (w : Window) → is_filtered q ≡ false → IsWindowOf q t w → rows_in_tree q.index t ≡ w.shown.entries
+plain_rows q t w plain h = ap (rows_in_tree q.index) (sym (select-whole q t plain)) ∙ rows_in_tree-shown q t w h
+
+pub plain_shown : (q : Query) (t : PathTree) (w : Window) → is_filtered q ≡ false → IsWindowOf q t w → shown_by q.index t ≡ select q t
+plain_shown q t w plain h = ap (shown_by q.index) (sym (select-whole q t plain)) ∙ shown_by-shown q t w h
+
+-- ---- the tree of what is shown now
 
 -- children that are what the window shows, and no leaf
 pub tree_of_children : (q : Query) (known tree : PathTree) (w : Window) → IsWindowOf q known w → leaf_in q known ≡ None → leaf_of tree ≡ None
@@ -200,21 +279,3 @@ set_more ks k new a b c set more j =
           ap (value_at new) same ∙ sym (ap (λ n. cond n (value_at new j) (child_of (children_of a) j)) (ap (is_noted (ks ++ k ∷ [])) (sym same) ∙ note_own ks k))
       | false ↦ λ e. ap (λ n. cond n (value_at new j) (child_of (children_of a) j)) (sym (note_other ks k j e))
     ] refl
-
--- an object is no leaf
-pub no_leaf : (q : Query) (t : PathTree) → is_filtered q ≡ false → is_object t ≡ true → leaf_in q t ≡ None
-no_leaf q t plain object = ap (λ b. cond b None (leaf_of t)) plain ∙ none (is_null t) (leaf_of t) object
-  where
-    none : (b : Bool) (o : Option LeafValue) → (not b && not (is_some o)) ≡ true → o ≡ None
-    none b None e = refl
-    none true (Some l) e = cc
-    none false (Some l) e = cc
-
--- a list is empty where its length is 0, and only there
-pub no_changes : (cs : List Change) → (length cs == 0) ≡ true → cs ≡ []
-no_changes [] e = refl
-no_changes (c ∷ cs) e = absurd (omega (arith, eqb-true (length (c ∷ cs)) 0 e))
-
-pub some_changes : (cs : List Change) → (length cs == 0) ≡ false → cs ≡ [] → ⊥
-some_changes [] e f = cc
-some_changes (c ∷ cs) e f = absurd (omega (arith, ap (λ (ds : List Change). length ds) f))

@@ -11,7 +11,7 @@ use Rattle.std.specs.List.Sorted.{IsStrictlySortedBy}
 use Rattle.std.specs.Map.{keys_of, remove_entry, lookup}
 use Rattle.std.specs.BTreeMap.{insert_entry, is_at}
 use Rattle.std.specs.FinMap as map_of
-use Rattle.std.specs.FinMap.Entries.{by_order, is_sorted, below_all, is_sorted-put, is_sorted-where_key}
+use Rattle.std.specs.FinMap.Entries.{by_order, find, is_sorted, below_all, is_sorted-put, is_sorted-where_key, find-put, find-where_key, same_entries}
 use Rattle.std.proofs.lemmas.List.{take_at, take_all, length-take, length-drop, drop_at}
 use Rattle.rt_tree.specs.PathTree.{Key, PathTree, key_eq, key_eq-is, key_eq-symm, both, first, second}
 use Rattle.rt_order.specs.Entries.{Entry, entry_cmp}
@@ -22,7 +22,7 @@ use Rattle.rt_query.specs.Select.{limited, row_of}
 use Rattle.rt_view.specs.inside.Windows.{Entries, joined, IsWindow, without, value_at, Crosses, is_from_first, is_to_last, last_key}
 use Rattle.rt_view.proofs.ReplayLaws.{row_at-cons}
 
-pub insert_entry-put : (es : Entries) (k : Entry) (v : PathTree) → insert_entry entry_cmp es k v ≡ map_of.put entry_cmp k v es
+pub insert_entry-put : {X : Type 0} (es : List (Entry × X)) (k : Entry) (v : X) → insert_entry entry_cmp es k v ≡ map_of.put entry_cmp k v es
 insert_entry-put [] k v = refl
 insert_entry-put (e ∷ es) k v =
     elim (entry_cmp k e.0) as (λ o. match_ordering o ((k, v) ∷ e ∷ es) ((e.0, v) ∷ es) (e ∷ insert_entry entry_cmp es k v) ≡ match_ordering o ((k, v) ∷ e ∷ es) ((e.0, v) ∷ es) (e ∷ map_of.put entry_cmp k v es)) [
@@ -360,6 +360,30 @@ without-append e (x ∷ s) r =
 
 pub same_entry : (e x : Entry) → eq_by_cmp entry_cmp e x ≡ true → e ≡ x
 same_entry e x t = entry_cmp-IsAntisymmetric e x ((Equal-is (entry_cmp e x)).0 t)
+
+-- what is put at an entry takes the place of what stands there
+pub puts-without : (e : Entry) (v : PathTree) (s : Entries) → T (is_sorted entry_cmp s) → puts e v (without e s) ≡ puts e v s
+puts-without e v s up =
+    same_entries entry_cmp entry_cmp_total entry_cmp-IsAntisymmetric (puts e v (without e s)) (puts e v s)
+    (is_sorted-put entry_cmp entry_cmp_total e v (without e s) (is_sorted-where_key entry_cmp other s up)) (is_sorted-put entry_cmp entry_cmp_total e v s up)
+    (λ q. find-put entry_cmp entry_cmp_total q e v (without e s)
+    ∙ elim (eq_by_cmp entry_cmp q e) as (λ b. eq_by_cmp entry_cmp q e ≡ b → cond b (Some v) (find entry_cmp q (without e s)) ≡ cond b (Some v) (find entry_cmp q s)) [
+      | true ↦ λ t. refl
+      | false ↦ λ t. find-where_key entry_cmp other q (alike q) s ∙ ap (λ c. cond (not c) (find entry_cmp q s) None) (apart q t)
+    ] refl
+    ∙ sym (find-put entry_cmp entry_cmp_total q e v s))
+  where
+    other : Entry → Bool
+    other x = not (eq_by_cmp entry_cmp e x)
+
+    alike : (q x : Entry) → entry_cmp q x ≡ Equal → other x ≡ other q
+    alike q x t = ap other (sym (entry_cmp-IsAntisymmetric q x t))
+
+    apart : (q : Entry) → eq_by_cmp entry_cmp q e ≡ false → eq_by_cmp entry_cmp e q ≡ false
+    apart q t = elim (eq_by_cmp entry_cmp e q) as (λ b. eq_by_cmp entry_cmp e q ≡ b → b ≡ false) [
+      | true ↦ λ f. cc (t, ap (λ (z : Entry). eq_by_cmp entry_cmp z e) (same_entry e q f), ap is_eq (tied_itself entry_cmp_total e))
+      | false ↦ λ f. refl
+    ] refl
 
 pub remove_entry-without : (e : Entry) (s : Entries) → T (is_sorted entry_cmp s) → remove_entry (is_at (entry_cmp e)) s ≡ without e s
 remove_entry-without e [] h = refl

@@ -2,4 +2,5 @@
 pub mod Given
 pub mod Kept
 pub mod Positions
+pub mod Telling
 pub mod Windows

@@ -19,6 +19,7 @@ mod laws;
 mod place;
 mod position;
 mod tell;
+mod told;
 mod touch;
 mod view;
 mod window;

@@ -1,7 +1,8 @@
 // Children in their places.
 ghost use Rattle.std.specs.Prelude.{◌≡◌, ◌≤◌, ◌∷◌, [], false, IfOk, IfSome, OnOk, length, map};
+ghost use Rattle.std.specs.Prelude.{None, Some, if◌then◌else◌};
 ghost use Rattle.std.specs.Option.{option_copied};
-ghost use Rattle.rt_tree.specs.PathTree.{child_of, is_null, levels, null, put};
+ghost use Rattle.rt_tree.specs.PathTree.{child_of, is_null, leaf_of, levels, null, put};
 ghost use Rattle.rt_tree.specs.Children.{children_of};
 ghost use Rattle.rt_view.specs.inside.Windows.{Becomes, HasAll, IsWhole, all_of, value_at};
 ghost use Rattle.rt_view.specs.inside.Kept.{IsWindowOf, placed, put_in};
@@ -10,7 +11,7 @@ use crate::position::Position;
 use crate::window::Window;
 use rt_map::OrdMap;
 use rt_query::Query;
-use rt_tree::{Key, MAX_KEYS, Path, Tree, TreeError};
+use rt_tree::{Key, Leaf, MAX_KEYS, Path, Tree, TreeError};
 use std::alloc::{AllocError, Global};
 
 // Puts a child in its place, where it is in the range.
@@ -90,6 +91,16 @@ pub fn count(tree: &Tree) -> u64
     }
 }
 
+// The leaf that a tree is, if it is one.
+pub fn copy_leaf(alloc: Global, tree: &Tree) -> Result<Option<Leaf>, AllocError>
+    ensures { IfOk result (λ leaf. leaf ≡ leaf_of tree.now) }
+{
+    match tree.as_leaf() {
+        Some(leaf) => Ok(Some(leaf.copy(alloc)?)),
+        None => Ok(None),
+    }
+}
+
 // The child of a key. It is not null, and fits below a key.
 pub fn child_at<'a>(tree: &'a Tree, key: &Key) -> Option<&'a Tree>
     ensures child { option_copied result ≡ child_of (children_of tree.now) key.now }
@@ -127,6 +138,27 @@ pub fn drop_child(tree: &mut Tree, alloc: Global, key: &Key) -> Result<(), Alloc
     put_child(tree, alloc, key, &Tree::null())
 }
 
+// Whether a child of the known tree is shown: in the range, and within the limit, where there is one.
+fn is_shown(
+    alloc: Global,
+    query: &Query,
+    known: &Tree,
+    window: &Window,
+    key: &Key,
+    child: &Tree,
+) -> Result<bool, AllocError>
+    requires kept { IsWindowOf query.now known.now window.now }
+    requires child { child_of (children_of known.now) key.now ≡ Some child.now }
+    ensures { IfOk result (λ shown. (if shown then Some child.now else None)
+        ≡ value_at window.now.shown.entries key.now) }
+{
+    if query.limit().is_none() {
+        return Ok(query.range().has(query.index(), key, child));
+    }
+    let position = Position::of(alloc, query.index(), key, child)?;
+    Ok(window.row(&position).is_some())
+}
+
 // The child of a key, where it is shown.
 pub fn shown_at<'a>(
     alloc: Global,
@@ -144,9 +176,9 @@ pub fn shown_at<'a>(
     let Some(child) = child_at(known, key) else {
         return Ok(None);
     };
-    let position = Position::of(alloc, query.index(), key, child)?;
-    match window.row(&position) {
-        Some(_) => Ok(Some(child)),
-        None => Ok(None),
+    if is_shown(alloc, query, known, window, key, child)? {
+        Ok(Some(child))
+    } else {
+        Ok(None)
     }
 }

@@ -4,7 +4,7 @@ ghost use Rattle.rt_order.specs.Entries.{entry};
 ghost use Rattle.rt_order.specs.SortRef.{value_of};
 ghost use Rattle.rt_view.specs.inside.Positions.{sort_of};
 
-use rt_order::{Index, SortRef, key_cmp, sort_value, value_cmp};
+use rt_order::{Index, PlacedKey, SortRef, sort_value, value_cmp};
 use rt_tree::{Key, Leaf, Tree};
 use std::alloc::{AllocError, Global};
 use std::cmp::Ordering;
@@ -41,11 +41,11 @@ impl Sort {
     }
 }
 
-// The entry of a child. Positions compare as entries do.
+// The entry of a child. Positions compare as entries do; the number of a key is read once.
 #[derive(Debug)]
 pub struct Position {
     sort: Sort,
-    key: Key,
+    key: PlacedKey,
 }
 
 impl Drop for Position {
@@ -69,14 +69,14 @@ impl Position {
         ensures { IfOk result (λ position. position ≡ entry index.now (key.now, tree.now)) }
     {
         let sort = Sort::of(alloc, &sort_value(index, tree))?;
-        let key = key.copy()?;
+        let key = PlacedKey::of(key.copy()?);
         Ok(Position { sort, key })
     }
 
     pub fn key(&self) -> &Key
         ensures { result.now ≡ self.now.1 }
     {
-        &self.key
+        self.key.key()
     }
 }
 
@@ -133,6 +133,6 @@ impl Ord for Position {
 
     fn cmp(&self, other: &Position) -> Ordering {
         let by_value = value_cmp(&self.sort.as_ref(), &other.sort.as_ref());
-        by_value.then_with(|| key_cmp(&self.key, &other.key))
+        by_value.then_with(|| self.key.cmp(&other.key))
     }
 }

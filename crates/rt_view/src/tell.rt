@@ -1,111 +1,32 @@
 // What is told of the noted children.
-ghost use Rattle.std.specs.Prelude.{◌≡◌, ◌++◌, [], map, IfOk, OnOk, None, Some};
+ghost use Rattle.std.specs.Prelude.{◌≡◌, ◌==◌, ◌&&◌, ◌++◌, [], true, false, map, length, IfOk, OnOk, None};
+ghost use Rattle.std.specs.Prelude.{Some};
 ghost use Rattle.std.specs.Bool.{OnFalse, OnTrue};
 ghost use Rattle.std.specs.Option.{option_copied, option_eq};
-ghost use Rattle.std.specs.FinMap as map_of;
-ghost use Rattle.rt_tree.specs.PathTree.{Key as KeyValue, child_of, leaf_of};
+ghost use Rattle.rt_tree.specs.PathTree.{PathTree, leaf_of};
 ghost use Rattle.rt_tree.specs.Children.{children_of};
 ghost use Rattle.rt_tree.specs.TreeEq.{leaf_eq};
-ghost use Rattle.rt_order.specs.Entries.{entry, entry_cmp};
+ghost use Rattle.rt_query.specs.Queries.{is_filtered};
 ghost use Rattle.rt_query.specs.Select.{select, tree_of};
 ghost use Rattle.rt_query.specs.QueryEq.{shown_eq};
 ghost use Rattle.rt_view.specs.Changes.{changes};
 ghost use Rattle.rt_view.specs.inside.Windows.{value_at};
 ghost use Rattle.rt_view.specs.inside.Kept.{IsWindowOf, NotesAll, SetsChild, SetsNoted, changes_to};
-ghost use Rattle.rt_view.specs.inside.Kept.{given_in};
-ghost use Rattle.rt_view.specs.inside.Kept.{gone_at, gone_from, leaf_in, noted_in, removed_of};
-ghost use Rattle.rt_view.specs.inside.Kept.{rows_in_tree, shown_by};
+ghost use Rattle.rt_view.specs.inside.Kept.{removed_of, shown_by};
+ghost use Rattle.rt_view.specs.inside.Telling.{WasShown, given_of};
 
 use crate::change::Change;
 use crate::change_list::ChangeList;
 use crate::kind::Kind;
-use crate::place::{child_at, drop_child, put_child, shown_at};
+use crate::place::{drop_child, put_child, shown_at};
 use crate::position::Position;
-use crate::window::{Window, set};
+use crate::told::{Told, Was, find_all_told, was_at_all};
+use crate::window::Window;
 use rt_order::Index;
-use rt_query::{Query, Row};
-use rt_tree::{Key, Tree};
+use rt_query::Query;
+use rt_tree::{Key, Leaf, Tree};
 use std::alloc::{AllocError, Global};
 use std::collections::BTreeMap;
-use std::mem::replace;
-
-// Puts a child in its place.
-fn put_row(
-    rows: &mut BTreeMap<Position, Tree>,
-    alloc: Global,
-    index: &Index,
-    key: &Key,
-    child: &Tree,
-) -> Result<(), AllocError>
-    ensures { OnOk result (rows.new.entries
-        ≡ map_of.put entry_cmp (entry index.now (key.now, child.now)) child.now rows.old.entries) }
-{
-    let position = Position::of(alloc, index, key, child)?;
-    let child = child.copy(alloc)?;
-    set(rows, position, child)
-}
-
-// Of the children that are shown, those that are noted.
-fn noted_rows(
-    alloc: Global,
-    query: &Query,
-    known: &Tree,
-    window: &Window,
-    noted: &[Key],
-) -> Result<BTreeMap<Position, Tree>, AllocError>
-    requires { IsWindowOf query.now known.now window.now }
-    ensures { IfOk result (λ rows. rows.entries ≡ noted_in noted.now window.now.shown.entries) }
-{
-    let mut rows = BTreeMap::new(alloc);
-    for key in noted {
-        if let Some(child) = shown_at(alloc, query, known, window, key)? {
-            put_row(&mut rows, alloc, query.index(), key, child)?;
-        }
-    }
-    Ok(rows)
-}
-
-// The child of a tree, which was shown, where it is shown no more.
-fn gone_at<'a>(
-    alloc: Global,
-    query: &Query,
-    known: &Tree,
-    window: &Window,
-    tree: &'a Tree,
-    key: &Key,
-) -> Result<Option<&'a Tree>, AllocError>
-    requires { IsWindowOf query.now known.now window.now }
-    ensures { IfOk result (λ child. option_copied child
-        ≡ gone_at (value_at window.now.shown.entries key.now)
-        (child_of (children_of tree.now) key.now)) }
-{
-    match shown_at(alloc, query, known, window, key)? {
-        Some(_) => Ok(None),
-        None => Ok(child_at(tree, key)),
-    }
-}
-
-// Of the children of a tree, which were shown, those that are noted and shown no more.
-fn gone_rows(
-    alloc: Global,
-    query: &Query,
-    known: &Tree,
-    window: &Window,
-    tree: &Tree,
-    noted: &[Key],
-) -> Result<BTreeMap<Position, Tree>, AllocError>
-    requires { IsWindowOf query.now known.now window.now }
-    ensures { IfOk result (λ rows. rows.entries ≡ gone_from noted.now window.now.shown.entries
-        (rows_in_tree query.now.index tree.now)) }
-{
-    let mut rows = BTreeMap::new(alloc);
-    for key in noted {
-        if let Some(old) = gone_at(alloc, query, known, window, tree, key)? {
-            put_row(&mut rows, alloc, query.index(), key, old)?;
-        }
-    }
-    Ok(rows)
-}
 
 // The children that are shown no more.
 fn push_removed(
@@ -123,77 +44,47 @@ fn push_removed(
     Ok(())
 }
 
-// The children of which a change of this kind is given, each with the key of the one that is shown
-// before it.
+// The children of which a change of this kind is given.
 fn push_given(
     changes: &mut Vec<Change>,
     alloc: Global,
     kind: Kind,
     index: &Index,
-    tree: &Tree,
-    window: &Window,
-    rows: &BTreeMap<Position, Tree>,
+    now: &BTreeMap<Position, Told>,
 ) -> Result<(), AllocError>
-    ensures { OnOk result (changes.new.items ≡ changes.old.items
-        ++ given_in kind index.now tree.now window.now.shown.entries rows.now.entries) }
+    ensures { OnOk result (changes.new.items
+        ≡ changes.old.items ++ given_of kind index.now now.now.entries) }
 {
-    for (position, child) in rows {
-        if kind.is_given(index, child_at(tree, position.key()), child) {
-            let key = position.key().copy()?;
-            let value = child.copy(alloc)?;
-            let row = Row { key, value };
-            changes.push(kind.change(alloc, &row, window.before(position))?)?;
+    for (position, told) in now {
+        if kind.is_given(index, told.old.as_ref(), &told.new) {
+            let after = told.after.as_ref();
+            changes.push(kind.change(alloc, position.key(), &told.new, after)?)?;
         }
     }
     Ok(())
 }
 
-// The changes of the rows, from the children of a tree to those that are shown now.
+// The changes of the rows, from what was shown to what is shown now.
 fn row_changes(
     alloc: Global,
     query: &Query,
     known: &Tree,
     window: &Window,
-    tree: &Tree,
-    noted: &[Key],
+    was: &[Was],
 ) -> Result<Vec<Change>, AllocError>
-    requires kept { IsWindowOf query.now known.now window.now }
-    requires notes { NotesAll query.now.index noted.now tree.now window.now }
-    ensures { IfOk result (λ changes. changes.items ≡ changes_to query.now.index tree.now window.now) }
+    requires { IsWindowOf query.now known.now window.now }
+    ensures { IfOk result (λ changes. (t : PathTree)
+        → WasShown query.now.index t window.now was.now
+        → changes.items ≡ changes_to query.now.index t window.now) }
 {
     let index = query.index();
-    let gone = gone_rows(alloc, query, known, window, tree, noted)?;
-    let rows = noted_rows(alloc, query, known, window, noted)?;
+    let found = find_all_told(alloc, query, known, window, was)?;
     let mut changes = Vec::new(alloc);
-    push_removed(&mut changes, alloc, &gone)?;
-    push_given(&mut changes, alloc, Kind::Added, index, tree, window, &rows)?;
-    push_given(&mut changes, alloc, Kind::Moved, index, tree, window, &rows)?;
-    push_given(
-        &mut changes,
-        alloc,
-        Kind::Changed,
-        index,
-        tree,
-        window,
-        &rows,
-    )?;
+    push_removed(&mut changes, alloc, &found.gone)?;
+    push_given(&mut changes, alloc, Kind::Added, index, &found.now)?;
+    push_given(&mut changes, alloc, Kind::Moved, index, &found.now)?;
+    push_given(&mut changes, alloc, Kind::Changed, index, &found.now)?;
     Ok(changes)
-}
-
-// Whether a tree is the leaf that is shown now, or neither is there.
-fn is_same_leaf(query: &Query, known: &Tree, tree: &Tree) -> bool
-    ensures { result ≡ option_eq leaf_eq (leaf_of tree.now) (leaf_in query.now known.now) }
-{
-    let leaf = if query.is_filtered() {
-        None
-    } else {
-        known.as_leaf()
-    };
-    match (tree.as_leaf(), leaf) {
-        (Some(old), Some(new)) => old == new,
-        (None, None) => true,
-        (Some(_), None) | (None, Some(_)) => false,
-    }
 }
 
 // Puts a child in its place in a tree of children, as it is shown now.
@@ -240,68 +131,9 @@ fn set_noted(
     Ok(())
 }
 
-// Whether nothing differs: no row changed, and the leaf is the same.
-fn is_same(changes: &[Change], query: &Query, known: &Tree, window: &Window, tree: &Tree) -> bool
-    requires kept { IsWindowOf query.now known.now window.now }
-    requires all { changes.now ≡ changes_to query.now.index tree.now window.now }
-    ensures { result ≡ shown_eq (shown_by query.now.index tree.now) (select query.now known.now) }
-{
-    if !changes.is_empty() {
-        return false;
-    }
-    is_same_leaf(query, known, tree)
-}
-
-// Makes a leaf null.
-fn clear_leaf(tree: &mut Tree)
-    ensures object { leaf_of tree.new ≡ None }
-    ensures children { (k : KeyValue) → child_of (children_of tree.new) k
-        ≡ child_of (children_of tree.old) k }
-{
-    let Some(_) = tree.as_leaf() else {
-        return;
-    };
-    drop(replace(tree, Tree::null()));
-}
-
-// Whether a tree without children is shown as it is.
-fn is_bare(query: &Query, known: &Tree) -> bool
-    ensures whole { OnTrue result (tree_of (select query.now known.now) ≡ known.now) }
-    ensures object { OnFalse result (leaf_in query.now known.now ≡ None) }
-{
-    if query.is_filtered() {
-        return false;
-    }
-    match known.children() {
-        Some(_) => false,
-        None => true,
-    }
-}
-
-// Makes a tree that was shown the one that is shown now.
-fn renew_tree(
-    tree: &mut Tree,
-    alloc: Global,
-    query: &Query,
-    known: &Tree,
-    window: &Window,
-    noted: &[Key],
-) -> Result<(), AllocError>
-    requires kept { IsWindowOf query.now known.now window.now }
-    requires notes { NotesAll query.now.index noted.now tree.old window.now }
-    ensures { OnOk result (tree.new ≡ tree_of (select query.now known.now)) }
-{
-    if is_bare(query, known) {
-        drop(replace(tree, known.copy(alloc)?));
-        return Ok(());
-    }
-    clear_leaf(tree);
-    set_noted(tree, alloc, query, known, window, noted)?;
-    Ok(())
-}
-
-// The changes from a tree that was shown to what is shown now, and the tree of that.
-pub fn tell(
+// The changes from a tree that was shown to what is shown now, and the tree of that, where the query
+// is filtered: it shows children alone.
+pub fn tell_filtered(
     tree: &mut Tree,
     alloc: Global,
     query: &Query,
@@ -309,6 +141,8 @@ pub fn tell(
     window: &Window,
     noted: &[Key],
 ) -> Result<ChangeList, AllocError>
+    requires filtered { is_filtered query.now ≡ true }
+    requires object { leaf_of tree.old ≡ None }
     requires kept { IsWindowOf query.now known.now window.now }
     requires notes { NotesAll query.now.index noted.now tree.old window.now }
     ensures tree { OnOk result (tree.new ≡ tree_of (select query.now known.now)) }
@@ -316,12 +150,55 @@ pub fn tell(
         ≡ changes query.now.index (Some (shown_by query.now.index tree.old))
         (select query.now known.now)) }
 {
-    let mut changes = row_changes(alloc, query, known, window, tree, noted)?;
-    if is_same(changes.as_slice(), query, known, window, tree) {
+    let was = was_at_all(alloc, tree, noted)?;
+    let mut changes = row_changes(alloc, query, known, window, was.as_slice())?;
+    if changes.is_empty() {
         return Ok(ChangeList::of(changes));
     }
-    renew_tree(tree, alloc, query, known, window, noted)?;
+    set_noted(tree, alloc, query, known, window, noted)?;
     let value = tree.copy(alloc)?;
+    changes.push(Change::Value { value })?;
+    Ok(ChangeList::of(changes))
+}
+
+// Whether no row changed, and the leaf that stood in the tree's place, or none, stands there now.
+fn is_same_plain(changes: &[Change], known: &Tree, leaf: Option<&Leaf>) -> bool
+    ensures { result ≡ (length changes.now == 0
+        && option_eq leaf_eq (option_copied leaf.entry) (leaf_of known.now)) }
+{
+    if !changes.is_empty() {
+        return false;
+    }
+    match (leaf, known.as_leaf()) {
+        (Some(old), Some(new)) => old == new,
+        (None, None) => true,
+        (Some(_), None) | (None, Some(_)) => false,
+    }
+}
+
+// The changes to what is shown now from a tree that was shown, where the query isn't filtered: the
+// known tree is shown as it is. Of the tree before there is only what was under the noted keys, and
+// the leaf that it was, or none.
+pub fn tell_plain(
+    alloc: Global,
+    query: &Query,
+    known: &Tree,
+    window: &Window,
+    was: &[Was],
+    leaf: Option<&Leaf>,
+) -> Result<ChangeList, AllocError>
+    requires kept { IsWindowOf query.now known.now window.now }
+    requires plain { is_filtered query.now ≡ false }
+    ensures { IfOk result (λ list. (t : PathTree) → WasShown query.now.index t window.now was.now
+        → leaf_of t ≡ option_copied leaf.entry
+        → list ≡ changes query.now.index (Some (shown_by query.now.index t))
+        (select query.now known.now)) }
+{
+    let mut changes = row_changes(alloc, query, known, window, was)?;
+    if is_same_plain(changes.as_slice(), known, leaf) {
+        return Ok(ChangeList::of(changes));
+    }
+    let value = known.copy(alloc)?;
     changes.push(Change::Value { value })?;
     Ok(ChangeList::of(changes))
 }

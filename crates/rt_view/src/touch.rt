@@ -1,15 +1,22 @@
 // Named children, put into a known tree and its window.
-ghost use Rattle.std.specs.Prelude.{◌≡◌, ◌≤◌, ◌∷◌, [], All, IfOk, OnOk};
+ghost use Rattle.std.specs.Prelude.{◌≡◌, ◌≤◌, ◌∷◌, ◌++◌, [], true, false, map, All, IfOk, OnOk, None, Some};
 ghost use Rattle.std.specs.Option.{option_copied};
 ghost use Rattle.rt_tree.specs.PathTree.{levels, put};
+ghost use Rattle.rt_query.specs.Queries.{is_filtered};
+ghost use Rattle.rt_query.specs.Select.{select, tree_of};
+ghost use Rattle.rt_view.specs.Changes.{changes};
 ghost use Rattle.rt_view.specs.Views.{with_named};
 ghost use Rattle.rt_view.specs.inside.Windows.{Becomes, IsWhole, all_of};
 ghost use Rattle.rt_view.specs.inside.Kept.{IsWindowOf, Notes, NotesBeside, brought_in, noted_too};
-ghost use Rattle.rt_view.specs.inside.Kept.{taken_out};
+ghost use Rattle.rt_view.specs.inside.Telling.{left_by, takes_place};
 
-use crate::place::{child_at, put_child};
+use crate::change_list::ChangeList;
+use crate::place::{child_at, copy_leaf, put_child};
 use crate::position::Position;
+use crate::tell::{tell_filtered, tell_plain};
+use crate::told::was_at_named;
 use crate::window::Window;
+use rt_order::{Index, sort_value, value_cmp};
 use rt_query::Query;
 use rt_tree::{Key, MAX_KEYS, Tree};
 use std::alloc::{AllocError, Global};
@@ -24,8 +31,15 @@ fn note(noted: &mut Vec<Key>, key: Option<Key>) -> Result<(), AllocError>
     Ok(())
 }
 
-// Takes out what stood at a key, which is noted already, and notes the child that comes to be shown
-// for it.
+// Whether a child that comes takes the place of the one that stood at its key.
+fn takes_place(index: &Index, old: &Tree, new: &Tree) -> bool
+    ensures { result ≡ takes_place index.now old.now new.now }
+{
+    !new.is_null() && value_cmp(&sort_value(index, old), &sort_value(index, new)).is_eq()
+}
+
+// Takes out what stood at a key, which is noted already, where the child that comes doesn't take its
+// place, and notes the child that comes to be shown for it.
 fn take_out(
     window: &mut Window,
     noted: &mut Vec<Key>,
@@ -33,11 +47,13 @@ fn take_out(
     query: &Query,
     key: &Key,
     child: Option<&Tree>,
+    new: &Tree,
 ) -> Result<(), AllocError>
     requires { IsWhole window.old }
     ensures limit { window.new.limit ≡ window.old.limit }
+    ensures alone { OnOk result (window.old.limit ≡ None → noted.new.items ≡ noted.old.items) }
     ensures taken { OnOk result
-        (Becomes window.old window.new (taken_out query.now key.now (option_copied child.entry)
+        (Becomes window.old window.new (left_by query.now key.now (option_copied child.entry) new.now
         (all_of window.old))) }
     ensures notes { OnOk result
         (NotesBeside key.now noted.old.items noted.new.items window.old.shown.entries
@@ -46,6 +62,9 @@ fn take_out(
     let Some(child) = child else {
         return Ok(());
     };
+    if takes_place(query.index(), child, new) {
+        return Ok(());
+    }
     if query.range().has(query.index(), key, child) {
         let position = Position::of(alloc, query.index(), key, child)?;
         let crossed = window.take(&position)?;
@@ -65,6 +84,7 @@ fn bring_in(
 ) -> Result<(), AllocError>
     requires { IsWhole window.old }
     ensures limit { window.new.limit ≡ window.old.limit }
+    ensures alone { OnOk result (window.old.limit ≡ None → noted.new.items ≡ noted.old.items) }
     ensures put { OnOk result
         (Becomes window.old window.new (brought_in query.now key.now child.now (all_of window.old))) }
     ensures notes { OnOk result
@@ -98,11 +118,21 @@ fn touch_child(
     requires fits { levels child.now ≤ MAX_KEYS }
     ensures put { OnOk result (known.new ≡ put known.old (key.now ∷ []) child.now) }
     ensures kept { OnOk result (IsWindowOf query.now known.new window.new) }
+    ensures alone { OnOk result (query.now.limit ≡ None
+        → noted.new.items ≡ noted.old.items ++ key.now ∷ []) }
     ensures notes { OnOk result
         (Notes noted.old.items noted.new.items window.old.shown.entries window.new.shown.entries) }
 {
     noted.push(key.copy()?)?;
-    take_out(window, noted, alloc, query, key, child_at(known, key))?;
+    take_out(
+        window,
+        noted,
+        alloc,
+        query,
+        key,
+        child_at(known, key),
+        child,
+    )?;
     bring_in(window, noted, alloc, query, key, child)?;
     put_child(known, alloc, key, child)?;
     Ok(())
@@ -110,7 +140,7 @@ fn touch_child(
 
 // Puts the named children in their places, and notes the keys of the children that may be shown
 // otherwise since.
-pub fn touch_all(
+fn touch_all(
     known: &mut Tree,
     window: &mut Window,
     alloc: Global,
@@ -121,6 +151,8 @@ pub fn touch_all(
     requires fits { All (λ c. levels c.1 ≤ MAX_KEYS) named.now }
     ensures put { OnOk result (known.new ≡ with_named known.old named.now) }
     ensures kept { OnOk result (IsWindowOf query.now known.new window.new) }
+    ensures alone { IfOk result (λ noted. query.now.limit ≡ None
+        → noted.items ≡ map (λ c. c.0) named.now) }
     ensures notes { IfOk result (λ noted.
         Notes [] noted.items window.old.shown.entries window.new.shown.entries) }
 {
@@ -129,4 +161,51 @@ pub fn touch_all(
         touch_child(known, window, &mut noted, alloc, query, key, child)?;
     }
     Ok(noted)
+}
+
+// Puts the named children in their places, and tells what changes. The query isn't filtered, so the
+// known tree is what is shown, and crosses no limit: the named children are all that change.
+pub fn touch_plain(
+    known: &mut Tree,
+    window: &mut Window,
+    alloc: Global,
+    query: &Query,
+    named: &[(Key, Tree)],
+) -> Result<ChangeList, AllocError>
+    requires kept { IsWindowOf query.now known.old window.old }
+    requires plain { is_filtered query.now ≡ false }
+    requires fits { All (λ c. levels c.1 ≤ MAX_KEYS) named.now }
+    ensures put { OnOk result (known.new ≡ with_named known.old named.now) }
+    ensures kept { OnOk result (IsWindowOf query.now known.new window.new) }
+    ensures changes { IfOk result (λ list. list ≡ changes query.now.index
+        (Some (select query.now known.old)) (select query.now known.new)) }
+{
+    let was = was_at_named(alloc, known, named)?;
+    let leaf = copy_leaf(alloc, known)?;
+    drop(touch_all(known, window, alloc, query, named)?);
+    tell_plain(alloc, query, known, window, was.as_slice(), leaf.as_ref())
+}
+
+// Puts the named children in their places, and tells what changes. What a filtered query shows stands
+// in a tree of its own.
+pub fn touch_filtered(
+    known: &mut Tree,
+    window: &mut Window,
+    tree: &mut Tree,
+    alloc: Global,
+    query: &Query,
+    named: &[(Key, Tree)],
+) -> Result<ChangeList, AllocError>
+    requires kept { IsWindowOf query.now known.old window.old }
+    requires filtered { is_filtered query.now ≡ true }
+    requires tree { tree.old ≡ tree_of (select query.now known.old) }
+    requires fits { All (λ c. levels c.1 ≤ MAX_KEYS) named.now }
+    ensures put { OnOk result (known.new ≡ with_named known.old named.now) }
+    ensures kept { OnOk result (IsWindowOf query.now known.new window.new) }
+    ensures tree { OnOk result (tree.new ≡ tree_of (select query.now known.new)) }
+    ensures changes { IfOk result (λ list. list ≡ changes query.now.index
+        (Some (select query.now known.old)) (select query.now known.new)) }
+{
+    let noted = touch_all(known, window, alloc, query, named)?;
+    tell_filtered(tree, alloc, query, known, window, noted.as_slice())
 }

@@ -1,22 +1,24 @@
 // A view, changed child by child.
-ghost use Rattle.std.specs.Prelude.{◌≡◌, ◌≤◌, ◌↔◌, true, All, IfOk, OnOk, OnErr, IsTrue, None, Err};
+ghost use Rattle.std.specs.Prelude.{◌≡◌, ◌≤◌, ◌↔◌, true, if◌then◌else◌, All, IfOk, OnOk, OnErr};
+ghost use Rattle.std.specs.Prelude.{IsTrue, None, Some, Err};
+ghost use Rattle.std.specs.Option.{option_copied, unwrap_or};
 ghost use Rattle.std.specs.List.{list_any};
-ghost use Rattle.rt_tree.specs.PathTree.{key_eq, leaf_of, levels};
-ghost use Rattle.rt_query.specs.Select.{select};
+ghost use Rattle.rt_tree.specs.PathTree.{key_eq, levels};
+ghost use Rattle.rt_query.specs.Queries.{is_filtered};
+ghost use Rattle.rt_query.specs.Select.{select, tree_of};
 ghost use Rattle.rt_view.specs.Changes.{changes};
 ghost use Rattle.rt_view.specs.Errors.{code_of, name_of};
 ghost use Rattle.rt_view.specs.Views.{first_view, leaves_child, renewed, shown_of, stays_object, told};
-ghost use Rattle.rt_view.specs.Views.{touched};
+ghost use Rattle.rt_view.specs.Views.{touched, with_named};
 ghost use Rattle.rt_view.specs.inside.Kept.{IsKept};
 
 use crate::change_list::ChangeList;
 use crate::compare::changes;
-use crate::place::{count, window_of};
-use crate::tell::tell;
-use crate::touch::touch_all;
+use crate::place::{copy_leaf, count, window_of};
+use crate::touch::{touch_filtered, touch_plain};
 use crate::window::Window;
 use rt_query::{Query, Shown};
-use rt_tree::{Key, Leaf, MAX_KEYS, Tree};
+use rt_tree::{Key, MAX_KEYS, Tree};
 use std::alloc::{AllocError, Global};
 use std::marker::Model;
 use std::mem::replace;
@@ -72,7 +74,7 @@ pub struct View {
     query: Query,
     known: Tree,
     window: Window,
-    tree: Tree,
+    tree: Option<Tree>,
     reads: u64,
     turns: u64,
     failed: bool,
@@ -110,13 +112,46 @@ impl Model for View {
     ghost invariant = { λ a. a.failed ≡ false → IsKept a.query a.known a.window a.tree };
 }
 
-// The leaf that a tree is, if it is one.
-fn copy_leaf(alloc: Global, tree: &Tree) -> Result<Option<Leaf>, AllocError>
-    ensures { IfOk result (λ leaf. leaf ≡ leaf_of tree.now) }
+// What is shown as a tree of its own, which only a filtered query has.
+fn own_tree(alloc: Global, query: &Query, shown: &Shown) -> Result<Option<Tree>, AllocError>
+    ensures { IfOk result (λ tree. tree ≡ if is_filtered query.now then Some (tree_of shown.now)
+        else None) }
 {
-    match tree.as_leaf() {
-        Some(leaf) => Ok(Some(leaf.copy(alloc)?)),
-        None => Ok(None),
+    if query.is_filtered() {
+        return Ok(Some(shown.tree().copy(alloc)?));
+    }
+    Ok(None)
+}
+
+// What is shown as a tree: one of its own, or the known one.
+fn shown_tree<'a>(known: &'a Tree, tree: Option<&'a Tree>) -> &'a Tree
+    ensures { result.now ≡ unwrap_or (option_copied tree.entry) known.now }
+{
+    match tree {
+        Some(tree) => tree,
+        None => known,
+    }
+}
+
+// Puts the named children in their places, and tells what changes.
+fn touch_kept(
+    known: &mut Tree,
+    window: &mut Window,
+    tree: &mut Option<Tree>,
+    alloc: Global,
+    query: &Query,
+    named: &[(Key, Tree)],
+) -> Result<ChangeList, AllocError>
+    requires kept { IsKept query.now known.old window.old tree.old }
+    requires fits { All (λ c. levels c.1 ≤ MAX_KEYS) named.now }
+    ensures put { OnOk result (known.new ≡ with_named known.old named.now) }
+    ensures kept { OnOk result (IsKept query.now known.new window.new tree.new) }
+    ensures changes { IfOk result (λ list. list ≡ changes query.now.index
+        (Some (select query.now known.old)) (select query.now known.new)) }
+{
+    match tree {
+        Some(tree) => touch_filtered(known, window, tree, alloc, query, named),
+        None => touch_plain(known, window, alloc, query, named),
     }
 }
 
@@ -149,7 +184,7 @@ impl View {
         let shown = query.select(&known)?;
         let changes = changes(alloc, query.index(), None, &shown)?;
         let window = window_of(alloc, &query, &known)?;
-        let tree = shown.tree().copy(alloc)?;
+        let tree = own_tree(alloc, &query, &shown)?;
         let reads = count(&known);
         let view = View {
             query,
@@ -193,7 +228,11 @@ impl View {
     }
 
     // What is kept of another tree, and the changes to it.
-    fn kept_of(&self, alloc: Global, known: &Tree) -> Result<(Window, Tree, ChangeList), AllocError>
+    fn kept_of(
+        &self,
+        alloc: Global,
+        known: &Tree,
+    ) -> Result<(Window, Option<Tree>, ChangeList), AllocError>
         ensures kept { IfOk result (λ p. IsKept self.now.query known.now p.0 p.1) }
         ensures changes { IfOk result (λ p. p.2
             ≡ changes self.now.query.index (Some (shown_of self.now))
@@ -203,7 +242,7 @@ impl View {
         let shown = self.query.select(known)?;
         let changes = changes(alloc, self.query.index(), Some(&old), &shown)?;
         let window = window_of(alloc, &self.query, known)?;
-        let tree = shown.tree().copy(alloc)?;
+        let tree = own_tree(alloc, &self.query, &shown)?;
         Ok((window, tree, changes))
     }
 
@@ -225,15 +264,13 @@ impl View {
         }
         self.failed = true;
         let named = named.as_slice();
-        let noted = touch_all(&mut self.known, &mut self.window, alloc, &self.query, named)?;
-        let noted = noted.as_slice();
-        let changes = tell(
+        let changes = touch_kept(
+            &mut self.known,
+            &mut self.window,
             &mut self.tree,
             alloc,
             &self.query,
-            &self.known,
-            &self.window,
-            noted,
+            named,
         )?;
         self.reads = named.len() as u64;
         self.turns = self.turns.wrapping_add(1);
@@ -259,9 +296,10 @@ impl View {
             return Err(ViewError::Failed);
         }
         let alloc = self.query.path().allocator();
-        let leaf = copy_leaf(alloc, &self.tree)?;
+        let tree = shown_tree(&self.known, self.tree.as_ref());
+        let leaf = copy_leaf(alloc, tree)?;
         let rows = self.window.rows(alloc)?;
-        let tree = self.tree.copy(alloc)?;
+        let tree = tree.copy(alloc)?;
         Ok(Shown::of(leaf, rows, tree))
     }
 

@@ -98,6 +98,7 @@ impl Window {
         ensures limit { self.new.limit ≡ self.old.limit }
         ensures put { OnOk result
             (Becomes self.old self.new (map_of.put entry_cmp position tree (all_of self.old))) }
+        ensures alone { IfOk result (λ key. self.old.limit ≡ None → key ≡ None) }
         ensures crosses { IfOk result (λ key.
             Crosses key position.1 self.old.shown.entries self.new.shown.entries) }
     {
@@ -147,6 +148,7 @@ impl Window {
         ensures limit { self.new.limit ≡ self.old.limit }
         ensures taken { OnOk result
             (Becomes self.old self.new (without position.now (all_of self.old))) }
+        ensures alone { IfOk result (λ key. self.old.limit ≡ None → key ≡ None) }
         ensures crosses { IfOk result (λ key.
             Crosses key position.now.1 self.old.shown.entries self.new.shown.entries) }
     {

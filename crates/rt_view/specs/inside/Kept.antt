@@ -29,10 +29,14 @@ pub record IsWindowOf (query : Query) (known : PathTree) (window : Window) : Typ
   pub cut : IsWindow query.limit window.shown.entries window.rest.entries
       (in_order query (children_of known))
 
--- what is kept: the window of the known tree, and what is shown as a tree
-pub record IsKept (query : Query) (known : PathTree) (window : Window) (shown : PathTree) : Type 0 where
+-- what is shown as a tree of its own, which only a filtered query has: another one shows all that is known
+abbrev pub own_tree : Query → PathTree → Option PathTree
+own_tree q t = if is_filtered q then Some (tree_of (select q t)) else None
+
+-- what is kept: the window of the known tree, and what is shown as a tree of its own
+pub record IsKept (query : Query) (known : PathTree) (window : Window) (shown : Option PathTree) : Type 0 where
   pub children : IsWindowOf query known window
-  pub tree : shown ≡ tree_of (select query known)
+  pub tree : shown ≡ own_tree query known
 
 -- the leaf that is shown of a tree
 abbrev pub leaf_in : Query → PathTree → Option LeafValue

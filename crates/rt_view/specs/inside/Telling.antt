@@ -1,0 +1,75 @@
+-- What is told of the noted children, each found once.
+use Rattle.std.specs.Prelude.{◌≡◌, Bool, not, ◌&&◌, if◌then◌else◌, List, map, Option, Some, None}
+use Rattle.std.specs.List.{All, filter}
+use Rattle.std.specs.Ordering.{is_eq}
+use Rattle.std.specs.FinMap as map_of
+use Rattle.rt_tree.specs.PathTree.{Key, PathTree, is_null, child_of}
+use Rattle.rt_tree.specs.Children.{children_of}
+use Rattle.rt_order.specs.declared.index.Index.{Index}
+use Rattle.rt_order.specs.Entries.{Entry, entry, entry_cmp, sort_value}
+use Rattle.rt_order.specs.Values.{value_cmp}
+use Rattle.rt_query.specs.Queries.{Query}
+use Rattle.rt_view.specs.declared.told.Told.{Told}
+use Rattle.rt_view.specs.declared.told.Was.{Was}
+use Rattle.rt_view.specs.declared.window.Window.{Window}
+use Rattle.rt_view.specs.declared.change.Change.{Change}
+use Rattle.rt_view.specs.declared.kind.Kind.{Kind}
+use Rattle.rt_view.specs.inside.Given.{change_of, is_given}
+use Rattle.rt_view.specs.inside.Kept.{NotesAll, taken_out}
+use Rattle.rt_view.specs.inside.Windows.{Entries, before}
+
+-- ---- a child that comes
+
+-- whether it takes the place of the one that stood at its key
+abbrev pub takes_place : Index → PathTree → PathTree → Bool
+takes_place index old new =
+    not (is_null new) && is_eq (value_cmp (sort_value index old) (sort_value index new))
+
+-- the child that stood at a key is taken out, where the one that comes doesn't take its place
+abbrev pub left_by : Query → Key → Option PathTree → PathTree → Entries → Entries
+left_by q k None new es = es
+left_by q k (Some t) new es = if takes_place q.index t new then es else taken_out q k (Some t) es
+
+-- ---- what was shown
+
+-- what was shown under these keys, of a tree that was shown
+abbrev pub was_in : PathTree → List Key → List Was
+was_in t ks = map (λ k. record { key = k; old = child_of (children_of t) k }) ks
+
+abbrev pub keys_in : List Was → List Key
+keys_in was = map (λ w. w.key) was
+
+-- a tree that was shown: it had these children, and under other keys than theirs the same is shown
+pub record WasShown (index : Index) (t : PathTree) (window : Window) (was : List Was) : Type 0 where
+  pub had : All (λ w. w.old ≡ child_of (children_of t) w.key) was
+  pub notes : NotesAll index (keys_in was) t window
+
+-- ---- a child that is shown now
+
+-- what was shown under its key, its value, and the key before it
+abbrev pub told_of : PathTree → Entries → Entry × PathTree → Told
+told_of old shown e = record {
+  old = child_of (children_of old) e.0.1;
+  new = e.1;
+  after =
+      before e.0 shown;
+}
+
+abbrev pub told_in : PathTree → Entries → Entries → List (Entry × Told)
+told_in old shown es = map (λ e. (e.0, told_of old shown e)) es
+
+-- the child that is shown under one more key, if there is one
+abbrev pub told_too : Index → Was → Entries → Option PathTree → List (Entry × Told) → List (Entry × Told)
+told_too index was shown None es = es
+told_too index was shown (Some v) es = map_of.put entry_cmp (entry index (was.key, v))
+    (record { old = was.old; new = v; after = before (entry index (was.key, v)) shown }) es
+
+-- the child that is gone from one more key, if there is one
+abbrev pub gone_too : Index → Key → Option PathTree → Entries → Entries
+gone_too index k None es = es
+gone_too index k (Some v) es = map_of.put entry_cmp (entry index (k, v)) v es
+
+-- the changes of one kind of these children
+abbrev pub given_of : Kind → Index → List (Entry × Told) → List Change
+given_of kind index es = map (λ e. change_of kind e.0.1 e.1.new e.1.after)
+    (filter (λ e. is_given kind index e.1.old e.1.new) es)

@@ -1,0 +1,218 @@
+// What is told of the noted children, each found once.
+ghost use Rattle.std.specs.Prelude.{◌≡◌, [], map, All, IfOk, OnOk, Some};
+ghost use Rattle.std.specs.Option.{option_copied};
+ghost use Rattle.std.specs.FinMap as map_of;
+ghost use Rattle.rt_tree.specs.PathTree.{PathTree, child_of};
+ghost use Rattle.rt_tree.specs.Children.{children_of};
+ghost use Rattle.rt_order.specs.Entries.{entry, entry_cmp};
+ghost use Rattle.rt_view.specs.inside.Windows.{before, value_at};
+ghost use Rattle.rt_view.specs.inside.Kept.{IsWindowOf, gone_at, gone_from, noted_in, rows_in_tree};
+ghost use Rattle.rt_view.specs.inside.Telling.{gone_too, keys_in, told_in, told_too, was_in};
+
+use crate::change::copy_key;
+use crate::place::{child_at, shown_at};
+use crate::position::Position;
+use crate::window::{Window, set};
+use rt_order::Index;
+use rt_query::Query;
+use rt_tree::{Key, Tree};
+use std::alloc::{AllocError, Global};
+use std::collections::BTreeMap;
+
+// What was shown under a key.
+pub struct Was {
+    pub key: Key,
+    pub old: Option<Tree>,
+}
+
+impl Drop for Was {
+    fn drop(self) {
+        let Was { key: _, old: _ } = self;
+    }
+}
+
+// A child that is shown now: what was shown under its key, its value, and the key of the one that is
+// shown before it.
+pub struct Told {
+    pub old: Option<Tree>,
+    pub new: Tree,
+    pub after: Option<Key>,
+}
+
+impl Drop for Told {
+    fn drop(self) {
+        let Told {
+            old: _,
+            new: _,
+            after: _,
+        } = self;
+    }
+}
+
+// The noted children in order: those that are shown no more, and those that are shown now.
+pub struct Noted {
+    pub gone: BTreeMap<Position, Tree>,
+    pub now: BTreeMap<Position, Told>,
+}
+
+impl Drop for Noted {
+    fn drop(self) {
+        let Noted { gone: _, now: _ } = self;
+    }
+}
+
+// An equal tree, where there is one.
+fn copy_tree(alloc: Global, tree: Option<&Tree>) -> Result<Option<Tree>, AllocError>
+    ensures { IfOk result (λ copy. copy ≡ option_copied tree.entry) }
+{
+    match tree {
+        Some(tree) => Ok(Some(tree.copy(alloc)?)),
+        None => Ok(None),
+    }
+}
+
+// What was shown under a key, of a tree that was shown.
+fn was_at(alloc: Global, tree: &Tree, key: &Key) -> Result<Was, AllocError>
+    ensures { IfOk result (λ was. was ≡ record {
+      key = key.now;
+      old =
+          child_of (children_of tree.now) key.now;
+    }) }
+{
+    let old = copy_tree(alloc, child_at(tree, key))?;
+    let key = key.copy()?;
+    Ok(Was { key, old })
+}
+
+// What was shown under these keys, of a tree that was shown.
+pub fn was_at_all(alloc: Global, tree: &Tree, keys: &[Key]) -> Result<Vec<Was>, AllocError>
+    ensures { IfOk result (λ was. was.items ≡ was_in tree.now keys.now) }
+{
+    let mut was = Vec::with_capacity(alloc, keys.len())?;
+    for key in keys {
+        was.push(was_at(alloc, tree, key)?)?;
+    }
+    Ok(was)
+}
+
+// What is shown under the keys of named children, of a tree that is shown as it is.
+pub fn was_at_named(
+    alloc: Global,
+    tree: &Tree,
+    named: &[(Key, Tree)],
+) -> Result<Vec<Was>, AllocError>
+    ensures { IfOk result (λ was. was.items ≡ was_in tree.now (map (λ c. c.0) named.now)) }
+{
+    let mut was = Vec::with_capacity(alloc, named.len())?;
+    for (key, _) in named {
+        was.push(was_at(alloc, tree, key)?)?;
+    }
+    Ok(was)
+}
+
+// Puts a child that is gone in its place.
+fn put_gone(
+    gone: &mut BTreeMap<Position, Tree>,
+    alloc: Global,
+    index: &Index,
+    key: &Key,
+    old: &Tree,
+) -> Result<(), AllocError>
+    ensures { OnOk result (gone.new.entries
+        ≡ map_of.put entry_cmp (entry index.now (key.now, old.now)) old.now gone.old.entries) }
+{
+    let position = Position::of(alloc, index, key, old)?;
+    let old = old.copy(alloc)?;
+    set(gone, position, old)
+}
+
+// `insert`, without what was there.
+fn set_told(
+    now: &mut BTreeMap<Position, Told>,
+    position: Position,
+    told: Told,
+) -> Result<(), AllocError>
+    ensures { OnOk result (now.new.entries ≡ map_of.put entry_cmp position told now.old.entries) }
+{
+    now.insert(position, told)?;
+    Ok(())
+}
+
+// Puts a child that is shown now in its place.
+fn put_told(
+    now: &mut BTreeMap<Position, Told>,
+    alloc: Global,
+    index: &Index,
+    window: &Window,
+    key: &Key,
+    old: Option<&Tree>,
+    new: &Tree,
+) -> Result<(), AllocError>
+    ensures { OnOk result (now.new.entries
+        ≡ map_of.put entry_cmp (entry index.now (key.now, new.now)) (record {
+          old =
+              option_copied old.entry;
+          new = new.now;
+          after =
+              before (entry index.now (key.now, new.now)) window.now.shown.entries;
+        }) now.old.entries) }
+{
+    let position = Position::of(alloc, index, key, new)?;
+    let after = copy_key(window.before(&position))?;
+    let old = copy_tree(alloc, old)?;
+    let new = new.copy(alloc)?;
+    set_told(now, position, Told { old, new, after })
+}
+
+// Finds what is told of one more noted child.
+fn find_told(
+    noted: &mut Noted,
+    alloc: Global,
+    query: &Query,
+    known: &Tree,
+    window: &Window,
+    was: &Was,
+) -> Result<(), AllocError>
+    requires { IsWindowOf query.now known.now window.now }
+    ensures gone { OnOk result (noted.new.gone.entries ≡ gone_too query.now.index was.now.key
+        (gone_at (value_at window.now.shown.entries was.now.key) was.now.old) noted.old.gone.entries) }
+    ensures now { OnOk result (noted.new.now.entries ≡ told_too query.now.index was.now
+        window.now.shown.entries (value_at window.now.shown.entries was.now.key)
+        noted.old.now.entries) }
+{
+    let index = query.index();
+    let old = was.old.as_ref();
+    match (old, shown_at(alloc, query, known, window, &was.key)?) {
+        (old, Some(new)) => put_told(&mut noted.now, alloc, index, window, &was.key, old, new),
+        (Some(old), None) => put_gone(&mut noted.gone, alloc, index, &was.key, old),
+        (None, None) => Ok(()),
+    }
+}
+
+// What is told of the noted children of a tree that was shown.
+pub fn find_all_told(
+    alloc: Global,
+    query: &Query,
+    known: &Tree,
+    window: &Window,
+    was: &[Was],
+) -> Result<Noted, AllocError>
+    requires { IsWindowOf query.now known.now window.now }
+    ensures gone { IfOk result (λ noted. (t : PathTree)
+        → All (λ w. w.old ≡ child_of (children_of t) w.key) was.now
+        → noted.gone.entries ≡ gone_from (keys_in was.now) window.now.shown.entries
+        (rows_in_tree query.now.index t)) }
+    ensures now { IfOk result (λ noted. (t : PathTree)
+        → All (λ w. w.old ≡ child_of (children_of t) w.key) was.now
+        → noted.now.entries ≡ told_in t window.now.shown.entries
+        (noted_in (keys_in was.now) window.now.shown.entries)) }
+{
+    let mut noted = Noted {
+        gone: BTreeMap::new(alloc),
+        now: BTreeMap::new(alloc),
+    };
+    for one in was {
+        find_told(&mut noted, alloc, query, known, window, one)?;
+    }
+    Ok(noted)
+}
