@@ -98,10 +98,10 @@ TOLD = {
 
 
 def is_told(line, wanted):
-    """Whether that is the line; of one that gives a cause only what stands before and behind it is compared."""
+    """Whether that is the line; of one that gives a cause only what stands before and behind it is compared, and that there is one."""
     line = line.decode().removeprefix("kaltewi: ").removesuffix("\n")
     before, cause, behind = wanted.partition("..")
-    return line.startswith(before) and line.endswith(behind) if cause else line == wanted
+    return line.startswith(before) and line.endswith(behind) and len(line) > len(before + behind) if cause else line == wanted
 
 
 def session(program, count, words, clients):

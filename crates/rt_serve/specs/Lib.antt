@@ -5,10 +5,12 @@
 --     Heard       what a read of the socket says, and what that is to the peer
 --     Answers     what is sent to the connection for a text
 --     Closing     the close that a client is sent which broke the protocol
+--     Endings     what is told of the end of a connection
 --     Handshakes  whether a handshake came about
 -- laws/ has what is stated for callers: what such a connection leaves as it was (Sessions).
 pub mod Answers
 pub mod Closing
+pub mod Endings
 pub mod Errors
 pub mod Handshakes
 pub mod Heard

@@ -1,6 +1,7 @@
 -- What a connection that is served is to the peer: it begins, its texts are taken one after another,
 -- and it ends.
-use Rattle.std.specs.Prelude.{◌≡◌, ◌≤◌, ℕ, List, [], ◌∷◌, ◌++◌, length, Option, Some, Ok, Err, Result, Bool, true, false}
+use Rattle.std.specs.Prelude.{◌≡◌, ◌≤◌, ℕ, List, [], ◌∷◌, ◌++◌, length, Option, Some, Ok, Err, Result}
+use Rattle.std.specs.Prelude.{Bool, true, false}
 use Rattle.std.specs.List.{flat_map}
 use Rattle.rt_wire.specs.Client.{client_message}
 use Rattle.rt_wire.specs.declared.client.ClientMessage.{ClientMessage}

@@ -69,17 +69,22 @@ pub(crate) fn ended<L: Log>(alloc: Global, log: &mut L, connection: u64, end: &E
 }
 
 impl fmt::Display for End {
+    ghost use Rattle.rt_serve.specs.Endings.{ended_text};
+
+    ghost output = { λ end. ended_text end };
+
     fn fmt<W: fmt::Write>(&self, f: &mut fmt::Formatter<W>) -> fmt::Result {
-        let said = match self {
-            End::Closed(None) => write!(f, "the client closed it"),
+        match self {
+            End::Closed(None) => f.write_str("the client closed it"),
             End::Closed(Some(code)) => write!(f, "the client closed it with {code}"),
-            End::Failed(why) => write!(f, "{why}"),
-            End::TooMany => write!(f, "{MAX_MESSAGES} messages have come"),
-        };
-        said?;
-        match self.close_code() {
-            Some(code) => write!(f, "; it is closed with {code}"),
-            None => Ok(()),
+            End::Failed(why) => match self.close_code() {
+                Some(code) => write!(f, "{why}; it is closed with {code}"),
+                None => write!(f, "{why}"),
+            },
+            End::TooMany => write!(
+                f,
+                "{MAX_MESSAGES} messages have come; it is closed with 1008"
+            ),
         }
     }
 }
