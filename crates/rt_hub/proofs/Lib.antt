@@ -1,0 +1,5 @@
+mod Bytes
+mod Done
+mod Known
+mod Places
+mod Served

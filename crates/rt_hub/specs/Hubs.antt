@@ -1,0 +1,98 @@
+-- What a hub holds, and what each call leaves of it.
+use Rattle.std.specs.Prelude.{◌≡◌, ◌==◌, ℕ, if◌then◌else◌, List, [], map, Option, Some, None, Result}
+use Rattle.std.specs.Prelude.{Ok, Err}
+use Rattle.std.specs.List.{slice_get}
+use Rattle.std.specs.Option.{option_and_then, option_map, option_map_or}
+use Rattle.rt_tree.specs.PathTree.{Path, PathTree}
+use Rattle.rt_wire.specs.declared.client.ClientMessage.{ClientMessage}
+use Rattle.rt_wire.specs.declared.error.WireError.{WireError}
+use Rattle.rt_peer.specs.Peers.{Peer, least_free, new_peer}
+use Rattle.rt_peer.specs.Calls.{fault}
+use Rattle.rt_peer.specs.Runs.{Call, Connect, Message, Disconnect, outcome}
+use Rattle.rt_peer.specs.declared.error.PeerError.{PeerError}
+use Rattle.rt_peer.specs.declared.sent.Sent.{Sent}
+use Rattle.rt_hub.specs.declared.bounds.Bounds.{Bounds}
+use Rattle.rt_hub.specs.declared.taken.Taken.{Taken}
+use Rattle.rt_hub.specs.declared.taken.Taken.TheVariants.{Message as TookMessage, PassedOver}
+use Rattle.rt_hub.specs.Lines.{Line, empty_line, line_of, texts_to, with_texts, without_first}
+
+-- a peer, what may wait for each of its connections, and what does, by the numbers of the connections
+pub record Hub : Type 0 where
+  pub peer : Peer
+  pub bounds : Bounds
+  pub lines : List (Option Line)
+
+-- a hub of a tree, with no connection
+abbrev pub new_hub : PathTree → List Path → Bounds → Hub
+new_hub tree denied bounds = record { peer = new_peer tree denied; bounds = bounds; lines = [] }
+
+-- the line of a connection; none where the hub has lacked memory, or there is no such connection
+abbrev pub line_in : Option Hub → ℕ → Option Line
+line_in hub n = option_and_then (λ (h : Hub). line_of h.lines n) hub
+
+-- ---- calls of the peer
+
+-- a connection that begins has a line in which nothing waits; one that ends has none
+abbrev pub kept_line : ℕ → Peer → Call → Option Line → Option Line
+kept_line n p Connect line = if least_free p.connections == n then Some empty_line else line
+kept_line n p (Message m message) line = line
+kept_line n p (Disconnect m) line = if m == n then None else line
+
+-- the line after a call: what the peer sends to the connection comes behind what waits
+abbrev pub line_after : Bounds → ℕ → Peer → Call → Option Line → Option Line
+line_after bounds n p call line =
+    with_texts bounds (texts_to n (outcome p call).1) (kept_line n p call line)
+
+-- the peer's call is made, and each connection has its line after it
+pub record Makes (old : Hub) (call : Call) (new : Hub) : Type 0 where
+  pub peer : new.peer ≡ (outcome old.peer call).0
+  pub bounds : new.bounds ≡ old.bounds
+  pub lines : (n : ℕ) → line_of new.lines n ≡ line_after old.bounds n old.peer call (line_of old.lines n)
+
+-- so it is of a hub that hasn't lacked memory before or then
+abbrev pub IsMade : Option Hub → Call → Option Hub → Type 0
+IsMade None call new = ⊥
+IsMade (Some old) call None = ⊥
+IsMade (Some old) call (Some new) = Makes old call new
+
+-- ---- a text
+
+-- a text that is a message of a client is the peer's call; one that is none changes nothing
+abbrev pub TakesText : Option Hub → ℕ → Result ClientMessage WireError → Option Hub → Type 0
+TakesText old n (Ok message) new = IsMade old (Message n message) new
+TakesText old n (Err why) new = new ≡ old
+
+-- to whom something is sent, in order
+abbrev pub receivers : List Sent → List ℕ
+receivers sent = map (λ s. s.to) sent
+
+-- what is answered to a text: to whom something was sent, or why it is no message
+abbrev pub IsTaken : Peer → ℕ → Result ClientMessage WireError → Taken → Type 0
+IsTaken p n (Ok message) (TookMessage told) = told.items ≡ receivers (outcome p (Message n message)).1
+IsTaken p n (Ok message) (PassedOver e) = ⊥
+IsTaken p n (Err why) (TookMessage told) = ⊥
+IsTaken p n (Err why) (PassedOver e) = e ≡ why
+
+-- ---- what waits is handed over
+
+-- the oldest text of a line, if one waits
+abbrev pub first_of : Option Line → Option (List ℕ)
+first_of line = option_and_then (λ (l : Line). slice_get l.waiting 0) line
+
+-- the oldest text that waits for the connection is taken out, and nothing else changes
+pub record Hands (old : Hub) (connection : ℕ) (new : Hub) : Type 0 where
+  pub peer : new.peer ≡ old.peer
+  pub bounds : new.bounds ≡ old.bounds
+  pub lines : (n : ℕ) → line_of new.lines n
+      ≡ (if connection == n then without_first (line_of old.lines n) else line_of old.lines n)
+
+abbrev pub IsHanded : Option Hub → ℕ → Option Hub → Type 0
+IsHanded None n new = new ≡ None
+IsHanded (Some old) n None = ⊥
+IsHanded (Some old) n (Some new) = Hands old n new
+
+-- ---- refusals
+
+-- why a call on a connection is refused, before memory is looked for
+abbrev pub refused_as : Option Hub → ℕ → Option PeerError
+refused_as hub n = fault (option_map (λ (h : Hub). h.peer) hub) n

@@ -1,0 +1,65 @@
+-- What waits for connections, and its bounds.
+use Rattle.std.specs.Prelude.{ℕ, zero, suc, ◌+◌, ◌==◌, ◌&&◌, nat_le, nat_lt, length, map, if◌then◌else◌}
+use Rattle.std.specs.Prelude.{Bool, true, false, List, [], ◌∷◌, ◌++◌, drop, Option, Some, None}
+use Rattle.std.specs.List.{filter, fold, slice_get}
+use Rattle.std.specs.Option.{option_and_then, option_map}
+use Rattle.serde_json.specs.Written.{compact_text}
+use Rattle.rt_wire.specs.ServerData.{server_data}
+use Rattle.rt_wire.specs.declared.server.ServerMessage.{ServerMessage}
+use Rattle.rt_peer.specs.declared.sent.Sent.{Sent}
+use Rattle.rt_hub.specs.declared.bounds.Bounds.{Bounds}
+
+-- the bytes of the texts that wait for a connection, oldest first, and whether more came than may wait
+pub record Line : Type 0 where
+  pub waiting : List (List ℕ)
+  pub is_over : Bool
+
+-- a line in which nothing waits
+abbrev pub empty_line : Line
+empty_line = record { waiting = []; is_over = false }
+
+-- a line to which more came than may wait; nothing waits any more
+abbrev pub over_line : Line
+over_line = record { waiting = []; is_over = true }
+
+-- the line of the connection of that number, from 1; none where there is no such connection
+abbrev pub line_of : List (Option Line) → ℕ → Option Line
+line_of lines zero = None
+line_of lines (suc place) = option_and_then (λ line. line) (slice_get lines place)
+
+-- ---- one text more
+
+-- how many bytes texts have
+abbrev pub bytes_in : List (List ℕ) → ℕ
+bytes_in texts = fold (λ n text. n + length text) 0 texts
+
+-- whether one more text of so many bytes may wait
+abbrev pub has_room : Bounds → List (List ℕ) → ℕ → Bool
+has_room bounds waiting len =
+    nat_lt (length waiting) bounds.messages && nat_le (bytes_in waiting + len) bounds.bytes
+
+-- a text comes behind what waits; where that is more than may wait the line is over, and stays so
+abbrev pub with_text : Bounds → Line → List ℕ → Line
+with_text bounds line text =
+    if line.is_over then line
+    else if has_room bounds line.waiting (length text)
+    then record line { waiting = line.waiting ++ text ∷ [] }
+    else over_line
+
+-- texts come, in order
+abbrev pub with_texts : Bounds → List (List ℕ) → Option Line → Option Line
+with_texts bounds texts line = option_map (λ l. fold (with_text bounds) l texts) line
+
+-- the oldest text is taken out
+abbrev pub without_first : Option Line → Option Line
+without_first line = option_map (λ (l : Line). record l { waiting = drop 1 l.waiting }) line
+
+-- ---- what is sent
+
+-- the text of a message of the server
+abbrev pub text_of : ServerMessage → List ℕ
+text_of message = compact_text (server_data message)
+
+-- the texts for that connection, in order
+abbrev pub texts_to : ℕ → List Sent → List (List ℕ)
+texts_to n sent = map (λ s. text_of s.message) (filter (λ s. s.to == n) sent)

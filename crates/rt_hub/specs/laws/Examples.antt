@@ -1,0 +1,42 @@
+-- Rows of lines that the prover computes: bounds of two texts and of five bytes.
+use Rattle.std.specs.Prelude.{◌≡◌, ◌≢◌, false, List, [], ◌∷◌, ℕ, Some, None, codes}
+use Rattle.rt_hub.specs.declared.bounds.Bounds.{Bounds}
+use Rattle.rt_hub.specs.Lines.{Line, empty_line, line_of, over_line, with_texts}
+
+abbrev pub small : Bounds
+small = record { messages = 2; bytes = 5 }
+
+abbrev pub a : List ℕ
+a = codes "a"
+
+abbrev pub bcde : List ℕ
+bcde = codes "bcde"
+
+-- as many as may wait do, in the order in which they came, and not in another
+abbrev pub TextsWait : Type 0
+TextsWait =
+    (with_texts small (a ∷ bcde ∷ []) (Some empty_line)
+    ≡ Some (record { waiting = a ∷ bcde ∷ []; is_over = false }))
+    × (with_texts small (a ∷ bcde ∷ []) (Some empty_line)
+    ≢ Some (record { waiting = bcde ∷ a ∷ []; is_over = false }))
+
+-- with one text more the line is over, and nothing waits
+abbrev pub TextsEnd : Type 0
+TextsEnd = with_texts small (a ∷ a ∷ a ∷ []) (Some empty_line) ≡ Some over_line
+
+-- so it is with one byte more
+abbrev pub BytesEnd : Type 0
+BytesEnd = with_texts small (bcde ∷ (codes "fg") ∷ []) (Some empty_line) ≡ Some over_line
+
+-- a line that is over stays so, and there is no line where there was none
+abbrev pub StaysOver : Type 0
+StaysOver =
+    (with_texts small (a ∷ []) (Some over_line) ≡ Some over_line)
+    × (with_texts small (a ∷ []) None ≡ None)
+
+-- lines are numbered from 1
+abbrev pub NumbersCount : Type 0
+NumbersCount =
+    (line_of (Some empty_line ∷ None ∷ []) 0 ≡ None)
+    × (line_of (Some empty_line ∷ None ∷ []) 1 ≡ Some empty_line)
+    × (line_of (Some empty_line ∷ None ∷ []) 2 ≡ None) × (line_of (Some empty_line ∷ None ∷ []) 3 ≡ None)

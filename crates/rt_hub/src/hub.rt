@@ -1,0 +1,215 @@
+// The hub.
+ghost use Rattle.std.specs.Prelude.{◌≡◌, ◌⊎◌, ◌↔◌, Some, None, Ok, Err, IfOk, IfErr, IfSome, OnOk, OnErr};
+ghost use Rattle.std.specs.Prelude.{false, string_bytes};
+ghost use Rattle.std.specs.Option.{option_map, option_map_or};
+ghost use Rattle.std.specs.Result.{result_err};
+ghost use Rattle.rt_wire.specs.Client.{client_message};
+ghost use Rattle.rt_peer.specs.Peers.{least_free};
+ghost use Rattle.rt_peer.specs.Runs.{Connect, Message, Disconnect, outcome};
+ghost use Rattle.rt_hub.specs.Hubs.{IsHanded, IsMade, IsTaken, TakesText, first_of, line_in, new_hub};
+ghost use Rattle.rt_hub.specs.Hubs.{receivers, refused_as};
+
+use crate::bounds::Bounds;
+use crate::calls::{answer, begin, end};
+use crate::lines::{Lines, has_line, is_over, next_of};
+use crate::taken::Taken;
+use rt_peer::{Peer, PeerError};
+use rt_tree::{Path, Tree};
+use rt_wire::{ClientMessage, WireError};
+use std::alloc::Global;
+use std::marker::Model;
+
+/// A peer, and for each of its connections the texts that wait for it.
+///
+/// A contract sees what it holds; none once it has lacked memory.
+#[derive(Drop)]
+pub struct Hub {
+    alloc: Global,
+    peer: Peer,
+    bounds: Bounds,
+    lines: Lines,
+    has_failed: bool,
+}
+
+impl Model for Hub {
+    ghost use Rattle.std.specs.Prelude.{◌≡◌, false, Option};
+    ghost use Rattle.rt_hub.specs.Hubs.{Hub};
+    ghost use Rattle.rt_hub.specs.inside.Lined.{AreLinedOf, hub_of};
+
+    ghost Value = { Option Hub };
+
+    ghost view = { λ a. hub_of a.has_failed a.peer a.bounds a.lines.items };
+
+    ghost invariant = { λ a. a.has_failed ≡ false → AreLinedOf a.peer a.lines.items };
+}
+
+impl Hub {
+    /// A hub of the tree, with no connection. Which paths are denied is as at [`Peer::new`].
+    ///
+    /// Takes no memory.
+    pub fn new(alloc: Global, tree: Tree, denied: Vec<Path>, bounds: Bounds) -> Hub
+        ensures { result ≡ Some (new_hub tree denied.items bounds) }
+    {
+        Hub {
+            alloc,
+            peer: Peer::new(tree, denied),
+            bounds,
+            lines: Vec::new(alloc),
+            has_failed: false,
+        }
+    }
+
+    /// The tree as it is. Of a hub that has lacked memory it may hold a part of a write.
+    pub fn tree(&self) -> &Tree
+        ensures { IfSome self.now (λ h. result.now ≡ h.peer.tree) }
+    {
+        self.peer.tree()
+    }
+
+    /// Begins a connection, with the least number from 1 that no known connection has. Nothing waits for
+    /// it.
+    ///
+    /// # Errors
+    ///
+    /// `Failed` where the hub has lacked memory before; else `NoMemory`, and `Failed` from then on.
+    pub fn connect(&mut self) -> Result<u64, PeerError>
+        ensures number { IfOk result (λ n. IfSome self.old (λ h. n ≡ least_free h.peer.connections)) }
+        ensures connected { OnOk result (IsMade self.old Connect self.new) }
+        ensures failed { (result ≡ Err PeerError.Failed) ↔ (self.old ≡ None) }
+        ensures fault { IfErr result (λ e. (e ≡ PeerError.Failed) ⊎ (e ≡ PeerError.NoMemory)) }
+        ensures gives_up { OnErr result (self.new ≡ None) }
+    {
+        if self.has_failed {
+            return Err(PeerError::Failed);
+        }
+        match begin(&mut self.peer, &mut self.lines, self.alloc, self.bounds) {
+            Ok(connection) => Ok(connection),
+            Err(_) => {
+                self.has_failed = true;
+                Err(PeerError::NoMemory)
+            }
+        }
+    }
+
+    // Whether a call on the connection is refused before memory is looked for.
+    fn check(&self, connection: u64) -> Result<(), PeerError>
+        ensures { result_err result ≡ refused_as self.now connection }
+    {
+        if self.has_failed {
+            return Err(PeerError::Failed);
+        }
+        if !has_line(&self.lines, connection) {
+            return Err(PeerError::UnknownConnection);
+        }
+        Ok(())
+    }
+
+    // Takes a message of a known connection, and answers to whom something was sent.
+    fn answer(&mut self, connection: u64, message: ClientMessage) -> Result<Vec<u64>, PeerError>
+        requires { refused_as self.old connection ≡ None }
+        ensures made { OnOk result (IsMade self.old (Message connection message) self.new) }
+        ensures told { IfOk result (λ told. IfSome self.old (λ h.
+            told.items ≡ receivers (outcome h.peer (Message connection message)).1)) }
+        ensures gives_up { OnErr result (self.new ≡ None) }
+        ensures memory { IfErr result (λ e. e ≡ PeerError.NoMemory) }
+    {
+        let told = answer(
+            &mut self.peer,
+            &mut self.lines,
+            self.alloc,
+            self.bounds,
+            connection,
+            message,
+        );
+        match told {
+            Ok(told) => Ok(told),
+            Err(_) => {
+                self.has_failed = true;
+                Err(PeerError::NoMemory)
+            }
+        }
+    }
+
+    /// Takes a text of the connection. Where it is a message of a client, what the peer sends for it is put
+    /// behind what waits for those that it is sent to; where it is none, nothing changes.
+    ///
+    /// # Errors
+    ///
+    /// `Failed` where the hub has lacked memory before; then `UnknownConnection`; both change nothing. Else
+    /// `NoMemory`: the text was not read, which changes nothing, or the hub has failed.
+    pub fn take(&mut self, connection: u64, words: &str) -> Result<Taken, PeerError>
+        ensures taken { OnOk result
+            (TakesText self.old connection (client_message words.now) self.new) }
+        ensures answer { IfOk result (λ taken. IfSome self.old (λ h.
+            IsTaken h.peer connection (client_message words.now) taken)) }
+        ensures refused { IfSome (refused_as self.old connection)
+            (λ e. (result ≡ Err e) × (self.new ≡ self.old)) }
+        ensures fault { IfErr result (λ e. (refused_as self.old connection ≡ Some e)
+            ⊎ (e ≡ PeerError.NoMemory)) }
+        ensures gives_up { OnErr result ((self.new ≡ self.old) ⊎ (self.new ≡ None)) }
+    {
+        self.check(connection)?;
+        match ClientMessage::read(self.alloc, words) {
+            Ok(message) => Ok(Taken::Message(self.answer(connection, message)?)),
+            Err(WireError::NoMemory) => Err(PeerError::NoMemory),
+            Err(
+                why @ (WireError::NotJson
+                | WireError::UnknownKind
+                | WireError::BadField
+                | WireError::BadTree),
+            ) => Ok(Taken::PassedOver(why)),
+        }
+    }
+
+    /// Takes the oldest text that waits for the connection, if one does. Takes no memory.
+    pub fn next(&mut self, connection: u64) -> Option<String>
+        ensures first { option_map string_bytes result ≡ first_of (line_in self.old connection) }
+        ensures rest { IsHanded self.old connection self.new }
+    {
+        if self.has_failed {
+            return None;
+        }
+        next_of(&mut self.lines, connection)
+    }
+
+    /// Whether more came to the connection than may wait: it has lost something, and is to be ended.
+    pub fn is_over(&self, connection: u64) -> bool
+        ensures { result ≡ option_map_or (λ l. l.is_over) (line_in self.now connection) false }
+    {
+        !self.has_failed && is_over(&self.lines, connection)
+    }
+
+    /// Ends the connection: what waits for it goes, and what it asked for at its end is run. Answers to whom
+    /// something was sent. The number is then free.
+    ///
+    /// # Errors
+    ///
+    /// `Failed` where the hub has lacked memory before; then `UnknownConnection`; both change nothing. Else
+    /// `NoMemory`, and `Failed` from then on.
+    pub fn disconnect(&mut self, connection: u64) -> Result<Vec<u64>, PeerError>
+        ensures made { OnOk result (IsMade self.old (Disconnect connection) self.new) }
+        ensures told { IfOk result (λ told. IfSome self.old (λ h.
+            told.items ≡ receivers (outcome h.peer (Disconnect connection)).1)) }
+        ensures refused { IfSome (refused_as self.old connection)
+            (λ e. (result ≡ Err e) × (self.new ≡ self.old)) }
+        ensures fault { IfErr result (λ e. (refused_as self.old connection ≡ Some e)
+            ⊎ (e ≡ PeerError.NoMemory)) }
+        ensures gives_up { result ≡ Err PeerError.NoMemory → self.new ≡ None }
+    {
+        self.check(connection)?;
+        let told = end(
+            &mut self.peer,
+            &mut self.lines,
+            self.alloc,
+            self.bounds,
+            connection,
+        );
+        match told {
+            Ok(told) => Ok(told),
+            Err(_) => {
+                self.has_failed = true;
+                Err(PeerError::NoMemory)
+            }
+        }
+    }
+}

@@ -1,0 +1,12 @@
+// The laws of the hub.
+ghost use Rattle.rt_hub.specs.laws.Queues.{IsServedAll, SeesItsOwn};
+
+/// Of any calls, each connection sees the peer, its own line, and nothing else of the hub; and what a
+/// connection was given begins what waited at first and all that the peer sent it since, in order, as long
+/// as it lasts. Where its line isn't over, what still waits is the rest: nothing is lost, and nothing told
+/// twice.
+#[tactic(auto, using(crate::proofs::Served::laws))]
+pub fn queue_law()
+    ensures sees { SeesItsOwn }
+    ensures served { IsServedAll }
+{}

@@ -1,0 +1,123 @@
+// The lines of connections, by their numbers.
+ghost use Rattle.std.specs.Prelude.{◌≡◌, ◌+◌, ◌<◌, ◌==◌, ◌∷◌, [], ℕ, false, is_some, length, string_bytes};
+ghost use Rattle.std.specs.Prelude.{if◌then◌else◌, Some, None, IfSome, OnOk};
+ghost use Rattle.std.specs.Option.{option_map, option_map_or};
+ghost use Rattle.rt_hub.specs.Hubs.{first_of};
+ghost use Rattle.rt_hub.specs.Lines.{empty_line, line_of, texts_to, with_texts};
+ghost use Rattle.rt_hub.specs.Lines.{without_first};
+
+use crate::bounds::Bounds;
+use crate::line::Line;
+use rt_peer::Sent;
+use std::alloc::{AllocError, Global};
+
+// The lines by number, from 1; none where there is no such connection.
+pub(crate) type Lines = Vec<Option<Line>>;
+
+// The place of the line of that number, if there may be one.
+fn place_of(lines: &Lines, connection: u64) -> Option<usize>
+    ensures here { IfSome result (λ place.
+        (place < length lines.now.items) × (connection ≡ place + 1)) }
+    ensures none { result ≡ None → line_of lines.now.items connection ≡ None }
+    ensures beyond { result ≡ None → 0 < connection → length lines.now.items < connection }
+{
+    if connection == 0 {
+        return None;
+    }
+    let place = (connection - 1) as usize;
+    if place >= lines.len() {
+        return None;
+    }
+    Some(place)
+}
+
+// Whether the connection has a line.
+pub(crate) fn has_line(lines: &Lines, connection: u64) -> bool
+    ensures { result ≡ is_some (line_of lines.now.items connection) }
+{
+    match place_of(lines, connection) {
+        Some(place) => lines[place].is_some(),
+        None => false,
+    }
+}
+
+// Whether more came to the connection than may wait.
+pub(crate) fn is_over(lines: &Lines, connection: u64) -> bool
+    ensures { result ≡ option_map_or (λ l. l.is_over) (line_of lines.now.items connection) false }
+{
+    let Some(place) = place_of(lines, connection) else {
+        return false;
+    };
+    match &lines[place] {
+        Some(line) => line.is_over(),
+        None => false,
+    }
+}
+
+// Takes out the line of the connection, if it has one.
+pub(crate) fn remove_line(lines: &mut Lines, connection: u64)
+    ensures { (n : ℕ) → line_of lines.new.items n
+        ≡ (if connection == n then None else line_of lines.old.items n) }
+{
+    if let Some(place) = place_of(lines, connection) {
+        lines[place] = None;
+    }
+}
+
+// Puts a line in which nothing waits at that number, which is at most one more than there are places.
+pub(crate) fn add_line(lines: &mut Lines, alloc: Global, connection: u64) -> Result<(), AllocError>
+    requires from { 0 < connection }
+    requires next { connection < length lines.old.items + 2 }
+    ensures { OnOk result ((n : ℕ) → line_of lines.new.items n
+        ≡ (if connection == n then Some empty_line else line_of lines.old.items n)) }
+{
+    let line = Some(Line::new(alloc));
+    match place_of(lines, connection) {
+        Some(place) => lines[place] = line,
+        None => lines.push(line)?,
+    }
+    Ok(())
+}
+
+// The oldest text that waits for the connection.
+pub(crate) fn next_of(lines: &mut Lines, connection: u64) -> Option<String>
+    ensures first { option_map string_bytes result ≡ first_of (line_of lines.old.items connection) }
+    ensures rest { (n : ℕ) → line_of lines.new.items n
+        ≡ (if connection == n then without_first (line_of lines.old.items n) else line_of lines.old.items n) }
+{
+    let place = place_of(lines, connection)?;
+    match &mut lines[place] {
+        Some(line) => line.next(),
+        None => None,
+    }
+}
+
+// Puts the text of a message behind what waits for its connection.
+fn put_one(lines: &mut Lines, alloc: Global, bounds: Bounds, one: &Sent) -> Result<(), AllocError>
+    ensures { OnOk result ((n : ℕ) → line_of lines.new.items n
+        ≡ with_texts bounds (texts_to n (one.now ∷ [])) (line_of lines.old.items n)) }
+{
+    let Some(place) = place_of(lines, one.to) else {
+        return Ok(());
+    };
+    match &mut lines[place] {
+        Some(line) => line.put(alloc, bounds, &one.message),
+        None => Ok(()),
+    }
+}
+
+// Puts the text of each message behind what waits for its connection, in order.
+pub(crate) fn put_all(
+    lines: &mut Lines,
+    alloc: Global,
+    bounds: Bounds,
+    sent: &[Sent],
+) -> Result<(), AllocError>
+    ensures { OnOk result ((n : ℕ) → line_of lines.new.items n
+        ≡ with_texts bounds (texts_to n sent.now) (line_of lines.old.items n)) }
+{
+    for one in sent {
+        put_one(lines, alloc, bounds, one)?;
+    }
+    Ok(())
+}
