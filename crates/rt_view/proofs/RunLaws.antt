@@ -1,13 +1,11 @@
 -- Runs of a view turn no view into the one that is shown.
-use Rattle.std.proofs.Common.{◌≡◌, ℕ, suc, ◌+◌, ◌%◌, ◌^◌, List, [], ◌∷◌, ◌++◌, length, refl, sym, ap, subst, ◌∙◌, arith, append-nil, Option, Some, None}
+use Rattle.std.proofs.Common.{◌≡◌, ℕ, suc, ◌+◌, ◌%◌, ◌^◌, List, [], ◌∷◌, length, refl, ap, ◌∙◌, arith, Some, None}
 use Rattle.std.proofs.Math.Nat.{mod-add-mod}
-use Rattle.rt_tree.specs.PathTree.{Key, PathTree}
-use Rattle.rt_query.specs.Queries.{Query}
 use Rattle.rt_query.specs.Select.{select}
 use Rattle.rt_query.specs.laws.Select.{select-distinct}
 use Rattle.rt_view.specs.Changes.{changes, Turns}
 use Rattle.rt_view.specs.Views.{View, first_view, shown_of, told}
-use Rattle.rt_view.specs.laws.Runs.{Call, Renew, Touch, after, after_all, told_all, told_by, ReplayGivesShown, RunTurns, TurnsCountCalls, TouchReadsNamed}
+use Rattle.rt_view.specs.laws.Runs.{Call, Renew, Touch, after, after_all, told_all, ReplayGivesShown, RunTurns, TurnsCountCalls, TouchReadsNamed}
 use Rattle.rt_view.proofs.TurnLaws.{turns, turns_not, turns-append}
 
 -- a call turns what was shown before into what is shown after

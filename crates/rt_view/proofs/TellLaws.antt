@@ -1,7 +1,6 @@
 -- What is told of the noted children is what is told of all.
 use Rattle.std.specs.Prelude.{T}
 use Rattle.std.proofs.Common.{◌≡◌, ℕ, ◌+◌, ◌<◌, length, take, get_or, Bool, true, false, cond, not, ◌&&◌, ◌||◌, List, [], ◌∷◌, ◌++◌, map, refl, sym, ap, subst, ◌∙◌, append_assoc, append-nil, Option, Some, None, is_some}
-use Rattle.std.specs.declared.cmp.Ordering.{Ordering}
 use Rattle.std.specs.declared.cmp.Ordering.TheVariants.{Less, Equal, Greater}
 use Rattle.std.specs.Ordering.{is_eq, is_le, is_lt}
 use Rattle.std.specs.Cmp.{tied_itself}
@@ -23,7 +22,7 @@ use Rattle.rt_view.specs.declared.change.Change.{Change}
 use Rattle.rt_view.specs.declared.change.Change.TheVariants.{Removed}
 use Rattle.rt_view.specs.declared.kind.Kind.{Kind}
 use Rattle.rt_view.specs.declared.kind.Kind.TheVariants as kind
-use Rattle.rt_view.specs.Changes.{placed, removals, placed_changes, is_moved}
+use Rattle.rt_view.specs.Changes.{placed, removals, placed_changes}
 use Rattle.rt_view.specs.inside.Given.{change_of, is_given}
 use Rattle.rt_view.specs.inside.Windows.{Entries, value_at, before, last_key}
 use Rattle.rt_view.specs.inside.Kept.{is_noted, Notes, NotesAll, noted_in, gone_at, gone_from, removed_of, given_in, rows_in_tree}

@@ -4,7 +4,6 @@ use Rattle.std.proofs.Common.{◌≡◌, Bool, true, false, cond, not, ◌&&◌,
 use Rattle.std.specs.Ordering.{is_eq, eq_by_cmp}
 use Rattle.std.specs.Option.{option_map_or}
 use Rattle.std.specs.Cmp.{tied_itself, Equal-is}
-use Rattle.std.specs.List.{list_any}
 use Rattle.std.proofs.lemmas.List.Folds.{list_any-append}
 use Rattle.std.specs.FinMap as map_of
 use Rattle.std.specs.FinMap.Entries.{find, is_sorted}
@@ -21,7 +20,7 @@ use Rattle.rt_query.specs.Queries.{Query}
 use Rattle.rt_query.specs.Select.{limited}
 use Rattle.rt_view.specs.declared.window.Window.{Window}
 use Rattle.rt_view.specs.inside.Windows.{Entries, IsWindow, joined, value_at, without}
-use Rattle.rt_view.specs.inside.Kept.{IsWindowOf, in_order, put_in, brought_in, taken_out, is_noted, noted_too}
+use Rattle.rt_view.specs.inside.Kept.{IsWindowOf, in_order, put_in, brought_in, taken_out, is_noted}
 use Rattle.rt_view.proofs.Listed.{IsListed, same_listed, passing, at_entry, find-value_at, apart_keys, listed-filter, value_at-filter, listed-puts, value_at-puts_all, listed-in_order, value_at-in_order, listed-shown}
 use Rattle.rt_view.specs.inside.Telling.{left_by, takes_place}
 use Rattle.rt_view.proofs.WindowLaws.{parts_rise, puts-without}

@@ -1,11 +1,11 @@
 -- What is shown, as a tree and as rows.
-use Rattle.std.specs.Prelude.{T, if◌then◌else◌, ◌==◌}
+use Rattle.std.specs.Prelude.{◌==◌}
 use Rattle.std.proofs.Common.{◌≡◌, Bool, true, false, cond, not, ◌&&◌, ◌||◌, length, List, [], ◌∷◌, ◌++◌, map, refl, sym, ap, subst, ◌∙◌, arith, eqb-true, append-nil, Option, Some, None, is_some}
 use Rattle.std.specs.Option.{option_eq, unwrap_or}
 use Rattle.std.specs.Cmp.Lexicographic.{pointwise}
 use Rattle.rt_tree.specs.Leaf.{LeafValue}
-use Rattle.rt_tree.specs.PathTree.{Key, PathTree, path_eq-same, leaf_of, leaf_at, leaf_at-sub, leaf_at-null, leaf_at-of_leaf, leaf_at-object-root, leaf_alone, leaf_of_root, null, null_of_no_leaf, is_null, is_null-null, non_null, child, child_of, object, of_leaf, put, leaf_at-put, key_eq, key_eq-is}
-use Rattle.rt_tree.specs.Children.{children_of, child_of-children_of, is_object}
+use Rattle.rt_tree.specs.PathTree.{Key, PathTree, path_eq-same, leaf_of, leaf_at-of_leaf, leaf_at-object-root, leaf_of_root, null, is_null, is_null-null, non_null, child_of, object, put, leaf_at-put, key_eq, key_eq-is}
+use Rattle.rt_tree.specs.Children.{children_of, child_of-children_of}
 use Rattle.rt_tree.specs.TreeEq.{leaf_eq}
 use Rattle.rt_order.specs.declared.index.Index.{Index}
 use Rattle.rt_query.specs.declared.row.Row.{Row}
@@ -24,13 +24,13 @@ use Rattle.rt_view.specs.declared.change.Change.TheVariants.{Value}
 use Rattle.rt_view.specs.declared.window.Window.{Window}
 use Rattle.rt_view.specs.Changes.{row_changes, changes, replay, by_keys}
 use Rattle.rt_view.specs.inside.Windows.{Entries, value_at}
-use Rattle.rt_view.specs.inside.Kept.{IsWindowOf, Notes, own_tree, SetsChild, SetsNoted, is_noted, in_order, leaf_in, rows_in_tree, shown_by}
+use Rattle.rt_view.specs.inside.Kept.{IsWindowOf, Notes, own_tree, SetsChild, SetsNoted, is_noted, leaf_in, rows_in_tree, shown_by}
 use Rattle.rt_view.proofs.ReplayLaws.{row_at-by_keys, replay-row_changes}
 use Rattle.rt_view.proofs.TurnLaws.{row_changes-same}
 use Rattle.rt_view.proofs.Listed.{IsListed, same_listed, listed-children, value_at-children, listed-in_order, listed-shown}
 use Rattle.rt_view.proofs.WindowLaws.{parts_rise}
 use Rattle.rt_view.proofs.TellLaws.{note_other, note_own}
-use Rattle.rt_view.proofs.TouchLaws.{child_of-put, is_noted-push}
+use Rattle.rt_view.proofs.TouchLaws.{child_of-put}
 
 -- what a window shows is listed
 pub listed-window : (q : Query) (t : PathTree) (w : Window) → IsWindowOf q t w → IsListed q.index w.shown.entries

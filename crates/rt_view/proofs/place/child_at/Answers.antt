@@ -1,5 +1,5 @@
-use Rattle.std.proofs.Common.{◌≡◌, Some, ap, sym, ◌∙◌, rules}
-use Rattle.rt_tree.specs.PathTree.{PathTree, child_of}
+use Rattle.std.proofs.Common.{◌≡◌, Some, rules}
+use Rattle.rt_tree.specs.PathTree.{child_of}
 use Rattle.rt_tree.specs.Children.{children_of}
 use Rattle.rt_view.proofs.TouchLaws.{child_fits}
 use Rattle.rt_view.proofs.place.child_at.Goals as goal

@@ -1,4 +1,4 @@
-use Rattle.std.proofs.Common.{◌≤◌, arith, ap, sym, subst}
+use Rattle.std.proofs.Common.{◌≤◌, arith, sym, subst}
 use Rattle.rt_tree.specs.PathTree.{levels, levels-null}
 use Rattle.rt_view.proofs.place.drop_child.Goals as goal
 

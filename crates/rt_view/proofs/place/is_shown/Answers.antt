@@ -1,4 +1,4 @@
-use Rattle.std.proofs.Common.{◌≡◌, Bool, cond, is_some, Option, Some, None, ap, sym, ◌∙◌, rules}
+use Rattle.std.proofs.Common.{◌≡◌, cond, is_some, Some, None, ap, ◌∙◌, rules}
 use Rattle.std.specs.Option.{option_copied}
 use Rattle.std.specs.FinMap.Entries.{find}
 use Rattle.rt_order.specs.Cuts.{has}

@@ -3,7 +3,7 @@ use Rattle.std.proofs.lemmas.List.{map-append}
 use Rattle.rt_tree.specs.PathTree.{Key, PathTree}
 use Rattle.rt_query.specs.Queries.{Query}
 use Rattle.rt_view.specs.inside.Windows.{Entries, IsWindow, joined}
-use Rattle.rt_view.specs.inside.Kept.{placed, put_in}
+use Rattle.rt_view.specs.inside.Kept.{placed}
 use Rattle.rt_view.proofs.ViewLaws.{placed-last}
 use Rattle.rt_view.proofs.place.place_all.Goals as goal
 

@@ -1,5 +1,4 @@
-use Rattle.std.proofs.Common.{◌≡◌, [], List, ap, sym, subst, ◌∙◌, rules}
-use Rattle.rt_tree.specs.PathTree.{Key, PathTree}
+use Rattle.std.proofs.Common.{◌≡◌, [], ap, sym, subst, ◌∙◌, rules}
 use Rattle.rt_tree.specs.Children.{children_of}
 use Rattle.rt_view.specs.inside.Windows.{IsWindow}
 use Rattle.rt_view.specs.inside.Kept.{placed, in_order}

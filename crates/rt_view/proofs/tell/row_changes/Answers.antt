@@ -1,10 +1,9 @@
-use Rattle.std.proofs.Common.{◌≡◌, ◌++◌, List, map, ap, ◌∙◌}
+use Rattle.std.proofs.Common.{◌≡◌, ◌++◌, map, ◌∙◌}
 use Rattle.rt_query.specs.Select.{row_of}
-use Rattle.rt_view.specs.declared.change.Change.{Change}
-use Rattle.rt_view.specs.declared.change.Change.TheVariants.{Added, Moved, Changed}
+use Rattle.rt_view.specs.declared.change.Change.TheVariants.{Added, Moved}
 use Rattle.rt_view.specs.declared.kind.Kind.{Kind}
 use Rattle.rt_view.specs.declared.kind.Kind.TheVariants as kind
-use Rattle.rt_view.specs.Changes.{removals, placed_changes, is_added, is_moved, is_changed}
+use Rattle.rt_view.specs.Changes.{removals, placed_changes, is_added, is_moved}
 use Rattle.rt_view.specs.inside.Given.{change_of, is_given}
 use Rattle.rt_view.specs.inside.Kept.{noted_in, removed_of, rows_in_tree}
 use Rattle.rt_view.specs.inside.Telling.{given_of, keys_in}

@@ -1,4 +1,4 @@
-use Rattle.std.proofs.Common.{◌≡◌, ◌∷◌, [], ◌++◌, take, sym, subst, refl}
+use Rattle.std.proofs.Common.{◌∷◌, [], ◌++◌, take, sym, subst, refl}
 use Rattle.rt_tree.specs.Children.{children_of}
 use Rattle.rt_view.specs.inside.Kept.{SetsNoted}
 use Rattle.rt_view.proofs.TellLaws.{next_taken}

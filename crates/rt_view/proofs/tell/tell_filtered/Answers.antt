@@ -1,7 +1,6 @@
 use Rattle.std.specs.Prelude.{◌==◌}
-use Rattle.std.proofs.Common.{◌≡◌, ◌++◌, ◌∷◌, [], None, length, refl, ap, sym, ◌∙◌, rules}
+use Rattle.std.proofs.Common.{◌≡◌, ◌++◌, ◌∷◌, [], length, refl, sym, ◌∙◌, rules}
 use Rattle.rt_view.specs.declared.change.Change.TheVariants.{Value}
-use Rattle.rt_view.specs.inside.Kept.{leaf_in}
 use Rattle.rt_view.proofs.TellLaws.{was_in-shown}
 use Rattle.rt_view.proofs.TreeLaws.{filtered_same, filtered_leaf, set_all, told_same, told_other, tree_of_children, tree_same}
 use Rattle.rt_view.proofs.tell.tell_filtered.Goals as goal

@@ -1,4 +1,4 @@
-use Rattle.std.proofs.Common.{◌≡◌, ◌++◌, ◌∷◌, [], ap, sym, ◌∙◌}
+use Rattle.std.proofs.Common.{◌++◌, ◌∷◌, [], sym, ◌∙◌}
 use Rattle.std.specs.Option.{option_copied}
 use Rattle.rt_query.specs.laws.Select.{select-whole}
 use Rattle.rt_view.specs.declared.change.Change.TheVariants.{Value}

@@ -1,8 +1,7 @@
 use Rattle.std.proofs.Common.{◌≡◌, ◌+◌, [], ◌∷◌, ◌++◌, List, take, ap, sym, subst, ◌∙◌}
-use Rattle.std.specs.List.{All}
 use Rattle.std.proofs.lemmas.List.{take_all}
 use Rattle.std.proofs.lemmas.List.Elements.{All-get_or}
-use Rattle.rt_tree.specs.PathTree.{Key, PathTree, child_of}
+use Rattle.rt_tree.specs.PathTree.{Key, child_of}
 use Rattle.rt_tree.specs.Children.{children_of}
 use Rattle.rt_view.specs.declared.told.Was.{Was}
 use Rattle.rt_view.specs.inside.Windows.{value_at}

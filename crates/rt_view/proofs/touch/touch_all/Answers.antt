@@ -1,4 +1,4 @@
-use Rattle.std.proofs.Common.{◌≡◌, ◌++◌, [], drop, map, append-nil, ap, sym, ◌∙◌}
+use Rattle.std.proofs.Common.{◌++◌, map, append-nil, ap, sym, ◌∙◌}
 use Rattle.std.proofs.lemmas.List.{drop_all}
 use Rattle.rt_view.proofs.touch.touch_all.Goals as goal
 

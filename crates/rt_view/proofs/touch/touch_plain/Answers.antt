@@ -5,7 +5,7 @@ use Rattle.rt_tree.specs.PathTree.{PathTree, leaf_of}
 use Rattle.rt_query.specs.Select.{select}
 use Rattle.rt_view.specs.Changes.{changes}
 use Rattle.rt_view.specs.inside.Windows.{Entries, value_at}
-use Rattle.rt_view.specs.inside.Kept.{NotesAll, is_noted, rows_in_tree, shown_by}
+use Rattle.rt_view.specs.inside.Kept.{NotesAll, is_noted}
 use Rattle.rt_view.proofs.TellLaws.{was_in-shown}
 use Rattle.rt_view.proofs.TreeLaws.{plain_limit, plain_rows, plain_shown}
 use Rattle.rt_view.proofs.touch.touch_plain.Goals as goal

@@ -1,8 +1,7 @@
-use Rattle.std.proofs.Common.{◌≡◌, ap, sym, ◌∙◌, rules}
+use Rattle.std.proofs.Common.{◌≡◌, sym, ◌∙◌, rules}
 use Rattle.std.specs.Ordering.{is_le}
 use Rattle.rt_order.specs.Entries.{Entry, entry_cmp}
 use Rattle.rt_tree.specs.PathTree.{PathTree}
-use Rattle.rt_view.specs.inside.Windows.{is_to_last}
 use Rattle.rt_view.proofs.WindowLaws.{is_to_last-at}
 use Rattle.rt_view.proofs.window.is_to_last.Goals as goal
 

@@ -1,7 +1,5 @@
 use Rattle.std.proofs.Common.{◌≡◌, ap, subst, ◌∙◌, rules}
 use Rattle.std.specs.Option.{option_copied, unwrap_or}
-use Rattle.rt_tree.specs.PathTree.{PathTree}
-use Rattle.rt_query.specs.Select.{select, tree_of}
 use Rattle.rt_view.specs.Views.{View, shown_of}
 use Rattle.rt_view.proofs.TreeLaws.{kept_shown, kept_tree}
 use Rattle.rt_view.proofs.view.View.shown.Goals as goal

@@ -4,7 +4,7 @@ use Rattle.rt_tree.specs.PathTree.{PathTree, Key, key_eq}
 use Rattle.rt_order.specs.Entries.{Entry, entry_cmp}
 use Rattle.rt_query.specs.declared.limit.Limit.{Limit}
 use Rattle.rt_query.specs.declared.limit.Limit.TheVariants.{First, Last}
-use Rattle.rt_view.specs.inside.Windows.{Entries, IsWindow, joined, Crosses, is_from_first, is_to_last, value_at}
+use Rattle.rt_view.specs.inside.Windows.{Entries, IsWindow, joined, is_from_first, is_to_last, value_at}
 use Rattle.rt_view.proofs.WindowLaws.{put_rest_first, put_shown_first, spill_first, put_rest_last, put_shown_last, spill_last, put_unlimited, crosses_put, crosses_spill_first, crosses_spill_last}
 use Rattle.rt_view.proofs.window.Window.put.Goals as goal
 

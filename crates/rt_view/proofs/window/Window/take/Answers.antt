@@ -1,11 +1,9 @@
-use Rattle.std.proofs.Common.{◌≡◌, ◌++◌, [], sym, ap, subst, ◌∙◌, rules, Some, None, true, false, is_some}
-use Rattle.std.specs.Map.{lookup}
-use Rattle.std.specs.BTreeMap.{is_at}
+use Rattle.std.proofs.Common.{◌≡◌, ◌++◌, [], sym, ap, subst, ◌∙◌, rules, Some, None}
 use Rattle.std.specs.FinMap as map_of
 use Rattle.rt_tree.specs.PathTree.{PathTree, Key, key_eq}
 use Rattle.rt_order.specs.Entries.{Entry, entry_cmp}
 use Rattle.rt_query.specs.declared.limit.Limit.TheVariants.{First, Last}
-use Rattle.rt_view.specs.inside.Windows.{Entries, IsWindow, joined, without, Crosses, value_at}
+use Rattle.rt_view.specs.inside.Windows.{Entries, IsWindow, joined, without, value_at}
 use Rattle.rt_view.proofs.WindowLaws.{parts_rise, take_rest, take_unlimited, take_all_first, take_all_last, refill_first, refill_last, taken_at, empty_of, crosses_refill, value_at-without}
 use Rattle.rt_view.proofs.window.Window.take.Goals as goal
 
