@@ -50,6 +50,14 @@ fn update(entries: Entries) -> Step {
     Step::Write { seat: 1, action }
 }
 
+// How many entries an action has, if a core may be asked for it.
+fn count_due(alloc: Global, action: &Action) -> Result<usize> {
+    if action.has_overlap() || action.is_empty() || action.is_too_deep() {
+        return Ok(0);
+    }
+    Ok(action.entries(alloc)?.as_slice().len())
+}
+
 // A seat asks for what the server is to do when the connection ends.
 fn remove_at_end(path: Path) -> Step {
     let tree = Tree::null();
@@ -148,7 +156,15 @@ fn show_listens(rt: &impl Print, alloc: Global, core: &mut Core) -> Result<()> {
     show_core(rt, core)
 }
 
+fn show_action(rt: &impl Print, alloc: Global) -> Result<()> {
+    let (path, tree) = (at(alloc, "/chat")?, Tree::null());
+    let count = count_due(alloc, &Action::Put { path, tree })?;
+    println!(rt; "to be set: {count}")?;
+    Ok(())
+}
+
 fn show_writes(rt: &impl Print, alloc: Global, core: &mut Core) -> Result<()> {
+    show_action(rt, alloc)?;
     show_step(rt, core, set(at(alloc, "/chat/m1")?, Tree::null()))?;
     show_step(
         rt,

@@ -66,6 +66,13 @@ pub use rt_world::Step;
 ///     let action = Action::Merge { entries };
 ///     Step::Write { seat: 1, action }
 /// }
+///
+/// fn count_due(alloc: Global, action: &Action) -> Result<usize> {
+///     if action.has_overlap() || action.is_empty() || action.is_too_deep() {
+///         return Ok(0);
+///     }
+///     Ok(action.entries(alloc)?.as_slice().len())
+/// }
 /// ```
 pub use rt_world::Action;
 

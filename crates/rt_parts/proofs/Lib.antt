@@ -2,7 +2,6 @@ pub mod HeldLaws
 pub mod KnownLaws
 pub mod Loops
 pub mod Pendings
-pub mod Places
 pub mod Rises
 pub mod SeenLaws
 pub mod ViewLaws

@@ -1,11 +1,11 @@
 -- One child that a query sees.
-use Rattle.std.proofs.Common.{◌≡◌, Bool, true, false, cond, not, ◌&&◌, ◌||◌, [], ◌∷◌, ◌++◌, List, refl, sym, ap, ◌∙◌, Option, Some, None}
+use Rattle.std.proofs.Common.{◌≡◌, Bool, true, false, cond, not, ◌&&◌, [], ◌∷◌, ◌++◌, List, refl, sym, ap, ◌∙◌, Option, Some, None}
 use mathlib.Core.Bool.{true≢false}
 use Rattle.std.specs.Option.{option_map}
-use Rattle.rt_tree.specs.PathTree.{Key, PathTree, child, is_null, leaf_at-null, leaf_at-sub, null, same_tree, with_children}
+use Rattle.rt_tree.specs.PathTree.{Key, PathTree, child, leaf_at-null, leaf_at-sub, null, same_tree, with_children}
 use Rattle.rt_tree.specs.Parts.{child-with_children}
 use Rattle.rt_query.specs.Queries.{Query, is_filtered}
-use Rattle.rt_writes.specs.Writes.{Write, overlay, sets_child_whole}
+use Rattle.rt_writes.specs.Writes.{Write, overlay}
 use Rattle.rt_writes.specs.laws.Overlay.{OverlayOfChild}
 use Rattle.rt_cache.specs.Brought.{child_base}
 use Rattle.rt_cache.specs.declared.base.Base.{Base}

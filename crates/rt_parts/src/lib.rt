@@ -28,7 +28,6 @@ mod requests;
 mod seeing;
 mod settled;
 mod views;
-mod writes;
 
 pub use error::ShownError;
 pub use listeners::Listeners;

@@ -1,6 +1,6 @@
 // The unsettled requests.
 ghost use Rattle.std.specs.Prelude.{◌≡◌, ◌==◌, ◌<◌, ◌++◌, ◌∷◌, [], false, not, length, map};
-ghost use Rattle.std.specs.Prelude.{IfOk, OnOk, OnErr, IsOk, Some, None, option_map};
+ghost use Rattle.std.specs.Prelude.{IfOk, OnOk, OnErr, IsOk, Some, None};
 ghost use Rattle.std.specs.List.{All, filter, find, list_any};
 ghost use Rattle.std.specs.Option.{option_map_or};
 ghost use Rattle.rt_tree.specs.Assignments.{have_overlap};
@@ -9,10 +9,10 @@ ghost use Rattle.rt_world.specs.steps.Asking.{action_in, is_empty_action};
 ghost use Rattle.rt_world.specs.steps.Kind.{stands_too_deep};
 ghost use Rattle.rt_world.specs.steps.Closing.{unseated};
 ghost use Rattle.rt_parts.specs.Settling.{settled};
+ghost use Rattle.rt_parts.specs.inside.Writes.{entries_asked};
 
 use crate::numbers::{place_of, take};
 use crate::settled::Settled;
-use crate::writes::{add, entries_asked};
 use rt_wire::Asked;
 use rt_world::{Request, pending_law};
 use rt_writes::{Entries, Pending};
@@ -45,6 +45,17 @@ impl Model for Requests {
     ghost view = { λ a. a.items.items };
 
     ghost invariant = { λ a. IsTied a.items.items a.pending };
+}
+
+// The paths and trees that the request's write sets, shared with it; none of what is asked for the end
+// of the connection.
+fn entries_asked(alloc: Global, asked: &Asked) -> Result<Option<Entries>, AllocError>
+    ensures { IfOk result (λ entries. entries ≡ entries_asked asked.now) }
+{
+    match asked {
+        Asked::Now(action) => Ok(Some(action.entries(alloc)?)),
+        Asked::AtDisconnect(_) => Ok(None),
+    }
 }
 
 // A request of a closed seat stays without a seat.
@@ -140,7 +151,7 @@ impl Requests {
         let Some(entries) = entries else {
             return Ok(());
         };
-        match add(&mut self.pending, id, entries) {
+        match self.pending.add_apart(id, entries) {
             Ok(()) => Ok(()),
             Err(error) => {
                 drop(self.items.pop_back());

@@ -104,7 +104,8 @@ pub(crate) fn renew(
     tell(notes, listener, changes)
 }
 
-// Whether the listener's view stays an object once these children are put into it; without a view it does not.
+// Whether the listener's view stays an object once these children are put into it; without a view it
+// does not.
 fn stays_object(listener: &Held, named: &[(Key, Tree)]) -> bool
     ensures { result ≡ option_map_or (λ v. stays_object v.tree named.now) listener.now.view false }
 {

@@ -5,8 +5,6 @@ use Rattle.std.specs.List.{filter, list_any}
 use Rattle.rt_tree.specs.PathTree.{Path}
 use Rattle.rt_tree.specs.Assignments.{Assignment, have_overlap, is_at_or_above}
 use Rattle.rt_query.specs.Queries.{Query}
-use Rattle.rt_wire.specs.declared.request.Action.{Action}
-use Rattle.rt_wire.specs.declared.request.Action.TheVariants.{Put, Merge}
 use Rattle.rt_wire.specs.declared.request.Ending.TheVariants.{Run, Cancel}
 use Rattle.rt_wire.specs.declared.request.Asked.{Asked}
 use Rattle.rt_wire.specs.declared.request.Asked.TheVariants.{Now, AtDisconnect}
@@ -20,6 +18,7 @@ use Rattle.rt_peer.specs.declared.sent.Sent.{Sent}
 use Rattle.rt_peer.specs.Peers.{Deferred, Peer, in_place, is_known, least_free, is_denied}
 use Rattle.rt_peer.specs.Peers.{stands_too_deep, is_before, runs_before, is_at}
 use Rattle.rt_peer.specs.Pushes.{written, seen, pushes, tree_after, pushes_after}
+pub use Rattle.rt_wire.specs.Actions.{entries_of}
 
 abbrev pub is_empty : List Assignment → Bool
 is_empty [] = true
@@ -60,11 +59,6 @@ abbrev pub unlistened : Peer → ℕ → ℕ → Outcome
 unlistened p n tag = (record p { listens = filter (λ l. not (is_at n tag l)) p.listens }, [])
 
 -- ---- requests
-
--- the entries of an action
-abbrev pub entries_of : Action → List Assignment
-entries_of (Put path tree) = (path, tree) ∷ []
-entries_of (Merge entries) = entries
 
 -- whether the entries overlap or stand too deep
 abbrev pub is_bad : List Assignment → Bool

@@ -1,12 +1,12 @@
 -- What a peer holds: its tree, the denied paths, the known connections, their listens, and what is to
 -- be done when they end.
 use Rattle.std.specs.Prelude.{ℕ, ◌+◌, Bool, not, ◌==◌, ◌&&◌, ◌||◌, nat_lt, if◌then◌else◌, List, []}
-use Rattle.std.specs.Prelude.{◌∷◌, ◌++◌, length}
+use Rattle.std.specs.Prelude.{◌∷◌, ◌++◌}
 use Rattle.std.specs.List.{filter, fold, list_any}
-use Rattle.rt_tree.specs.PathTree.{Path, PathTree, levels}
+use Rattle.rt_tree.specs.PathTree.{Path, PathTree}
 use Rattle.rt_tree.specs.Assignments.{Assignment, do_overlap}
-use Rattle.rt_tree.specs.declared.limits.TheConstants.{MAX_LEVELS}
 use Rattle.rt_query.specs.Queries.{Query}
+pub use Rattle.rt_wire.specs.Actions.{stands_too_deep}
 
 -- a listen: whose it is, its tag, and the query
 pub record Listen : Type 0 where
@@ -52,10 +52,6 @@ least_free numbers = fold (λ n m. if m == n then n + 1 else n) 1 numbers
 -- a path is denied where a denied path is a prefix of it, or it is a prefix of a denied path
 abbrev pub is_denied : List Path → Path → Bool
 is_denied denied p = list_any (λ d. do_overlap d p) denied
-
--- whether a leaf of the entry would stand under more than 32 keys
-abbrev pub stands_too_deep : Assignment → Bool
-stands_too_deep a = nat_lt MAX_LEVELS (length a.0 + levels a.1)
 
 -- ---- orders and marks
 

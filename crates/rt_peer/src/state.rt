@@ -5,10 +5,9 @@ ghost use Rattle.std.specs.Option.{option_copied};
 ghost use Rattle.rt_writes.specs.Writes.{IsShallow};
 ghost use Rattle.rt_wire.specs.declared.server.ServerMessage.TheVariants as ServerMessage;
 ghost use Rattle.rt_peer.specs.Peers.{is_denied, is_known, least_free, new_peer};
-ghost use Rattle.rt_peer.specs.Peers.{stands_too_deep};
 ghost use Rattle.rt_peer.specs.Pushes.{pushes, pushes_after, tree_after, written};
 ghost use Rattle.rt_peer.specs.Calls.{actions_of, answered, asked as outcome, cancelled, connected};
-ghost use Rattle.rt_peer.specs.Calls.{deferred, disconnected, ended, entries_of, is_bad, kept, listened};
+ghost use Rattle.rt_peer.specs.Calls.{deferred, disconnected, ended, is_bad, kept, listened};
 ghost use Rattle.rt_peer.specs.Calls.{one, refusal, unlistened, wrote};
 ghost use Rattle.rt_wire.specs.declared.request.Asked.TheVariants as Asked;
 ghost use Rattle.rt_wire.specs.declared.request.Ending.TheVariants as Ending;
@@ -20,8 +19,8 @@ use crate::pushes::push_all;
 use crate::sent::Sent;
 use crate::shown::{put_all, seen};
 use rt_query::Query;
-use rt_tree::{MAX_LEVELS, Path, Tree};
-use rt_wire::{Action, Asked, ClientMessage, Ending, Reason, ServerMessage};
+use rt_tree::{Path, Tree};
+use rt_wire::{Action, Asked, ClientMessage, Ending, Reason, ServerMessage, some_stands_too_deep};
 use rt_writes::Entries;
 use std::alloc::{AllocError, Global};
 use std::marker::Model;
@@ -253,7 +252,7 @@ impl State {
             (λ sent. sent.items ≡ (outcome self.old connection id (Asked.Now action.now)).1) }
     {
         let alloc = self.alloc();
-        let entries = entries_of(alloc, action)?;
+        let entries = action.entries(alloc)?;
         match self.refusal(&entries) {
             Some(why) => refuse(alloc, connection, id, why),
             None => self.accept(connection, id, entries.as_slice()),
@@ -273,7 +272,7 @@ impl State {
             ≡ (outcome self.old connection id (Asked.AtDisconnect (Ending.Run action.now))).1) }
     {
         let alloc = self.alloc();
-        let entries = entries_of(alloc, action)?;
+        let entries = action.entries(alloc)?;
         match self.refusal(&entries) {
             Some(why) => refuse(alloc, connection, id, why),
             None => self.defer(connection, id, entries),
@@ -338,32 +337,11 @@ impl State {
     }
 }
 
-// The entries of an action.
-fn entries_of(alloc: Global, action: &Action) -> Result<Entries, AllocError>
-    ensures { IfOk result (λ entries. entries ≡ entries_of action.now) }
-{
-    match action {
-        Action::Put { path, tree } => {
-            let mut items = Vec::new(alloc);
-            items.push((path.copy()?, tree.copy(alloc)?))?;
-            Ok(Entries::of(items))
-        }
-        Action::Merge { entries } => entries.copy(),
-    }
-}
-
-// Whether a leaf of an entry would stand under too many keys.
-fn stand_too_deep(entries: &[(Path, Tree)]) -> bool
-    ensures { result ≡ list_any stands_too_deep entries.now }
-{
-    entries.iter().any(|entry| MAX_LEVELS < entry.0.keys().len() + entry.1.levels())
-}
-
 // Whether the entries overlap or stand too deep.
 fn is_bad(entries: &Entries) -> bool
     ensures { result ≡ is_bad entries.now }
 {
-    entries.have_overlap() || stand_too_deep(entries.as_slice())
+    entries.have_overlap() || some_stands_too_deep(entries)
 }
 
 // A reason of these words.

@@ -1,5 +1,6 @@
 pub mod AppliedAll
 pub mod GoodWorlds
+pub mod LentEntries
 pub mod Listened
 pub mod NextWorlds
 pub mod RefusalLaws

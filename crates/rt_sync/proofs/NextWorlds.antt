@@ -29,11 +29,11 @@ use Rattle.rt_world.specs.Refusals.{is_stale}
 use Rattle.rt_world.specs.Answers.{settled_note, done_report}
 use Rattle.rt_world.specs.Touched.{entries_settled}
 use Rattle.rt_world.specs.Met.{do_meet, renewed_met, all_told}
-use Rattle.rt_world.specs.laws.Made.{IsMade, Leaves, AcceptedIsMade, RefusedIsMade, MergeIsMade, MergeIsStale, WriteIsMade, EndingIsMade, ConnectedIsMade, DisconnectedIsMade, settled_world, settled_told, writes_with}
+use Rattle.rt_world.specs.laws.Made.{asked_sent, IsMade, Leaves, AcceptedIsMade, RefusedIsMade, MergeIsMade, MergeIsStale, WriteIsMade, EndingIsMade, ConnectedIsMade, DisconnectedIsMade, settled_world, settled_told, writes_with}
 use Rattle.rt_world.specs.laws.Steps.{RenewedIsOne, WriteIsPending, SettledIsNotPending}
 use Rattle.rt_sync.specs.declared.told.Told.{Told}
 use Rattle.rt_sync.specs.inside.Due.{IsDue, IsNext, settling}
-use Rattle.rt_sync.specs.inside.Parts.{asking, listens_shown}
+use Rattle.rt_sync.specs.inside.Parts.{listens_shown}
 use Rattle.rt_sync.specs.inside.StateView.{IsTied, world_of}
 
 -- ---- the parts agree
@@ -189,7 +189,7 @@ module _ (limits : Limits) (ls : List Listener) (requests : List Request) (b : B
       → (entries : List Assignment) → entries ≡ entries_of action
       → (requests' : List Request) → requests' ≡ requests ++ record { id = gr + 1; seat = Some seat; asked = Now action } ∷ []
       → (ls' : List Listener) → ls' ≡ map (renewed_met entries b (pending requests')) ls
-      → (out' : List ClientMessage) → out' ≡ out ++ asking c (gr + 1) (Now action)
+      → (out' : List ClientMessage) → out' ≡ out ++ asked_sent c (gr + 1) (Now action)
       → (told : Told) → told.given ≡ Some (gr + 1) → told.notes.items ≡ all_told entries b (pending requests') ls
       → IsNext w (Step.Write seat action) (world_of limits ls' requests' b cover c out' gl (gr + 1), told)
   write_made law more seat action d entries ee requests' re ls' he out' oe told given notes =
@@ -230,7 +230,7 @@ module _ (limits : Limits) (ls : List Listener) (requests : List Request) (b : B
       }
 
   pub ask_made : EndingIsMade → (seat : ℕ) (ending : Ending) → IsDue w (Step.OnDisconnect seat ending)
-      → (out' : List ClientMessage) → out' ≡ out ++ asking c (gr + 1) (AtDisconnect ending)
+      → (out' : List ClientMessage) → out' ≡ out ++ asked_sent c (gr + 1) (AtDisconnect ending)
       → (requests' : List Request) → requests' ≡ requests ++ record { id = gr + 1; seat = Some seat; asked = AtDisconnect ending } ∷ []
       → (told : Told) → told.given ≡ Some (gr + 1) → told.notes.items ≡ []
       → IsNext w (Step.OnDisconnect seat ending) (world_of limits ls requests' b cover c out' gl (gr + 1), told)

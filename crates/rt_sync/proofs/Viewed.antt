@@ -2,7 +2,7 @@
 use Rattle.std.proofs.Common.{◌≡◌, ℕ, ◌+◌, ◌<◌, ◌≤◌, suc, Bool, true, false, cond, not, ◌&&◌, ◌||◌, inl, inr, ◌⊎◌, List, [], ◌∷◌, ◌++◌, length, map, refl, sym, ap, subst, ◌∙◌, arith, Option, Some, None}
 use mathlib.Core.Bool.{true≢false}
 use lib.Dec.{T, eqb_refl}
-use Rattle.std.specs.Prelude.{◌==◌}
+use Rattle.std.specs.Prelude.{◌==◌, is_some}
 use Rattle.std.specs.List.{All, Contains, cons_option, filter, find, zip}
 use Rattle.std.specs.Option.{option_and_then, option_map}
 use Rattle.std.proofs.lemmas.List.Elements.{All-nil, All-cons, All-head, All-tail, All-contains_itself, Contains-append_left}
@@ -13,16 +13,17 @@ use Rattle.rt_query.specs.Queries.{Query}
 use Rattle.rt_query.specs.Select.{Shown, select}
 use Rattle.rt_writes.specs.Writes.{Write}
 use Rattle.rt_cache.specs.Brought.{Brought}
+use Rattle.rt_cover.specs.Runs.{Change, Add, Remove, Revoke}
 use Rattle.rt_view.specs.Views.{View, shown_of, first_view, stays_object, touched, with_named}
 use Rattle.rt_view.specs.Views.{renewed as taken}
 use Rattle.rt_parts.specs.Listeners.{first_view_of, new_listener, views_left, views_where}
 use Rattle.rt_parts.specs.Refreshed.{FollowNamed, is_touched, named_children, view_after, view_met}
 use Rattle.rt_world.specs.declared.step.Step.{Step}
 use Rattle.rt_world.specs.declared.request.Request.{Request}
-use Rattle.rt_world.specs.World.{Reason, World, Listener, entries_of, pending}
+use Rattle.rt_world.specs.World.{World, Listener, pending}
 use Rattle.rt_world.specs.Views.{is_known, view_of}
-use Rattle.rt_world.specs.steps.Revoking.{is_cancelled}
-use Rattle.rt_world.specs.After.{listeners_after, pushed, renewed, requests_after}
+use Rattle.rt_world.specs.After.{kind, listeners_after, pushed, renewed, requests_after}
+use Rattle.rt_world.specs.Covering.{change_by}
 use Rattle.rt_world.specs.Messages.{next}
 use Rattle.rt_world.specs.Met.{do_meet, renewed_met}
 use Rattle.rt_world.specs.Refusals.{refusal}
@@ -30,13 +31,13 @@ use Rattle.rt_world.specs.Headline.{view_by}
 use Rattle.rt_world.specs.Touched.{entries_by, entries_settled, is_covered, is_named, children_named, children_at, seen}
 use Rattle.rt_world.specs.Called.{IsCalled}
 use Rattle.rt_world.specs.Sound.{IsSound, Rises}
-use Rattle.rt_world.specs.laws.Steps.{PushIsBrought, StaysSound}
+use Rattle.rt_world.specs.laws.Steps.{ChangesHaveNoEntries, ListenersStay, PushIsBrought, StaysSound}
 use Rattle.rt_world.specs.laws.World.{changes_listeners}
 use Rattle.rt_world.specs.laws.Touch.{ElseFewAreSeen, SeenAreChildren, Stays, TouchIsEnough, UnmetAreSeen, UnnamedAreSeen}
 use Rattle.rt_sync.specs.Core.{Held, without_first}
 use Rattle.rt_sync.specs.Reads.{IsTurn, TurnsOnce, most_read, view_held}
 use Rattle.rt_sync.specs.inside.Due.{IsDue, settling}
-use Rattle.rt_sync.specs.inside.Viewed.{AreViewed, FollowsStep, HasViews, IsViewed, KeepsViews, Pairs, RefreshesViews, SameViews, ShowsSeen}
+use Rattle.rt_sync.specs.inside.Viewed.{AreViewed, FollowsStep, HasViews, HasViewsBy, IsViewed, LeavesViews, Pairs, RefreshesViews, SameViews, ShowsSeen}
 use Rattle.rt_sync.proofs.TagLaws.{other_number}
 
 -- ---- listeners and views at one place
@@ -87,7 +88,7 @@ in_contains ls vs m n i = at_listener (Contains ls) ls vs m n i (All-contains_it
 abbrev found : ℕ → List Listener → List (Option View) → Option View
 found number ls vs = option_and_then (λ (p : Listener × Option View). p.1) (find (λ (p : Listener × Option View). p.0.number == number) (zip ls vs))
 
-same_number : (n : ℕ) → (n == n) ≡ true
+pub same_number : (n : ℕ) → (n == n) ≡ true
 same_number n = is_true (n == n) (eqb_refl n)
   where
     is_true : (b : Bool) → T b → b ≡ true
@@ -178,14 +179,6 @@ module _ (law : UnnamedAreSeen) (h : Held) (s : Step) (k : Held) (sound : IsSoun
       follows h s k rises (pairs_from (λ l v. Unit {0}) (IsViewed k.world) (k.world).listeners k.views aligned (λ m n i. (stays_so m n (from m n i).1 (from m n i).0).0))
       (λ m n i. (stays_so m n (from m n i).1 (from m n i).0).1)
 
-  -- all of them
-  pub all_viewed : (k.world).listeners ≡ (h.world).listeners → k.views ≡ h.views → listeners_after h.world s ≡ (h.world).listeners → FollowsStep h s k
-  all_viewed ls vs after =
-      left_viewed (subst (λ (p : List Listener × List (Option View)). AreAligned p.0 p.1) (λ i. (sym ls i, sym vs i)) (pairs_from (IsViewed h.world) (λ l v. Unit {0}) (h.world).listeners h.views viewed (λ m n i. tt)))
-      (λ m n i.
-      let there = subst (λ (p : List Listener × List (Option View)). In m n p.0 p.1) (λ j. (ls j, vs j)) i in
-      (there, subst (λ xs. Contains xs m) (sym after) (in_contains (h.world).listeners h.views m n there)))
-
 -- of those that pass
 left_aligned : (test : Listener → Bool) (P : Listener → Option View → Type 0) (ls : List Listener) (vs : List (Option View)) → Pairs P ls vs → AreAligned (filter test ls) (views_left test (record { listeners = ls; views = vs }))
 left_aligned test P [] [] h = tt
@@ -265,7 +258,8 @@ first_turn : (first a b : ℕ) (n : Option View) → IsTurn first a None n → I
 first_turn first a b None t = tt
 first_turn first a b (Some v) t = t
 
-module _ (law : UnnamedAreSeen) (h : Held) (seat : ℕ) (query : Query) (k : Held) (sound : IsSound h.world) (called : IsCalled (h.world).brought) (free : refusal h.world (Step.Listen seat query) ≡ None) (is : k.world ≡ next h.world (Step.Listen seat query)) (rises : Rises (k.world).listeners) (viewed : AreViewed h) where
+module _ (law : UnnamedAreSeen) (h : Held) (s : Step) (seat : ℕ) (query : Query) (k : Held) (sound : IsSound h.world) (called : IsCalled (h.world).brought) (free : refusal h.world s ≡ None) (is : k.world ≡ next h.world s) (rises : Rises (k.world).listeners) (viewed : AreViewed h) (none : entries_by h.world s ≡ [])
+    (more : listeners_after h.world s ≡ (h.world).listeners ++ new_listener (h.world).next_listener seat query ∷ []) where
   abbrev new : Listener
   new = new_listener (h.world).next_listener seat query
 
@@ -276,7 +270,7 @@ module _ (law : UnnamedAreSeen) (h : Held) (seat : ℕ) (query : Query) (k : Hel
   y = first_view_of (k.world).brought (pending (k.world).requests) query
 
   abbrev Both : Listener → Option View → Type 0
-  Both m n = IsViewed k.world m n × Comes h (Step.Listen seat query) k.world m n
+  Both m n = IsViewed k.world m n × Comes h s k.world m n
 
   -- the new one has the new number and the query
   numbered : (b : Bool) → (cond b (with_view k.world new) new).number ≡ (h.world).next_listener
@@ -295,20 +289,22 @@ module _ (law : UnnamedAreSeen) (h : Held) (seat : ℕ) (query : Query) (k : Hel
         (
           None,
           ap (λ j. found j (h.world).listeners h.views) (numbered known) ∙ found_none (h.world).listeners h.views (h.world).next_listener sound.below,
-          subst (λ q. IsTurn (length (children_of (seen k.world q))) (most_read h.world (Step.Listen seat query) k.world q) None y) (asks known)
-              (first_turn (length (children_of (seen k.world query))) 0 (most_read h.world (Step.Listen seat query) k.world query) y one.1),
+          subst (λ q. IsTurn (length (children_of (seen k.world q))) (most_read h.world s k.world q) None y) (asks known)
+              (first_turn (length (children_of (seen k.world query))) 0 (most_read h.world s k.world query) y one.1),
         ),
       )
 
   either : (m : Listener) (n : Option View) → In m n (h.world).listeners h.views ⊎ ((x ≡ m) × (y ≡ n)) → Both m n
-  either m n (inl j) = stays_so law h (Step.Listen seat query) k sound called free is rises viewed refl m n (Contains-append_left (h.world).listeners _ m (in_contains (h.world).listeners h.views m n j)) j
+  either m n (inl j) =
+      stays_so law h s k sound called free is rises viewed none m n
+      (subst (λ xs. Contains xs m) (sym more) (Contains-append_left (h.world).listeners (new ∷ []) m (in_contains (h.world).listeners h.views m n j))) j
   either m n (inr e) = subst (λ (p : Listener × Option View). Both p.0 p.1) (λ j. (e.0 j, e.1 j)) fresh
 
-  pub listened_viewed : (k.world).listeners ≡ (h.world).listeners ++ x ∷ [] → k.views ≡ h.views ++ y ∷ [] → FollowsStep h (Step.Listen seat query) k
+  pub listened_viewed : (k.world).listeners ≡ (h.world).listeners ++ x ∷ [] → k.views ≡ h.views ++ y ∷ [] → FollowsStep h s k
   listened_viewed ls vs =
       let there : (m : Listener) (n : Option View) → In m n (k.world).listeners k.views → Both m n = λ m n i.
       either m n (more_in (IsViewed h.world) (h.world).listeners h.views x y viewed m n (subst (λ (p : List Listener × List (Option View)). In m n p.0 p.1) (λ j. (ls j, vs j)) i)) in
-      follows h (Step.Listen seat query) k rises
+      follows h s k rises
       (pairs_from (λ l v. Unit {0}) (IsViewed k.world) (k.world).listeners k.views
       (subst (λ (p : List Listener × List (Option View)). AreAligned p.0 p.1) (λ i. (sym ls i, sym vs i)) (more_aligned (IsViewed h.world) (h.world).listeners h.views x y viewed))
       (λ m n i. (there m n i).0))
@@ -480,39 +476,54 @@ module _ (laws : TouchLaws) (h : Held) (s : Step) (sound : IsSound h.world) (cal
       (λ m o i. subst (λ x. IsViewed x m o) (sym is) (from m o i).0))
       (λ m o i. subst (λ x. Comes h s x m o) (sym is) (from m o i).1)
 
--- ---- each kind of step
+-- ---- no entry meets any
 
-pub follow_step : TouchLaws → UnnamedAreSeen → StaysSound → (h : Held) (s : Step) (k : Held) → IsDue h.world s → AreViewed h → k.world ≡ next h.world s → HasViews h s k → FollowsStep h s k
-follow_step laws law sounds h s k d viewed is has = at s d is has
+none_renewed : (b : Brought) (ws : List Write) (ls : List Listener) → ls ≡ map (renewed_met [] b ws) ls
+none_renewed b ws [] = refl
+none_renewed b ws (l ∷ ls) = ap (λ xs. l ∷ xs) (none_renewed b ws ls)
+
+none_met : (b : Brought) (ws : List Write) (P : Listener → Option View → Type 0) (ls : List Listener) (vs : List (Option View)) → Pairs P ls vs → vs ≡ map (view_met [] b ws) (zip ls vs)
+none_met b ws P [] [] h = refl
+none_met b ws P [] (v ∷ vs) h = absurd h
+none_met b ws P (l ∷ ls) [] h = absurd h
+none_met b ws P (l ∷ ls) (v ∷ vs) h = ap (λ us. v ∷ us) (none_met b ws P ls vs h.1)
+
+pub same_refreshed : (h k : Held) → AreViewed h → SameViews h k → RefreshesViews h [] k
+same_refreshed h k viewed same =
+    let b : Brought = (k.world).brought in
+    let ws : List Write = pending (k.world).requests in
+    record {
+      listeners = same.listeners ∙ none_renewed b ws (h.world).listeners;
+      views = same.views ∙ none_met b ws (IsViewed h.world) (h.world).listeners h.views viewed;
+    }
+
+-- ---- each step, by its change of listeners
+
+changes_so : (w : World) (o : Option (World → Change)) → is_some o ≡ is_some (option_map (λ (c : World → Change). c w) o)
+changes_so w None = refl
+changes_so w (Some c) = refl
+
+pub follow_step : TouchLaws → UnnamedAreSeen → StaysSound → ListenersStay → ChangesHaveNoEntries → (h : Held) (s : Step) (k : Held) → IsDue h.world s → AreViewed h → k.world ≡ next h.world s → HasViews h s k → FollowsStep h s k
+follow_step laws law sounds stay bare h s k d viewed is has = at (change_by h.world s) refl has
   where
-    rises : (s : Step) → IsDue h.world s → k.world ≡ next h.world s → Rises (k.world).listeners
-    rises s d is = subst (λ (x : World). Rises x.listeners) (sym is) (sounds h.world s d.good.sound).rises
+    rises : Rises (k.world).listeners
+    rises = subst (λ (x : World). Rises x.listeners) (sym is) (sounds h.world s d.good.sound).rises
 
-    same : (s : Step) → IsDue h.world s → k.world ≡ next h.world s → entries_by h.world s ≡ [] → listeners_after h.world s ≡ (h.world).listeners → SameViews h k → FollowsStep h s k
-    same s d is none after has = all_viewed law h s k d.good.sound d.good.called d.not_refused is (rises s d is) viewed none has.listeners has.views after
+    changes : (o : Option Change) → change_by h.world s ≡ o → changes_listeners s ≡ is_some o
+    changes o e = changes_so h.world (kind s).change ∙ ap is_some e
 
-    passed : (s : Step) → IsDue h.world s → k.world ≡ next h.world s → entries_by h.world s ≡ [] → (test : Listener → Bool) → listeners_after h.world s ≡ filter test (h.world).listeners → KeepsViews test h k → FollowsStep h s k
-    passed s d is none test after has = passed_viewed law h s k d.good.sound d.good.called d.not_refused is (rises s d is) viewed none test has.listeners has.views after
+    left : (c : Change) → change_by h.world s ≡ Some c → LeavesViews h s k → FollowsStep h s k
+    left c e has = passed_viewed law h s k d.good.sound d.good.called d.not_refused is rises viewed (bare h.world s (changes (Some c) e)) has.test has.keeps.listeners has.keeps.views has.left
 
-    met : (s : Step) → IsDue h.world s → k.world ≡ next h.world s → listeners_after h.world s ≡ (h.world).listeners → (entries : List Assignment) → entries ≡ entries_by h.world s → RefreshesViews h entries k → FollowsStep h s k
-    met s d is after entries e has =
-        met_viewed laws h s d.good.sound d.good.called d.not_refused after viewed k is (rises s d is)
-        (has.listeners ∙ (λ i. map (renewed_met (e i) (is i).brought (pending (is i).requests)) (h.world).listeners))
-        (has.views ∙ (λ i. map (view_met (e i) (is i).brought (pending (is i).requests)) (zip (h.world).listeners h.views)))
-
-    at : (s : Step) → IsDue h.world s → k.world ≡ next h.world s → HasViews h s k → FollowsStep h s k
-    at (Step.Listen seat query) d is has = listened_viewed law h seat query k d.good.sound d.good.called d.not_refused is (rises (Step.Listen seat query) d is) viewed has.listeners has.views
-    at (Step.Unlisten seat listener) d is has = passed (Step.Unlisten seat listener) d is refl (λ (l : Listener). not (l.number == listener)) refl has
-    at (Step.Write seat action) d is has = met (Step.Write seat action) d is refl (entries_of action) refl has
-    at (Step.OnDisconnect seat ending) d is has = same (Step.OnDisconnect seat ending) d is refl refl has
-    at (Step.Data tag path tree) d is has = met (Step.Data tag path tree) d is refl ((path, tree) ∷ []) refl has
-    at (Step.DataMerge tag entries) d is has = met (Step.DataMerge tag entries) d is refl entries refl has
-    at (Step.Accepted id) d is has = met (Step.Accepted id) d is refl (entries_settled h.world id) refl has
-    at (Step.Refused id why) d is has = met (Step.Refused id why) d is refl (entries_settled h.world id) refl has
-    at (Step.Revoked tag why) d is has = passed (Step.Revoked tag why) d is refl (λ (l : Listener). not (is_cancelled h.world tag l)) refl has
-    at Step.Connected d is has = same Step.Connected d is refl refl has
-    at Step.Disconnected d is has = same Step.Disconnected d is refl refl has
-    at (Step.CloseSeat seat) d is has = passed (Step.CloseSeat seat) d is refl (λ (l : Listener). not (l.seat == seat)) refl has
+    at : (o : Option Change) → change_by h.world s ≡ o → HasViewsBy o h s k → FollowsStep h s k
+    at None e has =
+        let entries : List Assignment = entries_by h.world s in
+        met_viewed laws h s d.good.sound d.good.called d.not_refused (stay h.world s (changes None e)) viewed k is rises
+        (has.listeners ∙ (λ i. map (renewed_met entries (is i).brought (pending (is i).requests)) (h.world).listeners))
+        (has.views ∙ (λ i. map (view_met entries (is i).brought (pending (is i).requests)) (zip (h.world).listeners h.views)))
+    at (Some (Add number query)) e has = listened_viewed law h s has.seat query k d.good.sound d.good.called d.not_refused is rises viewed (bare h.world s (changes (Some (Add number query)) e)) has.more has.adds.listeners has.adds.views
+    at (Some (Remove numbers)) e has = left (Remove numbers) e has
+    at (Some (Revoke tag)) e has = left (Revoke tag) e has
 
 -- ---- before listeners are refreshed
 

@@ -1,6 +1,5 @@
 // Many steps, one after another.
 ghost use Rattle.std.specs.Prelude.{◌≡◌, ◌≤◌, [], length, Some, IfErr, IfOk, IsOk, OnErr};
-ghost use Rattle.std.specs.List.{All};
 ghost use Rattle.std.specs.Option.{IfSome};
 ghost use Rattle.rt_world.specs.World.{World};
 ghost use Rattle.rt_world.specs.Headline.{Headline};

@@ -1,7 +1,8 @@
 // The messages to be sent.
 ghost use Rattle.std.specs.Prelude.{◌≡◌, ◌++◌, map, OnOk};
 ghost use Rattle.rt_world.specs.Messages.{request_message};
-ghost use Rattle.rt_sync.specs.inside.Parts.{asking, changing, listens_shown, unlistens_of};
+ghost use Rattle.rt_world.specs.laws.Made.{asked_sent};
+ghost use Rattle.rt_sync.specs.inside.Parts.{changing, listens_shown, unlistens_of};
 
 use rt_cover::{Delta, Kept};
 use rt_parts::Requests;
@@ -61,7 +62,7 @@ pub(crate) fn send_asked(
     asked: &Asked,
 ) -> Result<(), AllocError>
     ensures { OnOk result
-        (outgoing.new.items ≡ outgoing.old.items ++ asking is_connected id asked.now) }
+        (outgoing.new.items ≡ outgoing.old.items ++ asked_sent is_connected id asked.now) }
 {
     if is_connected {
         let asked = asked.copy(alloc)?;

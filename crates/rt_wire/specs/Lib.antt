@@ -1,6 +1,7 @@
 -- The definitions that public contracts name, in reading order. laws/ has readings and texts that
 -- the prover computes; inside/ what only the code's values need.
 pub mod Errors
+pub mod Actions
 pub mod Fields
 pub mod EntryFields
 pub mod Server

@@ -29,5 +29,5 @@ pub use error::WireError;
 pub use limits::{MAX_NUMBER, MAX_REASON_BYTES};
 pub use query_json::query_text;
 pub use reason::Reason;
-pub use request::{Action, Asked, Ending};
+pub use request::{Action, Asked, Ending, some_stands_too_deep, stands_too_deep};
 pub use server::ServerMessage;

@@ -1,8 +1,11 @@
 // What the client asks the server for.
 ghost use Rattle.std.specs.Prelude.{◌≡◌, IfOk};
+ghost use Rattle.std.specs.List.{list_any};
+ghost use Rattle.rt_tree.specs.Assignments.{have_overlap};
+ghost use Rattle.rt_wire.specs.Actions.{entries_of, is_empty_action, stands_too_deep};
 
 use rt_tree::{Path, Tree};
-use rt_writes::Entries;
+use rt_writes::{Entries, is_shallow};
 use std::alloc::{AllocError, Global};
 
 /// What a write sets.
@@ -53,6 +56,74 @@ impl Action {
             }
         }
     }
+
+    /// The paths and trees that the action sets, shared with it.
+    ///
+    /// # Errors
+    ///
+    /// Want of memory.
+    pub fn entries(&self, alloc: Global) -> Result<Entries, AllocError>
+        ensures { IfOk result (λ entries. entries ≡ entries_of self.now) }
+    {
+        match self {
+            Action::Put { path, tree } => {
+                let mut items = Vec::new(alloc);
+                items.push((path.copy()?, tree.copy(alloc)?))?;
+                Ok(Entries::of(items))
+            }
+            Action::Merge { entries } => entries.copy(),
+        }
+    }
+
+    /// Whether of two of its entries one is at or above the other. Compares each with each.
+    pub fn has_overlap(&self) -> bool
+        ensures { result ≡ have_overlap (entries_of self.now) }
+    {
+        match self {
+            Action::Put { .. } => false,
+            Action::Merge { entries } => entries.have_overlap(),
+        }
+    }
+
+    /// Whether it is an update without entries.
+    pub fn is_empty(&self) -> bool
+        ensures { result ≡ is_empty_action self.now }
+    {
+        match self {
+            Action::Put { .. } => false,
+            Action::Merge { entries } => match entries.as_slice() {
+                [] => true,
+                [_, ..] => false,
+            },
+        }
+    }
+
+    /// Whether a leaf that it sets would stand under more than 32 keys.
+    pub fn is_too_deep(&self) -> bool
+        ensures { result ≡ list_any stands_too_deep (entries_of self.now) }
+    {
+        match self {
+            Action::Put { path, tree } => stands_too_deep(path, tree),
+            Action::Merge { entries } => some_stands_too_deep(entries),
+        }
+    }
+}
+
+/// Whether a leaf of the tree, set at the path, would stand under more than 32 keys.
+pub fn stands_too_deep(path: &Path, tree: &Tree) -> bool
+    ensures { result ≡ stands_too_deep (path.now, tree.now) }
+{
+    !is_shallow(path, tree)
+}
+
+/// Whether a leaf of one of these entries would.
+pub fn some_stands_too_deep(entries: &Entries) -> bool
+    ensures { result ≡ list_any stands_too_deep entries.now }
+{
+    entries
+        .as_slice()
+        .iter()
+        .any(|entry| stands_too_deep(&entry.0, &entry.1))
 }
 
 impl Ending {

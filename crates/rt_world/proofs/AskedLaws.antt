@@ -11,7 +11,7 @@ use Rattle.rt_world.specs.declared.step.Step.{Step}
 use Rattle.rt_world.specs.World.{pending, entries_of}
 use Rattle.rt_world.specs.After.{requests_after, counted, request_given}
 use Rattle.rt_world.specs.Messages.{messages_of, outgoing_before}
-use Rattle.rt_world.specs.laws.Made.{asking, writes_with, WriteIsMade, EndingIsMade, ConnectedIsMade, DisconnectedIsMade, WritesAreShallow, NextIsAbovePending}
+use Rattle.rt_world.specs.laws.Made.{asked_sent, writes_with, WriteIsMade, EndingIsMade, ConnectedIsMade, DisconnectedIsMade, WritesAreShallow, NextIsAbovePending}
 use Rattle.rt_world.proofs.LimitLaws.{allowed}
 use Rattle.rt_world.proofs.Reaching.{none_deep}
 use Rattle.rt_world.proofs.StillLaws.{still_leaves_listens, next_is, told_is, map_unmet, told_unmet}
@@ -25,9 +25,9 @@ write_is_made w seat action d p =
     let h = still_leaves_listens w s d p refl in
     let ws : List Write = writes_with w action in
     let ew : pending (requests_after w s) ≡ ws = pending-write w.requests w.next_request (Some seat) action in
-    let em : outgoing_before w s ++ messages_of w s ≡ w.outgoing ++ asking w.is_connected w.next_request (Now action) = (λ i. w.outgoing ++ cond w.is_connected (h.messages i) []) in
+    let em : outgoing_before w s ++ messages_of w s ≡ w.outgoing ++ asked_sent w.is_connected w.next_request (Now action) = (λ i. w.outgoing ++ cond w.is_connected (h.messages i) []) in
     record {
-      world = next_is w s h w.brought ws (w.outgoing ++ asking w.is_connected w.next_request (Now action)) refl ew em;
+      world = next_is w s h w.brought ws (w.outgoing ++ asked_sent w.is_connected w.next_request (Now action)) refl ew em;
       notes = told_is w s h w.brought ws refl ew;
     }
 
@@ -36,7 +36,7 @@ ending_is_made w seat ending d p =
     let s : Step = Step.OnDisconnect seat ending in
     let h = still_leaves_listens w s d p refl in
     let ws : List Write = pending (requests_after w s) in
-    let ms : List ClientMessage = w.outgoing ++ asking w.is_connected w.next_request (AtDisconnect ending) in
+    let ms : List ClientMessage = w.outgoing ++ asked_sent w.is_connected w.next_request (AtDisconnect ending) in
     let em : outgoing_before w s ++ messages_of w s ≡ ms = (λ i. w.outgoing ++ cond w.is_connected (h.messages i) []) in
     record {
       world = next_is w s h w.brought ws ms refl refl em ∙ (λ i. record w {

@@ -32,6 +32,7 @@ use Rattle.rt_world.specs.Headline.{view_by}
 use Rattle.rt_world.specs.Touched.{IsInBoth}
 use Rattle.rt_world.specs.Called.{IsCalled}
 use Rattle.rt_world.specs.Sound.{IsSound}
+use Rattle.rt_world.specs.laws.Steps.{ChangesHaveNoEntries}
 use Rattle.rt_world.specs.laws.World.{changes_listeners, StayAsTheyWere, CoverChangesNoView}
 use Rattle.rt_world.proofs.CalledLaws.{kept_apart}
 use Rattle.rt_world.proofs.Listeners.{number-renewed, primed_view}
@@ -199,6 +200,21 @@ cover_alone w (Step.Accepted id) e = absurd (true≢false (sym e))
 cover_alone w (Step.Refused id why) e = absurd (true≢false (sym e))
 cover_alone w Step.Connected e = absurd (true≢false (sym e))
 cover_alone w Step.Disconnected e = absurd (true≢false (sym e))
+
+-- and it has no entries
+pub changes_have_no_entries : ChangesHaveNoEntries
+changes_have_no_entries w (Step.Listen seat query) e = refl
+changes_have_no_entries w (Step.Unlisten seat listener) e = refl
+changes_have_no_entries w (Step.Revoked tag why) e = refl
+changes_have_no_entries w (Step.CloseSeat seat) e = refl
+changes_have_no_entries w (Step.Write seat action) e = absurd (true≢false (sym e))
+changes_have_no_entries w (Step.OnDisconnect seat ending) e = absurd (true≢false (sym e))
+changes_have_no_entries w (Step.Data tag path tree) e = absurd (true≢false (sym e))
+changes_have_no_entries w (Step.DataMerge tag entries) e = absurd (true≢false (sym e))
+changes_have_no_entries w (Step.Accepted id) e = absurd (true≢false (sym e))
+changes_have_no_entries w (Step.Refused id why) e = absurd (true≢false (sym e))
+changes_have_no_entries w Step.Connected e = absurd (true≢false (sym e))
+changes_have_no_entries w Step.Disconnected e = absurd (true≢false (sym e))
 
 pub stays_same : (w : World) (s : Step) → IsSound w → IsCalled w.brought → changes_listeners s ≡ true → (l : Listener) → Contains w.listeners l → Contains (listeners_after w s) l
     → renewed (brought_after w s) (pending (requests_after w s)) l ≡ l

@@ -1,9 +1,8 @@
 -- The core as a world of listeners, requests and what the listens brought.
-use Rattle.std.specs.Prelude.{ℕ, min, max, Bool, false, List, [], ◌∷◌, map, ◌==◌, Option, Some}
+use Rattle.std.specs.Prelude.{ℕ, min, max, Bool, false, List, [], map, ◌==◌, Option, Some}
 use Rattle.std.specs.Prelude.{None}
 use Rattle.std.specs.List.{filter_map, find}
 use Rattle.std.specs.Option.{option_map}
-use Rattle.rt_tree.specs.Assignments.{Assignment}
 use Rattle.rt_query.specs.Queries.{Query}
 use Rattle.rt_query.specs.Select.{Shown}
 use Rattle.rt_query.specs.Supply.{form}
@@ -15,11 +14,10 @@ use Rattle.rt_cover.specs.State.{shown_with}
 use Rattle.rt_world.specs.declared.limits.Limits.{Limits}
 use Rattle.rt_world.specs.declared.limits.TheConstants.{MAX_LISTENERS, MAX_REQUESTS, MAX_NUMBER}
 use Rattle.rt_wire.specs.declared.client.ClientMessage.{ClientMessage}
-use Rattle.rt_wire.specs.declared.request.Action.{Action}
-use Rattle.rt_wire.specs.declared.request.Action.TheVariants.{Put, Merge}
 use Rattle.rt_wire.specs.declared.request.Asked.{Asked}
 use Rattle.rt_wire.specs.declared.request.Asked.TheVariants.{Now, AtDisconnect}
 use Rattle.rt_world.specs.declared.request.Request.{Request}
+pub use Rattle.rt_wire.specs.Actions.{entries_of}
 
 -- a text, as the reason of a refusal, is its bytes
 abbrev pub Reason : Type 0
@@ -81,11 +79,6 @@ empty_world limits = record {
 -- the numbers of the listeners, each with what is listened to for it
 abbrev pub registered : List Listener → List Registered
 registered listeners = map (λ l. (l.number, form l.query)) listeners
-
--- the paths and trees that an action sets
-abbrev pub entries_of : Action → List Assignment
-entries_of (Put path tree) = (path, tree) ∷ []
-entries_of (Merge entries) = entries
 
 -- the write that a request asks for, if it asks for one
 abbrev pub write_asked : ℕ → Asked → Option Write

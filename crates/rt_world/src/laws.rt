@@ -10,6 +10,7 @@ ghost use Rattle.rt_world.specs.laws.Holds.{CoverFollows, DeltaFollows};
 ghost use Rattle.rt_world.specs.laws.Makes.{StepTells};
 ghost use Rattle.rt_world.specs.laws.Steps.{WorldsAreSound, WorldsAreCalled, StaysSound};
 ghost use Rattle.rt_world.specs.laws.Steps.{NotRefusedIsAllowed};
+ghost use Rattle.rt_world.specs.laws.Steps.{ListenersStay, ChangesHaveNoEntries};
 ghost use Rattle.rt_world.specs.laws.Steps.{ListensStay, UnmetStays, RenewedIsOne};
 ghost use Rattle.rt_world.specs.laws.Steps.{StaysReached, PushIsBrought, ListenBringsNothing};
 ghost use Rattle.rt_world.specs.laws.Steps.{WriteIsPending, EndingIsNotPending};
@@ -91,9 +92,12 @@ pub fn refusal_law()
     ensures { NotRefusedIsAllowed }
 {}
 
-/// What a step leaves as it is: the listens where the listeners stay, a listener whose path no entry
-/// of the step overlaps, and of each other its number, seat and query.
+/// What a step leaves as it is: the listeners where it registers and ends none, the listens where the
+/// listeners stay, a listener whose path no entry of the step overlaps, and of each other its number,
+/// seat and query. A step that registers or ends listeners has no entries.
 pub fn stay_law()
+    ensures listeners { ListenersStay }
+    ensures entries { ChangesHaveNoEntries }
     ensures listens { ListensStay }
     ensures unmet { UnmetStays }
     ensures renewed { RenewedIsOne }

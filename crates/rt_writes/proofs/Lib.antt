@@ -5,7 +5,6 @@ pub mod LeafLaws
 pub mod Lists
 pub mod NumberLaws
 pub mod PartLaws
-pub mod Places
 pub mod RowLaws
 pub mod Shallow
 pub mod SpotLaws

@@ -25,7 +25,8 @@ use Rattle.std.proofs.lemmas.List.Quantifiers.{position-Some}
 use Rattle.rt_writes.specs.laws.TouchLaws.{fold-whole}
 use Rattle.rt_writes.specs.declared.spots.Spot.{Spot}
 use Rattle.rt_writes.specs.inside.Spots.{under_of, below_of, spot_at, has_here, has_under, has_full, place_at, tree_at, within, is_entry, is_full, AddsAll, ForgetsAll, IsAbove, IsLast, some_write, some_entry, IsMerged, IsPending, is_later, after}
-use Rattle.rt_writes.proofs.Lists.{list_any-flat_map, find-position, remove-without}
+use Rattle.rt_writes.proofs.Lists.{list_any-flat_map}
+use Rattle.rt_writes.specs.laws.Places.{found_at, others_left}
 use Rattle.rt_writes.proofs.SpotLaws.{has_place}
 use Rattle.rt_writes.proofs.AtChild.{at_itself, at_other}
 
@@ -460,7 +461,7 @@ is_child_whole ws s p k b m h =
 -- one write, found or not
 pub one_write : (p : Path) (t : PathTree) (ws : List Write) (id i : ℕ) (d : Write) → Rising ws → position (λ w. w.id == id) ws ≡ Some i
     → overlay p t (filter (λ w. w.id == id) ws) ≡ fold (overlaid p) t (get_or ws i d).entries
-one_write p t ws id i d r e = ap (overlay p t) (found ws r (find-position (λ w. w.id == id) ws i d e)) ∙ ap (fold (overlaid p) t) (append-nil (get_or ws i d).entries)
+one_write p t ws id i d r e = ap (overlay p t) (found ws r (found_at (λ w. w.id == id) ws i d e)) ∙ ap (fold (overlaid p) t) (append-nil (get_or ws i d).entries)
   where
     found : (vs : List Write) → Rising vs → find (λ w. w.id == id) vs ≡ Some (get_or ws i d) → filter (λ w. w.id == id) vs ≡ get_or ws i d ∷ []
     found [] h f = cc
@@ -526,8 +527,8 @@ pending_without ws rest id i w before after es h at is entries left more =
     let place = position-Some (λ v. v.id == id) ws i w at in
     let number : w.id ≡ id = ap (λ v. v.id) is ∙ eqb-true _ _ place.1 in
     let found : find (λ v. v.id == id) ws ≡ Some (record { id = id; entries = es }) =
-    find-position (λ v. v.id == id) ws i w at ∙ ap Some (sym is) ∙ (λ z. Some (record { id = number z; entries = sym entries z })) in
-    subst (λ vs. IsPending vs after) (sym (left ∙ remove-without id ws i place.0 h.kept.rises at)) (record {
+    found_at (λ v. v.id == id) ws i w at ∙ ap Some (sym is) ∙ (λ z. Some (record { id = number z; entries = sym entries z })) in
+    subst (λ vs. IsPending vs after) (sym (left ∙ others_left (λ (w : Write). w.id) ws i id place.0 h.kept.rises at)) (record {
       kept = kept_without ws id h.kept;
       apart = All-filter (λ w. not (w.id == id)) (λ w. have_overlap w.entries ≡ false) ws h.apart;
       tree = more ws h.kept.rises found h.tree;

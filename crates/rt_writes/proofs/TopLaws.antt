@@ -10,7 +10,7 @@ use Rattle.rt_tree.specs.Assignments.{is_at_or_above}
 use Rattle.rt_writes.specs.Writes.{Write, overlay, sets_whole}
 use Rattle.rt_writes.specs.declared.spots.Spot.{Spot}
 use Rattle.rt_writes.specs.inside.Spots.{under_of, spot_at, IsAbove, IsLast, some_entry, IsMerged, IsMergedAt, AreApart, is_later, after, overlaid_last, LaysAt, Laid}
-use Rattle.rt_writes.proofs.Lists.{filter-all}
+use Rattle.rt_writes.specs.laws.Places.{filter_all}
 use Rattle.rt_writes.proofs.NumberLaws.{Rising, sets, any_above, or_left, or_right, under_at, whole_after, not_so}
 use Rattle.rt_writes.proofs.SpotLaws.{both_true}
 use Rattle.rt_writes.proofs.LayLaws.{none_after, merged_at, nothing_after}
@@ -42,7 +42,7 @@ none_later ws s p last m h =
     not_last (Some n) h j l a = let less : n < j = ltb-true n j l in let most : j ≤ n = h.1 j a in omega arith
 
 all_after : (ws : List Write) → ws ≡ after None ws
-all_after ws = sym (filter-all (λ w. true) ws (λ k d l. refl))
+all_after ws = sym (filter_all (λ w. true) ws (λ k d l. refl))
 
 pub laid_last : (ws : List Write) (s : Spot) (p : Path) (t u : PathTree) (last : Option ℕ) → Rising ws → IsMerged ws s → IsLast (IsAbove s p) last
     → u ≡ overlaid_last p t ws last → overlay p u (after last ws) ≡ overlay p t ws

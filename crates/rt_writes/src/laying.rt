@@ -29,8 +29,10 @@ pub(crate) fn lay_below(
 ) -> Result<Tree, AllocError>
     requires tree { IsShallow (path.now, tree) }
     requires kept { IsKept writes.now.items }
-    ensures laid { IfOk result (λ done. (x : Keys) → AreApart writes.now.items → IsMergedAt writes.now.items x spot.now
-        → sets_whole (after last writes.now.items) x ≡ false → Laid (LaysAt writes.now.items x last) path.now tree done) }
+    ensures laid { IfOk result (λ done. (x : Keys) → AreApart writes.now.items
+        → IsMergedAt writes.now.items x spot.now
+        → sets_whole (after last writes.now.items) x ≡ false
+        → Laid (LaysAt writes.now.items x last) path.now tree done) }
     ensures shallow { IfOk result (λ done. IsShallow (path.now, done)) }
     ensures touched { OnErr result (touches writes.now.items path.now ≡ true) }
 {
@@ -59,7 +61,8 @@ fn lay_here(
     requires tree { IsShallow (path.now, tree) }
     requires kept { IsKept writes.now.items }
     requires here { IsLast (λ j. has_here spot.now [] j ≡ true) here }
-    ensures laid { IfOk result (λ done. (x : Keys) → AreApart writes.now.items → IsMergedAt writes.now.items x spot.now
+    ensures laid { IfOk result (λ done. (x : Keys) → AreApart writes.now.items
+        → IsMergedAt writes.now.items x spot.now
         → Laid (SetsAt writes.now.items x last here) path.now tree done) }
     ensures shallow { IfOk result (λ done. IsShallow (path.now, done)) }
     ensures touched { OnErr result (touches writes.now.items path.now ≡ true) }

@@ -1,6 +1,6 @@
 // The writes that the server has not settled.
-ghost use Rattle.std.specs.Prelude.{◌≡◌, ◌==◌, ◌↔◌, ◌<◌, ◌∷◌, [], ◌++◌, length, true, IfOk, OnOk};
-ghost use Rattle.std.specs.Prelude.{OnErr, IsTrue, IsOk, Ok, Err, None};
+ghost use Rattle.std.specs.Prelude.{◌≡◌, ◌==◌, ◌↔◌, ◌<◌, ◌∷◌, [], ◌++◌, length, true, false, IfOk};
+ghost use Rattle.std.specs.Prelude.{OnErr, OnOk, IsTrue, IsOk, Ok, Err, None};
 ghost use Rattle.std.specs.Option.{option_map};
 ghost use Rattle.std.specs.Prelude.{IfSome};
 ghost use Rattle.std.specs.List.{All, filter, position};
@@ -128,12 +128,39 @@ impl Pending {
         if entries.as_slice().is_empty() {
             return Err(WriteError::EmptyUpdate);
         }
+        self.add_apart(id, entries)?;
+        Ok(())
+    }
+
+    /// The same where it is known that no entry's path is at or above another's; looks at none of them
+    /// twice.
+    ///
+    /// # Errors
+    ///
+    /// Want of memory. What is pending stays as it was.
+    pub fn add_apart(&mut self, id: u64, entries: Entries) -> Result<(), AllocError>
+        requires above { All (λ w. w.id < id) self.old }
+        requires shallow { All IsShallow entries }
+        requires apart { have_overlap entries ≡ false }
+        ensures added { OnOk result (self.new ≡ self.old ++ record { id = id; entries = entries } ∷ []) }
+        ensures unchanged { OnErr result (self.new ≡ self.old) }
+    {
         let alloc = *self.writes.allocator();
         let before = self.give_merged();
         let merged = merged_with(before, alloc, id, entries.as_slice());
         self.writes.push_back(Write { id, entries })?;
         self.merged = merged;
         Ok(())
+    }
+
+    /// The entries of the write of that number; none where it is not pending. Finds it by halving.
+    pub fn entries(&self, id: u64) -> Option<&[(Path, Tree)]>
+        ensures { option_map (λ entries. entries.now) result ≡ entries_of id self.now }
+    {
+        match self.place(id) {
+            Some(place) => Some(self.writes[place].entries.as_slice()),
+            None => None,
+        }
     }
 
     // The tree of paths of the writes, anew where there is none. It is taken out.

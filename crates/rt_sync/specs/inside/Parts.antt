@@ -1,9 +1,8 @@
 -- What the parts of a step do, said of their values alone.
-use Rattle.std.specs.Prelude.{ℕ, Bool, if◌then◌else◌, List, [], ◌∷◌, ◌++◌, map}
+use Rattle.std.specs.Prelude.{ℕ, Bool, if◌then◌else◌, List, [], ◌++◌, map}
 use Rattle.rt_cover.specs.declared.delta.Delta.{Delta}
 use Rattle.rt_cover.specs.declared.kept.Kept.{Kept}
 use Rattle.rt_wire.specs.declared.client.ClientMessage.{ClientMessage}
-use Rattle.rt_wire.specs.declared.request.Asked.{Asked}
 
 -- the messages that begin these listens
 abbrev pub listens_shown : List Kept → List ClientMessage
@@ -17,7 +16,3 @@ unlistens_of tags = map (λ tag. ClientMessage.Unlisten tag) tags
 abbrev pub changing : Bool → Delta → List ClientMessage
 changing is_connected delta =
     if is_connected then listens_shown delta.started ++ unlistens_of delta.stopped else []
-
--- the message of a request, while there is a connection
-abbrev pub asking : Bool → ℕ → Asked → List ClientMessage
-asking is_connected id asked = if is_connected then ClientMessage.Ask id asked ∷ [] else []

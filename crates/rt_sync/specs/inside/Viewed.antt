@@ -1,16 +1,17 @@
 -- The views that are held, and the world that they show.
-use Rattle.std.specs.Prelude.{◌≡◌, ◌==◌, ℕ, Bool, not, List, [], ◌∷◌, ◌++◌, map}
+use Rattle.std.specs.Prelude.{◌≡◌, ℕ, Bool, List, [], ◌∷◌, ◌++◌, map}
 use Rattle.std.specs.Prelude.{Option, Some, None}
 use Rattle.std.specs.List.{filter, zip}
 use Rattle.rt_tree.specs.Assignments.{Assignment}
 use Rattle.rt_query.specs.Queries.{Query}
+use Rattle.rt_cover.specs.Runs.{Change, Add, Remove, Revoke}
 use Rattle.rt_view.specs.Views.{View, shown_of}
 use Rattle.rt_world.specs.declared.step.Step.{Step}
-use Rattle.rt_world.specs.World.{Listener, World, entries_of, pending}
-use Rattle.rt_world.specs.steps.Revoking.{is_cancelled}
-use Rattle.rt_world.specs.After.{renewed}
+use Rattle.rt_world.specs.World.{Listener, World, pending}
+use Rattle.rt_world.specs.After.{listeners_after, renewed}
+use Rattle.rt_world.specs.Covering.{change_by}
 use Rattle.rt_world.specs.Met.{renewed_met}
-use Rattle.rt_world.specs.Touched.{entries_settled}
+use Rattle.rt_world.specs.Touched.{entries_by}
 use Rattle.rt_world.specs.laws.Touch.{HasSeen}
 use Rattle.rt_parts.specs.Listeners.{first_view_of, new_listener, views_left}
 use Rattle.rt_parts.specs.Refreshed.{view_met}
@@ -75,20 +76,29 @@ pub record RefreshesViews (h : Held) (entries : List Assignment) (k : Held) : Ty
       ≡ map (view_met entries (k.world).brought (pending (k.world).requests))
       (zip (h.world).listeners h.views)
 
--- each kind of step
+-- those that are left after the step stay
+pub record LeavesViews (h : Held) (s : Step) (k : Held) : Type 0 where
+  pub test : Listener → Bool
+  pub left : listeners_after h.world s ≡ filter test (h.world).listeners
+  pub keeps : KeepsViews test h k
+
+-- the new one of the step comes last
+pub record GainsView (h : Held) (s : Step) (query : Query) (k : Held) : Type 0 where
+  pub seat : ℕ
+  pub more : listeners_after h.world s
+      ≡ (h.world).listeners ++ new_listener (h.world).next_listener seat query ∷ []
+  pub adds : AddsView h seat query k
+
+-- by the change of listeners that a step makes; where it makes none, by its entries
+abbrev pub HasViewsBy : Option Change → Held → Step → Held → Type 0
+HasViewsBy None h s k = RefreshesViews h (entries_by h.world s) k
+HasViewsBy (Some (Add number query)) h s k = GainsView h s query k
+HasViewsBy (Some (Remove numbers)) h s k = LeavesViews h s k
+HasViewsBy (Some (Revoke tag)) h s k = LeavesViews h s k
+
+-- so it is of each kind of step
 abbrev pub HasViews : Held → Step → Held → Type 0
-HasViews h (Step.Listen seat query) k = AddsView h seat query k
-HasViews h (Step.Unlisten seat listener) k = KeepsViews (λ l. not (l.number == listener)) h k
-HasViews h (Step.Write seat action) k = RefreshesViews h (entries_of action) k
-HasViews h (Step.OnDisconnect seat ending) k = SameViews h k
-HasViews h (Step.Data tag path tree) k = RefreshesViews h ((path, tree) ∷ []) k
-HasViews h (Step.DataMerge tag entries) k = RefreshesViews h entries k
-HasViews h (Step.Accepted id) k = RefreshesViews h (entries_settled h.world id) k
-HasViews h (Step.Refused id why) k = RefreshesViews h (entries_settled h.world id) k
-HasViews h (Step.Revoked tag why) k = KeepsViews (λ l. not (is_cancelled h.world tag l)) h k
-HasViews h Step.Connected k = SameViews h k
-HasViews h Step.Disconnected k = SameViews h k
-HasViews h (Step.CloseSeat seat) k = KeepsViews (λ l. not (l.seat == seat)) h k
+HasViews h s k = HasViewsBy (change_by h.world s) h s k
 
 -- after a step each listener has its view, and no more children were taken anew than are allowed
 pub record FollowsStep (h : Held) (s : Step) (k : Held) : Type 0 where

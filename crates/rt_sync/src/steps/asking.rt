@@ -11,77 +11,11 @@ ghost use Rattle.rt_world.specs.laws.Refused.{first_of};
 use crate::sending::send_asked;
 use crate::state::State;
 use crate::told::Told;
-use rt_tree::{MAX_LEVELS, Path, Tree};
 use rt_world::{
     Action, Asked, CoreError, Ending, asked_law, brought_law, pending_law, refusal_law, stay_law,
     touch_law,
 };
-use rt_writes::Entries;
-use std::alloc::{AllocError, Global};
-
-// The paths and trees that the action sets, shared with it.
-fn entries_of(alloc: Global, action: &Action) -> Result<Entries, AllocError>
-    ensures { IfOk result (λ entries. entries ≡ entries_of action.now) }
-{
-    match action {
-        Action::Put { path, tree } => {
-            let mut items = Vec::new(alloc);
-            items.push((path.copy()?, tree.copy(alloc)?))?;
-            Ok(Entries::of(items))
-        }
-        Action::Merge { entries } => entries.copy(),
-    }
-}
-
-// Whether of two entries of the action one is at or above the other.
-fn has_overlap(action: &Action) -> bool
-    ensures { result ≡ have_overlap (entries_of action.now) }
-{
-    match action {
-        Action::Put { .. } => false,
-        Action::Merge { entries } => entries.have_overlap(),
-    }
-}
-
-// Whether the action is an update without entries.
-fn is_empty_update(action: &Action) -> bool
-    ensures { result ≡ is_empty_action action.now }
-{
-    match action {
-        Action::Put { .. } => false,
-        Action::Merge { entries } => match entries.as_slice() {
-            [] => true,
-            [_, ..] => false,
-        },
-    }
-}
-
-// Whether a leaf would stand under too many keys.
-pub(crate) fn stands_too_deep(path: &Path, tree: &Tree) -> bool
-    ensures { result ≡ stands_too_deep (path.now, tree.now) }
-{
-    MAX_LEVELS < path.keys().len() + tree.levels()
-}
-
-// Whether a leaf of one of these entries would stand under too many keys.
-pub(crate) fn stand_too_deep(entries: &Entries) -> bool
-    ensures { result ≡ list_any stands_too_deep entries.now }
-{
-    entries
-        .as_slice()
-        .iter()
-        .any(|entry| stands_too_deep(&entry.0, &entry.1))
-}
-
-// Whether a leaf of the action would stand under too many keys.
-fn is_too_deep(action: &Action) -> bool
-    ensures { result ≡ list_any stands_too_deep (entries_of action.now) }
-{
-    match action {
-        Action::Put { path, tree } => stands_too_deep(path, tree),
-        Action::Merge { entries } => stand_too_deep(entries),
-    }
-}
+use std::alloc::AllocError;
 
 // Why an action can't be asked for, whoever asks.
 fn action_refusal(action: &Action) -> Option<CoreError>
@@ -89,13 +23,13 @@ fn action_refusal(action: &Action) -> Option<CoreError>
         ∷ (is_empty_action action.now, CoreError.EmptyUpdate)
         ∷ (list_any stands_too_deep (entries_of action.now), CoreError.TooDeep) ∷ []) }
 {
-    if has_overlap(action) {
+    if action.has_overlap() {
         return Some(CoreError::Overlap);
     }
-    if is_empty_update(action) {
+    if action.is_empty() {
         return Some(CoreError::EmptyUpdate);
     }
-    if is_too_deep(action) {
+    if action.is_too_deep() {
         return Some(CoreError::TooDeep);
     }
     None
@@ -106,7 +40,7 @@ impl State {
     ghost use Rattle.rt_world.specs.declared.step.Step.TheVariants as Step;
     ghost use Rattle.rt_world.specs.Refusals.{refusal};
     ghost use Rattle.rt_sync.specs.inside.Due.{IsDue, IsNext};
-    ghost use Rattle.rt_sync.specs.inside.Viewed.{AreViewed, RefreshesViews, SameViews};
+    ghost use Rattle.rt_sync.specs.inside.Viewed.{AreViewed, HasViews};
 
     // Whether the limit of unsettled requests is reached, or the last number.
     fn has_too_many_requests(&self) -> bool
@@ -144,8 +78,9 @@ impl State {
     pub(crate) fn write(self, seat: u64, action: Action) -> Result<(State, Told), AllocError>
         requires due { IsDue self.world (Step.Write seat action) }
         requires viewed { AreViewed self }
-        ensures made { IfOk result (λ made. IsNext self.world (Step.Write seat action) (made.0.world, made.1)) }
-        ensures views { IfOk result (λ made. RefreshesViews self (entries_of action) made.0) }
+        ensures made { IfOk result (λ made.
+            IsNext self.world (Step.Write seat action) (made.0.world, made.1)) }
+        ensures views { IfOk result (λ made. HasViews self (Step.Write seat action) made.0) }
     {
         // For the prover: what such a step leaves, and what may be asked.
         asked_law();
@@ -157,15 +92,17 @@ impl State {
         let alloc = self.alloc();
         let mut state = self;
         let id = state.given_requests + 1;
-        let entries = entries_of(alloc, &action)?;
         let asked = Asked::Now(action);
         send_asked(alloc, &mut state.outgoing, state.is_connected, id, &asked)?;
         state.requests.add(id, seat, asked)?;
         let mut notes = Vec::new(alloc);
         let pending = state.requests.pending();
+        let Some(entries) = pending.entries(id) else {
+            unreachable!()
+        };
         state
             .listeners
-            .refresh(entries.as_slice(), &state.brought, pending, &mut notes)?;
+            .refresh(entries, &state.brought, pending, &mut notes)?;
         state.given_requests = id;
         Ok((
             state,
@@ -182,10 +119,11 @@ impl State {
         seat: u64,
         ending: Ending,
     ) -> Result<(State, Told), AllocError>
-        requires { IsDue self.world (Step.OnDisconnect seat ending) }
+        requires due { IsDue self.world (Step.OnDisconnect seat ending) }
+        requires viewed { AreViewed self }
         ensures made { IfOk result (λ made.
             IsNext self.world (Step.OnDisconnect seat ending) (made.0.world, made.1)) }
-        ensures views { IfOk result (λ made. SameViews self made.0) }
+        ensures views { IfOk result (λ made. HasViews self (Step.OnDisconnect seat ending) made.0) }
     {
         // For the prover: what such a step leaves, and what may be asked.
         asked_law();

@@ -1,5 +1,5 @@
 // A seat goes.
-ghost use Rattle.std.specs.Prelude.{◌≡◌, ◌==◌, ◌&&◌, not, IfOk};
+ghost use Rattle.std.specs.Prelude.{◌≡◌, ◌==◌, ◌&&◌, IfOk};
 ghost use Rattle.std.specs.List.{list_any};
 
 use crate::sending::send_change;
@@ -31,7 +31,7 @@ impl State {
     ghost use Rattle.rt_world.specs.declared.step.Step.TheVariants as Step;
     ghost use Rattle.rt_world.specs.Refusals.{needs_tag, refusal};
     ghost use Rattle.rt_sync.specs.inside.Due.{IsDue, IsGood, IsNext};
-    ghost use Rattle.rt_sync.specs.inside.Viewed.{AreViewed, KeepsViews};
+    ghost use Rattle.rt_sync.specs.inside.Viewed.{HasViews};
 
     // Whether the end of all listeners of the seat would need a tag above the last one.
     fn lacks_tag_to_close(&self, seat: u64) -> bool
@@ -61,7 +61,7 @@ impl State {
     pub(crate) fn close_seat(self, seat: u64) -> Result<(State, Told), AllocError>
         requires { IsDue self.world (Step.CloseSeat seat) }
         ensures made { IfOk result (λ made. IsNext self.world (Step.CloseSeat seat) (made.0.world, made.1)) }
-        ensures views { IfOk result (λ made. KeepsViews (λ l. not (l.seat == seat)) self made.0) }
+        ensures views { IfOk result (λ made. HasViews self (Step.CloseSeat seat) made.0) }
     {
         // For the prover: what such a step leaves, and that the cover takes it.
         listened_law();

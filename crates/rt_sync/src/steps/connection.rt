@@ -26,7 +26,7 @@ impl State {
     ghost use Rattle.rt_world.specs.declared.step.Step.TheVariants as Step;
     ghost use Rattle.rt_world.specs.Refusals.{refusal};
     ghost use Rattle.rt_sync.specs.inside.Due.{IsDue, IsNext};
-    ghost use Rattle.rt_sync.specs.inside.Viewed.{SameViews};
+    ghost use Rattle.rt_sync.specs.inside.Viewed.{AreViewed, HasViews};
 
     // Why no connection can be opened.
     pub(crate) fn connect_refusal(&self) -> Option<CoreError>
@@ -57,9 +57,10 @@ impl State {
 
     // A connection is opened: all kept listens are to be sent, and then all unsettled requests.
     pub(crate) fn connect(self) -> Result<(State, Told), AllocError>
-        requires { IsDue self.world Step.Connected }
+        requires due { IsDue self.world Step.Connected }
+        requires viewed { AreViewed self }
         ensures made { IfOk result (λ made. IsNext self.world Step.Connected (made.0.world, made.1)) }
-        ensures views { IfOk result (λ made. SameViews self made.0) }
+        ensures views { IfOk result (λ made. HasViews self Step.Connected made.0) }
     {
         // For the prover: what such a step leaves.
         connection_law();
@@ -76,9 +77,10 @@ impl State {
 
     // The connection ends: what was to be sent is dropped.
     pub(crate) fn disconnect(self) -> (State, Told)
-        requires { IsDue self.world Step.Disconnected }
+        requires due { IsDue self.world Step.Disconnected }
+        requires viewed { AreViewed self }
         ensures made { IsNext self.world Step.Disconnected (result.0.world, result.1) }
-        ensures views { SameViews self result.0 }
+        ensures views { HasViews self Step.Disconnected result.0 }
     {
         // For the prover: what such a step leaves.
         connection_law();

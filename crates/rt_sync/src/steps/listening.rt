@@ -1,6 +1,6 @@
 // Listeners begin and end.
-ghost use Rattle.std.specs.Prelude.{◌≡◌, ◌==◌, ◌∷◌, ◌||◌, [], ℕ, false, length, map, nat_le, nat_lt};
-ghost use Rattle.std.specs.Prelude.{not, None, IfOk, OnOk};
+ghost use Rattle.std.specs.Prelude.{◌≡◌, ◌||◌, ℕ, false, length, map, nat_le, nat_lt};
+ghost use Rattle.std.specs.Prelude.{None, IfOk, OnOk};
 ghost use Rattle.rt_cache.specs.Recover.{recover};
 ghost use Rattle.rt_cover.specs.Cover.{forms};
 ghost use Rattle.rt_cover.specs.State.{added, add_fault, difference, is_registered, remove_fault};
@@ -60,7 +60,7 @@ impl State {
     ghost use Rattle.rt_world.specs.declared.step.Step.TheVariants as Step;
     ghost use Rattle.rt_world.specs.Refusals.{needs_tag, refusal};
     ghost use Rattle.rt_sync.specs.inside.Due.{IsDue, IsGood, IsNext};
-    ghost use Rattle.rt_sync.specs.inside.Viewed.{AddsView, AreViewed, KeepsViews};
+    ghost use Rattle.rt_sync.specs.inside.Viewed.{HasViews};
 
     // Whether the limit of listeners is reached, or the last number.
     fn is_full(&self) -> bool
@@ -96,8 +96,9 @@ impl State {
     // known for its query.
     pub(crate) fn listen(self, seat: u64, query: Query) -> Result<(State, Told), AllocError>
         requires { IsDue self.world (Step.Listen seat query) }
-        ensures made { IfOk result (λ made. IsNext self.world (Step.Listen seat query) (made.0.world, made.1)) }
-        ensures views { IfOk result (λ made. AddsView self seat query made.0) }
+        ensures made { IfOk result (λ made.
+            IsNext self.world (Step.Listen seat query) (made.0.world, made.1)) }
+        ensures views { IfOk result (λ made. HasViews self (Step.Listen seat query) made.0) }
     {
         // For the prover: what such a step leaves, and that the cover takes it.
         listened_law();
@@ -149,8 +150,9 @@ impl State {
     // A seat ends a listener of its own: nobody is told.
     pub(crate) fn unlisten(self, seat: u64, listener: u64) -> Result<(State, Told), AllocError>
         requires { IsDue self.world (Step.Unlisten seat listener) }
-        ensures made { IfOk result (λ made. IsNext self.world (Step.Unlisten seat listener) (made.0.world, made.1)) }
-        ensures views { IfOk result (λ made. KeepsViews (λ l. not (l.number == listener)) self made.0) }
+        ensures made { IfOk result (λ made.
+            IsNext self.world (Step.Unlisten seat listener) (made.0.world, made.1)) }
+        ensures views { IfOk result (λ made. HasViews self (Step.Unlisten seat listener) made.0) }
     {
         // For the prover: what such a step leaves, and that the cover takes it.
         listened_law();

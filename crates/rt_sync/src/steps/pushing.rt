@@ -12,12 +12,12 @@ ghost use Rattle.rt_world.specs.steps.Pushing.{is_no_merge, is_within_listen};
 ghost use Rattle.rt_world.specs.laws.Made.{IsPushOn};
 
 use crate::state::State;
-use crate::steps::asking::{stand_too_deep, stands_too_deep};
 use crate::told::Told;
 use rt_cache::Brought;
 use rt_cover::Cover;
 use rt_query::Query;
 use rt_tree::{Path, Tree};
+use rt_wire::{some_stands_too_deep, stands_too_deep};
 use rt_world::{CoreError, brought_law, push_law, pushed_law, stay_law, touch_law};
 use rt_writes::Entries;
 use std::alloc::{AllocError, Global};
@@ -98,7 +98,7 @@ impl State {
     ghost use Rattle.rt_world.specs.declared.step.Step.TheVariants as Step;
     ghost use Rattle.rt_world.specs.Refusals.{is_stale, refusal};
     ghost use Rattle.rt_sync.specs.inside.Due.{IsDue, IsNext};
-    ghost use Rattle.rt_sync.specs.inside.Viewed.{AreViewed, RefreshesViews};
+    ghost use Rattle.rt_sync.specs.inside.Viewed.{AreViewed, HasViews};
 
     // The query of the kept listen with that tag.
     pub(crate) fn listen_of(&self, tag: u64) -> Option<&Query>
@@ -144,7 +144,7 @@ impl State {
     pub(crate) fn merge_refusal(&self, tag: u64, entries: &Entries) -> Option<CoreError>
         ensures { result ≡ refusal self.now.world (Step.DataMerge tag entries.now) }
     {
-        if stand_too_deep(entries) {
+        if some_stands_too_deep(entries) {
             return Some(CoreError::TooDeep);
         }
         if self.is_outside_listen(tag, entries.as_slice()) || is_no_merge(entries) {
@@ -187,7 +187,8 @@ impl State {
         requires viewed { AreViewed self }
         ensures made { IfOk result (λ made.
             IsNext self.world (Step.DataMerge tag entries.items) (made.0.world, made.1)) }
-        ensures views { IfOk result (λ made. RefreshesViews self entries.items made.0) }
+        ensures views { IfOk result (λ made.
+            HasViews self (Step.DataMerge tag entries.items) made.0) }
     {
         // For the prover: what such a step leaves, and what may be pushed.
         push_law();
@@ -215,8 +216,9 @@ impl State {
     ) -> Result<(State, Told), AllocError>
         requires due { IsDue self.world (Step.Data tag path tree) }
         requires viewed { AreViewed self }
-        ensures made { IfOk result (λ made. IsNext self.world (Step.Data tag path tree) (made.0.world, made.1)) }
-        ensures views { IfOk result (λ made. RefreshesViews self ((path, tree) ∷ []) made.0) }
+        ensures made { IfOk result (λ made.
+            IsNext self.world (Step.Data tag path tree) (made.0.world, made.1)) }
+        ensures views { IfOk result (λ made. HasViews self (Step.Data tag path tree) made.0) }
     {
         let entries = one_entry(self.alloc(), path, tree)?;
         self.take_merge(tag, entries)

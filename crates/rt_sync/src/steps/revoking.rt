@@ -1,8 +1,7 @@
 // The server ends a listen.
-ghost use Rattle.std.specs.Prelude.{◌≡◌, Some, None, not, IfOk, OnOk};
+ghost use Rattle.std.specs.Prelude.{◌≡◌, Some, None, IfOk, OnOk};
 ghost use Rattle.std.specs.Option.{option_map};
 ghost use Rattle.rt_cover.specs.State.{difference, listen_at, revoke_fault, revoked, without_tag};
-ghost use Rattle.rt_world.specs.steps.Revoking.{is_cancelled};
 
 use crate::sending::send_change;
 use crate::state::State;
@@ -38,7 +37,7 @@ impl State {
     ghost use Rattle.rt_world.specs.World.{Reason};
     ghost use Rattle.rt_world.specs.Refusals.{is_stale, needs_tag, refusal};
     ghost use Rattle.rt_sync.specs.inside.Due.{IsDue, IsGood, IsNext};
-    ghost use Rattle.rt_sync.specs.inside.Viewed.{AreViewed, KeepsViews};
+    ghost use Rattle.rt_sync.specs.inside.Viewed.{HasViews};
 
     // Whether the end of the listen would need a tag above the last one.
     fn lacks_tag_to_revoke(&self, tag: u64) -> bool
@@ -79,8 +78,7 @@ impl State {
     pub(crate) fn revoke(self, tag: u64, why: Reason) -> Result<(State, Told), AllocError>
         requires { IsDue self.world (Step.Revoked tag why) }
         ensures made { IfOk result (λ made. IsNext self.world (Step.Revoked tag why) (made.0.world, made.1)) }
-        ensures views { IfOk result (λ made.
-            KeepsViews (λ l. not (is_cancelled self.world tag l)) self made.0) }
+        ensures views { IfOk result (λ made. HasViews self (Step.Revoked tag why) made.0) }
     {
         // For the prover: what such a step leaves, and that the cover takes it.
         listened_law();

@@ -158,8 +158,8 @@ MergeIsStale =
 -- ---- requests and the connection
 
 -- the message of a request, while there is a connection
-abbrev pub asking : Bool → ℕ → Asked → List ClientMessage
-asking is_connected id asked = if is_connected then ClientMessage.Ask id asked ∷ [] else []
+abbrev pub asked_sent : Bool → ℕ → Asked → List ClientMessage
+asked_sent is_connected id asked = if is_connected then ClientMessage.Ask id asked ∷ [] else []
 
 -- the world once the seat has asked for this, and what is sent of it
 abbrev pub asked_world : World → ℕ → Asked → World
@@ -167,7 +167,7 @@ asked_world w seat asked =
     record w {
       requests =
           w.requests ++ record { id = w.next_request; seat = Some seat; asked = asked } ∷ [];
-      outgoing = w.outgoing ++ asking w.is_connected w.next_request asked;
+      outgoing = w.outgoing ++ asked_sent w.is_connected w.next_request asked;
       next_request = w.next_request + 1;
     }
 

@@ -1,5 +1,5 @@
 -- Laws of one step of a world that holds what holds between steps, for whoever keeps such a world.
-use Rattle.std.specs.Prelude.{◌≡◌, ◌<◌, ◌==◌, ℕ, false, not, List, [], ◌∷◌, ◌++◌, map}
+use Rattle.std.specs.Prelude.{◌≡◌, ◌<◌, ◌==◌, ℕ, true, false, not, List, [], ◌∷◌, ◌++◌, map}
 use Rattle.std.specs.Prelude.{Option, None}
 use Rattle.std.specs.List.{filter, filter_map, find, list_any, AllPairs, Contains}
 use Rattle.std.specs.Option.{option_and_then, option_to_list}
@@ -50,6 +50,16 @@ abbrev pub NotRefusedIsAllowed : Type 0
 NotRefusedIsAllowed = (w : World) (s : Step) → refusal w s ≡ None → IsAllowed w s
 
 -- ---- what a step leaves as it is
+
+-- the listeners stay where it registers and ends none
+abbrev pub ListenersStay : Type 0
+ListenersStay =
+    (w : World) (s : Step) → changes_listeners s ≡ false → listeners_after w s ≡ w.listeners
+
+-- and where it does it has no entries
+abbrev pub ChangesHaveNoEntries : Type 0
+ChangesHaveNoEntries =
+    (w : World) (s : Step) → changes_listeners s ≡ true → entries_by w s ≡ []
 
 -- a step starts and stops no listen
 pub record KeepsListens (w : World) (s : Step) : Type 0 where

@@ -1,11 +1,10 @@
 -- A seat writes, or asks for what is to be done when the connection ends.
-use Rattle.std.specs.Prelude.{ℕ, Bool, true, false, ◌||◌, List, [], ◌∷◌, ◌++◌, length, nat_lt}
+use Rattle.std.specs.Prelude.{ℕ, false, ◌||◌, List, [], ◌∷◌, ◌++◌, length, nat_lt}
 use Rattle.std.specs.Prelude.{nat_le, Option, Some, None}
 use Rattle.std.specs.List.{list_any}
 use Rattle.std.specs.Option.{option_map_or}
 use Rattle.rt_tree.specs.Assignments.{have_overlap}
 use Rattle.rt_wire.specs.declared.request.Action.{Action}
-use Rattle.rt_wire.specs.declared.request.Action.TheVariants.{Put, Merge}
 use Rattle.rt_wire.specs.declared.request.Asked.{Asked}
 use Rattle.rt_wire.specs.declared.request.Asked.TheVariants.{Now, AtDisconnect}
 use Rattle.rt_wire.specs.declared.request.Ending.TheVariants.{Run, Cancel}
@@ -14,18 +13,13 @@ use Rattle.rt_world.specs.declared.error.CoreError.TheVariants.{EmptyUpdate, Too
 use Rattle.rt_world.specs.declared.request.Request.{Request}
 use Rattle.rt_world.specs.World.{World, entries_of}
 use Rattle.rt_world.specs.steps.Kind.{Kind, quiet, stands_too_deep}
+pub use Rattle.rt_wire.specs.Actions.{is_empty_action}
 
 -- the action that is asked for, if it is one
 abbrev pub action_in : Asked → Option Action
 action_in (Now action) = Some action
 action_in (AtDisconnect (Run action)) = Some action
 action_in (AtDisconnect (Cancel path)) = None
-
--- an update without entries
-abbrev pub is_empty_action : Action → Bool
-is_empty_action (Put path tree) = false
-is_empty_action (Merge []) = true
-is_empty_action (Merge (a ∷ entries)) = false
 
 -- the requests with a new one, which has the next number
 abbrev pub requests_with : World → ℕ × Asked → List Request

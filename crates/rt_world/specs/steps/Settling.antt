@@ -1,5 +1,5 @@
 -- The server accepts a request, or refuses it.
-use Rattle.std.specs.Prelude.{ℕ, true, not, [], ◌∷◌, ◌==◌, Option, Some, None}
+use Rattle.std.specs.Prelude.{ℕ, true, not, [], ◌∷◌, ◌==◌, Option, Some}
 use Rattle.std.specs.List.{filter, list_any}
 use Rattle.rt_world.specs.declared.error.CoreError.TheVariants.{NotConnected}
 use Rattle.rt_world.specs.World.{Reason}

@@ -70,7 +70,8 @@ pub record IsBare (s : Spot) : Type 0 where
 
 -- of two tests, one of whether it is so now and one of whether it was before: new has at each path
 -- and number what F says, and the place at the keys
-pub record Changes (F : Bool → Bool → Bool) (place : Option ℕ) (fills : Bool) (old new : Spot) (keys : Path) (id : ℕ) : Type 0 where
+pub record Changes (F : Bool → Bool → Bool) (place : Option ℕ) (fills : Bool) (old new : Spot)
+    (keys : Path) (id : ℕ) : Type 0 where
   pub places : (q : Path) (j : ℕ)
       → place_at new q j ≡ (if path_eq keys q && (id == j) then place else place_at old q j)
   pub under : (q : Path) (j : ℕ)
@@ -121,13 +122,15 @@ KeepsPart s keys j u = (x : Path) × (y : Path) × (t : PathTree)
     × (keys ≡ x ++ y) × (has_here s x j ≡ true) × (tree_at s x ≡ Some t) × (u ≡ sub t y)
 
 -- the same of each entry of a write
-pub record ChangesAll (F : Bool → Bool → Bool) (fills : Assignment → Bool) (old new : Spot) (es : List Assignment) (id : ℕ) : Type 0 where
+pub record ChangesAll (F : Bool → Bool → Bool) (fills : Assignment → Bool) (old new : Spot)
+    (es : List Assignment) (id : ℕ) : Type 0 where
   pub here : (q : Path) (j : ℕ)
       → has_here new q j ≡ F (list_any (λ a. path_eq a.0 q) es && (id == j)) (has_here old q j)
   pub under : (q : Path) (j : ℕ)
       → has_under new q j ≡ F (list_any (λ a. is_at_or_above q a.0) es && (id == j)) (has_under old q j)
   pub full : (q : Path) (j : ℕ)
-      → has_full new q j ≡ F (list_any (λ a. is_at_or_above q a.0 && fills a) es && (id == j)) (has_full old q j)
+      → has_full new q j
+      ≡ F (list_any (λ a. is_at_or_above q a.0 && fills a) es && (id == j)) (has_full old q j)
   pub places : (q : Path) (j i : ℕ) → place_at new q j ≡ Some i
       → ((id ≡ j) × (is_entry es i q ≡ true)) ⊎ (place_at old q j ≡ Some i)
 
@@ -224,7 +227,8 @@ pub record LaysAt (writes : List Write) (x : Path) (last : Option ℕ) (es : Lis
   pub same : (t : PathTree) → fold (overlaid x) t es ≡ overlay x t (after last writes)
 
 -- these do so for the writes up to the last one that sets the whole of what stands at x
-pub record SetsAt (writes : List Write) (x : Path) (last here : Option ℕ) (es : List Assignment) : Type 0 where
+pub record SetsAt (writes : List Write) (x : Path) (last here : Option ℕ) (es : List Assignment)
+    : Type 0 where
   pub within : list_any (λ a. not (is_at_or_above x a.0)) es ≡ false
   pub full : (list_any is_full es || fills (assignments (after (later_of last here) writes)) x)
       ≡ fills (assignments (after last writes)) x

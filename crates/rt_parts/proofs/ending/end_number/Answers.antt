@@ -4,7 +4,7 @@ use Rattle.std.proofs.lemmas.List.Quantifiers.{position-Some}
 use Rattle.rt_parts.specs.declared.held.Held.{Held}
 use Rattle.rt_parts.specs.inside.HeldView.{AreHeld}
 use Rattle.rt_parts.proofs.HeldLaws.{held_filter}
-use Rattle.rt_parts.proofs.Places.{filter_none_found, others_left}
+use Rattle.rt_writes.specs.laws.Places.{filter_none_found, others_left}
 use Rattle.rt_parts.proofs.ending.end_number.Goals as goal
 
 pub returns-in-Some-clause-left : goal.returns-in-Some-clause-left

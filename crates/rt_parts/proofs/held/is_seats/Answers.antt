@@ -2,7 +2,7 @@ use Rattle.std.proofs.Common.{◌≡◌, get_or, Some, None, sym, rules}
 use Rattle.std.specs.Prelude.{◌==◌}
 use Rattle.std.specs.List.{position}
 use Rattle.rt_parts.specs.declared.held.Held.{Held}
-use Rattle.rt_parts.proofs.Places.{found_at, any_found, any_none}
+use Rattle.rt_writes.specs.laws.Places.{found_at, any_found, any_none}
 use Rattle.rt_parts.proofs.held.is_seats.Goals as goal
 
 pub returns-in-Some : goal.returns-in-Some

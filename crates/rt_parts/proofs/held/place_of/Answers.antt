@@ -1,7 +1,7 @@
 use Rattle.std.proofs.Common.{◌<◌, length, ltb, arith, sym, rules}
 use Rattle.std.proofs.lemmas.List.Sorted.{IsPartitionPoint-from_clause}
 use Rattle.rt_parts.specs.declared.held.Held.{Held}
-use Rattle.rt_parts.proofs.Places.{IsBetween, lesser_first, stands, stands_past, stands_not}
+use Rattle.rt_writes.specs.laws.Places.{IsBetween, lesser_first, stands, stands_past, stands_not}
 use Rattle.rt_parts.proofs.held.place_of.Goals as goal
 
 pub returns-then-place-listeners : goal.returns-then-place-listeners

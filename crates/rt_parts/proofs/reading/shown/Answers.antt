@@ -4,7 +4,7 @@ use Rattle.std.specs.Option.{option_and_then}
 use Rattle.rt_parts.specs.declared.error.ShownError.TheVariants.{NoMemory}
 use Rattle.rt_parts.specs.declared.held.Held.{Held}
 use Rattle.rt_parts.specs.inside.HeldView.{shown_in}
-use Rattle.rt_parts.proofs.Places.{filter_none_found, found_at}
+use Rattle.rt_writes.specs.laws.Places.{filter_none_found, found_at}
 use Rattle.rt_parts.proofs.reading.shown.Goals as goal
 
 pub returns-in_err-shown_of-in-Some-clause-unknown :

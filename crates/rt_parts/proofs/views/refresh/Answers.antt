@@ -1,4 +1,4 @@
-use Rattle.std.proofs.Common.{◌≡◌, ◌<◌, ◌++◌, suc, List, length, take, drop, set, get_or, map, rules, ap, sym, subst, ◌∙◌, append_assoc, add-one}
+use Rattle.std.proofs.Common.{◌≡◌, ◌<◌, ◌++◌, suc, List, length, take, drop, set, get_or, map, rules, ap, sym, ◌∙◌, append_assoc, add-one}
 use Rattle.std.specs.Option.{option_to_list}
 use Rattle.std.proofs.Math.Seq.{map-set_same}
 use Rattle.rt_world.specs.declared.report.Note.{Note}
@@ -7,7 +7,7 @@ use Rattle.rt_parts.specs.declared.held.Held.{Held}
 use Rattle.rt_parts.specs.inside.HeldView.{IsHeld, listener_of, listeners_of, pair_of, refreshed}
 use Rattle.rt_parts.specs.Refreshed.{FollowsNamed}
 use Rattle.rt_world.specs.Met.{all_told, told_met}
-use Rattle.rt_parts.proofs.Loops.{step_set, step_gather, step_left, all_set, rising_same, notes_more}
+use Rattle.rt_parts.proofs.Loops.{step_set, step_left, all_set, rising_same, notes_more}
 use Rattle.rt_parts.proofs.views.refresh.Goals as goal
 
 pub refresh_one-requires-clause-follow : goal.refresh_one-requires-clause-follow

@@ -1,9 +1,6 @@
-use Rattle.std.proofs.Common.{◌≡◌, ◌++◌, true, false, not, OnOk, sym, ap, subst, ◌∙◌, rules}
+use Rattle.std.proofs.Common.{◌≡◌, ◌++◌, true, false, OnOk, sym, ap, subst, ◌∙◌, rules}
 use Rattle.std.specs.Option.{option_map_or, option_to_list}
 use Rattle.rt_view.specs.Views.{View, stays_object}
-use Rattle.rt_world.specs.Answers.{batch_note}
-use Rattle.rt_world.specs.Met.{told}
-use Rattle.rt_parts.specs.inside.HeldView.{listener_of}
 use Rattle.rt_parts.proofs.ViewLaws.{touched_told}
 use Rattle.rt_parts.proofs.views.touch_or_renew.Goals as goal
 

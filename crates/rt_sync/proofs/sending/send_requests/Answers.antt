@@ -1,5 +1,4 @@
 use Rattle.std.proofs.Common.{◌≡◌, ◌++◌, List, [], ◌∷◌, map, OnOk, refl, ap, sym, subst, ◌∙◌, append_assoc}
-use Rattle.rt_wire.specs.declared.client.ClientMessage.{ClientMessage}
 use Rattle.rt_world.specs.declared.request.Request.{Request}
 use Rattle.rt_world.specs.Messages.{request_message}
 use Rattle.rt_sync.proofs.sending.send_requests.Goals as goal

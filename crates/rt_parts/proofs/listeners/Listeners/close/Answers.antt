@@ -1,4 +1,4 @@
-use Rattle.std.proofs.Common.{◌==◌, not, Bool, map, ap, ◌∙◌}
+use Rattle.std.proofs.Common.{◌==◌, not, Bool, ap, ◌∙◌}
 use Rattle.std.specs.List.{filter}
 use Rattle.rt_world.specs.World.{Listener}
 use Rattle.rt_parts.specs.Listeners.{views_left}

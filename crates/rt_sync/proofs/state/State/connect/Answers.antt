@@ -4,6 +4,7 @@ use Rattle.rt_world.specs.declared.step.Step.{Step}
 use Rattle.rt_world.specs.Messages.{request_message}
 use Rattle.rt_sync.specs.Core.{Held}
 use Rattle.rt_sync.specs.inside.Parts.{listens_shown}
+use Rattle.rt_sync.proofs.Viewed.{same_refreshed}
 use Rattle.rt_sync.proofs.NextWorlds.{along, connect_made}
 use Rattle.rt_sync.proofs.state.State.connect.Goals as goal
 
@@ -12,10 +13,9 @@ returns-clause-made c =
     let state = c.state.inside in
     let sent : c.send_requests.new.outgoing.items ≡ listens_shown (shown state.cover) ++ map request_message state.requests = search rules in
     along state.limits state.listeners.listeners state.requests state.brought state.cover state.is_connected state.outgoing.items state.given_listeners state.given_requests
-    (c.args.self).world (ap (λ (h : Held). h.world) c.state.view_is) Step.Connected _ (λ d. connect_made state.limits state.listeners.listeners state.requests state.brought state.cover state.is_connected state.outgoing.items state.given_listeners state.given_requests c.connection_law.ensures.connected d c.send_requests.new.outgoing.items sent _ refl c.new-notes.ensures.items) c.requires
+    (c.args.self).world (ap (λ (h : Held). h.world) c.state.view_is) Step.Connected _ (λ d. connect_made state.limits state.listeners.listeners state.requests state.brought state.cover state.is_connected state.outgoing.items state.given_listeners state.given_requests c.connection_law.ensures.connected d c.send_requests.new.outgoing.items sent _ refl c.new-notes.ensures.items) c.requires.due
 
 pub returns-clause-views : goal.returns-clause-views
-returns-clause-views c = record {
-  listeners = ap (λ (h : Held). (h.world).listeners) c.state.view_is;
-  views = ap (λ (h : Held). h.views) c.state.view_is;
-}
+returns-clause-views c =
+    same_refreshed c.args.self _ c.requires.viewed
+    (record { listeners = ap (λ (h : Held). (h.world).listeners) c.state.view_is; views = ap (λ (h : Held). h.views) c.state.view_is })

@@ -59,8 +59,12 @@ returns-clause-views c =
     let state = c.state.inside in
     let pend = c.pending-pending.ensures in
     record {
-      listeners = c.in_ok-add.ensures.listeners ∙ ap (λ ws. state.listeners.listeners ++ renewed state.brought ws (new_listener (state.given_listeners + 1) c.args.seat c.args.query) ∷ []) pend
-          ∙ (λ i. ((c.state.view_is i).world).listeners ++ renewed state.brought (pending state.requests) (new_listener ((c.state.view_is i).world).next_listener c.args.seat c.args.query) ∷ []);
-      views = c.in_ok-add.ensures.views ∙ ap (λ ws. state.listeners.views ++ first_view_of state.brought ws c.args.query ∷ []) pend
-          ∙ (λ i. (c.state.view_is i).views ++ first_view_of state.brought (pending state.requests) c.args.query ∷ []);
+      seat = c.args.seat;
+      more = refl;
+      adds = record {
+        listeners = c.in_ok-add.ensures.listeners ∙ ap (λ ws. state.listeners.listeners ++ renewed state.brought ws (new_listener (state.given_listeners + 1) c.args.seat c.args.query) ∷ []) pend
+            ∙ (λ i. ((c.state.view_is i).world).listeners ++ renewed state.brought (pending state.requests) (new_listener ((c.state.view_is i).world).next_listener c.args.seat c.args.query) ∷ []);
+        views = c.in_ok-add.ensures.views ∙ ap (λ ws. state.listeners.views ++ first_view_of state.brought ws c.args.query ∷ []) pend
+            ∙ (λ i. (c.state.view_is i).views ++ first_view_of state.brought (pending state.requests) c.args.query ∷ []);
+      };
     }

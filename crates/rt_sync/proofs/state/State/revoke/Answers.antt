@@ -1,4 +1,4 @@
-use Rattle.std.proofs.Common.{◌≡◌, ◌++◌, None, ◌∙◌, ap, map, sym, subst, refl, not, false, Some}
+use Rattle.std.proofs.Common.{Bool, ◌≡◌, ◌++◌, None, ◌∙◌, ap, map, sym, subst, refl, not, false, Some}
 use Rattle.std.specs.List.{filter}
 use Rattle.rt_query.specs.QueryEq.{query_eq}
 use Rattle.rt_query.specs.Supply.{form}
@@ -61,9 +61,14 @@ pub returns-clause-views : goal.returns-clause-views
 returns-clause-views c =
     let state = c.state.inside in
     let form_is : option_map (λ (k : Tagged). k.form) (listen_at state.cover c.args.tag) ≡ Some c.in_ok-form.form = c.in_ok-form.ensures.form in
+    let test : Listener → Bool = λ l. not (is_cancelled (c.args.self).world c.args.tag l) in
     record {
-      listeners = c.in_ok-cancel.ensures.listeners ∙ (λ i. filter (λ (l : Listener). not (option_map_or (query_eq (form l.query)) (sym form_is i) false)) state.listeners.listeners)
-          ∙ (λ i. filter (λ (l : Listener). not (is_cancelled (c.state.view_is i).world c.args.tag l)) ((c.state.view_is i).world).listeners);
-      views = c.in_ok-cancel.ensures.views ∙ (λ i. views_left (λ (l : Listener). not (option_map_or (query_eq (form l.query)) (sym form_is i) false)) state.listeners)
-          ∙ (λ i. views_left (λ (l : Listener). not (is_cancelled (c.state.view_is i).world c.args.tag l)) (record { listeners = ((c.state.view_is i).world).listeners; views = (c.state.view_is i).views }));
+      test = test;
+      left = refl;
+      keeps = record {
+        listeners = c.in_ok-cancel.ensures.listeners ∙ (λ i. filter (λ (l : Listener). not (option_map_or (query_eq (form l.query)) (sym form_is i) false)) state.listeners.listeners)
+            ∙ (λ i. filter (λ (l : Listener). not (is_cancelled (c.state.view_is i).world c.args.tag l)) ((c.state.view_is i).world).listeners);
+        views = c.in_ok-cancel.ensures.views ∙ (λ i. views_left (λ (l : Listener). not (option_map_or (query_eq (form l.query)) (sym form_is i) false)) state.listeners)
+            ∙ (λ i. views_left (λ (l : Listener). not (is_cancelled (c.state.view_is i).world c.args.tag l)) (record { listeners = ((c.state.view_is i).world).listeners; views = (c.state.view_is i).views }));
+      };
     }

@@ -1,7 +1,7 @@
 use Rattle.std.proofs.Common.{◌∷◌, [], IfOk, Result, Ok, Err, sym, subst}
 use Rattle.rt_world.specs.declared.step.Step.{Step}
 use Rattle.rt_sync.specs.inside.Due.{IsDue, IsNext}
-use Rattle.rt_sync.specs.inside.Viewed.{RefreshesViews}
+use Rattle.rt_sync.specs.inside.Viewed.{HasViews}
 use Rattle.rt_sync.proofs.state.State.take_data.Goals as goal
 
 -- what is so of each good result
@@ -22,4 +22,4 @@ returns-clause-made c =
 
 pub returns-clause-views : goal.returns-clause-views
 returns-clause-views c =
-    subst (λ es. IfOk c.take_merge.result (λ made. RefreshesViews c.args.self es made.0)) c.in_ok-entries.ensures c.take_merge.ensures.views
+    subst (λ es. IfOk c.take_merge.result (λ made. HasViews c.args.self (Step.DataMerge c.args.tag es) made.0)) c.in_ok-entries.ensures c.take_merge.ensures.views

@@ -42,6 +42,10 @@ pub returns-clause-views : goal.returns-clause-views
 returns-clause-views c =
     let test : Listener → Bool = λ l. not (l.number == c.args.listener) in
     record {
-      listeners = c.remove.ensures.listeners ∙ ap (λ (h : Held). filter test (h.world).listeners) c.state.view_is;
-      views = c.remove.ensures.views ∙ ap (λ (h : Held). views_left test (record { listeners = (h.world).listeners; views = h.views })) c.state.view_is;
+      test = test;
+      left = refl;
+      keeps = record {
+        listeners = c.remove.ensures.listeners ∙ ap (λ (h : Held). filter test (h.world).listeners) c.state.view_is;
+        views = c.remove.ensures.views ∙ ap (λ (h : Held). views_left test (record { listeners = (h.world).listeners; views = h.views })) c.state.view_is;
+      };
     }

@@ -3,13 +3,13 @@ use Rattle.std.specs.List.{position, fold, filter}
 use Rattle.std.proofs.lemmas.List.Quantifiers.{position-Some}
 use Rattle.std.proofs.lemmas.Result.{IfOk-weaker, on_err_weaker}
 use Rattle.rt_writes.specs.Writes.{overlay, overlaid}
-use Rattle.rt_writes.proofs.Lists.{find-no_position}
+use Rattle.rt_writes.specs.laws.Places.{none_found}
 use Rattle.rt_writes.proofs.NumberLaws.{no_write, one_write, touches_at, rising_pending}
 use Rattle.rt_writes.proofs.pending.Pending.overlaid.Goals as goal
 
 pub returns-in_default-clause-overlay : goal.returns-in_default-clause-overlay
 returns-in_default-clause-overlay c =
-    sym (no_write c.args.path.now c.args.tree c.args.self.now c.args.id (find-no_position (λ w. w.id == c.args.id) c.args.self.now (sym c.in_default.ensures)))
+    sym (no_write c.args.path.now c.args.tree c.args.self.now c.args.id (none_found (λ w. w.id == c.args.id) c.args.self.now (sym c.in_default.ensures)))
 
 pub returns-clause-overlay : goal.returns-clause-overlay
 returns-clause-overlay c =
