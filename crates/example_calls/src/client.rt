@@ -5,13 +5,14 @@ use crate::queries::{all, at};
 use crate::trees::chat;
 use anyhow::{Result, anyhow};
 use kaltewi::{
-    Action, Call, Client, ClientError, Done, Gate, Item, Limits, MAX_SEATS, Outcome, Path,
-    PushError, Query, Seat, ServerMessage, Shared, Sink, Step, Tree, Unclosed, crossing_law,
-    deliver, with_core, with_seat,
+    Action, Call, Client, ClientError, ClientMessage, ClientNumbers, Done, Gate, Item, Limits,
+    MAX_SEATS, Outcome, Path, PushError, Query, Seat, ServerMessage, Shared, Sink, Step, Tree,
+    Unclosed, crossing_law, deliver, turn, with_core, with_seat,
 };
 use std::alloc::{AllocError, Global};
 use std::io::Print;
 use std::sync::Wait;
+use std::sync::atomic::{AtomicBool, Ordering};
 use std::thread;
 use std::thread::Threads;
 
@@ -20,14 +21,56 @@ pub(crate) fn open(alloc: Global) -> Result<(Client, Vec<Seat>), ClientError> {
     Client::open(alloc, 1, &[64, 8], Limits::full())
 }
 
+// A client whose number a counter gives out, so that no other takes its seats.
+fn open_numbered(alloc: Global) -> Result<(Client, Vec<Seat>), ClientError> {
+    let mut numbers = ClientNumbers::new();
+    numbers.open(alloc, &[8], Limits::full())
+}
+
 // How many seats a client may have besides so many.
 fn seats_left(seats: usize) -> usize {
     MAX_SEATS.saturating_sub(seats)
 }
 
-// Whoever calls a client locks it, for that call alone.
+// What the lock of a client keeps, without a client, and its seats.
+fn open_alone(alloc: Global) -> Result<(Shared, Vec<Seat>), ClientError> {
+    Shared::open(alloc, 2, &[1], Limits::full())
+}
+
+// A call of a client locks it, for that call alone, and wakes whoever waits.
 fn connect(rt: &impl Wait, client: &Client) -> Result<Outcome, ClientError> {
-    client.shared.lock(rt).connected()
+    client.connected(rt)
+}
+
+// Whoever locks a client by itself wakes them too, once it is done.
+fn connect_locked(rt: &impl Wait, client: &Client) -> Result<Outcome, ClientError> {
+    let mut shared = client.shared.lock(rt);
+    let outcome = shared.connected();
+    client.notify(shared);
+    outcome
+}
+
+// Sleeps until the seat's ring holds something, or who waits is told to stop; and until a message is to be
+// sent.
+fn wait(rt: &impl Wait, client: &Client, seat: &mut Seat) -> Result<bool, ClientError> {
+    client.wait(rt, seat)
+}
+
+fn wait_to_send(rt: &impl Wait, client: &Client) -> Result<Option<ClientMessage>, ClientError> {
+    client.wait_outgoing(rt)
+}
+
+// Has deliveries ask their gates again, and tells those who wait to stop.
+fn wake_all(rt: &impl Wait, client: &Client) {
+    client.wake(rt);
+    client.stop(rt);
+}
+
+// What those who wait look at, and what they are told.
+fn is_due(shared: &mut Shared, seat: &Seat) -> bool {
+    let is_due = shared.is_due(seat);
+    shared.stop();
+    is_due && shared.is_stopped()
 }
 
 // The calls of a seat on the locked value. The number is that of the new listener or request.
@@ -152,25 +195,37 @@ fn hear(seat: &mut Seat, heard: &mut Heard) {
     seat.hand_out(heard);
 }
 
-// Who says whether a delivery goes on. This one always does.
-struct Always;
+// Who says whether a delivery goes on. This one says so once.
+#[derive(Drop)]
+struct Once {
+    asked: AtomicBool,
+}
 
-impl Gate for Always {
-    ghost may_stop = { λ _. ⊥ };
-
+impl Gate for Once {
     fn go(&self) -> bool {
-        true
+        !self.asked.swap(true, Ordering::SeqCst)
     }
 }
 
-// Settles the seat and hands out, for so many turns at most.
+// Settles the seat and hands out, for so many turns at most. While there is nothing it would sleep.
 fn hear_turns(
     rt: &impl Wait,
     client: &Client,
     seat: &mut Seat,
     heard: &mut Heard,
 ) -> Result<(), ClientError> {
-    deliver(rt, client, seat, heard, &Always, 3)
+    let asked = AtomicBool::new(false);
+    deliver(rt, client, seat, heard, &Once { asked }, 3)
+}
+
+// A turn of it, which lets go of the lock before it hands out.
+fn hear_once(
+    rt: &impl Wait,
+    client: &Client,
+    seat: &mut Seat,
+    heard: &mut Heard,
+) -> Result<(), ClientError> {
+    turn(client.shared.lock(rt), seat, heard)
 }
 
 // Two threads over one client, a seat each.
@@ -240,21 +295,42 @@ fn show_locked(rt: &impl Print, alloc: Global, shared: &mut Shared, seat: &mut S
 
 fn show_hearing<R: Print + Wait>(rt: &R, client: &Client, seat: &mut Seat) -> Result<()> {
     let mut heard = Heard { any: false };
-    hear(seat, &mut heard);
-    println!(rt; "in the ring: {}", heard.any)?;
+    println!(rt; "in the ring: {}", wait(rt, client, seat)?)?;
     hear_turns(rt, client, seat, &mut heard)?;
+    println!(rt; "heard: {}", heard.any)?;
+    hear_once(rt, client, seat, &mut heard)?;
+    hear(seat, &mut heard);
     println!(rt; "none left: {}", next_item(seat).is_none())?;
+    Ok(())
+}
+
+fn show_waiting<R: Print + Wait>(rt: &R, client: &Client, seat: &mut Seat) -> Result<()> {
+    wake_all(rt, client);
+    let is_told = (wait(rt, client, seat)?, wait_to_send(rt, client)?.is_some());
+    println!(rt; "there is more: {} {}", is_told.0, is_told.1)?;
+    Ok(())
+}
+
+fn show_alone(rt: &impl Print, alloc: Global) -> Result<()> {
+    let (_client, seats) = open_numbered(alloc)?;
+    println!(rt; "seats of the next client: {}", seats.len())?;
+    let (mut shared, mut seats) = open_alone(alloc)?;
+    if let Some(seat) = seats.pop() {
+        println!(rt; "something is there: {}", is_due(&mut shared, &seat))?;
+    }
     Ok(())
 }
 
 pub(crate) fn show<R: Print + Threads + Wait + Sync>(rt: &R, alloc: Global) -> Result<()> {
     let (mut client, mut first, mut second) = pair(alloc)?;
-    let is_connected = connect(rt, &client)? == Outcome::Done;
+    let is_connected = connect(rt, &client)? == Outcome::Done
+        && connect_locked(rt, &client).is_err();
     println!(rt; "connected: {is_connected}, seats left: {}", seats_left(2))?;
     show_locked(rt, alloc, client.shared.get_mut(), &mut first)?;
     settle_both(rt, &client, &mut first, &mut second)?;
     show_hearing(rt, &client, &mut first)?;
+    show_waiting(rt, &client, &mut first)?;
     let is_closed = close(client.shared.get_mut(), second).is_none();
     println!(rt; "closed: {is_closed}")?;
-    Ok(())
+    show_alone(rt, alloc)
 }

@@ -1,21 +1,16 @@
 //! A chat of two threads over one client, as a program of yours may have it: each thread has a seat of
-//! its own, and a third one serves them. Whatever their order, it prints the same.
+//! its own, and a third one serves them. Each sleeps while there is nothing to do. Whatever their order,
+//! it prints the same.
 #![tactic(auto)]
 
 use anyhow::{Result, anyhow};
-use kaltewi::{
-    Client, ClientMessage, Limits, Mirror, Path, Peer, Query, Seat, ServerMessage, Tree,
-    crossing_law,
-};
+use kaltewi::{Client, ClientMessage, Limits, Mirror, Path, Peer, Query, Seat, Tree, crossing_law};
 use std::alloc::Global;
 use std::io::Print;
 use std::sync::Wait;
 use std::sync::atomic::{AtomicU64, Ordering};
 use std::thread;
 use std::thread::Threads;
-
-// How often a thread looks for what is new before it gives up.
-const LOOKS: u64 = 100_000_000;
 
 // What each of the two says, a line after its path.
 const ANN: [(&str, &str); 2] = [("/chat/ann-1", r#""hi""#), ("/chat/ann-2", r#""bye""#)];
@@ -34,31 +29,6 @@ fn is_whole(chat: &Mirror, listener: u64) -> bool {
     lines == LINES && chat.requests().is_empty()
 }
 
-// Whoever calls the client locks it, for that call alone.
-fn listen(rt: &impl Wait, client: &Client, seat: &mut Seat, query: Query) -> Result<u64> {
-    Ok(client.shared.lock(rt).listen(seat, query)?)
-}
-
-fn say(rt: &impl Wait, client: &Client, seat: &mut Seat, path: Path, line: Tree) -> Result<u64> {
-    Ok(client.shared.lock(rt).set(seat, path, line)?)
-}
-
-// What waits for the seat comes into its ring, and is taken from there with no lock.
-fn hear(rt: &impl Wait, client: &Client, seat: &mut Seat, chat: &mut Mirror) -> Result<()> {
-    client.shared.lock(rt).settle(seat)?;
-    seat.mirror(chat)?;
-    Ok(())
-}
-
-fn take(rt: &impl Wait, client: &Client) -> Result<Option<ClientMessage>> {
-    Ok(client.shared.lock(rt).take_outgoing()?)
-}
-
-fn give(rt: &impl Wait, client: &Client, message: ServerMessage) -> Result<()> {
-    client.shared.lock(rt).server_message(message)?;
-    Ok(())
-}
-
 // Says its lines, one after another.
 fn say_all(
     rt: &impl Wait,
@@ -69,12 +39,13 @@ fn say_all(
 ) -> Result<()> {
     for (path, line) in lines {
         let (path, line) = (Path::parse(alloc, path)?, Tree::read(alloc, line)?);
-        say(rt, client, seat, path, line)?;
+        client.set(rt, seat, path, line)?;
     }
     Ok(())
 }
 
-// One listens, says its lines, and then hears what its seat is told until the chat is whole.
+// One listens, says its lines, and then hears what its seat is told until the chat is whole. What waits
+// for the seat comes into its ring, and is taken from there with no lock.
 fn talk(
     rt: &impl Wait,
     alloc: Global,
@@ -84,40 +55,49 @@ fn talk(
     chat: &mut Mirror,
 ) -> Result<()> {
     let query = Query::at(Path::parse(alloc, "/chat")?).done();
-    let listener = listen(rt, client, seat, query)?;
+    let listener = client.listen(rt, seat, query)?;
     say_all(rt, alloc, client, seat, lines)?;
-    for _ in 0..LOOKS {
-        hear(rt, client, seat, chat)?;
+    for _ in rt.forever() {
+        seat.mirror(chat)?;
         if is_whole(chat, listener) {
             return Ok(());
         }
-        thread::yield_now();
+        if !client.wait(rt, seat)? {
+            return Err(anyhow!("the chat was told to stop"));
+        }
     }
-    Err(anyhow!("the chat does not end"))
+    unreachable!()
 }
 
 // The server takes a message, and the client what is sent for it.
 fn answer(rt: &impl Wait, client: &Client, peer: &mut Peer, message: ClientMessage) -> Result<()> {
     for sent in peer.message(1, message)? {
-        give(rt, client, sent.message)?;
+        client.server_message(rt, sent.message)?;
     }
     Ok(())
 }
 
-// Carries messages to the server as long as somebody talks.
-fn serve(rt: &impl Wait, client: &Client, peer: &mut Peer, talking: &AtomicU64) -> Result<()> {
-    for _ in 0..LOOKS {
-        let is_last = talking.load(Ordering::SeqCst) == 0;
-        match take(rt, client)? {
-            Some(message) => answer(rt, client, peer, message)?,
-            None if is_last => return Ok(()),
-            None => thread::yield_now(),
-        }
+// Carries messages to the server until it is told to stop.
+fn serve(rt: &impl Wait, client: &Client, peer: &mut Peer) -> Result<()> {
+    for _ in rt.forever() {
+        let Some(message) = client.wait_outgoing(rt)? else {
+            return Ok(());
+        };
+        answer(rt, client, peer, message)?;
     }
-    Err(anyhow!("nobody ends talking"))
+    unreachable!()
 }
 
-// One talks, and then is one fewer.
+// Whoever fails tells the others to stop, who may wait for it.
+fn serve_on(rt: &impl Wait, client: &Client, peer: &mut Peer) -> Result<()> {
+    let served = serve(rt, client, peer);
+    if served.is_err() {
+        client.stop(rt);
+    }
+    served
+}
+
+// One talks. The last of those who do tells the one who serves to stop.
 fn talk_on(
     rt: &impl Wait,
     alloc: Global,
@@ -128,7 +108,9 @@ fn talk_on(
     talking: &AtomicU64,
 ) -> Result<()> {
     let talked = talk(rt, alloc, client, seat, lines, chat);
-    talking.fetch_sub(1, Ordering::SeqCst);
+    if talked.is_err() || talking.fetch_sub(1, Ordering::SeqCst) == 1 {
+        client.stop(rt);
+    }
     talked
 }
 
@@ -153,7 +135,7 @@ fn run<R: Threads + Wait + Sync>(
             thread::join(
                 rt,
                 || talk_on(rt, alloc, client, second, BOB, bob, &talking),
-                || serve(rt, client, peer, &talking),
+                || serve_on(rt, client, peer),
             )
         },
     );
@@ -182,18 +164,13 @@ fn server(alloc: Global) -> Result<Peer> {
     Ok(peer)
 }
 
-fn connect(rt: &impl Wait, client: &Client) -> Result<()> {
-    client.shared.lock(rt).connected()?;
-    Ok(())
-}
-
 fn main(rt: HostRuntime) -> Result<()> {
     let alloc = rt.alloc();
     let (client, mut seats) = Client::open(alloc, 1, &[64, 64], Limits::full())?;
     let (Some(mut second), Some(mut first)) = (seats.pop(), seats.pop()) else {
         return Err(anyhow!("there are no two seats"));
     };
-    connect(&rt, &client)?;
+    client.connected(&rt)?;
     let mut peer = server(alloc)?;
     let (mut ann, mut bob) = (Mirror::new(alloc), Mirror::new(alloc));
     let (seats, mirrors) = ((&mut first, &mut second), (&mut ann, &mut bob));

@@ -1,7 +1,7 @@
 // A client that threads share, and the calls on it.
 
-/// A client, which threads share by reference, with a seat for each ring's capacity. Whoever calls it
-/// locks it, for that call alone.
+/// A client, which threads share by reference, with a seat for each ring's capacity. Its calls lock it,
+/// each for that call alone, and wake whoever waits.
 ///
 /// ```rust
 /// pub(crate) fn open(alloc: Global) -> Result<(Client, Vec<Seat>), ClientError> {
@@ -13,10 +13,40 @@
 /// }
 ///
 /// fn connect(rt: &impl Wait, client: &Client) -> Result<Outcome, ClientError> {
-///     client.shared.lock(rt).connected()
+///     client.connected(rt)
+/// }
+///
+/// fn connect_locked(rt: &impl Wait, client: &Client) -> Result<Outcome, ClientError> {
+///     let mut shared = client.shared.lock(rt);
+///     let outcome = shared.connected();
+///     client.notify(shared);
+///     outcome
+/// }
+///
+/// fn wait(rt: &impl Wait, client: &Client, seat: &mut Seat) -> Result<bool, ClientError> {
+///     client.wait(rt, seat)
+/// }
+///
+/// fn wait_to_send(rt: &impl Wait, client: &Client) -> Result<Option<ClientMessage>, ClientError> {
+///     client.wait_outgoing(rt)
+/// }
+///
+/// fn wake_all(rt: &impl Wait, client: &Client) {
+///     client.wake(rt);
+///     client.stop(rt);
 /// }
 /// ```
 pub use rt_client::{Client, MAX_SEATS};
+
+/// Gives each client that it opens a number of its own.
+///
+/// ```rust
+/// fn open_numbered(alloc: Global) -> Result<(Client, Vec<Seat>), ClientError> {
+///     let mut numbers = ClientNumbers::new();
+///     numbers.open(alloc, &[8], Limits::full())
+/// }
+/// ```
+pub use rt_client::ClientNumbers;
 
 /// What a client's lock keeps. A call of a seat is answered by the number of the new listener or
 /// request; the others are those of whoever holds the connection.
@@ -72,6 +102,16 @@ pub use rt_client::{Client, MAX_SEATS};
 ///
 /// fn new_id(shared: &mut Shared, now_ms: u64, random: [u8; 12]) -> Result<[u8; 20], PushError> {
 ///     shared.push_key(now_ms, random)
+/// }
+///
+/// fn open_alone(alloc: Global) -> Result<(Shared, Vec<Seat>), ClientError> {
+///     Shared::open(alloc, 2, &[1], Limits::full())
+/// }
+///
+/// fn is_due(shared: &mut Shared, seat: &Seat) -> bool {
+///     let is_due = shared.is_due(seat);
+///     shared.stop();
+///     is_due && shared.is_stopped()
 /// }
 /// ```
 pub use rt_client::Shared;
@@ -139,7 +179,7 @@ pub use rt_client::Call;
 /// ```
 pub use rt_client::{Done, with_seat};
 
-/// Makes a step that is no seat's call.
+/// Makes a step that is neither a seat's call nor its end.
 ///
 /// ```rust
 /// fn connect_core(shared: &mut Shared) -> Result<Done, ClientError> {
@@ -171,22 +211,24 @@ pub use rt_client::with_core;
 /// ```
 pub use rt_client::Sink;
 
-/// Who says whether a delivery goes on. `may_stop` says in contracts when it may say no.
+/// Who says whether a delivery goes on. `may_stop` says in contracts when it may say no, `may_go` when yes.
 ///
 /// ```rust
-/// struct Always;
+/// #[derive(Drop)]
+/// struct Once {
+///     asked: AtomicBool,
+/// }
 ///
-/// impl Gate for Always {
-///     ghost may_stop = { λ _. ⊥ };
-///
+/// impl Gate for Once {
 ///     fn go(&self) -> bool {
-///         true
+///         !self.asked.swap(true, Ordering::SeqCst)
 ///     }
 /// }
 /// ```
 pub use rt_client::Gate;
 
-/// Settles a seat under the lock and hands out, turn after turn, for as long as the gate says so.
+/// Settles a seat under the lock and hands out, turn after turn, for as long as the gate says so. It
+/// sleeps while there is nothing.
 ///
 /// ```rust
 /// fn hear_turns(
@@ -195,10 +237,20 @@ pub use rt_client::Gate;
 ///     seat: &mut Seat,
 ///     heard: &mut Heard,
 /// ) -> Result<(), ClientError> {
-///     deliver(rt, client, seat, heard, &Always, 3)
+///     let asked = AtomicBool::new(false);
+///     deliver(rt, client, seat, heard, &Once { asked }, 3)
+/// }
+///
+/// fn hear_once(
+///     rt: &impl Wait,
+///     client: &Client,
+///     seat: &mut Seat,
+///     heard: &mut Heard,
+/// ) -> Result<(), ClientError> {
+///     turn(client.shared.lock(rt), seat, heard)
 /// }
 /// ```
-pub use rt_client::deliver;
+pub use rt_client::{deliver, turn};
 
 /// The law that threads may share a client, and may be handed seats and what is told. Who starts
 /// threads calls it.

@@ -24,10 +24,11 @@
 //! ```text
 //! let (client, mut seats) = Client::open(alloc, 1, &[64], Limits::full())?;
 //! let query = Query::at(Path::parse(alloc, "/chat")?).done();
-//! let listener = client.shared.lock(rt).listen(&mut seats[0], query)?;
-//! client.shared.lock(rt).server_message(ServerMessage::read(alloc, text)?)?;
-//! client.shared.lock(rt).settle(&mut seats[0])?;                // what waits comes into the seat's ring
-//! while let Some(item) = seats[0].next() { .. }                 // with no lock
+//! let listener = client.listen(rt, &mut seats[0], query)?;
+//! client.server_message(rt, ServerMessage::read(alloc, text)?)?;   // in the connection's thread
+//! while client.wait(rt, &mut seats[0])? {                          // sleeps until something is there
+//!     while let Some(item) = seats[0].next() { .. }                // with no lock
+//! }
 //! ```
 //!
 //! Each name has an example above the line that hands it on, in the module of its topic: `trees`, `queries`,
@@ -48,8 +49,8 @@ mod told;
 mod trees;
 
 pub use client::{
-    Call, Client, Done, Gate, MAX_SEATS, Seat, Shared, Sink, Unclosed, crossing_law, deliver,
-    with_core, with_seat,
+    Call, Client, ClientNumbers, Done, Gate, MAX_SEATS, Seat, Shared, Sink, Unclosed, crossing_law,
+    deliver, turn, with_core, with_seat,
 };
 pub use errors::{
     ClientError, CoreError, MailError, PeerError, PushError, QueryError, TreeError, WireError,

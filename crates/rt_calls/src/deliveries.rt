@@ -34,18 +34,41 @@ impl Sink for Basket {
     }
 }
 
-// A gate that always says yes, and how often it was asked.
+// A gate that says yes so often, and then no; and how often it was asked.
 #[derive(Drop)]
 struct Asked {
+    yes: u64,
     times: AtomicU64,
 }
 
 impl Gate for Asked {
-    ghost may_stop = { λ _. ⊥ };
-
     fn go(&self) -> bool {
-        self.times.fetch_add(1, Ordering::SeqCst);
-        true
+        self.times.fetch_add(1, Ordering::SeqCst) < self.yes
+    }
+}
+
+// Who locks the client for each item, and how often that could be done.
+#[derive(Drop)]
+struct Locking<'a> {
+    basket: Basket,
+    client: &'a Client,
+    free: &'a AtomicU64,
+}
+
+impl<'a> Sink for Locking<'a> {
+    ghost after_item = { λ sink item. record sink {
+      basket = record (sink.basket) {
+        items = buffer (keep_last sink.basket.items.capacity (sink.basket.items.items ++ item ∷ []))
+            sink.basket.items.capacity;
+      };
+    } };
+
+    fn take(&mut self, item: Item) {
+        if let Some(shared) = self.client.shared.try_lock() {
+            drop(shared);
+            self.free.fetch_add(1, Ordering::SeqCst);
+        }
+        self.basket.take(item);
     }
 }
 
@@ -80,17 +103,21 @@ pub(crate) fn hand_out(seat: &mut Seat, line: &mut Line) -> Told {
     Ok(())
 }
 
-// `deliver TURNS`: how often the gate was asked, why it was refused, if it was, and what the sink
-// was given.
+// `deliver TURNS YES`: how often the gate was asked, why it was refused, if it was, whether the lock was
+// held while the sink was given something, and what that was.
 pub(crate) fn deliver<R: Wait>(client: &mut Client, seat: &mut Seat, line: &mut Line) -> Told {
-    let turns = line.number();
+    let (turns, yes) = (line.number(), line.number());
     line.sound()?;
-    let mut basket = new_basket(line.alloc)?;
-    let gate = Asked {
-        times: AtomicU64::new(0),
+    let basket = new_basket(line.alloc)?;
+    let (times, free) = (AtomicU64::new(0), AtomicU64::new(0));
+    let gate = Asked { yes, times };
+    let mut sink = Locking {
+        basket,
+        client,
+        free: &free,
     };
     let rt = Waits::<R> { rt: PhantomData };
-    let answer = rt_client::deliver(&rt, client, seat, &mut basket, &gate, turns);
+    let answer = rt_client::deliver(&rt, client, seat, &mut sink, &gate, turns);
     if let Err(ClientError::NoMemory | ClientError::Failed) = answer {
         return Err(Fault::Lost);
     }
@@ -99,6 +126,9 @@ pub(crate) fn deliver<R: Wait>(client: &mut Client, seat: &mut Seat, line: &mut 
         line.say(" ");
         refused(error, line)?;
     }
-    tell_all(&mut basket, line);
+    if free.load(Ordering::SeqCst) != sink.basket.items.len() as u64 {
+        line.say(" under the lock");
+    }
+    tell_all(&mut sink.basket, line);
     Ok(())
 }

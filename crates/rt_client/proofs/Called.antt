@@ -1,5 +1,5 @@
 -- A seat's call: its receipt, its lane and its ring.
-use Rattle.std.proofs.Common.{◌≡◌, ℕ, zero, suc, ◌≤◌, Bool, true, false, cond, ◌==◌, List, [], ◌∷◌, ◌++◌, length, take, refl, sym, ap, subst, ◌∙◌, arith, append-nil, ◌⊎◌, inl, inr, Option, Some, None, Ok, Err, Result, IfErr, unwrap_or, IsTrue}
+use Rattle.std.proofs.Common.{◌≡◌, ℕ, zero, suc, ◌≤◌, Bool, true, false, cond, ◌==◌, List, [], ◌∷◌, ◌++◌, length, take, refl, sym, ap, subst, ◌∙◌, arith, append-nil, inl, inr, Option, Some, None, Ok, Err, Result, IfErr, unwrap_or, IsTrue}
 use mathlib.Core.Bool.{true≢false}
 use Rattle.std.specs.Option.{option_map, option_map_or, option_or}
 use Rattle.rt_world.specs.declared.error.CoreError.{CoreError}

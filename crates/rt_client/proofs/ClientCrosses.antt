@@ -70,7 +70,7 @@ writes_send = search (spot_send, calls_cross) depth 40 fits 20000
 requests_send : IsSend requests.the_row
 requests_send = search (request_send, writes_send, calls_cross) depth 40 fits 20000
 
-message_send : IsSend message.the_row
+pub message_send : IsSend message.the_row
 message_send = search calls_cross depth 40 fits 20000
 
 ruleset cores_cross =
@@ -91,3 +91,6 @@ shared_send = search (held_send, all_cross) depth 40 fits 20000
 
 pub client_sync : IsSync client.the_row
 client_sync = search (shared_send, all_cross) depth 40 fits 20000
+
+pub client_send : IsSend client.the_row
+client_send = search (shared_send, all_cross) depth 40 fits 20000

@@ -1,11 +1,48 @@
 -- A seat's items given to a sink, turn by turn.
-use Rattle.std.proofs.Common.{◌≡◌, ℕ, ◌+◌, ◌*◌, ◌≤◌, inl, inr, [], ◌++◌, length, sym, ap, subst, ◌∙◌, append_assoc, arith}
-use Rattle.std.proofs.lemmas.List.{length-append}
+use Rattle.std.proofs.Common.{◌≡◌, ℕ, ◌+◌, ◌*◌, ◌≤◌, inl, inr, [], ◌++◌, length, take, sym, ap, subst, ◌∙◌, append_assoc, arith}
+use Rattle.std.proofs.lemmas.List.{length-append, length-take}
 use Rattle.std.proofs.lemmas.List.Sums.{fold-append}
 use Rattle.std.specs.List.{fold}
 use Rattle.rt_mail.specs.declared.item.Item.{Item}
-use Rattle.rt_client.specs.Calls.{Seated}
-use Rattle.rt_client.specs.Delivery.{emptied, HandsOut, AfterTurns}
+use Rattle.rt_client.specs.declared.error.ClientError.{ClientError}
+use Rattle.rt_client.specs.declared.error.ClientError.TheVariants.{Failed, WrongSeat, MailboxFull, TooManySeats, Core, NoMemory}
+use Rattle.rt_client.specs.Lanes.{due}
+use Rattle.rt_client.specs.Calls.{Locked, Seated}
+use Rattle.rt_client.specs.Settling.{RefusesSettle}
+use Rattle.rt_client.specs.Delivery.{emptied, Turns, RefusesTurnOf, RefusesTurn, HandsOut, AfterTurns}
+
+-- ---- one turn
+
+-- what it hands over is no more than the ring can hold
+pub turned_once : {S : Type 0} (after : S → Item → S) (locked : Locked) (had : Seated) (old : S) (left : Seated) (new : S)
+    → Turns after locked had old left new → HandsOut after 1 had old left new
+turned_once after locked had old left new t =
+    let lane = t.settles.hands.lane in
+    let came = take (due had.ring lane) lane.waiting in
+    let seated : t.between ≡ record had { ring = t.settles.ring } = t.settles.seated in
+    let ring = t.settles.hands.ring in
+    record {
+      came = came;
+      fits = omega (arith, length-take (due had.ring lane) lane.waiting);
+      sink =
+          t.sink
+          ∙ ap (λ (s : Seated). fold after old s.ring.items) seated
+          ∙ ap (λ r. fold after old r.items) ring;
+      seat = t.seat ∙ ap emptied seated ∙ ap (λ r. emptied (record had { ring = r })) ring;
+    }
+
+pub unsettled : (old new : Locked) (had : Seated) (why : ClientError) (left : Seated) → RefusesSettle old had why new left → RefusesTurn had why left
+unsettled old new had Failed left h = h.1.1
+unsettled old new had WrongSeat left h = h.1.1
+unsettled old new had MailboxFull left h = h
+unsettled old new had TooManySeats left h = h
+unsettled old new had (Core why) left h = h
+unsettled old new had NoMemory left h = let part = h.4 in (take part.count part.lane.waiting, h.5 ∙ ap (λ r. record had { ring = r }) part.ring)
+
+pub refused_once : (locked : Locked) (had : Seated) (why : ClientError) (left : Seated) → RefusesTurnOf locked had why left → RefusesTurn had why left
+refused_once locked had why left h = unsettled locked h.rest had why left h.refused
+
+-- ---- turn by turn
 
 more : (n capacity first rest : ℕ) → first ≤ n * capacity → rest ≤ 1 * capacity → first + rest ≤ (n + 1) * capacity
 more n capacity first rest a b = grind arith

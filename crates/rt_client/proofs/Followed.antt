@@ -22,11 +22,11 @@ use Rattle.rt_client.proofs.Seated.{own_is}
 
 -- ---- an open seat's lane
 
-there : (locked : Locked) (held : Held) (seat : Seated) (lane : Line) → seat.client ≡ locked.number → IsOpen locked held seat lane
+pub there : (locked : Locked) (held : Held) (seat : Seated) (lane : Line) → seat.client ≡ locked.number → IsOpen locked held seat lane
     → lane_of held.lanes seat.number ≡ Some lane
 there locked held seat lane own o = own_is locked.number seat.client (lane_of held.lanes seat.number) own ∙ o.own
 
-opened : (locked : Locked) (held : Held) (seat : Seated) (lane : Line) → locked.held ≡ Some held → seat.client ≡ locked.number
+pub opened : (locked : Locked) (held : Held) (seat : Seated) (lane : Line) → locked.held ≡ Some held → seat.client ≡ locked.number
     → lane_of held.lanes seat.number ≡ Some lane → IsOpen locked held seat lane
 opened locked held seat lane e own is = record {
   held = e;
@@ -34,14 +34,14 @@ opened locked held seat lane e own is = record {
 }
 
 -- the one lane
-same_lane : (locked : Locked) (one held : Held) (seat : Seated) (lane there_is : Line) → seat.client ≡ locked.number → IsOpen locked one seat lane
+pub same_lane : (locked : Locked) (one held : Held) (seat : Seated) (lane there_is : Line) → seat.client ≡ locked.number → IsOpen locked one seat lane
     → locked.held ≡ Some held → lane_of held.lanes seat.number ≡ Some there_is → lane ≡ there_is
 same_lane locked one held seat lane there_is own o e is =
     let same : one ≡ held = cc (o.held, e) in
     let at : lane_of held.lanes seat.number ≡ Some lane = subst (λ h. lane_of h.lanes seat.number ≡ Some lane) same (there locked one seat lane own o) in
     cc (at, is)
 
-here : {X : Type 0} (n : ℕ) (a b : X) → cond (n == n) a b ≡ a
+pub here : {X : Type 0} (n : ℕ) (a b : X) → cond (n == n) a b ≡ a
 here n a b = ap (λ t. cond t a b) (nat_eq_equiv.refl n)
 
 -- what the mirror that takes the ring's items knows
@@ -80,14 +80,14 @@ follows_settling old new seat mid left had has count k h m =
 
 -- ---- a seat's call
 
-stays_open : (n seat : ℕ) (c : Call) → does_close n (step_of seat c) ≡ false
+pub stays_open : (n seat : ℕ) (c : Call) → does_close n (step_of seat c) ≡ false
 stays_open n seat (call.Listen query) = refl
 stays_open n seat (call.Unlisten listener) = refl
 stays_open n seat (call.Write action) = refl
 stays_open n seat (call.OnDisconnect ending) = refl
 
 -- the lane after it
-lane_called : (w : World) (seat : ℕ) (c : Call) (r : Receipt) (report : Report) (lane : Line) → receipt_of w (step_of seat c) ≡ Some (seat, r)
+pub lane_called : (w : World) (seat : ℕ) (c : Call) (r : Receipt) (report : Report) (lane : Line) → receipt_of w (step_of seat c) ≡ Some (seat, r)
     → lane_after seat w (step_of seat c) (Ok report) (Some lane) ≡ Some (with_told (told_to seat report.notes) (signed_lane r lane))
 lane_called w seat c r report lane is =
     let notes = told_to seat report.notes in

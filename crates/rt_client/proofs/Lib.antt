@@ -1,4 +1,5 @@
 pub mod Allowed
+pub mod Awaited
 pub mod Batches
 pub mod Called
 pub mod ClientCrosses
@@ -11,6 +12,7 @@ pub mod MapCrosses
 pub mod Mirrored
 pub mod Noted
 pub mod Numbers
+pub mod PutBy
 pub mod Reflects
 pub mod Seated
 pub mod Settled

@@ -1,5 +1,5 @@
 -- Seats' calls on the locked value.
-use Rattle.std.proofs.Common.{◌≡◌, ℕ, cond, ◌==◌, sym, ap, subst, ◌∙◌, Option, Some, None, IsTrue}
+use Rattle.std.proofs.Common.{◌≡◌, ℕ, Bool, cond, ◌==◌, sym, ap, subst, ◌∙◌, Option, Some, None, IsTrue}
 use Rattle.std.specs.Cmp.{nat_eq_equiv}
 use Rattle.rt_wire.specs.declared.server.ServerMessage.{ServerMessage}
 use Rattle.rt_wire.specs.declared.server.ServerMessage.TheVariants as message
@@ -10,15 +10,15 @@ use Rattle.rt_mail.specs.Lanes.{Line, Ring}
 use Rattle.rt_world.specs.declared.call.Call.{Call}
 use Rattle.rt_client.specs.declared.done.Done.{Done}
 use Rattle.rt_client.specs.declared.error.ClientError.TheVariants.{Core, NoMemory}
-use Rattle.rt_client.specs.Seats.{caller_of}
+use Rattle.rt_client.specs.Seats.{caller_of, closed_by}
 use Rattle.rt_client.specs.Lanes.{lane_of, HasRoom}
 use Rattle.rt_client.specs.Shared.{Held}
 use Rattle.rt_client.specs.Calls.{Locked, Seated, Called, RefusesCalled, MakesCall, RefusesCall}
 use Rattle.rt_client.specs.inside.Receipts.{gives_number}
 use Rattle.rt_client.proofs.Called.{number_given}
 
-abbrev pub locked_of : ℕ → Option Stamp → Option Held → Locked
-locked_of number ids held = record { number = number; ids = ids; held = held }
+abbrev pub locked_of : ℕ → Option Stamp → Bool → Option Held → Locked
+locked_of number ids stopped held = record { number = number; ids = ids; held = held; stopped = stopped }
 
 abbrev pub seated_of : ℕ → ℕ → Ring → Seated
 seated_of client number ring = record { client = client; number = number; ring = ring }
@@ -27,31 +27,31 @@ seated_of client number ring = record { client = client; number = number; ring =
 pub own_is : (n seat : ℕ) (lanes : Option Line) → seat ≡ n → lanes ≡ cond (seat == n) lanes None
 own_is n seat lanes e = ap (λ b. cond b lanes None) (sym (ap (λ m. seat == m) (sym e) ∙ nat_eq_equiv.refl seat))
 
-pub seat_made : (n : ℕ) (ids : Option Stamp) (client number : ℕ) (ring left : Ring) (before after : Held) (c : Call) (done : Done) → client ≡ n
+pub seat_made : (n : ℕ) (ids : Option Stamp) (stopped : Bool) (client number : ℕ) (ring left : Ring) (before after : Held) (c : Call) (done : Done) → client ≡ n
     → Called before number ring c done after left
-    → MakesCall (locked_of n ids (Some before)) (seated_of client number ring) c done (locked_of n ids (Some after)) (seated_of client number left)
-seat_made n ids client number ring left before after c done own called = record {
+    → MakesCall (locked_of n ids stopped (Some before)) (seated_of client number ring) c done (locked_of n ids stopped (Some after)) (seated_of client number left)
+seat_made n ids stopped client number ring left before after c done own called = record {
   before = before;
   held = λ i. Some before;
   own = own;
   after = after;
-  locked = λ i. locked_of n ids (Some after);
+  locked = λ i. locked_of n ids stopped (Some after);
   ring = left;
   seated = λ i. seated_of client number left;
   called = called;
 }
 
-pub seat_refused : (n : ℕ) (ids : Option Stamp) (client number : ℕ) (ring left : Ring) (before after : Held) (c : Call) (why : CoreError) → client ≡ n
+pub seat_refused : (n : ℕ) (ids : Option Stamp) (stopped : Bool) (client number : ℕ) (ring left : Ring) (before after : Held) (c : Call) (why : CoreError) → client ≡ n
     → HasRoom ring (lane_of before.lanes number) → RefusesCalled before number ring c (Core why) after left
-    → RefusesCall (locked_of n ids (Some before)) (seated_of client number ring) c (Core why) (locked_of n ids (Some after)) (seated_of client number left)
-seat_refused n ids client number ring left before after c why own has h =
-    (before, λ i. Some before, subst (HasRoom ring) (own_is n client (lane_of before.lanes number) own) has, h.0, (λ i. locked_of n ids (Some (h.1 i)), λ i. seated_of client number (h.2 i)))
+    → RefusesCall (locked_of n ids stopped (Some before)) (seated_of client number ring) c (Core why) (locked_of n ids stopped (Some after)) (seated_of client number left)
+seat_refused n ids stopped client number ring left before after c why own has h =
+    (before, λ i. Some before, subst (HasRoom ring) (own_is n client (lane_of before.lanes number) own) has, h.0, (λ i. locked_of n ids stopped (Some (h.1 i)), λ i. seated_of client number (h.2 i)))
 
-pub seat_gave_up : (n : ℕ) (ids : Option Stamp) (client number : ℕ) (ring left : Ring) (before after : Held) (given_up : Option Held) (c : Call) → client ≡ n
+pub seat_gave_up : (n : ℕ) (ids : Option Stamp) (stopped : Bool) (client number : ℕ) (ring left : Ring) (before after : Held) (given_up : Option Held) (c : Call) → client ≡ n
     → HasRoom ring (lane_of before.lanes number) → given_up ≡ None → RefusesCalled before number ring c NoMemory after left
-    → RefusesCall (locked_of n ids (Some before)) (seated_of client number ring) c NoMemory (locked_of n ids given_up) (seated_of client number left)
-seat_gave_up n ids client number ring left before after given_up c own has none h =
-    (before, λ i. Some before, subst (HasRoom ring) (own_is n client (lane_of before.lanes number) own) has, h.0, left, h.1, λ i. seated_of client number left, λ i. locked_of n ids (none i))
+    → RefusesCall (locked_of n ids stopped (Some before)) (seated_of client number ring) c NoMemory (locked_of n ids stopped given_up) (seated_of client number left)
+seat_gave_up n ids stopped client number ring left before after given_up c own has none h =
+    (before, λ i. Some before, subst (HasRoom ring) (own_is n client (lane_of before.lanes number) own) has, h.0, left, h.1, λ i. seated_of client number left, λ i. locked_of n ids stopped (none i))
 
 -- a call that makes a listener or a request is given a number
 pub number_there : (old new : Locked) (seat left : Seated) (c : Call) (done : Done) → IsTrue (gives_number c) → MakesCall old seat c done new left → done.given ≡ None → ⊥
@@ -64,3 +64,11 @@ no_seats (message.DataMerge tag entries) = λ i. None
 no_seats (message.Accepted id) = λ i. None
 no_seats (message.Refused id why) = λ i. None
 no_seats (message.Revoked tag why) = λ i. None
+
+-- nor does it close one
+pub no_ends : (m : ServerMessage) → closed_by (step_of_message m) ≡ None
+no_ends (message.Data tag path tree) = λ i. None
+no_ends (message.DataMerge tag entries) = λ i. None
+no_ends (message.Accepted id) = λ i. None
+no_ends (message.Refused id why) = λ i. None
+no_ends (message.Revoked tag why) = λ i. None

@@ -101,49 +101,49 @@ has_cover (Some v) lanes w kept is (inr e) = cc
 
 -- ---- the locked value
 
-pub seat_settled : (n : ℕ) (ids : Option Stamp) (client number : ℕ) (ring left : Ring) (before after : Held) → client ≡ n → HandsDue before number ring after left
-    → Settles (locked_of n ids (Some before)) (seated_of client number ring) (locked_of n ids (Some after)) (seated_of client number left)
-seat_settled n ids client number ring left before after own hands = record {
+pub seat_settled : (n : ℕ) (ids : Option Stamp) (stopped : Bool) (client number : ℕ) (ring left : Ring) (before after : Held) → client ≡ n → HandsDue before number ring after left
+    → Settles (locked_of n ids stopped (Some before)) (seated_of client number ring) (locked_of n ids stopped (Some after)) (seated_of client number left)
+seat_settled n ids stopped client number ring left before after own hands = record {
   before = before;
   held = λ i. Some before;
   own = own;
   after = after;
-  locked = λ i. locked_of n ids (Some after);
+  locked = λ i. locked_of n ids stopped (Some after);
   ring = left;
   seated = λ i. seated_of client number left;
   hands = hands;
 }
 
-pub seat_part : (n : ℕ) (ids : Option Stamp) (client number : ℕ) (ring left : Ring) (before : Held) (given_up : Option Held) → client ≡ n → given_up ≡ None
+pub seat_part : (n : ℕ) (ids : Option Stamp) (stopped : Bool) (client number : ℕ) (ring left : Ring) (before : Held) (given_up : Option Held) → client ≡ n → given_up ≡ None
     → HandsPart before number ring left
-    → RefusesSettle (locked_of n ids (Some before)) (seated_of client number ring) NoMemory (locked_of n ids given_up) (seated_of client number left)
-seat_part n ids client number ring left before given_up own none hands =
-    (before, λ i. Some before, own, left, hands, λ i. seated_of client number left, λ i. locked_of n ids (none i))
+    → RefusesSettle (locked_of n ids stopped (Some before)) (seated_of client number ring) NoMemory (locked_of n ids stopped given_up) (seated_of client number left)
+seat_part n ids stopped client number ring left before given_up own none hands =
+    (before, λ i. Some before, own, left, hands, λ i. seated_of client number left, λ i. locked_of n ids stopped (none i))
 
 -- ---- the end of a seat
 
 -- a seat of the client that has its lane is open
-open_by : (n : ℕ) (ids : Option Stamp) (client number : ℕ) (ring : Ring) (before : Held) → client ≡ n → IsTrue (is_some (lane_of before.lanes number))
-    → (lane : Line) × IsOpen (locked_of n ids (Some before)) before (seated_of client number ring) lane
-open_by n ids client number ring before own has =
+open_by : (n : ℕ) (ids : Option Stamp) (stopped : Bool) (client number : ℕ) (ring : Ring) (before : Held) → client ≡ n → IsTrue (is_some (lane_of before.lanes number))
+    → (lane : Line) × IsOpen (locked_of n ids stopped (Some before)) before (seated_of client number ring) lane
+open_by n ids stopped client number ring before own has =
     let found = some_of (lane_of before.lanes number) has in
     (found.0, record { held = λ i. Some before; own = sym (own_is n client (lane_of before.lanes number) own) ∙ found.1 })
 
-pub seat_closed : (n : ℕ) (ids : Option Stamp) (client number : ℕ) (ring : Ring) (before : Held) (done : Done) (new : Locked) → client ≡ n
-    → IsTrue (is_some (lane_of before.lanes number)) → MakesOn (locked_of n ids (Some before)) (Step.CloseSeat number) done new
-    → Closes (locked_of n ids (Some before)) (seated_of client number ring) new
-seat_closed n ids client number ring before done new own has made =
-    let found = open_by n ids client number ring before own has in
+pub seat_closed : (n : ℕ) (ids : Option Stamp) (stopped : Bool) (client number : ℕ) (ring : Ring) (before : Held) (done : Done) (new : Locked) → client ≡ n
+    → IsTrue (is_some (lane_of before.lanes number)) → MakesOn (locked_of n ids stopped (Some before)) (Step.CloseSeat number) done new
+    → Closes (locked_of n ids stopped (Some before)) (seated_of client number ring) new
+seat_closed n ids stopped client number ring before done new own has made =
+    let found = open_by n ids stopped client number ring before own has in
     record { before = before; lane = found.0; is_open = found.1; done = done; made = made }
 
-pub seat_stays : (n : ℕ) (ids : Option Stamp) (client number : ℕ) (ring : Ring) (before : Held) (why : ClientError) (new : Locked) → client ≡ n
-    → IsTrue (is_some (lane_of before.lanes number)) → RefusesOn (locked_of n ids (Some before)) (Step.CloseSeat number) why new
-    → RefusesClose (locked_of n ids (Some before)) (seated_of client number ring) why new
-seat_stays n ids client number ring before error.Failed new own has r = r
-seat_stays n ids client number ring before error.WrongSeat new own has r = absurd r
-seat_stays n ids client number ring before error.MailboxFull new own has r = absurd r
-seat_stays n ids client number ring before error.TooManySeats new own has r = absurd r
-seat_stays n ids client number ring before (error.Core refused) new own has r =
-    let found = open_by n ids client number ring before own has in (before, found.0, found.1, r)
-seat_stays n ids client number ring before error.NoMemory new own has r =
-    let found = open_by n ids client number ring before own has in (before, found.0, found.1, r)
+pub seat_stays : (n : ℕ) (ids : Option Stamp) (stopped : Bool) (client number : ℕ) (ring : Ring) (before : Held) (why : ClientError) (new : Locked) → client ≡ n
+    → IsTrue (is_some (lane_of before.lanes number)) → RefusesOn (locked_of n ids stopped (Some before)) (Step.CloseSeat number) why new
+    → RefusesClose (locked_of n ids stopped (Some before)) (seated_of client number ring) why new
+seat_stays n ids stopped client number ring before error.Failed new own has r = r
+seat_stays n ids stopped client number ring before error.WrongSeat new own has r = absurd r
+seat_stays n ids stopped client number ring before error.MailboxFull new own has r = absurd r
+seat_stays n ids stopped client number ring before error.TooManySeats new own has r = absurd r
+seat_stays n ids stopped client number ring before (error.Core refused) new own has r =
+    let found = open_by n ids stopped client number ring before own has in (before, found.0, found.1, r)
+seat_stays n ids stopped client number ring before error.NoMemory new own has r =
+    let found = open_by n ids stopped client number ring before own has in (before, found.0, found.1, r)

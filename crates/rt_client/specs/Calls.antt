@@ -1,6 +1,6 @@
 -- What calls make of a client's locked value and of the caller's seat.
 use Rattle.std.specs.Prelude.{◌≡◌, ◌≤◌, ℕ, length, [], ◌∷◌, ◌++◌, take, if◌then◌else◌, ◌==◌}
-use Rattle.std.specs.Prelude.{false, Option, Some, None, Ok, Err}
+use Rattle.std.specs.Prelude.{Bool, false, Option, Some, None, Ok, Err}
 use Rattle.rt_push.specs.PushIds.{Stamp}
 use Rattle.rt_world.specs.declared.call.Call.{Call}
 use Rattle.rt_world.specs.declared.error.CoreError.{CoreError}
@@ -24,12 +24,13 @@ use Rattle.rt_client.specs.Shared.{Held, MakesStep}
 
 -- ---- a client and its seats
 
--- the client's number, what its last push id was made of, and what it holds; none once it has lacked
--- memory
+-- the client's number, what its last push id was made of, what it holds, none once it has lacked memory,
+-- and whether those who wait for it were told to stop
 pub record Locked : Type 0 where
   pub number : ℕ
   pub ids : Option Stamp
   pub held : Option Held
+  pub stopped : Bool
 
 -- a seat: its client's number, its own, and its ring
 pub record Seated : Type 0 where

@@ -10,7 +10,8 @@ use Rattle.rt_mail.specs.Lanes.{Ring, with_items}
 use Rattle.rt_client.specs.declared.error.ClientError.{ClientError}
 use Rattle.rt_client.specs.declared.error.ClientError.TheVariants.{Failed, WrongSeat, MailboxFull}
 use Rattle.rt_client.specs.declared.error.ClientError.TheVariants.{TooManySeats, Core, NoMemory}
-use Rattle.rt_client.specs.Calls.{Seated}
+use Rattle.rt_client.specs.Calls.{Locked, Seated}
+use Rattle.rt_client.specs.Settling.{Settles, RefusesSettle}
 
 -- the seat with nothing in its ring
 abbrev pub emptied : Seated → Seated
@@ -51,6 +52,22 @@ RefusesMirror old mirror mail.NoMemory new known =
     (ring : Ring) × TakesSome old.ring mirror ring known × (new ≡ record old { ring = ring })
 
 -- ---- to a sink, over turns: `after` is what an item makes of the sink
+
+-- one turn on the locked value: the seat's ring is filled from its lane, and then the sink takes all that
+-- the ring holds, in order; the ring is empty
+pub record Turns {S : Type 0} (after : S → Item → S) (locked : Locked) (had : Seated) (old : S)
+    (left : Seated) (new : S) : Type 0 where
+  pub rest : Locked
+  pub between : Seated
+  pub settles : Settles locked had rest between
+  pub sink : new ≡ fold after old between.ring.items
+  pub seat : left ≡ emptied between
+
+-- why it is not made: the seat is not settled
+pub record RefusesTurnOf (locked : Locked) (had : Seated) (why : ClientError) (left : Seated)
+    : Type 0 where
+  pub rest : Locked
+  pub refused : RefusesSettle locked had why rest left
 
 -- over so many turns, one at least: the sink takes what the ring held and then what was handed over to
 -- it, in order, which in no turn is more than the ring can hold; the ring is empty

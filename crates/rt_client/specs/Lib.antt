@@ -8,6 +8,7 @@
 --     Settling    what is handed over, closed, taken out and shown
 --     Delivery    what is given to a sink or a mirror, and delivered over turns
 --     Opened      a client as it is opened, and its seats
+--     Waiting     what a seat's thread waits for, and what it gets
 -- laws/ has that what a seat is told keeps it up to date (Reflecting), that what the lock keeps is kept
 -- (Keeping), that a mirror follows a lane (Following), what goes to threads (Crossing), and what the prover
 -- computes of literals (Examples, Telling);
@@ -23,3 +24,4 @@ pub mod PushKeys
 pub mod Seats
 pub mod Settling
 pub mod Shared
+pub mod Waiting

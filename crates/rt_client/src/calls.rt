@@ -10,7 +10,7 @@ ghost use Rattle.rt_wire.specs.declared.request.Ending.TheVariants.{Run, Cancel}
 ghost use Rattle.rt_world.specs.declared.step.Step.TheVariants as step;
 ghost use Rattle.rt_world.specs.declared.call.Call.TheVariants as call;
 ghost use Rattle.rt_client.specs.declared.done.Done.{Done};
-ghost use Rattle.rt_client.specs.Seats.{caller_of};
+ghost use Rattle.rt_client.specs.Seats.{caller_of, closed_by};
 ghost use Rattle.rt_client.specs.Calls.{MakesCall, RefusesCall, RefusesOn, Numbers, Comes};
 ghost use Rattle.rt_world.specs.Calls.{step_of_message};
 ghost use Rattle.rt_client.specs.inside.Receipts.{gives_number};
@@ -39,9 +39,10 @@ fn number_of(shared: &mut Shared, seat: &mut Seat, call: Call) -> Result<u64, Cl
     }
 }
 
-// A step that is no seat's call: its outcome.
+// A step that is neither a seat's call nor its end: its outcome.
 fn outcome_of(shared: &mut Shared, step: Step) -> Result<Outcome, ClientError>
-    requires { caller_of step ≡ None }
+    requires no_call { caller_of step ≡ None }
+    requires no_end { closed_by step ≡ None }
     ensures made { IfOk result (λ outcome. Comes shared.old step outcome shared.new) }
     ensures refused { IfErr result (λ e. RefusesOn shared.old step e shared.new) }
 {
@@ -136,7 +137,7 @@ impl Shared {
 /// refused as it is.
 impl Shared {
     /// Takes a message of the server.
-    #[tactic(auto, using(crate::proofs::Seated::no_seats))]
+    #[tactic(auto, using(crate::proofs::Seated::no_seats, crate::proofs::Seated::no_ends))]
     pub fn server_message(&mut self, message: ServerMessage) -> Result<Outcome, ClientError>
         ensures made { IfOk result (λ outcome.
             Comes self.old (step_of_message message) outcome self.new) }

@@ -6,52 +6,38 @@ ghost use Rattle.rt_client.specs.declared.error.ClientError.TheVariants.{TooMany
 use crate::error::ClientError;
 use crate::seat::Seat;
 use crate::shared::Shared;
-use rt_mail::Inbox;
 use rt_world::Limits;
-use std::alloc::{AllocError, Global};
-use std::sync::Mutex;
+use std::alloc::Global;
+use std::sync::atomic::AtomicU64;
+use std::sync::{Condvar, Mutex};
 
-/// The most seats that a client has.
-pub const MAX_SEATS: usize = 64;
-
-/// A client, which threads share by reference; each has a seat of its own. Whoever calls it locks it.
+/// A client, which threads share by reference; each has a seat of its own. Its calls lock it; whoever
+/// locks it by itself lets go by [`Client::notify`] where others may wait for what was done.
 pub struct Client {
     pub shared: Mutex<Shared>,
+    // How often somebody was to be woken, which changes while the lock is held alone.
+    pub(crate) notices: AtomicU64,
+    pub(crate) news: Condvar,
 }
 
 impl Drop for Client {
     fn drop(self) {
-        let Client { shared: _ } = self;
+        let Client {
+            shared: _,
+            notices: _,
+            news: _,
+        } = self;
     }
-}
-
-// A seat for each capacity, with numbers from 1.
-fn new_seats(alloc: Global, client: u64, capacities: &[usize]) -> Result<Vec<Seat>, AllocError>
-    requires { length capacities.now ≤ 64 }
-    ensures { IfOk result (λ seats. seats.items ≡ seats_from client 1 capacities.now) }
-{
-    let mut seats = Vec::with_capacity(alloc, capacities.len())?;
-    let mut number = 1u64;
-    for capacity in capacities {
-        let inbox = Inbox::new(alloc, *capacity)?;
-        seats.push_reserved(Seat {
-            client,
-            number,
-            inbox,
-        });
-        number += 1;
-    }
-    Ok(seats)
 }
 
 impl Client {
     /// A client of that number, and a seat for each capacity of a ring: the first has the number 1.
     /// Of a capacity a 0 counts as 1, and more than 65,536 as that. A program keeps the numbers of
-    /// its clients apart.
+    /// its clients apart. What the lock keeps then is said by [`Shared::open`], which this wraps.
     ///
     /// # Errors
     ///
-    /// TooManySeats above [`MAX_SEATS`], and NoMemory.
+    /// TooManySeats above [`MAX_SEATS`](crate::MAX_SEATS), and NoMemory.
     pub fn open(
         alloc: Global,
         number: u64,
@@ -63,13 +49,11 @@ impl Client {
         ensures refused { IfErr result (λ e. ((e ≡ TooManySeats) × (64 < length capacities.now))
             ⊎ (e ≡ NoMemory)) }
     {
-        if capacities.len() > MAX_SEATS {
-            return Err(ClientError::TooManySeats);
-        }
-        let seats = new_seats(alloc, number, capacities)?;
-        let shared = Shared::open(alloc, number, capacities.len(), limits)?;
+        let (shared, seats) = Shared::open(alloc, number, capacities, limits)?;
         let client = Client {
             shared: Mutex::new(shared),
+            notices: AtomicU64::new(0),
+            news: Condvar::new(),
         };
         Ok((client, seats))
     }

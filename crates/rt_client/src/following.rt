@@ -1,11 +1,20 @@
 // The laws of mirrors that follow a lane.
 ghost use Rattle.rt_client.specs.laws.Following.{FollowsSettling, FollowsCalls, KnowsAll};
+ghost use Rattle.rt_client.specs.laws.Following.{FollowsWhatSettles, FollowsWhatIsCalled};
+ghost use Rattle.rt_client.specs.laws.Following.{FollowsTheConnection, FollowsAnothersCall};
+ghost use Rattle.rt_client.specs.laws.Following.{FollowsAnothersSettling};
 
-/// A mirror that knows what a seat's lane has handed over, and takes what the ring holds after the seat
-/// settles or makes a call, knows again what the lane has handed over; where nothing waits, that is just
-/// what the core knows of the seat.
+/// A mirror that knows what a seat's lane has handed over, and takes, one by one, just what a call or a
+/// settling of the seat put into the ring, whatever stood there before, knows again what the lane has
+/// handed over; what others do changes nothing of that. So does one that takes all of a ring that it had
+/// emptied. Where nothing waits, that is just what the core knows of the seat.
 pub fn following_law()
     ensures settling { FollowsSettling }
     ensures calls { FollowsCalls }
+    ensures settled { FollowsWhatSettles }
+    ensures called { FollowsWhatIsCalled }
+    ensures connection { FollowsTheConnection }
+    ensures others { FollowsAnothersCall }
+    ensures beside { FollowsAnothersSettling }
     ensures all { KnowsAll }
 {}

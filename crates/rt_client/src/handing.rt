@@ -8,7 +8,7 @@ ghost use Rattle.rt_client.specs.declared.error.ClientError.TheVariants.{Failed}
 use crate::error::ClientError;
 use crate::keeping::keeping_law;
 use crate::seat::Seat;
-use crate::shared::{Shared, with_core};
+use crate::shared::{Shared, make_step};
 use rt_cover::Kept;
 use rt_world::{ClientMessage, Step};
 
@@ -100,7 +100,7 @@ impl Shared {
             return Err(Unclosed { seat, why });
         }
         let step = Step::CloseSeat { seat: seat.number };
-        match with_core(self, step) {
+        match make_step(self, step) {
             Ok(_done) => {
                 drop(seat);
                 Ok(())

@@ -6,6 +6,7 @@ ghost use Rattle.rt_mail.specs.Lanes.{Line, why_not, with_waiting, signed_lane, 
 ghost use Rattle.rt_client.specs.Seats.{item_of};
 ghost use Rattle.rt_client.specs.Lanes.{new_lane, lane_of, AreQueued, StopsAt, IsChanged, HasRoom};
 ghost use Rattle.rt_client.specs.Lanes.{settled, settled_ring, signed_ring, RefusesToHand};
+ghost use Rattle.rt_client.specs.Waiting.{is_quiet};
 
 use rt_mail::{Inbox, Item, Lane, MailError, Receipt, Unqueued};
 use rt_world::{Body, Note, Notes};
@@ -206,6 +207,16 @@ impl Lanes {
         ensures { result ≡ is_some (lane_of self.now seat) }
     {
         lane_at(self.lanes.as_slice(), seat).is_some()
+    }
+
+    // Whether the seat is open, and nothing waits for it.
+    pub(crate) fn is_quiet(&self, seat: u64) -> bool
+        ensures { result ≡ is_quiet (lane_of self.now seat) }
+    {
+        match lane_at(self.lanes.as_slice(), seat) {
+            Some(lane) => lane.len() == 0,
+            None => false,
+        }
     }
 
     // Whether the seat is open, and its ring has room for all that waits and one more.

@@ -1,7 +1,8 @@
 // A seat.
-ghost use Rattle.std.specs.Prelude.{◌≡◌, IsTrue, is_some, IfOk, IfErr, [], drop};
+ghost use Rattle.std.specs.Prelude.{◌≡◌, IsTrue, is_some, IfOk, IfErr, [], drop, not};
 ghost use Rattle.std.specs.List.{fold, slice_get};
 ghost use Rattle.rt_mail.specs.declared.error.MailError.TheVariants.{NoMemory};
+ghost use Rattle.rt_client.specs.Waiting.{has_none};
 ghost use Rattle.rt_client.specs.Delivery.{emptied, TakesAll, TakesSome, IsMirrored, RefusesMirror};
 
 use crate::delivery::Sink;
@@ -58,6 +59,13 @@ fn mirror_all(inbox: &mut Inbox, mirror: &mut Mirror) -> Result<usize, MailError
 }
 
 impl Seat {
+    // Whether its ring holds something.
+    pub(crate) fn has_items(&self) -> bool
+        ensures { result ≡ not (has_none self.now.ring.items) }
+    {
+        self.inbox.len() > 0
+    }
+
     /// Takes the first item that the ring holds, if there is one. Waits for nobody, and takes no
     /// memory and no lock.
     pub fn next(&mut self) -> Option<Item>

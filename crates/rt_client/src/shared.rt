@@ -1,6 +1,6 @@
 // What a client's lock keeps, and the steps on it.
 ghost use Rattle.std.specs.Prelude.{◌≡◌, None, IfOk, IfErr};
-ghost use Rattle.rt_client.specs.Seats.{caller_of};
+ghost use Rattle.rt_client.specs.Seats.{caller_of, closed_by};
 ghost use Rattle.rt_client.specs.Opened.{new_locked};
 ghost use Rattle.rt_client.specs.Calls.{MakesOn, RefusesOn, MakesCall, RefusesCall};
 
@@ -16,13 +16,15 @@ use rt_world::{Call, Limits, Step};
 use std::alloc::{AllocError, Global};
 use std::marker::Model;
 
-/// What a client's lock keeps: its core, its push ids, and a lane per open seat. Once a call has
-/// lacked memory the client has failed, and its calls answer nothing else from then on.
+/// What a client's lock keeps: its core, its push ids, a lane per open seat, and whether those who wait
+/// were told to stop. Once a call has lacked memory the client has failed, and its calls answer nothing
+/// else from then on.
 pub struct Shared {
     pub(crate) alloc: Global,
     pub(crate) number: u64,
     pub(crate) ids: PushIds,
     pub(crate) held: Option<Held>,
+    pub(crate) stopped: bool,
 }
 
 impl Drop for Shared {
@@ -32,6 +34,7 @@ impl Drop for Shared {
             number: _,
             ids: _,
             held: _,
+            stopped: _,
         } = self;
     }
 }
@@ -43,7 +46,12 @@ impl Model for Shared {
 
     ghost Value = { Locked };
 
-    ghost view = { λ a. record { number = a.number; ids = a.ids; held = a.held } };
+    ghost view = { λ a. record {
+      number = a.number;
+      ids = a.ids;
+      held = a.held;
+      stopped = a.stopped;
+    } };
 
     ghost invariant = { λ a. IfSome a.held IsKept };
 }
@@ -51,7 +59,7 @@ impl Model for Shared {
 impl Shared {
     // A client with so many open seats, whose core is new.
     #[tactic(auto, using(crate::proofs::Kept::opened_is_kept))]
-    pub(crate) fn open(
+    pub(crate) fn new(
         alloc: Global,
         number: u64,
         seats: usize,
@@ -68,17 +76,14 @@ impl Shared {
             number,
             ids: PushIds::new(),
             held: Some(Held { core, lanes }),
+            stopped: false,
         })
     }
 }
 
-/// Makes one step of the core that is no seat's call: each note waits in its seat's lane, in order,
-/// and the lane of a seat that the step closes goes. A step that is refused changes nothing.
-///
-/// # Errors
-///
-/// Failed, a refusal of the core, and NoMemory, after which the client has failed.
-pub fn with_core(shared: &mut Shared, step: Step) -> Result<Done, ClientError>
+// Makes one step of the core that is no seat's call: each note waits in its seat's lane, in order,
+// and the lane of a seat that the step closes goes. A step that is refused changes nothing.
+pub(crate) fn make_step(shared: &mut Shared, step: Step) -> Result<Done, ClientError>
     requires { caller_of step ≡ None }
     ensures made { IfOk result (λ done. MakesOn shared.old step done shared.new) }
     ensures refused { IfErr result (λ e. RefusesOn shared.old step e shared.new) }
@@ -103,6 +108,22 @@ pub fn with_core(shared: &mut Shared, step: Step) -> Result<Done, ClientError>
             | ClientError::TooManySeats,
         ) => unreachable!(),
     }
+}
+
+/// Makes one step of the core that is neither a seat's call nor its end: each note waits in its seat's
+/// lane, in order. A step that is refused changes nothing. A seat is ended by [`Shared::close_seat`],
+/// which takes it.
+///
+/// # Errors
+///
+/// Failed, a refusal of the core, and NoMemory, after which the client has failed.
+pub fn with_core(shared: &mut Shared, step: Step) -> Result<Done, ClientError>
+    requires no_call { caller_of step ≡ None }
+    requires no_end { closed_by step ≡ None }
+    ensures made { IfOk result (λ done. MakesOn shared.old step done shared.new) }
+    ensures refused { IfErr result (λ e. RefusesOn shared.old step e shared.new) }
+{
+    make_step(shared, step)
 }
 
 /// Makes the step of the core that a seat's call is: the ring gets all that waited and then the

@@ -14,4 +14,6 @@ mod seats;
 #[cfg(test)]
 mod threads;
 #[cfg(test)]
+mod waits;
+#[cfg(test)]
 mod writes_two_ways;

@@ -89,7 +89,7 @@ impl<'a> Sink for Watch<'a> {
 // The number of a write of true.
 fn write(rt: &impl Wait, client: &Client, seat: &mut Seat, path: Path) -> u64 {
     let tree = Tree::leaf(Leaf::truth(true));
-    client.shared.lock(rt).set(seat, path, tree).unwrap_or(0)
+    client.set(rt, seat, path, tree).unwrap_or(0)
 }
 
 // Whether a delivery ended by its gate, which has seen a child of that key.

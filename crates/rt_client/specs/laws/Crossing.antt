@@ -3,6 +3,9 @@ use denote.Param.Send.{IsSend, IsSync}
 use Rattle.rt_tree.specs.contracts.path.Path as path
 use Rattle.rt_tree.specs.contracts.tree.Tree as tree
 use Rattle.rt_query.specs.contracts.query.Query as query
+use Rattle.rt_writes.specs.contracts.entries.Entries as entries
+use Rattle.rt_wire.specs.contracts.request.Action as action
+use Rattle.rt_wire.specs.contracts.client.ClientMessage as message
 use Rattle.rt_mail.specs.contracts.item.Item as item
 use Rattle.rt_mail.specs.contracts.mirror.Mirror as mirror
 use Rattle.rt_client.specs.contracts.seat.Seat as seat
@@ -11,6 +14,10 @@ use Rattle.rt_client.specs.contracts.client.Client as client
 -- threads may share a client
 abbrev pub ClientIsShared : Type 0
 ClientIsShared = IsSync client.the_row
+
+-- and one may be handed to a thread
+abbrev pub ClientIsSent : Type 0
+ClientIsSent = IsSend client.the_row
 
 -- and each may be handed a seat,
 abbrev pub SeatIsSent : Type 0
@@ -32,3 +39,13 @@ PathIsSent = IsSend path.the_row
 
 abbrev pub TreeIsSent : Type 0
 TreeIsSent = IsSend tree.the_row
+
+abbrev pub EntriesAreSent : Type 0
+EntriesAreSent = IsSend entries.the_row
+
+abbrev pub ActionIsSent : Type 0
+ActionIsSent = IsSend action.the_row
+
+-- the messages that go to the server
+abbrev pub MessageIsSent : Type 0
+MessageIsSent = IsSend message.the_row

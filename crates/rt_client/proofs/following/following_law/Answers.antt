@@ -1,9 +1,15 @@
 use Rattle.rt_client.proofs.Followed.{follows_settling, follows_calls, knows_all}
+use Rattle.rt_client.proofs.PutBy.{settles_put, called_put, connection_follows, other_called, other_settles}
 use Rattle.rt_client.proofs.following.following_law.Goals as goal
 
 pub returns : goal.returns
 returns c = record {
   settling = follows_settling;
   calls = follows_calls;
+  settled = settles_put;
+  called = called_put;
+  connection = connection_follows;
+  others = other_called;
+  beside = other_settles;
   all = knows_all;
 }

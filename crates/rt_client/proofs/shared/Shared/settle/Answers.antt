@@ -9,27 +9,27 @@ pub returns-in_default-settle-clause-refused : goal.returns-in_default-settle-cl
 returns-in_default-settle-clause-refused c =
     let shared = c.self.inside in
     let seat = c.seat.inside in
-    let old : c.args.self.now ≡ locked_of shared.number shared.ids (Some c.in-Some.held) = search rules in
+    let old : c.args.self.now ≡ locked_of shared.number shared.ids shared.stopped (Some c.in-Some.held) = search rules in
     let chair : c.args.seat.now ≡ seated_of seat.client seat.number seat.inbox = search rules in
     let own : c.seat.inside.client ≡ c.self.inside.number = search rules in
     let part : HandsPart c.in-Some.held c.seat.inside.number c.seat.inside.inbox c.settle.new.inbox = search rules in
     let none : c.take.new.self ≡ None = search rules in
-    let new = locked_of shared.number shared.ids c.take.new.self in
+    let new = locked_of shared.number shared.ids shared.stopped c.take.new.self in
     let left = seated_of seat.client seat.number c.settle.new.inbox in
     subst (λ l. RefusesSettle l c.args.seat.now NoMemory new left) (sym old)
-    (subst (λ s. RefusesSettle (locked_of shared.number shared.ids (Some c.in-Some.held)) s NoMemory new left) (sym chair)
-    (seat_part shared.number shared.ids seat.client seat.number seat.inbox c.settle.new.inbox c.in-Some.held c.take.new.self own none part))
+    (subst (λ s. RefusesSettle (locked_of shared.number shared.ids shared.stopped (Some c.in-Some.held)) s NoMemory new left) (sym chair)
+    (seat_part shared.number shared.ids shared.stopped seat.client seat.number seat.inbox c.settle.new.inbox c.in-Some.held c.take.new.self own none part))
 
 pub returns-clause-settled : goal.returns-clause-settled
 returns-clause-settled c =
     let shared = c.self.inside in
     let seat = c.seat.inside in
-    let old : c.args.self.now ≡ locked_of shared.number shared.ids (Some c.in-Some.held) = search rules in
+    let old : c.args.self.now ≡ locked_of shared.number shared.ids shared.stopped (Some c.in-Some.held) = search rules in
     let chair : c.args.seat.now ≡ seated_of seat.client seat.number seat.inbox = search rules in
     let own : c.seat.inside.client ≡ c.self.inside.number = search rules in
     let hands : HandsDue c.in-Some.held c.seat.inside.number c.seat.inside.inbox c.settle.new.self c.settle.new.inbox = search rules in
-    let new = locked_of shared.number shared.ids (Some c.settle.new.self) in
+    let new = locked_of shared.number shared.ids shared.stopped (Some c.settle.new.self) in
     let left = seated_of seat.client seat.number c.settle.new.inbox in
     subst (λ l. Settles l c.args.seat.now new left) (sym old)
-    (subst (λ s. Settles (locked_of shared.number shared.ids (Some c.in-Some.held)) s new left) (sym chair)
-    (seat_settled shared.number shared.ids seat.client seat.number seat.inbox c.settle.new.inbox c.in-Some.held c.settle.new.self own hands))
+    (subst (λ s. Settles (locked_of shared.number shared.ids shared.stopped (Some c.in-Some.held)) s new left) (sym chair)
+    (seat_settled shared.number shared.ids shared.stopped seat.client seat.number seat.inbox c.settle.new.inbox c.in-Some.held c.settle.new.self own hands))

@@ -1,7 +1,7 @@
 use Rattle.std.proofs.Common.{◌≡◌, ◌+◌, ◌≤◌, ◌++◌, drop, length}
 use Rattle.std.specs.Vec.{vec_capacity}
 use Rattle.rt_client.specs.Opened.{seats_from}
-use Rattle.rt_client.proofs.client.new_seats.Given as goal
+use Rattle.rt_client.proofs.opening.new_seats.Given as goal
 
 -- the seats so far, and those that are left, for which there is room
 abbrev pub invariant-loop-capacity : goal.invariant-loop-capacity

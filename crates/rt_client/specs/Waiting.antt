@@ -1,0 +1,55 @@
+-- What a seat's thread waits for, and what it gets.
+use Rattle.std.specs.Prelude.{◌≡◌, ℕ, Bool, true, false, ◌||◌, not, ◌==◌, List, [], length}
+use Rattle.std.specs.Prelude.{Option, Some, None}
+use Rattle.std.specs.Option.{option_map_or}
+use Rattle.rt_world.specs.declared.call.Call.{Call}
+use Rattle.rt_mail.specs.declared.item.Item.{Item}
+use Rattle.rt_mail.specs.Lanes.{Line, with_items}
+use Rattle.rt_client.specs.declared.done.Done.{Done}
+use Rattle.rt_client.specs.declared.error.ClientError.{ClientError}
+use Rattle.rt_client.specs.Calls.{Locked, Seated, own_lane, MakesCall, Numbers, RefusesCall}
+
+-- whether there are none
+abbrev pub has_none : List Item → Bool
+has_none items = length items == 0
+
+-- whether an open lane has nothing for its seat
+abbrev pub is_quiet : Option Line → Bool
+is_quiet None = false
+is_quiet (Some lane) = has_none lane.waiting
+
+-- whether something is there for the seat: an item in its ring or its lane, or what it would be refused for,
+-- as it would where the client has failed, or the seat is closed or another client's
+abbrev pub is_due : Locked → Seated → Bool
+is_due locked seat =
+    not (has_none seat.ring.items)
+    || option_map_or (λ h. not (is_quiet (own_lane locked h seat))) locked.held true
+
+-- what a wait makes of the seat: where its ring holds something, nothing; else items come, unless the client
+-- was told to stop
+pub record Awaits (had : Seated) (there : Bool) (left : Seated) : Type 0 where
+  pub came : List Item
+  pub seat : left ≡ record had { ring = with_items came had.ring }
+  pub told : there ≡ not (has_none left.ring.items)
+  pub held : has_none had.ring.items ≡ false → came ≡ []
+
+-- ---- calls under the client's own lock: on the locked value, whatever it is then
+
+-- the seat's call is made, and the new listener or request has that number
+pub record IsNumbered (seat : Seated) (c : Call) (n : ℕ) (left : Seated) : Type 0 where
+  pub old : Locked
+  pub new : Locked
+  pub made : Numbers old seat c n new left
+
+-- so of a call that is given none
+pub record IsMade (seat : Seated) (c : Call) (left : Seated) : Type 0 where
+  pub old : Locked
+  pub new : Locked
+  pub done : Done
+  pub made : MakesCall old seat c done new left
+
+-- or it is refused
+pub record IsUnmade (seat : Seated) (c : Call) (why : ClientError) (left : Seated) : Type 0 where
+  pub old : Locked
+  pub new : Locked
+  pub refused : RefusesCall old seat c why new left
