@@ -20,7 +20,7 @@ use Rattle.rt_parts.specs.Listeners.{first_view_of, new_listener, views_left, vi
 use Rattle.rt_parts.specs.Refreshed.{FollowNamed, is_touched, named_children, view_after, view_met}
 use Rattle.rt_world.specs.declared.step.Step.{Step}
 use Rattle.rt_world.specs.declared.request.Request.{Request}
-use Rattle.rt_world.specs.World.{World, Listener, pending}
+use Rattle.rt_world.specs.World.{World, Listener, pending, Reason}
 use Rattle.rt_world.specs.Views.{is_known, view_of}
 use Rattle.rt_world.specs.After.{kind, listeners_after, pushed, renewed, requests_after}
 use Rattle.rt_world.specs.Covering.{change_by}
