@@ -1,7 +1,9 @@
 mod Costs
 mod Counting
+mod Rounds
 mod Seating
 mod Sending
+mod Settling
 mod Taking
 mod Telling
 mod Waiting

@@ -4,6 +4,7 @@ use Rattle.std.proofs.Common.{Option, Some, None, refl, sym, ap, subst, ◌∙�
 use Rattle.std.specs.List.{slice_get}
 use Rattle.rt_mail.specs.declared.item.Item.{Item}
 use Rattle.rt_client.specs.Calls.{Seated}
+use Rattle.rt_client.specs.Delivery.{emptied}
 use Rattle.rt_drive.specs.Printing.{item_text, items_text}
 
 -- the first item is told
@@ -39,3 +40,10 @@ had_one true seat first item same had is = had refl
 had_one false seat first item same had is =
     nonempty first.ring.items item
     (subst (λ (x : Seated). slice_get x.ring.items 0 ≡ Some item) (same refl) is)
+
+-- an empty ring is as it is emptied
+pub emptied_same : (seat : Seated) → seat.ring.items ≡ [] → seat ≡ emptied seat
+emptied_same seat e = ap (λ is. record seat { ring = record (seat.ring) { items = is } }) e
+
+-- so items are told one after another
+pub ruleset telling = (told_first, told_none, emptied_same)

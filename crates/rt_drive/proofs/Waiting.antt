@@ -1,22 +1,13 @@
 -- What waits in a client's locked value.
-use Rattle.std.proofs.Common.{◌≡◌, ◌+◌, ◌-◌, ◌≤◌, ℕ, List, [], ◌∷◌, ◌++◌, length, take, drop, Option, Some, None}
-use Rattle.std.proofs.Common.{Result, Ok, Err, refl, sym, ap, subst, ◌∙◌, arith}
-use Rattle.std.specs.Prelude.{◌==◌, true, if◌then◌else◌}
+use Rattle.std.proofs.Common.{◌≡◌, List, [], ◌∷◌, ◌++◌, drop, Option, Some, None, refl, sym, ap, ◌∙◌}
 use Rattle.std.specs.Option.{option_map, option_map_or}
-use Rattle.std.proofs.lemmas.Bool.Decides.{nat_tests}
-use Rattle.std.proofs.lemmas.List.{length-append, take-append-drop}
 use Rattle.rt_wire.specs.declared.client.ClientMessage.{ClientMessage}
 use Rattle.rt_world.specs.World.{World}
-use Rattle.rt_sync.specs.Core.{first_message, without_first}
-use Rattle.rt_mail.specs.Lanes.{Line, Ring}
-use Rattle.rt_client.specs.declared.error.ClientError.{ClientError}
-use Rattle.rt_client.specs.declared.error.ClientError.TheVariants.{Failed, WrongSeat, MailboxFull}
-use Rattle.rt_client.specs.declared.error.ClientError.TheVariants.{TooManySeats, Core, NoMemory}
-use Rattle.rt_client.specs.Calls.{IsSame, Locked, Seated}
-use Rattle.rt_client.specs.Lanes.{due, lane_of, settled}
-use Rattle.rt_client.specs.Settling.{RefusesSettle, Settles, TakesMessage}
+use Rattle.rt_sync.specs.Core.{first_message}
+use Rattle.rt_client.specs.Calls.{Locked}
+use Rattle.rt_client.specs.Settling.{TakesMessage}
 use Rattle.rt_client.specs.Shared.{Held}
-use Rattle.rt_drive.specs.inside.Waiting.{ahead_of, emptied, nothing_waits, waiting_for, waiting_in, waiting_of, without_waiting}
+use Rattle.rt_drive.specs.inside.Waiting.{nothing_waits, waiting_in, waiting_of, without_waiting}
 
 abbrev pub listed : Option ClientMessage → List ClientMessage
 listed None = []
@@ -77,53 +68,5 @@ failed_rest old held =
     ap (λ h. record old { held = option_map nothing_waits h }) held
     ∙ ap (λ h. record old { held = h }) (sym held)
 
-equal : (n : ℕ) → (n == n) ≡ true
-equal n = grind (arith, nat_tests)
-
--- items go from a list that waits to the end of another
-moved : {X : Type 0} (n : ℕ) (waits has : List X)
-    → length (drop n waits) + length (has ++ take n waits) ≡ length waits + length has
-moved n waits has =
-    let parts : length (take n waits) + length (drop n waits) ≡ length waits =
-    sym (length-append (take n waits) (drop n waits)) ∙ ap length (take-append-drop n waits) in
-    omega (arith, parts, length-append has (take n waits))
-
--- what is handed over stays ahead of the seat
-pub settled_ahead : (old : Locked) (seat : Seated) (new : Locked) (left : Seated) → Settles old seat new left
-    → ahead_of new left ≡ ahead_of old seat
-settled_ahead old seat new left s =
-    let lane : Line = s.hands.lane in
-    let lanes : lane_of s.after.lanes seat.number ≡ Some (settled seat.ring lane) =
-    s.hands.lanes seat.number
-    ∙ ap (λ b. if b then Some (settled seat.ring lane) else lane_of s.before.lanes seat.number)
-    (equal seat.number) in
-    let is : ahead_of new left ≡ length (settled seat.ring lane).waiting + length s.ring.items =
-    ap (λ (l : Locked). ahead_of l left) s.locked
-    ∙ ap (λ (x : Seated). waiting_for (lane_of s.after.lanes x.number) + length x.ring.items) s.seated
-    ∙ ap (λ o. waiting_for o + length s.ring.items) lanes in
-    let ring : s.ring.items ≡ seat.ring.items ++ take (due seat.ring lane) lane.waiting =
-    ap (λ (r : Ring). r.items) s.hands.ring in
-    let was : ahead_of old seat ≡ length lane.waiting + length seat.ring.items =
-    ap (λ h. option_map_or (λ (h : Held). waiting_for (lane_of h.lanes seat.number)) h 0 + length seat.ring.items)
-    s.held
-    ∙ ap (λ o. waiting_for o + length seat.ring.items) s.hands.is_open in
-    is ∙ ap (λ l. length (settled seat.ring lane).waiting + length l) ring
-    ∙ moved (due seat.ring lane) lane.waiting seat.ring.items ∙ sym was
-
-same_ahead : (old new : Locked) (seat left : Seated) → IsSame old seat new left → ahead_of new left ≡ ahead_of old seat
-same_ahead old new seat left s =
-    ap (λ (l : Locked). ahead_of l left) s.0 ∙ ap (λ (x : Seated). ahead_of old x) s.1
-
--- a refusal but for want of memory changes nothing
-pub refused_ahead : (old : Locked) (seat : Seated) (e : ClientError) (new : Locked) (left : Seated)
-    → RefusesSettle old seat e new left → (e ≡ NoMemory → ⊥) → ahead_of new left ≡ ahead_of old seat
-refused_ahead old seat Failed new left h other = same_ahead old new seat left h.1
-refused_ahead old seat WrongSeat new left h other = same_ahead old new seat left h.1
-refused_ahead old seat MailboxFull new left h other = absurd h
-refused_ahead old seat TooManySeats new left h other = absurd h
-refused_ahead old seat (Core why) new left h other = absurd h
-refused_ahead old seat NoMemory new left h other = absurd (other refl)
-
--- nothing is left in an empty ring
-pub emptied_same : (seat : Seated) → seat.ring.items ≡ [] → seat ≡ emptied seat
-emptied_same seat e = ap (λ is. record seat { ring = record (seat.ring) { items = is } }) e
+-- so messages are taken out one after another
+pub ruleset taking = (taken, taken_rest, none_taken, failed_rest)

@@ -48,7 +48,8 @@ with_seat seats number seat = set seats (number - 1) seat
 -- a call of a seat is made and its outcome printed, or it is refused and printed why
 abbrev pub IsCalled : Locked → Seated → Call → List ℕ → Locked → Seated → Type 0
 IsCalled old seat call text new left =
-    ((done : Done) × MakesCall old seat call done new left × (text ≡ line (outcome_text done.outcome done.given)))
+    ((done : Done) × MakesCall old seat call done new left
+    × (text ≡ line (outcome_text done.outcome done.given)))
     ⊎ ((why : ClientError) × RefusesCall old seat call why new left × (text ≡ refusal_text why))
 
 -- there is no such seat, which changes nothing

@@ -2,8 +2,8 @@
 -- Hearing (what a message of the socket is), Taking (what a text of the server makes of a client, and
 -- prints), Doing (what lines and the connection do to a client and its seats, and what is printed for it),
 -- Printing (what is printed of a client), Answers (what is answered by what), Ahead (how far the server is
--- behind, and what was read ahead), Sending (what is sent, and what is read ahead before it), Run (how many
--- lines of an input are bad).
+-- behind, and what was read ahead), Sending (what is sent, and what is read ahead before it), Telling (what
+-- each seat is told of what waits for it), Run (how many lines of an input are bad).
 pub mod Ahead
 pub mod Answers
 pub mod Doing
@@ -13,3 +13,4 @@ pub mod Printing
 pub mod Run
 pub mod Sending
 pub mod Taking
+pub mod Telling

@@ -14,7 +14,8 @@ use Rattle.rt_drive.specs.Printing.{refusal_text}
 -- the step of a message is made, and its outcome printed
 abbrev pub IsMade : Locked → ServerMessage → Locked → List ℕ → Type 0
 IsMade old m new text =
-    (outcome : Outcome) × Comes old (step_of_message m) outcome new × (text ≡ line (outcome_text outcome None))
+    (outcome : Outcome) × Comes old (step_of_message m) outcome new
+    × (text ≡ line (outcome_text outcome None))
 
 -- or it is refused, and printed why
 abbrev pub IsRefused : Locked → ServerMessage → Locked → List ℕ → Type 0

@@ -3,7 +3,8 @@ ghost use Rattle.std.specs.Prelude.{◌≡◌, [], None, Ok, true, false, IfOk, 
 ghost use Rattle.std.specs.List.{slice_get};
 ghost use Rattle.rt_input.specs.Counted.{known_output};
 ghost use Rattle.rt_wire.specs.Server.{server_message};
-ghost use Rattle.rt_drive.specs.Ahead.{has_way, heard_by, noted, noted_of, nothing_ahead, with_kept, without_first};
+ghost use Rattle.rt_drive.specs.Ahead.{has_way, heard_by, noted, noted_of, nothing_ahead, with_kept};
+ghost use Rattle.rt_drive.specs.Ahead.{without_first};
 ghost use Rattle.rt_drive.specs.Sending.{MakesWay, Sends, SendsAll, linked};
 
 use crate::ahead::{Ahead, answered_by};

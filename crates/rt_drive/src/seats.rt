@@ -1,14 +1,17 @@
 // What lines and messages ask of a client's locked value and its seats, and what they print.
-ghost use Rattle.std.specs.Prelude.{◌≡◌, ◌+◌, ◌<◌, ◌++◌, ℕ, List, [], false, true, length};
-ghost use Rattle.std.specs.Prelude.{None, IfOk, IfSome, OnOk};
+ghost use Rattle.std.specs.Prelude.{◌≡◌, ◌+◌, ◌<◌, ◌++◌, ℕ, List, [], false, true, length, map};
+ghost use Rattle.std.specs.Prelude.{Some, None, IfOk, IfSome, OnOk};
+ghost use Rattle.std.specs.Option.{option_map};
 ghost use Rattle.rt_world.specs.declared.step.Step.TheVariants as step;
 ghost use Rattle.rt_wire.specs.Server.{server_message};
+ghost use Rattle.rt_client.specs.Delivery.{emptied};
 ghost use Rattle.rt_lines.specs.inside.Appending.{Appends};
 ghost use Rattle.rt_drive.specs.Doing.{Calls, ClosesAt, IsCalled, IsClosed, IsTold, Obeys, Shows};
 ghost use Rattle.rt_drive.specs.Doing.{TakesTold, disconnected, seat_at};
 ghost use Rattle.rt_drive.specs.Printing.{items_text};
 ghost use Rattle.rt_drive.specs.Taking.{Takes};
-ghost use Rattle.rt_drive.specs.inside.Waiting.{ahead_of, emptied, waiting_of, without_waiting};
+ghost use Rattle.rt_drive.specs.Telling.{FillsRing, TellsAll, TellsPlace, TellsSeat};
+ghost use Rattle.rt_drive.specs.inside.Waiting.{waiting_of, without_waiting};
 
 use crate::socket::Told;
 use crate::tell::{write_item, write_why};
@@ -22,7 +25,9 @@ use std::alloc::{AllocError, Global};
 pub(crate) type Seats = Vec<Option<Seat>>;
 
 // The seats, all of them open.
-pub(crate) fn open_seats(alloc: Global, seats: Vec<Seat>) -> Result<Seats, AllocError> {
+pub(crate) fn open_seats(alloc: Global, seats: Vec<Seat>) -> Result<Seats, AllocError>
+    ensures { IfOk result (λ all. all.items ≡ map Some seats.items) }
+{
     let mut open = Vec::with_capacity(alloc, seats.len())?;
     for seat in seats {
         open.push(Some(seat))?;
@@ -219,7 +224,7 @@ pub(crate) fn obey(
 }
 
 // Takes out the messages that are to be sent; a client that has failed has none.
-#[tactic(auto, using(crate::proofs::Waiting::taken, crate::proofs::Waiting::taken_rest, crate::proofs::Waiting::none_taken, crate::proofs::Waiting::failed_rest))]
+#[tactic(auto, using(crate::proofs::Waiting::taking))]
 pub(crate) fn take_messages(
     alloc: Global,
     shared: &mut Shared,
@@ -237,7 +242,7 @@ pub(crate) fn take_messages(
 }
 
 // Prints all that the seat's ring holds, and answers whether it held anything.
-#[tactic(auto, using(crate::proofs::Telling::told_first, crate::proofs::Telling::told_none, crate::proofs::Waiting::emptied_same))]
+#[tactic(auto, using(crate::proofs::Telling::telling))]
 fn tell_ring(out: &mut String, alloc: Global, seat: &mut Seat) -> Result<bool, AllocError>
     ensures printed { OnOk result (Appends out.old out.new (items_text seat.old.ring.items)) }
     ensures any { IfOk result (λ any. any ≡ false → seat.old.ring.items ≡ []) }
@@ -254,9 +259,8 @@ fn tell_ring(out: &mut String, alloc: Global, seat: &mut Seat) -> Result<bool, A
 
 // Hands over to the seat's ring what waits for it, as far as there is room. A client that has failed and
 // a seat that is not the client's hand over nothing; the call of a line has printed why.
-#[tactic(auto, using(crate::proofs::Waiting::settled_ahead, crate::proofs::Waiting::refused_ahead))]
 fn fill_ring(shared: &mut Shared, seat: &mut Seat) -> Result<(), AllocError>
-    ensures { OnOk result (ahead_of shared.new seat.new ≡ ahead_of shared.old seat.old) }
+    ensures { OnOk result (FillsRing shared.old seat.old shared.new seat.new) }
 {
     match shared.settle(seat) {
         Ok(()) => Ok(()),
@@ -277,7 +281,11 @@ fn settle_seat(
     alloc: Global,
     shared: &mut Shared,
     seat: &mut Seat,
-) -> Result<(), AllocError> {
+) -> Result<(), AllocError>
+    ensures told { OnOk result ((text : List ℕ) × Appends out.old out.new text
+        × TellsSeat shared.old seat.old text shared.new) }
+    ensures ring { OnOk result (seat.new ≡ emptied seat.old) }
+{
     'rounds: loop {
         fill_ring(shared, seat)?;
         if !tell_ring(out, alloc, seat)? {
@@ -286,17 +294,50 @@ fn settle_seat(
     }
 }
 
+// Settles a seat where it is open.
+fn settle_place(
+    out: &mut String,
+    alloc: Global,
+    shared: &mut Shared,
+    place: &mut Option<Seat>,
+) -> Result<(), AllocError>
+    ensures told { OnOk result ((text : List ℕ) × Appends out.old out.new text
+        × TellsPlace shared.old place.old text shared.new) }
+    ensures ring { OnOk result (place.new ≡ option_map emptied place.old) }
+{
+    match place {
+        Some(seat) => settle_seat(out, alloc, shared, seat),
+        None => Ok(()),
+    }
+}
+
+// Settles seats one after another, and prints what each is told.
+fn settle_each(
+    out: &mut String,
+    alloc: Global,
+    shared: &mut Shared,
+    seats: &mut [Option<Seat>],
+) -> Result<(), AllocError>
+    ensures told { OnOk result ((text : List ℕ) × Appends out.old out.new text
+        × TellsAll shared.old seats.old text shared.new) }
+    ensures rings { OnOk result (seats.new ≡ map (option_map emptied) seats.old) }
+{
+    for place in seats.iter_mut() {
+        settle_place(out, alloc, shared, place)?;
+    }
+    Ok(())
+}
+
 // Settles the seats in the order of their numbers, and prints what each is told.
 pub(crate) fn settle_all(
     out: &mut String,
     alloc: Global,
     shared: &mut Shared,
     seats: &mut Seats,
-) -> Result<(), AllocError> {
-    for seat in seats.iter_mut() {
-        if let Some(seat) = seat {
-            settle_seat(out, alloc, shared, seat)?;
-        }
-    }
-    Ok(())
+) -> Result<(), AllocError>
+    ensures told { OnOk result ((text : List ℕ) × Appends out.old out.new text
+        × TellsAll shared.old seats.old.items text shared.new) }
+    ensures rings { OnOk result (seats.new.items ≡ map (option_map emptied) seats.old.items) }
+{
+    settle_each(out, alloc, shared, seats.as_mut_slice())
 }

@@ -1,11 +1,9 @@
--- What waits in a client's locked value for a seat, and to be sent.
-use Rattle.std.specs.Prelude.{ℕ, ◌+◌, length, List, [], Option, Some, None}
+-- What waits in a client's locked value to be sent.
+use Rattle.std.specs.Prelude.{List, []}
 use Rattle.std.specs.Option.{option_map, option_map_or}
 use Rattle.rt_wire.specs.declared.client.ClientMessage.{ClientMessage}
 use Rattle.rt_world.specs.World.{World}
-use Rattle.rt_mail.specs.Lanes.{Line}
-use Rattle.rt_client.specs.Calls.{Locked, Seated}
-use Rattle.rt_client.specs.Lanes.{lane_of}
+use Rattle.rt_client.specs.Calls.{Locked}
 use Rattle.rt_client.specs.Shared.{Held}
 
 -- the messages that are to be sent
@@ -21,17 +19,3 @@ nothing_waits h = record h { core = option_map (λ (w : World). record w { outgo
 
 abbrev pub without_waiting : Locked → Locked
 without_waiting locked = record locked { held = option_map nothing_waits locked.held }
-
--- how many items wait in a lane
-abbrev pub waiting_for : Option Line → ℕ
-waiting_for lane = option_map_or (λ (l : Line). length l.waiting) lane 0
-
--- how many items a seat is to be told: those that wait for it, and those in its ring
-abbrev pub ahead_of : Locked → Seated → ℕ
-ahead_of locked seat =
-    option_map_or (λ (h : Held). waiting_for (lane_of h.lanes seat.number)) locked.held 0
-    + length seat.ring.items
-
--- the seat with nothing in its ring
-abbrev pub emptied : Seated → Seated
-emptied seat = record seat { ring = record (seat.ring) { items = [] } }

@@ -1,9 +1,9 @@
 use Rattle.std.proofs.Common.{rules, ◌≡◌, ◌++◌, List, drop, Some, sym, ap, true≢false, ◌∙◌, string_bytes}
 use Rattle.std.specs.List.{slice_get}
 use Rattle.rt_client.specs.Calls.{Seated}
+use Rattle.rt_client.specs.Delivery.{emptied}
 use Rattle.rt_mail.specs.declared.item.Item.{Item}
 use Rattle.rt_drive.specs.Printing.{item_text, items_text}
-use Rattle.rt_drive.specs.inside.Waiting.{emptied}
 use Rattle.rt_drive.proofs.Telling.{had_one, told_more}
 use Rattle.rt_drive.proofs.seats.tell_ring.Goals as goal
 

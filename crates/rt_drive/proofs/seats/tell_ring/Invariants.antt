@@ -1,7 +1,7 @@
 use Rattle.std.proofs.Common.{◌≡◌, ◌++◌, ◌<◌, ◌∷◌, [], ℕ, List, length, false, true, string_bytes}
 use Rattle.rt_client.specs.Calls.{Seated}
+use Rattle.rt_client.specs.Delivery.{emptied}
 use Rattle.rt_drive.specs.Printing.{items_text}
-use Rattle.rt_drive.specs.inside.Waiting.{emptied}
 use Rattle.rt_drive.proofs.seats.tell_ring.Given as goal
 
 abbrev pub invariant-items : goal.invariant-items
