@@ -1,5 +1,5 @@
 -- How many bytes what is kept takes.
-use Rattle.std.proofs.Common.{◌≡◌, ℕ, ◌+◌, ◌-◌, ◌^◌, ◌≤◌, min, List, [], ◌∷◌, ◌++◌, refl, ap, ◌∙◌, arith}
+use Rattle.std.proofs.Common.{◌≡◌, ℕ, ◌+◌, ◌-◌, ◌^◌, ◌≤◌, min, List, [], ◌∷◌, ◌++◌, ap, ◌∙◌, arith}
 use Rattle.rt_drive.specs.declared.socket.Told.{Told}
 use Rattle.rt_drive.specs.Ahead.{byte_count, cost_of}
 

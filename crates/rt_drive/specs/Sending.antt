@@ -1,5 +1,5 @@
 -- What is sent over a connection, and what is read ahead before it.
-use Rattle.std.specs.Prelude.{◌≡◌, ℕ, Bool, true, false, length, List, [], ◌∷◌, Option}
+use Rattle.std.specs.Prelude.{◌≡◌, ℕ, true, false, length, List, [], ◌∷◌, Option}
 use Rattle.serde_json.specs.Written.{compact_text}
 use Rattle.tungstenite.specs.Connection.{write_step}
 use Rattle.tungstenite.specs.Content.{text}

@@ -1,4 +1,4 @@
-use Rattle.std.proofs.Common.{refl, sym, ◌∙◌}
+use Rattle.std.proofs.Common.{refl, ◌∙◌}
 use Rattle.rt_lines.specs.inside.Appending.{Appends}
 use Rattle.rt_drive.proofs.Seating.{at_place, called_none, called_some, put_back}
 use Rattle.rt_drive.proofs.seats.make_call.Goals as goal

@@ -1,4 +1,4 @@
-use Rattle.std.proofs.Common.{rules, ◌≡◌, ◌<◌, ◌≤◌, ◌++◌, length, suc, map, take, drop, get_or, sym, ap, subst, ◌∙◌}
+use Rattle.std.proofs.Common.{rules, ◌<◌, ◌≤◌, ◌++◌, length, map, take, drop, get_or, sym, ap, subst, ◌∙◌}
 use Rattle.std.proofs.Common.{add-one, append_assoc, string_bytes}
 use Rattle.std.specs.Option.{option_map}
 use Rattle.rt_client.specs.Delivery.{emptied}

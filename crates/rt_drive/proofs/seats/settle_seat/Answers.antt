@@ -1,4 +1,4 @@
-use Rattle.std.proofs.Common.{rules, ◌≡◌, ◌<◌, [], false, true, length, string_bytes}
+use Rattle.std.proofs.Common.{rules, ◌≡◌, [], string_bytes}
 use Rattle.rt_drive.proofs.Settling.{told_last, told_more, told_nothing}
 use Rattle.rt_drive.proofs.seats.settle_seat.Goals as goal
 

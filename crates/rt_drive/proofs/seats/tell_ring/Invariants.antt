@@ -1,5 +1,4 @@
-use Rattle.std.proofs.Common.{◌≡◌, ◌++◌, ◌<◌, ◌∷◌, [], ℕ, List, length, false, true, string_bytes}
-use Rattle.rt_client.specs.Calls.{Seated}
+use Rattle.std.proofs.Common.{◌≡◌, ◌++◌, ◌<◌, length, false, true, string_bytes}
 use Rattle.rt_client.specs.Delivery.{emptied}
 use Rattle.rt_drive.specs.Printing.{items_text}
 use Rattle.rt_drive.proofs.seats.tell_ring.Given as goal

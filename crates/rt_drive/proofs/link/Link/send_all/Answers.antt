@@ -1,6 +1,6 @@
 use Rattle.rt_input.specs.Counted.{known_output}
 use Rattle.rt_drive.specs.Sending.{linked}
-use Rattle.rt_drive.proofs.Sending.{send_more, sent_all}
+use Rattle.rt_drive.proofs.Sending.{send_more}
 use Rattle.rt_drive.proofs.link.Link.send_all.Goals as goal
 
 pub loop-message-preserved : goal.loop-message-preserved

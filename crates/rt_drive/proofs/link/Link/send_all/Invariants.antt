@@ -1,5 +1,5 @@
 use Rattle.std.proofs.Common.{drop}
-use Rattle.rt_input.specs.Counted.{CountedStream, known_output}
+use Rattle.rt_input.specs.Counted.{known_output}
 use Rattle.rt_drive.specs.Sending.{Linked, SendsAll, linked}
 use Rattle.rt_drive.proofs.link.Link.send_all.Given as goal
 
