@@ -43,7 +43,7 @@ lanes_send = search (lane_send, all_cross) depth 40 fits 20000
 
 -- what the core holds
 brought_send : IsSend brought.the_row
-brought_send = search calls_cross depth 40 fits 20000
+brought_send = search calls_cross depth 80 fits 60000
 
 cover_send : IsSend cover.the_row
 cover_send = search calls_cross depth 40 fits 20000
