@@ -51,6 +51,7 @@ fn two_connections(rt: HostRuntime) -> Result<(), Fail> {
     assert_eq!(rt; count(&mut hub, 1), 2);
     assert_eq!(rt; count(&mut hub, 2), 3);
     assert!(rt; !hub.is_over(1));
+    assert!(rt; !hub.tree().is_null());
     Ok(())
 }
 
