@@ -123,10 +123,10 @@ def in_copies(row, program, library, first, last, room=0):
     return found
 
 
-# ---- of a test
+# ---- of tests
 
 
-MAP_TEST = "rt_map", "tests::a_refusal_changes_nothing"
+TESTS = ("rt_map", "tests::a_refusal_changes_nothing"), ("rt_hub", "tests::a_refusal_is_said")
 
 
 def ends_of_test(program, test, library, number):
@@ -136,9 +136,9 @@ def ends_of_test(program, test, library, number):
     return ran.returncode, REFUSED in ran.stderr
 
 
-def map_part(copy):
-    """Refuses each allocation of the test of maps that looks at what a refusal leaves: it passes each time."""
-    (crate, test), clock = MAP_TEST, Clock()
+def test_part(copy, crate, test):
+    """Refuses each allocation of a test that looks at what a refusal leaves, or that it is said: it passes each time."""
+    clock = Clock()
     program = f"{copy}/crates/{crate}/out/{crate}_tests"
     with tempfile.TemporaryDirectory(prefix="kaltewi-refuse-") as room, concurrent.futures.ThreadPoolExecutor(os.cpu_count()) as pool:
         library, why = refuser(room)
@@ -152,6 +152,11 @@ def map_part(copy):
             wrong = [f"allocation {number} refused: status {status}" for number, (status, _) in zip(numbers, ends) if status]
             count, is_there = count + sum(it for _, it in ends), ends[-1][1]
     part(f"{crate}: {count} allocations of a test refused, each of them", some_of(wrong, count), clock)
+
+
+def tests_part(copy):
+    for crate, test in TESTS:
+        test_part(copy, crate, test)
 
 
 # ---- of all rows

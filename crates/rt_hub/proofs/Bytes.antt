@@ -1,5 +1,5 @@
 -- How many bytes texts have.
-use Rattle.std.proofs.Common.{◌≡◌, ℕ, ◌+◌, List, [], ◌∷◌, length, drop, map, ap, ◌∙◌, Some, arith}
+use Rattle.std.proofs.Common.{◌≡◌, ℕ, ◌+◌, List, [], ◌∷◌, length, drop, map, ap, Some, arith}
 use Rattle.std.proofs.Common.{string_bytes}
 use Rattle.std.specs.Prelude.{String}
 use Rattle.std.specs.List.{fold, slice_get}

@@ -2,7 +2,7 @@
 use Rattle.std.proofs.Common.{◌≡◌, ℕ, ◌+◌, ◌<◌, ◌≤◌, Bool, true, false, List, [], ◌∷◌, length, drop, get_or}
 use Rattle.std.proofs.Common.{◌++◌, cond, map, refl, sym, ap, subst, ◌∙◌, Option, Some, None}
 use Rattle.std.specs.Prelude.{◌==◌, if◌then◌else◌, is_some, IfOk, IfSome, OnOk, Result, Ok, Err}
-use Rattle.std.specs.List.{filter, fold}
+use Rattle.std.specs.List.{filter}
 use Rattle.std.specs.Option.{option_map}
 use Rattle.std.proofs.lemmas.List.{drop_all, drop_more}
 use Rattle.std.proofs.lemmas.List.Sums.{fold-append}
@@ -12,10 +12,10 @@ use Rattle.rt_peer.specs.Peers.{Peer, is_known, least_free}
 use Rattle.rt_peer.specs.Calls.{Outcome, answered, connected, disconnected, fault}
 use Rattle.rt_peer.specs.Runs.{Call, Connect, Message, Disconnect, outcome}
 use Rattle.rt_hub.specs.declared.bounds.Bounds.{Bounds}
-use Rattle.rt_hub.specs.Hubs.{Hub, IsMade, Makes, receivers}
+use Rattle.rt_hub.specs.Hubs.{IsMade, receivers}
 use Rattle.rt_hub.specs.Lines.{Line, empty_line, line_of, text_of, texts_to, with_text, with_texts}
 use Rattle.rt_hub.specs.Lines.{without_first}
-use Rattle.rt_hub.specs.inside.Lined.{AreLined, AreLinedOf, DoesCall, IsDone, hub_of}
+use Rattle.rt_hub.specs.inside.Lined.{AreLinedOf, IsDone, hub_of}
 use Rattle.rt_hub.proofs.Known.{answers, free_is_next, free_is_positive, joins, known_of, leaves}
 use Rattle.rt_hub.proofs.Places.{IsChanged, Places, same_number}
 

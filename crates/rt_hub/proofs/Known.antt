@@ -1,9 +1,9 @@
 -- Which connections are known, and that just these have a line.
-use Rattle.std.proofs.Common.{◌≡◌, ℕ, ◌+◌, ◌-◌, ◌<◌, ◌≤◌, Bool, true, false, cond, not, nat_lt, List}
-use Rattle.std.proofs.Common.{[], ◌∷◌, ◌++◌}
-use Rattle.std.proofs.Common.{length, zero, suc, refl, sym, ap, subst, ◌∙◌, arith, Option, Some, None}
+use Rattle.std.proofs.Common.{◌≡◌, ℕ, ◌+◌, ◌<◌, ◌≤◌, Bool, true, false, cond, not, nat_lt, List}
+use Rattle.std.proofs.Common.{[], ◌∷◌}
+use Rattle.std.proofs.Common.{length, zero, suc, refl, sym, ap, ◌∙◌, arith, Option, Some, None}
 use Rattle.std.proofs.Common.{codes}
-use Rattle.std.specs.Prelude.{◌==◌, ◌||◌, ◌&&◌, if◌then◌else◌, is_some}
+use Rattle.std.specs.Prelude.{◌==◌, ◌||◌, if◌then◌else◌}
 use Rattle.std.specs.List.{filter, fold, list_any}
 use Rattle.std.proofs.lemmas.Bool.Decides.{nat_tests}
 use Rattle.std.proofs.lemmas.List.Folds.{list_any-append}
@@ -16,9 +16,9 @@ use Rattle.rt_wire.specs.declared.server.ServerMessage.TheVariants.{Data, Accept
 use Rattle.rt_peer.specs.declared.error.PeerError.TheVariants.{UnknownConnection}
 use Rattle.rt_peer.specs.Peers.{Peer, in_place, is_known, least_free, is_denied}
 use Rattle.rt_peer.specs.Pushes.{seen}
-use Rattle.rt_peer.specs.Calls.{Outcome, one, connected, kept, answered, disconnected, entries_of, fault}
+use Rattle.rt_peer.specs.Calls.{Outcome, one, kept, answered, entries_of, fault}
 use Rattle.rt_peer.specs.Calls.{refusal, unless_refused, wrote, deferred, dropped, asked}
-use Rattle.rt_hub.specs.Lines.{Line, line_of}
+use Rattle.rt_hub.specs.Lines.{Line}
 use Rattle.rt_hub.specs.inside.Lined.{AreLined}
 use Rattle.rt_hub.proofs.Places.{line_within}
 

@@ -1,5 +1,5 @@
 -- What a connection is given, of any calls.
-use Rattle.std.proofs.Common.{◌≡◌, ◌⊎◌, ℕ, Bool, true, false, not, List, [], ◌∷◌, ◌++◌, length, take, drop}
+use Rattle.std.proofs.Common.{◌≡◌, ◌⊎◌, ℕ, Bool, true, false, not, List, [], ◌∷◌, ◌++◌, length, drop}
 use Rattle.std.proofs.Common.{inl, inr, refl, sym, ap, subst, ◌∙◌, append-nil, append_assoc, Option}
 use Rattle.std.proofs.Common.{Some, None}
 use Rattle.std.specs.Prelude.{◌==◌, if◌then◌else◌}
@@ -11,7 +11,7 @@ use Rattle.rt_hub.specs.declared.bounds.Bounds.{Bounds}
 use Rattle.rt_hub.specs.Hubs.{Hub, kept_line, line_after}
 use Rattle.rt_hub.specs.Lines.{Line, empty_line, has_room, over_line, texts_to, with_text, with_texts}
 use Rattle.rt_hub.specs.Lines.{without_first}
-use Rattle.rt_hub.specs.Runs.{Asked, DoesAll, DoesOne, Lasts, Next, OfPeer, Watched, first_in}
+use Rattle.rt_hub.specs.Runs.{Asked, DoesOne, Lasts, Next, OfPeer, Watched, first_in}
 use Rattle.rt_hub.specs.Runs.{given_all, given_by}
 use Rattle.rt_hub.specs.Runs.{sent_all, sent_by, stays, watched_after, watched_all, watched_in}
 use Rattle.rt_hub.specs.laws.Queues.{IsServed, IsServedAll, SeesItsOwn}

@@ -23,6 +23,8 @@ mod laws;
 mod line;
 mod lines;
 mod taken;
+#[cfg(test)]
+mod tests;
 
 pub use bounds::{Bounds, MAX_WAITING_BYTES, MAX_WAITING_MESSAGES};
 pub use examples::line_examples;

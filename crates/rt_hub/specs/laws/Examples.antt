@@ -1,7 +1,7 @@
 -- Rows of lines that the prover computes: bounds of two texts and of five bytes.
 use Rattle.std.specs.Prelude.{◌≡◌, ◌≢◌, false, List, [], ◌∷◌, ℕ, Some, None, codes}
 use Rattle.rt_hub.specs.declared.bounds.Bounds.{Bounds}
-use Rattle.rt_hub.specs.Lines.{Line, empty_line, line_of, over_line, with_texts}
+use Rattle.rt_hub.specs.Lines.{empty_line, line_of, over_line, with_texts}
 
 abbrev pub small : Bounds
 small = record { messages = 2; bytes = 5 }

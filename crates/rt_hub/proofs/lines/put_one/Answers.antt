@@ -1,6 +1,4 @@
 use Rattle.std.proofs.Common.{set, Some, None, refl, subst, ap, ◌∙◌}
-use Rattle.std.specs.Option.{option_map}
-use Rattle.rt_hub.specs.Lines.{text_of, with_text}
 use Rattle.rt_hub.proofs.Done.{on_ok, put_here}
 use Rattle.rt_hub.proofs.Places.{IsChanged, line_at, set_line}
 use Rattle.rt_hub.proofs.lines.put_one.Goals as goal

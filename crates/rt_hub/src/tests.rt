@@ -1,0 +1,98 @@
+// What no clause of a hub says: that its calls succeed with memory, and that one that lacks it says so.
+use crate::{Bounds, Hub, Taken};
+use rt_peer::PeerError;
+use rt_tree::Tree;
+use std::alloc::Global;
+use std::test::Fail;
+
+const LISTEN: &str = "{\"k\":\"listen\",\"path\":\"/a\",\"tag\":1}";
+
+const PUT: &str = "{\"k\":\"put\",\"id\":1,\"path\":\"/a\",\"value\":7}";
+
+fn empty(alloc: Global, messages: usize) -> Hub {
+    let bounds = Bounds {
+        messages,
+        bytes: 1000,
+    };
+    Hub::new(alloc, Tree::null(), Vec::new(alloc), bounds)
+}
+
+// A hub of two connections, both of which listen; the second writes.
+fn told(alloc: Global, messages: usize) -> Result<Hub, PeerError> {
+    let mut hub = empty(alloc, messages);
+    let first = hub.connect()?;
+    let second = hub.connect()?;
+    drop(hub.take(first, LISTEN)?);
+    drop(hub.take(second, LISTEN)?);
+    drop(hub.take(second, PUT)?);
+    Ok(hub)
+}
+
+// How many texts wait for a connection; they are taken.
+fn count(hub: &mut Hub, connection: u64) -> usize {
+    for all in 0..100 {
+        if hub.next(connection).is_none() {
+            return all;
+        }
+    }
+    100
+}
+
+fn is_passed_over(taken: &Taken) -> bool {
+    match taken {
+        Taken::Message(_) => false,
+        Taken::PassedOver(_) => true,
+    }
+}
+
+#[test]
+fn two_connections(rt: HostRuntime) -> Result<(), Fail> {
+    let mut hub = told(rt.alloc(), Bounds::full().messages)?;
+    assert_eq!(rt; count(&mut hub, 1), 2);
+    assert_eq!(rt; count(&mut hub, 2), 3);
+    assert!(rt; !hub.is_over(1));
+    assert!(rt; !hub.tree().is_null());
+    Ok(())
+}
+
+#[test]
+fn one_text_too_many(rt: HostRuntime) -> Result<(), Fail> {
+    let mut hub = told(rt.alloc(), 2)?;
+    assert_eq!(rt; count(&mut hub, 1), 2);
+    assert!(rt; hub.is_over(2));
+    assert_eq!(rt; count(&mut hub, 2), 0);
+    let told = hub.disconnect(2)?;
+    assert!(rt; told.is_empty());
+    Ok(())
+}
+
+#[test]
+fn no_message(rt: HostRuntime) -> Result<(), Fail> {
+    let mut hub = told(rt.alloc(), 2)?;
+    let taken = hub.take(1, "[]")?;
+    assert!(rt; is_passed_over(&taken));
+    assert_eq!(rt;
+        hub.take(9, LISTEN).err(),
+        Some(PeerError::UnknownConnection)
+    );
+    assert_eq!(rt; hub.disconnect(9).err(), Some(PeerError::UnknownConnection));
+    Ok(())
+}
+
+// Whether each call of that run succeeds, or says that memory lacked.
+fn says_so(alloc: Global) -> bool {
+    match told(alloc, 10) {
+        Ok(mut hub) => match hub.disconnect(1) {
+            Ok(told) => told.is_empty(),
+            Err(why) => why == PeerError::NoMemory
+                && hub.connect().err() == Some(PeerError::Failed),
+        },
+        Err(why) => why == PeerError::NoMemory,
+    }
+}
+
+#[test]
+fn a_refusal_is_said(rt: HostRuntime) -> Result<(), Fail> {
+    assert!(rt; says_so(rt.alloc()));
+    Ok(())
+}
