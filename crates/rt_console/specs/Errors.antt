@@ -1,34 +1,10 @@
--- The exit status of a word that can't be had, and the number and the name of each fault.
-use Rattle.std.specs.Prelude.{ℕ, List, codes}
+-- The exit status of a word that can't be had.
+use Rattle.std.specs.Prelude.{ℕ}
 use Rattle.rt_console.specs.declared.arguments.ArgumentError.{ArgumentError}
 use Rattle.rt_console.specs.declared.arguments.ArgumentError.TheVariants as argument
-use Rattle.rt_console.specs.declared.connect.ConnectFault.{ConnectFault}
-use Rattle.rt_console.specs.declared.connect.ConnectFault.TheVariants.{NotConnected, Ended}
-use Rattle.rt_console.specs.declared.serve.ServeFault.{ServeFault}
-use Rattle.rt_console.specs.declared.serve.ServeFault.TheVariants.{NotBound, NotAccepted, NoMemory}
 
 -- the exit status
 abbrev pub argument_status : ArgumentError → ℕ
 argument_status (argument.NotUtf8 number) = 2
 argument_status (argument.TooLong number) = 2
 argument_status argument.NoMemory = 1
-
--- why serving ends early
-abbrev pub serve_code : ServeFault → ℕ
-serve_code (NotBound port why) = 1
-serve_code (NotAccepted port why) = 2
-serve_code NoMemory = 3
-
-abbrev pub serve_name : ServeFault → List ℕ
-serve_name (NotBound port why) = codes "NotBound"
-serve_name (NotAccepted port why) = codes "NotAccepted"
-serve_name NoMemory = codes "NoMemory"
-
--- why a client ends early
-abbrev pub connect_code : ConnectFault → ℕ
-connect_code (NotConnected port why) = 1
-connect_code (Ended e) = 2
-
-abbrev pub connect_name : ConnectFault → List ℕ
-connect_name (NotConnected port why) = codes "NotConnected"
-connect_name (Ended e) = codes "Ended"

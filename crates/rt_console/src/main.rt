@@ -2,22 +2,17 @@
 #![tactic(auto)]
 
 mod arguments;
-mod connect;
-mod script;
-mod serve;
-mod words;
 
-use connect::{ConnectFault, connect};
+use rt_commands::{
+    Asked, ConnectFault, PROGRAM, Serving, Work, connect, explain, read_words, run_logged, serve,
+};
 use rt_input::{ConsoleError, Fault, Log, Reading, Silent, Telling, Writing};
-use script::run_logged;
-use serve::serve;
 use std::alloc::Global;
 use std::fmt::Display;
 use std::net::Net;
 use std::process::ExitCode;
 use std::random::RandomSource;
 use std::sync::Wait;
-use words::{Asked, PROGRAM, Serving, Work};
 
 // Says why the program ends, and answers the exit status of a fault.
 fn say_fault<E: Display>(rt: &HostRuntime, fault: &E) -> u8 {
@@ -99,9 +94,9 @@ fn status_of_words<R: Net + Wait + RandomSource>(
     system: &HostRuntime,
     words: &[String],
 ) -> u8 {
-    match words::read_words(system.alloc(), words) {
+    match read_words(system.alloc(), words) {
         Ok(asked) => status_of_asked(rt, system, asked),
-        Err(ConsoleError::BadWords) => words::explain(system, system.alloc(), words),
+        Err(ConsoleError::BadWords) => explain(system, system.alloc(), words),
         Err(error) => say_fault(system, &error),
     }
 }

@@ -16,7 +16,7 @@ use crate::seats::{
 };
 use crate::socket::{Heard, MAX_PINGS, Told, opened};
 use rt_client::{Client, Seat};
-use rt_input::{ConsoleError, Drain, LineReader, Log, Silent, Source};
+use rt_input::{ConsoleError, Drain, LineReader, Log, Silent, Source, write_printed};
 use rt_lines::{LineError, Order, Refusal, write_bad_line, write_refusal};
 use rt_world::{Call, CoreError};
 use std::alloc::{AllocError, Global};
@@ -232,12 +232,7 @@ impl<'a, R: Wait, S: Read + Write + Drop, N: RandomSource + Drop> Driven<'a, R, 
         ensures error { IfErr result (λ e. e ≡ ConsoleError.WriteFault) }
         ensures fault { OnErr result (D.failures writer.new ≡ D.failures writer.old + 1) }
     {
-        if self.printed.is_empty() {
-            return Ok(());
-        }
-        let outcome = writer.write(self.printed.as_bytes());
-        self.printed.clear();
-        outcome.map_err(|_| ConsoleError::WriteFault)
+        write_printed(&mut self.printed, writer)
     }
 
     // Does all lines of the input, and answers how many of them were bad.

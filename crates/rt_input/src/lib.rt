@@ -15,6 +15,7 @@ mod error;
 mod fault;
 mod lines;
 mod log;
+mod printed;
 mod stream;
 
 pub use counted::{Counted, MAX_MESSAGE_BYTES};
@@ -22,4 +23,5 @@ pub use error::ConsoleError;
 pub use fault::Fault;
 pub use lines::{LineReader, MOST_INPUT};
 pub use log::{LOG_PREFIX, Log, Silent, Telling};
+pub use printed::write_printed;
 pub use stream::{Drain, Failed, Reading, Source, Writing};
