@@ -23,6 +23,9 @@ module _ {X : Type 0} where
   abbrev pub with_content : X → Option ℕ → Slot X → Slot X
   with_content value o slot = record slot { first_child = o; value = value }
 
+  abbrev pub with_value : X → Slot X → Slot X
+  with_value value slot = record slot { value = value }
+
   -- every node is as it was
   pub record Same (old new : Slab (Slot X)) : Type 0 where
     pub kept : (n : ℕ) → get new n ≡ get old n

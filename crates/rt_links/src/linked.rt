@@ -6,7 +6,7 @@ ghost use Rattle.rt_links.specs.Forest.{IsRow, row_at, times};
 ghost use Rattle.rt_links.specs.Walks.{IsPlace, spot_in, index_in, place_in};
 ghost use Rattle.rt_links.specs.Nodes.{Inserted};
 ghost use Rattle.rt_links.specs.Changes.{Felled, Changed, IsHead, InRow, Same, Told, without};
-ghost use Rattle.rt_links.specs.Changes.{linked_in, with_content};
+ghost use Rattle.rt_links.specs.Changes.{linked_in, with_content, with_value};
 
 use crate::ranks::Ranks;
 use crate::row::{Siblings, Spot};
@@ -132,6 +132,16 @@ impl<V: Drop> Linked<V> {
         ensures len { slab_len self.new ≡ slab_len self.old }
     {
         links::set_content(&mut self.nodes, index, value, link);
+    }
+
+    /// Sets what a node carries. The answer is what it carried; `None` where no node has the number.
+    pub fn exchange(&mut self, index: usize, value: V) -> Option<V>
+        ensures value { result ≡ option_map (λ slot. slot.value) (get self.old index) }
+        ensures written { get self.new index ≡ option_map (with_value value) (get self.old index) }
+        ensures others { (n : ℕ) → n ≢ index → get self.new n ≡ get self.old n }
+        ensures len { slab_len self.new ≡ slab_len self.old }
+    {
+        links::exchange(&mut self.nodes, index, value)
     }
 
     /// Takes the nodes of a row out of the slab, with all below it.

@@ -7,6 +7,7 @@ ghost use Rattle.rt_links.specs.Walks.{IsPlace};
 ghost use Rattle.rt_links.specs.inside.Ranks.{IsRanked};
 ghost use Rattle.rt_links.specs.Changes.{Felled, Changed, IsHead, InRow, without, joined};
 ghost use Rattle.rt_links.specs.Changes.{linked_in, with_next, with_previous, with_content};
+ghost use Rattle.rt_links.specs.Changes.{with_value};
 
 use crate::ranks::Ranks;
 use crate::slot::Slot;
@@ -76,6 +77,19 @@ pub(crate) fn set_content<V: Drop>(
     if let Some(slot) = nodes.get_mut(index) {
         slot.first_child = link;
         slot.value = value;
+    }
+}
+
+// Sets what a node carries. The answer is what it carried.
+pub(crate) fn exchange<V: Drop>(nodes: &mut Slab<Slot<V>>, index: usize, value: V) -> Option<V>
+    ensures value { result ≡ option_map (λ slot. slot.value) (get nodes.old index) }
+    ensures written { get nodes.new index ≡ option_map (with_value value) (get nodes.old index) }
+    ensures others { (n : ℕ) → n ≢ index → get nodes.new n ≡ get nodes.old n }
+    ensures len { slab_len nodes.new ≡ slab_len nodes.old }
+{
+    match nodes.get_mut(index) {
+        Some(slot) => Some(std::mem::replace(&mut slot.value, value)),
+        None => None,
     }
 }
 

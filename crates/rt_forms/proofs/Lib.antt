@@ -1,0 +1,7 @@
+pub mod AddLaws
+pub mod FormLaws
+pub mod ListLaws
+pub mod NodeLaws
+pub mod NumberLaws
+pub mod RowLaws
+pub mod ViewLaws

@@ -1,0 +1,127 @@
+// The tree of forms.
+ghost use Rattle.std.specs.Prelude.{◌≡◌, ◌<◌, ◌+◌, ◌^◌, ◌==◌, [], ℕ, Bool, false, length, if◌then◌else◌};
+ghost use Rattle.std.specs.Prelude.{OnOk, OnErr};
+ghost use Rattle.std.specs.List.{list_any};
+ghost use Rattle.rt_query.specs.Queries.{Query as QueryValue};
+ghost use Rattle.rt_forms.specs.Numbers.{with_number};
+ghost use Rattle.rt_forms.specs.Forms.{numbers, count, share_form, IsAsBefore};
+
+use crate::adding::add_row;
+use crate::standing::Standing;
+use rt_links::{Linked, Siblings};
+use rt_query::Query;
+use std::alloc::{AllocError, Global};
+use std::marker::Model;
+
+/// The listeners of forms, by the paths of these: the numbers of each form's, in rising order.
+#[derive(Debug)]
+pub struct Forms {
+    // What is registered at the root, which is no node of the slab.
+    top: Standing,
+    nodes: Linked<Standing>,
+    // The first child of the root.
+    first: Option<usize>,
+}
+
+impl Drop for Forms {
+    fn drop(self) {
+        let Forms {
+            top: _,
+            nodes: _,
+            first: _,
+        } = self;
+    }
+}
+
+impl Model for Forms {
+    ghost use Rattle.std.specs.Coded.{codes};
+    ghost use Rattle.slab.specs.Slab.{slab_code};
+    ghost use Rattle.rt_links.specs.Nodes.{slot_code};
+    ghost use Rattle.rt_forms.specs.Forms.{Forms};
+
+    ghost Value = { Forms };
+
+    ghost coded = { Prim.hlevel (codes, slab_code, slot_code) };
+
+    ghost use Rattle.rt_forms.specs.inside.FormsView.{IsForms};
+
+    ghost view = { λ a. record { top = a.top; nodes = a.nodes; first = a.first } };
+
+    ghost invariant = { λ a. IsForms (record { top = a.top; nodes = a.nodes; first = a.first }) };
+}
+
+impl Forms {
+    /// No listener.
+    pub fn new(alloc: Global) -> Forms
+        ensures none { (query : QueryValue) → numbers result query ≡ [] }
+        ensures count { count result ≡ 0 }
+    {
+        Forms {
+            top: Standing::new(alloc),
+            nodes: Linked::new(alloc),
+            first: None,
+        }
+    }
+
+    /// How many listeners there are.
+    pub fn count(&self) -> usize
+        ensures { result ≡ count self.now }
+    {
+        self.top.count()
+    }
+
+    /// The numbers of the listeners of a query's form, in rising order; none where it has none.
+    ///
+    /// Costs by the path, the logarithm of the number of siblings at each of its keys, and the
+    /// filtered forms at it.
+    pub fn numbers(&self, query: &Query) -> &[u64]
+        ensures { result.now ≡ numbers self.now query.now }
+    {
+        let Some((key, rest)) = query.path().keys().split_first() else {
+            return self.top.numbers(query);
+        };
+        let row = Siblings {
+            parent: None,
+            first: self.first,
+        };
+        let Some(index) = self.nodes.descend(row, key, rest) else {
+            return &[];
+        };
+        match self.nodes.get(index) {
+            Some(slot) => slot.value.numbers(query),
+            None => &[],
+        }
+    }
+
+    /// Registers a listener of a query's form, under a number that none of the form has.
+    ///
+    /// Costs by the path, the logarithm of the number of siblings at each of its keys, and the
+    /// filtered forms at it; words of numbers are moved.
+    ///
+    /// # Errors
+    ///
+    /// An `AllocError`, after which all is as it was.
+    pub fn add(&mut self, alloc: Global, number: u64, query: &Query) -> Result<(), AllocError>
+        requires free { list_any (λ m. m == number) (numbers self.old query.now) ≡ false }
+        requires room { count self.old + 1 < 2 ^ 64 }
+        ensures numbers { OnOk result ((other : QueryValue) → numbers self.new other
+            ≡ (if share_form other query.now then with_number number (numbers self.old other)
+            else numbers self.old other)) }
+        ensures count { OnOk result (count self.new ≡ count self.old + 1) }
+        ensures unchanged { OnErr result (IsAsBefore self.old self.new) }
+    {
+        match query.path().keys().split_first() {
+            None => self.top.add(alloc, number, query)?,
+            Some((key, rest)) => {
+                let row = Siblings {
+                    parent: None,
+                    first: self.first,
+                };
+                let first = add_row(&mut self.nodes, alloc, row, key, rest, number, query)?;
+                self.first = first;
+                self.top.pass();
+            }
+        }
+        Ok(())
+    }
+}

@@ -1,0 +1,215 @@
+// What is registered at one path.
+ghost use Rattle.std.specs.Prelude.{◌≡◌, ◌<◌, ◌+◌, ◌^◌, ◌==◌, ◌∷◌, [], true, false, not, length, OnOk, OnErr, IfOk};
+ghost use Rattle.std.specs.Prelude.{is_some};
+ghost use Rattle.std.specs.List.{list_any, position};
+ghost use Rattle.rt_query.specs.Queries.{is_filtered};
+ghost use Rattle.rt_query.specs.QueryEq.{query_eq};
+ghost use Rattle.rt_forms.specs.Numbers.{with_number};
+ghost use Rattle.rt_forms.specs.inside.Trees.{among, own, Gained, passed, empty};
+ghost use Rattle.rt_forms.specs.inside.Lists.{joined};
+
+use crate::numbers::Numbers;
+use rt_query::Query;
+use std::alloc::{AllocError, Global};
+use std::marker::Model;
+
+// A filtered form, and the numbers of its listeners.
+#[derive(Debug)]
+struct Filtered {
+    form: Query,
+    numbers: Numbers,
+}
+
+impl Drop for Filtered {
+    fn drop(self) {
+        let Filtered {
+            form: _,
+            numbers: _,
+        } = self;
+    }
+}
+
+impl Model for Filtered {
+    ghost use Rattle.std.specs.Prelude.{List, ℕ};
+    ghost use Rattle.rt_query.specs.Queries.{Query};
+
+    ghost Value = { Query × List ℕ };
+
+    ghost view = { λ a. (a.form, a.numbers) };
+}
+
+// The numbers of the plain form's listeners, the filtered forms with those of theirs, and how many
+// listeners there are at and under the path.
+#[derive(Debug)]
+pub(crate) struct Standing {
+    plain: Numbers,
+    filtered: Vec<Filtered>,
+    count: usize,
+}
+
+impl Drop for Standing {
+    fn drop(self) {
+        let Standing {
+            plain: _,
+            filtered: _,
+            count: _,
+        } = self;
+    }
+}
+
+impl Model for Standing {
+    ghost use Rattle.rt_forms.specs.inside.Trees.{Standing};
+
+    ghost Value = { Standing };
+
+    ghost view = { λ a. record { plain = a.plain; filtered = a.filtered.items; count = a.count } };
+}
+
+// Where a form stands.
+fn place_of(filtered: &[Filtered], query: &Query) -> Option<usize>
+    ensures { result ≡ position (λ e. query_eq e.0 query.now) filtered.now }
+{
+    filtered.iter().position(|entry| entry.form == *query)
+}
+
+// A form's first listener.
+fn first_of(alloc: Global, number: u64, query: &Query) -> Result<Filtered, AllocError>
+    ensures { IfOk result (λ entry. entry ≡ (query.now, number ∷ [])) }
+{
+    let mut numbers = Numbers::new(alloc);
+    numbers.insert(number)?;
+    let form = query.copy()?;
+    Ok(Filtered { form, numbers })
+}
+
+// The numbers of a filtered form's listeners.
+fn numbers_among<'a>(filtered: &'a [Filtered], query: &Query) -> &'a [u64]
+    ensures { result.now ≡ among query.now filtered.now }
+{
+    for entry in filtered {
+        if entry.form == *query {
+            return entry.numbers.as_slice();
+        }
+    }
+    &[]
+}
+
+// Puts a listener among those of a form.
+fn join_entry(entry: &mut Filtered, number: u64) -> Result<(), AllocError>
+    requires { list_any (λ m. m == number) entry.old.1 ≡ false }
+    ensures ok { OnOk result (entry.new ≡ (entry.old.0, with_number number entry.old.1)) }
+    ensures err { OnErr result (entry.new ≡ entry.old) }
+{
+    entry.numbers.insert(number)
+}
+
+// Puts a listener among those of a filtered form.
+fn join(
+    filtered: &mut Vec<Filtered>,
+    alloc: Global,
+    number: u64,
+    query: &Query,
+) -> Result<(), AllocError>
+    requires { list_any (λ m. m == number) (among query.now filtered.old.items) ≡ false }
+    ensures ok { OnOk result (filtered.new.items ≡ joined query.now number filtered.old.items) }
+    ensures err { OnErr result (filtered.new.items ≡ filtered.old.items) }
+{
+    match place_of(filtered, query) {
+        Some(at) => join_entry(&mut filtered[at], number),
+        None => {
+            let entry = first_of(alloc, number, query)?;
+            filtered.push(entry)?;
+            Ok(())
+        }
+    }
+}
+
+impl Standing {
+    // Nothing is registered.
+    pub(crate) fn new(alloc: Global) -> Standing
+        ensures { result ≡ empty }
+    {
+        Standing {
+            plain: Numbers::new(alloc),
+            filtered: Vec::new(alloc),
+            count: 0,
+        }
+    }
+
+    // How many listeners there are at and under the path.
+    pub(crate) fn count(&self) -> usize
+        ensures { result ≡ self.now.count }
+    {
+        self.count
+    }
+
+    // Whether the plain form has a listener.
+    pub(crate) fn has_plain(&self) -> bool
+        ensures { result ≡ not (length self.now.plain == 0) }
+    {
+        !self.plain.is_empty()
+    }
+
+    // The numbers of the listeners of a query's form.
+    pub(crate) fn numbers(&self, query: &Query) -> &[u64]
+        ensures { result.now ≡ own query.now self.now }
+    {
+        if !query.is_filtered() {
+            return self.plain.as_slice();
+        }
+        numbers_among(&self.filtered, query)
+    }
+
+    // A listener is registered under the path.
+    pub(crate) fn pass(&mut self)
+        requires { self.old.count + 1 < 2 ^ 64 }
+        ensures { self.new ≡ passed self.old }
+    {
+        self.count += 1;
+    }
+
+    // Registers a listener of a filtered form.
+    fn add_filtered(&mut self, alloc: Global, number: u64, query: &Query) -> Result<(), AllocError>
+        requires filtered { is_filtered query.now ≡ true }
+        requires free { list_any (λ m. m == number) (own query.now self.old) ≡ false }
+        requires room { self.old.count + 1 < 2 ^ 64 }
+        ensures ok { OnOk result (Gained self.old self.new query.now number) }
+        ensures err { OnErr result (self.new ≡ self.old) }
+    {
+        join(&mut self.filtered, alloc, number, query)?;
+        self.count += 1;
+        Ok(())
+    }
+
+    // Registers a listener of a plain form.
+    fn add_plain(&mut self, number: u64, query: &Query) -> Result<(), AllocError>
+        requires plain { is_filtered query.now ≡ false }
+        requires free { list_any (λ m. m == number) (own query.now self.old) ≡ false }
+        requires room { self.old.count + 1 < 2 ^ 64 }
+        ensures ok { OnOk result (Gained self.old self.new query.now number) }
+        ensures err { OnErr result (self.new ≡ self.old) }
+    {
+        self.plain.insert(number)?;
+        self.count += 1;
+        Ok(())
+    }
+
+    // Registers a listener of a query's form.
+    pub(crate) fn add(
+        &mut self,
+        alloc: Global,
+        number: u64,
+        query: &Query,
+    ) -> Result<(), AllocError>
+        requires free { list_any (λ m. m == number) (own query.now self.old) ≡ false }
+        requires room { self.old.count + 1 < 2 ^ 64 }
+        ensures ok { OnOk result (Gained self.old self.new query.now number) }
+        ensures err { OnErr result (self.new ≡ self.old) }
+    {
+        if query.is_filtered() {
+            self.add_filtered(alloc, number, query)
+        } else {
+            self.add_plain(number, query)
+        }
+    }
+}
