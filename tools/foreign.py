@@ -1,8 +1,9 @@
 """Kaltewi for other languages: the static library, and what C, Python and Rust make of it.
 
 The library is built over what rt ci proved. A C program with include/kaltewi.h, compiled with warnings as errors and with the sanitizers of
-addresses and of undefined behaviour, runs each script row, and prints what the console prints. The tests of the bindings run where their
-languages are there; where one is not, the part says so."""
+addresses and of undefined behaviour, runs each script row, and prints what the console prints. Another runs each script of examples/ once for
+each growth that it asks for, with that growth refused. The tests of the bindings run where their languages are there; where one is not, the
+part says so."""
 import os
 import shutil
 import subprocess
@@ -40,8 +41,9 @@ def is_built(copy):
     return said(["rt", "lib"], cwd=f"{copy}/crates/{CRATE}") or ("" if os.path.isfile(archives(copy)[0]) else "rt lib made no archive")
 
 
-def compiled(copy, room):
-    return said(["gcc", *WARNINGS, f"-I{ROOT}/include", f"{ROOT}/bindings/c/lines.c", *archives(copy), "-o", f"{room}/lines"])
+def compiled(name, libraries, room):
+    """What is wrong with the C program of that name, which is compiled over these archives, if anything is."""
+    return said(["gcc", *WARNINGS, f"-I{ROOT}/include", f"{ROOT}/bindings/c/{name}.c", *libraries, "-o", f"{room}/{name}"])
 
 
 def wrong_row(row, program):
@@ -53,11 +55,25 @@ def wrong_row(row, program):
 def c_part(copy, room):
     clock = Clock()
     scripts = [it for it in rows("examples", "rows") if it.script is not None and not os.path.exists(f"{ROOT}/{it.name}.args")]
-    wrong = [it for it in [is_built(copy) or compiled(copy, room)] if it]
+    wrong = [it for it in [is_built(copy) or compiled("lines", archives(copy), room)] if it]
     if not wrong:
         wrong = [text for it in scripts for text in [wrong_row(it, f"{room}/lines")] if text]
     part(f"C: {len(scripts)} script rows through the static library", some_of(wrong, scripts), clock)
     return not wrong
+
+
+def lost_growth(row, program):
+    """What is wrong with the runs of a script in which one growth after another is refused, if anything is."""
+    ran = subprocess.run([program], input=row.script, capture_output=True, timeout=300, env={**os.environ, **SANITIZED})
+    return "" if not ran.returncode else f"{row.name}: status {ran.returncode}: {ran.stderr.decode(errors='replace')[:200]}"
+
+
+def growths_part(copy, room):
+    clock, scripts = Clock(), [it for it in rows("examples") if it.script is not None]
+    wrong = [it for it in [compiled("refused", archives(copy)[:1], room)] if it]
+    if not wrong:
+        wrong = [text for it in scripts for text in [lost_growth(it, f"{room}/refused")] if text]
+    part(f"C: {len(scripts)} scripts with each growth of a heap of their own refused", some_of(wrong, scripts), clock)
 
 
 def shared(copy, room):
@@ -95,6 +111,7 @@ def foreign_parts(copy, room):
         part("C", "its command 'gcc' is not on the PATH")
         return
     if c_part(copy, room):
+        growths_part(copy, room)
         python_part(copy, room)
         rust_part(copy, room)
 
