@@ -1,0 +1,4 @@
+pub mod Held
+pub mod Sessions
+pub mod Status
+pub mod Texts

@@ -1,0 +1,10 @@
+// What a handle holds.
+
+use crate::session::Session;
+
+/// What a handle holds.
+#[derive(Drop)]
+pub enum Held {
+    /// A core that lines drive.
+    Core(Session),
+}

@@ -1,0 +1,128 @@
+"""Kaltewi for other languages: the static library, and what C, Python and Rust make of it.
+
+The library is built over what rt ci proved. A C program with include/kaltewi.h, compiled with warnings as errors and with the sanitizers of
+addresses and of undefined behaviour, runs each script row, and prints what the console prints. Another runs each script of examples/ once for
+each growth that it asks for, with that growth refused. The tests of the bindings run where their languages are there; where one is not, the
+part says so."""
+import os
+import shutil
+import subprocess
+import sys
+
+sys.path.insert(0, f"{os.path.dirname(os.path.realpath(__file__))}/sessions")
+from parts import ROOT, Clock, part, some_of
+from rows import rows
+from runs import differs
+
+CRATE = "rt_ffi"
+WARNINGS = ["-std=gnu11", "-O1", "-g", "-Wall", "-Wextra", "-Werror", "-fsanitize=address,undefined", "-fno-sanitize-recover=all"]
+# Leaves nothing of what a C program was given unfreed, and says so.
+SANITIZED = {"ASAN_OPTIONS": "detect_leaks=1:exitcode=9", "UBSAN_OPTIONS": "halt_on_error=1:exitcode=9"}
+
+
+def kit():
+    """The folder of the toolchain."""
+    page = subprocess.run(["rt", "doc"], capture_output=True, text=True, check=True).stdout.strip()
+    return os.path.dirname(page)
+
+
+def archives(copy):
+    """The library, and the few calls of the C library that it makes."""
+    return [f"{copy}/crates/{CRATE}/out/lib{CRATE}.a", f"{kit()}/c/liblibc_c.a"]
+
+
+def said(words, **more):
+    """What a command says where it fails, or nothing."""
+    ran = subprocess.run(words, capture_output=True, text=True, **more)
+    return f"{os.path.basename(words[0])}: status {ran.returncode}: {(ran.stdout + ran.stderr)[-300:]}" if ran.returncode else ""
+
+
+def is_built(copy):
+    return said(["rt", "lib"], cwd=f"{copy}/crates/{CRATE}") or ("" if os.path.isfile(archives(copy)[0]) else "rt lib made no archive")
+
+
+def compiled(name, libraries, room):
+    """What is wrong with the C program of that name, which is compiled over these archives, if anything is."""
+    return said(["gcc", *WARNINGS, f"-I{ROOT}/include", f"{ROOT}/bindings/c/{name}.c", *libraries, "-o", f"{room}/{name}"])
+
+
+def wrong_row(row, program):
+    """What is wrong with a script row that the C program runs, if anything is."""
+    ran = subprocess.run([program], input=row.script, capture_output=True, timeout=120, env={**os.environ, **SANITIZED})
+    return differs(f"{row.name} in C", (ran.returncode, ran.stdout, ran.stderr), (row.status, row.out, b""))
+
+
+def c_part(copy, room):
+    clock = Clock()
+    scripts = [it for it in rows("examples", "rows") if it.script is not None and not os.path.exists(f"{ROOT}/{it.name}.args")]
+    wrong = [it for it in [is_built(copy) or compiled("lines", archives(copy), room)] if it]
+    if not wrong:
+        wrong = [text for it in scripts for text in [wrong_row(it, f"{room}/lines")] if text]
+    part(f"C: {len(scripts)} script rows through the static library", some_of(wrong, scripts), clock)
+    return not wrong
+
+
+def lost_growth(row, program):
+    """What is wrong with the runs of a script in which one growth after another is refused, if anything is."""
+    ran = subprocess.run([program], input=row.script, capture_output=True, timeout=300, env={**os.environ, **SANITIZED})
+    return "" if not ran.returncode else f"{row.name}: status {ran.returncode}: {ran.stderr.decode(errors='replace')[:200]}"
+
+
+def growths_part(copy, room):
+    clock, scripts = Clock(), [it for it in rows("examples") if it.script is not None]
+    wrong = [it for it in [compiled("refused", archives(copy)[:1], room)] if it]
+    if not wrong:
+        wrong = [text for it in scripts for text in [lost_growth(it, f"{room}/refused")] if text]
+    part(f"C: {len(scripts)} scripts with each growth of a heap of their own refused", some_of(wrong, scripts), clock)
+
+
+def shared(copy, room):
+    """Makes the shared library of the archive, whose names alone are seen."""
+    with open(f"{room}/names", "w", encoding="utf-8") as it:
+        it.write("kaltewi { global: kw_*; local: *; };\n")
+    library, own = archives(copy)
+    words = ["gcc", "-shared", f"-Wl,--version-script={room}/names", "-Wl,--whole-archive", library, "-Wl,--no-whole-archive", own]
+    return said([*words, "-o", f"{room}/libkaltewi.so"])
+
+
+def python_part(copy, room):
+    clock = Clock()
+    why = shared(copy, room)
+    if not why:
+        environment = {**os.environ, "KALTEWI_LIBRARY": f"{room}/libkaltewi.so", "PYTHONDONTWRITEBYTECODE": "1"}
+        why = said(["python3", "test_kaltewi.py"], cwd=f"{ROOT}/bindings/python", env=environment)
+    part("Python: the tests of bindings/python", why, clock)
+
+
+def rust_part(copy, room):
+    if not shutil.which("cargo"):
+        print("       Rust: no command 'cargo' is on the PATH, so bindings/rust is not tried")
+        return
+    clock, crate = Clock(), f"{room}/rust"
+    shutil.copytree(f"{ROOT}/bindings/rust", crate, ignore=shutil.ignore_patterns("target"))
+    environment = {**os.environ, "KALTEWI_ARCHIVES": ":".join(archives(copy)), "CARGO_TARGET_DIR": f"{room}/target"}
+    why = said(["cargo", "test", "--quiet", "--offline"], cwd=crate, env=environment)
+    part("Rust: the tests and examples of bindings/rust", why, clock)
+
+
+def foreign_parts(copy, room):
+    """The parts of this module, over a copy in which the crates are proved and built."""
+    if not shutil.which("gcc"):
+        part("C", "its command 'gcc' is not on the PATH")
+        return
+    if c_part(copy, room):
+        growths_part(copy, room)
+        python_part(copy, room)
+        rust_part(copy, room)
+
+
+def main():
+    """Tries the bindings over what rt check keeps in this checkout, and proves nothing but rt_ffi."""
+    import tempfile
+
+    with tempfile.TemporaryDirectory(prefix="kaltewi-foreign-") as room:
+        foreign_parts(ROOT, room)
+
+
+if __name__ == "__main__":
+    main()
