@@ -1,0 +1,2 @@
+-- What a chain is, and how its nodes change.
+pub mod Chains

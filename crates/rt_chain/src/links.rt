@@ -1,0 +1,50 @@
+// Nodes are linked to each other.
+ghost use Rattle.std.specs.Prelude.{◌≡◌, ◌≢◌, ℕ};
+ghost use Rattle.std.specs.Option.{option_map};
+ghost use Rattle.slab.specs.Slab.{get};
+ghost use Rattle.rt_chain.specs.Chains.{joined, with_next, with_previous, with_value};
+
+use crate::node::Node;
+use slab::Slab;
+
+// Sets the value of a node.
+pub(crate) fn set_value<V: Drop>(nodes: &mut Slab<Node<V>>, slot: usize, value: V)
+    ensures written { get nodes.new slot ≡ option_map (with_value value) (get nodes.old slot) }
+    ensures others { (n : ℕ) → n ≢ slot → get nodes.new n ≡ get nodes.old n }
+{
+    if let Some(node) = nodes.get_mut(slot) {
+        node.value = value;
+    }
+}
+
+// Sets the slot behind a node.
+pub(crate) fn set_next<V: Drop>(nodes: &mut Slab<Node<V>>, slot: usize, link: Option<usize>)
+    ensures written { get nodes.new slot ≡ option_map (with_next link) (get nodes.old slot) }
+    ensures others { (n : ℕ) → n ≢ slot → get nodes.new n ≡ get nodes.old n }
+{
+    if let Some(node) = nodes.get_mut(slot) {
+        node.next = link;
+    }
+}
+
+// Sets the slot in front of a node.
+pub(crate) fn set_previous<V: Drop>(nodes: &mut Slab<Node<V>>, slot: usize, link: Option<usize>)
+    ensures written { get nodes.new slot ≡ option_map (with_previous link) (get nodes.old slot) }
+    ensures others { (n : ℕ) → n ≢ slot → get nodes.new n ≡ get nodes.old n }
+{
+    if let Some(node) = nodes.get_mut(slot) {
+        node.previous = link;
+    }
+}
+
+// Links two nodes to each other, where they are there.
+pub(crate) fn join<V: Drop>(nodes: &mut Slab<Node<V>>, previous: Option<usize>, next: Option<usize>)
+    ensures { (n : ℕ) → get nodes.new n ≡ option_map (joined previous next n) (get nodes.old n) }
+{
+    if let Some(slot) = previous {
+        set_next(nodes, slot, next);
+    }
+    if let Some(slot) = next {
+        set_previous(nodes, slot, previous);
+    }
+}
