@@ -4,6 +4,8 @@ use Rattle.circular_buffer.proofs.Crosses.{Cells-send, Cells-sync, Deed-send, De
 use Rattle.rt_mail.specs.contracts.mirror.Mirror as mirror
 use Rattle.rt_mail.specs.contracts.inbox.Inbox as inbox
 use Rattle.rt_mail.specs.contracts.lane.Lane as lane
+use Rattle.rt_snapshots.specs.contracts.snapshot.Snapshot as snapshot
+use Rattle.rt_snapshots.specs.contracts.snapshots.Snapshots as snapshots
 use Rattle.rt_cache.specs.contracts.brought.Brought as brought
 use Rattle.rt_cover.specs.contracts.cover.Cover as cover
 use Rattle.rt_view.specs.contracts.view.View as view
@@ -26,6 +28,12 @@ use Rattle.rt_client.proofs.Crosses.{all_cross, calls_cross, item_send, trees_cr
 
 pub mirror_send : IsSend mirror.the_row
 mirror_send = search trees_cross depth 40 fits 20000
+
+snapshot_send : IsSend snapshot.the_row
+snapshot_send = search calls_cross depth 40 fits 20000
+
+pub snapshots_send : IsSend snapshots.the_row
+snapshots_send = search (snapshot_send, calls_cross) depth 40 fits 20000
 
 ruleset rings_cross = (Cells-send, Cells-sync, Deed-send, Deed-sync, all_cross)
 

@@ -20,3 +20,4 @@ pub mod Slots
 pub mod Steps
 pub mod Taking
 pub mod Texts
+pub mod Viewed

@@ -186,6 +186,15 @@ RefusesCall old seat c NoMemory new left =
     × (ring : Ring) × HandsSome before seat.number seat.ring c ring
     × (left ≡ record seat { ring = ring }) × Fails old new
 
+-- the call, where it is handed back on a refusal: what it asks for was not looked at
+abbrev pub handed_back : ClientError → Call → Option Call
+handed_back Failed c = Some c
+handed_back WrongSeat c = Some c
+handed_back MailboxFull c = Some c
+handed_back TooManySeats c = None
+handed_back (Core why) c = None
+handed_back NoMemory c = None
+
 -- ---- what they answer
 
 -- a seat's call is made, and its step gives the new listener or request that number

@@ -6,6 +6,7 @@
 --     Shared      what a client's lock keeps, and what a step makes of it
 --     Calls       what calls make of it and of the caller's seat
 --     Settling    what is handed over, closed, taken out and shown
+--     Viewing     what is shown of a listener
 --     Delivery    what is given to a sink or a mirror, and delivered over turns
 --     Opened      a client as it is opened, and its seats
 --     Waiting     what a seat's thread waits for, and what it gets
@@ -24,4 +25,5 @@ pub mod PushKeys
 pub mod Seats
 pub mod Settling
 pub mod Shared
+pub mod Viewing
 pub mod Waiting

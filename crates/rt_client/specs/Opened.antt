@@ -6,7 +6,8 @@ use Rattle.rt_mail.specs.Lanes.{new_ring}
 use Rattle.rt_client.specs.Lanes.{new_lane}
 use Rattle.rt_client.specs.Calls.{Locked, Seated}
 
--- no step was made, no push id given, nobody told to stop, and nothing waits for the seats, which are all open
+-- no step was made, no push id given, nobody told to stop, and nothing waits for the seats, which are
+-- all open
 abbrev pub new_locked : ℕ → ℕ → Limits → Locked
 new_locked number seats limits = record {
   number = number;

@@ -3,11 +3,15 @@ use Rattle.std.specs.Prelude.{◌≡◌, ℕ, Bool, true, false, ◌||◌, not, 
 use Rattle.std.specs.Prelude.{Option, Some, None}
 use Rattle.std.specs.Option.{option_map_or}
 use Rattle.rt_world.specs.declared.call.Call.{Call}
+use Rattle.rt_world.specs.declared.report.Outcome.{Outcome}
+use Rattle.rt_world.specs.declared.step.Step.{Step}
 use Rattle.rt_mail.specs.declared.item.Item.{Item}
 use Rattle.rt_mail.specs.Lanes.{Line, with_items}
 use Rattle.rt_client.specs.declared.done.Done.{Done}
 use Rattle.rt_client.specs.declared.error.ClientError.{ClientError}
 use Rattle.rt_client.specs.Calls.{Locked, Seated, own_lane, MakesCall, Numbers, RefusesCall}
+use Rattle.rt_client.specs.Calls.{Comes, RefusesOn}
+use Rattle.rt_client.specs.Settling.{Settles, Closes, RefusesClose}
 
 -- whether there are none
 abbrev pub has_none : List Item → Bool
@@ -33,6 +37,12 @@ pub record Awaits (had : Seated) (there : Bool) (left : Seated) : Type 0 where
   pub told : there ≡ not (has_none left.ring.items)
   pub held : has_none had.ring.items ≡ false → came ≡ []
 
+-- the seat is settled, on the locked value, whatever it is then
+pub record IsSettled (had left : Seated) : Type 0 where
+  pub old : Locked
+  pub new : Locked
+  pub settles : Settles old had new left
+
 -- ---- calls under the client's own lock: on the locked value, whatever it is then
 
 -- the seat's call is made, and the new listener or request has that number
@@ -48,8 +58,38 @@ pub record IsMade (seat : Seated) (c : Call) (left : Seated) : Type 0 where
   pub done : Done
   pub made : MakesCall old seat c done new left
 
+-- so of any call, which is answered so
+pub record IsDone (seat : Seated) (c : Call) (done : Done) (left : Seated) : Type 0 where
+  pub old : Locked
+  pub new : Locked
+  pub made : MakesCall old seat c done new left
+
 -- or it is refused
 pub record IsUnmade (seat : Seated) (c : Call) (why : ClientError) (left : Seated) : Type 0 where
   pub old : Locked
   pub new : Locked
   pub refused : RefusesCall old seat c why new left
+
+-- the seat is closed
+pub record IsClosed (seat : Seated) : Type 0 where
+  pub old : Locked
+  pub new : Locked
+  pub closes : Closes old seat new
+
+-- or it is not
+pub record IsUnclosed (seat : Seated) (why : ClientError) : Type 0 where
+  pub old : Locked
+  pub new : Locked
+  pub refused : RefusesClose old seat why new
+
+-- a step of the connection is made, and has that outcome: one that the step can have
+pub record HasOutcome (s : Step) (outcome : Outcome) : Type 0 where
+  pub old : Locked
+  pub new : Locked
+  pub comes : Comes old s outcome new
+
+-- or it is refused, for a cause that the step can have
+pub record HasRefusal (s : Step) (why : ClientError) : Type 0 where
+  pub old : Locked
+  pub new : Locked
+  pub refused : RefusesOn old s why new

@@ -1,18 +1,19 @@
 // The law of what threads share, and what is handed to them.
 ghost use Rattle.rt_client.specs.laws.Crossing.{ClientIsShared, ClientIsSent, SeatIsSent};
-ghost use Rattle.rt_client.specs.laws.Crossing.{ItemIsSent, MirrorIsSent};
+ghost use Rattle.rt_client.specs.laws.Crossing.{ItemIsSent, MirrorIsSent, SnapshotsAreSent};
 ghost use Rattle.rt_client.specs.laws.Crossing.{QueryIsSent, PathIsSent, TreeIsSent};
 ghost use Rattle.rt_client.specs.laws.Crossing.{EntriesAreSent, ActionIsSent, MessageIsSent};
 
-/// Threads may share a client, and each may be handed one, a seat, what the seat is told, a mirror, what its
-/// calls are made of, and what is to be sent. Whoever starts threads over a client calls this, in each
-/// function and closure that starts one.
+/// Threads may share a client, and each may be handed one, a seat, what the seat is told, a mirror,
+/// snapshots, what its calls are made of, and what is to be sent. Whoever starts threads over a client
+/// calls this, in each function and closure that starts one.
 pub fn crossing_law()
     ensures client { ClientIsShared }
     ensures moved { ClientIsSent }
     ensures seat { SeatIsSent }
     ensures item { ItemIsSent }
     ensures mirror { MirrorIsSent }
+    ensures snapshots { SnapshotsAreSent }
     ensures query { QueryIsSent }
     ensures path { PathIsSent }
     ensures tree { TreeIsSent }

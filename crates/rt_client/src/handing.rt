@@ -3,6 +3,7 @@ ghost use Rattle.std.specs.Prelude.{◌≡◌, IfOk, IfErr, OnOk};
 ghost use Rattle.rt_client.specs.Calls.{HasFailed};
 ghost use Rattle.rt_client.specs.Settling.{Settles, RefusesSettle, Closes, RefusesClose};
 ghost use Rattle.rt_client.specs.Settling.{TakesMessage, ShowsCover, RefusesCover};
+ghost use Rattle.rt_client.specs.Viewing.{ShowsView, RefusesView};
 ghost use Rattle.rt_client.specs.declared.error.ClientError.TheVariants.{Failed};
 
 use crate::error::ClientError;
@@ -10,6 +11,7 @@ use crate::keeping::keeping_law;
 use crate::seat::Seat;
 use crate::shared::{Shared, make_step};
 use rt_cover::Kept;
+use rt_query::Shown;
 use rt_world::{ClientMessage, Step};
 
 /// A seat that was not closed, handed back as it was, and why.
@@ -53,6 +55,24 @@ impl Shared {
             Ok(kept) => Ok(kept),
             Err(_refused) => Err(ClientError::NoMemory),
         }
+    }
+
+    /// What a listener shows: the view that the core has, whose trees are shared. None where nothing is
+    /// known of its path yet.
+    ///
+    /// # Errors
+    ///
+    /// Failed; the core's UnknownListener, where no listener has that number; and NoMemory, after which
+    /// the client goes on.
+    #[tactic(auto, using(crate::proofs::Viewed::refuses_view))]
+    pub fn view(&self, listener: u64) -> Result<Option<Shown>, ClientError>
+        ensures shown { IfOk result (λ shown. ShowsView self.now listener shown) }
+        ensures refused { IfErr result (λ e. RefusesView self.now listener e) }
+    {
+        let Some(held) = &self.held else {
+            return Err(ClientError::Failed);
+        };
+        held.view(listener)
     }
 
     /// Hands over to the seat's ring what waits for it, in order, as long as there is room. Makes no

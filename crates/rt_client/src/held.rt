@@ -9,6 +9,7 @@ ghost use Rattle.rt_client.specs.inside.Receipts.{AreSigned};
 ghost use Rattle.rt_world.specs.Calls.{step_of};
 ghost use Rattle.rt_client.specs.Calls.{HandsFirst, Made, Refuses, Called, RefusesCalled};
 ghost use Rattle.rt_client.specs.Settling.{HandsDue, HandsPart, TakesFirst, HasCover};
+ghost use Rattle.rt_client.specs.Viewing.{HasShown, RefusesShown};
 
 use crate::call::receipt_of;
 use crate::done::Done;
@@ -16,6 +17,7 @@ use crate::error::ClientError;
 use crate::lanes::Lanes;
 use rt_cover::Kept;
 use rt_mail::{Inbox, Receipt};
+use rt_query::Shown;
 use rt_sync::Core;
 use rt_world::{Call, ClientMessage, Notes, Report, Step};
 use std::alloc::{AllocError, Global};
@@ -149,7 +151,8 @@ impl Held {
         requires world { (w : World) × (self.old.core ≡ Some w) }
         requires room { HasRoom inbox.old (lane_of self.old.lanes seat) }
         ensures made { IfOk result (λ done. Called self.old seat inbox.old call done self.new inbox.new) }
-        ensures refused { IfErr result (λ e. RefusesCalled self.old seat inbox.old call e self.new inbox.new) }
+        ensures refused { IfErr result (λ e.
+            RefusesCalled self.old seat inbox.old call e self.new inbox.new) }
     {
         let Ok(step) = call.step(alloc, seat) else {
             return Err(self.why_uncopied(seat, call));
@@ -204,6 +207,18 @@ impl Held {
         match self.core.cover() {
             Ok(kept) => Ok(kept.into_vec()),
             Err(_why) => Err(AllocError),
+        }
+    }
+    // What a listener shows, if it is primed.
+    #[tactic(auto, using(crate::proofs::Viewed::has_shown, crate::proofs::Viewed::shows_none))]
+    pub(crate) fn view(&self, listener: u64) -> Result<Option<Shown>, ClientError>
+        requires { (w : World) × (self.now.core ≡ Some w) }
+        ensures shown { IfOk result (λ shown. HasShown self.now listener shown) }
+        ensures refused { IfErr result (λ e. RefusesShown self.now listener e) }
+    {
+        match self.core.view(listener) {
+            Ok(shown) => Ok(shown),
+            Err(error) => Err(ClientError::from(error)),
         }
     }
 }

@@ -67,8 +67,8 @@ fn queue_in(lane: &mut Option<Lane>, item: Item) -> Result<(), MailError>
 
 // The item waits in the seat's lane, if that is open.
 fn queue(lanes: &mut Vec<Option<Lane>>, seat: u64, item: Item) -> Result<(), MailError>
-    ensures queued { OnOk result (IsChanged seat (option_map (with_waiting item) (lane_of lanes.old.items seat))
-        lanes.old.items lanes.new.items) }
+    ensures queued { OnOk result (IsChanged seat
+        (option_map (with_waiting item) (lane_of lanes.old.items seat)) lanes.old.items lanes.new.items) }
     ensures refused { IfErr result (λ e. (l : Line) × (lane_of lanes.old.items seat ≡ Some l)
         × (e ≡ why_not l)) }
     ensures unchanged { IfErr result (λ _. lanes.new.items ≡ lanes.old.items) }

@@ -7,8 +7,18 @@
 //! shared.connected()?;
 //! let listener = shared.listen(&mut seats[0], query)?;                // the listener's number
 //! seats[0].next()                                                     // the receipt; waits for nobody
-//! drop(shared);                                                       // lets the lock go
+//! client.notify(shared);                                              // lets the lock go, wakes who waits
 //! deliver(rt, &client, &mut seats[0], &mut sink, &gate, 100)?;        // settles and hands out
+//! ```
+//!
+//! [`Client`] has the same calls, each of which locks it and notifies. A thread sleeps until there is
+//! something to do, and is told to stop where there will be nothing more:
+//!
+//! ```text
+//! client.set(rt, &mut seats[0], path, tree)?;                         // locks, calls, notifies
+//! while client.wait(rt, &mut seats[0])? { .. }                        // until its ring holds an item
+//! while let Some(message) = client.wait_outgoing(rt)? { .. }          // until one is to be sent
+//! client.stop(rt);                                                    // both end; `wake` asks gates again
 //! ```
 //!
 //! What the lock keeps, as the invariant of [`Shared`]: the client has failed, or its world holds what
@@ -23,7 +33,8 @@
 //! From December 1993 to May 2109 the keys that one `PushIds` gives rise in key order, by the law
 //! `keys_rise`.
 //!
-//! Threads may share a client, and each may be handed a seat, by the law `crossing_law`.
+//! Threads may share a client, and each may be handed a seat, by the law `crossing_law`. A call for which
+//! a seat's mailbox is full is handed back by [`try_call`].
 //!
 //! A seat is told of each step its own call's receipt and then its notes. One who takes all of that,
 //! in order, knows after any steps just what the core knows of the seat: its listeners with the rows
@@ -67,4 +78,4 @@ pub use reflecting::{mirror_law, reflection_law};
 pub use rt_wire::Action;
 pub use rt_world::Call;
 pub use seat::Seat;
-pub use shared::{Shared, with_core, with_seat};
+pub use shared::{Shared, Uncalled, try_call, with_core, with_seat};

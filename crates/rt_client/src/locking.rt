@@ -4,16 +4,22 @@ ghost use Rattle.rt_tree.specs.PathTree.{null};
 ghost use Rattle.rt_wire.specs.declared.request.Action.TheVariants.{Put, Merge};
 ghost use Rattle.rt_wire.specs.declared.request.Ending.TheVariants.{Run, Cancel};
 ghost use Rattle.rt_world.specs.declared.call.Call.TheVariants as call;
-ghost use Rattle.rt_client.specs.Waiting.{IsNumbered, IsMade, IsUnmade};
+ghost use Rattle.rt_world.specs.declared.step.Step.TheVariants as step;
+ghost use Rattle.rt_world.specs.Calls.{step_of_message};
+ghost use Rattle.rt_client.specs.Calls.{handed_back};
+ghost use Rattle.rt_client.specs.Waiting.{IsNumbered, IsMade, IsDone, IsUnmade};
+ghost use Rattle.rt_client.specs.Waiting.{IsClosed, IsUnclosed, HasOutcome, HasRefusal};
 
 use crate::client::Client;
+use crate::done::Done;
 use crate::error::ClientError;
 use crate::handing::Unclosed;
 use crate::seat::Seat;
+use crate::shared::{Uncalled, try_call};
 use rt_query::Query;
 use rt_tree::{Path, Tree};
 use rt_wire::{Action, ServerMessage};
-use rt_world::Outcome;
+use rt_world::{Call, Outcome};
 use std::sync::Wait;
 
 /// Each makes the call of [`Shared`](crate::Shared) that has its name, under the client's lock, and then
@@ -71,7 +77,8 @@ impl Client {
         entries: Vec<(Path, Tree)>,
     ) -> Result<u64, ClientError>
         ensures made { IfOk result (λ n. IsNumbered seat.old (call.Write (Merge entries.items)) n seat.new) }
-        ensures refused { IfErr result (λ e. IsUnmade seat.old (call.Write (Merge entries.items)) e seat.new) }
+        ensures refused { IfErr result (λ e.
+            IsUnmade seat.old (call.Write (Merge entries.items)) e seat.new) }
     {
         let mut shared = self.shared.lock(rt);
         let answer = shared.update(seat, entries);
@@ -122,22 +129,44 @@ impl Client {
         answer
     }
 
+    /// Makes a seat's call, and hands it back where the mailbox is full: [`try_call`](crate::try_call).
+    pub fn try_call<R: Wait>(&self, rt: &R, seat: &mut Seat, call: Call) -> Result<Done, Uncalled>
+        ensures made { IfOk result (λ done. IsDone seat.old call done seat.new) }
+        ensures refused { IfErr result (λ u. IsUnmade seat.old call u.why seat.new) }
+        ensures back { IfErr result (λ u. u.call ≡ handed_back u.why call) }
+    {
+        let mut shared = self.shared.lock(rt);
+        let answer = try_call(&mut shared, seat, call);
+        self.notify(shared);
+        answer
+    }
+
     /// Ends the seat.
     pub fn close_seat<R: Wait>(&self, rt: &R, seat: Seat) -> Result<(), Unclosed>
+        ensures closed { OnOk result (IsClosed seat) }
         ensures back { IfErr result (λ refused. refused.seat ≡ seat) }
+        ensures refused { IfErr result (λ refused. IsUnclosed seat refused.why) }
     {
         let mut shared = self.shared.lock(rt);
         let answer = shared.close_seat(seat);
         self.notify(shared);
         answer
     }
+}
 
+// What a step of the connection makes of the locked value is hidden by the lock, as no seat shows it. So
+// these clauses say which outcomes and refusals the step can have, and `Shared`'s of the same names the rest.
+/// The calls of whoever holds the connection, under the client's lock too.
+impl Client {
     /// Takes a message of the server.
     pub fn server_message<R: Wait>(
         &self,
         rt: &R,
         message: ServerMessage,
-    ) -> Result<Outcome, ClientError> {
+    ) -> Result<Outcome, ClientError>
+        ensures made { IfOk result (λ outcome. HasOutcome (step_of_message message) outcome) }
+        ensures refused { IfErr result (λ e. HasRefusal (step_of_message message) e) }
+    {
         let mut shared = self.shared.lock(rt);
         let answer = shared.server_message(message);
         self.notify(shared);
@@ -145,7 +174,10 @@ impl Client {
     }
 
     /// A connection is opened.
-    pub fn connected<R: Wait>(&self, rt: &R) -> Result<Outcome, ClientError> {
+    pub fn connected<R: Wait>(&self, rt: &R) -> Result<Outcome, ClientError>
+        ensures made { IfOk result (λ outcome. HasOutcome step.Connected outcome) }
+        ensures refused { IfErr result (λ e. HasRefusal step.Connected e) }
+    {
         let mut shared = self.shared.lock(rt);
         let answer = shared.connected();
         self.notify(shared);
@@ -153,7 +185,10 @@ impl Client {
     }
 
     /// The connection ends.
-    pub fn disconnected<R: Wait>(&self, rt: &R) -> Result<Outcome, ClientError> {
+    pub fn disconnected<R: Wait>(&self, rt: &R) -> Result<Outcome, ClientError>
+        ensures made { IfOk result (λ outcome. HasOutcome step.Disconnected outcome) }
+        ensures refused { IfErr result (λ e. HasRefusal step.Disconnected e) }
+    {
         let mut shared = self.shared.lock(rt);
         let answer = shared.disconnected();
         self.notify(shared);

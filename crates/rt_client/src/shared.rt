@@ -2,7 +2,7 @@
 ghost use Rattle.std.specs.Prelude.{◌≡◌, None, IfOk, IfErr};
 ghost use Rattle.rt_client.specs.Seats.{caller_of, closed_by};
 ghost use Rattle.rt_client.specs.Opened.{new_locked};
-ghost use Rattle.rt_client.specs.Calls.{MakesOn, RefusesOn, MakesCall, RefusesCall};
+ghost use Rattle.rt_client.specs.Calls.{MakesOn, RefusesOn, MakesCall, RefusesCall, handed_back};
 
 use crate::done::Done;
 use crate::error::ClientError;
@@ -126,39 +126,54 @@ pub fn with_core(shared: &mut Shared, step: Step) -> Result<Done, ClientError>
     make_step(shared, step)
 }
 
+/// A call that was refused: the call, where it was not looked at, and why.
+#[derive(Drop)]
+pub struct Uncalled {
+    /// Handed back where the client has failed, the seat is wrong or its mailbox is full.
+    pub call: Option<Call>,
+    pub why: ClientError,
+}
+
 /// Makes the step of the core that a seat's call is: the ring gets all that waited and then the
 /// receipt, and each note waits in its seat's lane, in order. A call that is refused changes nothing.
+/// One that found a full mailbox is handed back, to be made again once the seat has taken its items.
 ///
 /// # Errors
 ///
 /// Failed, WrongSeat, MailboxFull, a refusal of the core, and NoMemory, after which the client has
 /// failed; the ring keeps what it holds.
-pub fn with_seat(shared: &mut Shared, seat: &mut Seat, call: Call) -> Result<Done, ClientError>
+pub fn try_call(shared: &mut Shared, seat: &mut Seat, call: Call) -> Result<Done, Uncalled>
     ensures made { IfOk result (λ done. MakesCall shared.old seat.old call done shared.new seat.new) }
-    ensures refused { IfErr result (λ e. RefusesCall shared.old seat.old call e shared.new seat.new) }
+    ensures refused { IfErr result (λ u.
+        RefusesCall shared.old seat.old call u.why shared.new seat.new) }
+    ensures back { IfErr result (λ u. u.call ≡ handed_back u.why call) }
 {
     // For the prover: a step keeps what the lock keeps.
     keeping_law();
     let alloc = shared.alloc;
     let Some(held) = &mut shared.held else {
-        drop(call);
-        return Err(ClientError::Failed);
+        let (call, why) = (Some(call), ClientError::Failed);
+        return Err(Uncalled { call, why });
     };
     if seat.client != shared.number || !held.lanes.has_lane(seat.number) {
-        drop(call);
-        return Err(ClientError::WrongSeat);
+        let (call, why) = (Some(call), ClientError::WrongSeat);
+        return Err(Uncalled { call, why });
     }
     if !held.lanes.has_room(seat.number, &seat.inbox) {
-        drop(call);
-        return Err(ClientError::MailboxFull);
+        let (call, why) = (Some(call), ClientError::MailboxFull);
+        return Err(Uncalled { call, why });
     }
     let done = match held.called(alloc, seat.number, &mut seat.inbox, call) {
         Ok(done) => done,
         Err(ClientError::NoMemory) => {
             drop(shared.held.take());
-            return Err(ClientError::NoMemory);
+            let (call, why) = (None, ClientError::NoMemory);
+            return Err(Uncalled { call, why });
         }
-        Err(ClientError::Core(refused)) => return Err(ClientError::Core(refused)),
+        Err(ClientError::Core(refused)) => {
+            let (call, why) = (None, ClientError::Core(refused));
+            return Err(Uncalled { call, why });
+        }
         Err(
             ClientError::Failed
             | ClientError::WrongSeat
@@ -167,4 +182,22 @@ pub fn with_seat(shared: &mut Shared, seat: &mut Seat, call: Call) -> Result<Don
         ) => unreachable!(),
     };
     Ok(done)
+}
+
+/// Makes a seat's call as [`try_call`] does, and drops it on a refusal.
+///
+/// # Errors
+///
+/// As of [`try_call`].
+pub fn with_seat(shared: &mut Shared, seat: &mut Seat, call: Call) -> Result<Done, ClientError>
+    ensures made { IfOk result (λ done. MakesCall shared.old seat.old call done shared.new seat.new) }
+    ensures refused { IfErr result (λ e. RefusesCall shared.old seat.old call e shared.new seat.new) }
+{
+    match try_call(shared, seat, call) {
+        Ok(made) => Ok(made),
+        Err(Uncalled { call, why }) => {
+            drop(call);
+            Err(why)
+        }
+    }
 }

@@ -1,8 +1,8 @@
 // Waiting for what others do to a client, and waking whoever waits.
-ghost use Rattle.std.specs.Prelude.{◌≡◌, ◌||◌, Ok, None, true, IfOk, IfErr, IfSome};
+ghost use Rattle.std.specs.Prelude.{◌≡◌, ◌||◌, Ok, None, true, IfOk, OnOk, IfErr, IfSome};
 ghost use Rattle.std.specs.Sync.Mutex.{mutex_guard_value};
 ghost use Rattle.rt_client.specs.Delivery.{RefusesTurn};
-ghost use Rattle.rt_client.specs.Waiting.{is_due, Awaits};
+ghost use Rattle.rt_client.specs.Waiting.{is_due, IsSettled, Awaits};
 ghost use Rattle.rt_client.specs.declared.error.ClientError.TheVariants.{Failed};
 
 use crate::client::Client;
@@ -112,6 +112,18 @@ impl Client {
         unreachable!()
     }
 
+    // Settles the seat once something is there for it, or the client was told to stop.
+    #[tactic(auto, using(crate::proofs::Delivered::unsettled))]
+    fn settle_due<R: Wait>(&self, rt: &R, seat: &mut Seat) -> Result<(), ClientError>
+        ensures settled { OnOk result (IsSettled seat.old seat.new) }
+        ensures refused { IfErr result (λ e. RefusesTurn seat.old e seat.new) }
+    {
+        let mut shared = self.lock_for(rt, seat);
+        shared.settle(seat)?;
+        drop(shared);
+        Ok(())
+    }
+
     /// Waits until something is there for the seat, and settles it: whether its ring holds an item then.
     /// It holds none where those who wait were told to stop, and nothing is there. Where the ring holds
     /// one already, nothing is waited for, and no lock is taken.
@@ -119,7 +131,7 @@ impl Client {
     /// # Errors
     ///
     /// Those of [`Shared::settle`], where the ring holds nothing.
-    #[tactic(auto, using(crate::proofs::Awaited::already, crate::proofs::Awaited::settles, crate::proofs::Delivered::unsettled))]
+    #[tactic(auto, using(crate::proofs::Awaited::already, crate::proofs::Awaited::settles))]
     pub fn wait<R: Wait>(&self, rt: &R, seat: &mut Seat) -> Result<bool, ClientError>
         ensures there { IfOk result (λ there. Awaits seat.old there seat.new) }
         ensures refused { IfErr result (λ e. RefusesTurn seat.old e seat.new) }
@@ -127,9 +139,7 @@ impl Client {
         if seat.has_items() {
             return Ok(true);
         }
-        let mut shared = self.lock_for(rt, seat);
-        shared.settle(seat)?;
-        drop(shared);
+        self.settle_due(rt, seat)?;
         Ok(seat.has_items())
     }
 
@@ -150,6 +160,10 @@ impl Client {
 
 // Who wakes whom. Notices are counted while the lock is held: one who holds it knows that none is given
 // between a look and the sleep behind it.
+//
+// None of these three has a clause: what they do is done to an atomic, a condition and a locked value behind
+// a shared reference, of which a contract sees nothing. That a stop is kept is `Shared::stop`'s clause; that
+// sleepers are woken the test `sleepers_are_woken` of `rt_tests` shows, which would not end without it.
 impl Client {
     /// Wakes whoever waits, and lets the lock go. Whoever locks the client by itself, and makes a call on
     /// it, ends so.

@@ -8,6 +8,7 @@ use Rattle.rt_wire.specs.contracts.request.Action as action
 use Rattle.rt_wire.specs.contracts.client.ClientMessage as message
 use Rattle.rt_mail.specs.contracts.item.Item as item
 use Rattle.rt_mail.specs.contracts.mirror.Mirror as mirror
+use Rattle.rt_snapshots.specs.contracts.snapshots.Snapshots as snapshots
 use Rattle.rt_client.specs.contracts.seat.Seat as seat
 use Rattle.rt_client.specs.contracts.client.Client as client
 
@@ -29,6 +30,9 @@ ItemIsSent = IsSend item.the_row
 
 abbrev pub MirrorIsSent : Type 0
 MirrorIsSent = IsSend mirror.the_row
+
+abbrev pub SnapshotsAreSent : Type 0
+SnapshotsAreSent = IsSend snapshots.the_row
 
 -- and what its calls are made of
 abbrev pub QueryIsSent : Type 0

@@ -3,7 +3,7 @@ use Rattle.rt_client.specs.declared.error.ClientError.TheVariants.{Core, NoMemor
 use Rattle.rt_client.specs.Lanes.{lane_of, HasRoom}
 use Rattle.rt_client.specs.Calls.{Called, RefusesCalled, MakesCall, RefusesCall}
 use Rattle.rt_client.proofs.Seated.{locked_of, seated_of, seat_made, seat_refused, seat_gave_up}
-use Rattle.rt_client.proofs.shared.with_seat.Goals as goal
+use Rattle.rt_client.proofs.shared.try_call.Goals as goal
 
 pub returns-clause-made : goal.returns-clause-made
 returns-clause-made c =
