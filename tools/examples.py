@@ -25,7 +25,6 @@ WITHOUT = {
     "Tree::object": "has a condition on what the children are",
     "OrdMap::from_sorted": "has a condition on what the entries are",
     "Shown::of": "has a condition on what the rows are",
-    "Client::try_call": "refuses with what is not handed on",
     "Notes::of": "is the core's own",
 }
 BLOCK = re.compile(r"(?m)^/// ```rust\n((?:^///.*\n)*?)^/// ```\n")

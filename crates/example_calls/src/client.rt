@@ -7,7 +7,7 @@ use anyhow::{Result, anyhow};
 use kaltewi::{
     Action, Call, Client, ClientError, ClientMessage, ClientNumbers, Done, Gate, Item, Limits,
     MAX_SEATS, Outcome, Path, PushError, Query, Seat, ServerMessage, Shared, Sink, Step, Tree,
-    Unclosed, crossing_law, deliver, turn, with_core, with_seat,
+    Uncalled, Unclosed, crossing_law, deliver, try_call, turn, with_core, with_seat,
 };
 use std::alloc::{AllocError, Global};
 use std::io::Print;
@@ -124,6 +124,14 @@ fn show_connection(rt: &impl Print, shared: &mut Shared) -> Result<()> {
     Ok(())
 }
 
+// What a listener shows, without a mirror: how many rows. None while nothing is known of its path.
+fn rows_shown(shared: &Shared, listener: u64) -> Result<Option<usize>, ClientError> {
+    match shared.view(listener)? {
+        Some(shown) => Ok(Some(shown.rows().len())),
+        None => Ok(None),
+    }
+}
+
 // A push id of the client's own source, for a moment and random digits.
 fn new_id(shared: &mut Shared, now_ms: u64, random: [u8; 12]) -> Result<[u8; 20], PushError> {
     shared.push_key(now_ms, random)
@@ -145,6 +153,33 @@ fn listen_as_step(query: Query) -> Step {
 // Makes a seat's call: whether it is done, and the number of the new listener or request.
 fn make_call(shared: &mut Shared, seat: &mut Seat, call: Call) -> Result<Done, ClientError> {
     with_seat(shared, seat, call)
+}
+
+// A call for which the mailbox is full comes back, and is made once the seat has taken what it holds.
+fn call_again(shared: &mut Shared, seat: &mut Seat, call: Call) -> Result<Done, ClientError> {
+    match try_call(shared, seat, call) {
+        Ok(done) => Ok(done),
+        Err(
+            Uncalled {
+                call: Some(call),
+                why: ClientError::MailboxFull,
+            },
+        ) => {
+            seat.hand_out(&mut Heard { any: false });
+            with_seat(shared, seat, call)
+        }
+        Err(Uncalled { call: _, why }) => Err(why),
+    }
+}
+
+// So of a client, whose call locks it and wakes whoever waits.
+fn try_call_locked(
+    rt: &impl Wait,
+    client: &Client,
+    seat: &mut Seat,
+    call: Call,
+) -> Result<Done, Uncalled> {
+    client.try_call(rt, seat, call)
 }
 
 fn show_done(rt: &impl Print, done: Done) -> Result<()> {
@@ -308,6 +343,20 @@ fn show_waiting<R: Print + Wait>(rt: &R, client: &Client, seat: &mut Seat) -> Re
     wake_all(rt, client);
     let is_told = (wait(rt, client, seat)?, wait_to_send(rt, client)?.is_some());
     println!(rt; "there is more: {} {}", is_told.0, is_told.1)?;
+    let call = Call::Unlisten { listener: 9 };
+    let is_refused = try_call_locked(rt, client, seat, call).is_err();
+    println!(rt; "refused: {is_refused}")?;
+    Ok(())
+}
+
+fn show_full(rt: &impl Print, alloc: Global, shared: &mut Shared, seat: &mut Seat) -> Result<()> {
+    let listener = listen(shared, seat, all(at(alloc, "/chat")?))?;
+    show_done(
+        rt,
+        call_again(shared, seat, listen_to(all(at(alloc, "/news")?)))?,
+    )?;
+    let is_known = rows_shown(shared, listener)?.is_some();
+    println!(rt; "its path is known: {is_known}")?;
     Ok(())
 }
 
@@ -315,8 +364,9 @@ fn show_alone(rt: &impl Print, alloc: Global) -> Result<()> {
     let (_client, seats) = open_numbered(alloc)?;
     println!(rt; "seats of the next client: {}", seats.len())?;
     let (mut shared, mut seats) = open_alone(alloc)?;
-    if let Some(seat) = seats.pop() {
+    if let Some(mut seat) = seats.pop() {
         println!(rt; "something is there: {}", is_due(&mut shared, &seat))?;
+        show_full(rt, alloc, &mut shared, &mut seat)?;
     }
     Ok(())
 }

@@ -5,7 +5,7 @@ use crate::steps::DATA;
 use anyhow::Result;
 use kaltewi::{
     Batch, Change, Inbox, Item, Key, Kinds, MailError, Mirror, Receipt, Seat, ServerMessage,
-    Shared, Tree, apply_changes, of_kinds,
+    Shared, Snapshot, Snapshots, Tree, apply_changes, of_kinds,
 };
 use std::alloc::{AllocError, Global};
 use std::collections::BTreeMap;
@@ -104,6 +104,35 @@ fn is_quiet(mirror: &Mirror) -> bool {
     !mirror.has_failed() && mirror.listeners().is_empty() && mirror.requests().is_empty()
 }
 
+// What is shown of each listener, by the items, which stay one's own.
+fn snapshots(alloc: Global) -> Snapshots {
+    Snapshots::new(alloc)
+}
+
+fn show_with(snapshots: &mut Snapshots, item: &Item) -> Result<(), AllocError> {
+    snapshots.take(item)
+}
+
+// Whether nothing is known of a listener's path yet. Null and a leaf are known.
+fn is_known(snapshots: &Snapshots, listener: u64) -> bool {
+    match snapshots.get(listener) {
+        Some(snapshot) => snapshots.len() > 0 && snapshot.value().is_some(),
+        None => false,
+    }
+}
+
+// The rows that a listener shows, in the order of its query.
+fn rows_of(snapshot: &Snapshot) -> Result<usize, AllocError> {
+    match snapshot.shown()? {
+        Some(shown) => Ok(shown.rows().len()),
+        None => Ok(0),
+    }
+}
+
+fn is_of_all(snapshot: &Snapshot) -> bool {
+    !snapshot.query().is_filtered()
+}
+
 fn show_changes(rt: &impl Print, alloc: Global, batch: &Batch) -> Result<()> {
     let mut children = BTreeMap::new(alloc);
     play(alloc, &mut children, batch.changes.as_slice())?;
@@ -130,11 +159,25 @@ fn show_mirror(rt: &impl Print, mirror: &Mirror) -> Result<()> {
     Ok(())
 }
 
-fn show_next(rt: &impl Print, alloc: Global, seat: &mut Seat, mirror: &mut Mirror) -> Result<()> {
+fn show_next(
+    rt: &impl Print,
+    alloc: Global,
+    seat: &mut Seat,
+    mirror: &mut Mirror,
+    snapshots: &mut Snapshots,
+) -> Result<()> {
     if let Some(item) = next_item(seat) {
         show_item(rt, alloc, &item)?;
+        show_with(snapshots, &item)?;
         follow_one(mirror, item)?;
     }
+    println!(rt; "known: {}", is_known(snapshots, 1))?;
+    Ok(())
+}
+
+fn show_snapshot(rt: &impl Print, snapshot: &Snapshot) -> Result<()> {
+    let (rows, is_of_all) = (rows_of(snapshot)?, is_of_all(snapshot));
+    println!(rt; "rows: {rows}, of all: {is_of_all}")?;
     Ok(())
 }
 
@@ -148,9 +191,12 @@ fn begin(alloc: Global, shared: &mut Shared, seat: &mut Seat) -> Result<()> {
 pub(crate) fn show(rt: &impl Print, alloc: Global) -> Result<()> {
     let (mut client, mut seat, _other) = pair(alloc)?;
     begin(alloc, client.shared.get_mut(), &mut seat)?;
-    let mut mirror = mirror(alloc);
-    show_next(rt, alloc, &mut seat, &mut mirror)?;
-    show_next(rt, alloc, &mut seat, &mut mirror)?;
+    let (mut mirror, mut snapshots) = (mirror(alloc), snapshots(alloc));
+    show_next(rt, alloc, &mut seat, &mut mirror, &mut snapshots)?;
+    show_next(rt, alloc, &mut seat, &mut mirror, &mut snapshots)?;
+    if let Some(snapshot) = snapshots.get(1) {
+        show_snapshot(rt, snapshot)?;
+    }
     let left = follow(&mut seat, &mut mirror)?;
     let in_ring = take_first(&mut ring(alloc)?).is_some();
     println!(rt; "left: {left}, in a new ring: {in_ring}")?;

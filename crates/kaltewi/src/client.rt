@@ -100,6 +100,13 @@ pub use rt_client::ClientNumbers;
 ///     Ok(())
 /// }
 ///
+/// fn rows_shown(shared: &Shared, listener: u64) -> Result<Option<usize>, ClientError> {
+///     match shared.view(listener)? {
+///         Some(shown) => Ok(Some(shown.rows().len())),
+///         None => Ok(None),
+///     }
+/// }
+///
 /// fn new_id(shared: &mut Shared, now_ms: u64, random: [u8; 12]) -> Result<[u8; 20], PushError> {
 ///     shared.push_key(now_ms, random)
 /// }
@@ -164,11 +171,36 @@ pub use rt_client::Unclosed;
 pub use rt_client::Call;
 
 /// Makes a seat's call: one step of the core, whose receipt comes into the seat's ring behind all
-/// that waited.
+/// that waited. `try_call` hands the call back where there is no room for that.
 ///
 /// ```rust
 /// fn make_call(shared: &mut Shared, seat: &mut Seat, call: Call) -> Result<Done, ClientError> {
 ///     with_seat(shared, seat, call)
+/// }
+///
+/// fn call_again(shared: &mut Shared, seat: &mut Seat, call: Call) -> Result<Done, ClientError> {
+///     match try_call(shared, seat, call) {
+///         Ok(done) => Ok(done),
+///         Err(
+///             Uncalled {
+///                 call: Some(call),
+///                 why: ClientError::MailboxFull,
+///             },
+///         ) => {
+///             seat.hand_out(&mut Heard { any: false });
+///             with_seat(shared, seat, call)
+///         }
+///         Err(Uncalled { call: _, why }) => Err(why),
+///     }
+/// }
+///
+/// fn try_call_locked(
+///     rt: &impl Wait,
+///     client: &Client,
+///     seat: &mut Seat,
+///     call: Call,
+/// ) -> Result<Done, Uncalled> {
+///     client.try_call(rt, seat, call)
 /// }
 ///
 /// fn show_done(rt: &impl Print, done: Done) -> Result<()> {
@@ -177,7 +209,7 @@ pub use rt_client::Call;
 ///     Ok(())
 /// }
 /// ```
-pub use rt_client::{Done, with_seat};
+pub use rt_client::{Done, Uncalled, try_call, with_seat};
 
 /// Makes a step that is neither a seat's call nor its end.
 ///

@@ -15,6 +15,7 @@
 //! | a query: an order, a range, a limit | [`Query::at`], [`Draft`] |
 //! | a client that threads share, a seat for each | [`Client::open`], [`Shared`], [`Seat`], [`deliver`] |
 //! | to know what a seat was told | [`Mirror`], [`Item`], [`Batch`], [`Change`] |
+//! | to show it | [`Snapshots`], [`Snapshot`], `Shared::view` |
 //! | the messages of one server connection | [`ServerMessage::read`], [`ClientMessage::text`] |
 //! | the core alone, with no thread and no lock | [`Core`], [`Step`], [`run`] |
 //! | a small server in the same process, for tests | [`Peer`] |
@@ -27,7 +28,9 @@
 //! let listener = client.listen(rt, &mut seats[0], query)?;
 //! client.server_message(rt, ServerMessage::read(alloc, text)?)?;   // in the connection's thread
 //! while client.wait(rt, &mut seats[0])? {                          // sleeps until something is there
-//!     while let Some(item) = seats[0].next() { .. }                // with no lock
+//!     while let Some(item) = seats[0].next() {                     // with no lock
+//!         snapshots.take(&item)?;                                  // what each listener shows
+//!     }
 //! }
 //! ```
 //!
@@ -49,8 +52,8 @@ mod told;
 mod trees;
 
 pub use client::{
-    Call, Client, ClientNumbers, Done, Gate, MAX_SEATS, Seat, Shared, Sink, Unclosed, crossing_law,
-    deliver, turn, with_core, with_seat,
+    Call, Client, ClientNumbers, Done, Gate, MAX_SEATS, Seat, Shared, Sink, Uncalled, Unclosed,
+    crossing_law, deliver, try_call, turn, with_core, with_seat,
 };
 pub use errors::{
     ClientError, CoreError, MailError, PeerError, PushError, QueryError, TreeError, WireError,
@@ -62,5 +65,8 @@ pub use steps::{
     Action, Answers, Body, Core, Ending, Kept, KeptList, Limits, NoRoom, Note, Notes, Outcome,
     Report, Room, Step, run, run_in,
 };
-pub use told::{Batch, Change, Inbox, Item, Kinds, Mirror, Receipt, apply_changes, of_kinds};
+pub use told::{
+    Batch, Change, Inbox, Item, Kinds, Mirror, Receipt, Snapshot, Snapshots, apply_changes,
+    of_kinds,
+};
 pub use trees::{Entries, Key, Leaf, LeafRef, OrdMap, Path, Tree};

@@ -123,3 +123,36 @@ pub use rt_view::apply_changes;
 /// }
 /// ```
 pub use rt_mail::Mirror;
+
+/// What one who takes a seat's items can show of its listeners: of each its query, and its view as a tree
+/// and as rows in the query's order. Unlike a mirror it tells a path of which nothing is known from null and
+/// from a leaf.
+///
+/// ```rust
+/// fn snapshots(alloc: Global) -> Snapshots {
+///     Snapshots::new(alloc)
+/// }
+///
+/// fn show_with(snapshots: &mut Snapshots, item: &Item) -> Result<(), AllocError> {
+///     snapshots.take(item)
+/// }
+///
+/// fn is_known(snapshots: &Snapshots, listener: u64) -> bool {
+///     match snapshots.get(listener) {
+///         Some(snapshot) => snapshots.len() > 0 && snapshot.value().is_some(),
+///         None => false,
+///     }
+/// }
+///
+/// fn rows_of(snapshot: &Snapshot) -> Result<usize, AllocError> {
+///     match snapshot.shown()? {
+///         Some(shown) => Ok(shown.rows().len()),
+///         None => Ok(0),
+///     }
+/// }
+///
+/// fn is_of_all(snapshot: &Snapshot) -> bool {
+///     !snapshot.query().is_filtered()
+/// }
+/// ```
+pub use rt_snapshots::{Snapshot, Snapshots};
