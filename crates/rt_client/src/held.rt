@@ -5,13 +5,12 @@ ghost use Rattle.rt_world.specs.World.{World};
 ghost use Rattle.rt_client.specs.Seats.{caller_of, closed_by};
 ghost use Rattle.rt_mail.specs.Lanes.{Line};
 ghost use Rattle.rt_client.specs.Lanes.{lane_of, HasRoom, signed_ring};
-ghost use Rattle.rt_client.specs.inside.Receipts.{AreSigned};
+ghost use Rattle.rt_client.specs.inside.Receipts.{AreSigned, receipt_with};
 ghost use Rattle.rt_world.specs.Calls.{step_of};
 ghost use Rattle.rt_client.specs.Calls.{HandsFirst, Made, Refuses, Called, RefusesCalled};
 ghost use Rattle.rt_client.specs.Settling.{HandsDue, HandsPart, TakesFirst, HasCover};
 ghost use Rattle.rt_client.specs.Viewing.{HasShown, RefusesShown};
 
-use crate::call::receipt_of;
 use crate::done::Done;
 use crate::error::ClientError;
 use crate::lanes::Lanes;
@@ -22,6 +21,27 @@ use rt_sync::Core;
 use rt_world::{Call, ClientMessage, Notes, Report, Step};
 use std::alloc::{AllocError, Global};
 use std::marker::Model;
+
+// The receipt of the call, to which its step gave that number.
+pub(crate) fn receipt_of(call: Call, number: u64) -> Receipt
+    ensures { result ≡ receipt_with number call }
+{
+    match call {
+        Call::Listen { query } => Receipt::Listened {
+            listener: number,
+            query,
+        },
+        Call::Unlisten { listener } => Receipt::Unlistened { listener },
+        Call::Write { action } => Receipt::Wrote {
+            id: number,
+            what: action,
+        },
+        Call::OnDisconnect { ending } => Receipt::Asked {
+            id: number,
+            what: ending,
+        },
+    }
+}
 
 // The core, and a lane per open seat.
 pub(crate) struct Held {

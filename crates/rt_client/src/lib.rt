@@ -41,7 +41,6 @@
 //! of their views, and its unsettled requests, by the law `mirror_law`.
 #![tactic(auto)]
 
-mod call;
 mod calls;
 mod client;
 mod crossing;
