@@ -61,6 +61,10 @@ above_held number held h k d lt =
     let low : (get_or (listeners_of held) k (listener_of d)).number < number = h k (listener_of d) (omega (arith, length-map held listener_of)) in
     omega (arith, low, ap (λ (l : Listener). l.number) at)
 
+-- all numbers are below it
+pub all_below : (number : ℕ) (held : List Held) → All (λ (l : Listener). l.number < number) (listeners_of held) → All (λ (h : Held). h.number < number) held
+all_below number held h k d lt = above_held number held h k d lt
+
 pub held_more : (held : List Held) (l : Held) (number : ℕ) → AreHeld held → IsHeld l → l.number ≡ number → All (λ (m : Listener). m.number < number) (listeners_of held) → AreHeld (held ++ l ∷ [])
 held_more held l number h own same above = record {
   rising = all_pairs_push (λ (a b : Held). a.number < b.number) held l h.rising (λ k d lt. let low = above_held number held above k d lt in omega (arith, low, same));

@@ -1,7 +1,14 @@
 pub mod HeldLaws
+pub mod IndexLaws
 pub mod KnownLaws
 pub mod Loops
+pub mod Numbered
 pub mod Pendings
+pub mod PathLaws
+pub mod PlaceLaws
+pub mod PushLaws
+pub mod RefreshLaws
 pub mod Rises
+pub mod SameLaws
 pub mod SeenLaws
 pub mod ViewLaws

@@ -1,4 +1,5 @@
 pub mod HeldView
+pub mod Placed
 pub mod Rising
 pub mod Unknown
 pub mod Writes

@@ -1,36 +1,47 @@
 // Listeners that end.
-ghost use Rattle.std.specs.Prelude.{◌≡◌, ◌==◌, ◌++◌, not, OnOk};
-ghost use Rattle.std.specs.List.{filter, filter_map};
+ghost use Rattle.std.specs.Prelude.{◌≡◌, ◌==◌, ◌++◌, ◌&&◌, ◌<◌, not, OnOk};
+ghost use Rattle.std.specs.List.{AllPairs, filter, filter_map, list_any};
 ghost use Rattle.std.specs.Option.{option_to_list};
+ghost use Rattle.rt_tree.specs.PathTree.{path_eq};
 ghost use Rattle.rt_query.specs.QueryEq.{query_eq};
 ghost use Rattle.rt_query.specs.Supply.{form};
 ghost use Rattle.rt_parts.specs.inside.HeldView.{AreHeld, ended_note, listener_of};
+ghost use Rattle.rt_parts.specs.inside.Placed.{IsIndex};
 
 use crate::held::{Held, place_of};
+use crate::places::{Place, remove_place};
 use rt_order::Index;
 use rt_query::Query;
 use rt_wire::Reason;
 use rt_world::{Body, Note};
 use std::alloc::{AllocError, Global};
 
-// Takes out the listener of that number, if it is registered.
-pub(crate) fn end_number(held: &mut Vec<Held>, number: u64)
-    requires { AreHeld held.old.items }
+// Takes out the listener of that number, and its place, if it is registered.
+pub(crate) fn end_number(held: &mut Vec<Held>, places: &mut Vec<Place>, number: u64)
+    requires held { AreHeld held.old.items }
+    requires index { IsIndex held.old.items places.old.items }
     ensures left { held.new.items ≡ filter (λ l. not (l.number == number)) held.old.items }
     ensures held { AreHeld held.new.items }
+    ensures index { IsIndex held.new.items places.new.items }
 {
     match place_of(held, number) {
-        Some(place) => drop(held.remove(place)),
+        Some(at) => {
+            remove_place(places, held[at].query.path(), number);
+            drop(held.remove(at));
+        }
         None => {}
     }
 }
 
-// Takes out the listeners of the seat.
-pub(crate) fn end_seat(held: &mut Vec<Held>, seat: u64)
-    requires { AreHeld held.old.items }
+// Takes out the listeners of the seat, and their places.
+pub(crate) fn end_seat(held: &mut Vec<Held>, places: &mut Vec<Place>, seat: u64)
+    requires held { AreHeld held.old.items }
+    requires index { IsIndex held.old.items places.old.items }
     ensures left { held.new.items ≡ filter (λ l. not (l.seat == seat)) held.old.items }
     ensures held { AreHeld held.new.items }
+    ensures index { IsIndex held.new.items places.new.items }
 {
+    places.retain(|place| place.seat != seat);
     held.retain(|listener| listener.seat != seat);
 }
 
@@ -44,13 +55,48 @@ fn is_listened_as(query: &Query, listened: &Query) -> bool
     query.path() == listened.path() && Index::Key == *listened.index() && !listened.is_filtered()
 }
 
-// Takes out the listeners of the form.
-pub(crate) fn end_form(held: &mut Vec<Held>, listened: &Query)
-    requires { AreHeld held.old.items }
+// Whether what the listener of that number listens to is that form.
+fn has_form(listeners: &[Held], number: u64, listened: &Query) -> bool
+    requires { AllPairs (λ l m. l.number < m.number) listeners.now }
+    ensures { result ≡ list_any (λ l. l.number == number && query_eq (form l.query) listened.now)
+        listeners.now }
+{
+    match place_of(listeners, number) {
+        Some(at) => is_listened_as(&listeners[at].query, listened),
+        None => false,
+    }
+}
+
+// Whether the place is of a listener of the form: of those at its path alone the listener is looked at.
+fn is_of_form(listeners: &[Held], place: &Place, listened: &Query) -> bool
+    requires { AllPairs (λ l m. l.number < m.number) listeners.now }
+    ensures { result ≡ (path_eq place.now.path listened.now.path
+        && list_any (λ l. l.number == place.now.number && query_eq (form l.query) listened.now)
+        listeners.now) }
+{
+    place.path == *listened.path() && has_form(listeners, place.number, listened)
+}
+
+// Takes out the places of the listeners of the form.
+fn end_places(places: &mut Vec<Place>, listeners: &[Held], listened: &Query)
+    requires { AllPairs (λ l m. l.number < m.number) listeners.now }
+    ensures { places.new.items ≡ filter (λ x. not (path_eq x.path listened.now.path
+        && list_any (λ l. l.number == x.number && query_eq (form l.query) listened.now)
+        listeners.now)) places.old.items }
+{
+    places.retain(|place| !is_of_form(listeners, place, listened));
+}
+
+// Takes out the listeners of the form, and their places.
+pub(crate) fn end_form(held: &mut Vec<Held>, places: &mut Vec<Place>, listened: &Query)
+    requires held { AreHeld held.old.items }
+    requires index { IsIndex held.old.items places.old.items }
     ensures left { held.new.items
         ≡ filter (λ l. not (query_eq (form l.query) listened.now)) held.old.items }
     ensures held { AreHeld held.new.items }
+    ensures index { IsIndex held.new.items places.new.items }
 {
+    end_places(places, held, listened);
     held.retain(|listener| !is_listened_as(&listener.query, listened));
 }
 

@@ -23,6 +23,7 @@ mod known;
 mod listeners;
 mod named;
 mod numbers;
+mod places;
 mod reading;
 mod requests;
 mod seeing;

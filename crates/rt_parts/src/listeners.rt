@@ -16,6 +16,7 @@ use crate::adding::first;
 use crate::ending::{end_form, end_number, end_seat, tell_ends};
 use crate::error::ShownError;
 use crate::held::{Held, is_seats};
+use crate::places::{Place, insert_place, numbers_met};
 use crate::reading::{numbers_of, shown};
 use crate::views::refresh;
 use rt_cache::Brought;
@@ -29,14 +30,16 @@ use std::marker::Model;
 use std::mem::replace;
 
 /// The registered listeners, by number. A listener gets a view once something is known for its
-/// query, and keeps it.
+/// query, and keeps it. Beside them stand their places, by path, so that those that a step meets are
+/// found by halving.
 pub struct Listeners {
     held: Vec<Held>,
+    places: Vec<Place>,
 }
 
 impl Drop for Listeners {
     fn drop(self) {
-        let Listeners { held: _ } = self;
+        let Listeners { held: _, places: _ } = self;
     }
 }
 
@@ -46,10 +49,11 @@ impl Model for Listeners {
     ghost Value = { what.Listeners };
 
     ghost use Rattle.rt_parts.specs.inside.HeldView.{all_of, AreHeld};
+    ghost use Rattle.rt_parts.specs.inside.Placed.{IsIndex};
 
     ghost view = { λ a. all_of a.held.items };
 
-    ghost invariant = { λ a. AreHeld a.held.items };
+    ghost invariant = { λ a. AreHeld a.held.items × IsIndex a.held.items a.places.items };
 }
 
 impl Listeners {
@@ -59,6 +63,7 @@ impl Listeners {
     {
         Listeners {
             held: Vec::new(alloc),
+            places: Vec::new(alloc),
         }
     }
 
@@ -86,8 +91,8 @@ impl Listeners {
     /// Takes anew what the entries meet, and tells the seats what changes. A view below whose path
     /// all of them lie is touched with the children that they name, where an object stays, and costs
     /// by these; any other view that one meets is taken from scratch, and a listener without one gets
-    /// its first, where something is known for it. Of each other listener the path alone is looked
-    /// at.
+    /// its first, where something is known for it. No other listener is looked at: those that an entry
+    /// meets are found by halving, at its path, at each path above it, and below.
     ///
     /// # Errors
     ///
@@ -111,8 +116,19 @@ impl Listeners {
     {
         let alloc = *self.held.allocator();
         let mut held = replace(&mut self.held, Vec::new(alloc));
-        refresh(alloc, held.as_mut_slice(), entries, brought, pending, notes)?;
+        let places = replace(&mut self.places, Vec::new(alloc));
+        let numbers = numbers_met(alloc, &places, entries)?;
+        refresh(
+            alloc,
+            held.as_mut_slice(),
+            &numbers,
+            entries,
+            brought,
+            pending,
+            notes,
+        )?;
         self.held = held;
+        self.places = places;
         Ok(())
     }
 
@@ -141,8 +157,11 @@ impl Listeners {
         ensures unchanged { OnErr result (self.new ≡ self.old) }
     {
         let alloc = *self.held.allocator();
+        let path = query.path().copy()?;
         let listener = first(alloc, number, seat, query, brought, pending, notes)?;
+        self.places.reserve(1)?;
         self.held.push(listener)?;
+        insert_place(&mut self.places, Place { path, number, seat });
         Ok(())
     }
 
@@ -153,7 +172,7 @@ impl Listeners {
             ≡ filter (λ l. not (l.number == number)) self.old.listeners }
         ensures views { self.new.views ≡ views_left (λ l. not (l.number == number)) self.old }
     {
-        end_number(&mut self.held, number);
+        end_number(&mut self.held, &mut self.places, number);
     }
 
     /// Takes all listeners of the seat out. Takes no memory.
@@ -162,7 +181,7 @@ impl Listeners {
             ≡ filter (λ l. not (l.seat == seat)) self.old.listeners }
         ensures views { self.new.views ≡ views_left (λ l. not (l.seat == seat)) self.old }
     {
-        end_seat(&mut self.held, seat);
+        end_seat(&mut self.held, &mut self.places, seat);
     }
 
     /// Takes the listeners out that this form is listened to for, since it is revoked, and tells
@@ -188,7 +207,7 @@ impl Listeners {
     {
         let alloc = *self.held.allocator();
         tell_ends(alloc, &self.held, listened, why, notes)?;
-        end_form(&mut self.held, listened);
+        end_form(&mut self.held, &mut self.places, listened);
         Ok(())
     }
 

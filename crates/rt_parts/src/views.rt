@@ -1,6 +1,7 @@
 // The view of a listener, and what its seat is told.
-ghost use Rattle.std.specs.Prelude.{◌≡◌, ◌≤◌, ◌++◌, ◌||◌, false, map, IfOk, OnOk, Some};
-ghost use Rattle.std.specs.List.{All};
+ghost use Rattle.std.specs.Prelude.{◌≡◌, ◌==◌, ◌≤◌, ◌<◌, ◌++◌, ◌||◌, true, false, map, IfOk, OnOk};
+ghost use Rattle.std.specs.Prelude.{Some};
+ghost use Rattle.std.specs.List.{All, AllPairs, filter_map, list_any};
 ghost use Rattle.std.specs.Option.{option_map, option_map_or, option_to_list};
 ghost use Rattle.rt_tree.specs.PathTree.{levels};
 ghost use Rattle.rt_query.specs.Select.{select};
@@ -9,15 +10,15 @@ ghost use Rattle.rt_world.specs.Views.{is_known};
 ghost use Rattle.rt_world.specs.After.{renewed};
 ghost use Rattle.rt_world.specs.Answers.{batch_note};
 ghost use Rattle.rt_parts.specs.inside.HeldView.{IsHeld, AreHeld, listener_of, listeners_of};
-ghost use Rattle.rt_parts.specs.inside.HeldView.{pair_of, refreshed, shown_in, view_anew};
-ghost use Rattle.rt_parts.specs.inside.HeldView.{view_over};
+ghost use Rattle.rt_parts.specs.inside.HeldView.{pair_of, refreshed, refreshed_at, shown_in, told_at};
+ghost use Rattle.rt_parts.specs.inside.HeldView.{view_anew, view_over};
 ghost use Rattle.rt_parts.specs.Refreshed.{FollowsNamed, view_after};
 ghost use Rattle.rt_view.specs.Views.{stays_object, touched};
 ghost use Rattle.rt_view.specs.Views.{told as told_of};
 ghost use Rattle.rt_world.specs.Met.{all_told, do_meet, seeing, told, told_met};
 ghost use Rattle.rt_world.specs.Touched.{is_covered};
 
-use crate::held::Held;
+use crate::held::{Held, place_of};
 use crate::named::named_children;
 use crate::seeing::{is_known, seen};
 use rt_cache::Brought;
@@ -212,10 +213,39 @@ fn refresh_one(
     touch_or_renew(alloc, listener, entries, brought, pending, notes)
 }
 
-// Touches or renews the views of all listeners that an entry meets.
+// Touches or renews the view of the listener of that number, if an entry meets its path.
+fn refresh_number(
+    alloc: Global,
+    listeners: &mut [Held],
+    number: u64,
+    entries: &[(Path, Tree)],
+    brought: &Brought,
+    pending: &Pending,
+    notes: &mut Vec<Note>,
+) -> Result<(), AllocError>
+    requires held { AreHeld listeners.old }
+    requires follow { All (λ p. p.0.number == number ≡ true
+        → FollowsNamed entries.now brought.now pending.now p) (map pair_of listeners.old) }
+    ensures pairs { OnOk result (map pair_of listeners.new
+        ≡ map (refreshed_at number entries.now brought.now pending.now)
+        (map pair_of listeners.old)) }
+    ensures held { OnOk result (AreHeld listeners.new) }
+    ensures notes { OnOk result (notes.new.items ≡ notes.old.items
+        ++ filter_map (told_at number entries.now brought.now pending.now)
+        (map pair_of listeners.old)) }
+{
+    match place_of(listeners, number) {
+        Some(at) => refresh_one(alloc, &mut listeners[at], entries, brought, pending, notes),
+        None => Ok(()),
+    }
+}
+
+// Touches or renews the views of those listeners, by number, that an entry meets: the numbers of all
+// of these are among those that are given. No other listener is looked at.
 pub(crate) fn refresh(
     alloc: Global,
     listeners: &mut [Held],
+    numbers: &[u64],
     entries: &[(Path, Tree)],
     brought: &Brought,
     pending: &Pending,
@@ -224,14 +254,17 @@ pub(crate) fn refresh(
     requires held { AreHeld listeners.old }
     requires follow { All (FollowsNamed entries.now brought.now pending.now)
         (map pair_of listeners.old) }
+    requires rise { AllPairs (λ m n. m < n) numbers.now }
+    requires numbers { All (λ l. do_meet entries.now l.query.path ≡ true
+        → list_any (λ n. l.number == n) numbers.now ≡ true) listeners.old }
     ensures pairs { OnOk result (map pair_of listeners.new
         ≡ map (refreshed entries.now brought.now pending.now) (map pair_of listeners.old)) }
     ensures held { OnOk result (AreHeld listeners.new) }
     ensures notes { OnOk result (notes.new.items ≡ notes.old.items
         ++ all_told entries.now brought.now pending.now (listeners_of listeners.old)) }
 {
-    for listener in listeners.iter_mut() {
-        refresh_one(alloc, listener, entries, brought, pending, notes)?;
+    for number in numbers {
+        refresh_number(alloc, listeners, *number, entries, brought, pending, notes)?;
     }
     Ok(())
 }

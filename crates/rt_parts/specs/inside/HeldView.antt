@@ -13,7 +13,7 @@ use Rattle.rt_writes.specs.Writes.{Write}
 use Rattle.rt_cache.specs.Brought.{Brought, base}
 use Rattle.rt_view.specs.Views.{View, first_view, renewed, shown_of}
 use Rattle.rt_world.specs.declared.report.Note.{Note}
-use Rattle.rt_world.specs.Met.{renewed_met}
+use Rattle.rt_world.specs.Met.{renewed_met, told_met}
 use Rattle.rt_world.specs.Views.{seen_over}
 use Rattle.rt_world.specs.World.{Listener, Reason}
 use Rattle.rt_parts.specs.declared.held.Held.{Held}
@@ -54,6 +54,18 @@ pair_of l = (listener_of l, l.view)
 abbrev pub refreshed : List Assignment → Brought → List Write
     → Listener × Option View → Listener × Option View
 refreshed entries b writes p = (renewed_met entries b writes p.0, view_met entries b writes p)
+
+-- the same of the listener of that number alone
+abbrev pub refreshed_at : ℕ → List Assignment → Brought → List Write
+    → Listener × Option View → Listener × Option View
+refreshed_at number entries b writes p =
+    if p.0.number == number then refreshed entries b writes p else p
+
+-- what its seat is told
+abbrev pub told_at : ℕ → List Assignment → Brought → List Write
+    → Listener × Option View → Option Note
+told_at number entries b writes p =
+    if p.0.number == number then told_met entries b writes p.0 else None
 
 -- what a view becomes that sees that tree; the first where there is none
 abbrev pub view_over : Query → PathTree → Option View → View

@@ -1,47 +1,57 @@
-use Rattle.std.proofs.Common.{◌≡◌, ◌<◌, ◌++◌, suc, List, length, take, drop, set, get_or, map, rules, ap, sym, ◌∙◌, append_assoc, add-one}
-use Rattle.std.specs.Option.{option_to_list}
-use Rattle.std.proofs.Math.Seq.{map-set_same}
+use Rattle.std.proofs.Common.{◌≡◌, ◌<◌, ◌≤◌, ◌++◌, [], ℕ, List, length, drop, get_or, map, rules, ap, sym, refl, ◌∙◌, append-nil}
 use Rattle.rt_world.specs.declared.report.Note.{Note}
-use Rattle.rt_world.specs.World.{Listener}
 use Rattle.rt_parts.specs.declared.held.Held.{Held}
-use Rattle.rt_parts.specs.inside.HeldView.{IsHeld, listener_of, listeners_of, pair_of, refreshed}
-use Rattle.rt_parts.specs.Refreshed.{FollowsNamed}
-use Rattle.rt_world.specs.Met.{all_told, told_met}
-use Rattle.rt_parts.proofs.Loops.{step_set, step_left, all_set, rising_same, notes_more}
+use Rattle.rt_parts.specs.inside.HeldView.{pair_of}
+use Rattle.rt_parts.proofs.RefreshLaws.{due_at, due_more, drop_past, left_all, left_more, left_of, none_left, none_told, Pair, pairs_up, told_all, told_left, told_more}
 use Rattle.rt_parts.proofs.views.refresh.Goals as goal
 
-pub refresh_one-requires-clause-follow : goal.refresh_one-requires-clause-follow
-refresh_one-requires-clause-follow c =
-    let ls : List Held = c.loop-listener.listeners in
-    let i = c.loop-listener.listener-index in
-    let within : i < length ls = search rules in
-    step_left pair_of (refreshed c.args.entries.now c.args.brought.now c.args.pending.now) (FollowsNamed c.args.entries.now c.args.brought.now c.args.pending.now) (map pair_of c.args.listeners.now) ls i c.listener-item.result
-    c.loop-listener.invariant.pairs within c.requires.follow
+pub loop-number-init : goal.loop-number-init
+loop-number-init c = record {
+  pairs = refl;
+  notes = refl;
+  held = c.requires.held;
+  due = λ k d lt e. c.requires.follow k d lt;
+}
 
-pub loop-listener-preserved : goal.loop-listener-preserved
-loop-listener-preserved c =
-    let ls : List Held = c.loop-listener.listeners in
-    let i = c.loop-listener.listener-index in
-    let ys = map pair_of c.args.listeners.now in
-    let zs : List Listener = listeners_of c.args.listeners.now in
-    let within : i < length ls = search rules in
-    let pairs : map pair_of (set ls i c.refresh_one.new.listener) ≡ map (refreshed c.args.entries.now c.args.brought.now c.args.pending.now) (take (suc i) ys) ++ drop (suc i) ys =
-    step_set pair_of (refreshed c.args.entries.now c.args.brought.now c.args.pending.now) ys ls i c.listener-item.result c.refresh_one.new.listener c.loop-listener.invariant.pairs within c.in_ok-refresh_one.ensures.pair in
-    let gathered : all_told c.args.entries.now c.args.brought.now c.args.pending.now (take (suc i) zs) ≡ all_told c.args.entries.now c.args.brought.now c.args.pending.now (take i zs) ++ option_to_list (told_met c.args.entries.now c.args.brought.now c.args.pending.now (listener_of (get_or ls i c.listener-item.result))) =
-    notes_more c.args.entries.now c.args.brought.now c.args.pending.now c.args.listeners.now ls i c.listener-item.result c.loop-listener.invariant.pairs within in
-    let one : List Note = option_to_list (told_met c.args.entries.now c.args.brought.now c.args.pending.now (listener_of (get_or ls i c.listener-item.result))) in
-    let notes : c.refresh_one.new.notes.items ≡ c.args.notes.now.items ++ all_told c.args.entries.now c.args.brought.now c.args.pending.now (take (suc i) zs) =
-    c.in_ok-refresh_one.ensures.notes ∙ ap (λ z. z ++ one) c.loop-listener.invariant.notes
-    ∙ append_assoc c.args.notes.now.items (all_told c.args.entries.now c.args.brought.now c.args.pending.now (take i zs)) one ∙ ap (λ z. c.args.notes.now.items ++ z) (sym gathered) in
+pub refresh_number-requires-clause-follow : goal.refresh_number-requires-clause-follow
+refresh_number-requires-clause-follow c =
+    let i : ℕ = c.loop-number.number-index in
+    let within : i < length c.args.numbers.now = search rules in
+    due_at c.args.entries.now c.args.brought.now c.args.pending.now c.args.numbers.now i _ (map pair_of c.loop-number.listeners) within (search rules) c.loop-number.invariant.due
+
+pub loop-number-preserved : goal.loop-number-preserved
+loop-number-preserved c =
+    let i : ℕ = c.loop-number.number-index in
+    let within : i < length c.args.numbers.now = search rules in
+    let ps : List Pair = map pair_of c.loop-number.listeners in
+    let new : List Pair = map pair_of c.refresh_number.new.listeners in
+    let inv = c.loop-number.invariant in
+    let made = c.in_ok-refresh_number.ensures.pairs in
+    let rise = c.requires.rise in
     record {
-      pairs = rw add-one pairs;
-      held = all_set IsHeld ls i c.refresh_one.new.listener c.loop-listener.invariant.held c.in_ok-refresh_one.ensures.held;
-      numbers = map-set_same (λ (h : Held). h.number) ls i c.refresh_one.new.listener c.listener-item.result c.in_ok-refresh_one.ensures.number ∙ c.loop-listener.invariant.numbers;
-      notes = rw add-one notes;
+      pairs = left_more c.args.entries.now c.args.brought.now c.args.pending.now c.args.numbers.now i _ ps new (left_of c.args.entries.now c.args.brought.now c.args.pending.now c.args.numbers.now (map pair_of c.args.listeners.now)) within (search rules) rise made inv.pairs;
+      notes = told_more c.args.entries.now c.args.brought.now c.args.pending.now c.args.numbers.now i _ ps new c.loop-number.notes.items c.refresh_number.new.notes.items (c.args.notes.now.items ++ told_left c.args.entries.now c.args.brought.now c.args.pending.now c.args.numbers.now (map pair_of c.args.listeners.now)) within (search rules) rise
+          (pairs_up c.loop-number.listeners inv.held.rising) made c.in_ok-refresh_number.ensures.notes inv.notes;
+      held = c.in_ok-refresh_number.ensures.held;
+      due = due_more c.args.entries.now c.args.brought.now c.args.pending.now c.args.numbers.now i _ ps new within (search rules) rise made inv.due;
     }
 
-pub returns-clause-held : goal.returns-clause-held
-returns-clause-held c = record {
-  rising = rising_same (λ (h : Held). h.number) c.args.listeners.now c.loop-listener.listeners c.loop-listener.invariant.numbers c.requires.held.rising;
-  each = c.loop-listener.invariant.held;
-}
+pub returns-clause-pairs : goal.returns-clause-pairs
+returns-clause-pairs c =
+    let past : length c.args.numbers.now ≤ c.loop-number.number-index = search rules in
+    let ps : List Pair = map pair_of c.loop-number.listeners in
+    sym (none_left c.args.entries.now c.args.brought.now c.args.pending.now ps)
+    ∙ ap (λ (ns : List ℕ). left_of c.args.entries.now c.args.brought.now c.args.pending.now ns ps) (sym (drop_past c.loop-number.number-index c.args.numbers.now past))
+    ∙ c.loop-number.invariant.pairs
+    ∙ left_all c.args.entries.now c.args.brought.now c.args.pending.now c.args.numbers.now c.args.listeners.now c.requires.numbers
+
+pub returns-clause-notes : goal.returns-clause-notes
+returns-clause-notes c =
+    let past : length c.args.numbers.now ≤ c.loop-number.number-index = search rules in
+    let ps : List Pair = map pair_of c.loop-number.listeners in
+    let none : told_left c.args.entries.now c.args.brought.now c.args.pending.now (drop c.loop-number.number-index c.args.numbers.now) ps ≡ [] =
+    ap (λ (ns : List ℕ). told_left c.args.entries.now c.args.brought.now c.args.pending.now ns ps) (drop_past c.loop-number.number-index c.args.numbers.now past)
+    ∙ none_told c.args.entries.now c.args.brought.now c.args.pending.now ps in
+    sym (ap (λ (z : List Note). c.loop-number.notes.items ++ z) none ∙ append-nil c.loop-number.notes.items)
+    ∙ c.loop-number.invariant.notes
+    ∙ ap (λ (z : List Note). c.args.notes.now.items ++ z) (told_all c.args.entries.now c.args.brought.now c.args.pending.now c.args.numbers.now c.args.listeners.now c.requires.numbers)

@@ -1,15 +1,13 @@
-use Rattle.std.proofs.Common.{◌≡◌, ◌++◌, map, take, drop}
-use Rattle.std.specs.List.{All}
-use Rattle.rt_parts.specs.declared.held.Held.{Held}
-use Rattle.rt_parts.specs.inside.HeldView.{IsHeld, listeners_of, pair_of, refreshed}
-use Rattle.rt_world.specs.Met.{all_told}
+use Rattle.std.proofs.Common.{◌≡◌, ◌++◌, drop, map}
+use Rattle.rt_parts.specs.inside.HeldView.{AreHeld, pair_of}
+use Rattle.rt_parts.proofs.RefreshLaws.{AreDue, left_of, told_left}
 use Rattle.rt_parts.proofs.views.refresh.Given as goal
 
--- those so far are refreshed, and their seats told
-abbrev pub invariant-loop-listener : goal.invariant-loop-listener
-invariant-loop-listener l = record {
-  pairs : map pair_of l.listeners ≡ map (refreshed l.entries l.brought l.pending) (take l.listener-index (map pair_of l.initial.listeners)) ++ drop l.listener-index (map pair_of l.initial.listeners);
-  held : All IsHeld l.listeners;
-  numbers : map (λ (h : Held). h.number) l.listeners ≡ map (λ (h : Held). h.number) l.initial.listeners;
-  notes : l.notes.items ≡ l.initial.notes.items ++ all_told l.entries l.brought l.pending (take l.listener-index (listeners_of l.initial.listeners));
+-- with those of the numbers that are left, all are refreshed and told; those that are due still are as they were
+abbrev pub invariant-loop-number : goal.invariant-loop-number
+invariant-loop-number l = record {
+  pairs : left_of l.entries l.brought l.pending (drop l.number-index l.numbers) (map pair_of l.listeners) ≡ left_of l.entries l.brought l.pending l.numbers (map pair_of l.initial.listeners);
+  notes : l.notes.items ++ told_left l.entries l.brought l.pending (drop l.number-index l.numbers) (map pair_of l.listeners) ≡ l.initial.notes.items ++ told_left l.entries l.brought l.pending l.numbers (map pair_of l.initial.listeners);
+  held : AreHeld l.listeners;
+  due : AreDue l.entries l.brought l.pending (drop l.number-index l.numbers) (map pair_of l.listeners);
 }

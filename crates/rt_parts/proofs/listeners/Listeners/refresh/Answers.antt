@@ -1,12 +1,43 @@
-use Rattle.std.proofs.Common.{◌≡◌, length, map, sym, ap, subst, ◌∙◌, rules}
-use Rattle.std.specs.List.{All, zip}
+use Rattle.std.proofs.Common.{◌≡◌, ◌==◌, true, length, map, sym, ap, subst, ◌∙◌, rules}
+use Rattle.std.specs.List.{All, list_any, zip}
 use Rattle.std.proofs.lemmas.List.{with_items_is}
-use Rattle.rt_world.specs.Met.{renewed_met}
+use Rattle.rt_world.specs.Met.{do_meet, renewed_met}
+use Rattle.rt_parts.specs.declared.held.Held.{Held}
+use Rattle.rt_parts.specs.declared.places.Place.{Place}
+use Rattle.rt_parts.specs.inside.Placed.{HaveNumbers, IsIndex}
 use Rattle.rt_parts.specs.Listeners.{Listeners}
 use Rattle.rt_parts.specs.Refreshed.{FollowNamed, FollowsNamed, view_met}
-use Rattle.rt_parts.specs.inside.HeldView.{all_of, listeners_of, pair_of, refreshed, views_of}
+use Rattle.rt_parts.specs.inside.HeldView.{all_of, AreHeld, listeners_of, pair_of, refreshed, views_of}
 use Rattle.rt_parts.proofs.Loops.{all_listeners, all_views, zip_pairs}
+use Rattle.rt_parts.proofs.IndexLaws.{have_due, index_read}
+use Rattle.rt_parts.proofs.RefreshLaws.{placed_same}
 use Rattle.rt_parts.proofs.listeners.Listeners.refresh.Goals as goal
+
+pub refresh-requires-clause-numbers : goal.refresh-requires-clause-numbers
+refresh-requires-clause-numbers c =
+    let old : c.as_mut_slice.result.now ≡ c.self.inside.held.items = search rules in
+    let numbers : c.deref-2.result.now ≡ c.in_ok-numbers.numbers.items = c.deref-2.ensures.value in
+    let places : c.deref.result.now ≡ c.self.inside.places.items = search rules in
+    let all : HaveNumbers (λ (x : Place). do_meet c.args.entries.now x.path) c.in_ok-numbers.numbers.items c.self.inside.places.items =
+    subst (HaveNumbers (λ (x : Place). do_meet c.args.entries.now x.path) c.in_ok-numbers.numbers.items) places c.in_ok-numbers.ensures.all in
+    subst (λ hs. All (λ (l : Held). do_meet c.args.entries.now l.query.path ≡ true → list_any (λ n. l.number == n) c.deref-2.result.now ≡ true) hs) (sym old)
+    (subst (λ ns. All (λ (l : Held). do_meet c.args.entries.now l.query.path ≡ true → list_any (λ n. l.number == n) ns ≡ true) c.self.inside.held.items) (sym numbers)
+    (have_due (λ (x : Place). do_meet c.args.entries.now x.path) c.in_ok-numbers.numbers.items c.self.inside.held.items c.self.inside.places.items c.self.invariant.1 all))
+
+pub invariant_of-self-2 : goal.invariant_of-self-2
+invariant_of-self-2 c =
+    let long : length c.refresh.new.listeners ≡ c.replace-held.result.len = search rules in
+    let old : c.as_mut_slice.result.now ≡ c.self.inside.held.items = search rules in
+    let places : c.replace-places.result.items ≡ c.self.inside.places.items = search rules in
+    let items = with_items_is c.replace-held.result c.refresh.new.listeners long in (
+      subst AreHeld (sym items) c.in_ok-refresh.ensures.held,
+      subst (λ hs. IsIndex hs c.replace-places.result.items) (sym items)
+          (subst (IsIndex c.refresh.new.listeners) (sym places)
+          (index_read c.self.inside.held.items c.refresh.new.listeners c.self.inside.places.items
+          (placed_same c.args.entries.now c.args.brought.now c.args.pending.now c.self.inside.held.items c.refresh.new.listeners
+          (c.in_ok-refresh.ensures.pairs ∙ ap (λ hs. map (refreshed c.args.entries.now c.args.brought.now c.args.pending.now) (map pair_of hs)) old))
+          c.self.invariant.1)),
+    )
 
 pub refresh-requires-clause-follow : goal.refresh-requires-clause-follow
 refresh-requires-clause-follow c =

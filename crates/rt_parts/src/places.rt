@@ -1,0 +1,195 @@
+// Where listeners stand by path: those that entries meet are found by halving.
+ghost use Rattle.std.specs.Prelude.{◌≡◌, ◌≤◌, ◌<◌, ◌++◌, ◌||◌, ◌&&◌, ℕ, Bool, true, false, not};
+ghost use Rattle.std.specs.Prelude.{length, map, nat_lt, vec_len, vec_capacity, IfOk, OnOk};
+ghost use Rattle.std.specs.List.{All, AllPairs, filter, list_any};
+ghost use Rattle.std.specs.List.Sorted.{IsPartitionPoint};
+ghost use Rattle.std.specs.Ordering.{is_eq, is_le, is_lt};
+ghost use Rattle.rt_tree.specs.PathTree.{path_cmp, path_eq};
+ghost use Rattle.rt_tree.specs.Assignments.{do_overlap, is_at_or_above};
+ghost use Rattle.rt_world.specs.Met.{do_meet};
+ghost use Rattle.rt_parts.specs.declared.places.Place.{Place};
+ghost use Rattle.rt_parts.specs.inside.Placed.{AreInOrder, HaveNumbers, Keeps, stand_cmp, stand_of};
+
+use rt_tree::{Key, Path, Tree};
+use std::alloc::{AllocError, Global};
+
+// A listener's path, with its number and its seat.
+pub(crate) struct Place {
+    pub(crate) path: Path,
+    pub(crate) number: u64,
+    pub(crate) seat: u64,
+}
+
+impl Drop for Place {
+    fn drop(self) {
+        let Place {
+            path: _,
+            number: _,
+            seat: _,
+        } = self;
+    }
+}
+
+// Whether it stands in front of a path and a number.
+fn is_before(place: &Place, path: &[Key], number: u64) -> bool
+    ensures { result ≡ is_lt (stand_cmp (stand_of place.now) (path.now, number)) }
+{
+    place
+        .path
+        .keys()
+        .cmp(path)
+        .then(place.number.cmp(&number))
+        .is_lt()
+}
+
+// Where the first stands that is not in front of a path and a number, by halving.
+fn first_from(places: &[Place], path: &[Key], number: u64) -> usize
+    requires { AreInOrder places.now }
+    ensures within { result ≤ length places.now }
+    ensures point { IsPartitionPoint
+        (λ x. is_lt (stand_cmp (stand_of x) (path.now, number)) ≡ true)
+        (λ x. is_lt (stand_cmp (stand_of x) (path.now, number)) ≡ false) places.now result }
+{
+    places.partition_point(|place| is_before(place, path, number))
+}
+
+// Whether its path does not stand behind this one.
+fn is_not_behind(place: &Place, path: &[Key]) -> bool
+    ensures { result ≡ is_le (path_cmp place.now.path path.now) }
+{
+    place.path.keys().cmp(path).is_le()
+}
+
+// Adds the numbers of these.
+fn push_numbers(numbers: &mut Vec<u64>, places: &[Place]) -> Result<(), AllocError>
+    ensures { OnOk result (numbers.new.items
+        ≡ numbers.old.items ++ map (λ x. x.number) places.now) }
+{
+    for place in places {
+        numbers.push(place.number)?;
+    }
+    Ok(())
+}
+
+// Adds the numbers of those of a path.
+fn push_at(numbers: &mut Vec<u64>, places: &[Place], path: &[Key]) -> Result<(), AllocError>
+    requires { AreInOrder places.now }
+    ensures kept { OnOk result (Keeps numbers.old.items numbers.new.items) }
+    ensures all { OnOk result (HaveNumbers (λ x. path_eq x.path path.now)
+        numbers.new.items places.now) }
+{
+    let first = first_from(places, path, 0);
+    let rest = &places[first..];
+    let count = rest.partition_point(|place| is_not_behind(place, path));
+    push_numbers(numbers, &rest[..count])
+}
+
+// Whether its path is at or under this one.
+fn is_under(place: &Place, path: &Path) -> bool
+    ensures { result ≡ is_at_or_above path.now place.now.path }
+{
+    path.is_prefix_of(&place.path)
+}
+
+// Adds the numbers of those at or under a path.
+fn push_under(numbers: &mut Vec<u64>, places: &[Place], path: &Path) -> Result<(), AllocError>
+    requires { AreInOrder places.now }
+    ensures kept { OnOk result (Keeps numbers.old.items numbers.new.items) }
+    ensures all { OnOk result (HaveNumbers (λ x. is_at_or_above path.now x.path)
+        numbers.new.items places.now) }
+{
+    let first = first_from(places, path.keys(), 0);
+    let rest = &places[first..];
+    let count = rest.partition_point(|place| is_under(place, path));
+    push_numbers(numbers, &rest[..count])
+}
+
+// Adds the numbers of those above a path.
+fn push_above(numbers: &mut Vec<u64>, places: &[Place], path: &[Key]) -> Result<(), AllocError>
+    requires { AreInOrder places.now }
+    ensures kept { OnOk result (Keeps numbers.old.items numbers.new.items) }
+    ensures all { OnOk result (HaveNumbers
+        (λ x. is_at_or_above x.path path.now && nat_lt (length x.path) (length path.now))
+        numbers.new.items places.now) }
+{
+    for count in 0..path.len() {
+        push_at(numbers, places, &path[..count])?;
+    }
+    Ok(())
+}
+
+// Adds the numbers of those at, above and under a path.
+fn push_met(numbers: &mut Vec<u64>, places: &[Place], path: &Path) -> Result<(), AllocError>
+    requires { AreInOrder places.now }
+    ensures kept { OnOk result (Keeps numbers.old.items numbers.new.items) }
+    ensures all { OnOk result (HaveNumbers (λ x. do_overlap path.now x.path)
+        numbers.new.items places.now) }
+{
+    push_above(numbers, places, path.keys())?;
+    push_under(numbers, places, path)
+}
+
+// Sorts the numbers, each once.
+fn sort_once(numbers: &mut Vec<u64>)
+    ensures rise { AllPairs (λ m n. m < n) numbers.new.items }
+    ensures same { (p : ℕ → Bool) → list_any p numbers.new.items ≡ list_any p numbers.old.items }
+{
+    numbers.sort_unstable();
+    numbers.dedup();
+}
+
+// The numbers of those whose paths an entry meets, rising. Of an entry it looks for its path and for
+// each path above, and goes over those that stand there and at or under it.
+pub(crate) fn numbers_met(
+    alloc: Global,
+    places: &[Place],
+    entries: &[(Path, Tree)],
+) -> Result<Vec<u64>, AllocError>
+    requires { AreInOrder places.now }
+    ensures rise { IfOk result (λ numbers. AllPairs (λ m n. m < n) numbers.items) }
+    ensures all { IfOk result (λ numbers. HaveNumbers (λ x. do_meet entries.now x.path)
+        numbers.items places.now) }
+{
+    let mut numbers = Vec::new(alloc);
+    for entry in entries {
+        push_met(&mut numbers, places, &entry.0)?;
+    }
+    sort_once(&mut numbers);
+    Ok(numbers)
+}
+
+// Puts one in its place, for which there is room.
+pub(crate) fn insert_place(places: &mut Vec<Place>, place: Place)
+    requires order { AreInOrder places.old.items }
+    requires free { All (λ x. is_eq (stand_cmp (stand_of x) (stand_of place)) ≡ false)
+        places.old.items }
+    requires room { vec_len places.old < vec_capacity places.old }
+    ensures order { AreInOrder places.new.items }
+    ensures same { (p : Place → Bool) → list_any p places.new.items
+        ≡ (p place || list_any p places.old.items) }
+{
+    let at = first_from(places, place.path.keys(), place.number);
+    let _in_reserved_room = places.insert(at, place);
+}
+
+// Whether it stands at the path, under the number.
+fn is_place(place: &Place, path: &Path, number: u64) -> bool
+    ensures { result ≡ is_eq (stand_cmp (stand_of place.now) (path.now, number)) }
+{
+    place.path == *path && place.number == number
+}
+
+// Takes out the one of the path and the number, if it is there, by halving.
+pub(crate) fn remove_place(places: &mut Vec<Place>, path: &Path, number: u64)
+    requires { AreInOrder places.old.items }
+    ensures { places.new.items
+        ≡ filter (λ x. not (is_eq (stand_cmp (stand_of x) (path.now, number)))) places.old.items }
+{
+    let at = first_from(places, path.keys(), number);
+    if at == places.len() {
+        return;
+    }
+    if is_place(&places[at], path, number) {
+        drop(places.remove(at));
+    }
+}
