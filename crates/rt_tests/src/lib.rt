@@ -1,6 +1,7 @@
 //! Tests of what no line of `calls/` shows: that trees may go to another thread, that two threads work
-//! on one client at once, that the cover is that of a list in which each form is compared with each, and
-//! that the pending writes show what a list shows whose looks go over all of them.
+//! on one client at once, that the cover is that of a list in which each form is compared with each, that
+//! the pending writes show what a list shows whose looks go over all of them, and that a view tells what
+//! one tells that is sorted and compared anew.
 #![tactic(auto)]
 
 #[cfg(test)]
@@ -8,11 +9,15 @@ mod covers;
 #[cfg(test)]
 mod list_cover;
 #[cfg(test)]
+mod list_view;
+#[cfg(test)]
 mod list_writes;
 #[cfg(test)]
 mod seats;
 #[cfg(test)]
 mod threads;
+#[cfg(test)]
+mod views_two_ways;
 #[cfg(test)]
 mod waits;
 #[cfg(test)]
