@@ -47,7 +47,7 @@ def run(words, folder, **given):
 # ---- functions of a file
 
 IMPL = r"impl(?:<.*?>)? (?:(?:\w+::)*(?P<trait>\w+)(?:<(?:\w+::)*(?P<of>\w+).*>)? for )?(?P<lent>&(?:'\w+ )?)?(?:\w+::)*(?P<type>\w+)"
-HEAD = re.compile(rf"(?m)^(?:{IMPL}|(?P<indent> *)(?:pub(?:\(\w+\))? )?(?:const )?fn (?P<name>\w+))")
+HEAD = re.compile(rf'(?m)^(?:{IMPL}|(?P<indent> *)(?:pub(?:\(\w+\))? )?(?:const )?(?:extern "C" )?fn (?P<name>\w+))')
 CYCLE = re.compile(r"#\[cycle\((\w+)\)\]\n(?: *#\[.*\]\n)*\Z")
 
 

@@ -92,6 +92,7 @@ class Functions(unittest.TestCase):
         names = [name for name, _ in bodies.functions_in("src/lane.rt", CODE)]
         self.assertEqual(names, ["Lane::has_room", "Lane::put", "Lane::drop", "ErrorFromFault::from", "lane::filled"])
         self.assertEqual([name for name, _ in bodies.functions_in("src/lib.rt", "pub fn run() {\n}\n")], ["run"])
+        self.assertEqual([name for name, _ in bodies.functions_in("src/lib.rt", 'pub extern "C" fn run() {\n}\n')], ["run"])
         self.assertEqual([name for name, _ in bodies.functions_in("src/steps/mod.rt", "fn kind() {\n}\n")], ["steps::kind"])
 
     def test_names_of_a_lent_type(self):
