@@ -1,0 +1,125 @@
+-- What is heard, message after message.
+use Rattle.std.proofs.Common.{◌≡◌, ℕ, ◌+◌, ◌<◌, ◌≤◌, List, [], ◌∷◌, ◌++◌, length, map, Option, Some, None, refl}
+use Rattle.std.proofs.Common.{sym, ap, subst, ◌∙◌, append_assoc, append-nil, arith}
+use Rattle.std.specs.Prelude.{IfSome}
+use Rattle.std.proofs.lemmas.Grind.{flat_map-append}
+use Rattle.std.proofs.lemmas.List.{length-append, map-append}
+use Rattle.rt_wire.specs.Client.{client_message}
+use Rattle.rt_peer.specs.Runs.{Call, after_all, sent_all}
+use Rattle.rt_peer.specs.declared.sent.Sent.{Sent}
+use Rattle.rt_hub.specs.Hubs.{Hub, receivers}
+use Rattle.rt_hub.specs.Runs.{DoesAll, OfPeer}
+use Rattle.rt_turns.specs.Doors.{Gives}
+use Rattle.rt_turns.specs.Turns.{AreMade, HasHeard, HasHeardIn, Hears, HearsTurn, IsCount, IsNext, IsTurn}
+use Rattle.rt_turns.specs.Turns.{calls_of, given_call, next_count, text_call}
+use Rattle.rt_turns.specs.declared.door.Heard.{Heard}
+use Rattle.rt_turns.specs.declared.take.Turn.{Turn}
+use Rattle.rt_turns.specs.declared.take.Turn.TheVariants.{Idle, More, Ended}
+use Rattle.rt_turns.proofs.Joining.{after_made, does_append, gives_more, gives_none, sent-append}
+
+-- ---- one after another
+
+heard_more : (n : ℕ) (g h : List (Option (List ℕ))) (a b c : Hub) (t u v : List ℕ)
+    → HasHeard n g a b t u → HasHeard n h b c u v → HasHeard n (g ++ h) a c t v
+heard_more n g h a b c t u v x y = record {
+  made = subst (λ asked. DoesAll a asked c) (sym asked)
+      (does_append a b c (map OfPeer (calls_of n g)) (map OfPeer (calls_of n h)) x.made y.made);
+  told = y.told ∙ ap (λ l. l ++ receivers (sent_all b.peer (calls_of n h))) x.told
+      ∙ append_assoc t (receivers (sent_all a.peer (calls_of n g))) (receivers (sent_all b.peer (calls_of n h)))
+      ∙ ap (λ l. t ++ l) (sym sent);
+}
+  where
+    calls : calls_of n (g ++ h) ≡ calls_of n g ++ calls_of n h
+    calls = flat_map-append (given_call n) g h
+
+    asked : map OfPeer (calls_of n (g ++ h)) ≡ map OfPeer (calls_of n g) ++ map OfPeer (calls_of n h)
+    asked = ap (map OfPeer) calls ∙ map-append OfPeer (calls_of n g) (calls_of n h)
+
+    sent : receivers (sent_all a.peer (calls_of n (g ++ h)))
+        ≡ receivers (sent_all a.peer (calls_of n g)) ++ receivers (sent_all b.peer (calls_of n h))
+    sent =
+        ap (λ cs. receivers (sent_all a.peer cs)) calls
+        ∙ ap receivers (sent-append a.peer (calls_of n g) (calls_of n h))
+        ∙ map-append (λ (s : Sent). s.to) (sent_all a.peer (calls_of n g))
+        (sent_all (after_all a.peer (calls_of n g)) (calls_of n h))
+        ∙ ap (λ p. receivers (sent_all a.peer (calls_of n g)) ++ receivers (sent_all p (calls_of n h)))
+        (sym (after_made a b (calls_of n g) x.made))
+
+in_more : (n : ℕ) (g h : List (Option (List ℕ))) (a b c : Option Hub) (t u v : List ℕ)
+    → HasHeardIn n g a b t u → HasHeardIn n h b c u v → HasHeardIn n (g ++ h) a c t v
+in_more n g h None b c t u v x y = subst (λ o. HasHeardIn n h o c u v) x y
+in_more n g h (Some a) None c t u v x y = absurd x
+in_more n g h (Some a) (Some b) None t u v x y = absurd y
+in_more n g h (Some a) (Some b) (Some c) t u v x y = heard_more n g h a b c t u v x y
+
+pub hears_more : (k m n : ℕ) (a b c : Option Hub) (p q r : Option (List (Option (List ℕ)))) (t u v : List ℕ)
+    → Hears k n a b p q t u → Hears m n b c q r u v → Hears (k + m) n a c p r t v
+hears_more k m n a b c p q r t u v x y = record {
+  given = x.given ++ y.given;
+  many = omega (arith, length-append x.given y.given, x.many, y.many);
+  gave = gives_more p q r x.given y.given x.gave y.gave;
+  heard = in_more n x.given y.given a b c t u v x.heard y.heard;
+}
+
+none_in : (n : ℕ) (a : Option Hub) (t : List ℕ) → HasHeardIn n [] a a t t
+none_in n None t = refl
+none_in n (Some a) t = record { made = refl; told = sym (append-nil t) }
+
+pub hears_none : (n : ℕ) (a : Option Hub) (p : Option (List (Option (List ℕ)))) (t : List ℕ)
+    → Hears 0 n a a p p t t
+hears_none n a p t = record { given = []; many = refl; gave = gives_none p; heard = none_in n a t }
+
+-- nothing was given, or a message that is no text
+pub hears_nothing : (n : ℕ) (a : Option Hub) (p q : Option (List (Option (List ℕ)))) (t : List ℕ)
+    → Gives p q [] → Hears 0 n a a p q t t
+hears_nothing n a p q t g = record { given = []; many = refl; gave = g; heard = none_in n a t }
+
+other_in : (n : ℕ) (a : Option Hub) (t : List ℕ) → HasHeardIn n (None ∷ []) a a t t
+other_in n None t = refl
+other_in n (Some a) t = record { made = refl; told = sym (append-nil t) }
+
+pub hears_other : (n : ℕ) (a : Option Hub) (p q : Option (List (Option (List ℕ)))) (t : List ℕ)
+    → Gives p q (None ∷ []) → Hears 1 n a a p q t t
+hears_other n a p q t g = record { given = None ∷ []; many = refl; gave = g; heard = other_in n a t }
+
+-- ---- a text
+
+text_in : (n : ℕ) (text : List ℕ) (a b : Option Hub) (t u : List ℕ)
+    → AreMade a (text_call n (client_message text)) b
+    → IfSome a (λ h. u ≡ t ++ receivers (sent_all h.peer (text_call n (client_message text))))
+    → HasHeardIn n (Some text ∷ []) a b t u
+text_in n text None b t u m s = m
+text_in n text (Some a) None t u m s = absurd m
+text_in n text (Some a) (Some b) t u m s =
+    let e : calls_of n (Some text ∷ []) ≡ text_call n (client_message text) =
+    append-nil (text_call n (client_message text)) in
+    record {
+      made = subst (λ calls. DoesAll a (map OfPeer calls) b) (sym e) m;
+      told = s ∙ ap (λ calls. t ++ receivers (sent_all a.peer calls)) (sym e);
+    }
+
+pub hears_text : (n : ℕ) (text : List ℕ) (a b : Option Hub) (p q : Option (List (Option (List ℕ))))
+    (t u : List ℕ) → Gives p q (Some text ∷ [])
+    → AreMade a (text_call n (client_message text)) b
+    → IfSome a (λ h. u ≡ t ++ receivers (sent_all h.peer (text_call n (client_message text))))
+    → Hears 1 n a b p q t u
+hears_text n text a b p q t u g m s =
+    record { given = Some text ∷ []; many = refl; gave = g; heard = text_in n text a b t u m s }
+
+-- ---- turns
+
+-- a turn ends as the door says, behind what it took before
+pub turn_ends : (turn : Turn) (said : Heard) (k most n : ℕ) (a b c : Option Hub)
+    (p q r : Option (List (Option (List ℕ)))) (t u v : List ℕ) → k < most → IsNext (Some turn) said
+    → Hears k n a b p q t u → Hears (next_count (Some turn)) n b c q r u v
+    → HearsTurn turn most n a c p r t v
+turn_ends Idle said k most n a b c p q r t u v lt is x y =
+    (k + 0, omega (arith, lt), hears_more k 0 n a b c p q r t u v x y)
+turn_ends More said k most n a b c p q r t u v lt is x y = absurd is
+turn_ends Ended said k most n a b c p q r t u v lt is x y =
+    (k + 0, omega (arith, lt), hears_more k 0 n a b c p q r t u v x y)
+
+pub turn_is : (turn : Turn) (said : Heard) → IsNext (Some turn) said → IsTurn turn said
+turn_is Idle said is = is
+turn_is More said is = absurd is
+turn_is Ended said is = is

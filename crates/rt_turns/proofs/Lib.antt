@@ -1,0 +1,4 @@
+mod Handing
+mod Hearing
+mod Joining
+mod Taking

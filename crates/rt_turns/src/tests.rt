@@ -1,0 +1,176 @@
+// What no clause says: that texts go both ways with memory, and where a door blocks or fails.
+ghost use Rattle.std.specs.Prelude.{Some, map, string_bytes, option_map};
+
+use crate::{Door, Flushed, Handed, Heard, Turn, hand_over, leave, take_turn};
+use rt_hub::{Bounds, Hub};
+use rt_input::Silent;
+use rt_peer::PeerError;
+use rt_tree::Tree;
+use std::alloc::{AllocError, Global};
+use std::collections::VecDeque;
+use std::test::Fail;
+
+const LISTEN: &str = "{\"k\":\"listen\",\"path\":\"/a\",\"tag\":1}";
+
+const PUT: &str = "{\"k\":\"put\",\"id\":1,\"path\":\"/a\",\"value\":7}";
+
+// A door in memory: what it is to give, and what it has taken. It takes so many texts before it fails, and
+// blocks where more than so many are not on their way.
+#[derive(Drop)]
+struct Memory {
+    alloc: Global,
+    left: VecDeque<Option<String>>,
+    ends: bool,
+    text: String,
+    said: Heard,
+    taken: Vec<String>,
+    most: usize,
+    flushes: usize,
+    flushed: Flushed,
+}
+
+impl Memory {
+    fn new(alloc: Global) -> Memory {
+        Memory {
+            alloc,
+            left: VecDeque::new(alloc),
+            ends: false,
+            text: String::new(alloc),
+            said: Heard::Nothing,
+            taken: Vec::new(alloc),
+            most: 1_000,
+            flushes: 1_000,
+            flushed: Flushed::Done,
+        }
+    }
+
+    fn say(&mut self, text: &str) -> Result<(), AllocError> {
+        let text = String::from_str(self.alloc, text)?;
+        self.left.push_back(Some(text))?;
+        Ok(())
+    }
+}
+
+impl Door for Memory {
+    ghost remaining = { λ s. Some (map (λ text. option_map string_bytes text) s.left.items) };
+
+    ghost contents = { λ s. Some (map string_bytes s.taken.items) };
+
+    ghost given = { λ s. string_bytes s.text };
+
+    ghost said = { λ s. s.said };
+
+    ghost flushed = { λ s. s.flushed };
+
+    fn hear(&mut self) -> Result<Heard, AllocError> {
+        self.said = match self.left.pop_front() {
+            Some(Some(text)) => {
+                self.text = text;
+                Heard::Text
+            }
+            Some(None) => Heard::Other,
+            None if self.ends => Heard::Ended,
+            None => Heard::Nothing,
+        };
+        Ok(self.said)
+    }
+
+    fn text(&self) -> &str {
+        self.text.as_str()
+    }
+
+    fn put(&mut self, text: &str) -> Result<bool, AllocError> {
+        if self.taken.len() >= self.most {
+            return Ok(false);
+        }
+        let text = String::from_str(self.alloc, text)?;
+        self.taken.push(text)?;
+        Ok(true)
+    }
+
+    fn flush(&mut self) -> Flushed {
+        self.flushed = if self.flushes == 0 {
+            Flushed::Blocked
+        } else {
+            self.flushes -= 1;
+            Flushed::Done
+        };
+        self.flushed
+    }
+}
+
+// A hub of two connections, and a door that listens and writes.
+fn opened(alloc: Global) -> Result<(Hub, Memory), PeerError> {
+    let mut hub = Hub::new(alloc, Tree::null(), Vec::new(alloc), Bounds::full());
+    let _first = hub.connect()?;
+    let _second = hub.connect()?;
+    let mut door = Memory::new(alloc);
+    if door.say(LISTEN).is_err() || door.say("[]").is_err() || door.say(PUT).is_err() {
+        return Err(PeerError::NoMemory);
+    }
+    Ok((hub, door))
+}
+
+fn turn(
+    alloc: Global,
+    hub: &mut Hub,
+    door: &mut Memory,
+    most: usize,
+    told: &mut Vec<u64>,
+) -> Result<Turn, PeerError> {
+    take_turn(alloc, hub, door, 1, most, told, &mut Silent)
+}
+
+#[test]
+fn texts_go_both_ways(rt: HostRuntime) -> Result<(), Fail> {
+    let alloc = rt.alloc();
+    let (mut hub, mut door) = opened(alloc)?;
+    let mut told = Vec::new(alloc);
+    assert_eq!(rt; turn(alloc, &mut hub, &mut door, 2, &mut told)?, Turn::More);
+    assert_eq!(rt; told.as_slice(), [1].as_slice());
+    assert_eq!(rt; turn(alloc, &mut hub, &mut door, 2, &mut told)?, Turn::Idle);
+    assert_eq!(rt; told.as_slice(), [1, 1, 1].as_slice());
+    assert_eq!(rt; hand_over(&mut hub, &mut door, 1)?, Handed::Drained);
+    assert_eq!(rt; door.taken.len(), 3);
+    Ok(())
+}
+
+#[test]
+fn a_door_blocks(rt: HostRuntime) -> Result<(), Fail> {
+    let alloc = rt.alloc();
+    let (mut hub, mut door) = opened(alloc)?;
+    let mut told = Vec::new(alloc);
+    assert_eq!(rt; turn(alloc, &mut hub, &mut door, 9, &mut told)?, Turn::Idle);
+    door.flushes = 0;
+    assert_eq!(rt; hand_over(&mut hub, &mut door, 1)?, Handed::Blocked);
+    assert_eq!(rt; door.taken.len(), 0);
+    door.flushes = 1;
+    assert_eq!(rt; hand_over(&mut hub, &mut door, 1)?, Handed::Blocked);
+    assert_eq!(rt; door.taken.len(), 3);
+    door.flushes = 2;
+    assert_eq!(rt; hand_over(&mut hub, &mut door, 1)?, Handed::Drained);
+    Ok(())
+}
+
+#[test]
+fn a_door_fails_and_ends(rt: HostRuntime) -> Result<(), Fail> {
+    let alloc = rt.alloc();
+    let (mut hub, mut door) = opened(alloc)?;
+    let mut told = Vec::new(alloc);
+    door.most = 1;
+    door.ends = true;
+    assert_eq!(rt;
+        turn(alloc, &mut hub, &mut door, 9, &mut told)?,
+        Turn::Ended
+    );
+    assert_eq!(rt; hand_over(&mut hub, &mut door, 1)?, Handed::Failed);
+    assert_eq!(rt; door.taken.len(), 1);
+    told.clear();
+    leave(&mut hub, 1, &mut told)?;
+    assert!(rt; told.is_empty());
+    assert_eq!(rt;
+        leave(&mut hub, 1, &mut told).err(),
+        Some(PeerError::UnknownConnection)
+    );
+    Ok(())
+}
