@@ -1,4 +1,4 @@
-mod Asked
+mod Asking
 mod Clients
 mod Flags
 mod Numbers

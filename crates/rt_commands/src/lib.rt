@@ -13,16 +13,16 @@
 //! [`serve_stream`]), and how lines drive a client ([`drive`]).
 #![tactic(auto)]
 
-mod connect;
+mod connecting;
 mod script;
-mod serve;
+mod serving;
 mod words;
 
-pub use connect::{ConnectFault, connect};
+pub use connecting::{ConnectFault, connect};
 pub use rt_drive::{drive, drive_logged};
 pub use rt_input::{ConsoleError, Drain, Source};
 pub use rt_peer::Peer;
 pub use rt_serve::serve_stream;
 pub use script::{run_logged, run_script};
-pub use serve::{ServeFault, Streams, Visitors, serve};
+pub use serving::{ServeFault, Streams, Visitors, serve};
 pub use words::{Asked, PROGRAM, Serving, Work, explain, read_words};

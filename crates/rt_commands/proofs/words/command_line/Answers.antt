@@ -3,7 +3,7 @@ use Rattle.std.specs.Prelude.{IfOk}
 use Rattle.clap.specs.Words.{App, HasKind, app_of, fault_of, is_simple, is_simple_and_free, subcommand_of, subcommand_rows_of}
 use Rattle.rt_commands.specs.Commands.{console_app}
 use Rattle.rt_commands.specs.Words.{GivesWork, asked, faults_of, verbose_in, work_of}
-use Rattle.rt_commands.proofs.Asked.{clap_fails, given, given_work, same_kind}
+use Rattle.rt_commands.proofs.Asking.{clap_fails, given, given_work, same_kind}
 use Rattle.rt_commands.proofs.words.command_line.Goals as goal
 
 is_free : is_simple_and_free console_app ≡ true

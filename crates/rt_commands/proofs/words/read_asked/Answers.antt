@@ -1,4 +1,4 @@
-use Rattle.rt_commands.proofs.Asked.{passed_on}
+use Rattle.rt_commands.proofs.Asking.{passed_on}
 use Rattle.rt_commands.proofs.words.read_asked.Goals as goal
 
 pub returns-in_err-work-clause-work : goal.returns-in_err-work-clause-work

@@ -1,5 +1,5 @@
 use Rattle.std.proofs.Common.{rules, ◌≡◌, Some}
-use Rattle.rt_commands.proofs.Asked.{denied_read}
+use Rattle.rt_commands.proofs.Asking.{denied_read}
 use Rattle.rt_commands.proofs.words.read_denied.Goals as goal
 
 pub returns-in-Ok : goal.returns-in-Ok

@@ -3,7 +3,7 @@ use Rattle.clap.specs.Matches.{subcommand_name_of}
 use Rattle.clap.specs.Words.{found_of, rows_of, subcommand_rows_of}
 use Rattle.rt_commands.specs.Words.{other_of}
 use Rattle.rt_commands.specs.declared.words.Work.TheVariants.{Connect}
-use Rattle.rt_commands.proofs.Asked.{entered, script_entered}
+use Rattle.rt_commands.proofs.Asking.{entered, script_entered}
 use Rattle.rt_commands.proofs.words.read_other.Goals as goal
 
 pub returns-in-Some : goal.returns-in-Some

@@ -1,6 +1,6 @@
 use Rattle.std.proofs.Common.{rules, List}
 use Rattle.clap.specs.Words.{Row, found_of, rows_of}
-use Rattle.rt_commands.proofs.Asked.{served_by}
+use Rattle.rt_commands.proofs.Asking.{served_by}
 use Rattle.rt_commands.proofs.words.read_serving.Goals as goal
 
 pub returns : goal.returns

@@ -4,7 +4,7 @@ use Rattle.clap.specs.Matches.{subcommand_name_of}
 use Rattle.clap.specs.Words.{found_of, rows_of, subcommand_rows_of}
 use Rattle.rt_commands.specs.Words.{serving_of, work_of}
 use Rattle.rt_commands.specs.declared.words.Work.TheVariants.{Serve}
-use Rattle.rt_commands.proofs.Asked.{entered, other_entered, passed}
+use Rattle.rt_commands.proofs.Asking.{entered, other_entered, passed}
 use Rattle.rt_commands.proofs.words.read_work.Goals as goal
 
 pub returns-in_ok-read_serving-in-Some : goal.returns-in_ok-read_serving-in-Some

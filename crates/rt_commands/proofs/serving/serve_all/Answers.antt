@@ -1,6 +1,6 @@
 use Rattle.std.proofs.Common.{◌≡◌, ◌-◌, ◌+◌, ◌<◌, arith, ◌∙◌}
 use Rattle.rt_commands.proofs.Clients.{one_served, shaken, stopped_at}
-use Rattle.rt_commands.proofs.serve.serve_all.Goals as goal
+use Rattle.rt_commands.proofs.serving.serve_all.Goals as goal
 
 pub returns-in_err-serve_next-clause-stopped : goal.returns-in_err-serve_next-clause-stopped
 returns-in_err-serve_next-clause-stopped g c =

@@ -8,7 +8,7 @@ ghost use Rattle.rt_peer.specs.Peers.{new_peer};
 ghost use Rattle.rt_serve.specs.Sessions.{HasServed, ServedIf};
 ghost use Rattle.rt_commands.specs.Connections.{Fails, listed, NamesPort, Serves, ServesSome, Stops};
 ghost use Rattle.rt_commands.specs.Errors.{serve_code, serve_name};
-ghost use Rattle.rt_commands.specs.declared.serve.ServeFault.TheVariants.{NoMemory};
+ghost use Rattle.rt_commands.specs.declared.serving.ServeFault.TheVariants.{NoMemory};
 
 use crate::words::Serving;
 use rt_input::Log;

@@ -1,7 +1,7 @@
 use Rattle.std.proofs.Common.{◌≡◌, ◌≤◌}
 use Rattle.std.specs.Prelude.{IfSome}
 use Rattle.rt_commands.proofs.Clients.{Left}
-use Rattle.rt_commands.proofs.serve.serve_all.Given as goal
+use Rattle.rt_commands.proofs.serving.serve_all.Given as goal
 
 abbrev pub invariant-streams : goal.invariant-streams
 invariant-streams g l =
