@@ -1,12 +1,14 @@
 -- Runs of a view turn no view into the one that is shown.
-use Rattle.std.proofs.Common.{◌≡◌, ℕ, suc, ◌+◌, ◌%◌, ◌^◌, List, [], ◌∷◌, length, refl, ap, ◌∙◌, arith, Some, None}
+use Rattle.std.proofs.Common.{◌≡◌, ℕ, suc, ◌+◌, ◌%◌, ◌^◌, List, [], ◌∷◌, length, true, refl, sym, ap, ◌∙◌, arith, Some, None}
 use Rattle.std.proofs.Math.Nat.{mod-add-mod}
+use Rattle.rt_tree.specs.PathTree.{PathTree}
+use Rattle.rt_tree.specs.TreeEq.{tree_eq, tree_eq_tells}
 use Rattle.rt_query.specs.Select.{select}
 use Rattle.rt_query.specs.laws.Select.{select-distinct}
 use Rattle.rt_view.specs.Changes.{changes, Turns}
-use Rattle.rt_view.specs.Views.{View, first_view, shown_of, told}
+use Rattle.rt_view.specs.Views.{View, first_view, renewed, shown_of, told}
 use Rattle.rt_view.specs.laws.Runs.{Call, Renew, Touch, after, after_all, told_all, ReplayGivesShown, RunTurns, TurnsCountCalls, TouchReadsNamed}
-use Rattle.rt_view.proofs.TurnLaws.{turns, turns_not, turns-append}
+use Rattle.rt_view.proofs.TurnLaws.{turns, turns_not, turns-append, changes-same}
 
 -- a call turns what was shown before into what is shown after
 turns_call : (v : View) (c : Call) → Turns (Some (shown_of v)) (told v (after v c)) (Some (shown_of (after v c)))
@@ -25,6 +27,12 @@ run_turns q t cs =
 
 pub replay_shown : ReplayGivesShown
 replay_shown q t cs = (run_turns q t cs).rows
+
+-- a tree that is equal tells nothing
+pub told_alike : (v : View) (t : PathTree) → tree_eq v.tree t ≡ true → [] ≡ told v (renewed v t)
+told_alike v t e =
+    let same : v.tree ≡ t = (tree_eq_tells v.tree t).0 e in
+    sym (ap (λ u. changes v.query.index (Some (shown_of v)) (select v.query u)) (sym same) ∙ changes-same v.query.index (shown_of v) (select-distinct v.query v.tree))
 
 -- ---- counts
 

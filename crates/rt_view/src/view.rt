@@ -211,11 +211,16 @@ impl View {
         if self.failed {
             return Err(ViewError::Failed);
         }
-        let Ok((window, tree, changes)) = self.kept_of(alloc, &known) else {
+        let Some(reads) = count(&self.known).checked_add(count(&known)) else {
             self.failed = true;
             return Err(ViewError::NoMemory);
         };
-        let Some(reads) = count(&self.known).checked_add(count(&known)) else {
+        if self.known == known {
+            self.reads = reads;
+            self.turns = self.turns.wrapping_add(1);
+            return Ok(ChangeList::of(Vec::new(alloc)));
+        }
+        let Ok((window, tree, changes)) = self.kept_of(alloc, &known) else {
             self.failed = true;
             return Err(ViewError::NoMemory);
         };
