@@ -41,10 +41,7 @@ impl Tree {
         ensures fine { IfOk result (λ _. text_fault text.now ≡ None) }
     {
         match Value::from_str(alloc, text) {
-            Ok(value) => {
-                let mut seen = 0;
-                taken(alloc, value, 0, None, &mut seen)
-            }
+            Ok(value) => Tree::of_value(alloc, value),
             Err(error) if error.is_memory() => Err(TreeError::NoMemory),
             Err(_) => Err(TreeError::NotJson),
         }
@@ -67,6 +64,21 @@ impl Tree {
     {
         walk(value, 0, None, 0)?;
         Ok(Tree::build(alloc, value)?)
+    }
+
+    /// The tree that a JSON value stands for, which keeps the value's texts.
+    ///
+    /// # Errors
+    ///
+    /// The fault that `from_value` finds. `NoMemory` where memory lacks before it is found.
+    pub fn of_value(alloc: Global, value: Value) -> Result<Tree, TreeError>
+        ensures ok { IfOk result (λ tree. tree ≡ tree_of_data (view value)) }
+        ensures fine { IfOk result (λ _. data_fault (view value) ≡ None) }
+        ensures fault { IfErr result (λ e. (data_fault (view value) ≡ Some e)
+            ⊎ (e ≡ TreeError.NoMemory)) }
+    {
+        let mut seen = 0;
+        taken(alloc, value, 0, None, &mut seen)
     }
 
     // The tree of data in which nothing is refused.

@@ -5,6 +5,7 @@ ghost use Rattle.serde_json.specs.Data.{put};
 ghost use Rattle.serde_json.specs.Read.{read};
 ghost use Rattle.serde_json.specs.View.{view, members_view};
 ghost use Rattle.serde_json.specs.Written.{compact_text, WritesValue, WritesMembers};
+ghost use Rattle.rt_tree.specs.Leaf.{IsInRange};
 ghost use Rattle.rt_tree.specs.Trees.{IsAllowed, of_leaf};
 ghost use Rattle.rt_tree.specs.Leaves.{key_cmp};
 ghost use Rattle.rt_tree.specs.Reading.{tree_of_data, member_trees, text_fault};
@@ -52,16 +53,19 @@ impl Tree {
         Ok(text_of(out.into_inner()))
     }
 
-    // Writes the tree behind what `out` has.
+    /// Writes the tree as JSON behind what `out` has, with the keys in the order of their bytes.
+    ///
+    /// What stands before is the caller's: a member's key, or a `[`. After an error some of the tree
+    /// may stand there.
     #[cycle(write)]
-    fn write(&self, out: &mut Writer) -> Result<(), AllocError>
+    pub fn write(&self, out: &mut Writer) -> Result<(), AllocError>
         ensures ok { OnOk result (WritesValue (data_of self.now) out.old.tokens out.new.tokens) }
         ensures before { out.new.before ≡ out.old.before }
         ensures allowed { IsAllowed self.now }
     {
         match &self.node {
             Node::Null => out.null(),
-            Node::Leaf(leaf) => write_leaf(leaf, out),
+            Node::Leaf(leaf) => leaf.write(out),
             Node::Object(children) => {
                 out.begin_object()?;
                 write_children(children, out)
@@ -78,14 +82,20 @@ fn text_of(bytes: Vec<u8>) -> String
     String::from_utf8(bytes).unwrap()
 }
 
-fn write_leaf(leaf: &Leaf, out: &mut Writer) -> Result<(), AllocError>
-    ensures ok { OnOk result (WritesValue (leaf_data leaf.now) out.old.tokens out.new.tokens) }
-    ensures before { out.new.before ≡ out.old.before }
-{
-    match leaf.value() {
-        LeafRef::Truth(value) => out.boolean(value),
-        LeafRef::Number(value) => out.i64(value),
-        LeafRef::Text(value) => out.string(value),
+impl Leaf {
+    /// Writes the leaf as JSON behind what `out` has.
+    ///
+    /// What stands before is the caller's: a member's key, or a `[`.
+    pub fn write(&self, out: &mut Writer) -> Result<(), AllocError>
+        ensures ok { OnOk result (WritesValue (leaf_data self.now) out.old.tokens out.new.tokens) }
+        ensures before { out.new.before ≡ out.old.before }
+        ensures in_range { IsInRange self.now }
+    {
+        match self.value() {
+            LeafRef::Truth(value) => out.boolean(value),
+            LeafRef::Number(value) => out.i64(value),
+            LeafRef::Text(value) => out.string(value),
+        }
     }
 }
 

@@ -32,7 +32,7 @@ Tree::write-returns-in-Null-clause-ok t c =
 pub Tree::write-returns-in-Leaf-clause-ok : goal.Tree::write-returns-in-Leaf-clause-ok
 Tree::write-returns-in-Leaf-clause-ok t c =
     let seen = ap data_of (at-Leaf c.self.view_is c.in-Leaf.is) ∙ data_of-of_leaf c.in-Leaf.leaf in
-    on_ok_weaker c.write_leaf.result (λ w. subst (λ d. WritesValue d c.args.out.now.tokens c.write_leaf.new.out.tokens) (sym seen) w) c.write_leaf.ensures.ok
+    on_ok_weaker c.write.result (λ w. subst (λ d. WritesValue d c.args.out.now.tokens c.write.new.out.tokens) (sym seen) w) c.write.ensures.ok
 
 pub Tree::write-returns-in_ok-begin_object-in-Object-clause-ok : goal.Tree::write-returns-in_ok-begin_object-in-Object-clause-ok
 Tree::write-returns-in_ok-begin_object-in-Object-clause-ok t c =
