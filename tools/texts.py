@@ -1,4 +1,5 @@
-"""Parts of the gate that read texts, and prove nothing: the tests of tools/, the pages, the examples of README.md and of kaltewi's page, the layout."""
+"""Parts of the gate that read texts, and prove nothing: the tests of tools/, the pages, the examples of README.md, of
+docs/GUIDE.md and of kaltewi's page, the layout."""
 import os
 import re
 import sys
@@ -13,6 +14,7 @@ from parts import ROOT, Clock, crates, part, some_of
 from proving import copied
 
 PROGRAMS_SHOWN = ("example_chat", "example_threads")  # README.md shows a text of each
+PROGRAMS_OF_GUIDE = ("example_guide", "example_threads")  # docs/GUIDE.md shows texts of these
 
 
 def tools_part():
@@ -53,6 +55,24 @@ def readme_part():
     sources = {it: read(f"{ROOT}/crates/{it}/src/main.rt") for it in PROGRAMS_SHOWN}
     wrong = wrong_of_readme(read(f"{ROOT}/README.md"), read(f"{ROOT}/crates.txt"), sources)
     part("README.md's examples are as they are proved", "; ".join(wrong))
+
+
+def wrong_of_guide(guide, sources, printed):
+    """What is wrong with the examples of a guide: each text of a program is so in one of these sources, and each other one in one of what is printed."""
+    blocks = re.findall(r"(?ms)^```(\w*)\n(.*?)^```$", guide)
+    places = {"rust": (sources, "in a program"), "text": (printed, "in what is printed")}
+    wrong = [f"a block of kind '{kind}' is compared with nothing" for kind, _ in blocks if kind not in places]
+    for kind, (texts, where) in places.items():
+        shown = [text for it, text in blocks if it == kind]
+        wrong += [f"{text.splitlines()[0]} is not so {where}" for text in shown if not any(text in it for it in texts)] if shown else [f"nothing is shown {where}"]
+    return wrong
+
+
+def guide_part():
+    """What docs/GUIDE.md shows of programs, of what they print, and of crates.txt."""
+    files = [f"{at}/{name}" for it in PROGRAMS_OF_GUIDE for at, _, names in os.walk(f"{ROOT}/crates/{it}/src") for name in names]
+    printed = [read(f"{ROOT}/crates.txt"), *(read(f"{ROOT}/crates/{it}/stdout") for it in PROGRAMS_OF_GUIDE)]
+    part("docs/GUIDE.md's examples are as they are proved", "; ".join(wrong_of_guide(read(f"{ROOT}/docs/GUIDE.md"), [read(it) for it in files], printed)))
 
 
 def examples_part():

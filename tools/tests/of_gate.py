@@ -58,6 +58,14 @@ class Gate(unittest.TestCase):
         sources = {"high": "fn main() {}\nfn other() {}\n", "low": ""}
         self.assertEqual(texts.wrong_of_readme(README, CRATES, sources), ["low is not shown", "low lacks its line of crates.txt"])
 
+    def test_guide(self):
+        guide = "```rust\nfn main() {}\n```\n```text\ndone\n```\n"
+        self.assertEqual(texts.wrong_of_guide(guide, ["fn main() {}\n"], ["done\n"]), [])
+        self.assertEqual(texts.wrong_of_guide(guide, ["fn low() {}\n"], ["done\n"]), ["fn main() {} is not so in a program"])
+        self.assertEqual(texts.wrong_of_guide(guide, ["fn main() {}\n"], ["failed\n"]), ["done is not so in what is printed"])
+        self.assertEqual(texts.wrong_of_guide("```\ndone\n```\n" + guide, ["fn main() {}\n"], ["done\n"]), ["a block of kind '' is compared with nothing"])
+        self.assertEqual(texts.wrong_of_guide("", [], []), ["nothing is shown in a program", "nothing is shown in what is printed"])
+
     def test_last_line(self):
         self.assertEqual(proving.counts_in("27 passed, 0 failed\n"), (27, 0))
         self.assertEqual(proving.counts_in("rt: 27 passed, 0 failed\n"), None)
