@@ -1,6 +1,6 @@
 -- What the end of some listeners loses and starts, as the code finds it: by the numbers of those that
 -- end, and by the paths of the listens that are lost.
-use Rattle.std.proofs.Common.{◌≡◌, ◌≢◌, ℕ, ◌+◌, ◌<◌, ◌≤◌, ◌==◌, nat_lt, Bool, true, false, cond, not, ◌&&◌, ◌||◌, inl, inr, List, [], ◌∷◌, ◌++◌, map, refl, sym, ap, subst, ◌∙◌, arith, ltb-true, eqb-true, eq-eqb, Option, Some, None, IfSome, IfNone}
+use Rattle.std.proofs.Common.{◌≡◌, ◌≢◌, ℕ, ◌<◌, ◌≤◌, ◌==◌, nat_lt, Bool, true, false, cond, not, ◌&&◌, ◌||◌, inl, inr, List, [], ◌∷◌, ◌++◌, map, refl, sym, ap, subst, ◌∙◌, arith, ltb-true, eqb-true, eq-eqb, Option, Some, None, IfSome, IfNone}
 use mathlib.Core.Bool.{true≢false}
 use Rattle.std.specs.List.{filter, find, list_any, All, AllPairs, Contains}
 use Rattle.std.specs.Option.{option_map, option_map_or}

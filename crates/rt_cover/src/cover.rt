@@ -11,15 +11,13 @@ use crate::choice::Choice;
 use crate::delta::{Delta, Revoked};
 use crate::ending::{Ending, OfChoice, OfForm, OfNumbers};
 use crate::error::CoverError;
-use crate::forms::forms;
 use crate::kept::KeptList;
 use crate::listen::{Listen, listens_at};
 use crate::listener::{Listener, into_form};
-use crate::listeners::Listeners;
+use crate::listeners::{Listeners, forms};
 use crate::listens::Listens;
-use crate::numbers::Numbers;
+use crate::numbers::{Numbers, Sorted, add_some, sort_once};
 use crate::plan::Plan;
-use crate::rising::{add_some, sort_once};
 use crate::shown::shown;
 use crate::{listen, starting};
 use rt_query::Query;
@@ -329,14 +327,14 @@ impl Cover {
     }
 
     // The tags of the listens that the end of the listeners of these numbers loses.
-    fn lost_tags(&self, numbers: &[u64]) -> Result<Vec<u64>, AllocError>
+    fn lost_tags(&self, numbers: &Sorted) -> Result<Vec<u64>, AllocError>
         ensures { IfOk result (λ tags. tags.items ≡ map (λ k. k.tag)
             (lost (λ l. list_any (λ n. n == l.0) numbers.now) self.now.kept
             self.now.listeners)) }
     {
         // For the prover: the cover is sound.
         let _last_tag = self.last_tag;
-        let mut tags = self.tags_lost(numbers, &OfNumbers { numbers })?;
+        let mut tags = self.tags_lost(numbers.as_slice(), numbers)?;
         sort_once(&mut tags);
         Ok(tags)
     }
@@ -548,8 +546,9 @@ impl Cover {
         if self.lacks_tag_to_remove(listeners) {
             return Err(CoverError::NoTag);
         }
-        let tags = self.lost_tags(listeners)?;
-        self.end(&OfNumbers { numbers: listeners }, &tags)
+        let numbers = Sorted::of(self.alloc(), listeners)?;
+        let tags = self.lost_tags(&numbers)?;
+        self.end(&numbers, &tags)
     }
 
     // The form of the listen with this tag, and the numbers of the listeners with that form.

@@ -7,6 +7,7 @@ ghost use Rattle.rt_cover.specs.Cover.{Registered};
 use crate::by_path::HasForm;
 use crate::choice::Choice;
 use crate::listener::Listener;
+use crate::numbers::Sorted;
 use rt_query::Query;
 
 // Tells which listeners end.
@@ -29,6 +30,15 @@ impl Ending for OfNumbers<'_> {
 
     fn ends(&self, listener: &Listener) -> bool {
         self.numbers.contains(&listener.number())
+    }
+}
+
+// The same of sorted numbers.
+impl Ending for Sorted {
+    ghost ended = { λ a l. list_any (λ n. n == l.0) a };
+
+    fn ends(&self, listener: &Listener) -> bool {
+        self.has(listener.number())
     }
 }
 

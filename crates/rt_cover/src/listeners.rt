@@ -5,6 +5,7 @@ ghost use Rattle.std.specs.List.{find, list_any, All, AllPairs};
 ghost use Rattle.std.specs.List.Sorted.{IsSorted};
 ghost use Rattle.std.specs.Option.{option_copied};
 ghost use Rattle.rt_query.specs.Supply.{form};
+ghost use Rattle.rt_cover.specs.Cover.{forms};
 ghost use Rattle.rt_cover.specs.State.{is_registered, with_listener, numbers_of};
 ghost use Rattle.rt_cover.specs.inside.Index.{by_form, SameCounts};
 ghost use Rattle.rt_cover.specs.inside.Endings.{left, is_first, is_left_form, begins_under};
@@ -51,6 +52,22 @@ impl Model for Listeners {
     } };
 
     ghost invariant = { λ a. IsIndex registered_form a.by_number.items a.by_path.items };
+}
+
+// The registered forms, in order of their least-numbered listeners.
+pub(crate) fn forms(listeners: &Listeners) -> Result<Vec<Query>, AllocError>
+    requires { AllPairs (λ l m. l.0 < m.0) listeners.now.items }
+    ensures { IfOk result (λ v. v.items ≡ forms listeners.now.items) }
+{
+    let by_path = listeners.by_path();
+    let mut forms = Vec::new(listeners.alloc());
+    let by_number = listeners.as_slice();
+    for listener in by_number {
+        if !is_seen(by_path, listener) {
+            forms.push(listener.form().copy()?)?;
+        }
+    }
+    Ok(forms)
 }
 
 impl Listeners {

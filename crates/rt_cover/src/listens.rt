@@ -19,6 +19,7 @@ use crate::supply::supplies;
 use rt_query::Query;
 use rt_tree::Key;
 use std::alloc::{AllocError, Global};
+use std::cmp::Ordering;
 use std::marker::Model;
 
 // The listens kept, by tag. The same stand by path beside that, where they are looked for.
@@ -183,8 +184,29 @@ fn take_supplied(by_path: &mut Vec<Listen>, form: &Query)
     take_span(by_path, first, count);
 }
 
+// From so many on, new listens are put behind the others and all are sorted: the words that each of them
+// would move are more then.
+const MANY: usize = 512;
+
+// The order of two listens' paths.
+fn path_order(listen: &Listen, other: &Listen) -> Ordering
+    ensures { result ≡ by_form form_of listen.now other.now }
+{
+    listen.form().path().cmp(other.form().path())
+}
+
+// Puts them behind the others, and sorts all by path; there is room for them.
+fn sort_all(by_path: &mut Vec<Listen>, mut new: Vec<Listen>)
+    requires room { vec_len by_path.old + vec_len new ≤ vec_capacity by_path.old }
+    ensures sorted { IsSorted (by_form form_of) by_path.new.items }
+    ensures same { SameCounts by_path.new.items (by_path.old.items ++ new.items) }
+{
+    let _in_reserved_room = by_path.append(&mut new);
+    by_path.sort_unstable_by(|listen, other| path_order(listen, other));
+}
+
 // Puts each of them in its place by path; there is room for them.
-fn place_all(by_path: &mut Vec<Listen>, new: Vec<Listen>)
+fn place_each(by_path: &mut Vec<Listen>, new: Vec<Listen>)
     requires sorted { IsSorted (by_form form_of) by_path.old.items }
     requires room { vec_len by_path.old + vec_len new ≤ vec_capacity by_path.old }
     ensures sorted { IsSorted (by_form form_of) by_path.new.items }
@@ -192,6 +214,20 @@ fn place_all(by_path: &mut Vec<Listen>, new: Vec<Listen>)
 {
     for listen in new {
         place(by_path, listen);
+    }
+}
+
+// Puts them in their places by path; there is room for them.
+fn place_all(by_path: &mut Vec<Listen>, new: Vec<Listen>)
+    requires sorted { IsSorted (by_form form_of) by_path.old.items }
+    requires room { vec_len by_path.old + vec_len new ≤ vec_capacity by_path.old }
+    ensures sorted { IsSorted (by_form form_of) by_path.new.items }
+    ensures same { SameCounts by_path.new.items (by_path.old.items ++ new.items) }
+{
+    if new.len() < MANY {
+        place_each(by_path, new);
+    } else {
+        sort_all(by_path, new);
     }
 }
 

@@ -1,8 +1,79 @@
 // Lists of numbers.
-ghost use Rattle.std.specs.Prelude.{◌≡◌, ◌==◌, not};
-ghost use Rattle.std.specs.List.{filter};
+ghost use Rattle.std.specs.Prelude.{◌≡◌, ◌<◌, ◌||◌, ◌==◌, not, ℕ, Bool, false, IfOk, OnOk};
+ghost use Rattle.std.specs.List.{filter, list_any, AllPairs};
+ghost use Rattle.std.specs.Option.{option_map_or};
 
+use std::alloc::{AllocError, Global};
 use std::marker::Model;
+
+// Sorts the numbers, each once.
+pub(crate) fn sort_once(numbers: &mut Vec<u64>)
+    ensures rise { AllPairs (λ m n. m < n) numbers.new.items }
+    ensures same { (p : ℕ → Bool) → list_any p numbers.new.items ≡ list_any p numbers.old.items }
+{
+    numbers.sort_unstable();
+    numbers.dedup();
+}
+
+// Adds a number, where there is one.
+pub(crate) fn add_some(numbers: &mut Vec<u64>, number: Option<u64>) -> Result<(), AllocError>
+    ensures { OnOk result ((p : ℕ → Bool) → list_any p numbers.new.items
+        ≡ (list_any p numbers.old.items || option_map_or p number false)) }
+{
+    match number {
+        Some(number) => numbers.push(number)?,
+        None => {}
+    }
+    Ok(())
+}
+
+// Equal numbers, each once, among which one is found by halving.
+pub(crate) struct Sorted {
+    items: Vec<u64>,
+}
+
+impl Drop for Sorted {
+    fn drop(self) {
+        let Sorted { items: _ } = self;
+    }
+}
+
+impl Model for Sorted {
+    ghost use Rattle.std.specs.Prelude.{List, ℕ, ◌<◌};
+    ghost use Rattle.std.specs.List.{AllPairs};
+
+    ghost Value = { List ℕ };
+
+    ghost view = { λ a. a.items.items };
+
+    ghost invariant = { λ a. AllPairs (λ m n. m < n) a.items.items };
+}
+
+impl Sorted {
+    // The numbers, sorted.
+    pub(crate) fn of(alloc: Global, numbers: &[u64]) -> Result<Sorted, AllocError>
+        ensures { IfOk result (λ sorted. (p : ℕ → Bool) → list_any p sorted ≡ list_any p numbers.now) }
+    {
+        let mut items = Vec::with_capacity(alloc, numbers.len())?;
+        items.extend_from_slice(numbers)?;
+        sort_once(&mut items);
+        Ok(Sorted { items })
+    }
+
+    // The numbers, in order.
+    pub(crate) fn as_slice(&self) -> &[u64]
+        ensures { result.now ≡ self.now }
+    {
+        &self.items
+    }
+
+    // Whether the number is one of them, by halving.
+    pub(crate) fn has(&self, number: u64) -> bool
+        ensures { result ≡ list_any (λ n. n == number) self.now }
+    {
+        self.items.binary_search(&number).is_ok()
+    }
+}
 
 /// Numbers of listeners, or tags, in rising order.
 pub struct Numbers {

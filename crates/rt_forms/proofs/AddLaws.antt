@@ -48,26 +48,27 @@ append_key : (d : Path) (k : Key) (p : Path) → d ++ (k ∷ p) ≡ (d ++ k ∷ 
 append_key d k p = sym (append_assoc d (k ∷ []) p)
 
 -- the same where another key is looked for
-module _ (f g : Trees) (k : Key) (x y : Standing) (b c : Trees) (p : Path) (r : Query) (n : ℕ) (a : Adds x b y c p r n)
+module _ (f g : Trees) (k : Key) (x y : Standing) (b c : Trees) (p : Path) (r : Query) (turn : List ℕ → List ℕ)
+    (turns : (q : Query) (s : Path) → seen q s y c ≡ cond (same_path s p && alike q r) (turn (seen q s x b)) (seen q s x b))
     (was : (q : Query) (s : Path) → seen_in q k s f ≡ seen q s x b) (now : (j : Key) → child_in j g ≡ cond (key_eq k j) (Some (y, c)) (child_in j f)) where
-  pub numbers_in : (q : Query) (j : Key) (s : Path) → seen_in q j s g ≡ cond (same_path (j ∷ s) (k ∷ p) && alike q r) (with_number n (seen_in q j s f)) (seen_in q j s f)
+  pub numbers_in : (q : Query) (j : Key) (s : Path) → seen_in q j s g ≡ cond (same_path (j ∷ s) (k ∷ p) && alike q r) (turn (seen_in q j s f)) (seen_in q j s f)
   numbers_in q j s =
       ap (λ o. option_map_or (λ (e : Standing × Trees). seen q s e.0 e.1) o []) (now j)
       ∙ elim (key_eq k j) as (λ t. key_eq k j ≡ t → option_map_or (λ (e : Standing × Trees). seen q s e.0 e.1) (cond t (Some (y, c)) (child_in j f)) []
-      ≡ cond (key_eq j k && same_path s p && alike q r) (with_number n (seen_in q j s f)) (seen_in q j s f)) [
+      ≡ cond (key_eq j k && same_path s p && alike q r) (turn (seen_in q j s f)) (seen_in q j s f)) [
         | true ↦ λ e.
             let same : k ≡ j = key_eq-is k j e in
-            a.numbers q s
-            ∙ ap (λ z. cond (same_path s p && alike q r) (with_number n z) z) (sym (was q s) ∙ ap (λ i. seen_in q i s f) same)
-            ∙ ap (λ t. cond (t && same_path s p && alike q r) (with_number n (seen_in q j s f)) (seen_in q j s f)) (sym (key_eq-symm j k ∙ e))
-        | false ↦ λ e. ap (λ t. cond (t && same_path s p && alike q r) (with_number n (seen_in q j s f)) (seen_in q j s f)) (sym (key_eq-symm j k ∙ e))
+            turns q s
+            ∙ ap (λ z. cond (same_path s p && alike q r) (turn z) z) (sym (was q s) ∙ ap (λ i. seen_in q i s f) same)
+            ∙ ap (λ t. cond (t && same_path s p && alike q r) (turn (seen_in q j s f)) (seen_in q j s f)) (sym (key_eq-symm j k ∙ e))
+        | false ↦ λ e. ap (λ t. cond (t && same_path s p && alike q r) (turn (seen_in q j s f)) (seen_in q j s f)) (sym (key_eq-symm j k ∙ e))
       ] refl
 
 -- by a node that is new
 pub adds_planted : (m : ℕ) (k : Key) (x : Standing) (b f : Trees) (o p' q' : Option ℕ) (p : Path) (r : Query) (n : ℕ) → Sound f → spot_in k o f ≡ Gap p' q'
     → Adds empty bare x b p r n → AddsIn f (planted m k x b f) k p r n
 adds_planted m k x b f o p' q' p r n sound spot a = record {
-  numbers = numbers_in f (planted m k x b f) k empty x bare b p r n a was (child_planted m k x b f o p' q' sound spot);
+  numbers = numbers_in f (planted m k x b f) k empty x bare b p r (with_number n) a.numbers was (child_planted m k x b f o p' q' sound spot);
   sum = let e = total_planted m k x b f o p' q' spot in let c = a.count in omega (arith, e, c);
   good = λ d at h.
       let path : r.path ≡ (d ++ k ∷ []) ++ p = at ∙ append_key d k p in
@@ -84,7 +85,7 @@ adds_planted m k x b f o p' q' p r n sound spot a = record {
 pub adds_with_below : (m : ℕ) (k : Key) (x y : Standing) (b c f : Trees) (p : Path) (r : Query) (n : ℕ) → index_in k f ≡ Some m → ((i : ℕ) → times i f ≤ 1)
     → child_in k f ≡ Some (x, b) → Adds x b y c p r n → AddsIn f (with_below m y c f) k p r n
 adds_with_below m k x y b c f p r n there once child a = record {
-  numbers = numbers_in f (with_below m y c f) k x y b c p r n a was (child_with_below k m y c f there once);
+  numbers = numbers_in f (with_below m y c f) k x y b c p r (with_number n) a.numbers was (child_with_below k m y c f there once);
   sum =
       let e = total_with_below k m y c f there once in
       let g : option_map_or (λ (z : Standing × Trees). (z.0).count) (child_in k f) 0 ≡ x.count = ap (λ o. option_map_or (λ (z : Standing × Trees). (z.0).count) o 0) child in

@@ -1,7 +1,11 @@
 pub mod AddLaws
+pub mod EndLaws
 pub mod FormLaws
+pub mod LeaveLaws
+pub mod LessLaws
 pub mod ListLaws
 pub mod NodeLaws
 pub mod NumberLaws
 pub mod RowLaws
+pub mod TakeLaws
 pub mod ViewLaws

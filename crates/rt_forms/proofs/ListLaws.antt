@@ -14,7 +14,7 @@ use Rattle.rt_forms.specs.inside.Trees.{Standing, among, own, of_filtered, AreAt
 use Rattle.rt_forms.specs.inside.Lists.{entry_at, joined}
 use Rattle.rt_forms.proofs.NumberLaws.{length_with}
 
-abbrev Entries : Type 0
+abbrev pub Entries : Type 0
 Entries = List (Query × List ℕ)
 
 pub own_eq : (q : Query) → query_eq q q ≡ true

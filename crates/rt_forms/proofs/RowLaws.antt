@@ -34,7 +34,7 @@ differs j k r order not_equal = sym (tests_alike j k) ∙ ap is_eq order ∙ not
 pub equals : (j k : Key) → key_cmp j k ≡ Equal → key_eq j k ≡ true
 equals j k order = sym (tests_alike j k) ∙ ap is_eq order
 
-abbrev Child : Type 0
+abbrev pub Child : Type 0
 Child = Standing × Trees
 
 -- ---- a key that is looked for
@@ -115,7 +115,7 @@ twice : (c : Bool) (x y z : Option Child) → cond c x z ≡ cond c x (cond c y 
 twice true x y z = refl
 twice false x y z = refl
 
-past : (c d : Bool) (x y z : Option Child) → (c ≡ true → d ≡ false) → cond d x (cond c y z) ≡ cond c y (cond d x z)
+pub past : (c d : Bool) (x y z : Option Child) → (c ≡ true → d ≡ false) → cond d x (cond c y z) ≡ cond c y (cond d x z)
 past true d x y z apart = ap (λ e. cond e x y) (apart refl)
 past false d x y z apart = refl
 

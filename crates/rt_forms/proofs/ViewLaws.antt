@@ -103,7 +103,7 @@ module _ (s : Nodes) (q : Query) where
 
 -- ---- the steps of `numbers`
 module _ (a : Forms) (h : IsForms a) (q : Query) (k : Key) (p : Path) (goes : q.path ≡ k ∷ p) where
-  at_path : numbers a q ≡ seen_in q k p (row_at a.nodes a.first)
+  pub at_path : numbers a q ≡ seen_in q k p (row_at a.nodes a.first)
   at_path = ap (λ x. seen q x a.top (row_at a.nodes a.first)) goes
 
   found : option_map_or (at_node a.nodes q) (place_in k p (row_at a.nodes a.first)) [] ≡ numbers a q

@@ -1,12 +1,13 @@
 // The tree of forms.
-ghost use Rattle.std.specs.Prelude.{◌≡◌, ◌<◌, ◌+◌, ◌^◌, ◌==◌, [], ℕ, Bool, false, length, if◌then◌else◌};
+ghost use Rattle.std.specs.Prelude.{◌≡◌, ◌<◌, ◌+◌, ◌^◌, ◌==◌, [], ℕ, Bool, true, false, length, if◌then◌else◌};
 ghost use Rattle.std.specs.Prelude.{OnOk, OnErr};
 ghost use Rattle.std.specs.List.{list_any};
 ghost use Rattle.rt_query.specs.Queries.{Query as QueryValue};
-ghost use Rattle.rt_forms.specs.Numbers.{with_number};
+ghost use Rattle.rt_forms.specs.Numbers.{with_number, without_number};
 ghost use Rattle.rt_forms.specs.Forms.{numbers, count, share_form, IsAsBefore};
 
 use crate::adding::add_row;
+use crate::removing::remove_row;
 use crate::standing::Standing;
 use rt_links::{Linked, Siblings};
 use rt_query::Query;
@@ -123,5 +124,30 @@ impl Forms {
             }
         }
         Ok(())
+    }
+
+    /// Ends the listener of a query's form that has this number. A path at and under which no
+    /// listener is left goes.
+    ///
+    /// Costs as [`Forms::add`] does, and takes no memory.
+    pub fn remove(&mut self, number: u64, query: &Query)
+        requires there { list_any (λ m. m == number) (numbers self.old query.now) ≡ true }
+        ensures numbers { (other : QueryValue) → numbers self.new other
+            ≡ (if share_form other query.now then without_number number (numbers self.old other)
+            else numbers self.old other) }
+        ensures count { count self.new + 1 ≡ count self.old }
+    {
+        match query.path().keys().split_first() {
+            None => self.top.remove(number, query),
+            Some((key, rest)) => {
+                let row = Siblings {
+                    parent: None,
+                    first: self.first,
+                };
+                let alloc = self.top.alloc();
+                self.first = remove_row(&mut self.nodes, alloc, row, key, rest, number, query);
+                self.top.fall();
+            }
+        }
     }
 }

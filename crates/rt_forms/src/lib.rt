@@ -9,6 +9,7 @@ mod adding;
 mod forms;
 mod growing;
 mod numbers;
+mod removing;
 mod standing;
 
 pub use forms::Forms;

@@ -88,7 +88,9 @@ impl Numbers {
 
     // Takes one out.
     pub(crate) fn remove(&mut self, number: u64)
-        ensures { self.new ≡ without_number number self.old }
+        ensures numbers { self.new ≡ without_number number self.old }
+        ensures less { list_any (λ m. m == number) self.old ≡ true
+            → length self.new + 1 ≡ length self.old }
     {
         self.items.retain(|other| *other != number);
     }

@@ -4,9 +4,9 @@ ghost use Rattle.std.specs.Prelude.{is_some};
 ghost use Rattle.std.specs.List.{list_any, position};
 ghost use Rattle.rt_query.specs.Queries.{is_filtered};
 ghost use Rattle.rt_query.specs.QueryEq.{query_eq};
-ghost use Rattle.rt_forms.specs.Numbers.{with_number};
-ghost use Rattle.rt_forms.specs.inside.Trees.{among, own, Gained, passed, empty};
-ghost use Rattle.rt_forms.specs.inside.Lists.{joined};
+ghost use Rattle.rt_forms.specs.Numbers.{with_number, without_number};
+ghost use Rattle.rt_forms.specs.inside.Trees.{among, own, Gained, Ends, passed, empty};
+ghost use Rattle.rt_forms.specs.inside.Lists.{joined, parted};
 
 use crate::numbers::Numbers;
 use rt_query::Query;
@@ -124,6 +124,29 @@ fn join(
     }
 }
 
+// Takes a listener out of those of a form.
+fn leave_entry(entry: &mut Filtered, number: u64)
+    ensures entry { entry.new ≡ (entry.old.0, without_number number entry.old.1) }
+    ensures less { list_any (λ m. m == number) entry.old.1 ≡ true
+        → length entry.new.1 + 1 ≡ length entry.old.1 }
+{
+    entry.numbers.remove(number);
+}
+
+// Takes a listener out of those of a filtered form, and the form where none is left.
+fn leave(filtered: &mut Vec<Filtered>, number: u64, query: &Query)
+    requires { list_any (λ m. m == number) (among query.now filtered.old.items) ≡ true }
+    ensures items { filtered.new.items ≡ parted query.now number filtered.old.items }
+    ensures less { length (without_number number (among query.now filtered.old.items)) + 1
+        ≡ length (among query.now filtered.old.items) }
+{
+    let Some(at) = place_of(filtered, query) else {
+        return;
+    };
+    leave_entry(&mut filtered[at], number);
+    filtered.retain(|entry| !entry.numbers.is_empty());
+}
+
 impl Standing {
     // Nothing is registered.
     pub(crate) fn new(alloc: Global) -> Standing
@@ -210,6 +233,54 @@ impl Standing {
             self.add_filtered(alloc, number, query)
         } else {
             self.add_plain(number, query)
+        }
+    }
+
+    // The allocator of its lists.
+    pub(crate) fn alloc(&self) -> Global {
+        *self.filtered.allocator()
+    }
+
+    // Counts a listener less under the path.
+    pub(crate) fn fall(&mut self)
+        requires { 0 < self.old.count }
+        ensures { self.old ≡ passed self.new }
+    {
+        self.count -= 1;
+    }
+
+    // Ends a listener of a filtered form.
+    fn remove_filtered(&mut self, number: u64, query: &Query)
+        requires filtered { is_filtered query.now ≡ true }
+        requires there { list_any (λ m. m == number) (own query.now self.old) ≡ true }
+        requires some { 0 < self.old.count }
+        ensures { Ends self.old self.new query.now number }
+    {
+        leave(&mut self.filtered, number, query);
+        self.count -= 1;
+    }
+
+    // Ends a listener of a plain form.
+    fn remove_plain(&mut self, number: u64, query: &Query)
+        requires plain { is_filtered query.now ≡ false }
+        requires there { list_any (λ m. m == number) (own query.now self.old) ≡ true }
+        requires some { 0 < self.old.count }
+        ensures { Ends self.old self.new query.now number }
+    {
+        self.plain.remove(number);
+        self.count -= 1;
+    }
+
+    // Ends a listener of a query's form.
+    pub(crate) fn remove(&mut self, number: u64, query: &Query)
+        requires there { list_any (λ m. m == number) (own query.now self.old) ≡ true }
+        requires some { 0 < self.old.count }
+        ensures { Ends self.old self.new query.now number }
+    {
+        if query.is_filtered() {
+            self.remove_filtered(number, query);
+        } else {
+            self.remove_plain(number, query);
         }
     }
 }

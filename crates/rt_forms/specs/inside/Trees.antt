@@ -1,5 +1,6 @@
 -- The nodes of a tree of forms.
-use Rattle.std.specs.Prelude.{◌≡◌, ◌≢◌, ◌<◌, ◌+◌, ◌^◌, ◌&&◌, ◌==◌, ℕ, Bool, true, false, cond, not, List, [], ◌∷◌, ◌++◌, length}
+use Rattle.std.specs.Prelude.{◌≡◌, ◌≢◌, ◌<◌, ◌+◌, ◌^◌, ◌&&◌, ◌==◌, ℕ, Bool, true, false, cond, not, nat_eq, nat_lt}
+use Rattle.std.specs.Prelude.{List, [], ◌∷◌, ◌++◌, length}
 use Rattle.std.specs.Prelude.{Option, Some, None}
 use Rattle.std.specs.List.{list_any}
 use Rattle.std.specs.Option.{option_map_or}
@@ -10,7 +11,7 @@ use Rattle.rt_query.specs.QueryEq.{query_eq}
 use Rattle.rt_links.specs.Forest.{Forest, bare, node, IsRow, row_at}
 use Rattle.rt_links.specs.Changes.{Changed, with_content}
 use Rattle.rt_links.specs.declared.slot.Slot.{Slot}
-use Rattle.rt_forms.specs.Numbers.{with_number}
+use Rattle.rt_forms.specs.Numbers.{with_number, without_number}
 
 -- what is registered at a path: the numbers of the plain form's listeners, the filtered forms with those
 -- of theirs, and how many listeners there are at and under it
@@ -164,3 +165,65 @@ MayPass s n = (slot : Slot Standing) × (get s n ≡ Some slot) × (slot.value.c
 abbrev pub Passes : Nodes → Nodes → ℕ → Option ℕ → Type 0
 Passes old new n o = (slot : Slot Standing) × (get old n ≡ Some slot)
     × (get new n ≡ Some (with_content (passed slot.value) o slot)) × AllOthers old new n
+
+-- ---- a listener less
+
+-- a query's form lost a listener at a node
+pub record Lost (x y : Standing) (r : Query) (n : ℕ) : Type 0 where
+  pub numbers : (q : Query) → own q y ≡ cond (alike q r) (without_number n (own q x)) (own q x)
+  pub holds : held y + 1 ≡ held x
+  pub count : y.count + 1 ≡ x.count
+  pub at : (p : Path) → AreAt p x.filtered → AreAt p y.filtered
+
+-- the same, whatever the node's path
+pub record Ends (x y : Standing) (r : Query) (n : ℕ) : Type 0 where
+  pub by_path : (p : Path) → AreAt p x.filtered → Lost x y r n
+
+-- at a path below a node
+pub record Takes (x : Standing) (b : Trees) (y : Standing) (c : Trees) (p : Path) (r : Query)
+    (n : ℕ) : Type 0 where
+  pub numbers : (q : Query) (s : Path) → seen q s y c
+      ≡ cond (same_path s p && alike q r) (without_number n (seen q s x b)) (seen q s x b)
+  pub count : y.count + 1 ≡ x.count
+  pub standing : (d : Path) → IsStanding d x b → Good d b → IsStanding d y c
+  pub good : (d : Path) → Good d b → Good d c
+
+-- at a path below a row
+pub record TakesIn (b c : Trees) (k : Key) (p : Path) (r : Query) (n : ℕ) : Type 0 where
+  pub numbers : (q : Query) (j : Key) (s : Path) → seen_in q j s c
+      ≡ cond (same_path (j ∷ s) (k ∷ p) && alike q r) (without_number n (seen_in q j s b)) (seen_in q j s b)
+  pub sum : total c + 1 ≡ total b
+  pub good : (d : Path) → Good d b → Good d c
+
+-- the row without one of its siblings, with all below it, where no listener is left there
+abbrev pub pruned : ℕ → Trees → Trees
+pruned k bare = bare
+pruned k (node n key x below behind) = cond (nat_eq k n)
+    (cond (nat_lt 0 x.count) (node n key x below behind) behind)
+    (node n key x below (pruned k behind))
+
+-- a row became one with a listener less
+pub record IsTaken (old new : Nodes) (o r parent : Option ℕ) (k : Key) (p : Path) (q : Query)
+    (n : ℕ) : Type 0 where
+  pub row : IsRow new r parent None (row_at new r)
+  pub changed : Changed old new (row_at old o) (row_at new r)
+  pub takes : TakesIn (row_at old o) (row_at new r) k p q n
+
+-- the node is there, and a listener of the query's form has the number at it
+abbrev pub HasAt : Nodes → ℕ → ℕ → Query → Type 0
+HasAt s n number q = (slot : Slot Standing) × (get s n ≡ Some slot)
+    × (list_any (λ m. m == number) (own q slot.value) ≡ true) × (0 < slot.value.count)
+
+-- and doesn't any more
+abbrev pub Loses : Nodes → Nodes → ℕ → Query → ℕ → Type 0
+Loses old new n q number = (slot : Slot Standing) × (y : Standing) × (get old n ≡ Some slot)
+    × Ends slot.value y q number × (get new n ≡ Some (with_content y slot.first_child slot)) × AllOthers old new n
+
+-- the node is there, and counts a listener
+abbrev pub MayLeave : Nodes → ℕ → Type 0
+MayLeave s n = (slot : Slot Standing) × (get s n ≡ Some slot) × (0 < slot.value.count)
+
+-- and counts one less, with another first child
+abbrev pub Leaves : Nodes → Nodes → ℕ → Option ℕ → Type 0
+Leaves old new n o = (slot : Slot Standing) × (y : Standing) × (get old n ≡ Some slot)
+    × (slot.value ≡ passed y) × (get new n ≡ Some (with_content y o slot)) × AllOthers old new n

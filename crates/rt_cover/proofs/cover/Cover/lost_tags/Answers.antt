@@ -1,7 +1,8 @@
-use Rattle.std.proofs.Common.{◌==◌, List, ℕ, subst, ◌∙◌}
+use Rattle.std.proofs.Common.{◌==◌, List, ℕ, ap, subst, ◌∙◌}
 use Rattle.std.specs.List.{list_any}
 use Rattle.rt_cover.specs.Cover.{Registered}
 use Rattle.rt_cover.specs.State.{Cover}
+use Rattle.rt_cover.specs.inside.Endings.{is_lost_by}
 use Rattle.rt_cover.specs.inside.Sound.{IsSound}
 use Rattle.rt_cover.proofs.ChangeLaws.{lost_by_numbers}
 use Rattle.rt_cover.proofs.ChangeLaws as laws
@@ -13,4 +14,5 @@ returns c =
     let sound : IsSound old = subst IsSound c.self.view_is c.self.invariant in
     let ns : List ℕ = c.args.numbers.now in
     laws.lost_tags old sound (λ (l : Registered). list_any (λ n. n == l.0) ns) c.sort_once.new.numbers.items c.sort_once.ensures.rise
-    (λ p. c.sort_once.ensures.same p ∙ c.in_ok-tags.ensures p ∙ lost_by_numbers old sound ns p)
+    (λ p. c.sort_once.ensures.same p ∙ c.in_ok-tags.ensures p
+    ∙ ap (list_any (λ n. list_any (is_lost_by (λ (l : Registered). list_any (λ m. m == l.0) ns) old.listeners p n) old.kept)) c.as_slice.ensures ∙ lost_by_numbers old sound ns p)

@@ -3,7 +3,7 @@ use Rattle.std.specs.List.Sorted.{IsSorted}
 use Rattle.std.specs.Vec.{vec_capacity, vec_len}
 use Rattle.std.specs.Vec.Iter.{into_iter_items, into_iter_len}
 use Rattle.rt_cover.specs.inside.Index.{by_form, SameCounts, form_of}
-use Rattle.rt_cover.proofs.listens.place_all.Given as goal
+use Rattle.rt_cover.proofs.listens.place_each.Given as goal
 
 -- there is room for what is left; what is there is in order
 abbrev pub invariant-loop-listen : goal.invariant-loop-listen

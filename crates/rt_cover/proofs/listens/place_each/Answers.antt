@@ -3,7 +3,7 @@ use Rattle.std.specs.Vec.Iter.{into_iter_items}
 use Rattle.rt_cover.specs.Cover.{Tagged}
 use Rattle.rt_cover.specs.inside.Index.{SameCounts}
 use Rattle.rt_cover.proofs.CountLaws.{same_append, same_trans}
-use Rattle.rt_cover.proofs.listens.place_all.Goals as goal
+use Rattle.rt_cover.proofs.listens.place_each.Goals as goal
 
 nothing_left : {X : Type 0} (xs : List X) → length xs ≡ 0 → xs ≡ []
 nothing_left [] e = refl

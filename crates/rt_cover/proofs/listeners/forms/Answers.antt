@@ -6,8 +6,8 @@ use Rattle.rt_cover.specs.inside.Index.{SameCounts}
 use Rattle.rt_cover.proofs.StartLaws.{is_seen}
 use Rattle.rt_cover.proofs.ByPathLaws.{forms_by_firsts, formed_takes, formed_leaves}
 use Rattle.rt_cover.proofs.CountLaws.{same_any}
-use Rattle.rt_cover.proofs.forms.forms.Goals as goal
-use Rattle.rt_cover.proofs.forms.forms.Goals.{then-not-is_seen+in_ok-copy+in_ok-push, else-not-is_seen}
+use Rattle.rt_cover.proofs.listeners.forms.Goals as goal
+use Rattle.rt_cover.proofs.listeners.forms.Goals.{then-not-is_seen+in_ok-copy+in_ok-push, else-not-is_seen}
 
 pub loop-listener-init : goal.loop-listener-init
 loop-listener-init c = (λ i. c.new-forms.ensures.items i ++ forms_by_firsts c.as_slice-by_number.result.now

@@ -7,7 +7,7 @@ use Rattle.std.proofs.lemmas.List.Sorted.{list_any-IsPermutation}
 use Rattle.std.proofs.lemmas.Map.Keys.{IsStrictlyIncreasing-dedup}
 use Rattle.rt_cover.specs.laws.FormLaws.{same_tests}
 use Rattle.rt_cover.proofs.StartLaws.{list_any_with}
-use Rattle.rt_cover.proofs.rising.sort_once.Goals as goal
+use Rattle.rt_cover.proofs.numbers.sort_once.Goals as goal
 
 once_same : (xs : List ℕ) (p : ℕ → Bool) → list_any p (dedup eqb xs) ≡ list_any p xs
 once_same xs p = same_tests (list_any p (dedup eqb xs)) (list_any p xs)
