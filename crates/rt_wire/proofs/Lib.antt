@@ -4,6 +4,8 @@ pub mod FieldsBack
 pub mod EntriesBack
 pub mod ServerBack
 pub mod QueryItems
+pub mod Lent
+pub mod Putting
 pub mod QueryMembers
 pub mod Floats
 pub mod QueryBack

@@ -1,33 +1,35 @@
--- The members of `q` that are put one after another stand in the order of the bytes of their names.
-use Rattle.std.proofs.Common.{◌≡◌, Option, Some, None, refl}
-use Rattle.std.specs.Prelude.{codes}
-use Rattle.std.specs.Option.{option_map}
-use Rattle.serde_json.specs.Data.{Members, no_members, put}
-use Rattle.serde_json.specs.Data as json
+-- The members of `q`, and of a listen, are written in the order of the bytes of their names.
+use Rattle.std.proofs.Common.{◌≡◌, Bool, true, false, [], ◌∷◌, ◌++◌, List, Option, Some, None, refl}
+use Rattle.std.specs.Prelude.{codes, if◌then◌else◌}
+use Rattle.serde_json.specs.Data.{Data, no_members}
 use Rattle.rt_order.specs.declared.index.Index.{Index}
 use Rattle.rt_order.specs.declared.cut.Cut.{Cut}
 use Rattle.rt_query.specs.declared.limit.Limit.{Limit}
-use Rattle.rt_query.specs.Queries.{Query}
-use Rattle.rt_tree.specs.PathTree.{Path}
-use Rattle.rt_wire.specs.QueryData.{index_data, cut_data, limit_data, query_data}
-use Rattle.rt_wire.specs.inside.QueryMembers.{with_member_if}
+use Rattle.rt_wire.specs.FieldData.{Field, members_of}
+use Rattle.rt_wire.specs.QueryData.{index_data, cut_data, limit_data, field_if}
+use Rattle.rt_wire.proofs.Putting.{put_all}
 
--- the members, in the order in which they are put
-abbrev pub put_members : Option Limit → Option Cut → Index → Option Cut → Members
-put_members limit lower index upper =
-    with_member_if (codes "upper") (option_map cut_data upper) (put (codes "order") (index_data index)
-    (with_member_if (codes "lower") (option_map cut_data lower) (with_member_if (codes "limit") (option_map limit_data limit) no_members)))
+-- the members of `q`
+abbrev pub fields_of : Option Limit → Option Cut → Index → Option Cut → List Field
+fields_of limit lower index upper =
+    field_if limit_data (codes "limit") limit
+    ++ (field_if cut_data (codes "lower") lower ++ ((codes "order", index_data index) ∷ field_if cut_data (codes "upper") upper))
 
-of_parts : (p : Path) (index : Index) (limit : Option Limit) (lower upper : Option Cut)
-    → query_data (record { path = p; index = index; range = record { lower = lower; upper = upper }; limit = limit }) ≡ json.object (put_members limit lower index upper)
-of_parts p index None None None = refl
-of_parts p index None None (Some u) = refl
-of_parts p index None (Some l) None = refl
-of_parts p index None (Some l) (Some u) = refl
-of_parts p index (Some n) None None = refl
-of_parts p index (Some n) None (Some u) = refl
-of_parts p index (Some n) (Some l) None = refl
-of_parts p index (Some n) (Some l) (Some u) = refl
+pub fields_in_order : (limit : Option Limit) (lower : Option Cut) (index : Index) (upper : Option Cut) → put_all no_members (fields_of limit lower index upper) ≡ members_of (fields_of limit lower index upper)
+fields_in_order None None index None = refl
+fields_in_order None None index (Some u) = refl
+fields_in_order None (Some l) index None = refl
+fields_in_order None (Some l) index (Some u) = refl
+fields_in_order (Some n) None index None = refl
+fields_in_order (Some n) None index (Some u) = refl
+fields_in_order (Some n) (Some l) index None = refl
+fields_in_order (Some n) (Some l) index (Some u) = refl
 
-pub members_in_order : (q : Query) → query_data q ≡ json.object (put_members q.limit q.range.lower q.index q.range.upper)
-members_in_order q = of_parts q.path q.index q.limit q.range.lower q.range.upper
+-- the members of a listen, with `q` or without it
+abbrev pub listen_fields : Bool → Data → Data → Data → Data → List Field
+listen_fields filtered name path q tag =
+    (codes "k", name) ∷ (codes "path", path) ∷ ((if filtered then (codes "q", q) ∷ [] else []) ++ (codes "tag", tag) ∷ [])
+
+pub listen_in_order : (filtered : Bool) (name path q tag : Data) → put_all no_members (listen_fields filtered name path q tag) ≡ members_of (listen_fields filtered name path q tag)
+listen_in_order true name path q tag = refl
+listen_in_order false name path q tag = refl

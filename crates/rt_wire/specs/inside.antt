@@ -3,4 +3,4 @@ pub mod Standing
 pub mod StandingServer
 pub mod StandingClient
 pub mod Made
-pub mod QueryMembers
+pub mod Writing

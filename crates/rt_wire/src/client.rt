@@ -1,5 +1,7 @@
 // What the client sends.
-ghost use Rattle.std.specs.Prelude.{◌≡◌, ◌⊎◌, codes, IfOk, IfErr, Ok, Err, Some, None, string_bytes};
+ghost use Rattle.std.specs.Prelude.{◌≡◌, ◌⊎◌, [], true, codes, IfOk, IfErr, OnOk, Ok, Err, Some, None};
+ghost use Rattle.std.specs.Prelude.{string_bytes};
+ghost use Rattle.rt_query.specs.Queries.{is_filtered};
 ghost use Rattle.serde_json.specs.Find.{get};
 ghost use Rattle.serde_json.specs.View.{view};
 ghost use Rattle.serde_json.specs.Written.{compact_text};
@@ -10,18 +12,29 @@ ghost use Rattle.rt_wire.specs.Client.{od_merge_message, od_cancel_message};
 ghost use Rattle.rt_wire.specs.ClientData.{client_data, listen_data, action_data};
 ghost use Rattle.rt_wire.specs.ReadBack.{IsClientMessage, IsClientText};
 ghost use Rattle.rt_wire.specs.inside.StandingClient.{IsStandingListen, IsStandingAction};
-ghost use Rattle.rt_wire.specs.inside.StandingClient.{IsStandingRequest};
+ghost use Rattle.rt_wire.specs.inside.Standing.{IsStandingPath};
+ghost use Rattle.rt_wire.specs.inside.StandingClient.{IsStandingRequest, IsStandingQuery};
+ghost use Rattle.rt_wire.specs.inside.Writing.{PutsValue, PutsFields};
+ghost use Rattle.rt_wire.specs.QueryData.{query_field};
+ghost use Rattle.rt_wire.specs.declared.request.Action.TheVariants.{Put, Merge};
+ghost use Rattle.rt_wire.specs.declared.request.Ending.TheVariants.{Cancel};
+ghost use Rattle.rt_wire.specs.declared.request.Asked.TheVariants.{AtDisconnect};
+ghost use Rattle.rt_wire.specs.declared.client.ClientMessage.TheVariants.{Unlisten, Ask};
 
 use crate::entries::entries;
 use crate::error::WireError;
 use crate::field::{json_value, kind, member, number, path, tree};
 use crate::query::query;
-use crate::query_json::query_value;
+use crate::query_json::write_query;
 use crate::request::{Action, Asked, Ending};
-use crate::value::{entries_value, path_value, tree_value};
+use crate::writing::{
+    new_writer, text_of, write_entries, write_number, write_path, write_text, write_tree,
+};
+use json::Writer;
 use rt_query::Query;
-use rt_tree::Path;
-use serde_json::{Value, json};
+use rt_tree::{Path, Tree};
+use rt_writes::Entries;
+use serde_json::Value;
 use std::alloc::{AllocError, Global};
 
 /// A message of the client.
@@ -154,26 +167,24 @@ impl ClientMessage {
         ensures reads_back { IfOk result (λ text. IsClientMessage self.now
             → IsClientText self.now (string_bytes text)) }
     {
-        let value = self.to_value(alloc)?;
-        value.to_string(alloc)
+        let mut out = new_writer(alloc)?;
+        self.write(alloc, &mut out)?;
+        Ok(text_of(out))
     }
 
-    fn to_value(&self, alloc: Global) -> Result<Value, AllocError>
-        ensures value { IfOk result (λ value. view value ≡ client_data self.now) }
-        ensures standing { IfOk result (λ _. IsStandingRequest self.now) }
+    fn write(&self, alloc: Global, out: &mut Writer) -> Result<(), AllocError>
+        ensures put { OnOk result (PutsValue (client_data self.now) out.old out.new) }
+        ensures standing { OnOk result (IsStandingRequest self.now) }
     {
         match self {
-            ClientMessage::Listen { tag, query } => listen_value(alloc, *tag, query),
-            ClientMessage::Unlisten { tag } => json!(in alloc; {"k": "unlisten", "tag": *tag}),
+            ClientMessage::Listen { tag, query } => write_listen(out, *tag, query),
+            ClientMessage::Unlisten { tag } => write_unlisten(out, *tag),
             ClientMessage::Ask { id, asked } => match asked {
-                Asked::Now(action) => action_value(alloc, *id, "put", "merge", action),
+                Asked::Now(action) => write_action(alloc, out, *id, "put", "merge", action),
                 Asked::AtDisconnect(Ending::Run(action)) => {
-                    action_value(alloc, *id, "od-put", "od-merge", action)
+                    write_action(alloc, out, *id, "od-put", "od-merge", action)
                 }
-                Asked::AtDisconnect(Ending::Cancel(path)) => {
-                    let path = path_value(path)?;
-                    json!(in alloc; {"id": *id, "k": "od-cancel", "path": path})
-                }
+                Asked::AtDisconnect(Ending::Cancel(path)) => write_cancel(out, *id, path),
             },
         }
     }
@@ -212,38 +223,105 @@ fn merge_action(alloc: Global, message: &Value) -> Result<Action, WireError>
     Ok(Action::Merge { entries })
 }
 
-fn listen_value(alloc: Global, tag: u64, query: &Query) -> Result<Value, AllocError>
-    ensures value { IfOk result (λ value. view value ≡ listen_data tag query.now) }
-    ensures standing { IfOk result (λ _. IsStandingListen query.now) }
+// The member `q`, where the query is filtered.
+fn write_q(out: &mut Writer, query: &Query) -> Result<(), AllocError>
+    ensures put { OnOk result (PutsFields (query_field query.now) out.old out.new) }
+    ensures standing { OnOk result (is_filtered query.now ≡ true → IsStandingQuery query.now) }
 {
-    let path = path_value(query.path())?;
     if !query.is_filtered() {
-        return json!(in alloc; {"k": "listen", "path": path, "tag": tag});
+        return Ok(());
     }
-    let q = query_value(alloc, query)?;
-    json!(in alloc; {"k": "listen", "path": path, "q": q, "tag": tag})
+    out.key("q")?;
+    write_query(out, query)
+}
+
+fn write_listen(out: &mut Writer, tag: u64, query: &Query) -> Result<(), AllocError>
+    ensures put { OnOk result (PutsValue (listen_data tag query.now) out.old out.new) }
+    ensures standing { OnOk result (IsStandingListen query.now) }
+{
+    out.begin_object()?;
+    write_text(out, "k", "listen")?;
+    write_path(out, query.path())?;
+    write_q(out, query)?;
+    write_number(out, "tag", tag)?;
+    out.end_object()
+}
+
+fn write_unlisten(out: &mut Writer, tag: u64) -> Result<(), AllocError>
+    ensures { OnOk result (PutsValue (client_data (Unlisten tag)) out.old out.new) }
+{
+    out.begin_object()?;
+    write_text(out, "k", "unlisten")?;
+    write_number(out, "tag", tag)?;
+    out.end_object()
+}
+
+fn write_cancel(out: &mut Writer, id: u64, path: &Path) -> Result<(), AllocError>
+    ensures put { OnOk result
+        (PutsValue (client_data (Ask id (AtDisconnect (Cancel path.now)))) out.old out.new) }
+    ensures standing { OnOk result (IsStandingPath path.now) }
+{
+    out.begin_object()?;
+    write_number(out, "id", id)?;
+    write_text(out, "k", "od-cancel")?;
+    write_path(out, path)?;
+    out.end_object()
 }
 
 // A write, by the kind of its set and of its update.
-fn action_value(
+fn write_action(
     alloc: Global,
+    out: &mut Writer,
     id: u64,
     put: &str,
     merge: &str,
     action: &Action,
-) -> Result<Value, AllocError>
-    ensures value { IfOk result (λ value. view value ≡ action_data id put.now merge.now action.now) }
-    ensures standing { IfOk result (λ _. IsStandingAction action.now) }
+) -> Result<(), AllocError>
+    ensures put { OnOk result
+        (PutsValue (action_data id put.now merge.now action.now) out.old out.new) }
+    ensures standing { OnOk result (IsStandingAction action.now) }
 {
     match action {
-        Action::Put { path, tree } => {
-            let path = path_value(path)?;
-            let tree = tree_value(alloc, tree)?;
-            json!(in alloc; {"id": id, "k": put, "path": path, "value": tree})
-        }
-        Action::Merge { entries } => {
-            let entries = entries_value(alloc, entries)?;
-            json!(in alloc; {"entries": entries, "id": id, "k": merge})
-        }
+        Action::Put { path, tree } => write_put(out, id, put, path, tree),
+        Action::Merge { entries } => write_merge(alloc, out, id, merge, entries),
     }
+}
+
+// A set, of that kind.
+fn write_put(
+    out: &mut Writer,
+    id: u64,
+    kind: &str,
+    path: &Path,
+    tree: &Tree,
+) -> Result<(), AllocError>
+    ensures put { OnOk result (PutsValue
+        (action_data id kind.now [] (Put path.now tree.now)) out.old out.new) }
+    ensures standing { OnOk result (IsStandingAction (Put path.now tree.now)) }
+{
+    out.begin_object()?;
+    write_number(out, "id", id)?;
+    write_text(out, "k", kind)?;
+    write_path(out, path)?;
+    write_tree(out, tree)?;
+    out.end_object()
+}
+
+// An update, of that kind.
+fn write_merge(
+    alloc: Global,
+    out: &mut Writer,
+    id: u64,
+    kind: &str,
+    entries: &Entries,
+) -> Result<(), AllocError>
+    ensures put { OnOk result (PutsValue
+        (action_data id [] kind.now (Merge entries.now)) out.old out.new) }
+    ensures standing { OnOk result (IsStandingAction (Merge entries.now)) }
+{
+    out.begin_object()?;
+    write_entries(alloc, out, entries)?;
+    write_number(out, "id", id)?;
+    write_text(out, "k", kind)?;
+    out.end_object()
 }

@@ -22,7 +22,7 @@ mod query_json;
 mod reason;
 mod request;
 mod server;
-mod value;
+mod writing;
 
 pub use client::ClientMessage;
 pub use error::WireError;

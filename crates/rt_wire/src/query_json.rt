@@ -1,134 +1,142 @@
 // The member `q` of a listen, written.
 ghost use Rattle.std.specs.Prelude.{◌≡◌, ◌≤◌, codes, IfOk, OnOk, IfSome, Some, None, option_map};
 ghost use Rattle.std.specs.Prelude.{string_bytes, if◌then◌else◌};
-ghost use Rattle.serde_json.specs.Data.{array, string, item, no_items};
-ghost use Rattle.serde_json.specs.View.{view, members_view};
+ghost use Rattle.serde_json.specs.Data.{array, string, number, unsigned, item, no_items};
 ghost use Rattle.serde_json.specs.Written.{compact_text};
 ghost use Rattle.rt_tree.specs.Key.{IsKey};
 ghost use Rattle.rt_query.specs.Queries.{is_filtered, most_rows};
-ghost use Rattle.rt_wire.specs.QueryData.{index_data, mark_data, cut_data, limit_data, query_data};
-ghost use Rattle.rt_wire.specs.inside.QueryMembers.{with_member_if};
+ghost use Rattle.rt_wire.specs.QueryData.{index_data, mark_data, place_items, cut_data, limit_data};
+ghost use Rattle.rt_wire.specs.QueryData.{field_if, query_data};
 ghost use Rattle.rt_wire.specs.inside.StandingClient.{IsStandingIndex, IsStandingMark};
-ghost use Rattle.rt_wire.specs.inside.StandingClient.{IsStandingCut, IsStandingQuery};
+ghost use Rattle.rt_wire.specs.inside.StandingClient.{IsStandingPlace, IsStandingCut};
+ghost use Rattle.rt_wire.specs.inside.StandingClient.{IsStandingQuery};
+ghost use Rattle.rt_wire.specs.inside.Writing.{PutsValue, PutsItems, PutsField, PutsFields};
 
-use crate::value::path_value;
+use crate::writing::{new_writer, text_of, write_path_text};
+use json::Writer;
 use rt_order::{Cut, Index, Mark, Place};
 use rt_query::{Limit, Query};
-use rt_tree::{Key, LeafRef};
-use serde_json::{Map, Value, json, put};
+use rt_tree::Key;
 use std::alloc::{AllocError, Global};
 
-fn index_value(alloc: Global, index: &Index) -> Result<Value, AllocError>
-    ensures value { IfOk result (λ value. view value ≡ index_data index.now) }
-    ensures standing { IfOk result (λ _. IsStandingIndex index.now) }
+// What the children are ordered by.
+fn write_index(out: &mut Writer, index: &Index) -> Result<(), AllocError>
+    ensures put { OnOk result (PutsValue (index_data index.now) out.old out.new) }
+    ensures standing { OnOk result (IsStandingIndex index.now) }
 {
     match index {
-        Index::Key => Value::try_from_str(alloc, "key"),
-        Index::Child(path) => path_value(path),
-        Index::Value => Value::try_from_str(alloc, "value"),
+        Index::Key => out.string("key"),
+        Index::Child(path) => write_path_text(out, path),
+        Index::Value => out.string("value"),
     }
 }
 
-fn mark_value(alloc: Global, mark: &Mark) -> Result<Value, AllocError>
-    ensures value { IfOk result (λ value. view value ≡ mark_data mark.now) }
-    ensures standing { IfOk result (λ _. IsStandingMark mark.now) }
+fn write_mark(out: &mut Writer, mark: &Mark) -> Result<(), AllocError>
+    ensures put { OnOk result (PutsValue (mark_data mark.now) out.old out.new) }
+    ensures standing { OnOk result (IsStandingMark mark.now) }
 {
     match mark {
-        Mark::Null => Ok(Value::Null),
-        Mark::Leaf(leaf) => match leaf.value() {
-            LeafRef::Truth(value) => Ok(Value::Bool(value)),
-            LeafRef::Number(value) => Ok(Value::from(value)),
-            LeafRef::Text(value) => Value::try_from_str(alloc, value),
-        },
+        Mark::Null => out.null(),
+        Mark::Leaf(leaf) => leaf.write(out),
     }
 }
 
-// A cut that names no key.
-fn edge_value(alloc: Global, value: Value, word: &str) -> Result<Value, AllocError>
-    ensures { IfOk result (λ cut. view cut
-        ≡ array (item (view value) (item (string word.now) no_items))) }
+// What follows the value of a cut next to a key.
+fn write_side(out: &mut Writer, word: &str, key: &Key) -> Result<(), AllocError>
+    ensures put { OnOk result
+        (PutsItems (item (string word.now) (item (string key.now) no_items)) out.old out.new) }
+    ensures key { OnOk result (IsKey key.now) }
 {
-    json!(in alloc; [value, word])
+    out.string(word)?;
+    out.string(key.text())
 }
 
-// A cut next to a key.
-fn key_value(alloc: Global, value: Value, word: &str, key: &Key) -> Result<Value, AllocError>
-    ensures cut { IfOk result (λ cut. view cut
-        ≡ array (item (view value) (item (string word.now) (item (string key.now) no_items)))) }
-    ensures key { IfOk result (λ _. IsKey key.now) }
+// What follows a cut's value.
+fn write_place(out: &mut Writer, place: &Place) -> Result<(), AllocError>
+    ensures put { OnOk result (PutsItems (place_items place.now) out.old out.new) }
+    ensures standing { OnOk result (IsStandingPlace place.now) }
 {
-    json!(in alloc; [value, word, key.text()])
-}
-
-fn cut_value(alloc: Global, cut: &Cut) -> Result<Value, AllocError>
-    ensures value { IfOk result (λ value. view value ≡ cut_data cut.now) }
-    ensures standing { IfOk result (λ _. IsStandingCut cut.now) }
-{
-    let value = mark_value(alloc, &cut.value)?;
-    match &cut.place {
-        Place::Min => edge_value(alloc, value, "min"),
-        Place::Before(key) => key_value(alloc, value, "before", key),
-        Place::After(key) => key_value(alloc, value, "after", key),
-        Place::Max => edge_value(alloc, value, "max"),
+    match place {
+        Place::Min => out.string("min"),
+        Place::Before(key) => write_side(out, "before", key),
+        Place::After(key) => write_side(out, "after", key),
+        Place::Max => out.string("max"),
     }
 }
 
-fn limit_value(alloc: Global, limit: Limit) -> Result<Value, AllocError>
-    ensures { IfOk result (λ value. view value ≡ limit_data limit) }
+fn write_cut(out: &mut Writer, cut: &Cut) -> Result<(), AllocError>
+    ensures put { OnOk result (PutsValue (cut_data cut.now) out.old out.new) }
+    ensures standing { OnOk result (IsStandingCut cut.now) }
 {
-    match limit {
-        Limit::First(n) => json!(in alloc; ["first", n]),
-        Limit::Last(n) => json!(in alloc; ["last", n]),
-    }
+    out.begin_array()?;
+    write_mark(out, &cut.value)?;
+    write_place(out, &cut.place)?;
+    out.end_array()
 }
 
-// Puts a cut that is there.
-fn put_cut(
-    members: &mut Map<String, Value>,
-    alloc: Global,
-    name: &str,
-    cut: &Option<Cut>,
-) -> Result<(), AllocError>
-    ensures put { OnOk result (members_view members.new.entries
-        ≡ with_member_if name.now (option_map cut_data cut.now) (members_view members.old.entries)) }
+// A limit, by its word.
+fn write_rows(out: &mut Writer, word: &str, rows: u32) -> Result<(), AllocError>
+    ensures { OnOk result (PutsValue (array (item (string word.now)
+        (item (number (unsigned rows)) no_items))) out.old out.new) }
+{
+    out.begin_array()?;
+    out.string(word)?;
+    out.u64(u64::from(rows))?;
+    out.end_array()
+}
+
+// The cut of that name, where there is one.
+fn write_bound(out: &mut Writer, name: &str, cut: &Option<Cut>) -> Result<(), AllocError>
+    ensures put { OnOk result (PutsFields (field_if cut_data name.now cut.now) out.old out.new) }
     ensures standing { OnOk result (IfSome cut.now IsStandingCut) }
 {
     match cut {
-        Some(cut) => put(members, alloc, name, cut_value(alloc, cut)?),
+        Some(cut) => {
+            out.key(name)?;
+            write_cut(out, cut)
+        }
         None => Ok(()),
     }
 }
 
-// Puts a limit that is there.
-fn put_limit(
-    members: &mut Map<String, Value>,
-    alloc: Global,
-    limit: Option<Limit>,
-) -> Result<(), AllocError>
-    ensures put { OnOk result (members_view members.new.entries
-        ≡ with_member_if (codes "limit") (option_map limit_data limit)
-        (members_view members.old.entries)) }
+// The limit, where there is one.
+fn write_limit(out: &mut Writer, limit: Option<Limit>) -> Result<(), AllocError>
+    ensures put { OnOk result (PutsFields (field_if limit_data (codes "limit") limit) out.old out.new) }
     ensures few { IfSome limit (λ limit. most_rows limit ≤ 4294967295) }
 {
     match limit {
-        Some(limit) => put(members, alloc, "limit", limit_value(alloc, limit)?),
+        Some(Limit::First(rows)) => {
+            out.key("limit")?;
+            write_rows(out, "first", rows)
+        }
+        Some(Limit::Last(rows)) => {
+            out.key("limit")?;
+            write_rows(out, "last", rows)
+        }
         None => Ok(()),
     }
 }
 
-/// What `q` is for the query.
-#[tactic(auto, using(crate::proofs::QueryMembers::members_in_order))]
-pub(crate) fn query_value(alloc: Global, query: &Query) -> Result<Value, AllocError>
-    ensures value { IfOk result (λ value. view value ≡ query_data query.now) }
-    ensures standing { IfOk result (λ _. IsStandingQuery query.now) }
+// The member `order`.
+fn write_order(out: &mut Writer, index: &Index) -> Result<(), AllocError>
+    ensures put { OnOk result (PutsField (codes "order", index_data index.now) out.old out.new) }
+    ensures standing { OnOk result (IsStandingIndex index.now) }
 {
-    let mut members = Map::new(alloc);
-    put_limit(&mut members, alloc, query.limit())?;
-    put_cut(&mut members, alloc, "lower", &query.range().lower)?;
-    let order = index_value(alloc, query.index())?;
-    put(&mut members, alloc, "order", order)?;
-    put_cut(&mut members, alloc, "upper", &query.range().upper)?;
-    Ok(Value::Object(members))
+    out.key("order")?;
+    write_index(out, index)
+}
+
+/// What `q` is for the query.
+pub(crate) fn write_query(out: &mut Writer, query: &Query) -> Result<(), AllocError>
+    ensures put { OnOk result (PutsValue (query_data query.now) out.old out.new) }
+    ensures standing { OnOk result (IsStandingQuery query.now) }
+{
+    out.begin_object()?;
+    write_limit(out, query.limit())?;
+    write_bound(out, "lower", &query.range().lower)?;
+    write_order(out, query.index())?;
+    write_bound(out, "upper", &query.range().upper)?;
+    out.end_object()
 }
 
 /// The text of a listen's `q` for the query; `None` for one that is not filtered, whose listen has
@@ -140,6 +148,7 @@ pub fn query_text(alloc: Global, query: &Query) -> Result<Option<String>, AllocE
     if !query.is_filtered() {
         return Ok(None);
     }
-    let value = query_value(alloc, query)?;
-    Ok(Some(value.to_string(alloc)?))
+    let mut out = new_writer(alloc)?;
+    write_query(&mut out, query)?;
+    Ok(Some(text_of(out)))
 }

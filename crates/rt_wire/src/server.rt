@@ -1,22 +1,27 @@
 // What the server sends.
-ghost use Rattle.std.specs.Prelude.{◌≡◌, ◌⊎◌, IfOk, IfErr, Ok, Err, string_bytes};
+ghost use Rattle.std.specs.Prelude.{◌≡◌, ◌⊎◌, IfOk, IfErr, OnOk, Ok, Err, string_bytes};
 ghost use Rattle.serde_json.specs.View.{view};
 ghost use Rattle.serde_json.specs.Written.{compact_text};
 ghost use Rattle.rt_wire.specs.ServerData.{server_data};
 ghost use Rattle.rt_wire.specs.ReadBack.{IsServerMessage, IsServerText};
 ghost use Rattle.rt_wire.specs.inside.StandingServer.{IsStandingMessage};
+ghost use Rattle.rt_wire.specs.inside.Writing.{PutsValue};
 ghost use Rattle.rt_wire.specs.Server.{server_message, server_message_in, data_in, data_merge_in};
 ghost use Rattle.rt_wire.specs.Server.{ok_in, no_in, revoke_in};
 ghost use Rattle.rt_wire.specs.declared.server.ServerMessage.TheVariants.{Data as DataMessage, DataMerge};
+ghost use Rattle.rt_wire.specs.declared.server.ServerMessage.TheVariants.{Accepted, Refused, Revoked};
 
 use crate::entries::entries;
 use crate::error::WireError;
 use crate::field::{json_value, kind, member, number, path, reason, tree};
 use crate::reason::Reason;
-use crate::value::{entries_value, path_value, tree_value};
+use crate::writing::{
+    new_writer, text_of, write_entries, write_number, write_path, write_text, write_tree,
+};
+use json::Writer;
 use rt_tree::{Path, Tree};
 use rt_writes::Entries;
-use serde_json::{Value, json};
+use serde_json::Value;
 use std::alloc::{AllocError, Global};
 
 /// A message of the server.
@@ -117,43 +122,81 @@ impl ServerMessage {
         ensures reads_back { IfOk result (λ text. IsServerMessage self.now
             → IsServerText self.now (string_bytes text)) }
     {
-        let value = self.to_value(alloc)?;
-        value.to_string(alloc)
+        let mut out = new_writer(alloc)?;
+        self.write(alloc, &mut out)?;
+        Ok(text_of(out))
     }
 
-    fn to_value(&self, alloc: Global) -> Result<Value, AllocError>
-        ensures value { IfOk result (λ value. view value ≡ server_data self.now) }
-        ensures standing { IfOk result (λ _. IsStandingMessage self.now) }
+    fn write(&self, alloc: Global, out: &mut Writer) -> Result<(), AllocError>
+        ensures put { OnOk result (PutsValue (server_data self.now) out.old out.new) }
+        ensures standing { OnOk result (IsStandingMessage self.now) }
     {
         match self {
-            ServerMessage::Data { tag, path, tree } => data_value(alloc, *tag, path, tree),
-            ServerMessage::DataMerge { tag, entries } => merge_value(alloc, *tag, entries),
-            ServerMessage::Accepted { id } => json!(in alloc; {"id": *id, "k": "ok"}),
-            ServerMessage::Refused { id, why } => {
-                json!(in alloc; {"id": *id, "k": "no", "why": why.text()})
-            }
-            ServerMessage::Revoked { tag, why } => {
-                json!(in alloc; {"k": "revoke", "tag": *tag, "why": why.text()})
-            }
+            ServerMessage::Data { tag, path, tree } => write_data(out, *tag, path, tree),
+            ServerMessage::DataMerge { tag, entries } => write_merge(alloc, out, *tag, entries),
+            ServerMessage::Accepted { id } => write_accepted(out, *id),
+            ServerMessage::Refused { id, why } => write_refused(out, *id, why),
+            ServerMessage::Revoked { tag, why } => write_revoked(out, *tag, why),
         }
     }
 }
 
 // A push of a tree.
-fn data_value(alloc: Global, tag: u64, path: &Path, tree: &Tree) -> Result<Value, AllocError>
-    ensures value { IfOk result (λ value. view value ≡ server_data (DataMessage tag path.now tree.now)) }
-    ensures standing { IfOk result (λ _. IsStandingMessage (DataMessage tag path.now tree.now)) }
+fn write_data(out: &mut Writer, tag: u64, path: &Path, tree: &Tree) -> Result<(), AllocError>
+    ensures put { OnOk result
+        (PutsValue (server_data (DataMessage tag path.now tree.now)) out.old out.new) }
+    ensures standing { OnOk result (IsStandingMessage (DataMessage tag path.now tree.now)) }
 {
-    let path = path_value(path)?;
-    let tree = tree_value(alloc, tree)?;
-    json!(in alloc; {"k": "data", "path": path, "tag": tag, "value": tree})
+    out.begin_object()?;
+    write_text(out, "k", "data")?;
+    write_path(out, path)?;
+    write_number(out, "tag", tag)?;
+    write_tree(out, tree)?;
+    out.end_object()
 }
 
 // A push of entries.
-fn merge_value(alloc: Global, tag: u64, entries: &Entries) -> Result<Value, AllocError>
-    ensures value { IfOk result (λ value. view value ≡ server_data (DataMerge tag entries.now)) }
-    ensures standing { IfOk result (λ _. IsStandingMessage (DataMerge tag entries.now)) }
+fn write_merge(
+    alloc: Global,
+    out: &mut Writer,
+    tag: u64,
+    entries: &Entries,
+) -> Result<(), AllocError>
+    ensures put { OnOk result (PutsValue (server_data (DataMerge tag entries.now)) out.old out.new) }
+    ensures standing { OnOk result (IsStandingMessage (DataMerge tag entries.now)) }
 {
-    let entries = entries_value(alloc, entries)?;
-    json!(in alloc; {"entries": entries, "k": "data-merge", "tag": tag})
+    out.begin_object()?;
+    write_entries(alloc, out, entries)?;
+    write_text(out, "k", "data-merge")?;
+    write_number(out, "tag", tag)?;
+    out.end_object()
+}
+
+fn write_accepted(out: &mut Writer, id: u64) -> Result<(), AllocError>
+    ensures { OnOk result (PutsValue (server_data (Accepted id)) out.old out.new) }
+{
+    out.begin_object()?;
+    write_number(out, "id", id)?;
+    write_text(out, "k", "ok")?;
+    out.end_object()
+}
+
+fn write_refused(out: &mut Writer, id: u64, why: &Reason) -> Result<(), AllocError>
+    ensures { OnOk result (PutsValue (server_data (Refused id why.now)) out.old out.new) }
+{
+    out.begin_object()?;
+    write_number(out, "id", id)?;
+    write_text(out, "k", "no")?;
+    write_text(out, "why", why.text())?;
+    out.end_object()
+}
+
+fn write_revoked(out: &mut Writer, tag: u64, why: &Reason) -> Result<(), AllocError>
+    ensures { OnOk result (PutsValue (server_data (Revoked tag why.now)) out.old out.new) }
+{
+    out.begin_object()?;
+    write_text(out, "k", "revoke")?;
+    write_number(out, "tag", tag)?;
+    write_text(out, "why", why.text())?;
+    out.end_object()
 }
