@@ -1,7 +1,6 @@
 -- Places that are found one after another.
 use Rattle.std.proofs.Common.{◌≡◌, ℕ, false, List, [], ◌∷◌, ◌++◌, length, Option, Some, None, refl, sym, ap, ◌∙◌, append_assoc}
 use Rattle.std.specs.Prelude.{◌==◌}
-use Rattle.std.specs.Borrow.{Bor}
 use Rattle.std.specs.Option.{option_map, option_and_then}
 use Rattle.std.proofs.lemmas.List.{map-append}
 use Rattle.serde_json.specs.Data.{Data, Members, member}
@@ -12,19 +11,19 @@ use Rattle.rt_wire.specs.Fields.{path_of_text}
 use Rattle.rt_wire.specs.EntryFields.{places_of, some_of}
 use Rattle.rt_wire.specs.inside.Places.{places}
 
-joined : (found : List (Path × Bor Value)) (place : Path × Bor Value) (o : Option (List (Path × Data)))
-    → option_map (λ rest. places found ++ rest) (option_map (λ rest. (place.0, view place.1.now) ∷ rest) o) ≡ option_map (λ rest. places (found ++ place ∷ []) ++ rest) o
+joined : (found : List (Path × Value)) (place : Path × Value) (o : Option (List (Path × Data)))
+    → option_map (λ rest. places found ++ rest) (option_map (λ rest. (place.0, view place.1) ∷ rest) o) ≡ option_map (λ rest. places (found ++ place ∷ []) ++ rest) o
 joined found place None = refl
 joined found place (Some rest) =
-    ap Some (sym (append_assoc (places found) ((place.0, view place.1.now) ∷ []) rest) ∙ ap (λ xs. xs ++ rest) (sym (map-append (λ (p : Path × Bor Value). (p.0, view p.1.now)) found (place ∷ []))))
+    ap Some (sym (append_assoc (places found) ((place.0, view place.1) ∷ []) rest) ∙ ap (λ xs. xs ++ rest) (sym (map-append (λ (p : Path × Value). (p.0, view p.1)) found (place ∷ []))))
 
 -- the next member's place goes behind the others
-pub places-more : (all now : Option (List (Path × Data))) (found : List (Path × Bor Value)) (name : List ℕ) (ms : Members) (place : Path × Bor Value)
-    → all ≡ option_map (λ rest. places found ++ rest) (places_of (member name (view place.1.now) ms))
+pub places-more : (all now : Option (List (Path × Data))) (found : List (Path × Value)) (name : List ℕ) (ms : Members) (place : Path × Value)
+    → all ≡ option_map (λ rest. places found ++ rest) (places_of (member name (view place.1) ms))
     → path_of_text name ≡ Some place.0 → now ≡ places_of ms → all ≡ option_map (λ rest. places (found ++ place ∷ []) ++ rest) now
 places-more all now found name ms place h path is =
     h
-    ∙ ap (λ o. option_map (λ rest. places found ++ rest) (option_and_then (λ p. option_map (λ rest. (p, view place.1.now) ∷ rest) (places_of ms)) o)) path
+    ∙ ap (λ o. option_map (λ rest. places found ++ rest) (option_and_then (λ p. option_map (λ rest. (p, view place.1) ∷ rest) (places_of ms)) o)) path
     ∙ joined found place (places_of ms)
     ∙ ap (option_map (λ rest. places (found ++ place ∷ []) ++ rest)) (sym is)
 

@@ -23,7 +23,7 @@ ghost use Rattle.rt_wire.specs.declared.client.ClientMessage.TheVariants.{Unlist
 
 use crate::entries::entries;
 use crate::error::WireError;
-use crate::field::{json_value, kind, member, number, path, tree};
+use crate::field::{json_value, kind, number, path, taken, tree};
 use crate::query::query;
 use crate::query_json::write_query;
 use crate::request::{Action, Asked, Ending};
@@ -56,23 +56,23 @@ impl ClientMessage {
         ensures fault { IfErr result (λ e. (client_message text.now ≡ Err e)
             ⊎ (e ≡ WireError.NoMemory)) }
     {
-        ClientMessage::of(alloc, &json_value(alloc, text)?)
+        ClientMessage::of(alloc, json_value(alloc, text)?)
     }
 
     // The message that a JSON value is.
-    fn of(alloc: Global, message: &Value) -> Result<ClientMessage, WireError>
-        ensures ok { IfOk result (λ m. client_message_in (view message.now) ≡ Ok m) }
-        ensures fault { IfErr result (λ e. (client_message_in (view message.now) ≡ Err e)
+    fn of(alloc: Global, message: Value) -> Result<ClientMessage, WireError>
+        ensures ok { IfOk result (λ m. client_message_in (view message) ≡ Ok m) }
+        ensures fault { IfErr result (λ e. (client_message_in (view message) ≡ Err e)
             ⊎ (e ≡ WireError.NoMemory)) }
     {
-        match kind(message)? {
-            "listen" => ClientMessage::listen(alloc, message),
-            "unlisten" => ClientMessage::unlisten(message),
+        match kind(&message)? {
+            "listen" => ClientMessage::listen(alloc, &message),
+            "unlisten" => ClientMessage::unlisten(&message),
             "put" => ClientMessage::put(alloc, message),
             "merge" => ClientMessage::merge(alloc, message),
             "od-put" => ClientMessage::od_put(alloc, message),
             "od-merge" => ClientMessage::od_merge(alloc, message),
-            "od-cancel" => ClientMessage::od_cancel(alloc, message),
+            "od-cancel" => ClientMessage::od_cancel(alloc, &message),
             _ => Err(WireError::UnknownKind),
         }
     }
@@ -95,12 +95,12 @@ impl ClientMessage {
         Ok(ClientMessage::Unlisten { tag })
     }
 
-    fn put(alloc: Global, message: &Value) -> Result<ClientMessage, WireError>
-        ensures ok { IfOk result (λ m. put_message (view message.now) ≡ Ok m) }
-        ensures fault { IfErr result (λ e. (put_message (view message.now) ≡ Err e)
+    fn put(alloc: Global, message: Value) -> Result<ClientMessage, WireError>
+        ensures ok { IfOk result (λ m. put_message (view message) ≡ Ok m) }
+        ensures fault { IfErr result (λ e. (put_message (view message) ≡ Err e)
             ⊎ (e ≡ WireError.NoMemory)) }
     {
-        let id = number(message, "id")?;
+        let id = number(&message, "id")?;
         let action = put_action(alloc, message)?;
         Ok(ClientMessage::Ask {
             id,
@@ -108,12 +108,12 @@ impl ClientMessage {
         })
     }
 
-    fn merge(alloc: Global, message: &Value) -> Result<ClientMessage, WireError>
-        ensures ok { IfOk result (λ m. merge_message (view message.now) ≡ Ok m) }
-        ensures fault { IfErr result (λ e. (merge_message (view message.now) ≡ Err e)
+    fn merge(alloc: Global, message: Value) -> Result<ClientMessage, WireError>
+        ensures ok { IfOk result (λ m. merge_message (view message) ≡ Ok m) }
+        ensures fault { IfErr result (λ e. (merge_message (view message) ≡ Err e)
             ⊎ (e ≡ WireError.NoMemory)) }
     {
-        let id = number(message, "id")?;
+        let id = number(&message, "id")?;
         let action = merge_action(alloc, message)?;
         Ok(ClientMessage::Ask {
             id,
@@ -121,12 +121,12 @@ impl ClientMessage {
         })
     }
 
-    fn od_put(alloc: Global, message: &Value) -> Result<ClientMessage, WireError>
-        ensures ok { IfOk result (λ m. od_put_message (view message.now) ≡ Ok m) }
-        ensures fault { IfErr result (λ e. (od_put_message (view message.now) ≡ Err e)
+    fn od_put(alloc: Global, message: Value) -> Result<ClientMessage, WireError>
+        ensures ok { IfOk result (λ m. od_put_message (view message) ≡ Ok m) }
+        ensures fault { IfErr result (λ e. (od_put_message (view message) ≡ Err e)
             ⊎ (e ≡ WireError.NoMemory)) }
     {
-        let id = number(message, "id")?;
+        let id = number(&message, "id")?;
         let action = put_action(alloc, message)?;
         Ok(ClientMessage::Ask {
             id,
@@ -134,12 +134,12 @@ impl ClientMessage {
         })
     }
 
-    fn od_merge(alloc: Global, message: &Value) -> Result<ClientMessage, WireError>
-        ensures ok { IfOk result (λ m. od_merge_message (view message.now) ≡ Ok m) }
-        ensures fault { IfErr result (λ e. (od_merge_message (view message.now) ≡ Err e)
+    fn od_merge(alloc: Global, message: Value) -> Result<ClientMessage, WireError>
+        ensures ok { IfOk result (λ m. od_merge_message (view message) ≡ Ok m) }
+        ensures fault { IfErr result (λ e. (od_merge_message (view message) ≡ Err e)
             ⊎ (e ≡ WireError.NoMemory)) }
     {
-        let id = number(message, "id")?;
+        let id = number(&message, "id")?;
         let action = merge_action(alloc, message)?;
         Ok(ClientMessage::Ask {
             id,
@@ -203,20 +203,19 @@ fn listened(alloc: Global, path: Path, message: &Value) -> Result<Query, WireErr
 }
 
 // The set of a message.
-fn put_action(alloc: Global, message: &Value) -> Result<Action, WireError>
-    ensures ok { IfOk result (λ action. put_in (view message.now) ≡ Ok action) }
-    ensures fault { IfErr result (λ e. (put_in (view message.now) ≡ Err e) ⊎ (e ≡ WireError.NoMemory)) }
+fn put_action(alloc: Global, message: Value) -> Result<Action, WireError>
+    ensures ok { IfOk result (λ action. put_in (view message) ≡ Ok action) }
+    ensures fault { IfErr result (λ e. (put_in (view message) ≡ Err e) ⊎ (e ≡ WireError.NoMemory)) }
 {
-    let path = path(alloc, message)?;
-    let value = member(message, "value")?;
-    let tree = tree(alloc, value)?;
+    let path = path(alloc, &message)?;
+    let tree = tree(alloc, taken(message, "value")?)?;
     Ok(Action::Put { path, tree })
 }
 
 // The update of a message.
-fn merge_action(alloc: Global, message: &Value) -> Result<Action, WireError>
-    ensures ok { IfOk result (λ action. merge_in (view message.now) ≡ Ok action) }
-    ensures fault { IfErr result (λ e. (merge_in (view message.now) ≡ Err e)
+fn merge_action(alloc: Global, message: Value) -> Result<Action, WireError>
+    ensures ok { IfOk result (λ action. merge_in (view message) ≡ Ok action) }
+    ensures fault { IfErr result (λ e. (merge_in (view message) ≡ Err e)
         ⊎ (e ≡ WireError.NoMemory)) }
 {
     let entries = entries(alloc, message)?;

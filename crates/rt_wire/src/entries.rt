@@ -7,7 +7,7 @@ ghost use Rattle.rt_wire.specs.EntryFields.{places_of, entries_of, trees_of};
 ghost use Rattle.rt_wire.specs.inside.Places.{places};
 
 use crate::error::WireError;
-use crate::field::{path_of_text, tree};
+use crate::field::{path_of_text, taken, tree};
 use rt_tree::Path;
 use rt_writes::Entries;
 use serde_json::Value;
@@ -15,40 +15,37 @@ use std::alloc::Global;
 use std::collections::BTreeMap;
 
 // The members' paths, each with its value.
-fn places<'a>(
-    alloc: Global,
-    members: &'a BTreeMap<String, Value>,
-) -> Result<Vec<(Path, &'a Value)>, WireError>
-    ensures ok { IfOk result (λ found. places_of (members_view members.entry.now.entries)
+fn places(alloc: Global, members: BTreeMap<String, Value>) -> Result<Vec<(Path, Value)>, WireError>
+    ensures ok { IfOk result (λ found. places_of (members_view members.entries)
         ≡ Some (places found.items)) }
     ensures err { IfErr result (λ e. (e ≡ WireError.BadField)
-        × (places_of (members_view members.entry.now.entries) ≡ None) ⊎ (e ≡ WireError.NoMemory)) }
+        × (places_of (members_view members.entries) ≡ None) ⊎ (e ≡ WireError.NoMemory)) }
 {
     let mut found = Vec::new(alloc);
-    for (name, value) in members.iter() {
+    for (name, value) in members {
         let path = path_of_text(alloc, name.as_str())?;
         found.push((path, value))?;
     }
     Ok(found)
 }
 
-// The members of the member `entries`.
-fn object(message: &Value) -> Result<&BTreeMap<String, Value>, WireError>
-    ensures ok { IfOk result (λ members. field as_object (codes "entries") (view message.entry.now)
-        ≡ Some (members_view members.now.entries)) }
+// The members of the member `entries`, taken out of the message.
+fn object(message: Value) -> Result<BTreeMap<String, Value>, WireError>
+    ensures ok { IfOk result (λ members. field as_object (codes "entries") (view message)
+        ≡ Some (members_view members.entries)) }
     ensures err { IfErr result (λ e. (e ≡ WireError.BadField)
-        × (field as_object (codes "entries") (view message.entry.now) ≡ None)) }
+        × (field as_object (codes "entries") (view message) ≡ None)) }
 {
-    message
-        .get("entries")
-        .and_then(Value::as_object)
-        .ok_or(WireError::BadField)
+    match taken(message, "entries")? {
+        Value::Object(members) => Ok(members),
+        _ => Err(WireError::BadField),
+    }
 }
 
 // The entries at these places.
-fn trees(alloc: Global, found: Vec<(Path, &Value)>) -> Result<Entries, WireError>
-    ensures ok { IfOk result (λ entries. trees_of (places found.entry.items) ≡ Ok entries) }
-    ensures err { IfErr result (λ e. (trees_of (places found.entry.items) ≡ Err e)
+fn trees(alloc: Global, found: Vec<(Path, Value)>) -> Result<Entries, WireError>
+    ensures ok { IfOk result (λ entries. trees_of (places found.items) ≡ Ok entries) }
+    ensures err { IfErr result (λ e. (trees_of (places found.items) ≡ Err e)
         ⊎ (e ≡ WireError.NoMemory)) }
 {
     let mut items = Vec::new(alloc);
@@ -61,11 +58,11 @@ fn trees(alloc: Global, found: Vec<(Path, &Value)>) -> Result<Entries, WireError
 
 // The member `entries`: an object of at least one member, from paths to trees. All paths are looked
 // at before the trees.
-pub(crate) fn entries(alloc: Global, message: &Value) -> Result<Entries, WireError>
+pub(crate) fn entries(alloc: Global, message: Value) -> Result<Entries, WireError>
     ensures ok { IfOk result (λ entries.
-        with (field entries_of (codes "entries") (view message.now)) trees_of ≡ Ok entries) }
+        with (field entries_of (codes "entries") (view message)) trees_of ≡ Ok entries) }
     ensures err { IfErr result (λ e.
-        (with (field entries_of (codes "entries") (view message.now)) trees_of ≡ Err e)
+        (with (field entries_of (codes "entries") (view message)) trees_of ≡ Err e)
         ⊎ (e ≡ WireError.NoMemory)) }
 {
     let found = places(alloc, object(message)?)?;

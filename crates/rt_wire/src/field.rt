@@ -1,8 +1,8 @@
 // The members of a message.
-ghost use Rattle.std.specs.Prelude.{◌≡◌, ◌⊎◌, codes, IfOk, IfErr, Some, None};
-ghost use Rattle.serde_json.specs.Find.{as_str};
+ghost use Rattle.std.specs.Prelude.{◌≡◌, ◌⊎◌, codes, IfOk, IfErr, Some, None, option_map};
+ghost use Rattle.serde_json.specs.Find.{as_str, get_member};
 ghost use Rattle.serde_json.specs.Read.{read};
-ghost use Rattle.serde_json.specs.View.{view};
+ghost use Rattle.serde_json.specs.View.{view, members_view};
 ghost use Rattle.rt_wire.specs.Fields.{field, any_of, number_of, path_of, path_of_text as path_in};
 ghost use Rattle.rt_wire.specs.Fields.{reason_of, tree_of};
 
@@ -10,7 +10,7 @@ use crate::error::WireError;
 use crate::limits::{MAX_NUMBER, MAX_REASON_BYTES};
 use crate::reason::Reason;
 use rt_tree::{Path, Tree, TreeError};
-use serde_json::Value;
+use serde_json::{Map, Value};
 use std::alloc::Global;
 
 // The JSON value of a text.
@@ -47,6 +47,25 @@ pub(crate) fn member<'a>(message: &'a Value, name: &str) -> Result<&'a Value, Wi
         × (field any_of name.now (view message.entry.now) ≡ None)) }
 {
     message.get(name).ok_or(WireError::BadField)
+}
+
+// The member of that name, taken out of the members.
+fn removed(members: &mut Map<String, Value>, name: &str) -> Option<Value>
+    ensures { option_map view result ≡ get_member name.now (members_view members.old.entries) }
+{
+    members.remove(name)
+}
+
+// Any value, as the member of that name, taken out of the message.
+pub(crate) fn taken(message: Value, name: &str) -> Result<Value, WireError>
+    ensures ok { IfOk result (λ value. field any_of name.now (view message) ≡ Some (view value)) }
+    ensures err { IfErr result (λ e. (e ≡ WireError.BadField)
+        × (field any_of name.now (view message) ≡ None)) }
+{
+    match message {
+        Value::Object(mut members) => removed(&mut members, name).ok_or(WireError::BadField),
+        _ => Err(WireError::BadField),
+    }
 }
 
 // The text of the member of that name.
@@ -95,25 +114,29 @@ pub(crate) fn path(alloc: Global, message: &Value) -> Result<Path, WireError>
     path_of_text(alloc, text(message, "path")?)
 }
 
-// The member `why`.
-pub(crate) fn reason(alloc: Global, message: &Value) -> Result<Reason, WireError>
-    ensures ok { IfOk result (λ why. field reason_of (codes "why") (view message.now) ≡ Some why) }
+// The member `why`, taken out of the message.
+pub(crate) fn reason(message: Value) -> Result<Reason, WireError>
+    ensures ok { IfOk result (λ why. field reason_of (codes "why") (view message) ≡ Some why) }
     ensures err { IfErr result (λ e. (e ≡ WireError.BadField)
-        × (field reason_of (codes "why") (view message.now) ≡ None) ⊎ (e ≡ WireError.NoMemory)) }
+        × (field reason_of (codes "why") (view message) ≡ None)) }
 {
-    let why = text(message, "why")?;
-    if why.len() > MAX_REASON_BYTES {
-        return Err(WireError::BadField);
+    match taken(message, "why")? {
+        Value::String(text) => {
+            if text.len() > MAX_REASON_BYTES {
+                return Err(WireError::BadField);
+            }
+            Ok(Reason::of(text))
+        }
+        _ => Err(WireError::BadField),
     }
-    Ok(Reason::of(String::from_str(alloc, why)?))
 }
 
-// A tree.
-pub(crate) fn tree(alloc: Global, value: &Value) -> Result<Tree, WireError>
-    ensures ok { IfOk result (λ tree. tree_of (view value.now) ≡ Ok tree) }
-    ensures err { IfErr result (λ e. (tree_of (view value.now) ≡ Err e) ⊎ (e ≡ WireError.NoMemory)) }
+// A tree, which keeps the texts of its value.
+pub(crate) fn tree(alloc: Global, value: Value) -> Result<Tree, WireError>
+    ensures ok { IfOk result (λ tree. tree_of (view value) ≡ Ok tree) }
+    ensures err { IfErr result (λ e. (tree_of (view value) ≡ Err e) ⊎ (e ≡ WireError.NoMemory)) }
 {
-    match Tree::from_value(alloc, value) {
+    match Tree::of_value(alloc, value) {
         Ok(tree) => Ok(tree),
         Err(TreeError::NoMemory) => Err(WireError::NoMemory),
         Err(_) => Err(WireError::BadTree),

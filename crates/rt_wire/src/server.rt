@@ -13,7 +13,7 @@ ghost use Rattle.rt_wire.specs.declared.server.ServerMessage.TheVariants.{Accept
 
 use crate::entries::entries;
 use crate::error::WireError;
-use crate::field::{json_value, kind, member, number, path, reason, tree};
+use crate::field::{json_value, kind, number, path, reason, taken, tree};
 use crate::reason::Reason;
 use crate::writing::{
     new_writer, text_of, write_entries, write_number, write_path, write_text, write_tree,
@@ -47,43 +47,42 @@ impl ServerMessage {
         ensures fault { IfErr result (λ e. (server_message text.now ≡ Err e)
             ⊎ (e ≡ WireError.NoMemory)) }
     {
-        ServerMessage::of(alloc, &json_value(alloc, text)?)
+        ServerMessage::of(alloc, json_value(alloc, text)?)
     }
 
     // The message that a JSON value is.
-    fn of(alloc: Global, message: &Value) -> Result<ServerMessage, WireError>
-        ensures ok { IfOk result (λ m. server_message_in (view message.now) ≡ Ok m) }
-        ensures fault { IfErr result (λ e. (server_message_in (view message.now) ≡ Err e)
+    fn of(alloc: Global, message: Value) -> Result<ServerMessage, WireError>
+        ensures ok { IfOk result (λ m. server_message_in (view message) ≡ Ok m) }
+        ensures fault { IfErr result (λ e. (server_message_in (view message) ≡ Err e)
             ⊎ (e ≡ WireError.NoMemory)) }
     {
-        match kind(message)? {
+        match kind(&message)? {
             "data" => ServerMessage::data(alloc, message),
             "data-merge" => ServerMessage::data_merge(alloc, message),
-            "ok" => ServerMessage::ok(message),
-            "no" => ServerMessage::no(alloc, message),
-            "revoke" => ServerMessage::revoke(alloc, message),
+            "ok" => ServerMessage::ok(&message),
+            "no" => ServerMessage::no(message),
+            "revoke" => ServerMessage::revoke(message),
             _ => Err(WireError::UnknownKind),
         }
     }
 
-    fn data(alloc: Global, message: &Value) -> Result<ServerMessage, WireError>
-        ensures ok { IfOk result (λ m. data_in (view message.now) ≡ Ok m) }
-        ensures fault { IfErr result (λ e. (data_in (view message.now) ≡ Err e)
+    fn data(alloc: Global, message: Value) -> Result<ServerMessage, WireError>
+        ensures ok { IfOk result (λ m. data_in (view message) ≡ Ok m) }
+        ensures fault { IfErr result (λ e. (data_in (view message) ≡ Err e)
             ⊎ (e ≡ WireError.NoMemory)) }
     {
-        let tag = number(message, "tag")?;
-        let path = path(alloc, message)?;
-        let value = member(message, "value")?;
-        let tree = tree(alloc, value)?;
+        let tag = number(&message, "tag")?;
+        let path = path(alloc, &message)?;
+        let tree = tree(alloc, taken(message, "value")?)?;
         Ok(ServerMessage::Data { tag, path, tree })
     }
 
-    fn data_merge(alloc: Global, message: &Value) -> Result<ServerMessage, WireError>
-        ensures ok { IfOk result (λ m. data_merge_in (view message.now) ≡ Ok m) }
-        ensures fault { IfErr result (λ e. (data_merge_in (view message.now) ≡ Err e)
+    fn data_merge(alloc: Global, message: Value) -> Result<ServerMessage, WireError>
+        ensures ok { IfOk result (λ m. data_merge_in (view message) ≡ Ok m) }
+        ensures fault { IfErr result (λ e. (data_merge_in (view message) ≡ Err e)
             ⊎ (e ≡ WireError.NoMemory)) }
     {
-        let tag = number(message, "tag")?;
+        let tag = number(&message, "tag")?;
         let entries = entries(alloc, message)?;
         Ok(ServerMessage::DataMerge { tag, entries })
     }
@@ -95,23 +94,19 @@ impl ServerMessage {
         Ok(ServerMessage::Accepted { id })
     }
 
-    fn no(alloc: Global, message: &Value) -> Result<ServerMessage, WireError>
-        ensures ok { IfOk result (λ m. no_in (view message.now) ≡ Ok m) }
-        ensures fault { IfErr result (λ e. (no_in (view message.now) ≡ Err e)
-            ⊎ (e ≡ WireError.NoMemory)) }
+    fn no(message: Value) -> Result<ServerMessage, WireError>
+        ensures { result ≡ no_in (view message) }
     {
-        let id = number(message, "id")?;
-        let why = reason(alloc, message)?;
+        let id = number(&message, "id")?;
+        let why = reason(message)?;
         Ok(ServerMessage::Refused { id, why })
     }
 
-    fn revoke(alloc: Global, message: &Value) -> Result<ServerMessage, WireError>
-        ensures ok { IfOk result (λ m. revoke_in (view message.now) ≡ Ok m) }
-        ensures fault { IfErr result (λ e. (revoke_in (view message.now) ≡ Err e)
-            ⊎ (e ≡ WireError.NoMemory)) }
+    fn revoke(message: Value) -> Result<ServerMessage, WireError>
+        ensures { result ≡ revoke_in (view message) }
     {
-        let tag = number(message, "tag")?;
-        let why = reason(alloc, message)?;
+        let tag = number(&message, "tag")?;
+        let why = reason(message)?;
         Ok(ServerMessage::Revoked { tag, why })
     }
 

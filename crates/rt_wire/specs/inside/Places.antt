@@ -1,11 +1,10 @@
 -- Places as the code holds them.
 use Rattle.std.specs.Prelude.{List, map}
-use Rattle.std.specs.Borrow.{Bor}
 use Rattle.serde_json.specs.Data.{Data}
 use Rattle.serde_json.specs.View.{view}
 use Rattle.serde_json.specs.declared.value.Value.{Value}
 use Rattle.rt_tree.specs.PathTree.{Path}
 
 -- each path, with the data of its value
-abbrev pub places : List (Path × Bor Value) → List (Path × Data)
-places found = map (λ p. (p.0, view p.1.now)) found
+abbrev pub places : List (Path × Value) → List (Path × Data)
+places found = map (λ p. (p.0, view p.1)) found

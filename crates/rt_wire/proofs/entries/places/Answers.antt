@@ -9,7 +9,7 @@ use Rattle.rt_wire.proofs.entries.places.Goals as goal
 
 pub loop-name-preserved : goal.loop-name-preserved
 loop-name-preserved c =
-    places-more (places_of (members_view c.args.members.now.entries)) (places_of (members_view c.next.new.self)) c.loop-name.found.items (string_bytes c.in-Some.name.now) (members_view c.next.new.self)
+    places-more (places_of (members_view c.args.members.entries)) (places_of (members_view c.next.new.self)) c.loop-name.found.items (string_bytes c.in-Some.name) (members_view c.next.new.self)
     (c.in_ok-path.path, c.in-Some.value)
     (c.loop-name.invariant ∙ ap (λ es. option_map (λ rest. places c.loop-name.found.items ++ rest) (places_of (members_view es))) c.in-Some.ensures.steps)
     (ap path_of_text (sym c.as_str.ensures.value) ∙ c.in_ok-path.ensures.ok) refl

@@ -6,4 +6,4 @@ use Rattle.rt_wire.specs.inside.Places.{places}
 use Rattle.rt_wire.proofs.entries.places.Given as goal
 
 abbrev pub invariant-loop-name : goal.invariant-loop-name
-invariant-loop-name l = places_of (members_view l.members.entries) ≡ option_map (λ rest. places l.found.items ++ rest) (places_of (members_view l.name-iterator))
+invariant-loop-name l = places_of (members_view l.fn.members.entries) ≡ option_map (λ rest. places l.found.items ++ rest) (places_of (members_view l.name-iterator))
