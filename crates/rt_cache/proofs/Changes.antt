@@ -24,11 +24,11 @@ use Rattle.rt_cache.proofs.Keeping.{kept_filtered}
 use Rattle.rt_cache.proofs.Listing.{listed_sorted}
 use Rattle.rt_cache.proofs.Stays.{Regions}
 
-with_sorted : (rs more : Regions) → T (map_of.is_sorted path_cmp rs) → T (map_of.is_sorted path_cmp (with_regions rs more))
+pub with_sorted : (rs more : Regions) → T (map_of.is_sorted path_cmp rs) → T (map_of.is_sorted path_cmp (with_regions rs more))
 with_sorted rs [] h = h
 with_sorted rs (r ∷ more) h = with_sorted (map_of.put path_cmp r.0 r.1 rs) more (is_sorted-put path_cmp paths_total r.0 r.1 rs h)
 
-with_apart : (rs more : Regions) → have_overlap (rs ++ more) ≡ false → have_overlap (with_regions rs more) ≡ false
+pub with_apart : (rs more : Regions) → have_overlap (rs ++ more) ≡ false → have_overlap (with_regions rs more) ≡ false
 with_apart rs [] e = ap have_overlap (sym (append-nil rs)) ∙ e
 with_apart rs (r ∷ more) e = with_apart (map_of.put path_cmp r.0 r.1 rs) more (moved_overlap rs r more e)
 

@@ -9,7 +9,7 @@ use Rattle.std.specs.FinMap.Entries.{by_order}
 use Rattle.rt_tree.specs.PathTree.{Path, PathTree, path_cmp, exact_paths, strip, strip-some, strip-more, strip-append, path_eq, path_eq-is, sub, null}
 use Rattle.rt_tree.specs.Assignments.{is_at_or_above, do_overlap, have_overlap}
 use Rattle.rt_query.specs.Queries.{Query, is_filtered}
-use Rattle.rt_cache.specs.Recover.{plain_spots, reaches, part_for, parts_of, with_regions, regions_kept}
+use Rattle.rt_cache.specs.Recover.{plain_spots, reaches, part_for, parts_of, with_regions}
 use Rattle.rt_cache.specs.Brought.{region_part}
 use Rattle.rt_cache.specs.declared.region.Region.{Region}
 use Rattle.rt_cache.specs.inside.Held.{pair_of, pairs_of}
@@ -198,16 +198,26 @@ all_apart kept (r ∷ ls) h e =
     overlap-append (parts_of kept r) _ (parts_apart r kept h) (all_apart kept ls h (or_right (overlaps r.0 ls) _ e))
     (cross_parts r kept _ (overlaps_all r.0 kept ls (or_left _ (have_overlap ls) e)))
 
--- the regions that stay and the parts of the others are apart
+-- the regions that stay are apart, and so are the parts of the others, and each of the one from the others
+pub cut_apart : (kept : List Query) (rs : Regions) → have_overlap (plain_spots kept) ≡ false → have_overlap rs ≡ false
+    → (have_overlap (filter (λ r. reaches kept r.0) rs) ≡ false)
+    × (have_overlap (flat_map (parts_of kept) (filter (λ r. not (reaches kept r.0)) rs)) ≡ false)
+    × (cross (filter (λ r. reaches kept r.0) rs) (flat_map (parts_of kept) (filter (λ r. not (reaches kept r.0)) rs)) ≡ false)
+cut_apart kept rs h e =
+    let stay : Regions = filter (λ r. reaches kept r.0) rs in
+    let lost : Regions = filter (λ r. not (reaches kept r.0)) rs in
+    let lost_apart : have_overlap lost ≡ false = overlap-filter (λ p. not (reaches kept p)) rs e in
+    let between : cross stay lost ≡ false = split_cross (λ p. reaches kept p) rs e in (
+      overlap-filter (λ p. reaches kept p) rs e,
+      all_apart kept lost h lost_apart,
+      cross_all stay kept lost between,
+    )
+
 pub left_apart : (kept : List Query) (rs : Regions) → have_overlap (plain_spots kept) ≡ false → have_overlap rs ≡ false
     → have_overlap (filter (λ r. reaches kept r.0) rs ++ flat_map (parts_of kept) (filter (λ r. not (reaches kept r.0)) rs)) ≡ false
 left_apart kept rs h e =
-    let stay : Regions = filter (λ r. reaches kept r.0) rs in
-    let lost : Regions = filter (λ r. not (reaches kept r.0)) rs in
-    let stay_apart : have_overlap stay ≡ false = overlap-filter (λ p. reaches kept p) rs e in
-    let lost_apart : have_overlap lost ≡ false = overlap-filter (λ p. not (reaches kept p)) rs e in
-    let between : cross stay lost ≡ false = split_cross (λ p. reaches kept p) rs e in
-    overlap-append stay (flat_map (parts_of kept) lost) stay_apart (all_apart kept lost h lost_apart) (cross_all stay kept lost between)
+    let cut = cut_apart kept rs h e in
+    overlap-append (filter (λ r. reaches kept r.0) rs) _ cut.0 cut.1 cut.2
 
 -- one that is apart from all is none of them
 pub absent_of : (p : Path) (rs : List Region) → overlaps p (pairs_of rs) ≡ false → list_any (λ r. path_eq p r.path) rs ≡ false
@@ -264,13 +274,6 @@ any_with p rs [] = at (any_above p rs)
     at false = refl
 any_with p rs (r ∷ more) =
     any_with p (map_of.put path_cmp r.0 r.1 rs) more ∙ ap (λ b. b || any_above p more) (any_put p r.0 r.1 rs) ∙ or_assoc (is_at_or_above r.0 p) (any_above p rs) (any_above p more)
-
--- the region at or above the path stays, or a part is at or above it
-pub held_still : (kept : List Query) (rs parts : Regions) (p : Path) → parts ≡ flat_map (parts_of kept) (filter (λ r. not (reaches kept r.0)) rs)
-    → is_some (region_part (regions_kept kept rs) p) ≡ (any_above p (filter (λ r. reaches kept r.0) rs) || is_some (region_part parts p))
-held_still kept rs parts p e =
-    part_any p (regions_kept kept rs) ∙ any_with p (filter (λ r. reaches kept r.0) rs) _
-    ∙ ap (λ b. any_above p (filter (λ r. reaches kept r.0) rs) || b) (ap (any_above p) (sym e) ∙ sym (part_any p parts))
 
 -- none stays above the path, where none was
 pub none_stays : (test : Path → Bool) (rs : Regions) (p : Path) → any_above p rs ≡ false → any_above p (filter (λ r. test r.0) rs) ≡ false

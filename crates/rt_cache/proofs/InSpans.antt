@@ -1,5 +1,5 @@
 -- Spans of a list, and what is left without them.
-use Rattle.std.proofs.Common.{◌≡◌, ℕ, ◌<◌, ◌≤◌, ◌+◌, ◌-◌, arith, length, get_or, take, drop, Bool, true, false, cond, not, ◌||◌, ◌&&◌, nat_le, nat_lt, List, [], ◌∷◌, ◌++◌, refl, sym, ap, subst, ◌∙◌, length-append}
+use Rattle.std.proofs.Common.{◌≡◌, ℕ, zero, suc, ◌<◌, ◌≤◌, ◌+◌, ◌-◌, arith, length, get_or, take, drop, Bool, true, false, cond, not, ◌||◌, ◌&&◌, nat_le, nat_lt, List, [], ◌∷◌, ◌++◌, refl, sym, ap, subst, ◌∙◌, length-append}
 use Rattle.std.proofs.lemmas.Bool.{leb-true, leb-false, ltb-true, ltb-false, or_left, or_from}
 use Rattle.std.proofs.lemmas.List.{drop_more, get_or_read, get_or-take, get_or-drop, length-take, length-drop, length-take-le, take-take, take-append-le, drop-append-le, drop-take}
 use Rattle.std.proofs.lemmas.List.Elements.{All-nil, All-cons, All-head, All-tail, filter-append}
@@ -173,6 +173,44 @@ pub one_out : {X : Type 0} (test : X → Bool) (xs : List X) (s : Span) → s.st
     → ((k : ℕ) (d : X) → k < length xs → test (get_or xs k d) ≡ has_place k s) → remove_range xs s.start s.end ≡ filter (λ x. not (test x)) xs
 one_out test xs s ordered within at =
     staying test xs 0 (s ∷ []) (omega arith, ordered, within) (λ k d le lt. at k d lt ∙ sym (or_nothing (has_place k s)))
+
+-- ---- the last span that doesn't begin behind a place
+
+pub starts_from : (from : ℕ) (spans : List Span) (end n : ℕ) (d : Span) → AreInOrder from spans end → n < length spans → from ≤ (get_or spans n d).start
+starts_from from [] end n d h lt = absurd (omega arith)
+starts_from from (s ∷ spans) end zero d h lt = h.0
+starts_from from (s ∷ spans) end (suc n) d h lt =
+    let rest : s.end ≤ (get_or spans n d).start = starts_from s.end spans end n d h.2 (omega (arith, lt)) in
+    omega (arith, rest, h.0, h.1)
+
+pub starts_rise : (from : ℕ) (spans : List Span) (end : ℕ) → AreInOrder from spans end → IsNonDecreasingBy (λ (s : Span). s.start) spans
+starts_rise from [] end h i j d le lt = absurd (omega arith)
+starts_rise from (s ∷ spans) end h zero zero d le lt = omega arith
+starts_rise from (s ∷ spans) end h zero (suc j) d le lt =
+    let rest : s.end ≤ (get_or spans j d).start = starts_from s.end spans end j d h.2 (omega (arith, lt)) in
+    omega (arith, rest, h.1)
+starts_rise from (s ∷ spans) end h (suc i) zero d le lt = absurd (omega (arith, le))
+starts_rise from (s ∷ spans) end h (suc i) (suc j) d le lt = starts_rise s.end spans end h.2 i j d (omega (arith, le)) (omega (arith, lt))
+
+-- none begins up to the place
+pub none_from : (spans : List Span) (k : ℕ) → ((i : ℕ) (d : Span) → i < length spans → k < (get_or spans i d).start) → have_place spans k ≡ false
+none_from spans k h = list_any_none (has_place k) spans (λ i d lt. before_span k (get_or spans i d) (h i d lt))
+
+-- it decides
+pub last_decides : (from : ℕ) (spans : List Span) (end k n : ℕ) (d : Span) → AreInOrder from spans end → n < length spans
+    → (get_or spans n d).start ≤ k → ((i : ℕ) (e : Span) → n < i → i < length spans → k < (get_or spans i e).start)
+    → have_place spans k ≡ nat_lt k (get_or spans n d).end
+last_decides from [] end k n d h lt le behind = absurd (omega arith)
+last_decides from (s ∷ spans) end k zero d h lt le behind =
+    let rest : have_place spans k ≡ false = none_from spans k (λ i e l. behind (suc i) e (omega arith) (omega (arith, l))) in
+    elim (nat_lt k s.end) as (λ b. nat_lt k s.end ≡ b → (has_place k s || have_place spans k) ≡ b) [
+      | true ↦ λ f. ap (λ b. b || have_place spans k) (in_span k s le (ltb-true k s.end f))
+      | false ↦ λ f. or_from (has_place k s) (have_place spans k) (past_span k s (ltb-false k s.end f)) rest
+    ] refl
+last_decides from (s ∷ spans) end k (suc n) d h lt le behind =
+    let rest : s.end ≤ (get_or spans n d).start = starts_from s.end spans end n d h.2 (omega (arith, lt)) in
+    ap (λ b. b || have_place spans k) (past_span k s (omega (arith, rest, le)))
+    ∙ last_decides s.end spans end k n d h.2 (omega (arith, lt)) le (λ i e l m. behind (suc i) e (omega (arith, l)) (omega (arith, m)))
 
 -- ---- places between spans
 

@@ -8,6 +8,7 @@ pub mod InSpans
 pub mod Keeping
 pub mod Levels
 pub mod Listing
+pub mod Parts
 pub mod Places
 pub mod Pushes
 pub mod QueryOrders

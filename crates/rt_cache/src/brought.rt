@@ -215,10 +215,11 @@ impl Brought {
     ///
     /// Finds the regions that stay by halving, once for each plain listen kept: of these it reads the
     /// paths that halving meets, and no tree. It passes each region that is lost with the listens
-    /// kept, the registered filtered forms with the listens kept and the parts, and the windows with
-    /// the registered forms; it copies only the parts and the windows that lost regions leave. For
-    /// each row of lost regions, and for each part, the words of the regions behind are moved; where
-    /// none is lost, no region is touched.
+    /// kept, and the windows with the registered forms. For each registered filtered form it finds by
+    /// halving the region above it, whether that is lost, and the part above it that stays. It copies
+    /// only the parts and the windows that lost regions leave. For each row of lost regions, and for
+    /// each part, the words of the regions or parts behind are moved; where none is lost, no region is
+    /// touched.
     ///
     /// An `Err` is want of memory, and changes nothing: all that is made is made before the first
     /// change.

@@ -1,45 +1,31 @@
 // What stays when the listens kept change.
 ghost use Rattle.std.specs.Prelude.{◌≡◌, ℕ, ◌+◌, ◌<◌, ◌≤◌, ◌++◌, T, vec_len, vec_capacity, ◌&&◌, not};
-ghost use Rattle.std.specs.Prelude.{false, is_some, length, slice_index_or, slice_range, IfOk};
+ghost use Rattle.std.specs.Prelude.{[], List, false, is_some, length, slice_index_or, slice_range, IfOk};
 ghost use Rattle.std.specs.Prelude.{OnOk, OnErr};
 ghost use Rattle.std.specs.List.{filter, flat_map, list_any, All};
 ghost use Rattle.std.specs.Option.{option_map};
 ghost use Rattle.std.specs.FinMap as map_of;
 ghost use Rattle.rt_tree.specs.PathTree.{path_cmp};
 ghost use Rattle.rt_tree.specs.Assignments.{have_overlap};
+ghost use Rattle.rt_query.specs.Queries.{Query};
 ghost use Rattle.rt_query.specs.QueryEq.{query_eq};
 ghost use Rattle.rt_cache.specs.QueryOrder.{query_cmp};
-ghost use Rattle.rt_cache.specs.Brought.{region_part};
 ghost use Rattle.rt_cache.specs.Recover.{reaches, part_for, parts_of, with_regions, regions_kept};
 ghost use Rattle.rt_cache.specs.Recover.{window_left, do_plains_overlap, recover};
 ghost use Rattle.rt_cache.specs.inside.Held.{pair_of, pairs_of, entry_of, entries_of, for_each, held};
 ghost use Rattle.rt_cache.specs.inside.Held.{AreShort};
+ghost use Rattle.rt_cache.specs.inside.Cuts.{parts_left, IsCut};
 ghost use Rattle.rt_cache.specs.inside.Spans.{have_place, AreInOrder, without, AreLost};
 ghost use Rattle.rt_cache.specs.declared.region.Region.{Region};
 
 use crate::region::Region;
-use crate::regions::{
-    insert, is_any_above, part_at, place_above, region_of, remove_span, span_under,
-};
-use crate::spans::{Span, places_between};
+use crate::regions::{insert, part_at, place_above, region_of, remove_span, span_under};
+use crate::spans::{Span, is_within, places_between};
 use crate::stores::store_of_children;
 use crate::window::Window;
 use crate::windows::place_of_window;
 use rt_query::Query;
-use rt_tree::Path;
 use std::alloc::{AllocError, Global};
-
-// Whether a plain listen is at or above the path.
-fn reaches(kept: &[Query], path: &Path) -> bool
-    ensures { result ≡ reaches kept.now path.now }
-{
-    for query in kept {
-        if !query.is_filtered() && query.path().is_prefix_of(path) {
-            return true;
-        }
-    }
-    false
-}
 
 // The part of the region at the query's path, where that is a plain listen under it.
 fn part_for(alloc: Global, region: &Region, query: &Query) -> Result<Option<Region>, AllocError>
@@ -127,7 +113,7 @@ fn regions_in<'a>(regions: &'a [Region], span: &Span) -> &'a [Region]
     &regions[span.start..span.end]
 }
 
-// The parts that stay of the regions that are lost.
+// The parts that stay of the regions that are lost, in the order of their paths.
 pub(crate) fn parts_left(
     alloc: Global,
     regions: &[Region],
@@ -135,15 +121,18 @@ pub(crate) fn parts_left(
     kept: &[Query],
 ) -> Result<Vec<Region>, AllocError>
     requires lost { AreLost kept.now regions.now lost.now }
-    ensures { IfOk result (λ parts. pairs_of parts.items
-        ≡ flat_map (parts_of kept.now) (filter (λ r. not (reaches kept.now r.0))
-        (pairs_of regions.now))) }
+    requires apart { have_overlap (pairs_of regions.now) ≡ false }
+    requires kept { do_plains_overlap kept.now ≡ false }
+    ensures parts { IfOk result (λ parts. pairs_of parts.items
+        ≡ parts_left kept.now (pairs_of regions.now)) }
+    ensures sorted { IfOk result (λ parts. T (map_of.is_sorted path_cmp (pairs_of parts.items))) }
+    ensures apart { IfOk result (λ parts. have_overlap (pairs_of parts.items) ≡ false) }
 {
     let mut parts = Vec::new(alloc);
     for span in lost {
         push_all_parts(alloc, &mut parts, regions_in(regions, span), kept)?;
     }
-    Ok(parts)
+    in_order(alloc, parts)
 }
 
 // The regions without those of the spans, of which the last are taken out first.
@@ -171,44 +160,45 @@ fn insert_all(regions: &mut Vec<Region>, more: Vec<Region>)
     }
 }
 
-// Whether a region is at or above the path still, these being the parts that are left.
-fn is_held(regions: &[Region], parts: &[Region], kept: &[Query], path: &Path) -> bool
-    requires sorted { T (map_of.is_sorted path_cmp (pairs_of regions.now)) }
-    requires apart { have_overlap (pairs_of regions.now) ≡ false }
-    requires parts { pairs_of parts.now
-        ≡ flat_map (parts_of kept.now) (filter (λ r. not (reaches kept.now r.0))
-        (pairs_of regions.now)) }
-    ensures { result ≡ is_some (region_part (regions_kept kept.now (pairs_of regions.now)) path.now) }
+// The regions in the order of their paths.
+fn in_order(alloc: Global, regions: Vec<Region>) -> Result<Vec<Region>, AllocError>
+    requires apart { have_overlap (pairs_of regions.items) ≡ false }
+    ensures { IfOk result (λ sorted. pairs_of sorted.items
+        ≡ with_regions [] (pairs_of regions.items)) }
 {
-    match place_above(regions, path) {
-        Some(place) if reaches(kept, &regions[place].path) => true,
-        _ => is_any_above(parts, path),
-    }
+    let mut sorted = Vec::new(alloc);
+    sorted.reserve(regions.len())?;
+    insert_all(&mut sorted, regions);
+    Ok(sorted)
 }
 
-// The whole window that a lost region leaves to a filtered query.
+// The whole window that a lost region leaves to a filtered query. A region that stays holds the
+// query's path still, and so does a part.
 fn window_left(
     alloc: Global,
     regions: &[Region],
+    lost: &[Span],
     parts: &[Region],
-    kept: &[Query],
     query: &Query,
 ) -> Result<Option<Window>, AllocError>
     requires sorted { T (map_of.is_sorted path_cmp (pairs_of regions.now)) }
     requires apart { have_overlap (pairs_of regions.now) ≡ false }
-    requires parts { pairs_of parts.now
-        ≡ flat_map (parts_of kept.now) (filter (λ r. not (reaches kept.now r.0))
-        (pairs_of regions.now)) }
-    ensures { IfOk result (λ left. option_map entry_of left
+    requires parts_sorted { T (map_of.is_sorted path_cmp (pairs_of parts.now)) }
+    requires parts_apart { have_overlap (pairs_of parts.now) ≡ false }
+    ensures { (kept : List Query) → IsCut kept regions.now lost.now parts.now
+        → IfOk result (λ left. option_map entry_of left
         ≡ option_map (λ w. (query.now, w)) (window_left (pairs_of regions.now)
-        (regions_kept kept.now (pairs_of regions.now)) query.now)) }
+        (regions_kept kept (pairs_of regions.now)) query.now)) }
 {
-    if !query.is_filtered() || is_held(regions, parts, kept, query.path()) {
+    if !query.is_filtered() {
         return Ok(None);
     }
     let Some(place) = place_above(regions, query.path()) else {
         return Ok(None);
     };
+    if !is_within(lost, place) || place_above(parts, query.path()).is_some() {
+        return Ok(None);
+    }
     let part = part_at(alloc, &regions[place], query.path())?;
     Ok(Some(Window {
         query: query.copy()?,
@@ -221,25 +211,25 @@ fn window_left(
 pub(crate) fn windows_left(
     alloc: Global,
     regions: &[Region],
+    lost: &[Span],
     parts: &[Region],
     registered: &[Query],
-    kept: &[Query],
 ) -> Result<Vec<Window>, AllocError>
     requires sorted { T (map_of.is_sorted path_cmp (pairs_of regions.now)) }
     requires apart { have_overlap (pairs_of regions.now) ≡ false }
-    requires parts { pairs_of parts.now
-        ≡ flat_map (parts_of kept.now) (filter (λ r. not (reaches kept.now r.0))
-        (pairs_of regions.now)) }
-    ensures left { IfOk result (λ left. entries_of left.items
-        ≡ for_each (window_left (pairs_of regions.now) (regions_kept kept.now
-        (pairs_of regions.now))) registered.now) }
+    requires parts_sorted { T (map_of.is_sorted path_cmp (pairs_of parts.now)) }
+    requires parts_apart { have_overlap (pairs_of parts.now) ≡ false }
+    ensures left { (kept : List Query) → IsCut kept regions.now lost.now parts.now
+        → IfOk result (λ left. entries_of left.items
+        ≡ for_each (window_left (pairs_of regions.now) (regions_kept kept (pairs_of regions.now)))
+        registered.now) }
     ensures short { OnOk result (AreShort registered.now) }
 {
     let mut left = Vec::new(alloc);
     for query in registered {
         // For the prover: so long are paths at most.
         let _ = query.path().keys();
-        if let Some(window) = window_left(alloc, regions, parts, kept, query)? {
+        if let Some(window) = window_left(alloc, regions, lost, parts, query)? {
             left.push(window)?;
         }
     }
@@ -291,7 +281,7 @@ pub(crate) fn change_cover(
     let alloc = *regions.allocator();
     let lost = spans_lost(alloc, regions, kept)?;
     let parts = parts_left(alloc, regions, &lost, kept)?;
-    let mut all = windows_left(alloc, regions, &parts, registered, kept)?;
+    let mut all = windows_left(alloc, regions, &lost, &parts, registered)?;
     all.reserve(windows.len())?;
     regions.reserve(parts.len())?;
     remove_spans(regions, lost);

@@ -73,18 +73,6 @@ pub(crate) fn place_above(regions: &[Region], path: &Path) -> Option<usize>
     }
 }
 
-// Whether one of these regions, in any order, is at or above the path.
-pub(crate) fn is_any_above(regions: &[Region], path: &Path) -> bool
-    ensures { result ≡ is_some (region_part (pairs_of regions.now) path.now) }
-{
-    for region in regions {
-        if region.path.is_prefix_of(path) {
-            return true;
-        }
-    }
-    false
-}
-
 // The part at the path of a region at or above it.
 pub(crate) fn part_at(alloc: Global, region: &Region, path: &Path) -> Result<Tree, AllocError>
     requires { is_at_or_above region.now.path path.now ≡ true }

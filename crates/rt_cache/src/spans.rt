@@ -48,3 +48,12 @@ pub(crate) fn places_between(
     push_places(&mut gaps, place, end)?;
     Ok(gaps)
 }
+
+// Whether the place is in one of the spans. Where they stand in order, it can only be in the last
+// that doesn't begin behind it.
+pub(crate) fn is_within(spans: &[Span], place: usize) -> bool
+    ensures { (end : ℕ) → AreInOrder 0 spans.now end → result ≡ have_place spans.now place }
+{
+    let count = spans.partition_point(|span| span.start <= place);
+    count > 0 && place < spans[count - 1].end
+}

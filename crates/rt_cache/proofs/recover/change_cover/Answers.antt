@@ -1,20 +1,37 @@
-use Rattle.std.proofs.Common.{rules, ◌≡◌, ◌∙◌, ◌++◌, ap, sym, subst, arith, length, not, List, IsOk}
+use Rattle.std.proofs.Common.{rules, ◌≡◌, ◌∙◌, ◌++◌, ap, sym, subst, arith, length, not, List, IsOk, IfOk, Vec, Global}
 use Rattle.std.specs.List.{filter, flat_map}
+use Rattle.std.specs.declared.result.Result.{Result}
+use Rattle.std.specs.declared.result.Result.TheVariants.{Ok}
 use lib.Dec.{T}
 use Rattle.std.specs.FinMap as map_of
 use Rattle.std.specs.FinMap.Entries.{is_sorted-where_key}
 use Rattle.rt_tree.specs.PathTree.{path_cmp}
 use Rattle.rt_tree.specs.Assignments.{have_overlap}
 use Rattle.rt_cache.specs.Recover.{reaches, parts_of, with_regions, regions_kept, window_left, in_query_order}
+use Rattle.rt_query.specs.Queries.{Query}
 use Rattle.rt_cache.specs.declared.region.Region.{Region}
+use Rattle.rt_cache.specs.declared.spans.Span.{Span}
 use Rattle.rt_cache.specs.declared.window.Window.{Window}
 use Rattle.rt_cache.specs.inside.Held.{pairs_of, entries_of, for_each}
 use Rattle.rt_cache.specs.inside.Spans.{AreInOrder, without, AreLost}
 use Rattle.rt_cache.proofs.Changes.{of_ok, stays_lost}
-use Rattle.rt_cache.proofs.Cuts.{left_apart}
+use Rattle.rt_cache.specs.inside.Cuts.{parts_left, IsCut}
+use Rattle.rt_cache.proofs.Parts.{all_parts_apart, in_order_first, left_with_parts}
 use Rattle.rt_cache.proofs.Keeping.{stays, kept_listed}
 use Rattle.rt_cache.proofs.Stays.{Regions}
 use Rattle.rt_cache.proofs.recover.change_cover.Goals as goal
+
+-- the windows that are left, told of slices of what there is
+left_of : {E : Type 0} (r : Result (Vec Window Global) E) (all : Vec Window Global) (kept registered : List Query) (rs old : List Region) (ss lost : List Span) (ps parts : List Region)
+    → rs ≡ old → ss ≡ lost → ps ≡ parts → r ≡ Ok all
+    → (IsCut kept rs ss ps → IfOk r (λ left. entries_of left.items ≡ for_each (window_left (pairs_of rs) (regions_kept kept (pairs_of rs))) registered))
+    → IsCut kept old lost parts
+    → entries_of all.items ≡ for_each (window_left (pairs_of old) (regions_kept kept (pairs_of old))) registered
+left_of r all kept registered rs old ss lost ps parts e f g was told cut =
+    subst (λ (xs : List Region). entries_of all.items ≡ for_each (window_left (pairs_of xs) (regions_kept kept (pairs_of xs))) registered) e
+    (subst (λ x. IfOk x (λ left. entries_of left.items ≡ for_each (window_left (pairs_of rs) (regions_kept kept (pairs_of rs))) registered)) was
+    (told (subst (λ (xs : List Region). IsCut kept xs ss ps) (sym e)
+    (subst (λ (xs : List Span). IsCut kept old xs ps) (sym f) (subst (λ (xs : List Region). IsCut kept old lost xs) (sym g) cut)))))
 
 pub remove_spans-requires : goal.remove_spans-requires
 remove_spans-requires c =
@@ -37,8 +54,8 @@ insert_all-requires-clause-apart c =
     let stay : pairs_of c.remove_spans.new.regions.items ≡ filter (λ r. reaches c.args.kept.now r.0) old =
     ap pairs_of (c.remove_spans.ensures.left ∙ ap (without c.in_ok-lost.lost.items) c.reserve-2.ensures.items)
     ∙ stays_lost c.args.kept.now c.args.regions.now.items c.in_ok-lost.lost.items lost in
-    let parts : pairs_of c.in_ok-parts.parts.items ≡ flat_map (parts_of c.args.kept.now) (filter (λ r. not (reaches c.args.kept.now r.0)) old) = search rules in
-    (λ i. have_overlap (stay i ++ parts i)) ∙ left_apart c.args.kept.now old c.requires.kept c.requires.apart
+    let parts : pairs_of c.in_ok-parts.parts.items ≡ parts_left c.args.kept.now old = search rules in
+    (λ i. have_overlap (stay i ++ parts i)) ∙ left_with_parts c.args.kept.now old c.requires.kept c.requires.apart
 
 pub returns-clause-ok : goal.returns-clause-ok
 returns-clause-ok c =
@@ -47,16 +64,23 @@ returns-clause-ok c =
     let stay : pairs_of c.remove_spans.new.regions.items ≡ filter (λ r. reaches c.args.kept.now r.0) old =
     ap pairs_of (c.remove_spans.ensures.left ∙ ap (without c.in_ok-lost.lost.items) c.reserve-2.ensures.items)
     ∙ stays_lost c.args.kept.now c.args.regions.now.items c.in_ok-lost.lost.items lost in
-    let parts : pairs_of c.in_ok-parts.parts.items ≡ flat_map (parts_of c.args.kept.now) (filter (λ r. not (reaches c.args.kept.now r.0)) old) = search rules in
-    let regions : pairs_of c.insert_all.new.regions.items ≡ regions_kept c.args.kept.now old = c.insert_all.ensures ∙ (λ i. with_regions (stay i) (parts i)) in
+    let parts : pairs_of c.in_ok-parts.parts.items ≡ parts_left c.args.kept.now old = search rules in
+    let sorted : T (map_of.is_sorted path_cmp (filter (λ r. reaches c.args.kept.now r.0) old)) = is_sorted-where_key path_cmp (λ p. reaches c.args.kept.now p) old c.requires.sorted in
+    let regions : pairs_of c.insert_all.new.regions.items ≡ regions_kept c.args.kept.now old =
+    c.insert_all.ensures ∙ (λ i. with_regions (stay i) (parts i))
+    ∙ in_order_first (filter (λ r. reaches c.args.kept.now r.0) old) (flat_map (parts_of c.args.kept.now) (filter (λ r. not (reaches c.args.kept.now r.0)) old)) sorted
+    (all_parts_apart c.args.kept.now old c.requires.kept c.requires.apart) in
     let done : IsOk c.append-in_reserved_room.result =
     c.append-in_reserved_room.ensures.succeeds (omega (arith, c.in_ok-reserve.ensures.ok, c.len.ensures, c.retain_registered.ensures.len)) in
     let appended : c.append-in_reserved_room.new.self.items ≡ c.reserve.new.self.items ++ c.retain_registered.new.windows.items =
     of_ok c.append-in_reserved_room.result _ _ _ done c.append-in_reserved_room.ensures.items in
     let retained : c.retain_registered.new.windows.items ≡ filter (λ w. stays c.args.registered.now (entries_of c.in_ok-all.all.items) w.query) c.args.windows.now.items =
     c.retain_registered.ensures.left
-    ∙ ap (λ (es : List Window). filter (λ (w : Window). stays c.args.registered.now (entries_of es) w.query) c.args.windows.now.items) (c.deref-6.ensures.value ∙ c.reserve.ensures.items) in
-    let left : entries_of c.in_ok-all.all.items ≡ for_each (window_left old (regions_kept c.args.kept.now old)) c.args.registered.now = search rules in
+    ∙ ap (λ (es : List Window). filter (λ (w : Window). stays c.args.registered.now (entries_of es) w.query) c.args.windows.now.items) (c.deref-7.ensures.value ∙ c.reserve.ensures.items) in
+    let cut : IsCut c.args.kept.now c.args.regions.now.items c.in_ok-lost.lost.items c.in_ok-parts.parts.items = record { lost = lost; parts = parts } in
+    let left : entries_of c.in_ok-all.all.items ≡ for_each (window_left old (regions_kept c.args.kept.now old)) c.args.registered.now =
+    left_of c.windows_left.result c.in_ok-all.all c.args.kept.now c.args.registered.now c.deref-4.result.now c.args.regions.now.items c.deref-5.result.now c.in_ok-lost.lost.items c.deref-6.result.now c.in_ok-parts.parts.items
+    c.deref-4.ensures.value c.deref-5.ensures.value c.deref-6.ensures.value c.in_ok-all.was (c.windows_left.ensures.left c.args.kept.now) cut in
     let windows = ap (λ ws. in_query_order (entries_of ws)) (appended ∙ (λ i. c.reserve.ensures.items i ++ retained i))
     ∙ kept_listed old (regions_kept c.args.kept.now old) c.args.registered.now c.in_ok-all.all.items c.args.windows.now.items left in
     λ i. record { regions = regions i; windows = windows i }
