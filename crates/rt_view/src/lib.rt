@@ -18,6 +18,7 @@ mod kinds;
 mod laws;
 mod place;
 mod position;
+mod seek;
 mod tell;
 mod told;
 mod touch;

@@ -1,16 +1,15 @@
 // A view, changed child by child.
-ghost use Rattle.std.specs.Prelude.{◌≡◌, ◌≤◌, ◌↔◌, true, if◌then◌else◌, All, IfOk, OnOk, OnErr};
+ghost use Rattle.std.specs.Prelude.{◌≡◌, ◌≤◌, ◌↔◌, true, All, IfOk, OnOk, OnErr};
 ghost use Rattle.std.specs.Prelude.{IsTrue, None, Some, Err};
 ghost use Rattle.std.specs.Option.{option_copied, unwrap_or};
 ghost use Rattle.std.specs.List.{list_any};
 ghost use Rattle.rt_tree.specs.PathTree.{key_eq, levels};
-ghost use Rattle.rt_query.specs.Queries.{is_filtered};
-ghost use Rattle.rt_query.specs.Select.{select, tree_of};
+ghost use Rattle.rt_query.specs.Select.{select};
 ghost use Rattle.rt_view.specs.Changes.{changes};
 ghost use Rattle.rt_view.specs.Errors.{code_of, name_of};
 ghost use Rattle.rt_view.specs.Views.{first_view, leaves_child, renewed, shown_of, stays_object, told};
 ghost use Rattle.rt_view.specs.Views.{touched, with_named};
-ghost use Rattle.rt_view.specs.inside.Kept.{IsKept};
+ghost use Rattle.rt_view.specs.inside.Kept.{IsKept, own_tree};
 
 use crate::change_list::ChangeList;
 use crate::compare::changes;
@@ -113,11 +112,11 @@ impl Model for View {
 }
 
 // What is shown as a tree of its own, which only a filtered query has.
-fn own_tree(alloc: Global, query: &Query, shown: &Shown) -> Result<Option<Tree>, AllocError>
-    ensures { IfOk result (λ tree. tree ≡ if is_filtered query.now then Some (tree_of shown.now)
-        else None) }
+fn own_tree(alloc: Global, query: &Query, known: &Tree) -> Result<Option<Tree>, AllocError>
+    ensures { IfOk result (λ tree. tree ≡ own_tree query.now known.now) }
 {
     if query.is_filtered() {
+        let shown = query.select(known)?;
         return Ok(Some(shown.tree().copy(alloc)?));
     }
     Ok(None)
@@ -131,6 +130,24 @@ fn shown_tree<'a>(known: &'a Tree, tree: Option<&'a Tree>) -> &'a Tree
         Some(tree) => tree,
         None => known,
     }
+}
+
+// What is shown, by what is kept.
+fn shown_of(
+    query: &Query,
+    known: &Tree,
+    window: &Window,
+    tree: Option<&Tree>,
+) -> Result<Shown, AllocError>
+    requires { IsKept query.now known.now window.now (option_copied tree) }
+    ensures { IfOk result (λ shown. shown ≡ select query.now known.now) }
+{
+    let alloc = query.path().allocator();
+    let whole = shown_tree(known, tree);
+    let leaf = copy_leaf(alloc, whole)?;
+    let rows = window.rows(alloc)?;
+    let whole = whole.copy(alloc)?;
+    Ok(Shown::of(leaf, rows, whole))
 }
 
 // Puts the named children in their places, and tells what changes.
@@ -181,10 +198,10 @@ impl View {
         ensures view { IfOk result (λ p. p.0 ≡ first_view query known) }
         ensures changes { IfOk result (λ p. p.1 ≡ changes query.index None (select query known)) }
     {
-        let shown = query.select(&known)?;
-        let changes = changes(alloc, query.index(), None, &shown)?;
         let window = window_of(alloc, &query, &known)?;
-        let tree = own_tree(alloc, &query, &shown)?;
+        let tree = own_tree(alloc, &query, &known)?;
+        let shown = shown_of(&query, &known, &window, tree.as_ref())?;
+        let changes = changes(alloc, query.index(), None, &shown)?;
         let reads = count(&known);
         let view = View {
             query,
@@ -237,17 +254,17 @@ impl View {
         &self,
         alloc: Global,
         known: &Tree,
-    ) -> Result<(Window, Option<Tree>, ChangeList), AllocError>
+    ) -> Result<(Window, Option<Tree>, ChangeList), ViewError>
         ensures kept { IfOk result (λ p. IsKept self.now.query known.now p.0 p.1) }
         ensures changes { IfOk result (λ p. p.2
             ≡ changes self.now.query.index (Some (shown_of self.now))
             (select self.now.query known.now)) }
     {
-        let old = self.query.select(&self.known)?;
-        let shown = self.query.select(known)?;
-        let changes = changes(alloc, self.query.index(), Some(&old), &shown)?;
+        let old = self.shown()?;
         let window = window_of(alloc, &self.query, known)?;
-        let tree = own_tree(alloc, &self.query, &shown)?;
+        let tree = own_tree(alloc, &self.query, known)?;
+        let shown = shown_of(&self.query, known, &window, tree.as_ref())?;
+        let changes = changes(alloc, self.query.index(), Some(&old), &shown)?;
         Ok((window, tree, changes))
     }
 
@@ -300,12 +317,8 @@ impl View {
         if self.failed {
             return Err(ViewError::Failed);
         }
-        let alloc = self.query.path().allocator();
-        let tree = shown_tree(&self.known, self.tree.as_ref());
-        let leaf = copy_leaf(alloc, tree)?;
-        let rows = self.window.rows(alloc)?;
-        let tree = tree.copy(alloc)?;
-        Ok(Shown::of(leaf, rows, tree))
+        let shown = shown_of(&self.query, &self.known, &self.window, self.tree.as_ref())?;
+        Ok(shown)
     }
 
     /// How many children the last of [`View::first`], [`View::renew`] and [`View::touch`] took anew.
