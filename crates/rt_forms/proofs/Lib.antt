@@ -1,6 +1,7 @@
 pub mod AddLaws
 pub mod EndLaws
 pub mod FormLaws
+pub mod GatherLaws
 pub mod LeaveLaws
 pub mod LessLaws
 pub mod ListLaws
@@ -8,4 +9,5 @@ pub mod NodeLaws
 pub mod NumberLaws
 pub mod RowLaws
 pub mod TakeLaws
+pub mod UnderLaws
 pub mod ViewLaws

@@ -75,7 +75,7 @@ takes_below x y b c k p r n is a = record {
     numbers q (j ∷ s) = a.numbers q j s
 
 -- ---- a row without one of its siblings
-child_own : (key : Key) (f : Trees) → AllAfter key f → child_in key f ≡ None
+pub child_own : (key : Key) (f : Trees) → AllAfter key f → child_in key f ≡ None
 child_own key bare h = refl
 child_own key (node n j x below behind) h = ap (λ b. cond b (Some (x, below)) (child_in key behind)) (differs key j Less h.0 refl) ∙ child_own key behind h.1
 

@@ -101,24 +101,27 @@ module _ (s : Nodes) (q : Query) where
           ∙ more n d.slot d.at
           ∙ sym (ap (λ z. option_map_or (λ (c : Standing × Trees). seen q (j ∷ p) c.0 c.1) z []) (child_found s o parent previous f k n d.slot h e d.there))
 
--- ---- the steps of `numbers`
-module _ (a : Forms) (h : IsForms a) (q : Query) (k : Key) (p : Path) (goes : q.path ≡ k ∷ p) where
-  pub at_path : numbers a q ≡ seen_in q k p (row_at a.nodes a.first)
-  at_path = ap (λ x. seen q x a.top (row_at a.nodes a.first)) goes
+-- ---- the steps of `standing`
+module _ (a : Forms) (h : IsForms a) (q : Query) (k : Key) (p : Path) where
+  found : option_map_or (at_node a.nodes q) (place_in k p (row_at a.nodes a.first)) [] ≡ seen q (k ∷ p) a.top (row_at a.nodes a.first)
+  found = found_at a.nodes q p a.first None None (row_at a.nodes a.first) k h.row
 
-  found : option_map_or (at_node a.nodes q) (place_in k p (row_at a.nodes a.first)) [] ≡ numbers a q
-  found = found_at a.nodes q p a.first None None (row_at a.nodes a.first) k h.row ∙ sym at_path
-
-  pub found_none : place_in k p (row_at a.nodes a.first) ≡ None → [] ≡ numbers a q
+  pub found_none : place_in k p (row_at a.nodes a.first) ≡ None → [] ≡ seen q (k ∷ p) a.top (row_at a.nodes a.first)
   found_none none = sym (ap (λ o. option_map_or (at_node a.nodes q) o []) none) ∙ found
 
-  pub found_lost : (n : ℕ) → place_in k p (row_at a.nodes a.first) ≡ Some n → get a.nodes n ≡ None → [] ≡ numbers a q
+  pub found_lost : (n : ℕ) → place_in k p (row_at a.nodes a.first) ≡ Some n → get a.nodes n ≡ None → [] ≡ seen q (k ∷ p) a.top (row_at a.nodes a.first)
   found_lost n some none =
       sym (ap (λ o. option_map_or (at_node a.nodes q) o []) some ∙ ap (λ o. option_map_or (λ (slot : Slot Standing). own q slot.value) o []) none) ∙ found
 
-  pub found_some : (n : ℕ) (slot : Slot Standing) → place_in k p (row_at a.nodes a.first) ≡ Some n → get a.nodes n ≡ Some slot → own q slot.value ≡ numbers a q
+  pub found_some : (n : ℕ) (slot : Slot Standing) → place_in k p (row_at a.nodes a.first) ≡ Some n → get a.nodes n ≡ Some slot
+      → own q slot.value ≡ seen q (k ∷ p) a.top (row_at a.nodes a.first)
   found_some n slot some there =
       sym (ap (λ o. option_map_or (at_node a.nodes q) o []) some ∙ ap (λ o. option_map_or (λ (slot : Slot Standing). own q slot.value) o []) there) ∙ found
+
+-- ---- the steps of `add`
+module _ (a : Forms) (h : IsForms a) (q : Query) (k : Key) (p : Path) (goes : q.path ≡ k ∷ p) where
+  pub at_path : numbers a q ≡ seen_in q k p (row_at a.nodes a.first)
+  at_path = ap (λ x. seen q x a.top (row_at a.nodes a.first)) goes
 
   pub free_in : (m : ℕ) → list_any (λ i. i == m) (numbers a q) ≡ false → list_any (λ i. i == m) (seen_in q k p (row_at a.nodes a.first)) ≡ false
   free_in m free = ap (list_any (λ i. i == m)) (sym at_path) ∙ free

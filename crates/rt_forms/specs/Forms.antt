@@ -1,5 +1,8 @@
 -- What a contract sees of a tree of forms.
-use Rattle.std.specs.Prelude.{◌≡◌, ℕ, Bool, List, Option}
+use Rattle.std.specs.Prelude.{◌≡◌, ℕ, Bool, true, List, Option}
+use Rattle.std.specs.List.{list_any}
+use Rattle.rt_tree.specs.PathTree.{Path}
+use Rattle.rt_tree.specs.Assignments.{is_at_or_above}
 use Rattle.rt_query.specs.Queries.{Query}
 use Rattle.rt_query.specs.QueryEq.{query_eq}
 use Rattle.rt_query.specs.Supply.{form}
@@ -29,3 +32,10 @@ share_form q r = query_eq (form q) (form r)
 pub record IsAsBefore (old new : Forms) : Type 0 where
   pub listeners : (q : Query) → numbers new q ≡ numbers old q
   pub counted : count new ≡ count old
+
+-- a form at or under a path has a listener whose number passes a test
+pub record IsHeardUnder (forms : Forms) (path : Path) (test : ℕ → Bool) : Type 0 where
+  pub query : Query
+  pub is_form : form query ≡ query
+  pub under : is_at_or_above path query.path ≡ true
+  pub heard : list_any test (numbers forms query) ≡ true

@@ -1,16 +1,23 @@
 // The tree of forms.
 ghost use Rattle.std.specs.Prelude.{◌≡◌, ◌<◌, ◌+◌, ◌^◌, ◌==◌, [], ℕ, Bool, true, false, length, if◌then◌else◌};
-ghost use Rattle.std.specs.Prelude.{OnOk, OnErr};
+ghost use Rattle.std.specs.Prelude.{◌++◌, OnOk, OnErr, IfOk};
 ghost use Rattle.std.specs.List.{list_any};
-ghost use Rattle.rt_query.specs.Queries.{Query as QueryValue};
+ghost use Rattle.std.specs.Option.{option_copied, option_map_or};
+ghost use Rattle.rt_query.specs.Queries.{Query as QueryValue, plain};
+ghost use Rattle.rt_links.specs.Forest.{row_at};
 ghost use Rattle.rt_forms.specs.Numbers.{with_number, without_number};
-ghost use Rattle.rt_forms.specs.Forms.{numbers, count, share_form, IsAsBefore};
+ghost use Rattle.rt_tree.specs.Assignments.{is_at_or_above};
+ghost use Rattle.rt_forms.specs.Forms.{numbers, count, share_form, IsAsBefore, IsHeardUnder};
+ghost use Rattle.rt_forms.specs.inside.FormsView.{all_under};
+ghost use Rattle.rt_forms.specs.inside.Trees.{own, seen};
 
 use crate::adding::add_row;
+use crate::gathering::gather_at;
 use crate::removing::remove_row;
 use crate::standing::Standing;
 use rt_links::{Linked, Siblings};
 use rt_query::Query;
+use rt_tree::Key;
 use std::alloc::{AllocError, Global};
 use std::marker::Model;
 
@@ -71,6 +78,27 @@ impl Forms {
         self.top.count()
     }
 
+    // What is registered at a path.
+    fn standing(&self, path: &[Key]) -> Option<&Standing>
+        ensures { (query : QueryValue) → option_map_or (own query) (option_copied result) []
+            ≡ seen query path.now self.now.top (row_at self.now.nodes self.now.first) }
+    {
+        let Some((key, rest)) = path.split_first() else {
+            return Some(&self.top);
+        };
+        let row = Siblings {
+            parent: None,
+            first: self.first,
+        };
+        let Some(index) = self.nodes.descend(row, key, rest) else {
+            return None;
+        };
+        match self.nodes.get(index) {
+            Some(slot) => Some(&slot.value),
+            None => None,
+        }
+    }
+
     /// The numbers of the listeners of a query's form, in rising order; none where it has none.
     ///
     /// Costs by the path, the logarithm of the number of siblings at each of its keys, and the
@@ -78,20 +106,65 @@ impl Forms {
     pub fn numbers(&self, query: &Query) -> &[u64]
         ensures { result.now ≡ numbers self.now query.now }
     {
-        let Some((key, rest)) = query.path().keys().split_first() else {
-            return self.top.numbers(query);
+        match self.standing(query.path().keys()) {
+            Some(standing) => standing.numbers(query),
+            None => &[],
+        }
+    }
+
+    /// The numbers of the listeners of the plain form of a path, in rising order: whoever looks for
+    /// what supplies a query asks at its path and at each beginning of it, and makes no query.
+    ///
+    /// Costs by the path, and the logarithm of the number of siblings at each of its keys.
+    pub fn plain_numbers(&self, path: &[Key]) -> &[u64]
+        ensures { result.now ≡ numbers self.now (plain path.now) }
+    {
+        match self.standing(path) {
+            Some(standing) => standing.plain_numbers(),
+            None => &[],
+        }
+    }
+
+    // Adds the numbers of the listeners at and under a path.
+    fn gather_under(&self, path: &[Key], numbers: &mut Vec<u64>) -> Result<(), AllocError>
+        ensures { OnOk result (numbers.new.items ≡ numbers.old.items ++ all_under self.now path.now) }
+    {
+        let Some((key, rest)) = path.split_first() else {
+            return gather_at(&self.nodes, &self.top, self.first, numbers);
         };
         let row = Siblings {
             parent: None,
             first: self.first,
         };
         let Some(index) = self.nodes.descend(row, key, rest) else {
-            return &[];
+            return Ok(());
         };
         match self.nodes.get(index) {
-            Some(slot) => slot.value.numbers(query),
-            None => &[],
+            Some(slot) => gather_at(&self.nodes, &slot.value, slot.first_child, numbers),
+            None => Ok(()),
         }
+    }
+
+    /// The numbers of the listeners of all forms at and under a path, in no order.
+    ///
+    /// Costs by the path, the logarithm of the number of siblings at each of its keys, and what stands
+    /// at and under it.
+    ///
+    /// # Errors
+    ///
+    /// An `AllocError`.
+    pub fn numbers_under(&self, alloc: Global, path: &[Key]) -> Result<Vec<u64>, AllocError>
+        ensures each { IfOk result (λ v. (query : QueryValue) (test : ℕ → Bool)
+            → is_at_or_above path.now query.path ≡ true
+            → list_any test (numbers self.now query) ≡ true → list_any test v.items ≡ true) }
+        ensures only { IfOk result (λ v. (test : ℕ → Bool)
+            → list_any test v.items ≡ true → IsHeardUnder self.now path.now test) }
+    {
+        // For the prover: what the tree keeps.
+        let _first = self.first;
+        let mut numbers = Vec::new(alloc);
+        self.gather_under(path, &mut numbers)?;
+        Ok(numbers)
     }
 
     /// Registers a listener of a query's form, under a number that none of the form has.

@@ -7,6 +7,7 @@
 
 mod adding;
 mod forms;
+mod gathering;
 mod growing;
 mod numbers;
 mod removing;

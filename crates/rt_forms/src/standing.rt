@@ -1,11 +1,12 @@
 // What is registered at one path.
-ghost use Rattle.std.specs.Prelude.{◌≡◌, ◌<◌, ◌+◌, ◌^◌, ◌==◌, ◌∷◌, [], true, false, not, length, OnOk, OnErr, IfOk};
+ghost use Rattle.std.specs.Prelude.{◌≡◌, ◌<◌, ◌+◌, ◌^◌, ◌==◌, ◌∷◌, ◌++◌, [], true, false, not, length, OnOk, OnErr, IfOk};
 ghost use Rattle.std.specs.Prelude.{is_some};
 ghost use Rattle.std.specs.List.{list_any, position};
 ghost use Rattle.rt_query.specs.Queries.{is_filtered};
 ghost use Rattle.rt_query.specs.QueryEq.{query_eq};
 ghost use Rattle.rt_forms.specs.Numbers.{with_number, without_number};
 ghost use Rattle.rt_forms.specs.inside.Trees.{among, own, Gained, Ends, passed, empty};
+ghost use Rattle.rt_forms.specs.inside.Trees.{all_filtered, all_own};
 ghost use Rattle.rt_forms.specs.inside.Lists.{joined, parted};
 
 use crate::numbers::Numbers;
@@ -147,6 +148,16 @@ fn leave(filtered: &mut Vec<Filtered>, number: u64, query: &Query)
     filtered.retain(|entry| !entry.numbers.is_empty());
 }
 
+// Adds the numbers of all the forms.
+fn gather(filtered: &[Filtered], numbers: &mut Vec<u64>) -> Result<(), AllocError>
+    ensures { OnOk result (numbers.new.items ≡ numbers.old.items ++ all_filtered filtered.now) }
+{
+    for entry in filtered {
+        numbers.extend_from_slice(entry.numbers.as_slice())?;
+    }
+    Ok(())
+}
+
 impl Standing {
     // Nothing is registered.
     pub(crate) fn new(alloc: Global) -> Standing
@@ -234,6 +245,21 @@ impl Standing {
         } else {
             self.add_plain(number, query)
         }
+    }
+
+    // The numbers of the plain form's listeners.
+    pub(crate) fn plain_numbers(&self) -> &[u64]
+        ensures { result.now ≡ self.now.plain }
+    {
+        self.plain.as_slice()
+    }
+
+    // Adds the numbers of all listeners at the path.
+    pub(crate) fn gather(&self, numbers: &mut Vec<u64>) -> Result<(), AllocError>
+        ensures { OnOk result (numbers.new.items ≡ numbers.old.items ++ all_own self.now) }
+    {
+        numbers.extend_from_slice(self.plain.as_slice())?;
+        gather(&self.filtered, numbers)
     }
 
     // The allocator of its lists.

@@ -50,6 +50,26 @@ seen q (k ∷ p) x b = option_map_or (λ (c : Standing × Trees). seen q p c.0 c
 abbrev pub seen_in : Query → Key → Path → Trees → List ℕ
 seen_in q k p b = option_map_or (λ (c : Standing × Trees). seen q p c.0 c.1) (child_in k b) []
 
+-- ---- all numbers
+
+abbrev pub all_filtered : List (Query × List ℕ) → List ℕ
+all_filtered [] = []
+all_filtered (e ∷ es) = e.1 ++ all_filtered es
+
+-- at a node
+abbrev pub all_own : Standing → List ℕ
+all_own x = x.plain ++ all_filtered x.filtered
+
+-- in a row and below it
+abbrev pub all_in : Trees → List ℕ
+all_in bare = []
+all_in (node n key x below behind) = (all_own x ++ all_in below) ++ all_in behind
+
+-- at and under a path below a node
+abbrev pub all_at : Path → Standing → Trees → List ℕ
+all_at [] x b = all_own x ++ all_in b
+all_at (k ∷ p) x b = option_map_or (λ (c : Standing × Trees). all_at p c.0 c.1) (child_in k b) []
+
 -- ---- how many listeners there are
 
 abbrev pub of_filtered : List (Query × List ℕ) → ℕ
