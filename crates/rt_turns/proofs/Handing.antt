@@ -1,14 +1,14 @@
 -- What is handed over, text after text.
 use Rattle.std.proofs.Common.{◌≡◌, ℕ, List, [], ◌∷◌, ◌++◌, Option, Some, None, refl, sym, ap, subst, ◌∙◌}
 use Rattle.std.proofs.Common.{true, arith, append-nil}
-use Rattle.std.specs.Prelude.{◌==◌, if◌then◌else◌, take, drop}
+use Rattle.std.specs.Prelude.{◌==◌, ◌≤◌, ◌+◌, length, if◌then◌else◌, take, drop}
 use Rattle.std.proofs.lemmas.Bool.Decides.{nat_tests}
 use Rattle.std.specs.List.{slice_get}
 use Rattle.rt_hub.specs.Hubs.{Hub, IsHanded, first_of, line_in}
 use Rattle.rt_hub.specs.Lines.{Line, line_of, without_first}
 use Rattle.rt_hub.specs.Runs.{Asked, Next, OfPeer, first_in, given_all, watched_all, watched_in}
 use Rattle.rt_turns.specs.Doors.{Takes}
-use Rattle.rt_turns.specs.Handing.{AreNexts, Hands, HasDrained, HasGiven, HasHanded, InHub, IsPassed}
+use Rattle.rt_turns.specs.Handing.{AreNexts, Fewer, Hands, HasDrained, HasGiven, HasHanded, InHub, IsPassed, waits}
 use Rattle.rt_turns.specs.declared.door.Flushed.{Flushed}
 use Rattle.rt_turns.specs.declared.hand.Handed.{Handed}
 use Rattle.rt_turns.specs.declared.hand.Handed.TheVariants.{Drained, Blocked, More, Failed}
@@ -193,3 +193,40 @@ drained_one n p (Some a) (Some b) f h = record {
   where
     takes_nothing : (texts : List (List ℕ)) → texts ≡ [] → Takes p p texts
     takes_nothing texts e = subst (λ ts. Takes p p ts) (sym e) (takes_none p p refl)
+
+-- ---- how many were handed over
+
+pub none_fewer : (n : ℕ) (a : Option Hub) → Fewer 0 n a a
+none_fewer n None = (refl, refl)
+none_fewer n (Some a) = omega arith
+
+pub some_fewer : (k j n : ℕ) (a b : Option Hub) → j ≤ k → Fewer k n a b → Fewer j n a b
+some_fewer k j n None b le h = (omega (arith, le, h.0), h.1)
+some_fewer k j n (Some a) None le h = absurd h
+some_fewer k j n (Some a) (Some b) le h = omega (arith, le, h)
+
+pub one_more : (k n : ℕ) (a b c : Option Hub) → Fewer k n a b → Fewer 1 n b c → Fewer (k + 1) n a c
+one_more k n None b c h one =
+    let none : Fewer 1 n None c = subst (λ x. Fewer 1 n x c) h.1 one in
+    absurd (omega (arith, none.0))
+one_more k n (Some a) None c h one = absurd h
+one_more k n (Some a) (Some b) None h one = absurd one
+one_more k n (Some a) (Some b) (Some c) h one = omega (arith, h, one)
+
+shorter : (line : Option Line) (text : List ℕ) → Some text ≡ first_of line
+    → waits (without_first line) + 1 ≤ waits line
+shorter None text e = cc e
+shorter (Some line) text e = go line.waiting e
+  where
+    go : (xs : List (List ℕ)) → Some text ≡ slice_get xs 0 → length (drop 1 xs) + 1 ≤ length xs
+    go [] f = cc f
+    go (x ∷ xs) f = omega arith
+
+pub one_fewer : (n : ℕ) (text : List ℕ) (a b : Option Hub) → Some text ≡ first_of (line_in a n)
+    → IsHanded a n b → Fewer 1 n a b
+one_fewer n text None b f h = cc f
+one_fewer n text (Some a) None f h = absurd h
+one_fewer n text (Some a) (Some b) f h =
+    subst (λ l. waits l + 1 ≤ waits (line_of a.lines n))
+    (sym (h.lines n ∙ ap (λ x. if x then without_first (line_of a.lines n) else line_of a.lines n) (equal n)))
+    (shorter (line_of a.lines n) text f)

@@ -1,7 +1,8 @@
 -- What a hub hands over to a door.
-use Rattle.std.specs.Prelude.{◌≡◌, ℕ, List, [], ◌∷◌, Option, Some, None, ⊤}
+use Rattle.std.specs.Prelude.{◌≡◌, ◌≤◌, ◌+◌, ℕ, List, [], ◌∷◌, length, Option, Some, None, ⊤}
+use Rattle.std.specs.Option.{option_map_or}
 use Rattle.rt_hub.specs.Hubs.{Hub, first_of}
-use Rattle.rt_hub.specs.Lines.{line_of}
+use Rattle.rt_hub.specs.Lines.{Line, line_of}
 use Rattle.rt_hub.specs.Runs.{Asked, DoesAll, Next, OfPeer, given_all, watched_in}
 use Rattle.rt_turns.specs.Doors.{Takes}
 use Rattle.rt_turns.specs.declared.door.Flushed.{Flushed}
@@ -63,3 +64,21 @@ Hands Drained n had has flushed old new = InHub (HasDrained n had has) old new �
 Hands Blocked n had has flushed old new = InHub (HasHanded n had has) old new × (flushed ≡ Flush.Blocked)
 Hands More n had has flushed old new = InHub (HasHanded n had has) old new
 Hands Failed n had has flushed old new = InHub (HasGiven n) old new
+
+-- ---- how much was handed over
+
+-- how many texts wait in a line
+abbrev pub waits : Option Line → ℕ
+waits line = option_map_or (λ (l : Line). length l.waiting) line 0
+
+-- at least so many texts fewer wait for the connection; a hub that has lacked memory hands none over
+abbrev pub Fewer : ℕ → ℕ → Option Hub → Option Hub → Type 0
+Fewer count n None new = (count ≡ 0) × (new ≡ None)
+Fewer count n (Some old) None = ⊥
+Fewer count n (Some old) (Some new) = waits (line_of new.lines n) + count ≤ waits (line_of old.lines n)
+
+-- where the door took texts, there is one of them at least
+abbrev pub PassesFewer : Passed → ℕ → Option Hub → Option Hub → Type 0
+PassesFewer Pass.Nothing n old new = ⊤
+PassesFewer (Pass.Texts bytes) n old new = Fewer 1 n old new
+PassesFewer Pass.Failed n old new = ⊤

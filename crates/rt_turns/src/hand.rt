@@ -1,6 +1,7 @@
 // What waits for a connection is handed over.
 ghost use Rattle.std.specs.Prelude.{◌≡◌, IfOk};
-ghost use Rattle.rt_turns.specs.Handing.{Hands, IsPassed, handed_by};
+ghost use Rattle.rt_turns.specs.Handing.{Fewer, Hands, IsPassed, PassesFewer, handed_by};
+ghost use Rattle.rt_turns.specs.declared.hand.TheConstants.{ROUNDS};
 
 use crate::door::{Door, Flushed};
 use rt_hub::Hub;
@@ -12,8 +13,8 @@ const BATCH_BYTES: usize = 65_536;
 // How many texts a door takes before it is flushed.
 const BATCH_TEXTS: usize = 1_024;
 
-// How often a door is flushed in one go.
-const ROUNDS: usize = 64;
+/// How often a door is flushed in one go.
+pub const ROUNDS: usize = 64;
 
 /// How far a door took what waits.
 #[derive(Clone, Copy, Debug, PartialEq, Eq)]
@@ -22,7 +23,7 @@ pub enum Handed {
     Drained,
     /// The door blocks.
     Blocked,
-    /// As much was handed over as is in one go; more may wait.
+    /// As much was handed over as is in one go, [`ROUNDS`] texts at least; more may wait.
     More,
     /// The door takes nothing any more.
     Failed,
@@ -42,6 +43,7 @@ enum Passed {
 fn hand_one<D: Door>(hub: &mut Hub, door: &mut D, connection: u64) -> Result<Passed, AllocError>
     ensures passed { IfOk result (λ passed. IsPassed passed connection
         (D.contents door.old) (D.contents door.new) hub.old hub.new) }
+    ensures fewer { IfOk result (λ passed. PassesFewer passed connection hub.old hub.new) }
     ensures remaining { D.remaining door.new ≡ D.remaining door.old }
 {
     let Some(text) = hub.next(connection) else {
@@ -58,6 +60,7 @@ fn hand_one<D: Door>(hub: &mut Hub, door: &mut D, connection: u64) -> Result<Pas
 fn hand_batch<D: Door>(hub: &mut Hub, door: &mut D, connection: u64) -> Result<Passed, AllocError>
     ensures passed { IfOk result (λ passed. IsPassed passed connection
         (D.contents door.old) (D.contents door.new) hub.old hub.new) }
+    ensures fewer { IfOk result (λ passed. PassesFewer passed connection hub.old hub.new) }
     ensures remaining { D.remaining door.new ≡ D.remaining door.old }
 {
     let mut bytes = 0usize;
@@ -92,6 +95,8 @@ fn drained<D: Door>(door: &mut D) -> Handed
 fn hand_round<D: Door>(hub: &mut Hub, door: &mut D, connection: u64) -> Result<Handed, AllocError>
     ensures handed { IfOk result (λ handed. Hands handed connection (D.contents door.old)
         (D.contents door.new) (D.flushed door.new) hub.old hub.new) }
+    ensures fewer { IfOk result (λ handed. handed ≡ Handed.More
+        → Fewer 1 connection hub.old hub.new) }
     ensures remaining { D.remaining door.new ≡ D.remaining door.old }
 {
     match door.flush() {
@@ -120,6 +125,8 @@ pub fn hand_over<D: Door>(
 ) -> Result<Handed, AllocError>
     ensures handed { IfOk result (λ handed. Hands handed connection (D.contents door.old)
         (D.contents door.new) (D.flushed door.new) hub.old hub.new) }
+    ensures more { IfOk result (λ handed. handed ≡ Handed.More
+        → Fewer ROUNDS connection hub.old hub.new) }
     ensures remaining { D.remaining door.new ≡ D.remaining door.old }
 {
     for _ in 0..ROUNDS {

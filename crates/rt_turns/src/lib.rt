@@ -20,6 +20,6 @@ mod telling;
 mod tests;
 
 pub use door::{Door, Flushed, Heard};
-pub use hand::{Handed, hand_over};
+pub use hand::{Handed, ROUNDS, hand_over};
 pub use leaving::leave;
 pub use take::{Turn, take_turn};

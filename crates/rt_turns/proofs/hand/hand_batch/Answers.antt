@@ -1,6 +1,6 @@
-use Rattle.std.proofs.Common.{subst, ◌∙◌}
-use Rattle.rt_turns.specs.Handing.{IsPassed}
-use Rattle.rt_turns.proofs.Handing.{passed_more}
+use Rattle.std.proofs.Common.{arith, subst, ◌∙◌}
+use Rattle.rt_turns.specs.Handing.{IsPassed, PassesFewer}
+use Rattle.rt_turns.proofs.Handing.{one_more, passed_more}
 use Rattle.rt_turns.proofs.hand.hand_batch.Goals as goal
 
 pub returns-in-Nothing-clause-passed : goal.returns-in-Nothing-clause-passed
@@ -27,4 +27,8 @@ loop-preserved g c = (
       (g.D.Door.contents c.loop.door) (g.D.Door.contents c.hand_one.new.door) c.args.hub.now c.loop.hub
       c.hand_one.new.hub c.loop.invariant.0 c.in_ok-len.ensures.passed),
   c.in_ok-len.ensures.remaining ∙ c.loop.invariant.1,
+  one_more c.loop.counter c.args.connection c.args.hub.now c.loop.hub c.hand_one.new.hub c.loop.invariant.2
+      (subst (λ x. PassesFewer x c.args.connection c.loop.hub c.hand_one.new.hub) c.in-Texts.is
+      c.in_ok-len.ensures.fewer),
+  (λ e. absurd (omega (arith, e))),
 )

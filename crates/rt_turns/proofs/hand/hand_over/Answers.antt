@@ -1,6 +1,6 @@
 use Rattle.std.proofs.Common.{subst, ◌∙◌}
 use Rattle.rt_turns.specs.Handing.{Hands}
-use Rattle.rt_turns.proofs.Handing.{hands_more}
+use Rattle.rt_turns.proofs.Handing.{hands_more, one_more}
 use Rattle.rt_turns.proofs.hand.hand_over.Goals as goal
 
 pub returns-in-Drained-clause-handed : goal.returns-in-Drained-clause-handed
@@ -43,4 +43,6 @@ loop-preserved g c = (
       (g.D.Door.flushed c.hand_round.new.door) c.args.hub.now c.loop.hub c.hand_round.new.hub
       c.loop.invariant.0 c.in_ok-hand_round.ensures.handed),
   c.in_ok-hand_round.ensures.remaining ∙ c.loop.invariant.1,
+  one_more c.loop.counter c.args.connection c.args.hub.now c.loop.hub c.hand_round.new.hub c.loop.invariant.2
+      (c.in_ok-hand_round.ensures.fewer c.in-More.is),
 )

@@ -1,0 +1,65 @@
+// What an emulator is to do.
+ghost use Rattle.std.specs.Prelude.{◌≡◌, map, option_map, string_bytes};
+
+use rt_tree::{Path, Tree};
+use std::marker::Model;
+
+/// What an emulator is to do.
+#[derive(Debug, Drop)]
+pub struct Emulating {
+    pub(crate) port: u16,
+    pub(crate) count: Option<u16>,
+    pub(crate) tree: Tree,
+    pub(crate) file: Option<String>,
+    pub(crate) denied: Vec<Path>,
+    pub(crate) origins: Vec<String>,
+}
+
+impl Model for Emulating {
+    ghost use Rattle.std.specs.Prelude.{map, option_map, string_bytes};
+    ghost use Rattle.rt_emulate.specs.Emulating.{Emulation};
+
+    ghost Value = { Emulation };
+
+    ghost view = { λ e. record {
+      port = e.port;
+      count = e.count;
+      tree = e.tree;
+      file = option_map string_bytes e.file;
+      denied = e.denied.items;
+      origins = map string_bytes e.origins.items;
+    } };
+}
+
+impl Emulating {
+    /// A tree is served at the port of 127.0.0.1, until so many connections have gone, if that is given.
+    /// The first tree is that of the file, where there is one, and the tree is kept in it. The paths are
+    /// denied, as at [`rt_peer::Peer::new`], and web pages of these origins may connect, beside those of
+    /// this machine.
+    pub fn new(
+        port: u16,
+        count: Option<u16>,
+        tree: Tree,
+        file: Option<String>,
+        denied: Vec<Path>,
+        origins: Vec<String>,
+    ) -> Emulating
+        ensures { result ≡ record {
+          port = port;
+          count = count;
+          tree = tree;
+          file = option_map string_bytes file;
+          denied = denied.items;
+          origins = map string_bytes origins.items;
+        } }
+    {
+        Emulating {
+            port,
+            count,
+            tree,
+            file,
+            denied,
+            origins,
+        }
+    }
+}

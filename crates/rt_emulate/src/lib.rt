@@ -1,0 +1,32 @@
+//! The emulator: a tree is served to any number of clients at once, over WebSockets at a port of this
+//! machine, in one thread that sleeps while nothing happens.
+//!
+//! ```text
+//! let emulator = Emulator::open(rt, system, emulating, log)?;   // clients can connect
+//! let stopper = emulator.stopper()?;                            // for another thread
+//! emulator.run(rt, system, log)?;                               // until stopper.stop()
+//! ```
+//!
+//! What a message does is decided by `rt_hub`, and how texts are taken and handed over by `rt_turns`. This
+//! crate is the edge: streams, handshakes, turns, what is due of a silent client, and the tree's file.
+#![tactic(auto)]
+
+mod emulating;
+mod emulator;
+mod ending;
+mod fault;
+mod guest;
+mod guests;
+mod kept;
+mod origin;
+mod silence;
+mod socket;
+mod telling;
+#[cfg(test)]
+mod tests;
+mod whole;
+
+pub use emulating::Emulating;
+pub use emulator::{Emulator, Stopper};
+pub use fault::EmulateFault;
+pub use silence::{HANDSHAKE_MS, SILENCE_MS};
