@@ -50,7 +50,7 @@ not_stale w seat (call.Unlisten listener) = refl
 not_stale w seat (call.Write action) = refl
 not_stale w seat (call.OnDisconnect ending) = refl
 
-stays_open : (n seat : ℕ) (c : Call) → does_close n (step_of seat c) ≡ false
+pub stays_open : (n seat : ℕ) (c : Call) → does_close n (step_of seat c) ≡ false
 stays_open n seat (call.Listen query) = refl
 stays_open n seat (call.Unlisten listener) = refl
 stays_open n seat (call.Write action) = refl

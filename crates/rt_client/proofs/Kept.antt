@@ -2,7 +2,6 @@
 use Rattle.std.proofs.Common.{◌≡◌, ℕ, zero, suc, Bool, true, false, cond, ◌==◌, List, [], ◌∷◌, ◌++◌, take, drop, refl, sym, ap, subst, ◌∙◌, replicate, Option, Some, None, Ok, Err}
 use Rattle.std.specs.Option.{option_map, option_map_or}
 use Rattle.rt_world.specs.declared.error.CoreError.{CoreError}
-use Rattle.rt_world.specs.declared.limits.Limits.{Limits}
 use Rattle.rt_world.specs.declared.step.Step.{Step}
 use Rattle.rt_world.specs.World.{World, empty_world}
 use Rattle.rt_world.specs.Refusals.{refusal, is_stale}
@@ -16,7 +15,7 @@ use Rattle.rt_mail.specs.Mailbox.{Known, taken, known_of}
 use Rattle.rt_mail.specs.Lanes.{Line, without_first}
 use Rattle.rt_client.specs.Seats.{reflection, told_to, told_by, receipt_of, does_close}
 use Rattle.rt_client.specs.Lanes.{new_lane, lane_of, with_told}
-use Rattle.rt_client.specs.Shared.{foreseen, AreTold, IsKept, signed_by, lane_after}
+use Rattle.rt_client.specs.Shared.{foreseen, AreTold, signed_by, lane_after}
 use Rattle.rt_client.specs.laws.Keeping.{StepKeeps, NewIsKept, HandingKeeps}
 use Rattle.rt_client.specs.laws.Reflecting.{StepReflects}
 use Rattle.rt_client.proofs.Mirrored.{sound_by}
@@ -123,11 +122,8 @@ handing_keeps w old new told hands seat lane e =
 
 -- ---- a client that is opened
 
-lanes_new : (n seat : ℕ) (lane : Line) → lane_of (replicate n (Some new_lane)) seat ≡ Some lane → lane ≡ new_lane
+pub lanes_new : (n seat : ℕ) (lane : Line) → lane_of (replicate n (Some new_lane)) seat ≡ Some lane → lane ≡ new_lane
 lanes_new n zero lane e = cc
 lanes_new zero (suc place) lane e = cc
 lanes_new (suc n) (suc zero) lane e = cc
 lanes_new (suc n) (suc (suc place)) lane e = lanes_new n (suc place) lane e
-
-pub opened_is_kept : NewIsKept → (limits : Limits) (n : ℕ) → IsKept (record { core = Some (empty_world limits); lanes = replicate n (Some new_lane) })
-opened_is_kept new limits n = new limits (replicate n (Some new_lane)) (lanes_new n)

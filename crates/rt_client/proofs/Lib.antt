@@ -20,4 +20,5 @@ pub mod Slots
 pub mod Steps
 pub mod Taking
 pub mod Texts
+pub mod Unknown
 pub mod Viewed

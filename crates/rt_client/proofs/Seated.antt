@@ -1,21 +1,22 @@
 -- Seats' calls on the locked value.
-use Rattle.std.proofs.Common.{◌≡◌, ℕ, Bool, cond, ◌==◌, sym, ap, subst, ◌∙◌, Option, Some, None, IsTrue}
+use Rattle.std.proofs.Common.{◌≡◌, ℕ, ◌+◌, ◌<◌, Bool, cond, ◌==◌, List, sym, ap, subst, ◌∙◌, arith, Option, Some, None, IsTrue}
 use Rattle.std.specs.Cmp.{nat_eq_equiv}
 use Rattle.rt_wire.specs.declared.server.ServerMessage.{ServerMessage}
 use Rattle.rt_wire.specs.declared.server.ServerMessage.TheVariants as message
 use Rattle.rt_world.specs.declared.error.CoreError.{CoreError}
 use Rattle.rt_world.specs.Calls.{step_of_message}
 use Rattle.rt_push.specs.PushIds.{Stamp}
-use Rattle.rt_mail.specs.Lanes.{Line, Ring}
+use Rattle.rt_mail.specs.Lanes.{Line, Ring, new_ring}
 use Rattle.rt_world.specs.declared.call.Call.{Call}
 use Rattle.rt_client.specs.declared.done.Done.{Done}
 use Rattle.rt_client.specs.declared.error.ClientError.TheVariants.{Core, NoMemory}
 use Rattle.rt_client.specs.Seats.{caller_of, closed_by}
-use Rattle.rt_client.specs.Lanes.{lane_of, HasRoom}
+use Rattle.rt_client.specs.Lanes.{new_lane, lane_of, IsChanged, HasRoom}
+use Rattle.rt_client.specs.Opened.{AreOpenBelow, OpensSeat}
 use Rattle.rt_client.specs.Shared.{Held}
 use Rattle.rt_client.specs.Calls.{Locked, Seated, Called, RefusesCalled, MakesCall, RefusesCall}
 use Rattle.rt_client.specs.inside.Receipts.{gives_number}
-use Rattle.rt_client.proofs.Called.{number_given}
+use Rattle.rt_client.proofs.Called.{held_of, number_given}
 
 abbrev pub locked_of : ℕ → Option Stamp → Bool → Option Held → Locked
 locked_of number ids stopped held = record { number = number; ids = ids; held = held; stopped = stopped }
@@ -72,3 +73,22 @@ no_ends (message.DataMerge tag entries) = λ i. None
 no_ends (message.Accepted id) = λ i. None
 no_ends (message.Refused id why) = λ i. None
 no_ends (message.Revoked tag why) = λ i. None
+
+-- a seat that is opened where there was no lane
+pub seat_opened : (n : ℕ) (ids : Option Stamp) (stopped : Bool) (before : Held) (lanes : List (Option Line)) (place capacity : ℕ) (ring : Ring) → ring ≡ new_ring capacity → place < 64
+    → lane_of before.lanes (place + 1) ≡ None → AreOpenBelow (place + 1) before.lanes → IsChanged (place + 1) (Some new_lane) before.lanes lanes
+    → OpensSeat (locked_of n ids stopped (Some before)) capacity (locked_of n ids stopped (Some (held_of before.core lanes))) (seated_of n (place + 1) ring)
+seat_opened n ids stopped before lanes place capacity ring is below free first changed = record {
+  before = before;
+  held = λ i. Some before;
+  number = place + 1;
+  one = omega arith;
+  most = omega (arith, below);
+  free = free;
+  first = first;
+  after = held_of before.core lanes;
+  locked = λ i. locked_of n ids stopped (Some (held_of before.core lanes));
+  core = λ i. before.core;
+  lanes = changed;
+  seated = λ i. seated_of n (place + 1) (is i);
+}

@@ -1,5 +1,5 @@
 -- Lanes at their places.
-use Rattle.std.proofs.Common.{◌≡◌, ℕ, zero, suc, ◌-◌, ◌<◌, ◌≤◌, true, false, cond, ◌==◌, List, [], ◌∷◌, ◌++◌, length, take, drop, set, get_or, refl, sym, ap, subst, ◌∙◌, arith, append-nil, append_assoc, Option, Some, None, Ok, Err, Result, OnOk, IfErr}
+use Rattle.std.proofs.Common.{◌≡◌, ℕ, zero, suc, ◌+◌, ◌-◌, ◌<◌, ◌≤◌, true, false, cond, ◌==◌, List, [], ◌∷◌, ◌++◌, length, take, drop, set, get_or, refl, sym, ap, subst, ◌∙◌, arith, append-nil, append_assoc, Option, Some, None, Ok, Err, Result, OnOk, IfErr, IsTrue, is_some}
 use Rattle.std.specs.List.{cons_option, slice_get}
 use Rattle.std.specs.Option.{option_map}
 use Rattle.rt_world.specs.declared.report.Note.{Note}
@@ -8,6 +8,7 @@ use Rattle.rt_mail.specs.declared.item.Item.{Item}
 use Rattle.rt_mail.specs.Lanes.{Line, with_waiting, why_not}
 use Rattle.rt_client.specs.Seats.{item_of, told_to}
 use Rattle.rt_client.specs.Lanes.{lane_of, with_told, AreQueued, StopsAt, IsChanged}
+use Rattle.rt_client.specs.Opened.{AreOpenBelow}
 use Rattle.rt_client.proofs.Numbers.{same_number, apart}
 use Rattle.rt_client.proofs.Reflects.{told_to-append}
 
@@ -74,6 +75,67 @@ changed_to_itself xs seat lane e n =
       | true ↦ λ t. ap (lane_of xs) (sym (same_number seat n t)) ∙ e
       | false ↦ λ t. refl
     ] refl
+
+-- ---- a seat that is opened
+
+-- a lane at a place where there is none
+pub set_at_place : (xs : Lines) (p : ℕ) (new : Option Line) → p < length xs → IsChanged (p + 1) new xs (set xs p new)
+set_at_place xs p new lt =
+    let same : p + 1 - 1 ≡ p = omega arith in
+    subst (λ k. IsChanged (p + 1) new xs (set xs k new)) same (set_at_seat xs (p + 1) new (omega arith) (omega arith))
+
+pushed_last : (xs : Lines) (x : Option Line) → lane_of (xs ++ x ∷ []) (suc (length xs)) ≡ x
+pushed_last [] x = refl
+pushed_last (y ∷ xs) x = pushed_last xs x
+
+pushed_other : (xs : Lines) (x : Option Line) (k : ℕ) → (length xs ≡ k → ⊥) → lane_of (xs ++ x ∷ []) (suc k) ≡ lane_of xs (suc k)
+pushed_other [] x zero away = absurd (away refl)
+pushed_other [] x (suc k) away = refl
+pushed_other (y ∷ xs) x zero away = refl
+pushed_other (y ∷ xs) x (suc k) away = pushed_other xs x k (λ e. away (ap suc e))
+
+-- and one behind the last place
+pub pushed_at_end : (xs : Lines) (p : ℕ) (new : Option Line) → p ≡ length xs → IsChanged (p + 1) new xs (xs ++ new ∷ [])
+pushed_at_end xs p new end n =
+    elim (p + 1 == n) as (λ b. (p + 1 == n) ≡ b → lane_of (xs ++ new ∷ []) n ≡ cond b new (lane_of xs n)) [
+      | true ↦ λ e.
+          let here : n ≡ suc (length xs) = sym (same_number (p + 1) n e) ∙ next in
+          ap (lane_of (xs ++ new ∷ [])) here ∙ pushed_last xs new
+      | false ↦ λ e. other n (apart (p + 1) n e)
+    ] refl
+  where
+    next : p + 1 ≡ suc (length xs)
+    next = omega (arith, end)
+
+    other : (m : ℕ) → (p + 1 ≡ m → ⊥) → lane_of (xs ++ new ∷ []) m ≡ lane_of xs m
+    other zero away = refl
+    other (suc k) away = pushed_other xs new k (λ e. away (next ∙ ap suc e))
+
+-- the seats before the first one that is not open
+pub none_open : (xs : Lines) → AreOpenBelow 1 xs
+none_open xs n one below = absurd (omega (arith, one, below))
+
+pub open_more : (xs : Lines) (p : ℕ) (lane : Option Line) → AreOpenBelow (p + 1) xs → p < length xs → get_or xs p None ≡ lane → IsTrue (is_some lane) → AreOpenBelow (p + 1 + 1) xs
+open_more xs p lane before lt at some n one below =
+    elim (n == p + 1) as (λ b. (n == p + 1) ≡ b → IsTrue (is_some (lane_of xs n))) [
+      | true ↦ λ e.
+          let here : n ≡ suc p = same_number n (p + 1) e ∙ next in
+          subst (λ l. IsTrue (is_some l)) (sym (ap (lane_of xs) here ∙ lane_of_at xs p None lt ∙ at)) some
+      | false ↦ λ e. let away = apart n (p + 1) e in before n one (lower away)
+    ] refl
+  where
+    next : p + 1 ≡ suc p
+    next = omega arith
+
+    lower : (n ≡ p + 1 → ⊥) → n < p + 1
+    lower away = omega (arith, below, away)
+
+-- the first place where there is none
+pub none_at : (xs : Lines) (p : ℕ) (d : Option Line) → p < length xs → get_or xs p d ≡ None → lane_of xs (p + 1) ≡ None
+none_at xs p d lt e = let next : p + 1 ≡ suc p = omega arith in ap (lane_of xs) next ∙ lane_of_at xs p d lt ∙ e
+
+pub none_behind : (xs : Lines) → lane_of xs (length xs + 1) ≡ None
+none_behind xs = lane_past xs (length xs + 1) (omega arith) (omega arith)
 
 -- ---- what follows of an answer
 

@@ -6,7 +6,7 @@ use Rattle.rt_query.specs.Select.{Shown}
 use Rattle.rt_world.specs.declared.error.CoreError.{CoreError}
 use Rattle.rt_world.specs.declared.error.CoreError.TheVariants as core
 use Rattle.rt_world.specs.World.{World, Listener}
-use Rattle.rt_sync.specs.Core.{Views, view_in}
+use Rattle.rt_sync.specs.Core.{Views}
 use Rattle.rt_client.specs.declared.error.ClientError.{ClientError}
 use Rattle.rt_client.specs.declared.error.ClientError.TheVariants as error
 use Rattle.rt_client.specs.Codes.{of_core}

@@ -7,7 +7,7 @@ use Rattle.rt_world.specs.World.{World}
 use Rattle.rt_world.specs.Answers.{Answer, step}
 use Rattle.rt_world.specs.Sound.{IsSound}
 use Rattle.rt_mail.specs.declared.receipt.Receipt.{Receipt}
-use Rattle.rt_mail.specs.Mailbox.{Known, known_of}
+use Rattle.rt_mail.specs.Mailbox.{Known, nothing_known, known_of}
 use Rattle.rt_mail.specs.Lanes.{Line, signed_lane}
 use Rattle.rt_client.specs.Seats.{reflection, told_to, receipt_of, does_close}
 use Rattle.rt_client.specs.Lanes.{lane_of, with_told}
@@ -37,6 +37,16 @@ pub record IsKept (h : Held) : Type 0 where
   pub core : h.core ≡ Some world
   pub sound : IsSound world
   pub told : AreTold world h.lanes
+
+-- of a seat that has no lane the core knows nothing
+abbrev pub AreUnknown : World → List (Option Line) → Type 0
+AreUnknown w lanes =
+    (seat : ℕ) → lane_of lanes seat ≡ None → reflection w seat ≡ nothing_known
+
+-- both of it, so that a seat can be opened where there is no lane
+pub record IsWhole (h : Held) : Type 0 where
+  pub kept : IsKept h
+  pub unknown : (w : World) → h.core ≡ Some w → AreUnknown w h.lanes
 
 -- ---- a step
 

@@ -11,6 +11,7 @@ use Rattle.rt_client.specs.declared.done.Done.{Done}
 use Rattle.rt_client.specs.declared.error.ClientError.{ClientError}
 use Rattle.rt_client.specs.Calls.{Locked, Seated, own_lane, MakesCall, Numbers, RefusesCall}
 use Rattle.rt_client.specs.Calls.{Comes, RefusesOn}
+use Rattle.rt_client.specs.Opened.{OpensSeat, RefusesSeat}
 use Rattle.rt_client.specs.Settling.{Settles, Closes, RefusesClose}
 
 -- whether there are none
@@ -81,6 +82,17 @@ pub record IsUnclosed (seat : Seated) (why : ClientError) : Type 0 where
   pub old : Locked
   pub new : Locked
   pub refused : RefusesClose old seat why new
+
+-- a seat is opened
+pub record IsOpened (capacity : ℕ) (seat : Seated) : Type 0 where
+  pub old : Locked
+  pub new : Locked
+  pub opens : OpensSeat old capacity new seat
+
+-- or none is
+pub record IsUnopened (why : ClientError) : Type 0 where
+  pub old : Locked
+  pub refused : RefusesSeat old why
 
 -- a step of the connection is made, and has that outcome: one that the step can have
 pub record HasOutcome (s : Step) (outcome : Outcome) : Type 0 where

@@ -1,11 +1,12 @@
 // The lanes of a client's seats.
 ghost use Rattle.std.specs.Prelude.{◌≡◌, ◌↔◌, OnOk, IfOk, IfErr, IsTrue, Some, None, is_some};
-ghost use Rattle.std.specs.Prelude.{replicate};
+ghost use Rattle.std.specs.Prelude.{ℕ, ◌+◌, ◌<◌, ◌≤◌, length, replicate};
 ghost use Rattle.std.specs.Option.{option_map, option_map_or};
 ghost use Rattle.rt_mail.specs.Lanes.{Line, why_not, with_waiting, signed_lane, Refuses};
 ghost use Rattle.rt_client.specs.Seats.{item_of};
 ghost use Rattle.rt_client.specs.Lanes.{new_lane, lane_of, AreQueued, StopsAt, IsChanged, HasRoom};
 ghost use Rattle.rt_client.specs.Lanes.{settled, settled_ring, signed_ring, RefusesToHand};
+ghost use Rattle.rt_client.specs.Opened.{AreOpenBelow};
 ghost use Rattle.rt_client.specs.Waiting.{is_quiet};
 
 use rt_mail::{Inbox, Item, Lane, MailError, Receipt, Unqueued};
@@ -180,6 +181,36 @@ fn new_lanes(alloc: Global, seats: usize) -> Result<Vec<Option<Lane>>, AllocErro
     Ok(lanes)
 }
 
+// How many lanes stand before the first place where there is none, which may be behind the last.
+#[tactic(auto, using(crate::proofs::Slots::none_open, crate::proofs::Slots::open_more, crate::proofs::Slots::none_at, crate::proofs::Slots::none_behind,))]
+fn free_place(lanes: &[Option<Lane>]) -> usize
+    ensures within { result ≤ length lanes.now }
+    ensures free { lane_of lanes.now (result + 1) ≡ None }
+    ensures first { AreOpenBelow (result + 1) lanes.now }
+{
+    for place in 0..lanes.len() {
+        if lanes[place].is_none() {
+            return place;
+        }
+    }
+    lanes.len()
+}
+
+// A new lane at a place where there is none, which may be behind the last.
+#[tactic(auto, using(crate::proofs::Slots::set_at_place, crate::proofs::Slots::pushed_at_end))]
+fn open_at(alloc: Global, lanes: &mut Vec<Option<Lane>>, place: usize) -> Result<(), AllocError>
+    requires { place ≤ length lanes.old.items }
+    ensures opened { OnOk result (IsChanged (place + 1) (Some new_lane) lanes.old.items lanes.new.items) }
+    ensures unchanged { IfErr result (λ _. lanes.new.items ≡ lanes.old.items) }
+{
+    if place < lanes.len() {
+        lanes[place] = Some(Lane::new(alloc));
+        return Ok(());
+    }
+    lanes.push(Some(Lane::new(alloc)))?;
+    Ok(())
+}
+
 // Drops the seat's lane, if it is open.
 fn close_at(lanes: &mut Vec<Option<Lane>>, seat: u64)
     ensures { IsChanged seat None lanes.old.items lanes.new.items }
@@ -200,6 +231,24 @@ impl Lanes {
     {
         let lanes = new_lanes(alloc, seats)?;
         Ok(Lanes { lanes })
+    }
+
+    // How many seats stand before the first one that is not open, which may be behind the last.
+    pub(crate) fn free_place(&self) -> usize
+        ensures within { result ≤ length self.now }
+        ensures free { lane_of self.now (result + 1) ≡ None }
+        ensures first { AreOpenBelow (result + 1) self.now }
+    {
+        free_place(self.lanes.as_slice())
+    }
+
+    // A new lane at a place where there is none, which may be behind the last.
+    pub(crate) fn open_at(&mut self, alloc: Global, place: usize) -> Result<(), AllocError>
+        requires { place ≤ length self.old }
+        ensures opened { OnOk result (IsChanged (place + 1) (Some new_lane) self.old self.new) }
+        ensures unchanged { IfErr result (λ _. self.new ≡ self.old) }
+    {
+        open_at(alloc, &mut self.lanes, place)
     }
 
     // Whether the seat is open.

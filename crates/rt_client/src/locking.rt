@@ -8,7 +8,8 @@ ghost use Rattle.rt_world.specs.declared.step.Step.TheVariants as step;
 ghost use Rattle.rt_world.specs.Calls.{step_of_message};
 ghost use Rattle.rt_client.specs.Calls.{handed_back};
 ghost use Rattle.rt_client.specs.Waiting.{IsNumbered, IsMade, IsDone, IsUnmade};
-ghost use Rattle.rt_client.specs.Waiting.{IsClosed, IsUnclosed, HasOutcome, HasRefusal};
+ghost use Rattle.rt_client.specs.Waiting.{IsOpened, IsUnopened, IsClosed, IsUnclosed};
+ghost use Rattle.rt_client.specs.Waiting.{HasOutcome, HasRefusal};
 
 use crate::client::Client;
 use crate::done::Done;
@@ -139,6 +140,15 @@ impl Client {
         let answer = try_call(&mut shared, seat, call);
         self.notify(shared);
         answer
+    }
+
+    /// Opens one more seat. There is nothing that others may wait for then, so nobody is woken.
+    pub fn open_seat<R: Wait>(&self, rt: &R, capacity: usize) -> Result<Seat, ClientError>
+        ensures opened { IfOk result (λ seat. IsOpened capacity seat) }
+        ensures refused { IfErr result (λ e. IsUnopened e) }
+    {
+        let mut shared = self.shared.lock(rt);
+        shared.open_seat(capacity)
     }
 
     /// Ends the seat.

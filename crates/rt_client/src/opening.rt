@@ -1,16 +1,17 @@
 // A client's locked value as it is opened, and its seats.
 ghost use Rattle.std.specs.Prelude.{◌≡◌, ◌<◌, ◌≤◌, ◌⊎◌, IfOk, IfErr, length};
-ghost use Rattle.rt_client.specs.Opened.{new_locked, seats_from};
+ghost use Rattle.rt_client.specs.Opened.{new_locked, seats_from, OpensSeat, RefusesSeat};
 ghost use Rattle.rt_client.specs.declared.error.ClientError.TheVariants.{TooManySeats, NoMemory};
 
 use crate::error::ClientError;
+use crate::keeping::keeping_law;
 use crate::seat::Seat;
 use crate::shared::Shared;
 use rt_mail::Inbox;
 use rt_world::Limits;
 use std::alloc::{AllocError, Global};
 
-/// The most seats that a client has.
+/// The most seats that a client has open.
 pub const MAX_SEATS: usize = 64;
 
 // A seat for each capacity, with numbers from 1.
@@ -58,5 +59,40 @@ impl Shared {
         let seats = new_seats(alloc, number, capacities)?;
         let shared = Shared::new(alloc, number, capacities.len(), limits)?;
         Ok((shared, seats))
+    }
+}
+
+impl Shared {
+    /// Opens one more seat, with a ring of that capacity, of which a 0 counts as 1, and more than 65,536
+    /// as that. It gets the first number from 1 whose seat is not open, also that of a seat that was
+    /// closed. Makes no step.
+    ///
+    /// # Errors
+    ///
+    /// Failed; TooManySeats where [`MAX_SEATS`] are open; and NoMemory, after which the client goes on. A
+    /// refusal changes nothing.
+    pub fn open_seat(&mut self, capacity: usize) -> Result<Seat, ClientError>
+        ensures opened { IfOk result (λ seat. OpensSeat self.old capacity self.new seat) }
+        ensures refused { IfErr result (λ e. RefusesSeat self.old e) }
+        ensures unchanged { IfErr result (λ _. self.new ≡ self.old) }
+    {
+        // For the prover: what the lock keeps is kept.
+        keeping_law();
+        let (alloc, client) = (self.alloc, self.number);
+        let Some(held) = &mut self.held else {
+            return Err(ClientError::Failed);
+        };
+        let place = held.lanes.free_place();
+        if place >= MAX_SEATS {
+            return Err(ClientError::TooManySeats);
+        }
+        let inbox = Inbox::new(alloc, capacity)?;
+        held.lanes.open_at(alloc, place)?;
+        let number = place as u64 + 1;
+        Ok(Seat {
+            client,
+            number,
+            inbox,
+        })
     }
 }

@@ -41,7 +41,7 @@ impl Drop for Shared {
 
 impl Model for Shared {
     ghost use Rattle.std.specs.Option.{IfSome};
-    ghost use Rattle.rt_client.specs.Shared.{IsKept};
+    ghost use Rattle.rt_client.specs.Shared.{IsWhole};
     ghost use Rattle.rt_client.specs.Calls.{Locked};
 
     ghost Value = { Locked };
@@ -53,12 +53,12 @@ impl Model for Shared {
       stopped = a.stopped;
     } };
 
-    ghost invariant = { λ a. IfSome a.held IsKept };
+    ghost invariant = { λ a. IfSome a.held IsWhole };
 }
 
 impl Shared {
     // A client with so many open seats, whose core is new.
-    #[tactic(auto, using(crate::proofs::Kept::opened_is_kept))]
+    #[tactic(auto, using(crate::proofs::Unknown::opened_is_whole))]
     pub(crate) fn new(
         alloc: Global,
         number: u64,

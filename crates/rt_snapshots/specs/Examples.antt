@@ -1,5 +1,5 @@
 -- Outside examples, which the prover computes: what is known after some items, and what is not.
-use Rattle.std.specs.Prelude.{◌≡◌, ℕ, List, [], ◌∷◌, pos, Option, Some, None, codes}
+use Rattle.std.specs.Prelude.{◌≡◌, ℕ, [], ◌∷◌, pos, Option, Some, None, codes}
 use Rattle.rt_tree.specs.Leaf.{number}
 use Rattle.rt_tree.specs.PathTree.{PathTree, null, of_leaf}
 use Rattle.rt_query.specs.Queries.{plain}

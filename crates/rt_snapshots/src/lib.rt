@@ -17,9 +17,11 @@
 #![tactic(auto)]
 
 mod examples;
+mod laws;
 mod snapshot;
 mod snapshots;
 
 pub use examples::snapshot_examples;
+pub use laws::snapshot_law;
 pub use snapshot::Snapshot;
 pub use snapshots::Snapshots;
