@@ -32,6 +32,15 @@ fn seats_left(seats: usize) -> usize {
     MAX_SEATS.saturating_sub(seats)
 }
 
+// One more seat, which has the number of one that is closed, if there is one.
+fn open_later(rt: &impl Wait, client: &Client) -> Result<Seat, ClientError> {
+    client.open_seat(rt, 8)
+}
+
+fn open_more(shared: &mut Shared, capacity: usize) -> Result<Seat, ClientError> {
+    shared.open_seat(capacity)
+}
+
 // What the lock of a client keeps, without a client, and its seats.
 fn open_alone(alloc: Global) -> Result<(Shared, Vec<Seat>), ClientError> {
     Shared::open(alloc, 2, &[1], Limits::full())
@@ -368,6 +377,8 @@ fn show_alone(rt: &impl Print, alloc: Global) -> Result<()> {
         println!(rt; "something is there: {}", is_due(&mut shared, &seat))?;
         show_full(rt, alloc, &mut shared, &mut seat)?;
     }
+    let more = open_more(&mut shared, 8)?;
+    println!(rt; "one more is closed: {}", close(&mut shared, more).is_none())?;
     Ok(())
 }
 
@@ -382,5 +393,7 @@ pub(crate) fn show<R: Print + Threads + Wait + Sync>(rt: &R, alloc: Global) -> R
     show_waiting(rt, &client, &mut first)?;
     let is_closed = close(client.shared.get_mut(), second).is_none();
     println!(rt; "closed: {is_closed}")?;
+    let mut third = open_later(rt, &client)?;
+    println!(rt; "in a new seat: {}", next_item(&mut third).is_some())?;
     show_alone(rt, alloc)
 }

@@ -8,6 +8,10 @@
 ///     Client::open(alloc, 1, &[64, 8], Limits::full())
 /// }
 ///
+/// fn open_later(rt: &impl Wait, client: &Client) -> Result<Seat, ClientError> {
+///     client.open_seat(rt, 8)
+/// }
+///
 /// fn seats_left(seats: usize) -> usize {
 ///     MAX_SEATS.saturating_sub(seats)
 /// }
@@ -109,6 +113,10 @@ pub use rt_client::ClientNumbers;
 ///
 /// fn new_id(shared: &mut Shared, now_ms: u64, random: [u8; 12]) -> Result<[u8; 20], PushError> {
 ///     shared.push_key(now_ms, random)
+/// }
+///
+/// fn open_more(shared: &mut Shared, capacity: usize) -> Result<Seat, ClientError> {
+///     shared.open_seat(capacity)
 /// }
 ///
 /// fn open_alone(alloc: Global) -> Result<(Shared, Vec<Seat>), ClientError> {
