@@ -389,13 +389,13 @@ def verdicts(crate, edits, folder, flags):
     return found
 
 
-def over_proved(root, crate, below, copy, room):
-    """Copies a crate alone, and answers where it is, and the flags by which rt check takes the libraries that rt ci proved and built in the other copy:
-    those of its own crates.txt rt would prove once more. `below` has for each crate what it stands on."""
+def over_proved(root, crate, below, copy, room, kind=""):
+    """Copies a crate alone, of that kind in crates.txt, and answers where it is, and the flags by which rt takes the libraries that rt ci proved and built
+    in the other copy: those of its own crates.txt rt would prove once more. `below` has for each crate what it stands on."""
     folder, flags = f"{room}/{crate}", ["--jobs", "1"]
     shutil.copytree(f"{root}/crates/{crate}", f"{folder}/crates/{crate}", ignore=shutil.ignore_patterns("out"))
     shutil.copy(f"{root}/HANDLES", folder)
-    write(f"{folder}/crates.txt", f"{crate}: {' '.join(it for it in below[crate] if it not in below)}\n")
+    write(f"{folder}/crates.txt", f"{crate} {kind}: {' '.join(it for it in below[crate] if it not in below)}\n")
     for it in below:
         built = f"{copy}/crates/{it}/out/rlib"
         flags += ["-L", f"dependency={built}"] if os.path.isdir(built) else []

@@ -10,7 +10,8 @@ import subprocess
 import sys
 
 sys.path.insert(0, f"{os.path.dirname(os.path.realpath(__file__))}/sessions")
-from parts import ROOT, Clock, part, some_of
+from bodies import over_proved
+from parts import ROOT, Clock, crates, part, some_of
 from rows import rows
 from runs import differs
 
@@ -26,9 +27,9 @@ def kit():
     return os.path.dirname(page)
 
 
-def archives(copy):
+def archives(room):
     """The library, and the few calls of the C library that it makes."""
-    return [f"{copy}/crates/{CRATE}/out/lib{CRATE}.a", f"{kit()}/c/liblibc_c.a"]
+    return [f"{room}/{CRATE}/crates/{CRATE}/out/lib{CRATE}.a", f"{kit()}/c/liblibc_c.a"]
 
 
 def said(words, **more):
@@ -37,8 +38,10 @@ def said(words, **more):
     return f"{os.path.basename(words[0])}: status {ran.returncode}: {(ran.stdout + ran.stderr)[-300:]}" if ran.returncode else ""
 
 
-def is_built(copy):
-    return said(["rt", "lib"], cwd=f"{copy}/crates/{CRATE}") or ("" if os.path.isfile(archives(copy)[0]) else "rt lib made no archive")
+def why_not_built(copy, room):
+    """What keeps the library from being built, if anything does. It is proved once more, as rt ci keeps no archive, over what that proved."""
+    folder, flags = over_proved(ROOT, CRATE, crates(), copy, room, "staticlib")
+    return said(["rt", "lib", *flags], cwd=folder) or ("" if os.path.isfile(archives(room)[0]) else "rt lib made no archive")
 
 
 def compiled(name, libraries, room):
@@ -55,7 +58,7 @@ def wrong_row(row, program):
 def c_part(copy, room):
     clock = Clock()
     scripts = [it for it in rows("examples", "rows") if it.script is not None and not os.path.exists(f"{ROOT}/{it.name}.args")]
-    wrong = [it for it in [is_built(copy) or compiled("lines", archives(copy), room)] if it]
+    wrong = [it for it in [why_not_built(copy, room) or compiled("lines", archives(room), room)] if it]
     if not wrong:
         wrong = [text for it in scripts for text in [wrong_row(it, f"{room}/lines")] if text]
     part(f"C: {len(scripts)} script rows through the static library", some_of(wrong, scripts), clock)
@@ -68,39 +71,39 @@ def lost_growth(row, program):
     return "" if not ran.returncode else f"{row.name}: status {ran.returncode}: {ran.stderr.decode(errors='replace')[:200]}"
 
 
-def growths_part(copy, room):
+def growths_part(room):
     clock, scripts = Clock(), [it for it in rows("examples") if it.script is not None]
-    wrong = [it for it in [compiled("refused", archives(copy)[:1], room)] if it]
+    wrong = [it for it in [compiled("refused", archives(room)[:1], room)] if it]
     if not wrong:
         wrong = [text for it in scripts for text in [lost_growth(it, f"{room}/refused")] if text]
     part(f"C: {len(scripts)} scripts with each growth of a heap of their own refused", some_of(wrong, scripts), clock)
 
 
-def shared(copy, room):
+def shared(room):
     """Makes the shared library of the archive, whose names alone are seen."""
     with open(f"{room}/names", "w", encoding="utf-8") as it:
         it.write("kaltewi { global: kw_*; local: *; };\n")
-    library, own = archives(copy)
+    library, own = archives(room)
     words = ["gcc", "-shared", f"-Wl,--version-script={room}/names", "-Wl,--whole-archive", library, "-Wl,--no-whole-archive", own]
     return said([*words, "-o", f"{room}/libkaltewi.so"])
 
 
-def python_part(copy, room):
+def python_part(room):
     clock = Clock()
-    why = shared(copy, room)
+    why = shared(room)
     if not why:
         environment = {**os.environ, "KALTEWI_LIBRARY": f"{room}/libkaltewi.so", "PYTHONDONTWRITEBYTECODE": "1"}
         why = said(["python3", "test_kaltewi.py"], cwd=f"{ROOT}/bindings/python", env=environment)
     part("Python: the tests of bindings/python", why, clock)
 
 
-def rust_part(copy, room):
+def rust_part(room):
     if not shutil.which("cargo"):
         print("       Rust: no command 'cargo' is on the PATH, so bindings/rust is not tried")
         return
     clock, crate = Clock(), f"{room}/rust"
     shutil.copytree(f"{ROOT}/bindings/rust", crate, ignore=shutil.ignore_patterns("target"))
-    environment = {**os.environ, "KALTEWI_ARCHIVES": ":".join(archives(copy)), "CARGO_TARGET_DIR": f"{room}/target"}
+    environment = {**os.environ, "KALTEWI_ARCHIVES": ":".join(archives(room)), "CARGO_TARGET_DIR": f"{room}/target"}
     why = said(["cargo", "test", "--quiet", "--offline"], cwd=crate, env=environment)
     part("Rust: the tests and examples of bindings/rust", why, clock)
 
@@ -111,9 +114,9 @@ def foreign_parts(copy, room):
         part("C", "its command 'gcc' is not on the PATH")
         return
     if c_part(copy, room):
-        growths_part(copy, room)
-        python_part(copy, room)
-        rust_part(copy, room)
+        growths_part(room)
+        python_part(room)
+        rust_part(room)
 
 
 def main():
