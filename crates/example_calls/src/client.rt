@@ -378,7 +378,10 @@ fn show_alone(rt: &impl Print, alloc: Global) -> Result<()> {
         show_full(rt, alloc, &mut shared, &mut seat)?;
     }
     let more = open_more(&mut shared, 8)?;
-    println!(rt; "one more is closed: {}", close(&mut shared, more).is_none())?;
+    println!(rt;
+        "one more is closed: {}",
+        close(&mut shared, more).is_none()
+    )?;
     Ok(())
 }
 
