@@ -1,5 +1,4 @@
--- Listeners by path: those of a path stand together, and whoever asks after the paths above one finds
--- what supplies it.
+-- Whoever asks after the paths above one finds what supplies it.
 use Rattle.std.proofs.Common.{◌≡◌, ℕ, zero, suc, ◌+◌, ◌<◌, ◌≤◌, ◌==◌, nat_lt, Bool, true, false, cond, not, ◌&&◌, ◌||◌, List, [], ◌∷◌, ◌++◌, length, take, drop, get_or, refl, sym, ap, subst, ◌∙◌, arith, ltb-true, ltb-false, Some, None, is_some, map, append_assoc, append-nil, eqb-true}
 use mathlib.Core.Bool.{true≢false}
 use Rattle.std.specs.Cmp.{IsStrictWeakOrder}
@@ -24,41 +23,17 @@ use Rattle.rt_query.specs.laws.QueryEq.{query_eq_tells}
 use Rattle.rt_cover.specs.Cover.{Registered, Tagged, forms, first_listener}
 use Rattle.rt_cover.specs.State.{shown_with}
 use Rattle.rt_cover.specs.declared.kept.Kept.{Kept}
-use Rattle.rt_cover.specs.inside.ByPath.{by_path_cmp, IsByPath}
 use Rattle.rt_cover.specs.inside.Endings.{left}
 use Rattle.rt_cover.specs.laws.FormLaws.{form_unfiltered, supply_filtered, supply_unfiltered}
 use Rattle.rt_cover.specs.laws.Pairs.{filter_all, All-from_contained, Contains-head, Contains-later, filter_agreeing}
 use Rattle.rt_cover.specs.laws.Paths.{rest_of_above, is_at_or_above-same}
 use Rattle.rt_cover.proofs.StartLaws.{list_any_agreeing, list_any_either, list_any_filtered, lt_true, lt_false, is_seen, forms_of_firsts}
 
--- ---- where a path stands
-
-pub by_path_ranks : IsStrictWeakOrder (λ (l m : Registered). is_lt (by_path_cmp l m))
-by_path_ranks = ranks_by paths_total (λ (l : Registered). (l.1).path)
-
 -- ---- tests of those of a path
 
 -- a form has one path
 pub same_form : (f g : Query) → query_eq f g ≡ true → path_eq f.path g.path ≡ true
 same_form f g e = subst (λ h. path_eq f.path h.path ≡ true) ((query_eq_tells f g).0 e) (path_eq-same f.path)
-
--- so a test of those of a form is one of those of its path
-pub of_form_path : (f : Query) (t : Registered → Bool) (ls : List Registered)
-    → list_any (λ (m : Registered). query_eq m.1 f && t m) (filter (λ (m : Registered). path_eq (m.1).path f.path) ls)
-    ≡ list_any (λ (m : Registered). query_eq m.1 f && t m) ls
-of_form_path f t ls = sym (list_any_filtered (λ (m : Registered). path_eq (m.1).path f.path) (λ (m : Registered). query_eq m.1 f && t m) ls)
-    ∙ list_any_agreeing (λ (m : Registered). path_eq (m.1).path f.path && (query_eq m.1 f && t m)) (λ (m : Registered). query_eq m.1 f && t m) ls
-    (λ m. weaker (path_eq (m.1).path f.path) (query_eq m.1 f) (t m) (same_form m.1 f))
-  where
-    weaker : (a b c : Bool) → (b ≡ true → a ≡ true) → (a && (b && c)) ≡ (b && c)
-    weaker true b c h = refl
-    weaker false true c h = absurd (true≢false (sym (h refl)))
-    weaker false false c h = refl
-
-pub of_one_path : (l : Registered) (by_path : List Registered)
-    → list_any (λ (m : Registered). query_eq m.1 l.1 && nat_lt m.0 l.0) (filter (λ (m : Registered). path_eq (m.1).path (l.1).path) by_path)
-    ≡ list_any (λ (m : Registered). query_eq m.1 l.1 && nat_lt m.0 l.0) by_path
-of_one_path l by_path = of_form_path l.1 (λ m. nat_lt m.0 l.0) by_path
 
 -- a test of those that are left, among some
 pub left_among : (at t ends : Registered → Bool) (ls : List Registered)
@@ -260,54 +235,6 @@ supplied_by_paths f ls own own_f =
     once true = refl
     once false = list_any_none (λ (l : Registered). false) ls (λ k d lt. refl)
 
--- ---- the first of a form
-
--- paths that neither is before
-tied : (p q : Path) → (not (is_lt (path_cmp p q)) && not (is_lt (path_cmp q p))) ≡ path_eq q p
-tied p q = ap (λ o. not (is_lt o) && not (is_lt (path_cmp q p))) (paths_total.antisymm p q) ∙ told (path_cmp q p)
-  where
-    told : (o : Ordering) → (not (is_lt (ordering_reverse o)) && not (is_lt o)) ≡ is_eq o
-    told Less = refl
-    told Equal = refl
-    told Greater = refl
-
-first_of_path : (f : Query) (ls : List Registered) → first_listener (filter (λ (l : Registered). path_eq (l.1).path f.path) ls) f ≡ first_listener ls f
-first_of_path f [] = refl
-first_of_path f (l ∷ ls) =
-    elim (query_eq l.1 f) as (λ b. query_eq l.1 f ≡ b
-    → first_listener (cond (path_eq (l.1).path f.path) (l ∷ filter (λ (m : Registered). path_eq (m.1).path f.path) ls) (filter (λ (m : Registered). path_eq (m.1).path f.path) ls)) f ≡ first_listener (l ∷ ls) f) [
-      | true ↦ λ e. ap (λ b. first_listener (cond b (l ∷ filter (λ (m : Registered). path_eq (m.1).path f.path) ls) (filter (λ (m : Registered). path_eq (m.1).path f.path) ls)) f) (same_form l.1 f e)
-          ∙ here e (filter (λ (m : Registered). path_eq (m.1).path f.path) ls) ∙ sym (here e ls)
-      | false ↦ λ e. kept e (path_eq (l.1).path f.path) ∙ first_of_path f ls ∙ sym (later e ls)
-    ] refl
-  where
-    here : query_eq l.1 f ≡ true → (xs : List Registered) → first_listener (l ∷ xs) f ≡ l.0
-    here e xs = ap (λ b. option_map_or (λ (x : Registered). x.0) (cond b (Some l) (find (λ (x : Registered). query_eq x.1 f) xs)) 0) e
-
-    later : query_eq l.1 f ≡ false → (xs : List Registered) → first_listener (l ∷ xs) f ≡ first_listener xs f
-    later e xs = ap (λ b. option_map_or (λ (x : Registered). x.0) (cond b (Some l) (find (λ (x : Registered). query_eq x.1 f) xs)) 0) e
-
-    kept : query_eq l.1 f ≡ false → (b : Bool) → first_listener (cond b (l ∷ filter (λ (m : Registered). path_eq (m.1).path f.path) ls) (filter (λ (m : Registered). path_eq (m.1).path f.path) ls)) f
-        ≡ first_listener (filter (λ (m : Registered). path_eq (m.1).path f.path) ls) f
-    kept e true = later e (filter (λ (m : Registered). path_eq (m.1).path f.path) ls)
-    kept e false = refl
-
-pub first_at_path : (f : Query) (by_path : List Registered) → first_listener (filter (λ (l : Registered). path_eq (l.1).path f.path) by_path) f ≡ first_listener by_path f
-first_at_path = first_of_path
-
--- those of a path stand in the order that they had
-pub first_by_path : (ls by_path : List Registered) → IsByPath ls by_path → (f : Query) → first_listener by_path f ≡ first_listener ls f
-first_by_path ls by_path is f = sym (first_of_path f by_path) ∙ ap (λ xs. first_listener xs f) same ∙ first_of_path f ls
-  where
-    at : Registered → Bool
-    at l = path_eq (l.1).path f.path
-
-    as_ties : (xs : List Registered) → filter (ties (λ (l m : Registered). is_lt (by_path_cmp l m)) (0, f)) xs ≡ filter at xs
-    as_ties xs = filter_agreeing (ties (λ (l m : Registered). is_lt (by_path_cmp l m)) (0, f)) at xs (λ k d lt. tied f.path ((get_or xs k d).1).path)
-
-    same : filter at by_path ≡ filter at ls
-    same = sym (as_ties by_path) ∙ is.stable (0, f) ∙ as_ties ls
-
 -- ---- forms, one listener after another
 
 -- the forms are those of the firsts
@@ -339,12 +266,12 @@ formed_leaves p done new all xs i x lt is e same inv =
 
 -- ---- what is shown, one listen after another
 
-pub shown_more : (ls by_path : List Registered) → IsByPath ls by_path → (done new all : List Kept) (kept : List Tagged) (i : ℕ) (k : Tagged)
+pub shown_more : (ls : List Registered) (done new all : List Kept) (kept : List Tagged) (i : ℕ) (k : Tagged)
     → i < length kept → k ≡ get_or kept i k
-    → new ≡ done ++ record { tag = k.tag; query = k.form; listener = first_listener by_path k.form } ∷ []
+    → new ≡ done ++ shown_with ls k ∷ []
     → done ++ map (shown_with ls) (drop i kept) ≡ all → new ++ map (shown_with ls) (drop (i + 1) kept) ≡ all
-shown_more ls by_path by done new all kept i k lt is added inv =
-    ap (λ z. z ++ map (shown_with ls) (drop (i + 1) kept)) (added ∙ (λ j. done ++ record { tag = k.tag; query = k.form; listener = first_by_path ls by_path by k.form j } ∷ []))
+shown_more ls done new all kept i k lt is added inv =
+    ap (λ z. z ++ map (shown_with ls) (drop (i + 1) kept)) added
     ∙ append_assoc done (shown_with ls k ∷ []) (map (shown_with ls) (drop (i + 1) kept))
     ∙ ap (λ z. done ++ map (shown_with ls) z) (ap (λ y. y ∷ drop (i + 1) kept) is ∙ sym (drop_more kept i k lt))
     ∙ inv

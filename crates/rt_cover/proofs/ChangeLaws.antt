@@ -9,7 +9,6 @@ use Rattle.std.proofs.lemmas.List.Elements.{All-contains}
 use Rattle.std.proofs.lemmas.List.Folds.{Any-from_list_any, list_any_none, list_any-append}
 use Rattle.std.proofs.lemmas.List.Kept.{AllPairs-filter}
 use Rattle.rt_tree.specs.Assignments.{is_at_or_above}
-use Rattle.rt_tree.specs.PathTree.{path_eq}
 use Rattle.rt_tree.specs.TreeEq.{both, both_first, both_second}
 use Rattle.rt_query.specs.Queries.{Query, is_filtered}
 use Rattle.rt_query.specs.QueryEq.{query_eq}
@@ -18,7 +17,6 @@ use Rattle.rt_query.specs.laws.QueryEq.{query_eq_tells}
 use Rattle.rt_cover.specs.Cover.{Registered, Tagged, forms, first_listener}
 use Rattle.rt_cover.specs.State.{Cover, numbers_of}
 use Rattle.rt_cover.specs.inside.Endings.{comes_before, is_replaced, starts, is_left_form, is_first, is_lost_by, lost, beginners, begins_under}
-use Rattle.rt_cover.specs.inside.Index.{SameCounts}
 use Rattle.rt_cover.specs.inside.Picked.{picked}
 use Rattle.rt_cover.specs.inside.Sound.{IsSound}
 use Rattle.rt_cover.specs.laws.CoverLaws.{Contains-filter, Contains-from_filter, passes-from_filter}
@@ -29,9 +27,7 @@ use Rattle.rt_cover.proofs.StartLaws.{list_any_with, list_any_agreeing, list_any
 use Rattle.rt_cover.proofs.EndLaws.{starts_first, starts_as, lost_by_ended}
 use Rattle.rt_cover.proofs.NewLaws.{kept_registered}
 use Rattle.rt_cover.proofs.PickLaws.{rising_any, picked_same}
-use Rattle.rt_cover.proofs.ByPathLaws.{same_form, list_any_agreed}
-use Rattle.rt_cover.proofs.CountLaws.{same_any, same_filter, same_map, same_trans, rising_same}
-use Rattle.rt_cover.proofs.SeenLaws.{filter_both}
+use Rattle.rt_cover.proofs.ByPathLaws.{list_any_agreed}
 
 -- ---- tests of lists
 
@@ -350,25 +346,6 @@ supplied_under c ends p k out = elim (is_filtered k.form) as (λ b. is_filtered 
     q : Registered → Bool
     q l = not (ends l) && not (is_replaced ends c.listeners l)
 
--- what the walk under a lost plain listen adds
-pub under_adds : (ends : Registered → Bool) (ls : List Registered) (p : ℕ → Bool) (k : Tagged) (old : List ℕ) → is_filtered k.form ≡ false
-    → list_any p (old ++ map (λ (l : Registered). l.0) (filter (λ (l : Registered). not (ends l) && not (is_replaced ends ls l)) (filter (λ (l : Registered). is_at_or_above (k.form).path (l.1).path) ls)))
-    ≡ (list_any p old || begins_under ends ls p k)
-under_adds ends ls p k old flat =
-    list_any-append p old (map (λ (l : Registered). l.0) (filter q (filter at ls)))
-    ∙ ap (λ b. list_any p old || b)
-    (list_any_map (λ (l : Registered). l.0) p (filter q (filter at ls))
-    ∙ sym (list_any_filtered q (λ (l : Registered). p l.0) (filter at ls))
-    ∙ sym (list_any_filtered at (λ (l : Registered). q l && p l.0) ls)
-    ∙ list_any_agreeing (λ (l : Registered). at l && (q l && p l.0)) (λ (l : Registered). (at l && q l) && p l.0) ls (λ l. sym (and_assoc (at l) (q l) (p l.0)))
-    ∙ ap (λ b. not b && list_any (λ (l : Registered). (at l && q l) && p l.0) ls) (sym flat))
-  where
-    at : Registered → Bool
-    at l = is_at_or_above (k.form).path (l.1).path
-
-    q : Registered → Bool
-    q l = not (ends l) && not (is_replaced ends ls l)
-
 -- of all
 pub begin_by_lost : (c : Cover) → IsSound c → (ends : Registered → Bool) (p : ℕ → Bool)
     → list_any (begins_under ends c.listeners p) (lost ends c.kept c.listeners)
@@ -414,46 +391,3 @@ pub begin_picked : (c : Cover) → IsSound c → (ends : Registered → Bool)
 begin_picked c s ends = picked_same (λ (l : Registered). l.0) c.listeners (beginners ends c.kept c.listeners) s.listeners
     (All-from_contained (Contains c.listeners) (beginners ends c.kept c.listeners) (λ l m.
     Contains-from_filter (starts ends c.kept c.listeners) c.listeners l (subst (λ z. Contains z l) (sym (starts_first c s ends)) m)))
-
--- ---- the same listeners by path
-
--- one of them is one of the others
-same_contains : (xs ys : List Registered) → SameCounts xs ys → (l : Registered) → Contains xs l → Contains ys l
-same_contains xs ys h l m =
-    let a = Any-from_list_any (λ (x : Registered). x.0 == l.0 && query_eq x.1 l.1) ys
-    (sym (same_any (λ (x : Registered). x.0 == l.0 && query_eq x.1 l.1) xs ys h)
-    ∙ list_any_with (λ (x : Registered). x.0 == l.0 && query_eq x.1 l.1) xs l m (both (l.0 == l.0) (query_eq l.1 l.1) (eq-eqb l.0 l.0 refl) ((query_eq_tells l.1 l.1).1 refl))) in
-    let is : a.1 ≡ l = λ i. (eqb-true (a.1).0 l.0 (both_first ((a.1).0 == l.0) (query_eq (a.1).1 l.1) a.4) i, (query_eq_tells (a.1).1 l.1).0 (both_second ((a.1).0 == l.0) (query_eq (a.1).1 l.1) a.4) i) in
-    subst (Contains ys) is (a.0, a.2, a.3)
-
-pub forms_same : (xs ys : List Registered) → SameCounts xs ys → All (λ (l : Registered). form l.1 ≡ l.1) ys → All (λ (l : Registered). form l.1 ≡ l.1) xs
-forms_same xs ys h own = All-from_contained (λ (l : Registered). form l.1 ≡ l.1) xs (λ l m. All-contains (λ (x : Registered). form x.1 ≡ x.1) ys l own (same_contains xs ys h l m))
-
-pub begins_same : (ends : Registered → Bool) (xs ys : List Registered) → SameCounts xs ys → (p : ℕ → Bool) (lost : List Tagged)
-    → list_any (begins_under ends xs p) lost ≡ list_any (begins_under ends ys p) lost
-begins_same ends xs ys h p lost = list_any_agreeing (begins_under ends xs p) (begins_under ends ys p) lost each
-  where
-    replaced : (l : Registered) → is_replaced ends xs l ≡ is_replaced ends ys l
-    replaced l = same_any (λ (m : Registered). not (ends m) && comes_before m l) xs ys h
-
-    each : (k : Tagged) → begins_under ends xs p k ≡ begins_under ends ys p k
-    each k = ap (λ b. not (is_filtered k.form) && b)
-        (list_any_agreeing (λ (l : Registered). (is_at_or_above (k.form).path (l.1).path && (not (ends l) && not (is_replaced ends xs l))) && p l.0)
-        (λ (l : Registered). (is_at_or_above (k.form).path (l.1).path && (not (ends l) && not (is_replaced ends ys l))) && p l.0) xs
-        (λ l. ap (λ b. (is_at_or_above (k.form).path (l.1).path && (not (ends l) && not b)) && p l.0) (replaced l))
-        ∙ same_any (λ (l : Registered). (is_at_or_above (k.form).path (l.1).path && (not (ends l) && not (is_replaced ends ys l))) && p l.0) xs ys h)
-
--- the numbers of a form, in order
-pub numbers_same : (f : Query) (by_path ls : List Registered) → SameCounts by_path ls → AllPairs (λ (l m : Registered). l.0 < m.0) ls → (ns : List ℕ)
-    → AllPairs (λ a b. a ≤ b) ns → SameCounts ns (numbers_of (filter (λ (l : Registered). path_eq (l.1).path f.path) by_path) f) → ns ≡ numbers_of ls f
-numbers_same f by_path ls h rise ns up same = rising_same ns (numbers_of ls f) up
-    (AllPairs-map (λ (l : Registered). l.0) (λ a b. a < b) (filter (λ (l : Registered). query_eq l.1 f) ls) (AllPairs-filter (λ (l m : Registered). l.0 < m.0) (λ (l : Registered). query_eq l.1 f) ls rise))
-    (same_trans ns (numbers_of by_path f) (numbers_of ls f)
-    (subst (SameCounts ns) (ap (map (λ (l : Registered). l.0)) (filter_both (λ (l : Registered). query_eq l.1 f) (λ (l : Registered). path_eq (l.1).path f.path) (λ (l : Registered). query_eq l.1 f)
-    (λ l. of_path (path_eq (l.1).path f.path) (query_eq l.1 f) (same_form l.1 f)) by_path)) same)
-    (same_map (λ (l : Registered). l.0) (filter (λ (l : Registered). query_eq l.1 f) by_path) (filter (λ (l : Registered). query_eq l.1 f) ls) (same_filter (λ (l : Registered). query_eq l.1 f) by_path ls h)))
-  where
-    of_path : (a b : Bool) → (b ≡ true → a ≡ true) → (a && b) ≡ b
-    of_path true b h = refl
-    of_path false true h = absurd (true≢false (sym (h refl)))
-    of_path false false h = refl

@@ -5,6 +5,7 @@ pub mod ChangeLaws
 pub mod CountLaws
 pub mod EndLaws
 pub mod FoundLaws
+pub mod HeldLaws
 pub mod ListenLaws
 pub mod NewLaws
 pub mod PickLaws

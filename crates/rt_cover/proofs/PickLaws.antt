@@ -48,7 +48,7 @@ rising_any (x ∷ xs) (y ∷ ys) a b h =
 
 -- ---- elements found by their numbers
 
-find_one : {X : Type 0} (key : X → ℕ) (xs : List X) (x : X) → AllPairs (λ (y z : X). key y < key z) xs → Contains xs x
+pub find_one : {X : Type 0} (key : X → ℕ) (xs : List X) (x : X) → AllPairs (λ (y z : X). key y < key z) xs → Contains xs x
     → find (λ y. key y == key x) xs ≡ Some x
 find_one key [] x up m = absurd (omega (arith, m.1))
 find_one {X = X} key (y ∷ ys) x up m = elim (Contains-cases y ys x m) [

@@ -1,4 +1,3 @@
-pub mod ByPath
 pub mod Endings
 pub mod Held
 pub mod Index

@@ -1,4 +1,4 @@
-// What a new listener does to the lists.
+// What a new listener does to the list.
 ghost use Rattle.std.specs.Prelude.{◌≡◌, ◌<◌, ◌≤◌, ◌∷◌, [], ◌==◌, false, length};
 ghost use Rattle.std.specs.Prelude.{IfOk, vec_len, vec_capacity};
 ghost use Rattle.std.specs.List.{find, AllPairs};

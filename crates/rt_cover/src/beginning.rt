@@ -1,107 +1,100 @@
 // For whom listens start once others are lost: looked for under the paths of these.
-ghost use Rattle.std.specs.Prelude.{◌≡◌, ◌||◌, ◌++◌, ◌&&◌, not, map, ℕ, Bool, OnOk, IfOk};
-ghost use Rattle.std.specs.List.{filter, list_any, All};
-ghost use Rattle.std.specs.List.Sorted.{IsSorted};
-ghost use Rattle.rt_tree.specs.Assignments.{is_at_or_above};
-ghost use Rattle.rt_query.specs.Queries.{is_filtered};
+ghost use Rattle.std.specs.Prelude.{◌≡◌, ◌<◌, ◌||◌, ◌&&◌, false, not, ℕ, Bool, OnOk, IfOk};
+ghost use Rattle.std.specs.List.{list_any, All, AllPairs};
+ghost use Rattle.std.specs.Option.{option_map_or};
 ghost use Rattle.rt_query.specs.Supply.{form};
-ghost use Rattle.rt_cover.specs.inside.Held.{registered_form};
-ghost use Rattle.rt_cover.specs.inside.Index.{by_form};
-ghost use Rattle.rt_cover.specs.inside.Endings.{is_replaced, begins_under};
+ghost use Rattle.rt_cover.specs.inside.Endings.{by_number, is_replaced, begins_at, begins_under};
 
 use crate::behind::is_behind;
-use crate::by_path::{HasForm, span_under};
+use crate::by_path::HasForm;
 use crate::ending::Ending;
 use crate::listen::Listen;
 use crate::listener::Listener;
-use rt_tree::Path;
+use crate::listeners::Listeners;
+use crate::numbers::add_some;
 use std::alloc::{AllocError, Global};
 
 // Whether the listener is left, and none that is comes before it.
-fn begins<E: Ending>(by_path: &[Listener], ending: &E, listener: &Listener) -> bool
-    requires sorted { IsSorted (by_form registered_form) by_path.now }
-    requires forms { All (λ l. form l.1 ≡ l.1) by_path.now }
+fn begins<E: Ending>(listeners: &Listeners, ending: &E, listener: &Listener) -> bool
+    requires forms { All (λ l. form l.1 ≡ l.1) listeners.now }
     requires own { form listener.now.1 ≡ listener.now.1 }
-    ensures { result ≡ (not (E.ended ending.now listener.now)
-        && not (is_replaced (E.ended ending.now) by_path.now listener.now)) }
+    ensures { result ≡ (not (E.ended ending.now listener.now.0)
+        && not (is_replaced (by_number (E.ended ending.now)) listeners.now listener.now)) }
 {
-    !ending.ends(listener) && !is_behind(by_path, ending, listener)
+    !ending.ends(listener.number()) && !is_behind(listeners, ending, listener)
+}
+
+// The number again, where a listen starts for its listener.
+fn begun<E: Ending>(listeners: &Listeners, ending: &E, number: u64) -> Option<u64>
+    requires rise { AllPairs (λ l m. l.0 < m.0) listeners.now }
+    requires forms { All (λ l. form l.1 ≡ l.1) listeners.now }
+    ensures { (p : ℕ → Bool) → option_map_or p result false
+        ≡ begins_at (by_number (E.ended ending.now)) listeners.now p number }
+{
+    let Some(listener) = listeners.at(number) else {
+        return None;
+    };
+    if begins(listeners, ending, listener) {
+        Some(number)
+    } else {
+        None
+    }
 }
 
 // Adds the numbers of those of some listeners that begin.
-fn add_among<E: Ending>(
+fn add_begun<E: Ending>(
     numbers: &mut Vec<u64>,
-    listeners: &[Listener],
-    by_path: &[Listener],
+    listeners: &Listeners,
     ending: &E,
+    under: &[u64],
 ) -> Result<(), AllocError>
-    requires sorted { IsSorted (by_form registered_form) by_path.now }
-    requires forms { All (λ l. form l.1 ≡ l.1) by_path.now }
-    requires own { All (λ l. form l.1 ≡ l.1) listeners.now }
-    ensures { OnOk result (numbers.new.items ≡ numbers.old.items ++ map (λ l. l.0)
-        (filter (λ l. not (E.ended ending.now l)
-        && not (is_replaced (E.ended ending.now) by_path.now l)) listeners.now)) }
+    requires rise { AllPairs (λ l m. l.0 < m.0) listeners.now }
+    requires forms { All (λ l. form l.1 ≡ l.1) listeners.now }
+    ensures { OnOk result ((p : ℕ → Bool) → list_any p numbers.new.items
+        ≡ (list_any p numbers.old.items
+        || list_any (begins_at (by_number (E.ended ending.now)) listeners.now p) under.now)) }
 {
-    for listener in listeners {
-        if begins(by_path, ending, listener) {
-            numbers.push(listener.number())?;
-        }
+    for number in under {
+        add_some(numbers, begun(listeners, ending, *number))?;
     }
     Ok(())
-}
-
-// Adds the numbers of those that begin at or under the path.
-fn add_under<E: Ending>(
-    numbers: &mut Vec<u64>,
-    by_path: &[Listener],
-    ending: &E,
-    path: &Path,
-) -> Result<(), AllocError>
-    requires sorted { IsSorted (by_form registered_form) by_path.now }
-    requires forms { All (λ l. form l.1 ≡ l.1) by_path.now }
-    ensures { OnOk result (numbers.new.items ≡ numbers.old.items ++ map (λ l. l.0)
-        (filter (λ l. not (E.ended ending.now l)
-        && not (is_replaced (E.ended ending.now) by_path.now l))
-        (filter (λ l. is_at_or_above path.now (l.1).path) by_path.now))) }
-{
-    let (first, count) = span_under(by_path, path);
-    add_among(numbers, &by_path[first..first + count], by_path, ending)
 }
 
 // Adds the numbers of those that begin where the listen is lost.
 fn add_lost<E: Ending>(
     numbers: &mut Vec<u64>,
-    by_path: &[Listener],
+    listeners: &Listeners,
     ending: &E,
     listen: &Listen,
 ) -> Result<(), AllocError>
-    requires sorted { IsSorted (by_form registered_form) by_path.now }
-    requires forms { All (λ l. form l.1 ≡ l.1) by_path.now }
+    requires rise { AllPairs (λ l m. l.0 < m.0) listeners.now }
+    requires forms { All (λ l. form l.1 ≡ l.1) listeners.now }
     ensures { OnOk result ((p : ℕ → Bool) → list_any p numbers.new.items
         ≡ (list_any p numbers.old.items
-        || begins_under (E.ended ending.now) by_path.now p listen.now)) }
+        || begins_under (by_number (E.ended ending.now)) listeners.now p listen.now)) }
 {
     if listen.form().is_filtered() {
         return Ok(());
     }
-    add_under(numbers, by_path, ending, listen.form().path())
+    let under = listeners.numbers_under(listen.form().path().keys())?;
+    add_begun(numbers, listeners, ending, &under)
 }
 
 // The numbers of those that begin where the listens are lost.
 pub(crate) fn numbers_begun<E: Ending>(
     alloc: Global,
-    by_path: &[Listener],
+    listeners: &Listeners,
     ending: &E,
     lost: &[Listen],
 ) -> Result<Vec<u64>, AllocError>
-    requires sorted { IsSorted (by_form registered_form) by_path.now }
-    requires forms { All (λ l. form l.1 ≡ l.1) by_path.now }
+    requires rise { AllPairs (λ l m. l.0 < m.0) listeners.now }
+    requires forms { All (λ l. form l.1 ≡ l.1) listeners.now }
     ensures { IfOk result (λ numbers. (p : ℕ → Bool) → list_any p numbers.items
-        ≡ list_any (begins_under (E.ended ending.now) by_path.now p) lost.now) }
+        ≡ list_any (begins_under (by_number (E.ended ending.now)) listeners.now p) lost.now) }
 {
     let mut numbers = Vec::new(alloc);
     for listen in lost {
-        add_lost(&mut numbers, by_path, ending, listen)?;
+        add_lost(&mut numbers, listeners, ending, listen)?;
     }
     Ok(numbers)
 }

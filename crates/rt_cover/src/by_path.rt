@@ -1,5 +1,4 @@
-// Listeners by path: those of one path stand together, in the order that they had, and are found by
-// halving.
+// Listens by path: those of one path stand together, and are found by halving.
 ghost use Rattle.std.specs.Prelude.{◌≡◌, ◌+◌, ◌≤◌, ◌&&◌, true, false, not, nat_lt, length, IfOk};
 ghost use Rattle.std.specs.Prelude.{slice_range};
 ghost use Rattle.std.specs.List.{filter, list_any, remove_range, All};
@@ -7,19 +6,11 @@ ghost use Rattle.std.specs.List.Sorted.{IsPartitionPoint, IsSorted};
 ghost use Rattle.std.specs.Ordering.{is_lt, is_le};
 ghost use Rattle.rt_tree.specs.PathTree.{path_cmp, path_eq};
 ghost use Rattle.rt_tree.specs.Assignments.{is_at_or_above};
-ghost use Rattle.rt_query.specs.Queries.{Query, is_filtered};
-ghost use Rattle.rt_query.specs.QueryEq.{query_eq};
-ghost use Rattle.rt_query.specs.Supply.{form, does_supply};
-ghost use Rattle.rt_cover.specs.Cover.{first_listener};
-ghost use Rattle.rt_cover.specs.inside.ByPath.{by_path_cmp, IsByPath};
+ghost use Rattle.rt_query.specs.Queries.{Query};
 ghost use Rattle.rt_cover.specs.inside.Index.{by_form};
-ghost use Rattle.rt_cover.specs.inside.Endings.{comes_before};
 
-use crate::listener::{Listener, copies, first_listener};
 use rt_query::Query;
 use rt_tree::{Key, Path};
-use std::alloc::{AllocError, Global};
-use std::cmp::Ordering;
 
 // What has a form, by whose path it stands.
 pub(crate) trait HasForm {
@@ -28,22 +19,6 @@ pub(crate) trait HasForm {
     // The form.
     fn form(&self) -> &Query
         ensures { result.now ≡ form_of self.now };
-}
-
-// The order of two listeners' paths.
-fn path_order(listener: &Listener, other: &Listener) -> Ordering
-    ensures { result ≡ by_path_cmp listener.now other.now }
-{
-    listener.form().path().cmp(other.form().path())
-}
-
-// Equal listeners by path.
-pub(crate) fn by_path(alloc: Global, listeners: &[Listener]) -> Result<Vec<Listener>, AllocError>
-    ensures { IfOk result (λ v. IsByPath listeners.now v.items) }
-{
-    let mut by_path = copies(alloc, listeners)?;
-    by_path.sort_by(|listener, other| path_order(listener, other))?;
-    Ok(by_path)
 }
 
 // Whether its path stands before this one.
@@ -111,31 +86,4 @@ pub(crate) fn span_under<T: HasForm>(by_path: &[T], path: &Path) -> (usize, usiz
     let rest = &by_path[first..];
     let count = rest.partition_point(|item| is_under(item, path));
     (first, count)
-}
-
-// Whether one of a lesser number has the listener's form.
-fn is_repeated(listeners: &[Listener], listener: &Listener) -> bool
-    ensures { result
-        ≡ list_any (λ m. query_eq m.1 listener.now.1 && nat_lt m.0 listener.now.0) listeners.now }
-{
-    listeners.iter().any(|other| other.form() == listener.form()
-        && other.number() < listener.number())
-}
-
-// The same of those by path.
-pub(crate) fn is_seen(by_path: &[Listener], listener: &Listener) -> bool
-    requires { IsSorted by_path_cmp by_path.now }
-    ensures { result
-        ≡ list_any (λ m. query_eq m.1 listener.now.1 && nat_lt m.0 listener.now.0) by_path.now }
-{
-    is_repeated(at_path(by_path, listener.form().path().keys()), listener)
-}
-
-// The least number of a listener with that form, where those of one path are by number; 0 where there
-// is none.
-pub(crate) fn first_at(by_path: &[Listener], form: &Query) -> u64
-    requires { IsSorted by_path_cmp by_path.now }
-    ensures { result ≡ first_listener by_path.now form.now }
-{
-    first_listener(at_path(by_path, form.path().keys()), form)
 }

@@ -6,19 +6,22 @@ ghost use Rattle.std.specs.List.{list_any, All, enumerate_from};
 ghost use Rattle.std.specs.Option.{option_copied, option_map, option_map_or};
 
 use crate::adding::started_one;
+use crate::beginning::numbers_begun;
+use crate::behind::{is_first, is_left};
 use crate::by_path::HasForm;
 use crate::choice::Choice;
 use crate::delta::{Delta, Revoked};
-use crate::ending::{Ending, OfChoice, OfForm, OfNumbers};
+use crate::ending::{Ending, OfChoice, OfNumbers};
+use crate::entering::enter;
 use crate::error::CoverError;
 use crate::kept::KeptList;
 use crate::listen::{Listen, listens_at};
 use crate::listener::{Listener, into_form};
-use crate::listeners::{Listeners, forms};
+use crate::listeners::Listeners;
 use crate::listens::Listens;
 use crate::numbers::{Numbers, Sorted, add_some, sort_once};
 use crate::plan::Plan;
-use crate::shown::shown;
+use crate::shown::{forms, shown};
 use crate::{listen, starting};
 use rt_query::Query;
 use std::alloc::{AllocError, Global};
@@ -52,14 +55,14 @@ impl Model for Cover {
     ghost Value = { Cover };
 
     ghost view = { λ a. record {
-      listeners = a.listeners.items;
+      listeners = a.listeners;
       kept = a.kept;
       next_tag = a.given + 1;
       last_tag = a.last_tag;
     } };
 
     ghost invariant = { λ a. IsSound (record {
-      listeners = a.listeners.items;
+      listeners = a.listeners;
       kept = a.kept;
       next_tag = a.given + 1;
       last_tag = a.last_tag;
@@ -81,7 +84,7 @@ impl Cover {
     ghost use Rattle.rt_cover.specs.State.{fault_of, add_fault, remove_fault, revoke_fault};
     ghost use Rattle.rt_cover.specs.State.{has_unknown, AreChosen, FailsBy};
     ghost use Rattle.rt_cover.specs.Shown.{AreFewest, IsCertified, IsLeastSupplier, IsTold};
-    ghost use Rattle.rt_cover.specs.inside.Endings.{left, lost, is_lost_by, beginners};
+    ghost use Rattle.rt_cover.specs.inside.Endings.{by_number, left, lost, is_lost_by, beginners};
     ghost use Rattle.rt_cover.specs.inside.Endings.{tagged_of, told_of};
     ghost use Rattle.rt_cover.specs.inside.Sound.{IsSound};
 
@@ -136,11 +139,7 @@ impl Cover {
         ensures listens { IfOk result (λ list. list ≡ shown self.now) }
         ensures sound { IsSound self.now }
     {
-        let items = shown(
-            self.alloc(),
-            self.listeners.as_slice(),
-            self.kept.as_slice(),
-        )?;
+        let items = shown(self.alloc(), &self.listeners, self.kept.as_slice())?;
         Ok(KeptList::of(items))
     }
 
@@ -174,7 +173,7 @@ impl Cover {
 
     /// The registered forms, each once, in order of their least-numbered listeners.
     ///
-    /// Copies each form, and looks for the first of each among the listeners of its path, found by halving.
+    /// Copies each form, and looks at its path for the first listener of each.
     ///
     /// # Errors
     ///
@@ -239,7 +238,7 @@ impl Cover {
     // Whether a change that ends these listeners would need a tag above the last one. No more listens
     // start than there are listeners.
     fn lacks_tag_to_end<E: Ending>(&self, ending: &E) -> bool
-        ensures { result ≡ lacks_tag self.now (left (E.ended ending.now) self.now.listeners) }
+        ensures { result ≡ lacks_tag self.now (left (by_number (E.ended ending.now)) self.now.listeners) }
     {
         let room = self.last_tag - self.given;
         let listeners = self.listeners.as_slice();
@@ -286,8 +285,8 @@ impl Cover {
             (listen_at self.now tag) false }
     {
         match listen::listen_at(self.kept.as_slice(), tag) {
-            Some(listen) => self.lacks_tag_to_end(&OfForm {
-                form: listen.form(),
+            Some(listen) => self.lacks_tag_to_end(&OfNumbers {
+                numbers: self.listeners.numbers(listen.form()),
             }),
             None => false,
         }
@@ -297,17 +296,17 @@ impl Cover {
     // is the first of the form and none is left.
     fn lost_tag<E: Ending>(&self, number: u64, ending: &E) -> Option<u64>
         ensures { (p : ℕ → Bool) → option_map_or p result false
-            ≡ list_any (is_lost_by (E.ended ending.now) self.now.listeners p number)
+            ≡ list_any (is_lost_by (by_number (E.ended ending.now)) self.now.listeners p number)
             self.now.kept }
     {
         let Some(listener) = self.listeners.at(number) else {
             return None;
         };
         let form = listener.form();
-        if !self.listeners.is_first(listener) {
+        if !is_first(&self.listeners, listener) {
             return None;
         }
-        if self.listeners.is_left(ending, form) {
+        if is_left(&self.listeners, ending, form) {
             return None;
         }
         self.kept.tag_of(form)
@@ -316,7 +315,7 @@ impl Cover {
     // The tags of the listens that the end of these listeners loses for these numbers.
     fn tags_lost<E: Ending>(&self, numbers: &[u64], ending: &E) -> Result<Vec<u64>, AllocError>
         ensures { IfOk result (λ tags. (p : ℕ → Bool) → list_any p tags.items
-            ≡ list_any (λ n. list_any (is_lost_by (E.ended ending.now) self.now.listeners p n)
+            ≡ list_any (λ n. list_any (is_lost_by (by_number (E.ended ending.now)) self.now.listeners p n)
             self.now.kept) numbers.now) }
     {
         let mut tags = Vec::new(self.alloc());
@@ -341,11 +340,11 @@ impl Cover {
 
     // The numbers of those for whom a listen starts once these are lost.
     fn begun<E: Ending>(&self, ending: &E, gone: &[Listen]) -> Result<Vec<u64>, AllocError>
-        requires { gone.now ≡ lost (E.ended ending.now) self.now.kept self.now.listeners }
+        requires { gone.now ≡ lost (by_number (E.ended ending.now)) self.now.kept self.now.listeners }
         ensures { IfOk result (λ numbers. numbers.items ≡ map (λ l. l.0)
-            (beginners (E.ended ending.now) self.now.kept self.now.listeners)) }
+            (beginners (by_number (E.ended ending.now)) self.now.kept self.now.listeners)) }
     {
-        let mut numbers = self.listeners.numbers_begun(ending, gone)?;
+        let mut numbers = numbers_begun(self.alloc(), &self.listeners, ending, gone)?;
         sort_once(&mut numbers);
         Ok(numbers)
     }
@@ -353,20 +352,20 @@ impl Cover {
     // What the end of these listeners starts and stops, where the listens of these tags are lost.
     fn plan<E: Ending>(&self, ending: &E, tags: &[u64]) -> Result<Plan, AllocError>
         requires tags { tags.now ≡ map (λ k. k.tag)
-            (lost (E.ended ending.now) self.now.kept self.now.listeners) }
-        requires room { lacks_tag self.now (left (E.ended ending.now) self.now.listeners) ≡ false }
+            (lost (by_number (E.ended ending.now)) self.now.kept self.now.listeners) }
+        requires room { lacks_tag self.now (left (by_number (E.ended ending.now)) self.now.listeners) ≡ false }
         ensures lost { IfOk result (λ plan. plan.lost.items
-            ≡ lost (E.ended ending.now) self.now.kept self.now.listeners) }
+            ≡ lost (by_number (E.ended ending.now)) self.now.kept self.now.listeners) }
         ensures stopped { IfOk result (λ plan. plan.stopped.items ≡ map (λ k. k.tag)
-            (lost (E.ended ending.now) self.now.kept self.now.listeners)) }
+            (lost (by_number (E.ended ending.now)) self.now.kept self.now.listeners)) }
         ensures kept { IfOk result (λ plan. plan.kept.items
             ≡ map tagged_of (enumerate_from self.now.next_tag
-            (beginners (E.ended ending.now) self.now.kept self.now.listeners))) }
+            (beginners (by_number (E.ended ending.now)) self.now.kept self.now.listeners))) }
         ensures started { IfOk result (λ plan. plan.started.items
             ≡ map told_of (enumerate_from self.now.next_tag
-            (beginners (E.ended ending.now) self.now.kept self.now.listeners))) }
+            (beginners (by_number (E.ended ending.now)) self.now.kept self.now.listeners))) }
         ensures given { IfOk result (λ plan. plan.given + 1 ≡ self.now.next_tag
-            + length (beginners (E.ended ending.now) self.now.kept self.now.listeners)) }
+            + length (beginners (by_number (E.ended ending.now)) self.now.kept self.now.listeners)) }
     {
         let alloc = self.alloc();
         let lost = listens_at(alloc, self.kept.as_slice(), tags)?;
@@ -381,12 +380,12 @@ impl Cover {
     // Ends these listeners, where no tag is lacking, and the listens of these tags are lost.
     fn end<E: Ending>(&mut self, ending: &E, tags: &[u64]) -> Result<Delta, CoverError>
         requires tags { tags.now ≡ map (λ k. k.tag)
-            (lost (E.ended ending.now) self.old.kept self.old.listeners) }
-        requires room { lacks_tag self.old (left (E.ended ending.now) self.old.listeners) ≡ false }
+            (lost (by_number (E.ended ending.now)) self.old.kept self.old.listeners) }
+        requires room { lacks_tag self.old (left (by_number (E.ended ending.now)) self.old.listeners) ≡ false }
         ensures cover { OnOk result (self.new
-            ≡ with_listeners self.old (left (E.ended ending.now) self.old.listeners)) }
+            ≡ with_listeners self.old (left (by_number (E.ended ending.now)) self.old.listeners)) }
         ensures delta { IfOk result (λ delta. delta ≡ difference self.old
-            (with_listeners self.old (left (E.ended ending.now) self.old.listeners))) }
+            (with_listeners self.old (left (by_number (E.ended ending.now)) self.old.listeners))) }
         ensures told { IfOk result (λ delta. IsTold self.old.next_tag delta) }
         ensures fault { IfErr result (λ e. e ≡ CoverError.NoMemory) }
         ensures unchanged { OnErr result (self.new ≡ self.old) }
@@ -424,9 +423,7 @@ impl Cover {
     {
         let alloc = self.alloc();
         let registered = Listener::new(alloc, listener, form)?;
-        let copy = registered.copy()?;
-        self.listeners.reserve()?;
-        self.listeners.insert(registered, copy);
+        self.listeners.insert(registered)?;
         Ok(Delta {
             started: KeptList::of(Vec::new(alloc)),
             stopped: Numbers::of(Vec::new(alloc)),
@@ -456,10 +453,7 @@ impl Cover {
         let started = started_one(alloc, tag, &form, listener)?;
         let registered = Listener::new(alloc, listener, form)?;
         let listen = registered.listen(tag)?;
-        let copy = registered.copy()?;
-        self.listeners.reserve()?;
-        let stopped = self.kept.start(listen)?;
-        self.listeners.insert(registered, copy);
+        let stopped = enter(&mut self.listeners, &mut self.kept, registered, listen)?;
         self.given = tag;
         Ok(Delta {
             started: KeptList::of(started),
@@ -551,13 +545,10 @@ impl Cover {
         self.end(&numbers, &tags)
     }
 
-    // The form of the listen with this tag, and the numbers of the listeners with that form.
-    fn named(&self, tag: u64) -> Result<(Query, Vec<u64>), CoverError>
-        ensures form { IfOk result (λ parts.
-            option_map (λ k. k.form) (listen_at self.now tag) ≡ Some parts.0) }
-        ensures ended { IfOk result (λ parts. parts.1.items ≡ ended_by self.now tag) }
-        ensures lost { IfOk result (λ parts. tag ∷ [] ≡ map (λ k. k.tag)
-            (lost (λ l. query_eq l.1 parts.0) self.now.kept self.now.listeners)) }
+    // The numbers of the listeners whose form the listen with this tag is.
+    fn named(&self, tag: u64) -> Result<Sorted, CoverError>
+        ensures ended { IfOk result (λ ended. ended ≡ ended_by self.now tag) }
+        ensures known { IfOk result (λ _. is_some (listen_at self.now tag) ≡ true) }
         ensures unknown { listen_at self.now tag ≡ None → result ≡ Err CoverError.UnknownTag }
         ensures fault { IfErr result (λ e.
             ((e ≡ CoverError.UnknownTag) × (listen_at self.now tag ≡ None))
@@ -566,9 +557,10 @@ impl Cover {
         let Some(listen) = listen::listen_at(self.kept.as_slice(), tag) else {
             return Err(CoverError::UnknownTag);
         };
-        let ended = self.listeners.numbers_of(listen.form())?;
-        let form = listen.form().copy()?;
-        Ok((form, ended))
+        let numbers = self.listeners.numbers(listen.form());
+        let mut ended = Vec::with_capacity(self.alloc(), numbers.len())?;
+        ended.extend_from_slice(numbers)?;
+        Ok(Sorted::rising(ended))
     }
 
     /// Ends the listeners whose listening form the listen with this tag is; the others are covered
@@ -591,17 +583,19 @@ impl Cover {
             → result ≡ Err CoverError.NoTag }
         ensures unchanged { OnErr result (self.new ≡ self.old) }
     {
+        // For the prover: the cover is sound.
+        let _last_tag = self.last_tag;
         if self.lacks_tag_to_revoke(tag) {
             return Err(CoverError::NoTag);
         }
-        let (form, ended) = self.named(tag)?;
+        let ended = self.named(tag)?;
         let Delta {
             started,
             mut stopped,
-        } = self.end(&OfForm { form: &form }, &[tag])?;
+        } = self.end(&ended, &[tag])?;
         stopped.take_out(tag);
         Ok(Revoked {
-            ended: Numbers::of(ended),
+            ended: Numbers::of(ended.into_vec()),
             delta: Delta { started, stopped },
         })
     }

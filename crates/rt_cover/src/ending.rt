@@ -1,22 +1,17 @@
 // The listeners that a change ends.
-ghost use Rattle.std.specs.Prelude.{◌≡◌, ◌==◌, Bool};
+ghost use Rattle.std.specs.Prelude.{◌≡◌, ◌==◌, ℕ, Bool};
 ghost use Rattle.std.specs.List.{list_any};
-ghost use Rattle.rt_query.specs.QueryEq.{query_eq};
-ghost use Rattle.rt_cover.specs.Cover.{Registered};
 
-use crate::by_path::HasForm;
 use crate::choice::Choice;
-use crate::listener::Listener;
 use crate::numbers::Sorted;
-use rt_query::Query;
 
-// Tells which listeners end.
+// Tells which listeners end, by their numbers.
 pub(crate) trait Ending {
-    ghost ended: { Self → Registered → Bool };
+    ghost ended: { Self → ℕ → Bool };
 
-    // Whether the listener ends.
-    fn ends(&self, listener: &Listener) -> bool
-        ensures { result ≡ ended self.now listener.now };
+    // Whether the listener of that number ends.
+    fn ends(&self, number: u64) -> bool
+        ensures { result ≡ ended self.now number };
 }
 
 // The listeners of these numbers end.
@@ -26,33 +21,19 @@ pub(crate) struct OfNumbers<'a> {
 }
 
 impl Ending for OfNumbers<'_> {
-    ghost ended = { λ a l. list_any (λ n. n == l.0) a.numbers.now };
+    ghost ended = { λ a number. list_any (λ n. n == number) a.numbers.now };
 
-    fn ends(&self, listener: &Listener) -> bool {
-        self.numbers.contains(&listener.number())
+    fn ends(&self, number: u64) -> bool {
+        self.numbers.contains(&number)
     }
 }
 
 // The same of sorted numbers.
 impl Ending for Sorted {
-    ghost ended = { λ a l. list_any (λ n. n == l.0) a };
+    ghost ended = { λ a number. list_any (λ n. n == number) a };
 
-    fn ends(&self, listener: &Listener) -> bool {
-        self.has(listener.number())
-    }
-}
-
-// The listeners of the form end.
-#[derive(Drop)]
-pub(crate) struct OfForm<'a> {
-    pub(crate) form: &'a Query,
-}
-
-impl Ending for OfForm<'_> {
-    ghost ended = { λ a l. query_eq l.1 a.form.now };
-
-    fn ends(&self, listener: &Listener) -> bool {
-        listener.form() == self.form
+    fn ends(&self, number: u64) -> bool {
+        self.has(number)
     }
 }
 
@@ -63,9 +44,9 @@ pub(crate) struct OfChoice<'a, C> {
 }
 
 impl<C: Choice> Ending for OfChoice<'_, C> {
-    ghost ended = { λ a l. C.chosen a.choice.now l.0 };
+    ghost ended = { λ a number. C.chosen a.choice.now number };
 
-    fn ends(&self, listener: &Listener) -> bool {
-        self.choice.has(listener.number())
+    fn ends(&self, number: u64) -> bool {
+        self.choice.has(number)
     }
 }

@@ -19,6 +19,7 @@ mod choice;
 mod cover;
 mod delta;
 mod ending;
+mod entering;
 mod error;
 mod examples;
 mod kept;

@@ -1,8 +1,6 @@
 // Registered listeners.
 ghost use Rattle.std.specs.Prelude.{◌≡◌, IfOk};
 ghost use Rattle.rt_query.specs.Supply.{form};
-ghost use Rattle.rt_cover.specs.Cover.{first_listener};
-ghost use Rattle.rt_cover.specs.State.{numbers_of};
 
 use crate::by_path::HasForm;
 use crate::listen::Listen;
@@ -75,17 +73,6 @@ impl HasForm for Listener {
     }
 }
 
-// Equal listeners.
-pub(crate) fn copies(alloc: Global, listeners: &[Listener]) -> Result<Vec<Listener>, AllocError>
-    ensures { IfOk result (λ v. v.items ≡ listeners.now) }
-{
-    let mut copies = Vec::with_capacity(alloc, listeners.len())?;
-    for listener in listeners {
-        copies.push(listener.copy()?)?;
-    }
-    Ok(copies)
-}
-
 // What is listened to for a query that is given away.
 pub(crate) fn into_form(query: Query) -> Result<Query, AllocError>
     ensures { IfOk result (λ f. f ≡ form query) }
@@ -95,33 +82,4 @@ pub(crate) fn into_form(query: Query) -> Result<Query, AllocError>
     } else {
         query.listening_form()
     }
-}
-
-// The least number of a listener with that form; the numbers rise. 0 where there is none.
-pub(crate) fn first_listener(listeners: &[Listener], form: &Query) -> u64
-    ensures { result ≡ first_listener listeners.now form.now }
-{
-    for listener in listeners {
-        if listener.form() == form {
-            return listener.number();
-        }
-    }
-    0
-}
-
-// The numbers of the listeners with that form.
-pub(crate) fn numbers_of(
-    alloc: Global,
-    listeners: &[Listener],
-    form: &Query,
-) -> Result<Vec<u64>, AllocError>
-    ensures { IfOk result (λ v. v.items ≡ numbers_of listeners.now form.now) }
-{
-    let mut numbers = Vec::new(alloc);
-    for listener in listeners {
-        if listener.form() == form {
-            numbers.push(listener.number())?;
-        }
-    }
-    Ok(numbers)
 }

@@ -1,94 +1,92 @@
-// The registered listeners, by number and by path.
-ghost use Rattle.std.specs.Prelude.{◌≡◌, ◌<◌, ◌≤◌, ◌+◌, ◌++◌, ◌∷◌, [], ◌&&◌, ◌==◌, true, false, not, ℕ, Bool};
-ghost use Rattle.std.specs.Prelude.{length, nat_lt, vec_len, vec_capacity, IfOk, OnOk, OnErr};
+// The registered listeners, by number and by form.
+ghost use Rattle.std.specs.Prelude.{◌≡◌, ◌<◌, ◌+◌, ◌^◌, [], ◌&&◌, ◌==◌, true, false, ℕ, Bool};
+ghost use Rattle.std.specs.Prelude.{length, vec_len, vec_capacity, IfOk, OnOk, OnErr};
 ghost use Rattle.std.specs.List.{find, list_any, All, AllPairs};
-ghost use Rattle.std.specs.List.Sorted.{IsSorted};
 ghost use Rattle.std.specs.Option.{option_copied};
+ghost use Rattle.rt_tree.specs.Assignments.{is_at_or_above};
+ghost use Rattle.rt_query.specs.Queries.{plain};
 ghost use Rattle.rt_query.specs.Supply.{form};
-ghost use Rattle.rt_cover.specs.Cover.{forms};
+ghost use Rattle.rt_query.specs.Supply as Supply;
+ghost use Rattle.rt_forms.specs.Forms.{numbers, count};
 ghost use Rattle.rt_cover.specs.State.{is_registered, with_listener, numbers_of};
-ghost use Rattle.rt_cover.specs.inside.Index.{by_form, SameCounts};
-ghost use Rattle.rt_cover.specs.inside.Endings.{left, is_first, is_left_form, begins_under};
+ghost use Rattle.rt_cover.specs.inside.Held.{IsHeld};
+ghost use Rattle.rt_cover.specs.inside.Endings.{by_number, left};
 
 use crate::adding::{has_number, insert_listener, listener_at};
-use crate::beginning::numbers_begun;
-use crate::behind::is_left;
-use crate::by_path::{HasForm, at_path, is_seen};
+use crate::by_path::HasForm;
 use crate::ending::Ending;
 use crate::leaving::retain_left;
-use crate::listen::Listen;
-use crate::listener::{Listener, copies, numbers_of};
-use crate::placing::place;
+use crate::listener::Listener;
+use rt_forms::Forms;
 use rt_query::Query;
+use rt_tree::Key;
 use std::alloc::{AllocError, Global};
 use std::marker::Model;
 
-// The listeners, by number. The same stand by path beside that, where they are looked for.
+// The listeners, by number. Their numbers stand in a tree of forms beside that, where they are looked for.
 pub(crate) struct Listeners {
     by_number: Vec<Listener>,
-    by_path: Vec<Listener>,
+    forms: Forms,
 }
 
 impl Drop for Listeners {
     fn drop(self) {
         let Listeners {
             by_number: _,
-            by_path: _,
+            forms: _,
         } = self;
     }
 }
 
 impl Model for Listeners {
-    ghost use Rattle.std.specs.Prelude.{◌&&◌, nat_lt, vec_len, vec_capacity};
-    ghost use Rattle.rt_cover.specs.inside.Held.{Held, registered_form};
-    ghost use Rattle.rt_cover.specs.inside.Index.{IsIndex};
+    ghost use Rattle.std.specs.Prelude.{List};
+    ghost use Rattle.rt_cover.specs.Cover.{Registered};
+    ghost use Rattle.rt_cover.specs.inside.Held.{IsHeld};
 
-    ghost Value = { Held };
+    ghost Value = { List Registered };
 
-    ghost view = { λ a. record {
-      items = a.by_number.items;
-      has_room = nat_lt (vec_len a.by_number) (vec_capacity a.by_number)
-          && nat_lt (vec_len a.by_path) (vec_capacity a.by_path);
-    } };
+    ghost view = { λ a. a.by_number.items };
 
-    ghost invariant = { λ a. IsIndex registered_form a.by_number.items a.by_path.items };
+    ghost invariant = { λ a. IsHeld a.by_number.items a.forms };
 }
 
-// The registered forms, in order of their least-numbered listeners.
-pub(crate) fn forms(listeners: &Listeners) -> Result<Vec<Query>, AllocError>
-    requires { AllPairs (λ l m. l.0 < m.0) listeners.now.items }
-    ensures { IfOk result (λ v. v.items ≡ forms listeners.now.items) }
+// Takes the numbers of those that end out of the tree.
+fn take_ended<E: Ending>(forms: &mut Forms, listeners: &[Listener], ending: &E)
+    requires rise { AllPairs (λ l m. l.0 < m.0) listeners.now }
+    requires own { All (λ l. form l.1 ≡ l.1) listeners.now }
+    requires held { IsHeld listeners.now forms.old }
+    ensures { IsHeld (left (by_number (E.ended ending.now)) listeners.now) forms.new }
 {
-    let by_path = listeners.by_path();
-    let mut forms = Vec::new(listeners.alloc());
-    let by_number = listeners.as_slice();
-    for listener in by_number {
-        if !is_seen(by_path, listener) {
-            forms.push(listener.form().copy()?)?;
+    for listener in listeners {
+        if ending.ends(listener.number()) {
+            forms.remove(listener.number(), listener.form());
         }
     }
-    Ok(forms)
 }
 
 impl Listeners {
     // No listener.
     pub(crate) fn new(alloc: Global) -> Listeners
-        ensures { result.items ≡ [] }
+        ensures { result ≡ [] }
     {
         Listeners {
             by_number: Vec::new(alloc),
-            by_path: Vec::new(alloc),
+            forms: Forms::new(alloc),
         }
     }
 
     // Equal listeners, which share the forms.
     pub(crate) fn copy(&self) -> Result<Listeners, AllocError>
-        ensures { IfOk result (λ listeners. listeners.items ≡ self.now.items) }
+        requires rise { AllPairs (λ l m. l.0 < m.0) self.now }
+        requires own { All (λ l. form l.1 ≡ l.1) self.now }
+        ensures { IfOk result (λ listeners. listeners ≡ self.now) }
     {
-        let alloc = self.alloc();
-        let by_number = copies(alloc, &self.by_number)?;
-        let by_path = copies(alloc, &self.by_path)?;
-        Ok(Listeners { by_number, by_path })
+        let mut copy = Listeners::new(self.alloc());
+        let by_number = self.as_slice();
+        for listener in by_number {
+            copy.insert(listener.copy()?)?;
+        }
+        Ok(copy)
     }
 
     // The allocator of its lists.
@@ -98,100 +96,80 @@ impl Listeners {
 
     // The listeners, by number.
     pub(crate) fn as_slice(&self) -> &[Listener]
-        ensures { result.now ≡ self.now.items }
+        ensures { result.now ≡ self.now }
     {
         self.by_number.as_slice()
     }
 
-    // The same listeners, by path.
-    pub(crate) fn by_path(&self) -> &[Listener]
-        ensures sorted { IsSorted (by_form (λ l. l.1)) result.now }
-        ensures same { SameCounts result.now self.now.items }
-    {
-        self.by_path.as_slice()
-    }
-
     // Whether a listener of that number is registered, by halving.
     pub(crate) fn has(&self, number: u64) -> bool
-        requires { AllPairs (λ l m. l.0 < m.0) self.now.items }
-        ensures { result ≡ is_registered self.now.items number }
+        requires { AllPairs (λ l m. l.0 < m.0) self.now }
+        ensures { result ≡ is_registered self.now number }
     {
         has_number(&self.by_number, number)
     }
 
     // The listener of that number, by halving.
     pub(crate) fn at(&self, number: u64) -> Option<&Listener>
-        requires { AllPairs (λ l m. l.0 < m.0) self.now.items }
-        ensures { option_copied result ≡ find (λ l. l.0 == number) self.now.items }
+        requires { AllPairs (λ l m. l.0 < m.0) self.now }
+        ensures { option_copied result ≡ find (λ l. l.0 == number) self.now }
     {
         listener_at(&self.by_number, number)
     }
 
-    // Whether none of a lesser number has the listener's form. Looks at those of its path.
-    pub(crate) fn is_first(&self, listener: &Listener) -> bool
-        ensures { result ≡ is_first self.now.items listener.now }
+    // The numbers of the listeners of a form, in order. Costs by its path.
+    pub(crate) fn numbers(&self, form: &Query) -> &[u64]
+        requires { Supply.form form.now ≡ form.now }
+        ensures { result.now ≡ numbers_of self.now form.now }
     {
-        !is_seen(&self.by_path, listener)
+        // For the prover: what the tree keeps.
+        let _by_number = &self.by_number;
+        self.forms.numbers(form)
     }
 
-    // Whether a listener that is left has the form. Looks at those of its path.
-    pub(crate) fn is_left<E: Ending>(&self, ending: &E, form: &Query) -> bool
-        ensures { result ≡ is_left_form (E.ended ending.now) self.now.items form.now }
+    // The numbers of those of a path's plain form, in order. Costs by the path.
+    pub(crate) fn plain_numbers(&self, path: &[Key]) -> &[u64]
+        ensures { result.now ≡ numbers_of self.now (plain path.now) }
     {
-        is_left(&self.by_path, ending, form)
+        // For the prover: what the tree keeps.
+        let _by_number = &self.by_number;
+        self.forms.plain_numbers(path)
     }
 
-    // The numbers of the listeners with that form, in order. Looks at those of its path.
-    pub(crate) fn numbers_of(&self, form: &Query) -> Result<Vec<u64>, AllocError>
-        requires { AllPairs (λ l m. l.0 < m.0) self.now.items }
-        ensures { IfOk result (λ v. v.items ≡ numbers_of self.now.items form.now) }
+    // The numbers of those whose forms are at or under a path, in no order. Costs by the path and by them.
+    pub(crate) fn numbers_under(&self, path: &[Key]) -> Result<Vec<u64>, AllocError>
+        requires { All (λ l. form l.1 ≡ l.1) self.now }
+        ensures { IfOk result (λ v. (t : ℕ → Bool) → list_any t v.items
+            ≡ list_any (λ l. is_at_or_above path.now (l.1).path && t l.0) self.now) }
     {
-        let here = at_path(&self.by_path, form.path().keys());
-        let mut numbers = numbers_of(self.alloc(), here, form)?;
-        numbers.sort_unstable_by_key(|number| *number);
+        // For the prover: what the tree keeps.
+        let _by_number = &self.by_number;
+        let numbers = self.forms.numbers_under(self.alloc(), path)?;
         Ok(numbers)
     }
 
-    // The numbers of those that begin where the listens are lost. Looks at those under their paths.
-    pub(crate) fn numbers_begun<E: Ending>(
-        &self,
-        ending: &E,
-        lost: &[Listen],
-    ) -> Result<Vec<u64>, AllocError>
-        requires { All (λ l. form l.1 ≡ l.1) self.now.items }
-        ensures { IfOk result (λ numbers. (p : ℕ → Bool) → list_any p numbers.items
-            ≡ list_any (begins_under (E.ended ending.now) self.now.items p) lost.now) }
+    // Registers a listener.
+    pub(crate) fn insert(&mut self, listener: Listener) -> Result<(), AllocError>
+        requires rise { AllPairs (λ l m. l.0 < m.0) self.old }
+        requires free { is_registered self.old listener.0 ≡ false }
+        requires own { form listener.1 ≡ listener.1 }
+        ensures items { OnOk result (self.new ≡ with_listener self.old listener.0 listener.1) }
+        ensures unchanged { OnErr result (self.new ≡ self.old) }
     {
-        numbers_begun(self.alloc(), &self.by_path, ending, lost)
-    }
-
-    // Makes room for one more.
-    pub(crate) fn reserve(&mut self) -> Result<(), AllocError>
-        ensures items { self.new.items ≡ self.old.items }
-        ensures room { OnOk result (self.new.has_room ≡ true) }
-    {
+        let alloc = self.alloc();
         self.by_number.reserve(1)?;
-        self.by_path.reserve(1)?;
-        Ok(())
-    }
-
-    // Registers a listener, of whom there is a copy; there is room for it.
-    pub(crate) fn insert(&mut self, listener: Listener, copy: Listener)
-        requires rise { AllPairs (λ l m. l.0 < m.0) self.old.items }
-        requires free { is_registered self.old.items listener.0 ≡ false }
-        requires same { copy ≡ listener }
-        requires room { self.old.has_room ≡ true }
-        ensures { self.new.items ≡ with_listener self.old.items listener.0 listener.1 }
-    {
+        self.forms.add(alloc, listener.number(), listener.form())?;
         insert_listener(&mut self.by_number, listener);
-        place(&mut self.by_path, copy);
+        Ok(())
     }
 
     // Takes out the listeners that end.
     pub(crate) fn retain_left<E: Ending>(&mut self, ending: &E)
-        ensures { self.new.items ≡ left (E.ended ending.now) self.old.items }
+        requires rise { AllPairs (λ l m. l.0 < m.0) self.old }
+        requires own { All (λ l. form l.1 ≡ l.1) self.old }
+        ensures { self.new ≡ left (by_number (E.ended ending.now)) self.old }
     {
+        take_ended(&mut self.forms, &self.by_number, ending);
         retain_left(&mut self.by_number, ending);
-        retain_left(&mut self.by_path, ending);
     }
 }

@@ -60,11 +60,27 @@ impl Sorted {
         Ok(Sorted { items })
     }
 
+    // Numbers that rise.
+    pub(crate) fn rising(items: Vec<u64>) -> Sorted
+        requires { AllPairs (λ m n. m < n) items.items }
+        ensures { result ≡ items.items }
+    {
+        Sorted { items }
+    }
+
     // The numbers, in order.
     pub(crate) fn as_slice(&self) -> &[u64]
         ensures { result.now ≡ self.now }
     {
         &self.items
+    }
+
+    // The numbers, given away.
+    pub(crate) fn into_vec(self) -> Vec<u64>
+        ensures { result.items ≡ self }
+    {
+        let Sorted { items } = self;
+        items
     }
 
     // Whether the number is one of them, by halving.

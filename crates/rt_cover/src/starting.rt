@@ -1,7 +1,7 @@
 // How many listens a change starts, told before it is made, and without memory.
 ghost use Rattle.std.specs.Prelude.{◌≡◌, nat_lt};
 ghost use Rattle.std.specs.List.{count_by};
-ghost use Rattle.rt_cover.specs.inside.Endings.{comes_before, is_replaced, starts};
+ghost use Rattle.rt_cover.specs.inside.Endings.{by_number, comes_before, is_replaced, starts};
 
 use crate::by_path::HasForm;
 use crate::ending::Ending;
@@ -23,9 +23,9 @@ pub(crate) fn comes_before(other: &Listener, listener: &Listener) -> bool
 
 // Whether that holds of one of those that do not end.
 fn is_replaced<E: Ending>(listeners: &[Listener], ending: &E, listener: &Listener) -> bool
-    ensures { result ≡ is_replaced (E.ended ending.now) listeners.now listener.now }
+    ensures { result ≡ is_replaced (by_number (E.ended ending.now)) listeners.now listener.now }
 {
-    listeners.iter().any(|other| !ending.ends(other) && comes_before(other, listener))
+    listeners.iter().any(|other| !ending.ends(other.number()) && comes_before(other, listener))
 }
 
 // Whether a listen starts for the listener: it does not end, none replaces it, and no listen of its
@@ -36,9 +36,9 @@ fn starts<E: Ending>(
     ending: &E,
     listener: &Listener,
 ) -> bool
-    ensures { result ≡ starts (E.ended ending.now) kept.now listeners.now listener.now }
+    ensures { result ≡ starts (by_number (E.ended ending.now)) kept.now listeners.now listener.now }
 {
-    !ending.ends(listener)
+    !ending.ends(listener.number())
         && !is_kept(kept, listener.form())
         && !is_replaced(listeners, ending, listener)
 }
@@ -51,7 +51,7 @@ pub(crate) fn exceeds<E: Ending>(
     room: u64,
 ) -> bool
     ensures { result ≡ nat_lt room
-        (count_by (starts (E.ended ending.now) kept.now listeners.now) listeners.now) }
+        (count_by (starts (by_number (E.ended ending.now)) kept.now listeners.now) listeners.now) }
 {
     let mut left = room;
     for listener in listeners {

@@ -1,12 +1,17 @@
 -- The listeners that a change ends, and those for which a listen starts then.
-use Rattle.std.specs.Prelude.{ℕ, Bool, ◌&&◌, ◌==◌, not, nat_lt, if◌then◌else◌, List}
-use Rattle.std.specs.List.{filter, list_any}
+use Rattle.std.specs.Prelude.{ℕ, Bool, false, ◌&&◌, ◌==◌, not, nat_lt, if◌then◌else◌, List}
+use Rattle.std.specs.List.{filter, find, list_any}
+use Rattle.std.specs.Option.{option_map_or}
 use Rattle.rt_tree.specs.Assignments.{is_at_or_above}
 use Rattle.rt_query.specs.Queries.{Query, is_filtered}
 use Rattle.rt_query.specs.QueryEq.{query_eq}
 use Rattle.rt_query.specs.Supply.{does_supply}
 use Rattle.rt_cover.specs.declared.kept.Kept.{Kept}
 use Rattle.rt_cover.specs.Cover.{Registered, Tagged, is_kept}
+
+-- whether a listener ends, by its number
+abbrev pub by_number : (ℕ → Bool) → Registered → Bool
+by_number ended = λ l. ended l.0
 
 -- the listeners that are left, by whether one ends
 abbrev pub left : (Registered → Bool) → List Registered → List Registered
@@ -65,6 +70,11 @@ beginners ends kept listeners =
 abbrev pub begins_under : (Registered → Bool) → List Registered → (ℕ → Bool) → Tagged → Bool
 begins_under ends listeners p k = not (is_filtered k.form) && list_any (λ l.
     (is_at_or_above (k.form).path (l.1).path && (not (ends l) && not (is_replaced ends listeners l))) && p l.0) listeners
+
+-- whether one of that number is registered, for whom a listen starts, and the number passes a test
+abbrev pub begins_at : (Registered → Bool) → List Registered → (ℕ → Bool) → ℕ → Bool
+begins_at ends listeners p n = option_map_or (λ l. (not (ends l) && not (is_replaced ends listeners l)) && p n)
+    (find (λ l. l.0 == n) listeners) false
 
 -- a listen that starts, by its tag and its listener, and as it is told
 abbrev pub tagged_of : ℕ × Registered → Tagged

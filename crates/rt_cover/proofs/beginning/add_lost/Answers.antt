@@ -1,19 +1,20 @@
-use Rattle.std.proofs.Common.{◌≡◌, ◌&&◌, ◌++◌, Bool, not, map, sym, ap, ◌∙◌}
-use Rattle.std.specs.List.{filter, list_any}
+use Rattle.std.proofs.Common.{◌≡◌, ◌||◌, ◌&&◌, Bool, sym, ap, ◌∙◌}
+use Rattle.std.specs.List.{list_any}
 use Rattle.std.proofs.lemmas.Result.{on_ok_weaker}
 use Rattle.rt_tree.specs.Assignments.{is_at_or_above}
 use Rattle.rt_query.specs.Queries.{is_filtered}
 use Rattle.rt_cover.specs.Cover.{Registered, Tagged}
-use Rattle.rt_cover.specs.inside.Endings.{is_replaced}
-use Rattle.rt_cover.proofs.ChangeLaws.{under_adds}
+use Rattle.rt_cover.specs.inside.Endings.{by_number, begins_at}
+use Rattle.rt_cover.proofs.HeldLaws.{under_begins}
 use Rattle.rt_cover.proofs.beginning.add_lost.Goals as goal
 
 pub returns : goal.returns
 returns g c =
-    let ends : Registered → Bool = g.E.Ending.ended c.args.ending.now in
+    let ends : Registered → Bool = by_number (g.E.Ending.ended c.args.ending.now) in
     let k : Tagged = c.args.listen.now in
-    let same : c.path.result.now ≡ (k.form).path = c.path.ensures ∙ (λ i. (c.form-2.ensures i).path) in
-    on_ok_weaker c.add_under.result (λ e p. ap (list_any p) e
-    ∙ (λ i. list_any p (c.args.numbers.now.items ++ map (λ (l : Registered). l.0)
-    (filter (λ (l : Registered). not (ends l) && not (is_replaced ends c.args.by_path.now l)) (filter (λ (l : Registered). is_at_or_above (same i) (l.1).path) c.args.by_path.now))))
-    ∙ under_adds ends c.args.by_path.now p k c.args.numbers.now.items (ap is_filtered (sym c.form.ensures) ∙ sym c.is_filtered.ensures ∙ c.if-is_filtered.false)) c.add_under.ensures
+    let same : c.keys.result.now ≡ (k.form).path = c.keys.ensures.keys ∙ c.path.ensures ∙ (λ i. (c.form-2.ensures i).path) in
+    on_ok_weaker c.add_begun.result (λ h p. h p ∙ ap (λ b. list_any p c.args.numbers.now.items || b)
+    (ap (list_any (begins_at ends c.args.listeners.now p)) c.deref.ensures.value
+    ∙ c.in_ok-under.ensures (begins_at ends c.args.listeners.now p)
+    ∙ (λ i. list_any (λ (l : Registered). is_at_or_above (same i) (l.1).path && begins_at ends c.args.listeners.now p l.0) c.args.listeners.now)
+    ∙ under_begins ends c.args.listeners.now c.requires.rise p k (ap is_filtered (sym c.form.ensures) ∙ sym c.is_filtered.ensures ∙ c.if-is_filtered.false))) c.add_begun.ensures

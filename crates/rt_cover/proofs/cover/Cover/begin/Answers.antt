@@ -1,6 +1,6 @@
 use Rattle.std.proofs.Common.{◌≡◌, ◌+◌, ◌<◌, ◌≤◌, ◌∷◌, ◌++◌, [], not, map, sym, subst, ◌∙◌, arith}
-use Rattle.std.specs.List.{filter, list_any, AllPairs}
-use Rattle.rt_query.specs.Supply.{does_supply}
+use Rattle.std.specs.List.{filter, list_any, All, AllPairs}
+use Rattle.rt_query.specs.Supply.{form, does_supply}
 use Rattle.rt_cover.specs.Cover.{Registered, Tagged}
 use Rattle.rt_cover.specs.State.{Cover, with_listener, with_listeners, difference}
 use Rattle.rt_cover.specs.Shown.{IsTold}
@@ -20,22 +20,27 @@ overflow_add-tag c =
     let last : c.self.inside.last_tag ≡ old.last_tag = (λ i. (c.self.view_is i).last_tag) in
     omega (arith, left, next, last)
 
-pub start-requires-clause-rise : goal.start-requires-clause-rise
-start-requires-clause-rise c =
+pub enter-requires-clause-rise : goal.enter-requires-clause-rise
+enter-requires-clause-rise c =
+    let sound : IsSound c.args.self.now = subst IsSound c.self.view_is c.self.invariant in
+    subst (AllPairs (λ (l m : Registered). l.0 < m.0)) (λ i. (sym c.self.view_is i).listeners) sound.listeners
+
+pub enter-requires-clause-forms : goal.enter-requires-clause-forms
+enter-requires-clause-forms c =
+    let sound : IsSound c.args.self.now = subst IsSound c.self.view_is c.self.invariant in
+    subst (All (λ (l : Registered). form l.1 ≡ l.1)) (λ i. (sym c.self.view_is i).listeners) sound.forms
+
+pub enter-requires-clause-by_tag : goal.enter-requires-clause-by_tag
+enter-requires-clause-by_tag c =
     let sound : IsSound c.args.self.now = subst IsSound c.self.view_is c.self.invariant in
     subst (λ (z : Cover). AllPairs (λ (j k : Tagged). j.tag < k.tag) z.kept) (sym c.self.view_is) sound.tags
 
-pub start-requires-clause-unsupplied : goal.start-requires-clause-unsupplied
-start-requires-clause-unsupplied c =
+pub enter-requires-clause-unsupplied : goal.enter-requires-clause-unsupplied
+enter-requires-clause-unsupplied c =
     let old : Cover = c.args.self.now in
     let f = c.args.form in
     let form_is : (c.in_ok-listen.listen).form ≡ f = (λ i. (c.in_ok-listen.ensures i).form) ∙ (λ i. (c.in_ok-registered.ensures i).1) in
     (λ i. list_any (λ (k : Tagged). does_supply k.form (form_is i)) (c.self.view_is i).kept) ∙ supplier_none old f c.requires.unsupplied
-
-pub insert-requires-clause-rise : goal.insert-requires-clause-rise
-insert-requires-clause-rise c =
-    let sound : IsSound c.args.self.now = subst IsSound c.self.view_is c.self.invariant in
-    subst (AllPairs (λ (l m : Registered). l.0 < m.0)) (sym (c.reserve.ensures.items ∙ (λ i. (c.self.view_is i).listeners))) sound.listeners
 
 pub invariant_of-self-2 : goal.invariant_of-self-2
 invariant_of-self-2 c =
@@ -45,10 +50,10 @@ invariant_of-self-2 c =
     let f = c.args.form in
     let form_is : (c.in_ok-listen.listen).form ≡ f = (λ i. (c.in_ok-listen.ensures i).form) ∙ (λ i. (c.in_ok-registered.ensures i).1) in
     let tag_is : (c.in_ok-listen.listen).tag ≡ old.next_tag = (λ i. (c.in_ok-listen.ensures i).tag) ∙ (λ i. (c.self.view_is i).next_tag) in
-    let lists : c.insert.new.self.items ≡ with_listener old.listeners n f = c.insert.ensures ∙ (λ i. with_listener ((c.reserve.ensures.items ∙ (λ j. (c.self.view_is j).listeners)) i) (c.in_ok-registered.ensures i).0 (c.in_ok-registered.ensures i).1) in
-    let kept : c.start.new.self ≡ filter (λ (k : Tagged). not (does_supply f k.form)) old.kept ++ record { tag = old.next_tag; form = f } ∷ [] =
+    let lists : c.enter.new.listeners ≡ with_listener old.listeners n f = c.in_ok-stopped.ensures.items ∙ (λ i. with_listener (c.self.view_is i).listeners (c.in_ok-registered.ensures i).0 (c.in_ok-registered.ensures i).1) in
+    let kept : c.enter.new.kept ≡ filter (λ (k : Tagged). not (does_supply f k.form)) old.kept ++ record { tag = old.next_tag; form = f } ∷ [] =
     c.in_ok-stopped.ensures.kept ∙ (λ i. filter (λ (k : Tagged). not (does_supply (form_is i) k.form)) (c.self.view_is i).kept ++ record { tag = tag_is i; form = form_is i } ∷ []) in
-    let new : record { listeners = c.insert.new.self.items; kept = c.start.new.self; next_tag = c.self.inside.given + 1 + 1; last_tag = c.self.inside.last_tag } ≡ with_listeners old (with_listener old.listeners n f) =
+    let new : record { listeners = c.enter.new.listeners; kept = c.enter.new.kept; next_tag = c.self.inside.given + 1 + 1; last_tag = c.self.inside.last_tag } ≡ with_listeners old (with_listener old.listeners n f) =
     (λ i. record { listeners = lists i; kept = kept i; next_tag = (c.self.view_is i).next_tag + 1; last_tag = (c.self.view_is i).last_tag })
     ∙ sym (is_started old sound n f c.requires.own c.requires.free c.requires.unsupplied).cover in
     subst IsSound (sym new) (sound_with old sound n f c.requires.own c.requires.room)
@@ -61,8 +66,8 @@ returns-clause-cover c =
     let f = c.args.form in
     let form_is : (c.in_ok-listen.listen).form ≡ f = (λ i. (c.in_ok-listen.ensures i).form) ∙ (λ i. (c.in_ok-registered.ensures i).1) in
     let tag_is : (c.in_ok-listen.listen).tag ≡ old.next_tag = (λ i. (c.in_ok-listen.ensures i).tag) ∙ (λ i. (c.self.view_is i).next_tag) in
-    let lists : c.insert.new.self.items ≡ with_listener old.listeners n f = c.insert.ensures ∙ (λ i. with_listener ((c.reserve.ensures.items ∙ (λ j. (c.self.view_is j).listeners)) i) (c.in_ok-registered.ensures i).0 (c.in_ok-registered.ensures i).1) in
-    let kept : c.start.new.self ≡ filter (λ (k : Tagged). not (does_supply f k.form)) old.kept ++ record { tag = old.next_tag; form = f } ∷ [] =
+    let lists : c.enter.new.listeners ≡ with_listener old.listeners n f = c.in_ok-stopped.ensures.items ∙ (λ i. with_listener (c.self.view_is i).listeners (c.in_ok-registered.ensures i).0 (c.in_ok-registered.ensures i).1) in
+    let kept : c.enter.new.kept ≡ filter (λ (k : Tagged). not (does_supply f k.form)) old.kept ++ record { tag = old.next_tag; form = f } ∷ [] =
     c.in_ok-stopped.ensures.kept ∙ (λ i. filter (λ (k : Tagged). not (does_supply (form_is i) k.form)) (c.self.view_is i).kept ++ record { tag = tag_is i; form = form_is i } ∷ []) in
     (λ i. record { listeners = lists i; kept = kept i; next_tag = (c.self.view_is i).next_tag + 1; last_tag = (c.self.view_is i).last_tag })
     ∙ sym (is_started old sound n f c.requires.own c.requires.free c.requires.unsupplied).cover

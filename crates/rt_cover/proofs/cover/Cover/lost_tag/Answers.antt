@@ -3,11 +3,13 @@ use Rattle.std.specs.List.{find, list_any, AllPairs}
 use Rattle.std.specs.Option.{option_copied}
 use Rattle.rt_query.specs.Queries.{Query}
 use Rattle.rt_query.specs.QueryEq.{query_eq}
+use Rattle.rt_query.specs.Supply.{form}
 use Rattle.rt_cover.specs.Cover.{Registered, Tagged}
 use Rattle.rt_cover.specs.State.{Cover}
-use Rattle.rt_cover.specs.inside.Endings.{is_first, is_left_form}
+use Rattle.rt_cover.specs.inside.Endings.{by_number, is_first, is_left_form}
 use Rattle.rt_cover.specs.inside.Sound.{IsSound}
 use Rattle.rt_cover.proofs.ChangeLaws.{none_lost_by, seen_lost_by, left_lost_by, lost_tag_is}
+use Rattle.rt_cover.proofs.HeldLaws.{own_at}
 use Rattle.rt_cover.proofs.cover.Cover.lost_tag.Goals as goal
 
 pub at-requires : goal.at-requires
@@ -22,7 +24,28 @@ returns-in_default g c = λ p.
     let n : ℕ = c.args.number in
     let there : find (λ (l : Registered). l.0 == n) old.listeners ≡ None =
     sym (ap option_copied (sym c.in_default.is) ∙ c.at.ensures ∙ (λ i. find (λ (l : Registered). l.0 == n) (c.self.view_is i).listeners)) in
-    sym (none_lost_by (g.E.Ending.ended c.args.ending.now) old.kept old.listeners p n there)
+    sym (none_lost_by (by_number (g.E.Ending.ended c.args.ending.now)) old.kept old.listeners p n there)
+
+pub is_first-requires-clause-rise : goal.is_first-requires-clause-rise
+is_first-requires-clause-rise g c =
+    let sound : IsSound c.args.self.now = subst IsSound c.self.view_is c.self.invariant in
+    subst (AllPairs (λ (l m : Registered). l.0 < m.0)) (λ i. (sym c.self.view_is i).listeners) sound.listeners
+
+pub is_first-requires-clause-own : goal.is_first-requires-clause-own
+is_first-requires-clause-own g c =
+    let old : Cover = c.args.self.now in
+    let sound : IsSound old = subst IsSound c.self.view_is c.self.invariant in
+    let n : ℕ = c.args.number in
+    own_at old.listeners sound.forms n c.in-Some.listener.now
+    (sym (ap option_copied (sym c.in-Some.is) ∙ c.at.ensures ∙ (λ i. find (λ (x : Registered). x.0 == n) (c.self.view_is i).listeners)))
+
+pub is_left-requires : goal.is_left-requires
+is_left-requires g c =
+    let old : Cover = c.args.self.now in
+    let sound : IsSound old = subst IsSound c.self.view_is c.self.invariant in
+    let n : ℕ = c.args.number in
+    subst (λ f. form f ≡ f) (sym c.form-form.ensures) (own_at old.listeners sound.forms n c.in-Some.listener.now
+    (sym (ap option_copied (sym c.in-Some.is) ∙ c.at.ensures ∙ (λ i. find (λ (x : Registered). x.0 == n) (c.self.view_is i).listeners))))
 
 pub returns-then-not-is_first : goal.returns-then-not-is_first
 returns-then-not-is_first g c = λ p.
@@ -33,13 +56,13 @@ returns-then-not-is_first g c = λ p.
     let there : find (λ (x : Registered). x.0 == n) old.listeners ≡ Some l =
     sym (ap option_copied (sym c.in-Some.is) ∙ c.at.ensures ∙ (λ i. find (λ (x : Registered). x.0 == n) (c.self.view_is i).listeners)) in
     let later : is_first old.listeners l ≡ false = sym (c.is_first.ensures ∙ (λ i. is_first (c.self.view_is i).listeners l)) ∙ c.if-not-is_first.true in
-    sym (seen_lost_by old sound (g.E.Ending.ended c.args.ending.now) p n l there later)
+    sym (seen_lost_by old sound (by_number (g.E.Ending.ended c.args.ending.now)) p n l there later)
 
 pub returns-then-is_left : goal.returns-then-is_left
 returns-then-is_left g c = λ p.
     let old : Cover = c.args.self.now in
     let sound : IsSound old = subst IsSound c.self.view_is c.self.invariant in
-    let ends : Registered → Bool = g.E.Ending.ended c.args.ending.now in
+    let ends : Registered → Bool = by_number (g.E.Ending.ended c.args.ending.now) in
     let n : ℕ = c.args.number in
     let l : Registered = c.in-Some.listener.now in
     let there : find (λ (x : Registered). x.0 == n) old.listeners ≡ Some l =
@@ -51,7 +74,7 @@ pub returns : goal.returns
 returns g c = λ p.
     let old : Cover = c.args.self.now in
     let sound : IsSound old = subst IsSound c.self.view_is c.self.invariant in
-    let ends : Registered → Bool = g.E.Ending.ended c.args.ending.now in
+    let ends : Registered → Bool = by_number (g.E.Ending.ended c.args.ending.now) in
     let n : ℕ = c.args.number in
     let l : Registered = c.in-Some.listener.now in
     let there : find (λ (x : Registered). x.0 == n) old.listeners ≡ Some l =
