@@ -62,13 +62,13 @@ one_more n = omega arith
 
 -- in its place
 pub put_in_place : (r : Region) (rs : List Region) → list_any (λ x. path_eq r.path x.path) rs ≡ false
-    → pairs_of (insert rs (position_or_len (λ x. is_lt (path_cmp r.path x.path)) rs) r) ≡ map_of.put path_cmp r.path (r.tree).tree (pairs_of rs)
+    → pairs_of (insert rs (position_or_len (λ x. is_lt (path_cmp r.path x.path)) rs) r) ≡ map_of.put path_cmp r.path r.tree (pairs_of rs)
 put_in_place r [] h = refl
 put_in_place r (x ∷ rs) h =
     let n = position_or_len (λ y. is_lt (path_cmp r.path y.path)) rs in
-    elim (is_lt (path_cmp r.path x.path)) as (λ b. is_lt (path_cmp r.path x.path) ≡ b → pairs_of (insert (x ∷ rs) (cond (not b) (1 + n) 0) r) ≡ map_of.put path_cmp r.path (r.tree).tree (pairs_of (x ∷ rs))) [
-      | true ↦ λ e. sym (put_before r.path (r.tree).tree x rs e)
-      | false ↦ λ e. ap (λ k. pairs_of (insert (x ∷ rs) k r)) (one_more n) ∙ ap (λ xs. pair_of x ∷ xs) (put_in_place r rs (or_right (path_eq r.path x.path) _ h)) ∙ sym (put_behind r.path (r.tree).tree x rs e (or_left (path_eq r.path x.path) _ h))
+    elim (is_lt (path_cmp r.path x.path)) as (λ b. is_lt (path_cmp r.path x.path) ≡ b → pairs_of (insert (x ∷ rs) (cond (not b) (1 + n) 0) r) ≡ map_of.put path_cmp r.path r.tree (pairs_of (x ∷ rs))) [
+      | true ↦ λ e. sym (put_before r.path r.tree x rs e)
+      | false ↦ λ e. ap (λ k. pairs_of (insert (x ∷ rs) k r)) (one_more n) ∙ ap (λ xs. pair_of x ∷ xs) (put_in_place r rs (or_right (path_eq r.path x.path) _ h)) ∙ sym (put_behind r.path r.tree x rs e (or_left (path_eq r.path x.path) _ h))
     ] refl
 
 -- where it comes before none, after all

@@ -104,11 +104,11 @@ put_at p u (r ∷ rs) (suc n) d new apart lt a e =
 
 -- and is the one whose part is there
 pub part_is : (p : Path) (rs : List Region) (n : ℕ) (d : Region) → have_overlap (pairs_of rs) ≡ false → n < length rs
-    → is_at_or_above (get_or rs n d).path p ≡ true → region_part (pairs_of rs) p ≡ option_map (sub ((get_or rs n d).tree).tree) (strip (get_or rs n d).path p)
+    → is_at_or_above (get_or rs n d).path p ≡ true → region_part (pairs_of rs) p ≡ option_map (sub (get_or rs n d).tree) (strip (get_or rs n d).path p)
 part_is p [] n d apart lt a = absurd (omega arith)
 part_is p (r ∷ rs) zero d apart lt a =
-    ap (option_or (option_map (sub (r.tree).tree) (strip r.path p))) (unseen p (pairs_of rs) (none_above r.path p (pairs_of rs) a (or_left _ (have_overlap (pairs_of rs)) apart)))
-    ∙ alone (option_map (sub (r.tree).tree) (strip r.path p))
+    ap (option_or (option_map (sub r.tree) (strip r.path p))) (unseen p (pairs_of rs) (none_above r.path p (pairs_of rs) a (or_left _ (have_overlap (pairs_of rs)) apart)))
+    ∙ alone (option_map (sub r.tree) (strip r.path p))
   where
     alone : (o : Option PathTree) → option_or o None ≡ o
     alone None = refl

@@ -13,7 +13,7 @@ ghost use Rattle.rt_cache.specs.Brought.{push, is_without_window};
 use crate::base::Base;
 use crate::region::Region;
 use crate::window::Window;
-use crate::{recover, regions, stores, windows};
+use crate::{recover, regions, windows};
 use rt_query::Query;
 use rt_tree::{Key, MAX_LEVELS, Path, Tree};
 use std::alloc::{AllocError, Global};
@@ -24,7 +24,8 @@ use std::marker::Model;
 ///
 /// Regions stand in the order of their paths, and none is at or above another, so that the one at
 /// or above a path is found by halving. Each tree is a store of its own, so that a tree that a call
-/// doesn't touch is neither copied nor walked.
+/// doesn't touch is neither copied nor walked, and has an equal tree beside it, of which all parts
+/// that are handed out are shared copies.
 pub struct Brought {
     regions: Vec<Region>,
     windows: Vec<Window>,
@@ -153,8 +154,10 @@ impl Brought {
     /// What is brought for the query: the part of the region at or above its path, which is whole,
     /// or its window; `None` where there is neither.
     ///
-    /// Finds it as [`Brought::knows`] does, and then costs by the path and the part, of which it
-    /// makes a copy. It is no deeper than a tree at the query's path may be.
+    /// Finds it as [`Brought::knows`] does, and then costs by the path: the tree shares its parts with
+    /// what is brought, and with what else was handed out of it. It is no deeper than a tree at the
+    /// query's path may be. After a push that lacked memory the tree is made anew, each time, until
+    /// one at the path of the region or of the window replaces it.
     ///
     /// An `Err` is want of memory. Where nothing is brought it takes none.
     pub fn base(&self, query: &Query) -> Result<Option<Base>, AllocError>
@@ -181,9 +184,9 @@ impl Brought {
         }))
     }
 
-    /// [`Brought::base`] with one child of the tree in its place, null where there is none. It
-    /// copies that child alone, and so costs by the path and that child. It is no deeper than a tree
-    /// at the child's path may be. Where nothing is brought for the query it takes no memory.
+    /// [`Brought::base`] with one child of the tree in its place, null where there is none. It costs
+    /// by the path, and where the tree has to be made anew by that child too. It is no deeper than a
+    /// tree at the child's path may be. Where nothing is brought for the query it takes no memory.
     pub fn base_child(&self, query: &Query, key: &Key) -> Result<Option<Base>, AllocError>
         ensures found { IfOk result (λ found. found ≡ base_child self.now query.now key.now) }
         ensures shallow { IfOk result (λ found. IfSome found (λ base.
@@ -201,7 +204,7 @@ impl Brought {
             return Ok(None);
         };
         let window = &self.windows[place];
-        let tree = stores::child_at(alloc, &window.children, &Path::root(alloc), key)?;
+        let tree = window.children.child(alloc, &Path::root(alloc), key)?;
         Ok(Some(Base {
             tree,
             whole: window.is_whole,

@@ -18,7 +18,7 @@ mod region;
 mod regions;
 mod run;
 mod spans;
-mod stores;
+mod stored_tree;
 mod window;
 mod windows;
 

@@ -21,7 +21,7 @@ ghost use Rattle.rt_cache.specs.declared.region.Region.{Region};
 use crate::region::Region;
 use crate::regions::{insert, part_at, place_above, region_of, remove_span, span_under};
 use crate::spans::{Span, is_within, places_between};
-use crate::stores::store_of_children;
+use crate::stored_tree::StoredTree;
 use crate::window::Window;
 use crate::windows::place_of_window;
 use rt_query::Query;
@@ -202,7 +202,7 @@ fn window_left(
     let part = part_at(alloc, &regions[place], query.path())?;
     Ok(Some(Window {
         query: query.copy()?,
-        children: store_of_children(alloc, &part)?,
+        children: StoredTree::of_children(alloc, &part)?,
         is_whole: true,
     }))
 }

@@ -1,11 +1,11 @@
 // A region.
-use rt_store::Store;
+use crate::stored_tree::StoredTree;
 use rt_tree::Path;
 
 // A tree at a path.
 pub(crate) struct Region {
     pub(crate) path: Path,
-    pub(crate) tree: Store,
+    pub(crate) tree: StoredTree,
 }
 
 impl Drop for Region {

@@ -17,7 +17,7 @@ ghost use Rattle.rt_cache.specs.declared.region.Region.{Region};
 use crate::paths::{meet, rest_of};
 use crate::region::Region;
 use crate::spans::Span;
-use crate::stores::{self, store_of};
+use crate::stored_tree::StoredTree;
 use rt_tree::{Key, MAX_LEVELS, Path, Tree};
 use std::alloc::{AllocError, Global};
 
@@ -77,7 +77,7 @@ pub(crate) fn place_above(regions: &[Region], path: &Path) -> Option<usize>
 pub(crate) fn part_at(alloc: Global, region: &Region, path: &Path) -> Result<Tree, AllocError>
     requires { is_at_or_above region.now.path path.now ≡ true }
     ensures { IfOk result (λ part. Some part
-        ≡ option_map (sub (region.now.tree).tree) (strip region.now.path path.now)) }
+        ≡ option_map (sub region.now.tree) (strip region.now.path path.now)) }
 {
     match rest_of(alloc, &region.path, path)? {
         Some(rest) => region.tree.get(alloc, &rest),
@@ -94,11 +94,11 @@ pub(crate) fn child_at(
 ) -> Result<Tree, AllocError>
     requires { is_at_or_above region.now.path path.now ≡ true }
     ensures { IfOk result (λ part. Some part
-        ≡ option_map (λ rest. child (sub (region.now.tree).tree rest) key.now)
+        ≡ option_map (λ rest. child (sub region.now.tree rest) key.now)
         (strip region.now.path path.now)) }
 {
     match rest_of(alloc, &region.path, path)? {
-        Some(rest) => stores::child_at(alloc, &region.tree, &rest, key),
+        Some(rest) => region.tree.child(alloc, &rest, key),
         None => Ok(Tree::null()),
     }
 }
@@ -116,7 +116,7 @@ pub(crate) fn put_into(
     ensures err { OnErr result (pair_of region.new ≡ pair_of region.old) }
 {
     match rest_of(alloc, &region.path, path)? {
-        Some(rest) => region.tree.set(alloc, &rest, tree).map_err(|_| AllocError),
+        Some(rest) => region.tree.set(alloc, &rest, tree),
         None => Ok(()),
     }
 }
@@ -127,7 +127,7 @@ pub(crate) fn insert(regions: &mut Vec<Region>, region: Region)
     requires sorted { T (map_of.is_sorted path_cmp (pairs_of regions.old.items)) }
     requires absent { list_any (λ r. path_eq region.path r.path) regions.old.items ≡ false }
     ensures placed { pairs_of regions.new.items
-        ≡ map_of.put path_cmp region.path (region.tree).tree (pairs_of regions.old.items) }
+        ≡ map_of.put path_cmp region.path region.tree (pairs_of regions.old.items) }
     ensures len { vec_len regions.new ≡ vec_len regions.old + 1 }
     ensures room { vec_capacity regions.old ≤ vec_capacity regions.new }
 {
@@ -203,7 +203,7 @@ pub(crate) fn region_of(alloc: Global, path: &Path, tree: &Tree) -> Result<Regio
 {
     Ok(Region {
         path: path.copy()?,
-        tree: store_of(alloc, tree)?,
+        tree: StoredTree::of(alloc, tree)?,
     })
 }
 

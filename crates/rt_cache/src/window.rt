@@ -1,11 +1,11 @@
 // A window.
+use crate::stored_tree::StoredTree;
 use rt_query::Query;
-use rt_store::Store;
 
 // The known children of a filtered query; whole where they are all that its path has.
 pub(crate) struct Window {
     pub(crate) query: Query,
-    pub(crate) children: Store,
+    pub(crate) children: StoredTree,
     pub(crate) is_whole: bool,
 }
 

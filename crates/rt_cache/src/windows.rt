@@ -13,7 +13,7 @@ ghost use Rattle.rt_cache.specs.inside.Held.{entries_of, pushed_windows, is_take
 ghost use Rattle.rt_cache.specs.declared.window.Window.{Window};
 
 use crate::paths::rest_of;
-use crate::stores::store_of_children;
+use crate::stored_tree::StoredTree;
 use crate::window::Window;
 use rt_query::Query;
 use rt_tree::{MAX_LEVELS, Path, Tree};
@@ -51,7 +51,7 @@ pub(crate) fn replace(
         (entries_of windows.old.items))) }
     ensures err { OnErr result (windows.new.items ≡ windows.old.items) }
 {
-    let children = store_of_children(alloc, tree)?;
+    let children = StoredTree::of_children(alloc, tree)?;
     match place_of_window(windows, query) {
         Some(place) => {
             let window = &mut windows[place];
@@ -80,16 +80,13 @@ fn put_into_window(
     requires levels { length path.now + levels tree.now ≤ MAX_LEVELS }
     ensures query { window.new.query ≡ window.old.query }
     ensures mark { window.new.is_whole ≡ window.old.is_whole }
-    ensures ok { OnOk result ((window.new.children).tree
-        ≡ option_map_or (λ rest. put (window.old.children).tree rest tree.now)
-        (strip window.old.query.path path.now) (window.old.children).tree) }
-    ensures err { OnErr result ((window.new.children).tree ≡ (window.old.children).tree) }
+    ensures ok { OnOk result (window.new.children
+        ≡ option_map_or (λ rest. put window.old.children rest tree.now)
+        (strip window.old.query.path path.now) window.old.children) }
+    ensures err { OnErr result (window.new.children ≡ window.old.children) }
 {
     match rest_of(alloc, window.query.path(), path)? {
-        Some(rest) => window
-            .children
-            .set(alloc, &rest, tree)
-            .map_err(|_| AllocError),
+        Some(rest) => window.children.set(alloc, &rest, tree),
         None => Ok(()),
     }
 }

@@ -13,14 +13,14 @@ use Rattle.rt_cache.specs.declared.window.Window as inside
 
 -- a region as its path with its tree
 abbrev pub pair_of : Region → Path × PathTree
-pair_of r = (r.path, (r.tree).tree)
+pair_of r = (r.path, r.tree)
 
 abbrev pub pairs_of : List Region → List (Path × PathTree)
 pairs_of regions = map pair_of regions
 
 -- a window as its query with what is known
 abbrev pub seen_window : inside.Window → Window
-seen_window w = record { children = (w.children).tree; is_whole = w.is_whole }
+seen_window w = record { children = w.children; is_whole = w.is_whole }
 
 abbrev pub entry_of : inside.Window → Query × Window
 entry_of w = (w.query, seen_window w)

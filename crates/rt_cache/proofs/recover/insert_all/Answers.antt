@@ -43,7 +43,7 @@ loop-region-preserved c =
       ap (λ xs. with_regions xs (pairs_of left)) placed
           ∙ ap (λ (xs : List Region). with_regions (pairs_of c.loop-region.regions.items) (pairs_of xs)) (sym rest) ∙ c.loop-region.invariant.2,
       subst (λ rs. T (map_of.is_sorted path_cmp rs)) (sym placed)
-          (is_sorted-put path_cmp paths_total (c.in-Some.region).path ((c.in-Some.region).tree).tree (pairs_of c.loop-region.regions.items) c.loop-region.invariant.3),
+          (is_sorted-put path_cmp paths_total (c.in-Some.region).path (c.in-Some.region).tree (pairs_of c.loop-region.regions.items) c.loop-region.invariant.3),
       omega (arith, short, c.in-Some.ensures.steps.1, c.loop-region.invariant.4),
     )
 

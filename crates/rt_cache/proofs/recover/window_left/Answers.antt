@@ -50,11 +50,11 @@ returns c = λ kept cut.
     (λ d. of_not (reaches kept (get_or c.args.regions.now c.in-Some.place d).path) false
     (cut.lost.1 c.in-Some.place d within ∙ sym (c.is_within.ensures (length c.args.regions.now) cut.lost.0) ∙ going)) i
     || (ap (λ rs. is_some (region_part rs (c.args.query.now).path)) (sym cut.parts) ∙ no_part) i) in
-    let part : Some c.in_ok-part.part ≡ option_map (sub (region.tree).tree) (strip region.path (c.args.query.now).path) = search rules in
+    let part : Some c.in_ok-part.part ≡ option_map (sub region.tree) (strip region.path (c.args.query.now).path) = search rules in
     let seen : region_part (pairs_of c.args.regions.now) (c.args.query.now).path ≡ Some c.in_ok-part.part =
     part_is (c.args.query.now).path c.args.regions.now c.in-Some.place region c.requires.apart within (all_above region)
-    ∙ ap (λ (r : Region). option_map (sub (r.tree).tree) (strip r.path (c.args.query.now).path)) (sym at) ∙ sym part in
+    ∙ ap (λ (r : Region). option_map (sub r.tree) (strip r.path (c.args.query.now).path)) (sym at) ∙ sym part in
     let query : c.in_ok-copy.field-0 ≡ c.args.query.now = search rules in
-    let children : (c.in_ok-store_of_children.field-0).tree ≡ children_alone c.in_ok-part.part = search rules in
+    let children : c.in_ok-of_children.field-0 ≡ children_alone c.in_ok-part.part = search rules in
     (λ i. Some (query i, record { children = children i; is_whole = true }))
     ∙ ap (option_map (λ w. (c.args.query.now, w))) (sym (left_whole (pairs_of c.args.regions.now) (regions_kept kept (pairs_of c.args.regions.now)) c.args.query.now c.in_ok-part.part filtered gone seen))

@@ -42,7 +42,7 @@ returns-in_err-put_into_window-clause-err c =
     let old : Window = c.index_mut.result.now in
     let within : c.in-Some.place < length c.args.windows.now.items = search rules in
     let at : old ≡ get_or c.args.windows.now.items c.in-Some.place old = search rules in
-    let tree : (c.put_into_window.new.window.children).tree ≡ (old.children).tree = search rules in
+    let tree : c.put_into_window.new.window.children ≡ old.children = search rules in
     let same : entry_of c.put_into_window.new.window ≡ entry_of old =
     λ i. (c.put_into_window.ensures.query i, record { children = tree i; is_whole = c.put_into_window.ensures.mark i }) in
     on_err_of _ _ (ap in_query_order (entries_of-set c.args.windows.now.items c.in-Some.place old c.put_into_window.new.window within (same ∙ ap entry_of at)))
@@ -58,11 +58,11 @@ returns-clause-ok c =
     let first : (k : ℕ) → k < c.in-Some.place → query_eq (get_or c.args.windows.now.items k old).query c.args.query.now ≡ false = search rules in
     let other : path_eq c.args.path.now (c.args.query.now).path ≡ false = search rules in
     let was : old.query ≡ q = (query_eq_tells old.query q).0 (ap (λ (w : Window). query_eq w.query q) at ∙ own) in
-    let tree : (new.children).tree ≡ option_map_or (λ rest. put (old.children).tree rest c.args.tree.now) (strip (old.query).path c.args.path.now) (old.children).tree = c.in_ok-put_into_window.ensures.ok in
+    let tree : new.children ≡ option_map_or (λ rest. put old.children rest c.args.tree.now) (strip (old.query).path c.args.path.now) old.children = c.in_ok-put_into_window.ensures.ok in
     let found = window_listed q c.args.windows.now.items c.in-Some.place old within first own in
     listed-set q c.args.windows.now.items c.in-Some.place old new within first own (c.put_into_window.ensures.query ∙ was)
     ∙ (λ i. map_of.put query_cmp q (record {
-      children = (tree ∙ ap (λ (r : Query). option_map_or (λ rest. put (old.children).tree rest c.args.tree.now) (strip r.path c.args.path.now) (old.children).tree) was) i;
+      children = (tree ∙ ap (λ (r : Query). option_map_or (λ rest. put old.children rest c.args.tree.now) (strip r.path c.args.path.now) old.children) was) i;
       is_whole = c.put_into_window.ensures.mark i;
     }) (in_query_order (entries_of c.args.windows.now.items)))
     ∙ pushed_some q c.args.path.now c.args.tree.now (in_query_order (entries_of c.args.windows.now.items)) (seen_window old) other c.requires.under (found ∙ ap (λ (w : Window). Some (seen_window w)) (sym at))

@@ -26,11 +26,11 @@ returns-in-Some-clause-found c =
     let within : c.in-Some.place < length c.self.inside.regions.items = search rules in
     let at : region ≡ get_or c.self.inside.regions.items c.in-Some.place region = search rules in
     let above : is_at_or_above (get_or c.self.inside.regions.items c.in-Some.place region).path (c.args.query.now).path ≡ true = search rules in
-    let part : Some c.in_ok-tree.tree ≡ option_map (λ rest. child (sub (region.tree).tree rest) c.args.key.now) (strip region.path (c.args.query.now).path) = search rules in
-    let seen : region_part (pairs_of c.self.inside.regions.items) (c.args.query.now).path ≡ option_map (sub (region.tree).tree) (strip region.path (c.args.query.now).path) =
+    let part : Some c.in_ok-tree.tree ≡ option_map (λ rest. child (sub region.tree rest) c.args.key.now) (strip region.path (c.args.query.now).path) = search rules in
+    let seen : region_part (pairs_of c.self.inside.regions.items) (c.args.query.now).path ≡ option_map (sub region.tree) (strip region.path (c.args.query.now).path) =
     part_is (c.args.query.now).path c.self.inside.regions.items c.in-Some.place region c.self.invariant.0.apart within above
-    ∙ ap (λ (r : Region). option_map (sub (r.tree).tree) (strip r.path (c.args.query.now).path)) (sym at) in
-    child_seen (region.tree).tree (strip region.path (c.args.query.now).path) c.in_ok-tree.tree c.args.key.now (map_of.find query_cmp c.args.query.now (entries_of c.self.inside.windows.items)) part
+    ∙ ap (λ (r : Region). option_map (sub r.tree) (strip r.path (c.args.query.now).path)) (sym at) in
+    child_seen region.tree (strip region.path (c.args.query.now).path) c.in_ok-tree.tree c.args.key.now (map_of.find query_cmp c.args.query.now (entries_of c.self.inside.windows.items)) part
     ∙ ap (option_map (child_base c.args.key.now)) (sym (base_found c.self.inside.regions.items c.self.inside.windows.items c.args.query.now _ _ c.self.invariant.0.filtered seen refl))
     ∙ ap (λ b. base_child b c.args.query.now c.args.key.now) c.self.view_is
 
@@ -49,10 +49,10 @@ returns-clause-found c =
     let at : window ≡ get_or c.self.inside.windows.items c.in-Some-place_of_window.place window = search rules in
     let own : query_eq (get_or c.self.inside.windows.items c.in-Some-place_of_window.place window).query c.args.query.now ≡ true = search rules in
     let first : (k : ℕ) → k < c.in-Some-place_of_window.place → query_eq (get_or c.self.inside.windows.items k window).query c.args.query.now ≡ false = search rules in
-    let tree : c.in_ok-tree-2.tree ≡ child (sub (window.children).tree c.root.result) c.args.key.now = search rules in
+    let tree : c.in_ok-tree-2.tree ≡ child (sub window.children c.root.result) c.args.key.now = search rules in
     let found : map_of.find query_cmp c.args.query.now (entries_of c.self.inside.windows.items) ≡ Some (seen_window window) =
     find-at c.args.query.now c.self.inside.windows.items c.in-Some-place_of_window.place window within first own ∙ ap (λ (w : Window). Some (seen_window w)) (sym at) in
-    (λ i. Some (record { tree = (tree ∙ ap (λ x. child (sub (window.children).tree x) c.args.key.now) c.root.ensures ∙ ap (λ x. child x c.args.key.now) (sub_root (window.children).tree)) i; whole = window.is_whole }))
+    (λ i. Some (record { tree = (tree ∙ ap (λ x. child (sub window.children x) c.args.key.now) c.root.ensures ∙ ap (λ x. child x c.args.key.now) (sub_root window.children)) i; whole = window.is_whole }))
     ∙ ap (option_map (child_base c.args.key.now)) (sym (base_found c.self.inside.regions.items c.self.inside.windows.items c.args.query.now None (Some (seen_window window)) c.self.invariant.0.filtered none found))
     ∙ ap (λ b. base_child b c.args.query.now c.args.key.now) c.self.view_is
 

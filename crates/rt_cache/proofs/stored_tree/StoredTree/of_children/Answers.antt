@@ -1,6 +1,6 @@
 use Rattle.std.proofs.Common.{rules, subst, IfOk, ◌≡◌, ◌∙◌, ap, sym, cond, true, false, [], is_some}
 use Rattle.rt_tree.specs.PathTree.{leaf_at, null, children_alone}
-use Rattle.rt_cache.proofs.stores.store_of_children.Goals as goal
+use Rattle.rt_cache.proofs.stored_tree.StoredTree.of_children.Goals as goal
 
 pub returns-then-is_some : goal.returns-then-is_some
 unfolding children_alone
@@ -12,4 +12,4 @@ pub returns-else-is_some : goal.returns-else-is_some
 unfolding children_alone
 returns-else-is_some c =
     let leaf : is_some (leaf_at c.args.tree.now []) ≡ false = search rules in
-    subst (λ t. IfOk c.store_of.result (λ store. store.tree ≡ t)) (ap (λ b. cond b null c.args.tree.now) (sym leaf)) c.store_of.ensures
+    subst (λ t. IfOk c.of.result (λ stored. stored ≡ t)) (ap (λ b. cond b null c.args.tree.now) (sym leaf)) c.of.ensures
