@@ -12,8 +12,8 @@ use Rattle.rt_peer.specs.Runs.{Call, Connect, Message, Disconnect, outcome}
 use Rattle.rt_peer.specs.declared.error.PeerError.{PeerError}
 use Rattle.rt_peer.specs.declared.sent.Sent.{Sent}
 use Rattle.rt_hub.specs.declared.bounds.Bounds.{Bounds}
-use Rattle.rt_hub.specs.declared.taken.Taken.{Taken}
-use Rattle.rt_hub.specs.declared.taken.Taken.TheVariants.{Message as TookMessage, PassedOver}
+use Rattle.rt_hub.specs.declared.hub.Taken.{Taken}
+use Rattle.rt_hub.specs.declared.hub.Taken.TheVariants.{Message as TookMessage, PassedOver}
 use Rattle.rt_hub.specs.Lines.{Line, empty_line, line_of, texts_to, with_texts, without_first}
 
 -- a peer, what may wait for each of its connections, and what does, by the numbers of the connections

@@ -12,12 +12,21 @@ ghost use Rattle.rt_hub.specs.Hubs.{receivers, refused_as};
 use crate::bounds::Bounds;
 use crate::calls::{answer, begin, end};
 use crate::lines::{Lines, has_line, is_over, next_of};
-use crate::taken::Taken;
 use rt_peer::{Peer, PeerError};
 use rt_tree::{Path, Tree};
 use rt_wire::{ClientMessage, WireError};
 use std::alloc::Global;
 use std::marker::Model;
+
+/// What came of a text.
+#[derive(Debug, Drop)]
+pub enum Taken {
+    /// It is a message: to whom something was sent for it, in order, a connection as often as it was sent
+    /// something.
+    Message(Vec<u64>),
+    /// It is no message of a client, and why.
+    PassedOver(WireError),
+}
 
 /// A peer, and for each of its connections the texts that wait for it.
 ///

@@ -22,12 +22,10 @@ mod hub;
 mod laws;
 mod line;
 mod lines;
-mod taken;
 #[cfg(test)]
 mod tests;
 
 pub use bounds::{Bounds, MAX_WAITING_BYTES, MAX_WAITING_MESSAGES};
 pub use examples::line_examples;
-pub use hub::Hub;
+pub use hub::{Hub, Taken};
 pub use laws::queue_law;
-pub use taken::Taken;

@@ -6,7 +6,7 @@ use Rattle.rt_tree.specs.Assignments.{Assignment}
 use Rattle.rt_writes.specs.Writes as writes
 use Rattle.rt_world.specs.declared.request.Request.{Request}
 use Rattle.rt_world.specs.World.{pending}
-use Rattle.rt_parts.specs.declared.settled.Settled.{Settled}
+use Rattle.rt_parts.specs.declared.requests.Settled.{Settled}
 
 -- the entries that the write of that number set, none where the request is no write
 abbrev pub entries_set : ℕ → List Request → List Assignment

@@ -27,10 +27,8 @@ mod places;
 mod reading;
 mod requests;
 mod seeing;
-mod settled;
 mod views;
 
 pub use error::ShownError;
 pub use listeners::Listeners;
-pub use requests::Requests;
-pub use settled::Settled;
+pub use requests::{Requests, Settled};

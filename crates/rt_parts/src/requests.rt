@@ -12,7 +12,6 @@ ghost use Rattle.rt_parts.specs.Settling.{settled};
 ghost use Rattle.rt_parts.specs.inside.Writes.{entries_asked};
 
 use crate::numbers::{place_of, take};
-use crate::settled::Settled;
 use rt_wire::Asked;
 use rt_world::{Request, pending_law};
 use rt_writes::{Entries, Pending};
@@ -24,6 +23,22 @@ use std::marker::Model;
 pub struct Requests {
     items: VecDeque<Request>,
     pending: Pending,
+}
+
+/// What is left of a request that is settled: its seat, unless that has gone, and the entries that its
+/// write set, none for what was asked for the end of the connection.
+pub struct Settled {
+    pub seat: Option<u64>,
+    pub entries: Entries,
+}
+
+impl Drop for Settled {
+    fn drop(self) {
+        let Settled {
+            seat: _,
+            entries: _,
+        } = self;
+    }
 }
 
 impl Drop for Requests {

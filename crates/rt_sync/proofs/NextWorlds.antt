@@ -2,7 +2,7 @@
 use Rattle.std.proofs.Common.{◌≡◌, ℕ, ◌+◌, Bool, true, false, cond, not, ◌||◌, List, [], ◌∷◌, ◌++◌, map, refl, sym, ap, subst, ◌∙◌, Option, Some, None}
 use mathlib.Core.Bool.{true≢false}
 use Rattle.std.specs.Prelude.{◌==◌, is_some}
-use Rattle.rt_parts.specs.declared.settled.Settled.{Settled as Left}
+use Rattle.rt_parts.specs.declared.requests.Settled.{Settled as Left}
 use Rattle.std.specs.List.{filter, find, fold, list_all, list_any}
 use Rattle.std.specs.Option.{option_and_then, option_map, option_map_or, option_to_list}
 use Rattle.rt_query.specs.Queries.{Query}

@@ -1,9 +1,12 @@
 // Room for the answers of a run.
 ghost use Rattle.std.specs.Prelude.{◌≡◌, ◌≤◌, IfErr, IfOk, IsOk};
+ghost use Rattle.rt_world.specs.Codes.{code_of, name_of};
+ghost use Rattle.rt_world.specs.declared.error.CoreError.TheVariants.{NoMemory};
 
 use rt_world::{CoreError, Report};
 use std::alloc::{AllocError, Global};
 use std::marker::Model;
+use thiserror::Error;
 
 /// Room for answers: what a run reserves before its first step.
 #[derive(Drop)]
@@ -22,7 +25,8 @@ impl Model for Room {
 }
 
 /// That room for so many answers was refused. Nothing but [`Room::new`] makes one.
-#[derive(Debug, Drop)]
+#[derive(Debug, Drop, Error)]
+#[error("no room for the answers of {answers} steps")]
 pub struct NoRoom {
     answers: usize,
 }
@@ -41,6 +45,20 @@ impl NoRoom {
         ensures { result ≡ self.now }
     {
         self.answers
+    }
+
+    /// The number of the refusal: that of want of memory among a core's.
+    pub fn code(&self) -> u8
+        ensures { result ≡ code_of NoMemory }
+    {
+        CoreError::NoMemory.code()
+    }
+
+    /// The word of the refusal.
+    pub fn name(&self) -> &'static str
+        ensures { result.now ≡ name_of NoMemory }
+    {
+        CoreError::NoMemory.name()
     }
 }
 

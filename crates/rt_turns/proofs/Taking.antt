@@ -7,8 +7,8 @@ use Rattle.rt_wire.specs.declared.error.WireError.{WireError}
 use Rattle.rt_peer.specs.Peers.{Peer}
 use Rattle.rt_peer.specs.Runs.{Message, outcome, sent_all}
 use Rattle.rt_hub.specs.Hubs.{Hub, IsMade, IsTaken, TakesText, receivers}
-use Rattle.rt_hub.specs.declared.taken.Taken.{Taken}
-use Rattle.rt_hub.specs.declared.taken.Taken.TheVariants.{Message as TookMessage, PassedOver}
+use Rattle.rt_hub.specs.declared.hub.Taken.{Taken}
+use Rattle.rt_hub.specs.declared.hub.Taken.TheVariants.{Message as TookMessage, PassedOver}
 use Rattle.rt_turns.specs.Turns.{AreMade, text_call}
 
 one_made : (n : ℕ) (m : ClientMessage) (a b : Option Hub) → IsMade a (Message n m) b

@@ -3,7 +3,7 @@ use Rattle.std.specs.Option.{option_and_then, option_map, option_map_or, option_
 use Rattle.std.specs.Prelude.{◌==◌}
 use Rattle.std.specs.List.{find, zip}
 use Rattle.rt_parts.specs.Settling.{entries_set}
-use Rattle.rt_parts.specs.declared.settled.Settled.{Settled as Left}
+use Rattle.rt_parts.specs.declared.requests.Settled.{Settled as Left}
 use Rattle.rt_world.specs.declared.report.Body.TheVariants.{Settled}
 use Rattle.rt_world.specs.declared.request.Request.{Request}
 use Rattle.rt_world.specs.World.{pending}
