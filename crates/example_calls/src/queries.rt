@@ -1,7 +1,9 @@
 // Queries, and what they show.
 use crate::trees::chat;
 use anyhow::Result;
-use kaltewi::{Draft, Index, Leaf, Limit, Mark, Path, Query, QueryError, Row, Shown, query_text};
+use kaltewi::{
+    Draft, Index, Leaf, Limit, Mark, Path, Query, QueryError, Row, Shown, Tree, query_text,
+};
 use std::alloc::{AllocError, Global};
 use std::io::Print;
 
@@ -83,6 +85,16 @@ fn shown(alloc: Global, query: &Query) -> Result<Shown> {
     Ok(query.select(&chat(alloc)?)?)
 }
 
+// What is shown of nothing: no leaf, and no row.
+fn nothing(alloc: Global) -> Shown {
+    Shown::of(None, Vec::new(alloc), Tree::null())
+}
+
+fn show_nothing(rt: &impl Print, alloc: Global) -> Result<()> {
+    println!(rt; "rows of nothing: {}", nothing(alloc).rows().len())?;
+    Ok(())
+}
+
 fn first_row(shown: &Shown) -> Option<&Row> {
     shown.rows().first()
 }
@@ -144,5 +156,6 @@ pub(crate) fn show(rt: &impl Print, alloc: Global) -> Result<()> {
     show_first(rt, alloc, &first(at(alloc, "/")?)?)?;
     show_drafts(rt, alloc)?;
     show_values(rt, alloc)?;
-    show_equal(rt, alloc)
+    show_equal(rt, alloc)?;
+    show_nothing(rt, alloc)
 }

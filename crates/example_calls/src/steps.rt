@@ -103,6 +103,16 @@ fn first_told(notes: &Notes) -> &'static str {
     notes.as_slice().first().map_or("nothing is told", kind_of)
 }
 
+// What is told where nothing is.
+fn untold(alloc: Global) -> Notes {
+    Notes::of(Vec::new(alloc))
+}
+
+fn show_untold(rt: &impl Print, alloc: Global) -> Result<()> {
+    println!(rt; "of no notes {}", first_told(&untold(alloc)))?;
+    Ok(())
+}
+
 // The listens that are kept, each with its tag and a listener that needs it.
 fn show_kept(rt: &impl Print, kept: &Kept) -> Result<()> {
     let (tag, path, listener) = (kept.tag, kept.query.path(), kept.listener);
@@ -192,5 +202,6 @@ fn show_all(rt: &impl Print, alloc: Global, core: &mut Core) -> Result<()> {
 
 pub(crate) fn show(rt: &impl Print, alloc: Global) -> Result<()> {
     println!(rt; "requests at most: {}", few().requests)?;
+    show_untold(rt, alloc)?;
     show_all(rt, alloc, &mut core(alloc))
 }

@@ -1,6 +1,8 @@
 // Keys, paths, leaves and trees, and the entries of a write.
 use anyhow::Result;
+use json::Writer;
 use kaltewi::{Entries, Key, Leaf, LeafRef, OrdMap, Path, Tree, TreeError};
+use serde_json::Value;
 use std::alloc::{AllocError, Global};
 use std::io::Print;
 
@@ -68,6 +70,37 @@ pub(crate) fn chat(alloc: Global) -> Result<Tree, TreeError> {
 
 pub(crate) fn show_tree(rt: &impl Print, alloc: Global, tree: &Tree) -> Result<()> {
     println!(rt; "{}", tree.text(alloc)?)?;
+    Ok(())
+}
+
+// A value of serde_json as a tree: read from it, or made of it, which then keeps its texts.
+fn read_value(alloc: Global, value: &Value) -> Result<Tree, TreeError> {
+    Tree::from_value(alloc, value)
+}
+
+fn take_value(alloc: Global, value: Value) -> Result<Tree, TreeError> {
+    Tree::of_value(alloc, value)
+}
+
+// A leaf and a tree as an array, behind what a writer of json has.
+fn write_both(leaf: &Leaf, tree: &Tree, out: &mut Writer) -> Result<(), AllocError> {
+    out.begin_array()?;
+    leaf.write(out)?;
+    tree.write(out)?;
+    out.end_array()
+}
+
+fn both(alloc: Global, leaf: &Leaf, tree: &Tree) -> Result<Vec<u8>, AllocError> {
+    let mut out = Writer::new(Vec::new(alloc));
+    write_both(leaf, tree, &mut out)?;
+    Ok(out.into_inner())
+}
+
+fn show_values(rt: &impl Print, alloc: Global, leaf: &Leaf, tree: &Tree) -> Result<()> {
+    let value = tree.to_value(alloc)?;
+    let is_same = read_value(alloc, &value)? == take_value(alloc, value)?;
+    let count = both(alloc, leaf, tree)?.len();
+    println!(rt; "of a value the same: {is_same}, {count} bytes of both")?;
     Ok(())
 }
 
@@ -161,7 +194,8 @@ fn show_places(rt: &impl Print, alloc: Global, tree: &mut Tree, path: &Path) -> 
 
 fn show_leaves(rt: &impl Print, alloc: Global) -> Result<()> {
     show_leaf(rt, &leaf(alloc)?)?;
-    show_leaf(rt, &seven()?)
+    show_leaf(rt, &seven()?)?;
+    show_values(rt, alloc, &seven()?, &chat(alloc)?)
 }
 
 fn show_map(rt: &impl Print, children: &mut OrdMap<Key, Tree>, key: &Key) -> Result<()> {

@@ -106,6 +106,10 @@ pub use rt_query::Limit;
 ///     println!(rt; "{} {is_there} {is_leaf} {is_null}", row.key)?;
 ///     Ok(())
 /// }
+///
+/// fn nothing(alloc: Global) -> Shown {
+///     Shown::of(None, Vec::new(alloc), Tree::null())
+/// }
 /// ```
 pub use rt_query::Shown;
 

@@ -121,6 +121,10 @@ pub use rt_world::Outcome;
 /// fn first_told(notes: &Notes) -> &'static str {
 ///     notes.as_slice().first().map_or("nothing is told", kind_of)
 /// }
+///
+/// fn untold(alloc: Global) -> Notes {
+///     Notes::of(Vec::new(alloc))
+/// }
 /// ```
 pub use rt_world::Notes;
 

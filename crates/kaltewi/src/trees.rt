@@ -113,6 +113,29 @@ pub use rt_tree::LeafRef;
 /// fn count(tree: &Tree) -> usize {
 ///     tree.children().map_or(0, |children| children.len())
 /// }
+///
+/// fn read_value(alloc: Global, value: &Value) -> Result<Tree, TreeError> {
+///     Tree::from_value(alloc, value)
+/// }
+///
+/// fn take_value(alloc: Global, value: Value) -> Result<Tree, TreeError> {
+///     Tree::of_value(alloc, value)
+/// }
+///
+/// fn write_both(leaf: &Leaf, tree: &Tree, out: &mut Writer) -> Result<(), AllocError> {
+///     out.begin_array()?;
+///     leaf.write(out)?;
+///     tree.write(out)?;
+///     out.end_array()
+/// }
+///
+/// fn show_values(rt: &impl Print, alloc: Global, leaf: &Leaf, tree: &Tree) -> Result<()> {
+///     let value = tree.to_value(alloc)?;
+///     let is_same = read_value(alloc, &value)? == take_value(alloc, value)?;
+///     let count = both(alloc, leaf, tree)?.len();
+///     println!(rt; "of a value the same: {is_same}, {count} bytes of both")?;
+///     Ok(())
+/// }
 /// ```
 pub use rt_tree::Tree;
 

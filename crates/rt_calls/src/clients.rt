@@ -53,28 +53,34 @@ fn make(shared: &mut Shared, name: Word, line: &mut Line) -> Told {
         _ => return Err(Fault::NoSuchCall),
     };
     match outcome {
-        Ok(outcome) => line.debug(outcome),
-        Err(error) => return refused(error, line),
+        Ok(outcome) => Ok(line.debug(outcome)),
+        Err(error) => refused(error, line),
     }
-    Ok(())
 }
 
 // The first message that is to be sent, or `none`.
 fn out(shared: &mut Shared, line: &mut Line) -> Told {
     match shared.take_outgoing() {
-        Ok(message) => tell_message(message, line),
-        Err(error) => return refused(error, line),
+        Ok(message) => Ok(tell_message(message, line)),
+        Err(error) => refused(error, line),
     }
-    Ok(())
 }
 
 // The listens kept.
 fn cover(shared: &Shared, line: &mut Line) -> Told {
     match shared.cover() {
-        Ok(kept) => tell_kept(kept.as_slice(), line),
-        Err(error) => return refused(error, line),
+        Ok(kept) => Ok(tell_kept(kept.as_slice(), line)),
+        Err(error) => refused(error, line),
     }
-    Ok(())
+}
+
+// `view LISTENER`: the tree that a listener shows, or `unknown`.
+fn view(shared: &Shared, line: &mut Line) -> Told {
+    match shared.view(line.number()) {
+        Ok(Some(shown)) => Ok(line.say_tree(shown.tree())),
+        Ok(None) => Ok(line.say("unknown")),
+        Err(error) => refused(error, line),
+    }
 }
 
 // `push_key MOMENT DIGIT`: the push id of a moment, and of twelve times that digit.
@@ -94,6 +100,7 @@ fn call_locked(shared: &mut Shared, name: Word, line: &mut Line) -> Told {
     match line.at(name) {
         "out" => out(shared, line),
         "cover" => cover(shared, line),
+        "view" => view(shared, line),
         "push_key" => push_key(shared, line),
         _ => make(shared, name, line),
     }

@@ -42,10 +42,9 @@ fn tell_delta(delta: &Delta, line: &mut Line) {
 
 fn told(answer: Result<Delta, CoverError>, line: &mut Line) -> Told {
     match answer {
-        Ok(delta) => tell_delta(&delta, line),
-        Err(error) => return refused(error, line),
+        Ok(delta) => Ok(tell_delta(&delta, line)),
+        Err(error) => refused(error, line),
     }
-    Ok(())
 }
 
 // A listener of a number that none has, and its query.
@@ -80,10 +79,9 @@ fn revoke(cover: &mut Cover, line: &mut Line) -> Told {
 
 fn tell_kept(list: Result<KeptList, CoverError>, line: &mut Line) -> Told {
     match list {
-        Ok(list) => tell_listens(list.as_slice(), line),
-        Err(error) => return refused(error, line),
+        Ok(list) => Ok(tell_listens(list.as_slice(), line)),
+        Err(error) => refused(error, line),
     }
-    Ok(())
 }
 
 // The least tag of a listen that supplies a query.

@@ -49,6 +49,7 @@ use std::sync::Wait;
 // What the lines so far have made. There is no client, no ring and no view at first, and the peer has no
 // tree and no denied path; the lane is the ring's, the mirror that of what seats gave. The copy is the
 // tree's, the node one of the store, found before its last changes; `told` is what the view told last.
+#[derive(Drop)]
 struct State {
     brought: Brought,
     client: Option<Client>,
@@ -66,29 +67,6 @@ struct State {
     tree: Tree,
     view: Option<View>,
     writes: Pending,
-}
-
-impl Drop for State {
-    fn drop(self) {
-        let State {
-            brought: _,
-            client: _,
-            copy: _,
-            core: _,
-            cover: _,
-            inbox: _,
-            lane: _,
-            mirror: _,
-            node: _,
-            peer: _,
-            seats: _,
-            store: _,
-            told: _,
-            tree: _,
-            view: _,
-            writes: _,
-        } = self;
-    }
 }
 
 impl State {

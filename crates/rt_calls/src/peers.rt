@@ -40,18 +40,16 @@ fn tell_sent(sent: &[Sent], line: &mut Line) {
 // What a call sent, or why it was refused.
 fn tell(answer: Result<Vec<Sent>, PeerError>, line: &mut Line) -> Told {
     match answer {
-        Ok(sent) => tell_sent(sent.as_slice(), line),
-        Err(error) => return refused(error, line),
+        Ok(sent) => Ok(tell_sent(sent.as_slice(), line)),
+        Err(error) => refused(error, line),
     }
-    Ok(())
 }
 
 fn connect(peer: &mut Peer, line: &mut Line) -> Told {
     match peer.connect() {
-        Ok(number) => line.display(&number),
-        Err(error) => return refused(error, line),
+        Ok(number) => Ok(line.display(&number)),
+        Err(error) => refused(error, line),
     }
-    Ok(())
 }
 
 // A message of a connection.

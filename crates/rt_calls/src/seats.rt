@@ -38,11 +38,10 @@ fn made(shared: &mut Shared, seat: &mut Seat, call: Call) -> Answer {
 // Says what a seat's call answers.
 fn tell(answer: Answer, line: &mut Line) -> Told {
     match answer {
-        Ok(Some(number)) => line.display(&number),
-        Ok(None) => line.say("ok"),
-        Err(error) => return refused(error, line),
+        Ok(Some(number)) => Ok(line.display(&number)),
+        Ok(None) => Ok(line.say("ok")),
+        Err(error) => refused(error, line),
     }
-    Ok(())
 }
 
 // The mirror takes what the ring holds; says how many items that are.

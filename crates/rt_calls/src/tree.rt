@@ -15,10 +15,9 @@ fn refused(error: TreeError, line: &mut Line) -> Told {
 fn child(line: &mut Line) -> Told {
     let path: Path = line.read();
     match path.child(&line.key()?) {
-        Ok(child) => line.display(&child),
-        Err(error) => return refused(error, line),
+        Ok(child) => Ok(line.display(&child)),
+        Err(error) => refused(error, line),
     }
-    Ok(())
 }
 
 // The path of a key so many times.
@@ -29,18 +28,16 @@ fn keys(line: &mut Line) -> Told {
         keys.push(key.copy()?)?;
     }
     match Path::from_keys(line.alloc, keys.as_slice()) {
-        Ok(path) => line.display(&path),
-        Err(error) => return refused(error, line),
+        Ok(path) => Ok(line.display(&path)),
+        Err(error) => refused(error, line),
     }
-    Ok(())
 }
 
 fn leaf(line: &mut Line) -> Told {
     match read_leaf(line) {
-        Ok(leaf) => tell_leaf(leaf, line),
-        Err(error) => return refused(error, line),
+        Ok(leaf) => Ok(tell_leaf(leaf, line)),
+        Err(error) => refused(error, line),
     }
-    Ok(())
 }
 
 fn read_leaf(line: &mut Line) -> Result<Leaf, TreeError> {
@@ -61,10 +58,9 @@ fn tell_leaf(leaf: Leaf, line: &mut Line) {
 fn read(line: &mut Line) -> Told {
     let text = line.pieces();
     match Tree::read(line.alloc, text.as_str()) {
-        Ok(tree) => tell_read(&tree, line),
-        Err(error) => return refused(error, line),
+        Ok(tree) => Ok(tell_read(&tree, line)),
+        Err(error) => refused(error, line),
     }
-    Ok(())
 }
 
 fn tell_read(tree: &Tree, line: &mut Line) {
@@ -86,10 +82,9 @@ fn children(line: &mut Line) -> Told {
         pairs.push((line.key()?, line.read()))?;
     }
     match Tree::from_children(line.alloc, line.given(pairs)?) {
-        Ok(tree) => line.say_tree(&tree),
-        Err(error) => return refused(error, line),
+        Ok(tree) => Ok(line.say_tree(&tree)),
+        Err(error) => refused(error, line),
     }
-    Ok(())
 }
 
 // Puts a tree at a path.

@@ -7,6 +7,10 @@ use Rattle.rt_mail.specs.contracts.lane.Lane as lane
 use Rattle.rt_snapshots.specs.contracts.snapshot.Snapshot as snapshot
 use Rattle.rt_snapshots.specs.contracts.snapshots.Snapshots as snapshots
 use Rattle.rt_cache.specs.contracts.brought.Brought as brought
+use Rattle.rt_forms.specs.contracts.numbers.Numbers as numbers
+use Rattle.rt_forms.specs.contracts.standing.Filtered as filtered
+use Rattle.rt_forms.specs.contracts.standing.Standing as standing
+use Rattle.rt_forms.specs.contracts.forms.Forms as forms
 use Rattle.rt_cover.specs.contracts.cover.Cover as cover
 use Rattle.rt_view.specs.contracts.view.View as view
 use Rattle.rt_parts.specs.contracts.held.Held as listening
@@ -24,7 +28,7 @@ use Rattle.rt_client.specs.contracts.lanes.Lanes as lanes
 use Rattle.rt_client.specs.contracts.held.Held as held
 use Rattle.rt_client.specs.contracts.shared.Shared as shared
 use Rattle.rt_client.specs.contracts.client.Client as client
-use Rattle.rt_client.proofs.Crosses.{all_cross, calls_cross, item_send, trees_cross}
+use Rattle.rt_client.proofs.Crosses.{all_cross, calls_cross, item_send, key_send, trees_cross}
 
 pub mirror_send : IsSend mirror.the_row
 mirror_send = search trees_cross depth 40 fits 20000
@@ -53,8 +57,21 @@ lanes_send = search (lane_send, all_cross) depth 40 fits 20000
 brought_send : IsSend brought.the_row
 brought_send = search calls_cross depth 80 fits 60000
 
+-- the forms that are listened to, with the numbers of their listeners
+numbers_send : IsSend numbers.the_row
+numbers_send = search all_cross depth 40 fits 20000
+
+filtered_send : IsSend filtered.the_row
+filtered_send = search (numbers_send, calls_cross) depth 40 fits 20000
+
+standing_send : IsSend standing.the_row
+standing_send = search (numbers_send, filtered_send, all_cross) depth 40 fits 20000
+
+forms_send : IsSend forms.the_row
+forms_send = search (standing_send, key_send, all_cross) depth 80 fits 60000
+
 cover_send : IsSend cover.the_row
-cover_send = search calls_cross depth 40 fits 20000
+cover_send = search (forms_send, calls_cross) depth 40 fits 20000
 
 view_send : IsSend view.the_row
 view_send = search calls_cross depth 40 fits 20000
