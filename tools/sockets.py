@@ -3,6 +3,7 @@ import tempfile
 
 import connecting
 import cutting
+import emulating
 import handing
 import lacking
 import leaving
@@ -29,6 +30,7 @@ def sockets_parts(copy):
     with tempfile.TemporaryDirectory(prefix="kaltewi-cut-") as room:
         sockets_part("serve, streams to the byte: {} connections", streams.wrong_of, programs, room)
         sockets_part("serve, clients that write and go at once: {} connections", leaving.wrong_of, programs, room)
+        sockets_part("emulate: {} sessions of many clients at once", emulating.wrong_of, programs, room)
         sockets_part("serve and connect: {} reads and writes that fail in turn", cutting.wrong_of, programs, room)
         sockets_part("serve and connect: {} sessions of many writes, of which none is lost", handing.wrong_of, programs, room)
         sockets_part("serve and connect: {} allocations refused in turn", refusing.wrong_of, programs, lacking.refuser(room)[0])

@@ -17,10 +17,12 @@ use Rattle.clap.specs.Matches.{subcommand_name_of}
 use Rattle.clap.specs.Values.{kind_of}
 use Rattle.clap.specs.Words.{FailsBy, HasKind, IsAmong, Kinds, Row, first_of, found_of, one_of, rows_of}
 use Rattle.clap.specs.Words.{subcommand_rows, subcommand_rows_of}
+use Rattle.rt_emulate.specs.Emulating.{Emulation}
 use Rattle.rt_tree.specs.Path.{path_fault, path_keys}
 use Rattle.rt_tree.specs.PathTree.{Path, PathTree}
 use Rattle.rt_tree.specs.declared.error.TreeError.{TreeError}
-use Rattle.rt_commands.specs.Words.{Gives, GivesWork, denied_of, number_of, other_of, serving_of, tree_of, work_of}
+use Rattle.rt_commands.specs.Words.{Gives, GivesWork, all_texts, count_of, denied_of, emulate_of, emulation_of}
+use Rattle.rt_commands.specs.Words.{live_of, number_of, other_of, path_of, paths_of, serving_of, tree_of, work_of}
 use Rattle.rt_commands.specs.declared.words.Asked.{Asked}
 use Rattle.rt_commands.specs.declared.words.Serving.{Serving}
 use Rattle.rt_commands.specs.declared.words.Work.{Work}
@@ -77,20 +79,27 @@ pub same_kind : (kinds : Kinds) (a b : Error) → kind_of b ≡ kind_of a → Ha
 same_kind kinds a b e (inl memory) = inl (e ∙ memory)
 same_kind kinds a b e (inr among) = inr (subst (λ k. IsAmong k kinds) (sym e) among)
 
+-- a path that is read has no fault
+no_fault : (t : List ℕ) (path : Path) (fault : Option TreeError)
+    → IfSome fault (λ e. ◌≡◌ {A = Result Path TreeError} (Ok path) (Err e)) → fault ≡ None
+no_fault t path None k = refl
+no_fault t path (Some e) k = cc
+
 -- a path is read
+pub path_read : (t : List ℕ) (path : Path) → path ≡ path_keys t
+    → IfSome (path_fault t) (λ e. ◌≡◌ {A = Result Path TreeError} (Ok path) (Err e)) → path_of t ≡ Some path
+path_read t path keys h =
+    ap (λ f. if is_some f then None else Some (path_keys t)) (no_fault t path (path_fault t) h)
+    ∙ ap Some (sym keys)
+
 pub denied_read : (text : Option (Bor (List ℕ))) (t : Bor (List ℕ)) (path : Path) → text ≡ Some t
     → path ≡ path_keys t.now
     → IfSome (path_fault t.now) (λ e. ◌≡◌ {A = Result Path TreeError} (Ok path) (Err e))
     → denied_of (option_map (λ b. b.now) text) ≡ Some (Some path)
 denied_read text t path is keys h =
     ap (λ o. denied_of (option_map (λ b. b.now) o)) is
-    ∙ ap (λ f. if is_some f then None else Some (Some (path_keys t.now))) (fine (path_fault t.now) h)
+    ∙ ap (λ f. if is_some f then None else Some (Some (path_keys t.now))) (no_fault t.now path (path_fault t.now) h)
     ∙ ap (λ p. Some (Some p)) (sym keys)
-  where
-    fine : (fault : Option TreeError) → IfSome fault (λ e. ◌≡◌ {A = Result Path TreeError} (Ok path) (Err e))
-        → fault ≡ None
-    fine None k = refl
-    fine (Some e) k = cc
 
 -- ---- the entries of serve
 
@@ -126,6 +135,37 @@ served_by rows port count tree denied p n e f =
     ∙ ap (option_map (made rows tree)) f
     ∙ ap₂ (λ (a b : ℕ). some_serving a b tree denied) (sym p) (sym n)
 
+-- ---- the entries of emulate
+
+abbrev asked_of : List Row → PathTree → List Path → Emulation
+asked_of rows tree denied = record {
+  port = number_of (one_of (codes "PORT") rows);
+  count = count_of (number_of (one_of (codes "count") rows));
+  tree = tree;
+  file = first_of (codes "file") rows;
+  denied = denied;
+  origins = all_texts (codes "origin") rows;
+}
+
+pub asked_by : (rows : List Row) (port : ℕ) (count : Option ℕ) (tree : PathTree) (file : Option (List ℕ))
+    (denied : List Path) (origins : List (List ℕ))
+    → port ≡ number_of (one_of (codes "PORT") rows)
+    → count ≡ count_of (number_of (one_of (codes "count") rows))
+    → tree_of (first_of (codes "tree") rows) ≡ Some tree → file ≡ first_of (codes "file") rows
+    → paths_of (all_texts (codes "deny") rows) ≡ Some denied → origins ≡ all_texts (codes "origin") rows
+    → ◌≡◌ {A = Option Emulation} (emulation_of rows) (Some (record {
+      port = port;
+      count = count;
+      tree = tree;
+      file = file;
+      denied = denied;
+      origins = origins;
+    }))
+asked_by rows port count tree file denied origins p n t f d o =
+    rw (p, n, f, o)
+    (ap (option_and_then (λ tree. option_map (asked_of rows tree) (paths_of (all_texts (codes "deny") rows)))) t
+    ∙ ap (option_map (asked_of rows tree)) d)
+
 -- ---- the subcommand
 
 same : (a b : List ℕ) → bytes_eq a b ≡ true → a ≡ b
@@ -138,17 +178,31 @@ module _ {Z : Type 0} where
   named_in None name rows e f = cc
   named_in (Some b) name rows e f = cc
 
-  other_in : (o : Option (Box SubCommand Z))
+  live_in : (o : Option (Box SubCommand Z))
       → (option_map (λ b. (out-SubCommand (box_value b)).name.now) o ≡ Some (codes "serve") → ⊥)
-      → work_of (subcommand_rows o) ≡ Some (other_of (subcommand_rows o))
+      → work_of (subcommand_rows o) ≡ live_of (subcommand_rows o)
+  live_in None h = refl
+  live_in (Some b) h =
+      let name : List ℕ = (out-SubCommand (box_value b)).name.now in
+      let rows : List Row = rows_of (found_of (out-SubCommand (box_value b)).matches) in
+      elim (bytes_eq name (codes "serve")) as (λ t. bytes_eq name (codes "serve") ≡ t
+      → (if t then option_map Serve (serving_of rows) else live_of (Some (name, rows)))
+      ≡ live_of (Some (name, rows))) [
+        | true ↦ λ e. absurd (h (ap Some (same name (codes "serve") e)))
+        | false ↦ λ e. refl
+      ] refl
+
+  other_in : (o : Option (Box SubCommand Z))
+      → (option_map (λ b. (out-SubCommand (box_value b)).name.now) o ≡ Some (codes "emulate") → ⊥)
+      → live_of (subcommand_rows o) ≡ Some (other_of (subcommand_rows o))
   other_in None h = refl
   other_in (Some b) h =
       let name : List ℕ = (out-SubCommand (box_value b)).name.now in
       let rows : List Row = rows_of (found_of (out-SubCommand (box_value b)).matches) in
-      elim (bytes_eq name (codes "serve")) as (λ t. bytes_eq name (codes "serve") ≡ t
-      → (if t then option_map Serve (serving_of rows) else Some (other_of (Some (name, rows))))
+      elim (bytes_eq name (codes "emulate")) as (λ t. bytes_eq name (codes "emulate") ≡ t
+      → (if t then emulate_of rows else Some (other_of (Some (name, rows))))
       ≡ Some (other_of (Some (name, rows)))) [
-        | true ↦ λ e. absurd (h (ap Some (same name (codes "serve") e)))
+        | true ↦ λ e. absurd (h (ap Some (same name (codes "emulate") e)))
         | false ↦ λ e. refl
       ] refl
 
@@ -169,9 +223,13 @@ pub entered : (m : ArgMatches) (name : List ℕ) (rows : List Row) → subcomman
     → option_map (λ p. p.1) (subcommand_rows_of m) ≡ Some rows → subcommand_rows_of m ≡ Some (name, rows)
 entered m name rows e f = named_in (out-ArgMatches m).subcommand name rows e f
 
-pub other_entered : (m : ArgMatches) → (subcommand_name_of m ≡ Some (codes "serve") → ⊥)
-    → work_of (subcommand_rows_of m) ≡ Some (other_of (subcommand_rows_of m))
-other_entered m h = other_in (out-ArgMatches m).subcommand h
+pub live_entered : (m : ArgMatches) → (subcommand_name_of m ≡ Some (codes "serve") → ⊥)
+    → work_of (subcommand_rows_of m) ≡ live_of (subcommand_rows_of m)
+live_entered m h = live_in (out-ArgMatches m).subcommand h
+
+pub other_live : (m : ArgMatches) → (subcommand_name_of m ≡ Some (codes "emulate") → ⊥)
+    → live_of (subcommand_rows_of m) ≡ Some (other_of (subcommand_rows_of m))
+other_live m h = other_in (out-ArgMatches m).subcommand h
 
 pub script_entered : (m : ArgMatches) → (subcommand_name_of m ≡ Some (codes "connect") → ⊥)
     → other_of (subcommand_rows_of m) ≡ Script

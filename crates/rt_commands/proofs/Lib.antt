@@ -3,4 +3,5 @@ mod Clients
 mod Flags
 mod Numbers
 mod Runs
+mod Several
 mod Written

@@ -1,7 +1,7 @@
 -- The commands of the program, as clap sees them.
 use Rattle.std.specs.Prelude.{[], ◌∷◌, Some, true, codes, pos}
 use Rattle.clap.specs.Words.{App, Rule, new_app, new_rule, with_rule, with_subcommand}
-use Rattle.clap.specs.declared.builder.action.ArgAction.TheVariants.{SetTrue}
+use Rattle.clap.specs.declared.builder.action.ArgAction.TheVariants.{Append, SetTrue}
 use Rattle.clap.specs.declared.builder.value_parser.ValueParser.{ValueParser}
 use Rattle.clap.specs.declared.builder.value_parser.ValueParser.TheVariants as parser
 
@@ -57,12 +57,53 @@ abbrev pub serve_app : App
 serve_app = with_rule (with_rule (with_rule (with_rule (with_rule (new_app (codes "serve")) port_rule)
     count_rule) tree_rule) deny_rule) verbose_rule
 
+-- `--count N`, with no number where it is left out
+abbrev pub gone_rule : Rule
+gone_rule = record count_rule { defaults = [] }
+
+-- `--file FILE`
+abbrev pub file_rule : Rule
+file_rule = record (new_rule (codes "file")) { long = Some (codes "file"); value_names = 1 }
+
+-- `--deny PATH`, several times
+abbrev pub denies_rule : Rule
+denies_rule = record deny_rule { action = Some Append }
+
+-- `--origin TEXT`, several times
+abbrev pub origin_rule : Rule
+origin_rule = record (new_rule (codes "origin")) {
+  long = Some (codes "origin");
+  value_names = 1;
+  action = Some Append;
+}
+
+-- `--no-input`
+abbrev pub no_input_rule : Rule
+no_input_rule = record (new_rule (codes "no-input")) {
+  long = Some (codes "no-input");
+  action = Some SetTrue;
+}
+
+-- `-q`, `--quiet`
+abbrev pub quiet_rule : Rule
+quiet_rule = record (new_rule (codes "quiet")) {
+  short = Some 113;
+  long = Some (codes "quiet");
+  action = Some SetTrue;
+}
+
+-- `emulate PORT [--tree JSON] [--file FILE] [--deny PATH].. [--origin TEXT].. [--count N] [--no-input] [-q]`
+abbrev pub emulate_app : App
+emulate_app = with_rule (with_rule (with_rule (with_rule (with_rule (with_rule (with_rule (with_rule
+    (new_app (codes "emulate")) port_rule) tree_rule) file_rule) denies_rule) origin_rule) gone_rule)
+    no_input_rule) quiet_rule
+
 -- `connect PORT [-v]`
 abbrev pub connect_app : App
 connect_app = with_rule (with_rule (new_app (codes "connect")) port_rule) verbose_rule
 
--- `script`, `serve` and `connect`
+-- `script`, `serve`, `emulate` and `connect`
 abbrev pub console_app : App
 console_app =
-    with_subcommand (with_subcommand (with_subcommand base_app script_app.top) serve_app.top)
-    connect_app.top
+    with_subcommand (with_subcommand (with_subcommand (with_subcommand base_app script_app.top)
+    serve_app.top) emulate_app.top) connect_app.top

@@ -1,7 +1,8 @@
 -- The words of the command line: what they ask for, and why they make no command.
-use Rattle.std.specs.Prelude.{◌≡◌, ◌⊎◌, ◌&&◌, ℕ, List, [], ◌∷◌, Option, Some, None, Result, MatchResult}
-use Rattle.std.specs.Prelude.{Bool, false, is_some, if◌then◌else◌, codes, nat_lt, option_map, option_and_then}
-use Rattle.std.specs.Option.{option_map_or}
+use Rattle.std.specs.Prelude.{◌≡◌, ◌⊎◌, ◌&&◌, ◌==◌, ℕ, List, [], ◌∷◌, Option, Some, None, Result, MatchResult}
+use Rattle.std.specs.Prelude.{Bool, false, not, is_some, if◌then◌else◌, codes, nat_lt, option_map, option_and_then}
+use Rattle.std.specs.Option.{option_map_or, unwrap_or}
+use Rattle.std.specs.Global.{Vec}
 use Rattle.std.specs.Str.{bytes_eq}
 use Rattle.std.specs.Str.Parse.{digits_value, without_leading_plus}
 use Rattle.serde_json.specs.Read.{read}
@@ -11,7 +12,8 @@ use Rattle.clap.specs.declared.error.kind.ErrorKind.TheVariants.{OutOfMemory, Va
 use Rattle.clap.specs.Kinds.{or_else}
 use Rattle.clap.specs.Values.{kind_of}
 use Rattle.clap.specs.ValueTests.{is_numeral}
-use Rattle.clap.specs.Words.{IsAmong, Kinds, Row, fault_of, first_of, one_of, subcommand_of}
+use Rattle.clap.specs.Words.{IsAmong, Kinds, Row, all_of, fault_of, first_of, one_of, subcommand_of}
+use Rattle.rt_emulate.specs.Emulating.{Emulation}
 use Rattle.rt_tree.specs.Path.{path_fault, path_keys}
 use Rattle.rt_tree.specs.PathTree.{Path, PathTree}
 use Rattle.rt_tree.specs.Reading.{text_fault, tree_of_data}
@@ -20,7 +22,7 @@ use Rattle.rt_commands.specs.Commands.{console_app}
 use Rattle.rt_commands.specs.declared.words.Asked.{Asked}
 use Rattle.rt_commands.specs.declared.words.Serving.{Serving}
 use Rattle.rt_commands.specs.declared.words.Work.{Work}
-use Rattle.rt_commands.specs.declared.words.Work.TheVariants.{Connect, Script, Serve}
+use Rattle.rt_commands.specs.declared.words.Work.TheVariants.{Connect, Emulate, Script, Serve}
 
 -- ---- what is asked for
 
@@ -51,31 +53,76 @@ serving_of rows =
       denied = denied;
     }) (denied_of (first_of (codes "deny") rows))) (tree_of (first_of (codes "tree") rows))
 
--- what a subcommand asks for, by its name and its entries, where it is not `serve`
+-- the path of a text, none where it is refused
+abbrev pub path_of : List ℕ → Option Path
+path_of text = if is_some (path_fault text) then None else Some (path_keys text)
+
+-- the paths of texts, in order, none where one of them is refused
+abbrev pub paths_of : List (List ℕ) → Option (List Path)
+paths_of [] = Some []
+paths_of (text ∷ texts) =
+    option_and_then (λ path. option_map (λ paths. path ∷ paths) (paths_of texts)) (path_of text)
+
+-- the texts of that name, in order
+abbrev pub all_texts : List ℕ → List Row → List (List ℕ)
+all_texts name rows = unwrap_or (all_of name rows) []
+
+-- a number that is given, 0 where it is not
+abbrev pub count_of : ℕ → Option ℕ
+count_of n = if n == 0 then None else Some n
+
+-- what the entries of `emulate` ask for, none where its tree or one of its paths is refused
+abbrev pub emulation_of : List Row → Option Emulation
+emulation_of rows =
+    option_and_then (λ tree. option_map (λ denied. record {
+      port = number_of (one_of (codes "PORT") rows);
+      count = count_of (number_of (one_of (codes "count") rows));
+      tree = tree;
+      file = first_of (codes "file") rows;
+      denied = denied;
+      origins = all_texts (codes "origin") rows;
+    }) (paths_of (all_texts (codes "deny") rows))) (tree_of (first_of (codes "tree") rows))
+
+-- what a subcommand asks for, by its name and its entries, where it is neither `serve` nor `emulate`
 abbrev pub other_of : Option (List ℕ × List Row) → Work
 other_of None = Script
 other_of (Some (name, rows)) =
     if bytes_eq name (codes "connect") then Connect (number_of (one_of (codes "PORT") rows)) else Script
+
+-- whether a flag was given, by the text that stands for it
+abbrev pub flag_of : Option (List ℕ) → Bool
+flag_of text = option_map_or (λ t. bytes_eq t (codes "true")) text false
+
+-- what `emulate` asks for, and that it ends with its input, but where it is to have none
+abbrev pub emulate_of : List Row → Option Work
+emulate_of rows =
+    option_map (λ e. Emulate e (not (flag_of (one_of (codes "no-input") rows)))) (emulation_of rows)
+
+-- and where it is not `serve`
+abbrev pub live_of : Option (List ℕ × List Row) → Option Work
+live_of None = Some Script
+live_of (Some (name, rows)) =
+    if bytes_eq name (codes "emulate") then emulate_of rows
+    else Some (other_of (Some (name, rows)))
 
 -- what the subcommand asks for, by its name and its entries
 abbrev pub work_of : Option (List ℕ × List Row) → Option Work
 work_of None = Some Script
 work_of (Some (name, rows)) =
     if bytes_eq name (codes "serve") then option_map Serve (serving_of rows)
-    else Some (other_of (Some (name, rows)))
+    else live_of (Some (name, rows))
 
 -- what words ask for that are a command to clap
 abbrev pub asked : List (List ℕ) → Option Work
 asked words = work_of (subcommand_of console_app words)
 
--- whether a flag was given, by the text that stands for it
-abbrev pub flag_of : Option (List ℕ) → Bool
-flag_of text = option_map_or (λ t. bytes_eq t (codes "true")) text false
-
--- whether a subcommand is to say more of what happens, by its name and its entries
+-- whether a subcommand is to say what happens, by its name and its entries: `emulate` where it is not to be
+-- quiet, the others where more is asked for
 abbrev pub verbose_in : Option (List ℕ × List Row) → Bool
 verbose_in None = false
-verbose_in (Some (name, rows)) = flag_of (one_of (codes "verbose") rows)
+verbose_in (Some (name, rows)) =
+    if bytes_eq name (codes "emulate") then not (flag_of (one_of (codes "quiet") rows))
+    else flag_of (one_of (codes "verbose") rows)
 
 -- whether words ask that more be said
 abbrev pub is_verbose : List (List ℕ) → Bool
@@ -85,6 +132,11 @@ is_verbose words = verbose_in (subcommand_of console_app words)
 abbrev pub Gives : {T : Type 0} → Option T → Result T Error → Type 0
 Gives value result = MatchResult result (λ x. value ≡ Some x)
     (λ e. (kind_of e ≡ OutOfMemory) ⊎ ((kind_of e ≡ ValueValidation) × (value ≡ None)))
+
+-- the values, or where there are none such an error
+abbrev pub GivesAll : {T : Type 0} → Option (List T) → Result (Vec T) Error → Type 0
+GivesAll values result = MatchResult result (λ xs. values ≡ Some xs.items)
+    (λ e. (kind_of e ≡ OutOfMemory) ⊎ ((kind_of e ≡ ValueValidation) × (values ≡ None)))
 
 -- what is asked for has that work, or there is such an error
 abbrev pub GivesWork : Option Work → Result Asked Error → Type 0

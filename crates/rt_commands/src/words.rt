@@ -1,20 +1,23 @@
 // The command line.
-ghost use Rattle.std.specs.Prelude.{◌≡◌, ◌≢◌, ◌⊎◌, [], map, codes, false, Some, option_map};
-ghost use Rattle.std.specs.Prelude.{IfOk, IfErr, OnOk};
+ghost use Rattle.std.specs.Prelude.{◌≡◌, ◌≢◌, ◌⊎◌, ◌∷◌, [], map, codes, false, Some, option_map};
+ghost use Rattle.std.specs.Prelude.{string_bytes, IfOk, IfErr, OnOk};
 ghost use Rattle.clap.specs.Words.{app_of, new_app, FailsBy, first_of, found_of, one_of, rows_of};
 ghost use Rattle.clap.specs.Words.{rule_of, subcommand_rows_of};
 ghost use Rattle.clap.specs.Values.{kind_of};
 ghost use Rattle.clap.specs.declared.builder.command.Command.TheViews.{out-Command as fields_of};
 ghost use Rattle.rt_commands.specs.Commands.{base_app, connect_app, console_app, count_rule, deny_rule};
-ghost use Rattle.rt_commands.specs.Commands.{port_rule, script_app, serve_app, tree_rule, verbose_rule};
-ghost use Rattle.rt_commands.specs.Commands.{whole};
-ghost use Rattle.rt_commands.specs.Words.{asked, denied_of, faults_of, flag_of, Gives, GivesWork};
-ghost use Rattle.rt_commands.specs.Words.{is_verbose, IsExplained, number_of, other_of, serving_of, status_of, tree_of};
-ghost use Rattle.rt_commands.specs.Words.{verbose_in, work_of};
+ghost use Rattle.rt_commands.specs.Commands.{denies_rule, emulate_app, file_rule, gone_rule, no_input_rule};
+ghost use Rattle.rt_commands.specs.Commands.{origin_rule, port_rule, quiet_rule, script_app, serve_app};
+ghost use Rattle.rt_commands.specs.Commands.{tree_rule, verbose_rule, whole};
+ghost use Rattle.rt_commands.specs.Words.{all_texts, asked, count_of, denied_of, emulation_of, faults_of};
+ghost use Rattle.rt_commands.specs.Words.{flag_of, Gives, GivesAll, GivesWork, is_verbose, IsExplained};
+ghost use Rattle.rt_commands.specs.Words.{live_of, number_of, other_of, path_of, paths_of, serving_of};
+ghost use Rattle.rt_commands.specs.Words.{status_of, tree_of, verbose_in, work_of};
 
 use clap::builder::ValueParser;
 use clap::error::ErrorKind;
 use clap::{Arg, ArgAction, ArgMatches, Command, Error, value_parser};
+use rt_emulate::Emulating;
 use rt_input::{ConsoleError, Fault};
 use rt_tree::{Path, Tree, TreeError};
 use std::alloc::{AllocError, Global};
@@ -100,6 +103,41 @@ Exit status: 0 done; 1 a fault, or a bad line was printed; 2 a bad command line,
 Example: kaltewi serve 8080 in one terminal, and in another
   printf '%s\\n' '[\"listen\",1,\"/a\",[]]' '[\"read\",1]' | kaltewi connect 8080";
 
+const EMULATE: &str = "\
+Serves any number of clients at once over WebSockets, and keeps what they write in one tree";
+
+const LIVE: &str = "\
+A client connects to ws://127.0.0.1:PORT/ and sends the same messages as to 'kaltewi serve'; what it writes
+is sent at once to all that listen there.
+It ends with its standard input, at the end of a file or at Ctrl-D, or once N connections have gone. Then
+all connections are ended, and what they asked for at their end is done. In the background, where there is
+no input, --no-input lets it go on until a signal ends it.
+With --file the tree is that of FILE, where there is one, else that of --tree. What has changed is written to
+FILE.new, which then takes FILE's place: a second after the change at most, and at the end. So Ctrl-C loses a
+second at most. A tree of any size is read again.
+A web page of another machine is refused, as its browser says by the handshake's Origin, unless --origin
+allows it.
+A client that doesn't read is ended once more than 10000 messages or 16777216 bytes wait for it, and so is
+one of which nothing is heard: for 10 seconds before its handshake, and after it for 30 seconds behind a ping,
+which is sent after 30 seconds of silence. A message has at most 16777216 bytes.
+Nothing is printed on standard output. On standard error it says where it listens, and each connection,
+message, refusal and end, unless --quiet is given.
+Exit status: 0 at its end; 1 a fault, such as a port that is taken; 2 a bad command line, or help.
+
+Example: kaltewi emulate 8080 --file tree.json --deny /secret --origin https://app.example";
+
+const FIRST_TREE: &str = "\
+The first tree, where FILE has none; null where it is left out. Write -5 as --tree=-5";
+
+const FILE: &str = "\
+The file that the tree is read from at first, and written to. Write -a as --file=-a";
+
+const ORIGIN: &str = "\
+An origin whose pages may connect, such as https://app.example; may be given several times";
+
+const DENIES: &str = "\
+A path that can't be listened to, nor written, nor any above or below it; may be given several times";
+
 /// What `serve` is to do.
 #[derive(Debug, Drop)]
 pub struct Serving {
@@ -120,8 +158,16 @@ pub enum Work {
     Script,
     /// Serve the peer.
     Serve(Serving),
+    /// Serve the peer to any number of clients at once, until the standard input ends where it is to end with
+    /// that.
+    Emulate {
+        emulating: Emulating,
+        ends_with_input: bool,
+    },
     /// Connect a client to the port, and drive it by the lines of the standard input.
-    Connect { port: u16 },
+    Connect {
+        port: u16,
+    },
 }
 
 /// What the command line asks for, and whether more is to be said of it on the standard error.
@@ -208,6 +254,106 @@ fn deny_arg<'a>(alloc: Global) -> Arg<'a>
         .help(DENY)
 }
 
+// `-q`, `--quiet`
+fn quiet_arg<'a>(alloc: Global) -> Arg<'a>
+    ensures rule { rule_of result ≡ quiet_rule }
+    ensures local { result.global ≡ false }
+{
+    Arg::new(alloc, "quiet")
+        .short('q')
+        .long("quiet")
+        .action(ArgAction::SetTrue)
+        .help("Says nothing on standard error but why it ends early")
+}
+
+// `--no-input`
+fn no_input_arg<'a>(alloc: Global) -> Arg<'a>
+    ensures rule { rule_of result ≡ no_input_rule }
+    ensures local { result.global ≡ false }
+{
+    Arg::new(alloc, "no-input")
+        .long("no-input")
+        .action(ArgAction::SetTrue)
+        .help("Goes on where its standard input ends, and doesn't read it")
+}
+
+// `--count N`, of those that have gone
+fn gone_arg<'a>(alloc: Global) -> Arg<'a>
+    ensures rule { rule_of result ≡ gone_rule }
+    ensures local { result.global ≡ false }
+{
+    Arg::new(alloc, "count")
+        .long("count")
+        .value_name("N")
+        .help("Ends once so many connections have gone, from 1 to 65535")
+        .value_parser(whole_number())
+}
+
+// `--file FILE`
+fn file_arg<'a>(alloc: Global) -> Arg<'a>
+    ensures rule { rule_of result ≡ file_rule }
+    ensures local { result.global ≡ false }
+{
+    Arg::new(alloc, "file")
+        .long("file")
+        .value_name("FILE")
+        .help(FILE)
+}
+
+// `--deny PATH`, several times
+fn denies_arg<'a>(alloc: Global) -> Arg<'a>
+    ensures rule { rule_of result ≡ denies_rule }
+    ensures local { result.global ≡ false }
+{
+    Arg::new(alloc, "deny")
+        .long("deny")
+        .value_name("PATH")
+        .action(ArgAction::Append)
+        .help(DENIES)
+}
+
+// `--origin TEXT`, several times
+fn origin_arg<'a>(alloc: Global) -> Arg<'a>
+    ensures rule { rule_of result ≡ origin_rule }
+    ensures local { result.global ≡ false }
+{
+    Arg::new(alloc, "origin")
+        .long("origin")
+        .value_name("TEXT")
+        .action(ArgAction::Append)
+        .help(ORIGIN)
+}
+
+// `--tree JSON`, of `emulate`
+fn first_tree_arg<'a>(alloc: Global) -> Arg<'a>
+    ensures rule { rule_of result ≡ tree_rule }
+    ensures local { result.global ≡ false }
+{
+    Arg::new(alloc, "tree")
+        .long("tree")
+        .value_name("JSON")
+        .help(FIRST_TREE)
+}
+
+// `emulate`
+fn emulate_command<'a>(alloc: Global) -> Result<Command<'a>, AllocError>
+    ensures app { IfOk result (λ command. app_of command ≡ emulate_app) }
+    ensures local { IfOk result (λ command. (fields_of command).has_globals ≡ false) }
+{
+    let command = Command::new(alloc, "emulate")
+        .about(EMULATE)
+        .after_help(LIVE)
+        .arg(port_arg(alloc))?
+        .arg(first_tree_arg(alloc))?
+        .arg(file_arg(alloc))?
+        .arg(denies_arg(alloc))?
+        .arg(origin_arg(alloc))?
+        .arg(gone_arg(alloc))?
+        .arg(no_input_arg(alloc))?
+        .arg(quiet_arg(alloc))?;
+    Ok(command)
+}
+
 // `serve`
 fn serve_command<'a>(alloc: Global) -> Result<Command<'a>, AllocError>
     ensures app { IfOk result (λ command. app_of command ≡ serve_app) }
@@ -257,51 +403,83 @@ fn console_command<'a>(alloc: Global) -> Result<Command<'a>, AllocError>
     let base = base_command(alloc)?;
     let script = script_command(alloc)?;
     let serve = serve_command(alloc)?;
+    let emulate = emulate_command(alloc)?;
     let connect = connect_command(alloc)?;
     let command = base
         .subcommand(script)?
         .subcommand(serve)?
+        .subcommand(emulate)?
         .subcommand(connect)?;
     Ok(command)
 }
 
-// An error of `serve` with that message, in clap's own form.
-fn error_of(alloc: Global, kind: ErrorKind, message: &str) -> Result<Error, AllocError>
+// What serves clients: one after another, or all at once.
+#[derive(Clone, Copy, Debug, PartialEq, Eq)]
+enum Server {
+    Serve,
+    Emulate,
+}
+
+// An error of such a command with that message, in clap's own form.
+fn error_of(
+    alloc: Global,
+    server: Server,
+    kind: ErrorKind,
+    message: &str,
+) -> Result<Error, AllocError>
     ensures { IfOk result (λ error. kind_of error ≡ kind) }
 {
-    let mut command = serve_command(alloc)?.bin_name("kaltewi serve")?;
+    let mut command = match server {
+        Server::Serve => serve_command(alloc)?.bin_name("kaltewi serve")?,
+        Server::Emulate => emulate_command(alloc)?.bin_name("kaltewi emulate")?,
+    };
     command.error(kind, message)
 }
 
 // The error of a value that `rt_tree` refuses.
-fn refused(alloc: Global, option: &str, text: &str, why: TreeError) -> Result<Error, AllocError>
+fn refused(
+    alloc: Global,
+    server: Server,
+    option: &str,
+    text: &str,
+    why: TreeError,
+) -> Result<Error, AllocError>
     ensures { IfOk result (λ error. kind_of error ≡ ErrorKind.ValueValidation) }
 {
     let message = format!(in alloc; "invalid value '{text}' for '{option}': {why}")?;
-    error_of(alloc, ErrorKind::ValueValidation, message.as_str())
+    error_of(alloc, server, ErrorKind::ValueValidation, message.as_str())
 }
 
-// The option that takes any text, if the word is one.
-fn option_of(word: &str) -> Option<&'static str> {
-    match word {
-        "--tree" => Some("--tree"),
-        "--deny" => Some("--deny"),
+// The option of such a command that takes any text, if the word is one.
+fn option_of(server: Server, word: &str) -> Option<&'static str> {
+    match (word, server) {
+        ("--tree", _) => Some("--tree"),
+        ("--deny", _) => Some("--deny"),
+        ("--file", Server::Emulate) => Some("--file"),
+        ("--origin", Server::Emulate) => Some("--origin"),
         _ => None,
     }
 }
 
-// The first word of `serve` behind such an option that begins with '-', which clap takes for another
-// option.
-fn dashed_in<'a, S: AsStr>(words: &'a [S]) -> Option<(&'static str, &'a str)> {
+// What serves clients, by its name.
+fn server_of(word: &str) -> Option<Server> {
+    match word {
+        "serve" => Some(Server::Serve),
+        "emulate" => Some(Server::Emulate),
+        _ => None,
+    }
+}
+
+// The first word behind such an option that begins with '-', which clap takes for another option.
+fn dashed_in<'a, S: AsStr>(words: &'a [S]) -> Option<(Server, &'static str, &'a str)> {
+    let (first, rest) = words.split_first()?;
+    let server = server_of(first.as_str())?;
     let mut option = None;
-    for (place, word) in words.iter().enumerate() {
+    for word in rest {
         let word = word.as_str();
-        if place == 0 && word != "serve" {
-            return None;
-        }
         match option {
-            Some(option) if word.starts_with('-') => return Some((option, word)),
-            _ => option = option_of(word),
+            Some(option) if word.starts_with('-') => return Some((server, option, word)),
+            _ => option = option_of(server, word),
         }
     }
     None
@@ -314,7 +492,7 @@ fn explained<'a, S: AsStr>(alloc: Global, error: Error, words: &'a [S]) -> Resul
 {
     let kind = error.kind();
     let is_of_word = matches!(kind, ErrorKind::UnknownArgument | ErrorKind::InvalidValue);
-    let Some((option, word)) = dashed_in(words) else {
+    let Some((server, option, word)) = dashed_in(words) else {
         return Ok(error);
     };
     if !is_of_word {
@@ -323,7 +501,7 @@ fn explained<'a, S: AsStr>(alloc: Global, error: Error, words: &'a [S]) -> Resul
     let message = format!(in alloc;
         "no value for '{option}', since '{word}' begins with '-'\n\n  tip: if it is meant, write {option}={word}"
     )?;
-    error_of(alloc, kind, message.as_str())
+    error_of(alloc, server, kind, message.as_str())
 }
 
 // The number of that name. clap has read it, so there is one, and it is not 0.
@@ -348,7 +526,7 @@ fn text<'a>(entries: &ArgMatches<'a>, name: &str) -> Option<&'a str>
 }
 
 // The tree of a text; null where there is none.
-fn read_tree(alloc: Global, text: Option<&str>) -> Result<Tree, Error>
+fn read_tree(alloc: Global, server: Server, text: Option<&str>) -> Result<Tree, Error>
     ensures { Gives (tree_of (option_map (λ t. t.now) text.entry)) result }
 {
     let Some(text) = text else {
@@ -357,7 +535,7 @@ fn read_tree(alloc: Global, text: Option<&str>) -> Result<Tree, Error>
     match Tree::read(alloc, text) {
         Ok(tree) => Ok(tree),
         Err(TreeError::NoMemory) => Err(Error::from(AllocError)),
-        Err(why) => Err(refused(alloc, "--tree <JSON>", text, why)?),
+        Err(why) => Err(refused(alloc, server, "--tree <JSON>", text, why)?),
     }
 }
 
@@ -371,15 +549,101 @@ fn read_denied(alloc: Global, text: Option<&str>) -> Result<Option<Path>, Error>
     match Path::parse(alloc, text) {
         Ok(path) => Ok(Some(path)),
         Err(TreeError::NoMemory) => Err(Error::from(AllocError)),
-        Err(why) => Err(refused(alloc, "--deny <PATH>", text, why)?),
+        Err(why) => Err(refused(alloc, Server::Serve, "--deny <PATH>", text, why)?),
     }
+}
+
+// The path of a text.
+fn read_path(alloc: Global, text: &str) -> Result<Path, Error>
+    ensures { Gives (path_of text.now) result }
+{
+    match Path::parse(alloc, text) {
+        Ok(path) => Ok(path),
+        Err(TreeError::NoMemory) => Err(Error::from(AllocError)),
+        Err(why) => Err(refused(alloc, Server::Emulate, "--deny <PATH>", text, why)?),
+    }
+}
+
+// The paths of texts, in order.
+fn read_paths(alloc: Global, texts: &[&str]) -> Result<Vec<Path>, Error>
+    ensures { GivesAll (paths_of (map (λ t. t.now) texts.now)) result }
+{
+    let mut paths = Vec::new(alloc);
+    for text in texts {
+        paths.push(read_path(alloc, text)?)?;
+    }
+    Ok(paths)
+}
+
+// Copies of texts, in order.
+fn copies_of(alloc: Global, texts: &[&str]) -> Result<Vec<String>, AllocError>
+    ensures { IfOk result (λ all. map string_bytes all.items ≡ map (λ t. t.now) texts.now) }
+{
+    let mut all = Vec::new(alloc);
+    for text in texts {
+        all.push(String::from_str(alloc, text)?)?;
+    }
+    Ok(all)
+}
+
+// The paths that are denied.
+fn read_denies(alloc: Global, entries: &ArgMatches<'_>) -> Result<Vec<Path>, Error>
+    ensures { GivesAll (paths_of (all_texts (codes "deny") (rows_of (found_of entries.now)))) result }
+{
+    match entries.get_strs("deny") {
+        Some(texts) => read_paths(alloc, texts),
+        None => Ok(Vec::new(alloc)),
+    }
+}
+
+// The origins that are allowed.
+fn read_origins(alloc: Global, entries: &ArgMatches<'_>) -> Result<Vec<String>, AllocError>
+    ensures { IfOk result (λ all. map string_bytes all.items
+        ≡ all_texts (codes "origin") (rows_of (found_of entries.now))) }
+{
+    match entries.get_strs("origin") {
+        Some(texts) => copies_of(alloc, texts),
+        None => Ok(Vec::new(alloc)),
+    }
+}
+
+// A copy of a text, if there is one.
+fn copy_of(alloc: Global, text: Option<&str>) -> Result<Option<String>, AllocError>
+    ensures { IfOk result (λ copy. option_map string_bytes copy
+        ≡ option_map (λ t. t.now) text.entry) }
+{
+    match text {
+        Some(text) => Ok(Some(String::from_str(alloc, text)?)),
+        None => Ok(None),
+    }
+}
+
+// How many connections are to go, if that is given.
+fn read_count(entries: &ArgMatches<'_>) -> Option<u16>
+    ensures { result ≡ count_of (number_of (one_of (codes "count") (rows_of (found_of entries.now)))) }
+{
+    let count = number(entries, "count");
+    if count == 0 { None } else { Some(count) }
+}
+
+// What the entries of `emulate` ask for.
+fn read_emulating(alloc: Global, entries: &ArgMatches<'_>) -> Result<Emulating, Error>
+    ensures { Gives (emulation_of (rows_of (found_of entries.now))) result }
+{
+    let tree = read_tree(alloc, Server::Emulate, text(entries, "tree"))?;
+    let denied = read_denies(alloc, entries)?;
+    let file = copy_of(alloc, text(entries, "file"))?;
+    let origins = read_origins(alloc, entries)?;
+    let port = number(entries, "PORT");
+    let count = read_count(entries);
+    Ok(Emulating::new(port, count, tree, file, denied, origins))
 }
 
 // What the entries of `serve` ask for.
 fn read_serving(alloc: Global, entries: &ArgMatches<'_>) -> Result<Serving, Error>
     ensures { Gives (serving_of (rows_of (found_of entries.now))) result }
 {
-    let tree = read_tree(alloc, text(entries, "tree"))?;
+    let tree = read_tree(alloc, Server::Serve, text(entries, "tree"))?;
     let denied = read_denied(alloc, text(entries, "deny"))?;
     Ok(Serving {
         port: number(entries, "PORT"),
@@ -389,7 +653,7 @@ fn read_serving(alloc: Global, entries: &ArgMatches<'_>) -> Result<Serving, Erro
     })
 }
 
-// The work that the subcommand names, where it is not `serve`.
+// The work that the subcommand names, where it is neither `serve` nor `emulate`.
 fn read_other(matches: &ArgMatches<'_>) -> Work
     ensures { result ≡ other_of (subcommand_rows_of matches.now) }
 {
@@ -401,13 +665,26 @@ fn read_other(matches: &ArgMatches<'_>) -> Work
     }
 }
 
-// The work that the subcommand names. There is none but `serve`, `connect` and `script`.
+// The work that the subcommand names, where it is not `serve`.
+fn read_live(alloc: Global, matches: &ArgMatches<'_>) -> Result<Work, Error>
+    ensures { Gives (live_of (subcommand_rows_of matches.now)) result }
+{
+    match matches.subcommand_matches("emulate") {
+        Some(entries) => Ok(Work::Emulate {
+            emulating: read_emulating(alloc, entries)?,
+            ends_with_input: !flag(entries, "no-input"),
+        }),
+        None => Ok(read_other(matches)),
+    }
+}
+
+// The work that the subcommand names. There is none but `serve`, `emulate`, `connect` and `script`.
 fn read_work(alloc: Global, matches: &ArgMatches<'_>) -> Result<Work, Error>
     ensures { Gives (work_of (subcommand_rows_of matches.now)) result }
 {
     match matches.subcommand_matches("serve") {
         Some(entries) => Ok(Work::Serve(read_serving(alloc, entries)?)),
-        None => Ok(read_other(matches)),
+        None => read_live(alloc, matches),
     }
 }
 
@@ -416,7 +693,13 @@ fn read_verbose(matches: &ArgMatches<'_>) -> bool
     ensures { result ≡ verbose_in (subcommand_rows_of matches.now) }
 {
     match matches.subcommand() {
-        Some((_, entries)) => flag(entries, "verbose"),
+        Some((name, entries)) => {
+            if name == "emulate" {
+                !flag(entries, "quiet")
+            } else {
+                flag(entries, "verbose")
+            }
+        }
         None => false,
     }
 }

@@ -1,4 +1,5 @@
-//! The console: runs a script of lines over one core, serves a peer, or drives a client by lines.
+//! The console: runs a script of lines over one core, serves a peer to one client after another or to many
+//! at once, or drives a client by lines.
 #![tactic(auto)]
 
 mod arguments;
@@ -6,6 +7,7 @@ mod arguments;
 use rt_commands::{
     Asked, ConnectFault, PROGRAM, Serving, Work, connect, explain, read_words, run_logged, serve,
 };
+use rt_emulate::{EmulateFault, Emulating, Emulator, Stopper};
 use rt_input::{ConsoleError, Fault, Log, Reading, Silent, Telling, Writing};
 use std::alloc::Global;
 use std::fmt::Display;
@@ -13,6 +15,8 @@ use std::net::Net;
 use std::process::ExitCode;
 use std::random::RandomSource;
 use std::sync::Wait;
+use std::thread::Threads;
+use std::{io, thread};
 
 // Says why the program ends, and answers the exit status of a fault.
 fn say_fault<E: Display>(rt: &HostRuntime, fault: &E) -> u8 {
@@ -45,6 +49,53 @@ fn status_of_serving<R: Net + Wait, L: Log>(
     }
 }
 
+// Starts a thread that reads the standard input to its end, and then stops the emulator.
+fn stop_at_end<R: Threads>(
+    rt: &R,
+    system: &HostRuntime,
+    stopper: Stopper,
+) -> Result<(), EmulateFault> {
+    let system = *system;
+    let reading = thread::spawn(rt, move || {
+        let mut input = system.stdin();
+        let _passed_over = io::copy(&mut input, &mut io::sink());
+        let _woken = stopper.stop();
+    });
+    match reading {
+        Ok(_) => Ok(()),
+        Err(_) => Err(EmulateFault::NoMemory),
+    }
+}
+
+// Serves a tree to many clients at once.
+fn emulate<R: Net + Wait + Threads, L: Log>(
+    rt: &R,
+    system: &HostRuntime,
+    emulating: Emulating,
+    ends_with_input: bool,
+    log: &mut L,
+) -> Result<(), EmulateFault> {
+    let emulator = Emulator::open(rt, system, emulating, log)?;
+    if ends_with_input {
+        stop_at_end(rt, system, emulator.stopper()?)?;
+    }
+    emulator.run(rt, system, log)
+}
+
+// Serves a tree to many clients at once, and answers the exit status.
+fn status_of_emulating<R: Net + Wait + Threads, L: Log>(
+    rt: &R,
+    system: &HostRuntime,
+    emulating: Emulating,
+    ends_with_input: bool,
+    log: &mut L,
+) -> u8 {
+    match emulate(rt, system, emulating, ends_with_input, log) {
+        Ok(()) => 0,
+        Err(fault) => say_fault(system, &fault),
+    }
+}
+
 // Connects a client that the lines of the standard input drive, and answers the exit status: 1 where a
 // fault or a bad line was printed. It takes the system twice, since only `main` has it as one that waits.
 fn status_of_connection<R: Net + Wait + RandomSource, L: Log>(
@@ -64,7 +115,7 @@ fn status_of_connection<R: Net + Wait + RandomSource, L: Log>(
 }
 
 // Does the work, and answers the exit status.
-fn status_of_work<R: Net + Wait + RandomSource, L: Log>(
+fn status_of_work<R: Net + Wait + Threads + RandomSource, L: Log>(
     rt: &R,
     system: &HostRuntime,
     work: Work,
@@ -73,12 +124,20 @@ fn status_of_work<R: Net + Wait + RandomSource, L: Log>(
     match work {
         Work::Script => status_of_script(system, log),
         Work::Serve(serving) => status_of_serving(rt, system, serving, log),
+        Work::Emulate {
+            emulating,
+            ends_with_input,
+        } => status_of_emulating(rt, system, emulating, ends_with_input, log),
         Work::Connect { port } => status_of_connection(rt, system, port, log),
     }
 }
 
 // Does what is asked for, and answers the exit status.
-fn status_of_asked<R: Net + Wait + RandomSource>(rt: &R, system: &HostRuntime, asked: Asked) -> u8 {
+fn status_of_asked<R: Net + Wait + Threads + RandomSource>(
+    rt: &R,
+    system: &HostRuntime,
+    asked: Asked,
+) -> u8 {
     let Asked { work, verbose } = asked;
     if verbose {
         let mut log = Telling::new(system.alloc(), system.stderr());
@@ -89,7 +148,7 @@ fn status_of_asked<R: Net + Wait + RandomSource>(rt: &R, system: &HostRuntime, a
 }
 
 // Does what the words ask for, and answers the exit status.
-fn status_of_words<R: Net + Wait + RandomSource>(
+fn status_of_words<R: Net + Wait + Threads + RandomSource>(
     rt: &R,
     system: &HostRuntime,
     words: &[String],

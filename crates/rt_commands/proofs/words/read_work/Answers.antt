@@ -1,10 +1,10 @@
-use Rattle.std.proofs.Common.{◌≡◌, Some, codes, ap, refl, sym, true≢false, ◌∙◌}
+use Rattle.std.proofs.Common.{◌≡◌, Some, codes, ap, refl, subst, sym, true≢false, ◌∙◌}
 use Rattle.std.specs.Prelude.{option_map}
 use Rattle.clap.specs.Matches.{subcommand_name_of}
 use Rattle.clap.specs.Words.{found_of, rows_of, subcommand_rows_of}
-use Rattle.rt_commands.specs.Words.{serving_of, work_of}
+use Rattle.rt_commands.specs.Words.{Gives, serving_of, work_of}
 use Rattle.rt_commands.specs.declared.words.Work.TheVariants.{Serve}
-use Rattle.rt_commands.proofs.Asking.{entered, other_entered, passed}
+use Rattle.rt_commands.proofs.Asking.{entered, live_entered, passed}
 use Rattle.rt_commands.proofs.words.read_work.Goals as goal
 
 pub returns-in_ok-read_serving-in-Some : goal.returns-in_ok-read_serving-in-Some
@@ -27,5 +27,5 @@ returns-in_err-read_serving-in-Some c =
 
 pub returns-in-None : goal.returns-in-None
 returns-in-None c =
-    other_entered c.args.matches.now (λ e. true≢false (sym (c.in-None.ensures.found.1 e)))
-    ∙ ap Some (sym c.read_other.ensures)
+    let is = live_entered c.args.matches.now (λ e. true≢false (sym (c.in-None.ensures.found.1 e))) in
+    subst (λ w. Gives w c.read_live.result) (sym is) c.read_live.ensures

@@ -1,0 +1,477 @@
+"""What ./check asks of `emulate`: many clients at once, what each is sent, who is ended and why, and the tree's file."""
+import json
+import os
+import resource
+import signal
+import socket
+import struct
+import subprocess
+import tempfile
+import threading
+import time
+
+from cutting import Saying, Wrong, begun, ended, must
+from frames import BINARY, CLOSE, CLOSED, FIRST_PART, PART, PING, PONG, SECONDS, TEXT, Client, compact, free_port
+from leaving import closes, half_closes, resets
+from lines import ROW, ROW_OUT
+from serving import BROKEN
+from session import stop
+
+LISTEN = {"k": "listen", "path": "/a", "tag": 1}
+MOST = 16_777_216  # the bytes that may wait for a connection, and those of a message
+
+
+class Emulator:
+    """A program that emulates, once it says that it listens. Its standard input is open until `end`."""
+
+    def __init__(self, program, *words, files=None):
+        self.port = free_port()
+        limit = (lambda: resource.setrlimit(resource.RLIMIT_NOFILE, (files, files))) if files else None
+        pipes = {"stdin": subprocess.PIPE, "stdout": subprocess.PIPE, "stderr": subprocess.PIPE}
+        self.ran = subprocess.Popen([program, "emulate", str(self.port), *words], preexec_fn=limit, **pipes)
+        self.saying, self.ran.stderr = Saying(self.ran.stderr, self.port), None
+        self.saying.start()
+        self.listens = self.saying.is_known.wait(SECONDS) and self.saying.listens
+
+    def __enter__(self):
+        if not self.listens:
+            stop(self.ran)
+            raise Wrong(f"emulate doesn't listen: {self.saying.lines}")
+        return self
+
+    def __exit__(self, *_):
+        stop(self.ran)
+
+    def ended(self):
+        """How it ends by itself: its status and what it prints."""
+        out = self.ran.stdout.read()
+        status = self.ran.wait(SECONDS)
+        self.saying.join(SECONDS)
+        return status, out
+
+    def end(self):
+        """Ends its standard input, and answers how it ends."""
+        self.ran.stdin.close()
+        self.ran.stdin = None
+        return self.ended()
+
+    def told(self):
+        return [it.decode(errors="replace").removeprefix("kaltewi: ").rstrip("\n") for it in self.saying.lines]
+
+    def tells(self, *parts, seconds=SECONDS):
+        """Waits until it tells a line that has all of these in it."""
+        until = time.monotonic() + seconds
+        while time.monotonic() < until:
+            if any(all(part in line for part in parts) for line in self.told()):
+                return
+            time.sleep(0.01)
+        raise Wrong(f"no line has {parts}: {self.told()[-8:]}")
+
+
+def data(path, value, tag=1):
+    return (TEXT, {"k": "data", "path": path, "tag": tag, "value": value})
+
+
+def ok(number):
+    return (TEXT, {"id": number, "k": "ok"})
+
+
+def put(number, path, value):
+    return {"id": number, "k": "put", "path": path, "value": value}
+
+
+def say(client, message):
+    """Sends a message of any length, masked by zeros."""
+    text = (message if isinstance(message, str) else compact(message)).encode()
+    client.socket.sendall(head(TEXT, len(text)) + text)
+
+
+def head(first, length):
+    """The head of a frame that is masked by zeros."""
+    if length < 126:
+        return bytes([first, 0x80 | length]) + bytes(4)
+    if length < 65536:
+        return struct.pack("!BBH", first, 0x80 | 126, length) + bytes(4)
+    return struct.pack("!BBQ", first, 0x80 | 127, length) + bytes(4)
+
+
+def drop(client):
+    client.stream.close()
+    client.socket.close()
+
+
+def shown(port, path="/"):
+    """What a new client is shown at a path."""
+    client = Client(port)
+    say(client, {"k": "listen", "path": path, "tag": 1})
+    found = client.text()[1]["value"]
+    drop(client)
+    return found
+
+
+# ---- each session
+
+
+def clients_see_each_other(program, _room):
+    """What one writes is sent to all that listen there, and what one asked for at its end is done when it goes."""
+    with Emulator(program, "--tree", '{"a":{"x":1}}') as it:
+        one, two = Client(it.port), Client(it.port)
+        must("the first listen", one.ask(LISTEN, 1), [data("/a", {"x": 1})])
+        must("the second listen", two.ask(LISTEN, 1), [data("/a", {"x": 1})])
+        must("a write, to who wrote", two.ask(put(1, "/a/y", 2), 2), [data("/a/y", 2), ok(1)])
+        must("a write, to the other", one.text(), data("/a/y", 2))
+        must("what is asked for the end", two.ask({"id": 2, "k": "od-put", "path": "/a/y", "value": "gone"}, 1), [ok(2)])
+        resets(two)
+        must("what the other's end does", one.text(), data("/a/y", "gone"))
+        must("a close", one.close(), CLOSED)
+        it.tells("connection 1 ends: the client closed it")
+        must("how it ends", it.end(), (0, b""))
+        for part in ("connection 1 begins, from 127.0.0.1:", '{"k":"listen","path":"/a","tag":1}', '"path":"/a/y"', "connection 2 ends: "):
+            it.tells(part, seconds=1)
+
+
+def strays_are_told(program, _room):
+    """What is no message is passed over and told with its code, and a refusal is told."""
+    with Emulator(program, "--deny", "/s", "--deny", "/t") as it:
+        client = Client(it.port)
+        client.frame(TEXT, b"x")
+        client.frame(BINARY, b"x")
+        client.frame(PING, b"hi")
+        must("a ping", client.stream.read(4), b"\x8a\x02hi")
+        must("a denied write", client.ask(put(1, "/s/x", 1), 1), [(TEXT, {"id": 1, "k": "no", "why": "denied"})])
+        must("a denied listen", client.ask({**LISTEN, "path": "/t"}, 1), [(TEXT, {"k": "revoke", "tag": 1, "why": "denied"})])
+        long = {"id": 2, "k": "put", "path": "/a", "value": "y" * 65_537}
+        say(client, long)
+        must("a write behind one that can't be read", client.ask(put(3, "/a", 1), 1), [ok(3)])
+        client.frame(CLOSE, b"\x0f\xa0bye")
+        must("a close with a code", client.stream.read(), b"\x88\x05\x0f\xa0bye")
+        it.tells("connection 1 ends: the client closed it with 4000")
+        must("how it ends", it.end(), (0, b""))
+        for part in ("passed over: 1 NotJson", "a binary message is passed over", "passed over: 4 BadTree", '"k":"no"', '"k":"revoke"'):
+            it.tells("connection 1", part, seconds=1)
+
+
+def broken_ones_are_told_why(program, _room):
+    """A client that breaks the protocol is told so by the code of a close, and the others go on."""
+    with Emulator(program) as it:
+        other = Client(it.port)
+        for what, (frame, code) in BROKEN.items():
+            client = Client(it.port)
+            client.socket.sendall(frame)
+            must(what, client.stream.read(), bytes([CLOSE, 2]) + code.to_bytes(2, "big"))
+            drop(client)
+            it.tells(f"it is closed with {code}")
+            must("another's write then", other.ask(put(1, "/a", 1), 1), [ok(1)])
+        client = Client(it.port)
+        client.socket.sendall(head(TEXT, MOST + 1))
+        must("a message that is too long", client.stream.read(), b"\x88\x02\x03\xf1")
+        must("how it ends", it.end(), (0, b""))
+        must("what the others are sent at its end", other.stream.read(), b"\x88\x02\x03\xe9")
+
+
+def origins_are_asked_for(program, _room):
+    """A page of another machine may connect only where it is allowed."""
+    with Emulator(program, "--origin", "https://app.example", "--origin", "null") as it:
+        wanted = {
+            "http://localhost:3000": 101,
+            "http://127.0.0.1": 101,
+            "https://app.example": 101,
+            "null": 101,
+            "http://evil.example": 403,
+            "http://localhost.evil.example": 403,
+            "https://app.example:1": 403,
+        }
+        for origin, status in wanted.items():
+            with socket.create_connection(("127.0.0.1", it.port), timeout=SECONDS) as stream:
+                lines = ["GET / HTTP/1.1", "Host: x", "Upgrade: websocket", "Connection: Upgrade", "Sec-WebSocket-Version: 13"]
+                lines += ["Sec-WebSocket-Key: dGhlIHNhbXBsZSBub25jZQ==", f"Origin: {origin}", "", ""]
+                stream.sendall("\r\n".join(lines).encode())
+                must(f"a page of {origin}", stream.recv(12), b"HTTP/1.1 %d" % status)
+        it.tells("is no WebSocket: a page of http://evil.example may not connect")
+        must("how it ends", it.end(), (0, b""))
+
+
+def writers_that_go_are_heard(program, _room):
+    """All that a client wrote before it went is taken, however it goes."""
+    with Emulator(program) as it:
+        for goes in (closes, resets, half_closes):
+            client = Client(it.port)
+            client.send_all([compact(put(n + 1, f"/{goes.__name__}/k{n}", n)) for n in range(200)])
+            goes(client)
+            it.tells("connection 1 ends: ")
+            it.saying.lines.clear()
+            must(f"what one leaves that {goes.__name__}", len(shown(it.port, f"/{goes.__name__}")), 200)
+            it.tells("connection 1 ends: ")
+            it.saying.lines.clear()
+        must("how it ends", it.end(), (0, b""))
+
+
+def slow_ones_are_ended(program, _room):
+    """A client that doesn't read is ended, and holds nobody up."""
+    with Emulator(program) as it:
+        slow, fast = Client(it.port), Client(it.port)
+        slow.socket.setsockopt(socket.SOL_SOCKET, socket.SO_RCVBUF, 4096)
+        slow.ask(LISTEN, 1)
+        worst, filler = 0, "y" * 60_000
+        for number in range(1, 1_001):
+            begun = time.monotonic()
+            must("an answer beside a slow one", asked(fast, put(number, "/a/x", f"{number}{filler}")), ok(number))
+            worst = max(worst, time.monotonic() - begun)
+            if any("connection 1 ends: it is too slow" in line for line in it.told()):
+                break
+        it.tells("connection 1 ends: it is too slow", seconds=5)
+        if worst > 2:
+            raise Wrong(f"a slow client held another up for {worst:.1f} s")
+        must("how it ends", it.end(), (0, b""))
+
+
+def asked(client, message):
+    """Sends a message, and answers the next text."""
+    say(client, message)
+    return client.text()
+
+
+def floods_hold_nobody_up(program, _room):
+    """A client that sends empty fragments without end holds nobody up."""
+    with Emulator(program) as it:
+        flood, other = Client(it.port), Client(it.port)
+        ends, empty = threading.Event(), head(PART, 0) * 20_000
+
+        def pour():
+            try:
+                flood.socket.sendall(head(FIRST_PART, 0))
+                while not ends.is_set():
+                    flood.socket.sendall(empty)
+            except OSError:
+                pass
+
+        pouring = threading.Thread(target=pour, daemon=True)
+        pouring.start()
+        worst = 0
+        for number in range(1, 101):
+            begun = time.monotonic()
+            must("an answer beside a flood", asked(other, put(number, "/b", number)), ok(number))
+            worst = max(worst, time.monotonic() - begun)
+        ends.set()
+        flood.socket.shutdown(socket.SHUT_RDWR)
+        pouring.join(SECONDS)
+        if worst > 2:
+            raise Wrong(f"a flood held another up for {worst:.1f} s")
+        must("how it ends", it.end(), (0, b""))
+
+
+def silent_ones_are_ended(program, _room):
+    """One that shakes no hands is ended after 10 seconds; one that says nothing is sent a ping after 30, and ended 30 later; one that
+    answers the ping stays."""
+    with Emulator(program) as it:
+        begun = time.monotonic()
+        hanging = socket.create_connection(("127.0.0.1", it.port), timeout=90)
+        hanging.sendall(b"GET / HTTP/1.1\r\n")
+        silent, alive = Client(it.port), Client(it.port)
+        silent.socket.settimeout(90)
+        alive.socket.settimeout(90)
+        must("what comes of a hanging handshake", hanging.recv(1), b"")
+        if not 9 < time.monotonic() - begun < 20:
+            raise Wrong(f"a hanging handshake was ended after {time.monotonic() - begun:.1f} s")
+        it.tells("is no WebSocket: no handshake in 10000 ms")
+        must("what a silent one is sent", silent.stream.read(2), bytes([PING, 0]))
+        must("what another is sent", alive.stream.read(2), bytes([PING, 0]))
+        alive.frame(PONG, b"")
+        must("what comes of one that answers no ping", silent.stream.read(), b"")
+        if not 55 < time.monotonic() - begun < 75:
+            raise Wrong(f"a silent client was ended after {time.monotonic() - begun:.1f} s")
+        it.tells("ends: nothing is heard of it")
+        say(alive, put(1, "/a", 1))
+        while alive.stream.peek(1)[:1] == bytes([PING]):  # the next one is due by then
+            alive.stream.read(2)
+        must("a write of one that answered", alive.text(), ok(1))
+        must("how it ends", it.end(), (0, b""))
+
+
+def descriptors_come_back(program, _room):
+    """Where no descriptor is left, those that wait are let in once others go."""
+    with Emulator(program, files=24) as it:
+        clients = [socket.create_connection(("127.0.0.1", it.port), timeout=SECONDS) for _ in range(40)]
+        it.tells("no connection can be accepted for now")
+        for client in clients:
+            client.close()
+        must("a write then", asked(Client(it.port), put(1, "/a", 1)), ok(1))
+        must("how it ends", it.end(), (0, b""))
+
+
+def file_is_kept(program, room):
+    """The tree is written while it runs and at the end, and read again, also where it is large or the process is killed."""
+    file = f"{room}/tree.json"
+    with Emulator(program, "--file", file, "--tree", '{"first":1}') as it:
+        client = Client(it.port)
+        must("a write", asked(client, put(1, "/a", 5)), ok(1))
+        must("what is asked for the end", asked(client, {"id": 2, "k": "od-put", "path": "/end", "value": True}), ok(2))
+        wait_for_file(file, {"first": 1, "a": 5})
+        must("a write then", asked(client, put(3, "/a", 6)), ok(3))
+        must("how it ends", it.end(), (0, b""))
+        must("what the file has", tree_in(file), {"first": 1, "a": 6, "end": True})
+    with Emulator(program, "--file", file, "--tree", '{"other":1}') as it:
+        must("what is read again", shown(it.port), {"first": 1, "a": 6, "end": True})
+        client = Client(it.port)
+        many = {f"k{n}": n for n in range(40_000)}
+        must("a large write", asked(client, put(1, "/b", many)), ok(1))
+        must("another", asked(client, put(2, "/c", many)), ok(2))
+        wait_for_file(file, {"first": 1, "a": 6, "end": True, "b": many, "c": many})
+        it.ran.send_signal(signal.SIGKILL)
+        it.ran.wait(SECONDS)
+    with Emulator(program, "--file", file) as it:
+        must("what is there after a kill", len(shown(it.port, "/c")), 40_000)
+        must("how it ends", it.end(), (0, b""))
+    with open(file, "w", encoding="utf-8") as out:
+        out.write("[1")
+    ran = subprocess.run([program, "emulate", str(free_port()), "--file", file], stdin=subprocess.DEVNULL, capture_output=True, timeout=SECONDS)
+    must("a file that is no JSON", (ran.returncode, ran.stdout, ran.stderr[:60].split(b":")[0]), (1, b"", b"kaltewi"))
+    must("what it keeps", open(file, encoding="utf-8").read(), "[1")
+
+
+def tree_in(file):
+    with open(file, encoding="utf-8") as it:
+        return json.load(it)
+
+
+def wait_for_file(file, tree):
+    until = time.monotonic() + 20
+    while time.monotonic() < until:
+        if os.path.exists(file) and tree_in(file) == tree:
+            return
+        time.sleep(0.05)
+    raise Wrong("the file is not written while it runs")
+
+
+def it_ends(program, _room):
+    """It ends with so many that have gone, also where its input has ended, by a signal, and where its port is taken; --quiet says nothing."""
+    with Emulator(program, "--count", "2") as it:
+        clients = [Client(it.port) for _ in range(3)]
+        for client in clients[:2]:
+            must("a close", client.close(), CLOSED)
+        must("how it ends", it.ended(), (0, b""))
+        must("what the third is sent", clients[2].stream.read(), b"\x88\x02\x03\xe9")
+    with Emulator(program, "--no-input", "--count", "1") as it:
+        it.ran.stdin.close()
+        it.ran.stdin = None
+        time.sleep(0.2)
+        client = Client(it.port)
+        must("a write once the input has ended", asked(client, put(1, "/a", 1)), ok(1))
+        must("a close", client.close(), CLOSED)
+        must("how it ends", it.ended(), (0, b""))
+    with Emulator(program) as it:
+        it.ran.send_signal(signal.SIGINT)
+        must("how it ends by a signal", it.ended(), (-signal.SIGINT, b""))
+    with socket.create_server(("127.0.0.1", 0)) as taken:
+        port = str(taken.getsockname()[1])
+        words = [program, "emulate", port, "--quiet"]
+        ran = subprocess.run(words, stdin=subprocess.DEVNULL, capture_output=True, timeout=SECONDS)
+    wanted = f"kaltewi: port {port} can't be bound: Address already in use (os error 98)\n".encode()
+    must("a port that is taken", (ran.returncode, ran.stdout, ran.stderr), (1, b"", wanted))
+
+
+def all_see_the_same(program, _room, count=3, writes=1_000):
+    """Clients that listen and write at once all end with the same tree, which is the emulator's."""
+    with Emulator(program) as it:
+        trees = [None] * count
+        ready = threading.Barrier(count)
+
+        def talk(number):
+            client, tree, heard = Client(it.port), {}, 0
+            say(client, LISTEN)
+            tree = client.text()[1]["value"] or {}
+            ready.wait(SECONDS)
+            writing = threading.Thread(target=client.send_all, args=([compact(put(n + 1, f"/a/c{number}-{n % 100}", n)) for n in range(writes)],))
+            writing.start()
+            while heard < writes * count + writes:
+                message = client.text()[1]
+                heard += 1
+                if message["k"] == "data":
+                    tree[message["path"][3:]] = message["value"]
+            writing.join()
+            trees[number] = tree
+            client.close()
+
+        talking = [threading.Thread(target=talk, args=(number,)) for number in range(count)]
+        for one in talking:
+            one.start()
+        for one in talking:
+            one.join(SECONDS)
+        tree = shown(it.port, "/a")
+        for found in trees:
+            must("what a client has seen", found == tree, True)
+        must("how many it has", len(tree), 100 * count)
+        must("how it ends", it.end(), (0, b""))
+
+
+def connects_see_each_other(program, _room):
+    """One `connect` is sent what another writes, while both are there."""
+    with Emulator(program) as it:
+        words = [program, "connect", str(it.port)]
+        must("the row", ended(begun(words, ROW, {})), (0, ROW_OUT.encode(), b""))
+        hears = begun(words, '["listen",1,"/b",[]]\n["read",2]\n', {})
+        it.tells('{"k":"listen","path":"/b"')
+        writes = begun(words, '["set",1,"/b/x",5]\n["read",1]\n', {})
+        must("the one that writes", ended(writes), (0, b"done 1\ndone\nR1 ok\n", b""))
+        heard = b'done 1\ndone\nL1 value null\ndone\nL1 added "x" 5 after none\nL1 value {"x":5}\n'
+        must("the one that hears", ended(hears), (0, heard, b""))
+        must("how it ends", it.end(), (0, b""))
+
+
+def thousand_clients(program, _room, count=1_000):
+    """A write reaches each of a thousand clients, of which the other half is gone."""
+    hard = resource.getrlimit(resource.RLIMIT_NOFILE)[1]
+    resource.setrlimit(resource.RLIMIT_NOFILE, (min(hard, 8_192) if hard > 0 else 8_192, hard))
+    with Emulator(program) as it:
+        clients = [Client(it.port) for _ in range(count)]
+        for client in clients:
+            say(client, LISTEN)
+        for client in clients:
+            must("a listen", client.text(), data("/a", None))
+        for client in clients[count // 2 :]:
+            resets(client)
+        say(clients[0], put(1, "/a/x", 1))
+        for client in clients[: count // 2]:
+            must("what each is sent", client.text(), data("/a/x", 1))
+        must("how it ends", it.end(), (0, b""))
+        for client in clients[: count // 2]:
+            drop(client)
+
+
+SESSIONS = [
+    clients_see_each_other,
+    strays_are_told,
+    broken_ones_are_told_why,
+    origins_are_asked_for,
+    writers_that_go_are_heard,
+    slow_ones_are_ended,
+    floods_hold_nobody_up,
+    descriptors_come_back,
+    file_is_kept,
+    it_ends,
+    all_see_the_same,
+    connects_see_each_other,
+    thousand_clients,
+]
+
+
+def wrong_in(session, program, room):
+    """What is wrong in a session with this build, in a room of its own."""
+    try:
+        with tempfile.TemporaryDirectory(dir=room) as own:
+            session(program, own)
+        return ""
+    except (Wrong, OSError, ValueError, TypeError, KeyError, struct.error, subprocess.TimeoutExpired, threading.BrokenBarrierError) as why:
+        return f"{session.__name__}: {why!r} ({os.path.basename(program)})"
+
+
+def wrong_of(programs, room):
+    """What is wrong with these builds of the program, and how many sessions there were. The silent ones take a minute, beside the others."""
+    wrong = []
+    beside = [threading.Thread(target=lambda it=it: wrong.append(wrong_in(silent_ones_are_ended, it, room))) for it in programs]
+    for one in beside:
+        one.start()
+    wrong += [wrong_in(session, program, room) for program in programs for session in SESSIONS]
+    for one in beside:
+        one.join()
+    return [it for it in wrong if it], (1 + len(SESSIONS)) * len(programs)
