@@ -1,0 +1,287 @@
+// A connection of a client, from its handshake to its end.
+use crate::batch::{Batch, Pause, hear_all};
+use crate::error::LinkFault;
+use crate::lost::Lost;
+use crate::paced::Paced;
+use crate::patience::{Patience, for_end, for_handshake, for_silence};
+use crate::socket::{Socket, limits};
+use crate::taking::Passed;
+use crate::turning::{BATCH, Sent, answer_turn, hear_turn, paced, unopened};
+use crate::wire::{Flushed, Wire};
+use rt_client::Client;
+use std::alloc::Global;
+use std::io::{Read, Write};
+use std::random::RandomSource;
+use std::sync::Wait;
+use std::time::{Clock, Duration, Instant};
+use tungstenite::handshake::MidHandshake;
+use tungstenite::handshake::client::{ClientHandshake, request_of, start};
+use tungstenite::{Error, HandshakeError, RandomKeys};
+
+// How many bytes are read in one turn.
+const TURN_BYTES: usize = 262_144;
+
+// What the stream of a handshake is read from.
+type Shaking<S, N> = MidHandshake<ClientHandshake<Paced<S>, RandomKeys<N>>>;
+
+// Where a connection stands.
+#[derive(Drop)]
+enum Stage<S: Read + Write + Drop, N: RandomSource + Drop> {
+    Shaking(Shaking<S, N>),
+    Open(Socket<S, N>),
+    // The client has said that it goes.
+    Closing(Socket<S, N>),
+    Gone,
+}
+
+/// What a turn of a connection leaves to be done.
+#[derive(Debug, Drop)]
+pub enum Turn {
+    /// Nothing, until something comes, or so long.
+    Idle(Duration),
+    /// There may be more at once.
+    More,
+    /// The connection did not come about.
+    NotOpened(Lost),
+    /// The connection has ended, and the client was told of it.
+    Ended(Lost),
+}
+
+/// A connection of a client, over a stream that does not wait. It begins with its handshake; a client that
+/// it has told of a connection is told of its end by [`Connection::close`], if no turn did so before.
+#[derive(Drop)]
+pub struct Connection<S: Read + Write + Drop, N: RandomSource + Drop> {
+    alloc: Global,
+    stage: Stage<S, N>,
+    // When something came last, and whether the server was asked since whether it is there.
+    heard: Instant,
+    is_asked: bool,
+    passed: Vec<Passed>,
+}
+
+// How many milliseconds have gone by.
+fn millis_since<R: Clock>(rt: &R, then: Instant) -> Result<u64, LinkFault> {
+    let millis = then.elapsed(rt)?.as_millis();
+    Ok(u64::try_from(millis).unwrap_or(u64::MAX))
+}
+
+// Begins a handshake, of which nothing is sent yet.
+fn shake_hands<S: Read + Write + Drop, N: RandomSource + Drop>(
+    alloc: Global,
+    random: N,
+    stream: S,
+    uri: &str,
+) -> Result<Result<Shaking<S, N>, Lost>, LinkFault> {
+    let mut nonce = [0u8; 16];
+    random.fill_bytes(&mut nonce)?;
+    let request = match request_of(alloc, uri) {
+        Ok(request) => request,
+        Err(why) => return Ok(Err(unopened(why)?)),
+    };
+    let keys = RandomKeys::new(random);
+    match start(
+        alloc,
+        nonce,
+        keys,
+        request,
+        Paced::new(stream),
+        Some(limits()),
+    ) {
+        Ok(mid) => Ok(Ok(mid)),
+        Err(why) => Ok(Err(unopened(why)?)),
+    }
+}
+
+impl<S: Read + Write + Drop, N: RandomSource + Drop> Connection<S, N> {
+    /// A connection over a stream that does not wait, and may not be connected yet. The URI is what the
+    /// handshake names, as `ws://127.0.0.1/`.
+    ///
+    /// # Errors
+    ///
+    /// `System` where there is no clock or no random number, and `NoMemory`. A URI that is none is a
+    /// handshake that fails.
+    pub fn new<R: Clock>(
+        rt: &R,
+        alloc: Global,
+        random: N,
+        stream: S,
+        uri: &str,
+    ) -> Result<Result<Connection<S, N>, Lost>, LinkFault> {
+        let heard = Instant::now(rt)?;
+        let mid = match shake_hands(alloc, random, stream, uri)? {
+            Ok(mid) => mid,
+            Err(why) => return Ok(Err(why)),
+        };
+        Ok(Ok(Connection {
+            alloc,
+            stage: Stage::Shaking(mid),
+            heard,
+            is_asked: false,
+            passed: Vec::new(alloc),
+        }))
+    }
+
+    /// Whether the handshake is done, and the connection stands.
+    pub fn is_open(&self) -> bool {
+        match &self.stage {
+            Stage::Open(_) => true,
+            Stage::Shaking(_) | Stage::Closing(_) | Stage::Gone => false,
+        }
+    }
+
+    /// Hands over why messages of the server were passed over, in order, since it was asked last.
+    pub fn take_passed(&mut self) -> Vec<Passed> {
+        std::mem::replace(&mut self.passed, Vec::new(self.alloc))
+    }
+
+    /// Does what can be done now, and does not wait: goes on with the handshake, or reads what the server
+    /// sent and sends what the client has to send. Tells the client when the connection stands, and when
+    /// it ends.
+    ///
+    /// # Errors
+    ///
+    /// `Client` where the client has failed, or somebody else has told it of a connection, and `NoMemory`:
+    /// the connection is to be closed then. `System` where there is no clock. A connection that is gone
+    /// answers `NotOpened`, with no reason but that it is closed.
+    pub fn turn<R: Wait + Clock>(&mut self, rt: &R, client: &Client) -> Result<Turn, LinkFault> {
+        match std::mem::replace(&mut self.stage, Stage::Gone) {
+            Stage::Shaking(mid) => self.shake(rt, client, mid),
+            Stage::Open(socket) => {
+                self.stage = Stage::Open(socket);
+                self.carry(rt, client)
+            }
+            Stage::Closing(socket) => self.see_off(rt, socket),
+            Stage::Gone => Ok(Turn::NotOpened(Lost::Closed)),
+        }
+    }
+
+    // Goes on with the handshake.
+    fn shake<R: Wait + Clock>(
+        &mut self,
+        rt: &R,
+        client: &Client,
+        mut mid: Shaking<S, N>,
+    ) -> Result<Turn, LinkFault> {
+        mid.get_mut().allow(TURN_BYTES);
+        match mid.handshake() {
+            Ok((socket, _response)) => {
+                client.connected(rt)?;
+                self.stage = Stage::Open(Socket::new(self.alloc, socket));
+                self.heard = Instant::now(rt)?;
+                Ok(Turn::More)
+            }
+            Err(HandshakeError::Interrupted(mid)) => self.await_hands(rt, mid),
+            Err(HandshakeError::Failure(why)) => Ok(Turn::NotOpened(unopened(why)?)),
+        }
+    }
+
+    // The handshake goes on once more has come, or is given up.
+    fn await_hands<R: Clock>(&mut self, rt: &R, mid: Shaking<S, N>) -> Result<Turn, LinkFault> {
+        match for_handshake(millis_since(rt, self.heard)?) {
+            Patience::Wait(millis) => {
+                self.stage = Stage::Shaking(mid);
+                Ok(Turn::Idle(Duration::from_millis(millis)))
+            }
+            Patience::Ping | Patience::GiveUp => Ok(Turn::NotOpened(Lost::Late)),
+        }
+    }
+
+    // Reads and sends, and then ends the connection or says how long is to be waited.
+    fn carry<R: Wait + Clock>(&mut self, rt: &R, client: &Client) -> Result<Turn, LinkFault> {
+        let Stage::Open(socket) = &mut self.stage else {
+            return Ok(Turn::NotOpened(Lost::Closed));
+        };
+        socket.allow(TURN_BYTES);
+        let pause = hear_turn(rt, self.alloc, client, socket, &mut self.passed)?;
+        let left = socket.left();
+        let sent = answer_turn(rt, self.alloc, client, socket, paced(pause, left))?;
+        if left < TURN_BYTES {
+            self.heard = Instant::now(rt)?;
+            self.is_asked = false;
+        }
+        match sent {
+            Sent::Done => self.be_patient(rt, client),
+            Sent::More => Ok(Turn::More),
+            Sent::Lost(why) => self.end(rt, client, why),
+        }
+    }
+
+    // Says how long is to be waited for the server, or asks whether it is there, or gives it up.
+    fn be_patient<R: Wait + Clock>(&mut self, rt: &R, client: &Client) -> Result<Turn, LinkFault> {
+        match for_silence(millis_since(rt, self.heard)?, self.is_asked) {
+            Patience::Wait(millis) => Ok(Turn::Idle(Duration::from_millis(millis))),
+            Patience::Ping => self.ask(rt, client),
+            Patience::GiveUp => self.end(rt, client, Lost::Silent),
+        }
+    }
+
+    // Asks the server whether it is there.
+    fn ask<R: Wait>(&mut self, rt: &R, client: &Client) -> Result<Turn, LinkFault> {
+        let Stage::Open(socket) = &mut self.stage else {
+            return Ok(Turn::NotOpened(Lost::Closed));
+        };
+        self.is_asked = true;
+        match socket.ping()? {
+            Some(why) => self.end(rt, client, why),
+            None => Ok(Turn::More),
+        }
+    }
+
+    // The connection is gone, and the client is told of it.
+    fn end<R: Wait>(&mut self, rt: &R, client: &Client, why: Lost) -> Result<Turn, LinkFault> {
+        self.stage = Stage::Gone;
+        client.disconnected(rt)?;
+        Ok(Turn::Ended(why))
+    }
+
+    // Passes over what the server still sends, until it goes too.
+    fn see_off<R: Clock>(&mut self, rt: &R, mut socket: Socket<S, N>) -> Result<Turn, LinkFault> {
+        socket.allow(TURN_BYTES);
+        let Batch { messages, pause } = hear_all(self.alloc, &mut socket, BATCH)?;
+        drop(messages);
+        let is_more = match paced(pause, socket.left()) {
+            Pause::Ended(why) => return Ok(Turn::Ended(why)),
+            Pause::Idle => false,
+            Pause::More => true,
+        };
+        if let Flushed::Failed(why) = socket.flush() {
+            return Ok(Turn::Ended(why));
+        }
+        match for_end(millis_since(rt, self.heard)?) {
+            Patience::Ping | Patience::GiveUp => Ok(Turn::Ended(Lost::Silent)),
+            Patience::Wait(millis) => {
+                self.stage = Stage::Closing(socket);
+                if is_more {
+                    Ok(Turn::More)
+                } else {
+                    Ok(Turn::Idle(Duration::from_millis(millis)))
+                }
+            }
+        }
+    }
+
+    /// Where the connection stands, tells the server and the client that it ends. Turns then pass over
+    /// what the server still sends, until it has gone too, or for a second: a server that was left while
+    /// it sent would lose what it had not read.
+    ///
+    /// # Errors
+    ///
+    /// `Client` where the client has failed.
+    pub fn close<R: Wait + Clock>(&mut self, rt: &R, client: &Client) -> Result<(), LinkFault> {
+        match std::mem::replace(&mut self.stage, Stage::Gone) {
+            Stage::Open(mut socket) => {
+                if let Flushed::Done | Flushed::Blocked = socket.say_close() {
+                    self.stage = Stage::Closing(socket);
+                }
+                client.disconnected(rt)?;
+                self.heard = Instant::now(rt)?;
+                Ok(())
+            }
+            Stage::Closing(socket) => {
+                self.stage = Stage::Closing(socket);
+                Ok(())
+            }
+            Stage::Shaking(_) | Stage::Gone => Ok(()),
+        }
+    }
+}

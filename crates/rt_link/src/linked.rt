@@ -1,0 +1,194 @@
+// A client with what wakes its link.
+ghost use Rattle.std.specs.Prelude.{◌≡◌, IfOk, IfErr, OnOk};
+ghost use Rattle.rt_tree.specs.PathTree.{null};
+ghost use Rattle.rt_wire.specs.declared.request.Action.TheVariants.{Put, Merge};
+ghost use Rattle.rt_wire.specs.declared.request.Ending.TheVariants.{Run, Cancel};
+ghost use Rattle.rt_world.specs.declared.call.Call.TheVariants as call;
+ghost use Rattle.rt_client.specs.Calls.{handed_back};
+ghost use Rattle.rt_client.specs.Waiting.{IsNumbered, IsMade, IsDone, IsUnmade, IsClosed, IsUnclosed};
+
+use mio::Waker;
+use rt_client::{Action, Call, Client, ClientError, Done, Seat, Uncalled, Unclosed};
+use rt_query::Query;
+use rt_tree::{Path, Tree};
+use std::alloc::{AllocError, Global};
+use std::sync::{Arc, Wait};
+
+/// What wakes a link. Threads share it, or each has a clone.
+#[derive(Drop)]
+pub struct Bell {
+    waker: Arc<Waker, Global>,
+}
+
+impl Bell {
+    pub(crate) fn new(alloc: Global, waker: Waker) -> Result<Bell, AllocError> {
+        let waker = Arc::new(alloc, waker)?;
+        Ok(Bell { waker })
+    }
+
+    /// Another that wakes the same link.
+    pub fn try_clone(&self) -> Result<Bell, AllocError> {
+        let waker = Arc::try_clone(&self.waker)?;
+        Ok(Bell { waker })
+    }
+
+    /// Wakes the link: there may be something to be sent.
+    pub fn ring(&self) {
+        // A counter of the system is added to, which is there as long as this is.
+        drop(self.waker.wake());
+    }
+}
+
+/// A client whose messages a [`Link`](crate::Link) carries. Threads share it by reference. Each of its calls
+/// makes the client's call of that name, which wakes whoever waits for the client, and then wakes the link.
+/// Whoever makes calls on the client itself, or locks it, wakes the link by [`Linked::ring`].
+#[derive(Drop)]
+pub struct Linked {
+    pub client: Client,
+    bell: Bell,
+}
+
+impl Linked {
+    pub(crate) fn new(client: Client, bell: Bell) -> Linked {
+        Linked { client, bell }
+    }
+
+    /// Wakes the link: there may be something to be sent.
+    pub fn ring(&self) {
+        self.bell.ring();
+    }
+
+    /// What wakes the link, for a thread that makes no call.
+    pub fn bell(&self) -> Result<Bell, AllocError> {
+        self.bell.try_clone()
+    }
+
+    /// Tells the link and those who wait for the client to stop, also those who will, and wakes them.
+    pub fn stop<R: Wait>(&self, rt: &R) {
+        self.client.stop(rt);
+        self.ring();
+    }
+
+    /// Whether they were told to stop.
+    pub fn is_stopped<R: Wait>(&self, rt: &R) -> bool {
+        self.client.shared.lock(rt).is_stopped()
+    }
+
+    /// Registers a listener, which the seat is told of from then on.
+    pub fn listen<R: Wait>(&self, rt: &R, seat: &mut Seat, query: Query) -> Result<u64, ClientError>
+        ensures made { IfOk result (λ n. IsNumbered seat.old (call.Listen query) n seat.new) }
+        ensures refused { IfErr result (λ e. IsUnmade seat.old (call.Listen query) e seat.new) }
+    {
+        let answer = self.client.listen(rt, seat, query);
+        self.ring();
+        answer
+    }
+
+    /// Ends a listener of the seat.
+    pub fn unlisten<R: Wait>(
+        &self,
+        rt: &R,
+        seat: &mut Seat,
+        listener: u64,
+    ) -> Result<(), ClientError>
+        ensures made { OnOk result (IsMade seat.old (call.Unlisten listener) seat.new) }
+        ensures refused { IfErr result (λ e. IsUnmade seat.old (call.Unlisten listener) e seat.new) }
+    {
+        let answer = self.client.unlisten(rt, seat, listener);
+        self.ring();
+        answer
+    }
+
+    /// Sets a tree at a path; null removes.
+    pub fn set<R: Wait>(
+        &self,
+        rt: &R,
+        seat: &mut Seat,
+        path: Path,
+        tree: Tree,
+    ) -> Result<u64, ClientError>
+        ensures made { IfOk result (λ n. IsNumbered seat.old (call.Write (Put path tree)) n seat.new) }
+        ensures refused { IfErr result (λ e. IsUnmade seat.old (call.Write (Put path tree)) e seat.new) }
+    {
+        let answer = self.client.set(rt, seat, path, tree);
+        self.ring();
+        answer
+    }
+
+    /// Sets several trees, each at its path, in one write.
+    pub fn update<R: Wait>(
+        &self,
+        rt: &R,
+        seat: &mut Seat,
+        entries: Vec<(Path, Tree)>,
+    ) -> Result<u64, ClientError>
+        ensures made { IfOk result (λ n. IsNumbered seat.old (call.Write (Merge entries.items)) n seat.new) }
+        ensures refused { IfErr result (λ e. IsUnmade seat.old (call.Write (Merge entries.items)) e seat.new) }
+    {
+        let answer = self.client.update(rt, seat, entries);
+        self.ring();
+        answer
+    }
+
+    /// Removes what is at a path: sets null there.
+    pub fn remove<R: Wait>(&self, rt: &R, seat: &mut Seat, path: Path) -> Result<u64, ClientError>
+        ensures made { IfOk result (λ n. IsNumbered seat.old (call.Write (Put path null)) n seat.new) }
+        ensures refused { IfErr result (λ e. IsUnmade seat.old (call.Write (Put path null)) e seat.new) }
+    {
+        let answer = self.client.remove(rt, seat, path);
+        self.ring();
+        answer
+    }
+
+    /// Asks the server for a write, which it makes when the connection ends.
+    pub fn on_disconnect<R: Wait>(
+        &self,
+        rt: &R,
+        seat: &mut Seat,
+        action: Action,
+    ) -> Result<u64, ClientError>
+        ensures made { IfOk result (λ n. IsNumbered seat.old (call.OnDisconnect (Run action)) n seat.new) }
+        ensures refused { IfErr result (λ e. IsUnmade seat.old (call.OnDisconnect (Run action)) e seat.new) }
+    {
+        let answer = self.client.on_disconnect(rt, seat, action);
+        self.ring();
+        answer
+    }
+
+    /// Drops what was to be written at and below a path when the connection ends.
+    pub fn cancel_disconnect<R: Wait>(
+        &self,
+        rt: &R,
+        seat: &mut Seat,
+        path: Path,
+    ) -> Result<u64, ClientError>
+        ensures made { IfOk result (λ n. IsNumbered seat.old (call.OnDisconnect (Cancel path)) n seat.new) }
+        ensures refused { IfErr result (λ e. IsUnmade seat.old (call.OnDisconnect (Cancel path)) e seat.new) }
+    {
+        let answer = self.client.cancel_disconnect(rt, seat, path);
+        self.ring();
+        answer
+    }
+
+    /// Makes a seat's call, and hands it back where the mailbox is full.
+    pub fn try_call<R: Wait>(&self, rt: &R, seat: &mut Seat, call: Call) -> Result<Done, Uncalled>
+        ensures made { IfOk result (λ done. IsDone seat.old call done seat.new) }
+        ensures refused { IfErr result (λ u. IsUnmade seat.old call u.why seat.new) }
+        ensures back { IfErr result (λ u. u.call ≡ handed_back u.why call) }
+    {
+        let answer = self.client.try_call(rt, seat, call);
+        self.ring();
+        answer
+    }
+
+    /// Ends the seat.
+    pub fn close_seat<R: Wait>(&self, rt: &R, seat: Seat) -> Result<(), Unclosed>
+        ensures closed { OnOk result (IsClosed seat) }
+        ensures back { IfErr result (λ refused. refused.seat ≡ seat) }
+        ensures refused { IfErr result (λ refused. IsUnclosed seat refused.why) }
+    {
+        let answer = self.client.close_seat(rt, seat);
+        self.ring();
+        answer
+    }
+}
