@@ -1,0 +1,105 @@
+// The lines of the calls and messages that are made by chance.
+
+use crate::chance::Chance;
+use std::alloc::{AllocError, Global};
+
+const PATHS: [&str; 9] = [
+    "/g/a", "/g/b", "/g/c", "/g/d/x", "/h", "/h/y", "/g", "/g/10", "/",
+];
+
+const VALUES: [&str; 8] = [
+    "null",
+    "1",
+    "2",
+    "\"t\"",
+    "{\"x\":1,\"y\":2}",
+    "{\"10\":true,\"9\":{\"y\":3}}",
+    "true",
+    "7",
+];
+
+// Queries, with their paths.
+const ASKED: [&str; 8] = [
+    "\"/g\",[]",
+    "\"/g/a\",[]",
+    "\"/g\",[[\"limitToFirst\",2]]",
+    "\"/h\",[]",
+    "\"/g\",[[\"orderByValue\"],[\"limitToLast\",2]]",
+    "\"/\",[]",
+    "\"/g/d\",[]",
+    "\"/g\",[[\"orderByChild\",\"x\"],[\"startAt\",1]]",
+];
+
+const PUSHED: [&str; 7] = [
+    "null",
+    "{\"a\":1,\"b\":2}",
+    "3",
+    "{\"a\":5,\"c\":{\"x\":1},\"d\":2}",
+    "{\"10\":1,\"9\":2,\"b\":\"u\"}",
+    "{\"y\":true}",
+    "{\"g\":{\"a\":1,\"b\":{\"x\":2}},\"h\":{\"y\":4}}",
+];
+
+// The most listeners that a seat asks for.
+const LISTENERS: usize = 4;
+
+// The line of a seat's next call.
+pub(crate) fn call(
+    alloc: Global,
+    chance: &mut Chance,
+    place: u64,
+    listeners: &[u64],
+) -> Result<String, AllocError> {
+    let (path, other) = (chance.of(&PATHS), chance.of(&PATHS));
+    let (value, next) = (chance.of(&VALUES), chance.of(&VALUES));
+    let listener = chance.number(listeners).unwrap_or(chance.below(9));
+    let is_full = listeners.len() >= LISTENERS;
+    match chance.below(16) {
+        0..=4 => format!(in alloc; "[\"set\",{place},\"{path}\",{value}]"),
+        5 | 6 => {
+            format!(in alloc; "[\"update\",{place},{{\"{path}\":{value},\"{other}\":{next}}}]")
+        }
+        7 => format!(in alloc; "[\"remove\",{place},\"{path}\"]"),
+        8..=10 if !is_full => format!(in alloc; "[\"listen\",{place},{}]", chance.of(&ASKED)),
+        8..=11 => format!(in alloc; "[\"unlisten\",{place},{listener}]"),
+        12 => format!(in alloc; "[\"unlisten\",{place},{}]", chance.below(40)),
+        13 => format!(in alloc; "[\"onDisconnect\",{place},\"set\",\"{path}\",{value}]"),
+        14 => {
+            format!(in alloc;
+                "[\"onDisconnect\",{place},\"update\",{{\"{path}\":{value},\"{other}\":{next}}}]"
+            )
+        }
+        _ => format!(in alloc; "[\"onDisconnect\",{place},\"cancel\",\"{path}\"]"),
+    }
+}
+
+// What the server sends on a listen: at its path or below it, one value or two.
+#[derive(Drop, Clone, Copy)]
+pub(crate) struct Pushed {
+    kind: u64,
+    value: &'static str,
+    next: &'static str,
+}
+
+impl Pushed {
+    pub(crate) fn by(chance: &mut Chance) -> Pushed {
+        Pushed {
+            kind: chance.below(5),
+            value: chance.of(&PUSHED),
+            next: chance.of(&PUSHED),
+        }
+    }
+
+    // Its line, on the listen with that tag and path.
+    pub(crate) fn line(&self, alloc: Global, tag: u64, path: &str) -> Result<String, AllocError> {
+        let (value, next) = (self.value, self.next);
+        match self.kind {
+            0 | 1 => format!(in alloc; "[\"data\",{tag},\"{path}\",{value}]"),
+            2 => format!(in alloc; "[\"data\",{tag},\"{path}/a\",{value}]"),
+            3 => format!(in alloc;
+                "[\"merge\",{tag},{{\"{path}/b\":{value},\"{path}/c\":{next}}}]"
+            ),
+            _ => format!(in alloc; "[\"merge\",{tag},{{\"{path}\":{value}}}]"),
+        }
+    }
+}

@@ -1,0 +1,107 @@
+// How a seat's thread hears.
+
+use crate::basket::{Basket, Often};
+use crate::chance::Chance;
+use crate::diary::Diary;
+use anyhow::{Result, anyhow};
+use rt_client::{Client, Seat, Shared, deliver};
+use std::sync::Wait;
+
+// More items than are ever told at once.
+pub(crate) const MOST: u64 = 1_000_000;
+
+// Takes so many items at most from the ring: how many.
+pub(crate) fn take(seat: &mut Seat, diary: &mut Diary, most: u64) -> Result<u64> {
+    for count in 0..most {
+        let Some(item) = seat.next() else {
+            return Ok(count);
+        };
+        diary.told(&item)?;
+        drop(item);
+    }
+    Ok(most)
+}
+
+// Settles the seat, and takes so many items at most.
+pub(crate) fn settle<R: Wait>(
+    rt: &R,
+    client: &Client,
+    seat: &mut Seat,
+    diary: &mut Diary,
+    most: u64,
+) -> Result<u64> {
+    client.shared.lock(rt).settle(seat)?;
+    take(seat, diary, most)
+}
+
+// Takes all that waits, under the lock.
+pub(crate) fn take_all(shared: &mut Shared, seat: &mut Seat, diary: &mut Diary) -> Result<()> {
+    for _ in 0..MOST {
+        shared.settle(seat)?;
+        if take(seat, diary, MOST)? == 0 {
+            return Ok(());
+        }
+    }
+    Err(anyhow!("there is always more"))
+}
+
+// A delivery of a few turns, which ends at the latest where it was woken a few times.
+fn have_delivered<R: Wait>(
+    rt: &R,
+    client: &Client,
+    seat: &mut Seat,
+    diary: &mut Diary,
+    room: usize,
+    turns: u64,
+) -> Result<()> {
+    let mut basket = Basket::new(diary.alloc, room)?;
+    deliver(rt, client, seat, &mut basket, &Often::new(turns), turns)?;
+    for _ in 0..room {
+        let Some(item) = basket.next() else {
+            return Ok(());
+        };
+        diary.told(&item)?;
+        drop(item);
+    }
+    Ok(())
+}
+
+// Hears in one way or another, or not at all. A ring has that room.
+pub(crate) fn hear<R: Wait>(
+    rt: &R,
+    client: &Client,
+    seat: &mut Seat,
+    diary: &mut Diary,
+    chance: &mut Chance,
+    room: usize,
+) -> Result<()> {
+    let few = chance.below(6);
+    match chance.below(8) {
+        0 | 1 => {
+            settle(rt, client, seat, diary, few)?;
+        }
+        2 => {
+            take(seat, diary, few)?;
+        }
+        3 => have_delivered(rt, client, seat, diary, room.saturating_mul(3), 2)?,
+        4 => std::thread::yield_now(),
+        _ => {}
+    }
+    Ok(())
+}
+
+// Sleeps until it is told to stop, and hears all.
+pub(crate) fn hear_on<R: Wait>(
+    rt: &R,
+    client: &Client,
+    seat: &mut Seat,
+    diary: &mut Diary,
+) -> Result<()> {
+    for _ in rt.forever() {
+        if !client.wait(rt, seat)? {
+            return Ok(());
+        }
+        take(seat, diary, MOST)?;
+    }
+    unreachable!()
+}
