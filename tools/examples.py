@@ -20,15 +20,8 @@ from pages import read, sources
 ROOT = os.path.realpath(f"{os.path.dirname(os.path.realpath(__file__))}/..")
 PAGE, PROGRAM = "crates/kaltewi/src", "crates/example_calls/src"
 WITHOUT = {
-    "Tree::from_value": "takes a value of serde_json",
-    "Tree::to_value": "gives a value of serde_json",
-    "Tree::of_value": "takes a value of serde_json",
-    "Tree::write": "writes to a writer of json",
-    "Leaf::write": "writes to a writer of json",
     "Tree::object": "has a condition on what the children are",
     "OrdMap::from_sorted": "has a condition on what the entries are",
-    "Shown::of": "has a condition on what the rows are",
-    "Notes::of": "is the core's own",
 }
 BLOCK = re.compile(r"(?m)^/// ```rust\n((?:^///.*\n)*?)^/// ```\n")
 HANDED_ON = re.compile(r"(?m)((?:^///.*\n)*)^pub use (?:(\w+)::)(?:\{([^}]*)\}|(\w+));")
