@@ -98,7 +98,7 @@ new_is_kept sound limits lanes new = record {
   told = λ seat lane e. ap foreseen (new seat lane e);
 }
 
-take_drop : (n : ℕ) (xs : List Item) → take n xs ++ drop n xs ≡ xs
+pub take_drop : (n : ℕ) (xs : List Item) → take n xs ++ drop n xs ≡ xs
 take_drop zero xs = refl
 take_drop (suc n) [] = refl
 take_drop (suc n) (x ∷ xs) = ap (λ z. x ∷ z) (take_drop n xs)

@@ -5,8 +5,11 @@ pub mod Called
 pub mod ClientCrosses
 pub mod Crosses
 pub mod Delivered
+pub mod Ended
+pub mod Entries
 pub mod Filters
 pub mod Followed
+pub mod Foreseen
 pub mod Kept
 pub mod MapCrosses
 pub mod Mirrored
@@ -16,9 +19,12 @@ pub mod PutBy
 pub mod Reflects
 pub mod Seated
 pub mod Settled
+pub mod Shown
 pub mod Slots
 pub mod Steps
 pub mod Taking
 pub mod Texts
+pub mod Told
+pub mod Turned
 pub mod Unknown
 pub mod Viewed

@@ -19,7 +19,7 @@ use Rattle.rt_client.proofs.Reflects.{known-append}
 -- ---- steps that are not made
 
 -- a seat's call is never stale
-no_receipt : (w : World) (s : Step) (seat : ℕ) → is_stale w s ≡ true → receipts_to seat w s ≡ []
+pub no_receipt : (w : World) (s : Step) (seat : ℕ) → is_stale w s ≡ true → receipts_to seat w s ≡ []
 no_receipt w (Step.Listen own query) seat e = absurd (true≢false (sym e))
 no_receipt w (Step.Unlisten own n) seat e = absurd (true≢false (sym e))
 no_receipt w (Step.Write own action) seat e = absurd (true≢false (sym e))

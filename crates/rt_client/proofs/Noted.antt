@@ -1,7 +1,5 @@
 -- What receipts, settlements and cancellations leave of what is known of a seat.
 use Rattle.std.proofs.Common.{◌≡◌, ℕ, ◌<◌, Bool, true, false, cond, ◌&&◌, ◌||◌, ◌==◌, nat_le, not, List, [], ◌∷◌, ◌++◌, map, refl, sym, ap, ◌∙◌, arith, Option, Some, None}
-use mathlib.Core.Bool.{true≢false}
-use Rattle.std.specs.Cmp.{nat_eq_equiv}
 use Rattle.std.specs.List.{filter, filter_map, cons_option, fold, list_any, All}
 use Rattle.std.specs.Option.{option_map, option_map_or, option_eq}
 use Rattle.std.proofs.lemmas.List.Elements.{All-head, All-tail, All-filter, All-map, filter-append}
@@ -17,8 +15,10 @@ use Rattle.rt_world.specs.Sound.{Rises}
 use Rattle.rt_mail.specs.declared.item.Item.TheVariants as item
 use Rattle.rt_mail.specs.Mailbox.{Children, Known, known_of, with_listener, without_listener, with_request, without_request}
 use Rattle.rt_client.specs.Seats.{told_to, shown_by, is_of_seat}
-use Rattle.rt_client.proofs.Numbers.{has_number, or_false_left, or_false_right, same_number, other_number, not_above, both_swap, flip}
+use Rattle.rt_client.proofs.Ended as ended
+use Rattle.rt_client.proofs.Ended.{of_seat, without, of_seat-without, cancelled_left}
 use Rattle.rt_client.proofs.Filters.{filter-filter, filter-map, filter_same}
+use Rattle.rt_client.proofs.Numbers.{or_false_left, or_false_right, same_number, both_swap}
 
 -- a seat's listeners, and its requests
 abbrev pub rows_at : ℕ → List Listener → List (ℕ × Children)
@@ -124,7 +124,7 @@ without_again id ids = filter-filter (λ r. not (r == id)) (λ r. not (r == id))
     twice true = refl
     twice false = refl
 
-settled_told : (seat id : ℕ) (why : Option Reason) (r : Request) (rest : List Note)
+pub settled_told : (seat id : ℕ) (why : Option Reason) (r : Request) (rest : List Note)
     → told_to seat (cons_option (settled_note (id, why) r) rest) ≡ cond (is_due seat id r) (item.Settled id why ∷ told_to seat rest) (told_to seat rest)
 settled_told seat id why r rest =
     elim (r.id == id) as (λ b. told_to seat (cons_option (cond b (option_map (λ s. record { seat = s; body = body.Settled id why }) r.seat) None) rest)
@@ -203,99 +203,26 @@ cancelled_known seat why (x ∷ xs) m =
       | false ↦ cancelled_known seat why xs m
     ]
 
--- one whose number is not among them stays
-drops-other : (seat : ℕ) (xs : List Listener) (e : ℕ × Children) (known : List (ℕ × Children)) → has_number e.0 xs ≡ false → drops seat xs (e ∷ known) ≡ e ∷ drops seat xs known
-drops-other seat [] e known h = refl
-drops-other seat (x ∷ xs) e known h =
-    let apart : (x.number == e.0) ≡ false = or_false_left (x.number == e.0) (has_number e.0 xs) h in
-    let more = or_false_right (x.number == e.0) (has_number e.0 xs) h in
-    elim (x.seat == seat) as (λ b. drops seat xs (cond b (without_listener x.number (e ∷ known)) (e ∷ known)) ≡ e ∷ drops seat xs (cond b (without_listener x.number known) known)) [
-      | true ↦
-          ap (λ b. drops seat xs (cond (not b) (e ∷ without_listener x.number known) (without_listener x.number known))) (flip x.number e.0 apart)
-          ∙ drops-other seat xs e (without_listener x.number known) more
-      | false ↦ drops-other seat xs e known more
-    ]
-
--- a number below all others is none of theirs
-none_without : (n seat : ℕ) (ls : List Listener) → All (λ (m : Listener). n < m.number) ls → without_listener n (rows_at seat ls) ≡ rows_at seat ls
-none_without n seat [] h = refl
-none_without n seat (l ∷ ls) h =
-    let rest = none_without n seat ls (All-tail (λ (m : Listener). n < m.number) l ls h) in
-    let below : n < l.number = All-head (λ (m : Listener). n < m.number) l ls h in
-    let apart : (l.number == n) ≡ false = other_number l.number n (λ same. omega (arith, same, below)) in
-    elim (l.seat == seat) as (λ b. without_listener n (map shown_by (cond b (l ∷ filter (λ (l : Listener). l.seat == seat) ls) (filter (λ (l : Listener). l.seat == seat) ls))) ≡ map shown_by (cond b (l ∷ filter (λ (l : Listener). l.seat == seat) ls) (filter (λ (l : Listener). l.seat == seat) ls))) [
-      | true ↦ ap (λ b. cond (not b) (shown_by l ∷ without_listener n (rows_at seat ls)) (without_listener n (rows_at seat ls))) apart ∙ ap (λ z. shown_by l ∷ z) rest
-      | false ↦ rest
+-- of rows as of their listeners
+drops-rows : (seat : ℕ) (xs ls : List Listener) → drops seat xs (map shown_by ls) ≡ map shown_by (ended.drops seat xs ls)
+drops-rows seat [] ls = refl
+drops-rows seat (x ∷ xs) ls =
+    elim (x.seat == seat) as (λ b. drops seat xs (cond b (without_listener x.number (map shown_by ls)) (map shown_by ls)) ≡ map shown_by (ended.drops seat xs (cond b (without x.number ls) ls))) [
+      | true ↦ ap (drops seat xs) (filter-map (λ (e : ℕ × Children). not (e.0 == x.number)) shown_by ls) ∙ drops-rows seat xs (without x.number ls)
+      | false ↦ drops-rows seat xs ls
     ]
 
 -- those that have ended go, the others stay
 pub cancelled_rows : (seat : ℕ) (c : Listener → Bool) (ls : List Listener) → Rises ls → drops seat (filter c ls) (rows_at seat ls) ≡ rows_at seat (filter (λ l. not (c l)) ls)
-cancelled_rows seat c [] r = refl
-cancelled_rows seat c (l ∷ ls) r =
-    let rest = cancelled_rows seat c ls r.1 in
-    let fs = filter c ls in
-    let gs = filter (λ (l : Listener). not (c l)) ls in
-    let ys = filter (λ (l : Listener). l.seat == seat) ls in
-    let zs = filter (λ (l : Listener). l.seat == seat) gs in
-    elim (c l) as (λ a. drops seat (cond a (l ∷ fs) fs) (rows_at seat (l ∷ ls)) ≡ rows_at seat (cond (not a) (l ∷ gs) gs)) [
-      | true ↦ elim (l.seat == seat) as (λ b. drops seat fs (cond b (without_listener l.number (map shown_by (cond b (l ∷ ys) ys))) (map shown_by (cond b (l ∷ ys) ys))) ≡ map shown_by zs) [
-        | true ↦
-            ap (λ b. drops seat fs (cond (not b) (shown_by l ∷ without_listener l.number (rows_at seat ls)) (without_listener l.number (rows_at seat ls)))) (nat_eq_equiv.refl l.number)
-            ∙ ap (drops seat fs) (none_without l.number seat ls r.0) ∙ rest
-        | false ↦ rest
-      ]
-      | false ↦ elim (l.seat == seat) as (λ b. drops seat fs (map shown_by (cond b (l ∷ ys) ys)) ≡ map shown_by (cond b (l ∷ zs) zs)) [
-        | true ↦
-            drops-other seat fs (shown_by l) (rows_at seat ls) (not_above l.number fs (All-filter c (λ (m : Listener). l.number < m.number) ls r.0))
-            ∙ ap (λ z. shown_by l ∷ z) rest
-        | false ↦ rest
-      ]
-    ]
+cancelled_rows seat c ls r = drops-rows seat (filter c ls) (of_seat seat ls) ∙ ap (map shown_by) (cancelled_left seat c ls r)
 
 -- ---- a listener that its seat ends
 
 -- the seat's own listeners without that number
 pub unlistened_own : (seat n : ℕ) (ls : List Listener) → without_listener n (rows_at seat ls) ≡ rows_at seat (filter (λ l. not (l.number == n)) ls)
-unlistened_own seat n ls =
-    filter-map (λ x. not (x.0 == n)) shown_by (filter (λ (l : Listener). l.seat == seat) ls)
-    ∙ ap (map shown_by) (filter-filter (λ (l : Listener). not (l.number == n)) (λ (l : Listener). l.seat == seat) ls
-    ∙ filter_same _ _ ls (λ l. both_swap (l.seat == seat) (not (l.number == n)))
-    ∙ sym (filter-filter (λ (l : Listener). l.seat == seat) (λ (l : Listener). not (l.number == n)) ls))
-
--- where none has the number, none goes
-none_goes : (n : ℕ) (ls : List Listener) → has_number n ls ≡ false → filter (λ (l : Listener). not (l.number == n)) ls ≡ ls
-none_goes n [] h = refl
-none_goes n (l ∷ ls) h =
-    ap (λ b. cond (not b) (l ∷ filter (λ (m : Listener). not (m.number == n)) ls) (filter (λ (m : Listener). not (m.number == n)) ls)) (or_false_left (l.number == n) (has_number n ls) h)
-    ∙ ap (λ z. l ∷ z) (none_goes n ls (or_false_right (l.number == n) (has_number n ls) h))
-
--- so no listener of that number and seat is there
-no_number : (n own : ℕ) (ls : List Listener) → has_number n ls ≡ false → list_any (λ (l : Listener). l.number == n && l.seat == own) ls ≡ false
-no_number n own [] h = refl
-no_number n own (l ∷ ls) h =
-    ap (λ b. (b && l.seat == own) || list_any (λ (m : Listener). m.number == n && m.seat == own) ls) (or_false_left (l.number == n) (has_number n ls) h)
-    ∙ no_number n own ls (or_false_right (l.number == n) (has_number n ls) h)
+unlistened_own seat n ls = filter-map (λ (e : ℕ × Children). not (e.0 == n)) shown_by (of_seat seat ls) ∙ ap (map shown_by) (of_seat-without seat n ls)
 
 -- where it is another seat's, no listener of the seat goes
-pub unlistened_other : (seat own n : ℕ) (ls : List Listener) → (own == seat) ≡ false → Rises ls → list_any (λ (l : Listener). l.number == n && l.seat == own) ls ≡ true
+pub unlistened_other : (seat other n : ℕ) (ls : List Listener) → (other == seat) ≡ false → Rises ls → list_any (λ (l : Listener). l.number == n && l.seat == other) ls ≡ true
     → rows_at seat (filter (λ l. not (l.number == n)) ls) ≡ rows_at seat ls
-unlistened_other seat own n [] e r h = absurd (true≢false (sym h))
-unlistened_other seat own n (l ∷ ls) e r h =
-    let gs = filter (λ (m : Listener). not (m.number == n)) ls in
-    elim (l.number == n) as (λ a. (l.number == n) ≡ a → ((a && l.seat == own) || list_any (λ (m : Listener). m.number == n && m.seat == own) ls) ≡ true
-    → rows_at seat (cond (not a) (l ∷ gs) gs) ≡ rows_at seat (l ∷ ls)) [
-      | true ↦ λ t.
-          let none : has_number n ls ≡ false = ap (λ k. has_number k ls) (sym (same_number l.number n t)) ∙ not_above l.number ls r.0 in
-          λ h. elim (l.seat == own) as (λ b. (l.seat == own) ≡ b → (b || list_any (λ (m : Listener). m.number == n && m.seat == own) ls) ≡ true → rows_at seat gs ≡ rows_at seat (l ∷ ls)) [
-            | true ↦ λ o g.
-                ap (rows_at seat) (none_goes n ls none)
-                ∙ sym (ap (λ b. map shown_by (cond b (l ∷ filter (λ (m : Listener). m.seat == seat) ls) (filter (λ (m : Listener). m.seat == seat) ls))) (ap (λ k. k == seat) (same_number l.seat own o) ∙ e))
-            | false ↦ λ o g. absurd (true≢false (sym g ∙ no_number n own ls none))
-          ] refl h
-      | false ↦ λ t h.
-          let rest = unlistened_other seat own n ls e r.1 h in
-          elim (l.seat == seat) as (λ b. map shown_by (cond b (l ∷ filter (λ (m : Listener). m.seat == seat) gs) (filter (λ (m : Listener). m.seat == seat) gs)) ≡ map shown_by (cond b (l ∷ filter (λ (m : Listener). m.seat == seat) ls) (filter (λ (m : Listener). m.seat == seat) ls))) [
-            | true ↦ ap (λ z. shown_by l ∷ z) rest
-            | false ↦ rest
-          ]
-    ] refl h
+unlistened_other seat other n ls e r h = ap (map shown_by) (ended.unlistened_left seat other n ls e r h)

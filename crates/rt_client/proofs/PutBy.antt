@@ -18,7 +18,7 @@ use Rattle.rt_client.proofs.Followed.{opened, same_lane, here, stays_open, lane_
 use Rattle.rt_client.proofs.Numbers.{other_number}
 
 -- what stands behind the same is the same
-same_rest : {X : Type 0} (xs ys zs : List X) → xs ++ ys ≡ xs ++ zs → ys ≡ zs
+pub same_rest : {X : Type 0} (xs ys zs : List X) → xs ++ ys ≡ xs ++ zs → ys ≡ zs
 same_rest [] ys zs e = e
 same_rest (x ∷ xs) ys zs e = same_rest xs ys zs (ap (drop 1) e)
 
@@ -79,10 +79,10 @@ by_number : (b : Bool) (o : Option Line) (lane : Line) → cond b o None ≡ Som
 by_number true o lane e = (refl, e)
 by_number false o lane e = absurd (cc)
 
-lane_there : (locked : Locked) (held : Held) (seat : Seated) (lane : Line) → IsOpen locked held seat lane → lane_of held.lanes seat.number ≡ Some lane
+pub lane_there : (locked : Locked) (held : Held) (seat : Seated) (lane : Line) → IsOpen locked held seat lane → lane_of held.lanes seat.number ≡ Some lane
 lane_there locked held seat lane o = (by_number (seat.client == locked.number) (lane_of held.lanes seat.number) lane o.own).1
 
-open_again : (old new : Locked) (held after : Held) (seat : Seated) (lane left : Line) → IsOpen old held seat lane → new.number ≡ old.number → new.held ≡ Some after
+pub open_again : (old new : Locked) (held after : Held) (seat : Seated) (lane left : Line) → IsOpen old held seat lane → new.number ≡ old.number → new.held ≡ Some after
     → lane_of after.lanes seat.number ≡ Some left → IsOpen new after seat left
 open_again old new held after seat lane left o same is now =
     let owns : (seat.client == old.number) ≡ true = (by_number (seat.client == old.number) (lane_of held.lanes seat.number) lane o.own).0 in
@@ -94,7 +94,7 @@ open_again old new held after seat lane left o same is now =
           ∙ now;
     }
 
-no_receipt : (w : World) (s : Step) → caller_of s ≡ None → receipt_of w s ≡ None
+pub no_receipt : (w : World) (s : Step) → caller_of s ≡ None → receipt_of w s ≡ None
 no_receipt w (Step.Listen seat query) e = absurd (cc)
 no_receipt w (Step.Unlisten seat listener) e = absurd (cc)
 no_receipt w (Step.Write seat action) e = absurd (cc)
@@ -109,14 +109,14 @@ no_receipt w Step.Disconnected e = refl
 no_receipt w (Step.CloseSeat seat) e = refl
 
 -- a lane that is told notes alone
-lane_told : (n : ℕ) (w : World) (s : Step) (report : Report) (lane : Line) → does_close n s ≡ false → signed_by n (receipt_of w s) lane ≡ lane
+pub lane_told : (n : ℕ) (w : World) (s : Step) (report : Report) (lane : Line) → does_close n s ≡ false → signed_by n (receipt_of w s) lane ≡ lane
     → lane_after n w s (Ok report) (Some lane) ≡ Some (with_told (told_to n report.notes) lane)
 lane_told n w s report lane stays unsigned =
     let notes = told_to n report.notes in
     ap (λ b. cond b None (Some (with_told notes (signed_by n (receipt_of w s) lane)))) stays ∙ ap (λ l. Some (with_told notes l)) unsigned
 
 -- the lane that is held is the one that is known
-held_lane : (old : Locked) (one before : Held) (seat : Seated) (lane : Line) → IsOpen old one seat lane → old.held ≡ Some before
+pub held_lane : (old : Locked) (one before : Held) (seat : Seated) (lane : Line) → IsOpen old one seat lane → old.held ≡ Some before
     → lane_of before.lanes seat.number ≡ Some lane
 held_lane old one before seat lane o held =
     let same : one ≡ before = cc (o.held, held) in

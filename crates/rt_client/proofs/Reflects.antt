@@ -32,7 +32,8 @@ use Rattle.rt_mail.specs.declared.receipt.Receipt.{Receipt}
 use Rattle.rt_mail.specs.declared.receipt.Receipt.TheVariants as receipt
 use Rattle.rt_mail.specs.Mailbox.{Known, taken, known_of, signed, with_request, without_listener}
 use Rattle.rt_client.specs.Seats.{item_of, told_to, shown_by, receipts_to, reflection, does_close}
-use Rattle.rt_client.proofs.Batches.{KeepsOne, due, batches_played, batches_turn}
+use Rattle.rt_client.proofs.Batches.{batches_played, batches_turn}
+use Rattle.rt_client.proofs.Turned.{KeepsOne, due}
 use Rattle.rt_client.proofs.Filters.{filter-filter, filter_same}
 use Rattle.rt_client.proofs.Noted.{rows_at, ids_at, rows_at-append, ids_at-append, with_listener-last, with_request-last, rows_below, ids_below, ids-unseated, settled_known, settled_ids, cancelled_note, cancelled_known, cancelled_rows, unlistened_own, unlistened_other}
 use Rattle.rt_client.proofs.Numbers.{flip, or_false_left, one_seat, Rises-filter, Rises-push}
@@ -137,7 +138,7 @@ close_known w seat own closed i = record {
 -- ---- up to the batches
 
 -- the listener that a seat ends is its own
-own_listener : (w : World) (own n : ℕ) → is_unknown_listener w (Step.Unlisten own n) ≡ false → list_any (λ (l : Listener). l.number == n && l.seat == own) w.listeners ≡ true
+pub own_listener : (w : World) (own n : ℕ) → is_unknown_listener w (Step.Unlisten own n) ≡ false → list_any (λ (l : Listener). l.number == n && l.seat == own) w.listeners ≡ true
 own_listener w own n e = turn (list_any (λ (l : Listener). l.number == n && l.seat == own) w.listeners) e
   where
     turn : (b : Bool) → not b ≡ false → b ≡ true
@@ -167,13 +168,13 @@ notes_reflect w (Step.CloseSeat own) seat h known closed = close_known w seat ow
 -- ---- the batches
 
 -- one that is not primed has no view
-abbrev IsBlank : Listener → Type 0
+abbrev pub IsBlank : Listener → Type 0
 IsBlank l = l.is_primed ≡ false → l.view ≡ None
 
 blank_listeners : (w : World) → IsSound w → All IsBlank w.listeners
 blank_listeners w h = All-weaker (λ (l : Listener). l.view ≡ view_by l.is_primed w l.query) IsBlank (λ l e p. e ∙ ap (λ b. view_by b w l.query) p) w.listeners h.views
 
-blank_after : (w : World) (s : Step) → IsSound w → All IsBlank (listeners_after w s)
+pub blank_after : (w : World) (s : Step) → IsSound w → All IsBlank (listeners_after w s)
 blank_after w (Step.Listen seat query) h = All-push IsBlank w.listeners (new_listener w seat query) (blank_listeners w h) (λ p. refl)
 blank_after w (Step.Unlisten seat n) h = All-filter (λ (l : Listener). not (l.number == n)) IsBlank w.listeners (blank_listeners w h)
 blank_after w (Step.Write seat action) h = blank_listeners w h
@@ -187,7 +188,7 @@ blank_after w Step.Connected h = blank_listeners w h
 blank_after w Step.Disconnected h = blank_listeners w h
 blank_after w (Step.CloseSeat seat) h = All-filter (λ (l : Listener). not (l.seat == seat)) IsBlank w.listeners (blank_listeners w h)
 
-rises_after : (w : World) (s : Step) → IsSound w → Rises (listeners_after w s)
+pub rises_after : (w : World) (s : Step) → IsSound w → Rises (listeners_after w s)
 rises_after w (Step.Listen seat query) h = Rises-push w.next_listener w.listeners (new_listener w seat query) refl h.below h.rises
 rises_after w (Step.Unlisten seat n) h = Rises-filter (λ (l : Listener). not (l.number == n)) w.listeners h.rises
 rises_after w (Step.Write seat action) h = h.rises

@@ -11,8 +11,8 @@
 --     Opened      a client as it is opened, and its seats
 --     Waiting     what a seat's thread waits for, and what it gets
 -- laws/ has that what a seat is told keeps it up to date (Reflecting), that what the lock keeps is kept
--- (Keeping), that a mirror follows a lane (Following), what goes to threads (Crossing), and what the prover
--- computes of literals (Examples, Telling);
+-- (Keeping), that a mirror follows a lane (Following), what snapshots show (Showing), what goes to threads
+-- (Crossing), and what the prover computes of literals (Examples, Telling);
 -- inside/ what only the code's own functions need.
 pub mod Calls
 pub mod Codes

@@ -4,4 +4,5 @@ pub mod Examples
 pub mod Following
 pub mod Keeping
 pub mod Reflecting
+pub mod Showing
 pub mod Telling

@@ -4,6 +4,7 @@
 ghost use Rattle.rt_client.specs.laws.Telling.{FirstIsTold, SecondIsTold, FirstIsKnown};
 ghost use Rattle.rt_client.specs.laws.Telling.{SecondIsKnown, RefusedIsNotTold};
 ghost use Rattle.rt_client.specs.laws.Telling.{NotUntold, NotHalfTold, NotTheOthers, NotTooEarly};
+ghost use Rattle.rt_client.specs.laws.Telling.{FirstIsShown, NotShown};
 
 /// What two seats are told of one listener and one write, and what the core knows of them then.
 pub fn telling_examples()
@@ -21,4 +22,11 @@ pub fn telling_refutations()
     ensures half { NotHalfTold }
     ensures others { NotTheOthers }
     ensures early { NotTooEarly }
+{}
+
+/// What snapshots show of the first seat's listener, by what it is told and by the core; and tellings after
+/// which they would not.
+pub fn showing_examples()
+    ensures first { FirstIsShown }
+    ensures refuted { NotShown }
 {}

@@ -38,7 +38,8 @@
 //!
 //! A seat is told of each step its own call's receipt and then its notes. One who takes all of that,
 //! in order, knows after any steps just what the core knows of the seat: its listeners with the rows
-//! of their views, and its unsettled requests, by the law `mirror_law`.
+//! of their views, and its unsettled requests, by the law `mirror_law`. Snapshots that take it show of each
+//! of the seat's listeners the query and the view that the core has, by the law `showing_law`.
 #![tactic(auto)]
 
 mod calls;
@@ -60,6 +61,7 @@ mod opening;
 mod reflecting;
 mod seat;
 mod shared;
+mod showing;
 mod waiting;
 
 pub use client::Client;
@@ -78,3 +80,4 @@ pub use rt_wire::Action;
 pub use rt_world::Call;
 pub use seat::Seat;
 pub use shared::{Shared, Uncalled, try_call, with_core, with_seat};
+pub use showing::showing_law;

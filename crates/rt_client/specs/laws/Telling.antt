@@ -14,7 +14,10 @@ use Rattle.rt_mail.specs.declared.item.Item.{Item}
 use Rattle.rt_mail.specs.declared.item.Item.TheVariants as item
 use Rattle.rt_mail.specs.declared.receipt.Receipt.TheVariants.{Listened, Wrote}
 use Rattle.rt_mail.specs.Mailbox.{Known, nothing_known, known_of}
+use Rattle.rt_snapshots.specs.Snapshots.{after_items}
+use Rattle.rt_snapshots.specs.Snapshots.{Known as Shown}
 use Rattle.rt_client.specs.Seats.{reflection, told_by, told_in}
+use Rattle.rt_client.specs.laws.Showing.{seen_in}
 
 -- ---- two seats
 
@@ -113,3 +116,27 @@ NotTooEarly =
     (known_of nothing_known (x_comes ∷ listened ∷ y_comes ∷ []) ≢ first_known)
     × (known_of nothing_known (item.Settled 1 None ∷ wrote ∷ [])
     ≢ nothing_known)
+
+-- ---- what is shown
+
+-- the first seat's snapshots show its listener with the query and the tree of its view, as the core does
+abbrev pub first_shown : Shown
+first_shown = (
+  1,
+  record {
+    query = at_a;
+    value = Some (object ((codes "x", num 1) ∷ (codes "y", num 2) ∷ []));
+  },
+) ∷ []
+
+abbrev pub FirstIsShown : Type 0
+FirstIsShown =
+    (after_items [] first_told ≡ first_shown)
+    × (seen_in (world_after fresh accepted) 1 ≡ first_shown)
+
+-- they don't where they are told nothing, half of it, or of a change before the receipt
+abbrev pub NotShown : Type 0
+NotShown =
+    (after_items [] [] ≢ first_shown)
+    × (after_items [] (listened ∷ x_comes ∷ []) ≢ first_shown)
+    × (after_items [] (y_comes ∷ listened ∷ []) ≢ first_shown)
