@@ -1,7 +1,6 @@
 -- The batches of a step, played over what is known of a seat.
 use Rattle.std.proofs.Common.{◌≡◌, ℕ, true, false, cond, ◌==◌, List, [], ◌∷◌, map, refl, sym, ap, ◌∙◌, Some, None}
 use Rattle.std.specs.List.{filter, filter_map, cons_option, All}
-use Rattle.rt_view.specs.declared.change.Change.{Change}
 use Rattle.rt_view.specs.Changes.{replay, by_keys, rows_in}
 use Rattle.rt_world.specs.declared.report.Note.{Note}
 use Rattle.rt_world.specs.World.{Listener}

@@ -1,5 +1,5 @@
 -- Snapshots that take what is handed over to their seat foresee what the core shows.
-use Rattle.std.proofs.Common.{◌≡◌, ◌≢◌, ℕ, zero, suc, ◌<◌, ◌≤◌, Bool, true, false, cond, ◌==◌, List, [], ◌∷◌, ◌++◌, map, take, drop, replicate, refl, sym, ap, subst, ◌∙◌, arith, IfSome, Option, Some, None, Ok}
+use Rattle.std.proofs.Common.{◌≡◌, ℕ, zero, suc, ◌≤◌, Bool, true, false, cond, ◌==◌, List, [], ◌∷◌, ◌++◌, map, take, drop, replicate, refl, sym, ap, subst, ◌∙◌, arith, IfSome, Some, None, Ok}
 use Rattle.std.specs.Cmp.{nat_eq_equiv}
 use Rattle.std.specs.List.{filter, find, All}
 use Rattle.std.specs.Map.{lookup}
@@ -27,20 +27,20 @@ use Rattle.rt_mail.specs.declared.item.Item.TheVariants as item
 use Rattle.rt_mail.specs.declared.receipt.Receipt.{Receipt}
 use Rattle.rt_mail.specs.Lanes.{Line, signed_lane}
 use Rattle.rt_snapshots.specs.Laws.{SelectsAgain}
-use Rattle.rt_snapshots.specs.Snapshots.{Seen, Known, shown_of, seen_of, after_item, after_items}
+use Rattle.rt_snapshots.specs.Snapshots.{Known, shown_of, seen_of, after_item, after_items}
 use Rattle.rt_client.specs.declared.done.Done.{Done}
-use Rattle.rt_client.specs.Seats.{receipt_of, receipts_to, told_by, told_to, caller_of, does_close, shown_by, reflection}
+use Rattle.rt_client.specs.Seats.{receipt_of, receipts_to, told_by, told_to, does_close, shown_by, reflection}
 use Rattle.rt_client.specs.Lanes.{new_lane, lane_of, due, settled, with_told}
 use Rattle.rt_client.specs.Shared.{Held, IsWhole, lane_after, signed_by}
-use Rattle.rt_client.specs.Calls.{Locked, Seated, IsOpen, Made, MakesOn}
-use Rattle.rt_client.specs.Opened.{new_locked, OpensSeat}
-use Rattle.rt_client.specs.laws.Showing.{seen_by, seen_in, StepShows, Foresees, ForeseesAtFirst, ForeseesWhatIsOpened, ForeseesWhatSettles, ForeseesWhatIsCalled, ForeseesSteps, ForeseesAnothersCall, ForeseesAnothersSettling, ForeseesAnothersEnd, ForeseesMessages, ForeseesOpenings, ForeseesWhatStays, ShowsCore, ShowsAll}
+use Rattle.rt_client.specs.Calls.{Locked, Seated, Made}
+use Rattle.rt_client.specs.Opened.{new_locked}
+use Rattle.rt_client.specs.laws.Showing.{seen_by, seen_in, StepShows, Foresees, ForeseesAtFirst, ForeseesWhatIsOpened, ForeseesWhatSettles, ForeseesWhatIsCalled, ForeseesSteps, ForeseesAnothersCall, ForeseesAnothersSettling, ForeseesAnothersEnd, ForeseesMessages, ForeseesOpenings, ForeseesWhatStays, ShowsAll}
 use Rattle.rt_client.proofs.Entries.{is_at-number}
 use Rattle.rt_client.proofs.Followed.{opened, same_lane, here, stays_open, lane_called}
 use Rattle.rt_client.proofs.Kept.{take_drop}
 use Rattle.rt_client.proofs.Mirrored.{sound_by}
-use Rattle.rt_client.proofs.Numbers.{same_number, other_number}
-use Rattle.rt_client.proofs.PutBy.{same_rest, lane_there, open_again, held_lane, lane_told, no_receipt}
+use Rattle.rt_client.proofs.Numbers.{other_number}
+use Rattle.rt_client.proofs.PutBy.{same_rest, open_again, held_lane, lane_told, no_receipt}
 
 one_of : {X : Type 0} {x y : X} → Some x ≡ Some y → x ≡ y
 one_of e = cc

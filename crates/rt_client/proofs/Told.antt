@@ -1,12 +1,11 @@
 -- What receipts, cancellations and batches leave of what snapshots show.
 use Rattle.std.proofs.Common.{◌≡◌, ℕ, ◌<◌, ◌-◌, suc, Bool, true, false, cond, not, ◌||◌, ◌==◌, List, [], ◌∷◌, ◌++◌, map, length, is_some, refl, sym, ap, ◌∙◌, arith, Option, Some, None}
 use Rattle.std.specs.BTreeMap.{insert_entry}
-use Rattle.std.specs.List.{filter, filter_map, cons_option, fold, slice_get, All}
+use Rattle.std.specs.List.{filter_map, cons_option, slice_get, All}
 use Rattle.std.specs.Option.{option_map, option_map_or, option_and_then}
 use Rattle.std.specs.Ordering.{nat_cmp}
 use Rattle.std.proofs.lemmas.List.{map-append}
 use Rattle.std.proofs.lemmas.List.Elements.{All-filter, All-map, filter-append}
-use Rattle.rt_tree.specs.PathTree.{PathTree}
 use Rattle.rt_order.specs.declared.index.Index.{Index}
 use Rattle.rt_query.specs.Queries.{Query}
 use Rattle.rt_query.specs.Select.{Shown, tree_of}
@@ -16,21 +15,19 @@ use Rattle.rt_cache.specs.Brought.{Brought, base}
 use Rattle.rt_view.specs.declared.change.Change.{Change}
 use Rattle.rt_view.specs.Changes.{changes, last_change, Turns}
 use Rattle.rt_view.specs.laws.Changes.{ChangesTurn}
-use Rattle.rt_world.specs.declared.report.Note.{Note}
 use Rattle.rt_world.specs.declared.request.Request.{Request}
 use Rattle.rt_world.specs.World.{Reason, Listener}
 use Rattle.rt_world.specs.Views.{is_known, view_of, seen_over}
 use Rattle.rt_world.specs.After.{renewed}
 use Rattle.rt_world.specs.Answers.{settled_note, batch_note, batch_from}
 use Rattle.rt_world.specs.Sound.{Rises}
-use Rattle.rt_mail.specs.declared.item.Item.{Item}
 use Rattle.rt_mail.specs.declared.item.Item.TheVariants as item
-use Rattle.rt_snapshots.specs.Snapshots.{Seen, Known, seen_of, begun, ended, shows, tree_in, tree_told, with_tree, after_item, after_items}
+use Rattle.rt_snapshots.specs.Snapshots.{Seen, Known, begun, ended, shows, tree_in, tree_told, with_tree, after_items}
 use Rattle.rt_client.specs.Seats.{told_to}
 use Rattle.rt_client.specs.laws.Showing.{seen_by}
 use Rattle.rt_client.proofs.Batches.{batches}
 use Rattle.rt_client.proofs.Ended.{of_seat, without, of_seat-without, drops}
-use Rattle.rt_client.proofs.Entries.{Up, Up-filter, Up-map, lookup-above, insert-above, remove-one, changed, changed-number, set-one}
+use Rattle.rt_client.proofs.Entries.{Up, Up-map, lookup-above, insert-above, remove-one, changed, changed-number, set-one}
 use Rattle.rt_client.proofs.Filters.{filter-map}
 use Rattle.rt_client.proofs.Noted.{is_due, settled_told, cancelled_note}
 use Rattle.rt_client.proofs.Numbers.{or_false_left, Rises-filter}
