@@ -7,8 +7,7 @@ Usage: tools/examples.py            says what is wrong with them, and fails wher
   page      crates/kaltewi/src: its root hands on names of its modules alone, and a module those of the crates below, one `pub use` after another
   examples  above each `pub use` stands one, in a block of ```rust, and names each name that is handed on
   quotes    each item of it, a function, a type or an impl, is word for word one of the program's module of the same name, without its comment
-  calls     each public call with a `///` of a type that is handed on is made in an example, but for `copy`, which all types have alike, and
-            those of WITHOUT
+  calls     each public call with a `///` of a type that is handed on is made in an example, but for `copy`, which all types have alike
 """
 import os
 import re
@@ -19,10 +18,6 @@ from pages import read, sources
 
 ROOT = os.path.realpath(f"{os.path.dirname(os.path.realpath(__file__))}/..")
 PAGE, PROGRAM = "crates/kaltewi/src", "crates/example_calls/src"
-WITHOUT = {
-    "Tree::object": "has a condition on what the children are",
-    "OrdMap::from_sorted": "has a condition on what the entries are",
-}
 BLOCK = re.compile(r"(?m)^/// ```rust\n((?:^///.*\n)*?)^/// ```\n")
 HANDED_ON = re.compile(r"(?m)((?:^///.*\n)*)^pub use (?:(\w+)::)(?:\{([^}]*)\}|(\w+));")
 HEAD = re.compile(r"(?:pub(?:\(crate\))? )?((?:fn|struct|enum|const|trait) \w+|impl.*? for \w+)")
@@ -112,7 +107,7 @@ def wrong_calls(root, page):
                 texts = [read(it) for it in sources(root, home_of(root, crate, name))]
                 for call in sorted(set(calls_of(texts, name)) - {"copy"}):
                     is_made = re.search(rf"(?:\.|\b{name}::){call}\(", said)
-                    if not is_made and f"{name}::{call}" not in WITHOUT:
+                    if not is_made:
                         yield f"{module}: {name}::{call} has no example"
 
 

@@ -131,6 +131,11 @@ fn object(alloc: Global, key: Key, child: Tree) -> Result<Tree, TreeError> {
     Tree::from_children(alloc, vec![in alloc; (key, child)]?)
 }
 
+// The object of a map of children, none of which is null, as is proved of the caller; null where there are none.
+fn childless(alloc: Global) -> Result<Tree, AllocError> {
+    Ok(Tree::object(OrdMap::new(alloc)?))
+}
+
 // The children of an object are a map in the order of their keys' bytes.
 fn count(tree: &Tree) -> usize {
     tree.children().map_or(0, |children| children.len())
@@ -141,6 +146,11 @@ fn map(alloc: Global, key: Key, tree: Tree) -> Result<OrdMap<Key, Tree>, AllocEr
     let mut children = OrdMap::new(alloc)?;
     children.insert(alloc, key, tree)?;
     Ok(children)
+}
+
+// A map of entries whose keys rise: they are moved, and none is compared. That they rise is proved of the caller.
+fn sorted(alloc: Global, key: Key, tree: Tree) -> Result<OrdMap<Key, Tree>, AllocError> {
+    OrdMap::from_sorted(alloc, vec![in alloc; (key, tree)]?)
 }
 
 fn take(children: &mut OrdMap<Key, Tree>, key: &Key) -> Result<Option<Tree>, AllocError> {
@@ -209,13 +219,22 @@ fn show_map(rt: &impl Print, children: &mut OrdMap<Key, Tree>, key: &Key) -> Res
 
 fn show_object(rt: &impl Print, alloc: Global, key: &Key) -> Result<()> {
     let object = object(alloc, key.copy()?, Tree::leaf(seven()?))?;
-    println!(rt; "{} child", count(&object))?;
+    println!(rt;
+        "{} child, {} of none",
+        count(&object),
+        count(&childless(alloc)?)
+    )?;
     show_tree(rt, alloc, &object)
 }
 
 fn show_made(rt: &impl Print, alloc: Global, key: &Key) -> Result<()> {
     show_object(rt, alloc, key)?;
     show_map(rt, &mut map(alloc, key.copy()?, Tree::leaf(seven()?))?, key)?;
+    show_map(
+        rt,
+        &mut sorted(alloc, key.copy()?, Tree::leaf(seven()?))?,
+        key,
+    )?;
     show_entries(rt, entries(alloc, path(alloc, key)?, Tree::null())?)
 }
 

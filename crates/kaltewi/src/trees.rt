@@ -110,6 +110,10 @@ pub use rt_tree::LeafRef;
 ///     Tree::from_children(alloc, vec![in alloc; (key, child)]?)
 /// }
 ///
+/// fn childless(alloc: Global) -> Result<Tree, AllocError> {
+///     Ok(Tree::object(OrdMap::new(alloc)?))
+/// }
+///
 /// fn count(tree: &Tree) -> usize {
 ///     tree.children().map_or(0, |children| children.len())
 /// }
@@ -147,6 +151,10 @@ pub use rt_tree::Tree;
 ///     let mut children = OrdMap::new(alloc)?;
 ///     children.insert(alloc, key, tree)?;
 ///     Ok(children)
+/// }
+///
+/// fn sorted(alloc: Global, key: Key, tree: Tree) -> Result<OrdMap<Key, Tree>, AllocError> {
+///     OrdMap::from_sorted(alloc, vec![in alloc; (key, tree)]?)
 /// }
 ///
 /// fn take(children: &mut OrdMap<Key, Tree>, key: &Key) -> Result<Option<Tree>, AllocError> {
