@@ -1,5 +1,6 @@
 -- What goes between a wire and a client, joined.
-use Rattle.std.proofs.Common.{◌≡◌, ◌≤◌, ◌<◌, ◌+◌, ℕ, List, [], ◌∷◌, ◌++◌, length, take, Option, Some, None, refl, sym, ap}
+use Rattle.std.proofs.Common.{◌≡◌, ◌≤◌, ◌<◌, ◌+◌, ℕ, List, [], ◌∷◌, ◌++◌, length, take, Option, Some, None}
+use Rattle.std.proofs.Common.{refl, sym, ap}
 use Rattle.std.proofs.Common.{subst, ◌∙◌, append_assoc, add-zero, get_or, Result}
 use Rattle.std.proofs.lemmas.Grind.{flat_map-append}
 use Rattle.std.proofs.lemmas.List.{length-append, map_more}
@@ -8,7 +9,8 @@ use Rattle.rt_wire.specs.ClientData.{client_data}
 use Rattle.rt_wire.specs.declared.client.ClientMessage.{ClientMessage}
 use Rattle.rt_wire.specs.declared.error.WireError.{WireError}
 use Rattle.rt_wire.specs.declared.server.ServerMessage.{ServerMessage}
-use Rattle.rt_link.specs.Wires.{Gives, IsPause, Reads, ReadsMost, Takes, given_by, read_all, read_of, said_by, texts_of}
+use Rattle.rt_link.specs.Wires.{Gives, IsPause, Reads, ReadsMost, Takes}
+use Rattle.rt_link.specs.Wires.{given_by, read_all, read_of, said_by, texts_of}
 use Rattle.rt_link.specs.inside.Rounds.{PausesBy, given_count}
 use Rattle.rt_link.specs.declared.batch.Pause.{Pause}
 use Rattle.rt_link.specs.declared.batch.Pause.TheVariants as pause
@@ -40,7 +42,8 @@ reads_more m n k a b c had has heard r g count grown sum = record {
   many = length-append r.given (given_by heard) ∙ ap (λ x. x + length (given_by heard)) r.many
       ∙ ap (λ x. m + x) count ∙ sum;
   gave = gives_more a b c r.given (given_by heard) r.gave g;
-  read = grown ∙ ap (λ x. x ++ read_of heard) r.read ∙ ap (λ x. read_all r.given ++ x) (sym (read_given heard))
+  read = grown ∙ ap (λ x. x ++ read_of heard) r.read
+      ∙ ap (λ x. read_all r.given ++ x) (sym (read_given heard))
       ∙ sym (flat_map-append read_of r.given (given_by heard));
 }
 
@@ -52,9 +55,11 @@ pauses pause.More most count told le h = absurd h
 pauses (pause.Ended why) most count told le h = (le, h)
 
 -- no more is read, since the wire said so
-pub reads_end : (most count : ℕ) (a b c : Option (List Heard)) (had has : List (Result ServerMessage WireError))
-    (heard : Heard) (end : Pause) (told : Said) → Reads count a b had → count ≤ most → Gives b c (given_by heard)
-    → length (given_by heard) ≡ given_count (Some end) → PausesBy (Some end) (said_by heard) → told ≡ said_by heard
+pub reads_end : (most count : ℕ) (a b c : Option (List Heard))
+    (had has : List (Result ServerMessage WireError))
+    (heard : Heard) (end : Pause) (told : Said) → Reads count a b had → count ≤ most
+    → Gives b c (given_by heard) → length (given_by heard) ≡ given_count (Some end)
+    → PausesBy (Some end) (said_by heard) → told ≡ said_by heard
     → has ≡ had ++ read_of heard → ReadsMost end most told a c has
 reads_end most count a b c had has heard end told r le g none h is grown = (
   count,
@@ -77,5 +82,6 @@ takes_next a b c all i m text inside is said had has =
     let next : compact_text (client_data (get_or all i m)) ≡ text =
     ap (λ x. compact_text (client_data x)) (sym is) ∙ sym said in
     subst (λ xs. Takes a c xs)
-    (sym (map_more (λ x. compact_text (client_data x)) all i m inside ∙ ap (λ t. texts_of (take i all) ++ t ∷ []) next))
+    (sym (map_more (λ x. compact_text (client_data x)) all i m inside
+    ∙ ap (λ t. texts_of (take i all) ++ t ∷ []) next))
     (takes_more a b c (texts_of (take i all)) (text ∷ []) had has)

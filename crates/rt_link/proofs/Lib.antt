@@ -1,2 +1,4 @@
+pub mod Crosses
 pub mod Joining
+pub mod Leaving
 pub mod Taken

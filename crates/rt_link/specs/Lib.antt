@@ -4,8 +4,12 @@
 --     Hearing    what a read, a write and a flush of a WebSocket say
 --     Waiting    how long a silent server is waited for
 --     Turning    what a turn of a connection leaves to be done
+--     Carrying   where a connection stands, and what a turn and a close make of that
+-- laws/ has what goes to threads (Crossing).
+pub mod Carrying
 pub mod Hearing
 pub mod inside
+pub mod laws
 pub mod Taking
 pub mod Turning
 pub mod Waiting

@@ -8,7 +8,7 @@ use Rattle.rt_link.specs.declared.connection.Turn.{Turn}
 use Rattle.rt_link.specs.declared.connection.Turn.TheVariants as turn
 use Rattle.rt_link.specs.declared.error.LinkFault.{LinkFault}
 use Rattle.rt_link.specs.declared.error.LinkFault.TheVariants.{NoMemory}
-use Rattle.rt_link.specs.declared.link.Ending.TheVariants as ending
+use Rattle.rt_link.specs.declared.link.LinkEnd.TheVariants as ending
 use Rattle.rt_link.specs.declared.link.Next.{Next}
 use Rattle.rt_link.specs.declared.link.Next.TheVariants.{GoOn, Sleep, End}
 use Rattle.rt_link.specs.declared.lost.Lost.{Lost}

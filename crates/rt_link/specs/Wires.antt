@@ -63,8 +63,8 @@ IsPause pause.More most count told = count ≡ most
 IsPause (pause.Ended why) most count told = (count ≤ most) × (told ≡ said.Ended)
 
 -- these messages are what a wire gave
-pub record Reads (count : ℕ) (had has : Option (List Heard)) (messages : List (Result ServerMessage WireError))
-    : Type 0 where
+pub record Reads (count : ℕ) (had has : Option (List Heard))
+    (messages : List (Result ServerMessage WireError)) : Type 0 where
   pub given : List Heard
   pub many : length given ≡ count
   pub gave : Gives had has given

@@ -1,4 +1,9 @@
 // A connection of a client, from its handshake to its end.
+ghost use Rattle.std.specs.Prelude.{◌≡◌, [], IfOk, IfErr, OnOk};
+ghost use Rattle.rt_link.specs.Carrying.{Closes, Fails, GoesOn, PassesOver, Shakes, Turns};
+ghost use Rattle.rt_link.specs.declared.connection.Turn.TheVariants.{Ended};
+ghost use Rattle.rt_link.specs.Carrying.{begun, is_open, Closing, Gone, Open, Shaking};
+
 use crate::batch::{Batch, Pause, hear_all};
 use crate::error::LinkFault;
 use crate::lost::Lost;
@@ -11,6 +16,7 @@ use crate::wire::{Flushed, Wire};
 use rt_client::Client;
 use std::alloc::Global;
 use std::io::{Read, Write};
+use std::marker::Model;
 use std::random::RandomSource;
 use std::sync::Wait;
 use std::time::{Clock, Duration, Instant};
@@ -57,6 +63,14 @@ pub struct Connection<S: Read + Write + Drop, N: RandomSource + Drop> {
     heard: Instant,
     is_asked: bool,
     passed: Vec<Passed>,
+}
+
+impl<S: Read + Write + Drop, N: RandomSource + Drop> Model for Connection<S, N> {
+    ghost use Rattle.rt_link.specs.Carrying.{Carried, standing_of};
+
+    ghost Value = { Carried };
+
+    ghost view = { λ c. record { standing = standing_of c.stage; passed = c.passed.items } };
 }
 
 // How many milliseconds have gone by.
@@ -106,7 +120,9 @@ impl<S: Read + Write + Drop, N: RandomSource + Drop> Connection<S, N> {
         random: N,
         stream: S,
         uri: &str,
-    ) -> Result<Result<Connection<S, N>, Lost>, LinkFault> {
+    ) -> Result<Result<Connection<S, N>, Lost>, LinkFault>
+        ensures begun { IfOk result (λ made. IfOk made (λ connection. connection ≡ begun)) }
+    {
         let heard = Instant::now(rt)?;
         let mid = match shake_hands(alloc, random, stream, uri)? {
             Ok(mid) => mid,
@@ -122,7 +138,9 @@ impl<S: Read + Write + Drop, N: RandomSource + Drop> Connection<S, N> {
     }
 
     /// Whether the handshake is done, and the connection stands.
-    pub fn is_open(&self) -> bool {
+    pub fn is_open(&self) -> bool
+        ensures { result ≡ is_open self.now.standing }
+    {
         match &self.stage {
             Stage::Open(_) => true,
             Stage::Shaking(_) | Stage::Closing(_) | Stage::Gone => false,
@@ -130,7 +148,10 @@ impl<S: Read + Write + Drop, N: RandomSource + Drop> Connection<S, N> {
     }
 
     /// Hands over why messages of the server were passed over, in order, since it was asked last.
-    pub fn take_passed(&mut self) -> Vec<Passed> {
+    pub fn take_passed(&mut self) -> Vec<Passed>
+        ensures passed { result.items ≡ self.old.passed }
+        ensures left { self.new ≡ record (self.old) { passed = [] } }
+    {
         std::mem::replace(&mut self.passed, Vec::new(self.alloc))
     }
 
@@ -143,7 +164,11 @@ impl<S: Read + Write + Drop, N: RandomSource + Drop> Connection<S, N> {
     /// `Client` where the client has failed, or somebody else has told it of a connection, and `NoMemory`:
     /// the connection is to be closed then. `System` where there is no clock. A connection that is gone
     /// answers `NotOpened`, with no reason but that it is closed.
-    pub fn turn<R: Wait + Clock>(&mut self, rt: &R, client: &Client) -> Result<Turn, LinkFault> {
+    pub fn turn<R: Wait + Clock>(&mut self, rt: &R, client: &Client) -> Result<Turn, LinkFault>
+        ensures stands { IfOk result (λ turn. Turns self.old.standing turn self.new.standing) }
+        ensures passed { OnOk result (PassesOver self.old self.new.passed) }
+        ensures failed { IfErr result (λ e. Fails self.old.standing self.new.standing) }
+    {
         match std::mem::replace(&mut self.stage, Stage::Gone) {
             Stage::Shaking(mid) => self.shake(rt, client, mid),
             Stage::Open(socket) => {
@@ -161,7 +186,13 @@ impl<S: Read + Write + Drop, N: RandomSource + Drop> Connection<S, N> {
         rt: &R,
         client: &Client,
         mut mid: Shaking<S, N>,
-    ) -> Result<Turn, LinkFault> {
+    ) -> Result<Turn, LinkFault>
+        ensures gone { self.old.standing ≡ Gone
+            → IfErr result (λ e. Fails Shaking self.new.standing) }
+        ensures stands { self.old.standing ≡ Gone
+            → IfOk result (λ turn. Shakes turn self.new.standing) }
+        ensures passed { self.new.passed ≡ self.old.passed }
+    {
         mid.get_mut().allow(TURN_BYTES);
         match mid.handshake() {
             Ok((socket, _response)) => {
@@ -176,7 +207,12 @@ impl<S: Read + Write + Drop, N: RandomSource + Drop> Connection<S, N> {
     }
 
     // The handshake goes on once more has come, or is given up.
-    fn await_hands<R: Clock>(&mut self, rt: &R, mid: Shaking<S, N>) -> Result<Turn, LinkFault> {
+    fn await_hands<R: Clock>(&mut self, rt: &R, mid: Shaking<S, N>) -> Result<Turn, LinkFault>
+        ensures gone { IfErr result (λ e. self.new ≡ self.old) }
+        ensures stands { self.old.standing ≡ Gone
+            → IfOk result (λ turn. Shakes turn self.new.standing) }
+        ensures passed { self.new.passed ≡ self.old.passed }
+    {
         match for_handshake(millis_since(rt, self.heard)?) {
             Patience::Wait(millis) => {
                 self.stage = Stage::Shaking(mid);
@@ -187,7 +223,13 @@ impl<S: Read + Write + Drop, N: RandomSource + Drop> Connection<S, N> {
     }
 
     // Reads and sends, and then ends the connection or says how long is to be waited.
-    fn carry<R: Wait + Clock>(&mut self, rt: &R, client: &Client) -> Result<Turn, LinkFault> {
+    fn carry<R: Wait + Clock>(&mut self, rt: &R, client: &Client) -> Result<Turn, LinkFault>
+        ensures stands { self.old.standing ≡ Open
+            → IfOk result (λ turn. GoesOn Open turn self.new.standing) }
+        ensures passed { OnOk result (PassesOver self.old self.new.passed) }
+        ensures failed { self.old.standing ≡ Open
+            → IfErr result (λ e. Fails Open self.new.standing) }
+    {
         let Stage::Open(socket) = &mut self.stage else {
             return Ok(Turn::NotOpened(Lost::Closed));
         };
@@ -207,7 +249,13 @@ impl<S: Read + Write + Drop, N: RandomSource + Drop> Connection<S, N> {
     }
 
     // Says how long is to be waited for the server, or asks whether it is there, or gives it up.
-    fn be_patient<R: Wait + Clock>(&mut self, rt: &R, client: &Client) -> Result<Turn, LinkFault> {
+    fn be_patient<R: Wait + Clock>(&mut self, rt: &R, client: &Client) -> Result<Turn, LinkFault>
+        ensures stands { self.old.standing ≡ Open
+            → IfOk result (λ turn. GoesOn Open turn self.new.standing) }
+        ensures passed { self.new.passed ≡ self.old.passed }
+        ensures failed { self.old.standing ≡ Open
+            → IfErr result (λ e. Fails Open self.new.standing) }
+    {
         match for_silence(millis_since(rt, self.heard)?, self.is_asked) {
             Patience::Wait(millis) => Ok(Turn::Idle(Duration::from_millis(millis))),
             Patience::Ping => self.ask(rt, client),
@@ -216,7 +264,13 @@ impl<S: Read + Write + Drop, N: RandomSource + Drop> Connection<S, N> {
     }
 
     // Asks the server whether it is there.
-    fn ask<R: Wait>(&mut self, rt: &R, client: &Client) -> Result<Turn, LinkFault> {
+    fn ask<R: Wait>(&mut self, rt: &R, client: &Client) -> Result<Turn, LinkFault>
+        ensures stands { self.old.standing ≡ Open
+            → IfOk result (λ turn. GoesOn Open turn self.new.standing) }
+        ensures passed { self.new.passed ≡ self.old.passed }
+        ensures failed { self.old.standing ≡ Open
+            → IfErr result (λ e. Fails Open self.new.standing) }
+    {
         let Stage::Open(socket) = &mut self.stage else {
             return Ok(Turn::NotOpened(Lost::Closed));
         };
@@ -228,14 +282,22 @@ impl<S: Read + Write + Drop, N: RandomSource + Drop> Connection<S, N> {
     }
 
     // The connection is gone, and the client is told of it.
-    fn end<R: Wait>(&mut self, rt: &R, client: &Client, why: Lost) -> Result<Turn, LinkFault> {
+    fn end<R: Wait>(&mut self, rt: &R, client: &Client, why: Lost) -> Result<Turn, LinkFault>
+        ensures gone { self.new ≡ record (self.old) { standing = Gone } }
+        ensures ended { IfOk result (λ turn. turn ≡ Ended why) }
+    {
         self.stage = Stage::Gone;
         client.disconnected(rt)?;
         Ok(Turn::Ended(why))
     }
 
     // Passes over what the server still sends, until it goes too.
-    fn see_off<R: Clock>(&mut self, rt: &R, mut socket: Socket<S, N>) -> Result<Turn, LinkFault> {
+    fn see_off<R: Clock>(&mut self, rt: &R, mut socket: Socket<S, N>) -> Result<Turn, LinkFault>
+        ensures gone { IfErr result (λ e. self.new ≡ self.old) }
+        ensures stands { self.old.standing ≡ Gone
+            → IfOk result (λ turn. GoesOn Closing turn self.new.standing) }
+        ensures passed { self.new.passed ≡ self.old.passed }
+    {
         socket.allow(TURN_BYTES);
         let Batch { messages, pause } = hear_all(self.alloc, &mut socket, BATCH)?;
         drop(messages);
@@ -267,7 +329,10 @@ impl<S: Read + Write + Drop, N: RandomSource + Drop> Connection<S, N> {
     /// # Errors
     ///
     /// `Client` where the client has failed.
-    pub fn close<R: Wait + Clock>(&mut self, rt: &R, client: &Client) -> Result<(), LinkFault> {
+    pub fn close<R: Wait + Clock>(&mut self, rt: &R, client: &Client) -> Result<(), LinkFault>
+        ensures closes { Closes self.old.standing self.new.standing }
+        ensures passed { self.new.passed ≡ self.old.passed }
+    {
         match std::mem::replace(&mut self.stage, Stage::Gone) {
             Stage::Open(mut socket) => {
                 if let Flushed::Done | Flushed::Blocked = socket.say_close() {

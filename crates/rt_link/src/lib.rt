@@ -20,6 +20,7 @@
 
 mod batch;
 mod connection;
+mod crossing;
 mod error;
 mod link;
 mod linked;
@@ -33,8 +34,9 @@ mod wire;
 
 pub use batch::{Batch, Pause, hear_all, say_all};
 pub use connection::{Connection, Turn};
+pub use crossing::link_crossing_law;
 pub use error::LinkFault;
-pub use link::{Ending, Link};
+pub use link::{Link, LinkEnd};
 pub use linked::{Bell, Linked};
 pub use lost::Lost;
 pub use taking::{Passed, take_all, take_batch};

@@ -1,5 +1,6 @@
 // What runs a client's connections, one after another.
-ghost use Rattle.std.specs.Prelude.{◌≡◌};
+ghost use Rattle.std.specs.Prelude.{◌≡◌, ◌≤◌, IfOk, OnOk};
+ghost use Rattle.rt_link.specs.Carrying.{IsLeft, begun, Gone};
 ghost use Rattle.rt_link.specs.Turning.{next};
 
 use crate::connection::{Connection, Turn};
@@ -10,6 +11,7 @@ use mio::net::TcpStream;
 use mio::{Events, Interest, Poll, Token, Waker};
 use rt_client::Client;
 use std::alloc::Global;
+use std::marker::Model;
 use std::net::{Net, SocketAddr};
 use std::random::RandomSource;
 use std::sync::Wait;
@@ -25,7 +27,7 @@ const EVENTS: usize = 2;
 
 /// Why a run of a link has ended.
 #[derive(Debug, Drop)]
-pub enum Ending {
+pub enum LinkEnd {
     /// It was told to stop.
     Stopped,
     /// No connection came about.
@@ -42,7 +44,7 @@ enum Next {
     // It sleeps, so long at most.
     Sleep(Duration),
     // It has ended.
-    End(Ending),
+    End(LinkEnd),
 }
 
 // What a run does after a turn, told to stop or not.
@@ -50,13 +52,13 @@ fn next_of(turn: Turn, is_stopped: bool) -> Next
     ensures { result ≡ next turn is_stopped }
 {
     if is_stopped {
-        return Next::End(Ending::Stopped);
+        return Next::End(LinkEnd::Stopped);
     }
     match turn {
         Turn::Idle(most) => Next::Sleep(most),
         Turn::More => Next::GoOn,
-        Turn::NotOpened(why) => Next::End(Ending::NotOpened(why)),
-        Turn::Ended(why) => Next::End(Ending::Ended(why)),
+        Turn::NotOpened(why) => Next::End(LinkEnd::NotOpened(why)),
+        Turn::Ended(why) => Next::End(LinkEnd::Ended(why)),
     }
 }
 
@@ -68,17 +70,25 @@ pub struct Link {
     passed_over: u64,
 }
 
+impl Model for Link {
+    ghost use Rattle.std.specs.Prelude.{ℕ};
+
+    // How many messages its runs have passed over.
+    ghost Value = { ℕ };
+
+    ghost view = { λ link. link.passed_over };
+}
+
 impl Link {
     /// A link, and the client with what wakes it.
     ///
     /// # Errors
     ///
     /// `System` where the system refuses what waiting needs, and `NoMemory`.
-    pub fn open<R: Net>(
-        rt: &R,
-        alloc: Global,
-        client: Client,
-    ) -> Result<(Link, Linked), LinkFault> {
+    pub fn open<R: Net>(rt: &R, alloc: Global, client: Client) -> Result<(Link, Linked), LinkFault>
+        ensures link { IfOk result (λ opened. opened.0 ≡ 0) }
+        ensures client { IfOk result (λ opened. opened.1.client ≡ client) }
+    {
         let poll = Poll::new(rt)?;
         let bell = Bell::new(alloc, Waker::new(poll.registry(), WAKER)?)?;
         let events = Events::with_capacity(alloc, EVENTS)?;
@@ -101,7 +111,10 @@ impl Link {
         alloc: Global,
         random: N,
         address: SocketAddr,
-    ) -> Result<Result<Connection<TcpStream, N>, Lost>, LinkFault> {
+    ) -> Result<Result<Connection<TcpStream, N>, Lost>, LinkFault>
+        ensures begun { IfOk result (λ made. IfOk made (λ connection. connection ≡ begun)) }
+        ensures link { self.new ≡ self.old }
+    {
         let mut stream = match TcpStream::connect(rt, address) {
             Ok(stream) => stream,
             Err(why) => return Ok(Err(Lost::Unreachable(why))),
@@ -121,19 +134,25 @@ impl Link {
     /// # Errors
     ///
     /// `System`, where the system refuses it.
-    pub fn wait(&mut self, most: Duration) -> Result<(), LinkFault> {
+    pub fn wait(&mut self, most: Duration) -> Result<(), LinkFault>
+        ensures link { self.new ≡ self.old }
+    {
         self.poll.poll(&mut self.events, Some(most))?;
         Ok(())
     }
 
     // So many more messages were passed over.
-    fn note(&mut self, passed: usize) {
+    fn note(&mut self, passed: usize)
+        ensures { self.old ≤ self.new }
+    {
         self.passed_over = self.passed_over.saturating_add(passed as u64);
     }
 
     /// How many messages of the server its runs have passed over, since they can't be read or the client
     /// refuses them.
-    pub fn passed_over(&self) -> u64 {
+    pub fn passed_over(&self) -> u64
+        ensures { result ≡ self.now }
+    {
         self.passed_over
     }
 
@@ -143,7 +162,9 @@ impl Link {
         rt: &R,
         linked: &Linked,
         connection: &mut Connection<TcpStream, N>,
-    ) -> Result<Ending, LinkFault> {
+    ) -> Result<LinkEnd, LinkFault>
+        ensures link { self.old ≤ self.new }
+    {
         for _ in rt.forever() {
             let turn = connection.turn(rt, &linked.client)?;
             self.note(connection.take_passed().len());
@@ -167,13 +188,18 @@ impl Link {
         rt: &R,
         client: &Client,
         connection: &mut Connection<TcpStream, N>,
-    ) -> Result<(), LinkFault> {
+    ) -> Result<(), LinkFault>
+        ensures gone { OnOk result (connection.new.standing ≡ Gone) }
+        ensures passed { OnOk result (connection.new.passed ≡ connection.old.passed) }
+        ensures link { self.new ≡ self.old }
+    {
         connection.close(rt, client)?;
         for _ in rt.forever() {
             match connection.turn(rt, client)? {
                 Turn::Idle(most) => self.wait(most)?,
                 Turn::More => {}
-                Turn::NotOpened(_) | Turn::Ended(_) => return Ok(()),
+                Turn::NotOpened(_) => return Ok(()),
+                Turn::Ended(_) => return Ok(()),
             }
         }
         unreachable!()
@@ -195,13 +221,15 @@ impl Link {
         linked: &Linked,
         random: N,
         address: SocketAddr,
-    ) -> Result<Ending, LinkFault> {
+    ) -> Result<LinkEnd, LinkFault>
+        ensures link { self.old ≤ self.new }
+    {
         if linked.is_stopped(rt) {
-            return Ok(Ending::Stopped);
+            return Ok(LinkEnd::Stopped);
         }
         let mut connection = match self.connect(rt, alloc, random, address)? {
             Ok(connection) => connection,
-            Err(why) => return Ok(Ending::NotOpened(why)),
+            Err(why) => return Ok(LinkEnd::NotOpened(why)),
         };
         let ending = self.carry(rt, linked, &mut connection);
         self.close(rt, &linked.client, &mut connection)?;

@@ -12,6 +12,7 @@ use rt_client::{Action, Call, Client, ClientError, Done, Seat, Uncalled, Unclose
 use rt_query::Query;
 use rt_tree::{Path, Tree};
 use std::alloc::{AllocError, Global};
+use std::marker::Model;
 use std::sync::{Arc, Wait};
 
 /// What wakes a link. Threads share it, or each has a clone.
@@ -20,14 +21,28 @@ pub struct Bell {
     waker: Arc<Waker, Global>,
 }
 
+impl Model for Bell {
+    ghost use Rattle.std.specs.Arc.{arc_value};
+    ghost use Rattle.mio.specs.declared.waker.Waker.{Waker};
+
+    // The waker that it rings.
+    ghost Value = { Waker };
+
+    ghost view = { λ bell. arc_value bell.waker };
+}
+
 impl Bell {
-    pub(crate) fn new(alloc: Global, waker: Waker) -> Result<Bell, AllocError> {
+    pub(crate) fn new(alloc: Global, waker: Waker) -> Result<Bell, AllocError>
+        ensures { IfOk result (λ bell. bell ≡ waker) }
+    {
         let waker = Arc::new(alloc, waker)?;
         Ok(Bell { waker })
     }
 
     /// Another that wakes the same link.
-    pub fn try_clone(&self) -> Result<Bell, AllocError> {
+    pub fn try_clone(&self) -> Result<Bell, AllocError>
+        ensures { IfOk result (λ bell. bell ≡ self.now) }
+    {
         let waker = Arc::try_clone(&self.waker)?;
         Ok(Bell { waker })
     }
@@ -45,11 +60,13 @@ impl Bell {
 #[derive(Drop)]
 pub struct Linked {
     pub client: Client,
-    bell: Bell,
+    pub bell: Bell,
 }
 
 impl Linked {
-    pub(crate) fn new(client: Client, bell: Bell) -> Linked {
+    pub(crate) fn new(client: Client, bell: Bell) -> Linked
+        ensures { result ≡ record { client = client; bell = bell } }
+    {
         Linked { client, bell }
     }
 
@@ -59,7 +76,9 @@ impl Linked {
     }
 
     /// What wakes the link, for a thread that makes no call.
-    pub fn bell(&self) -> Result<Bell, AllocError> {
+    pub fn bell(&self) -> Result<Bell, AllocError>
+        ensures { IfOk result (λ bell. bell ≡ self.now.bell) }
+    {
         self.bell.try_clone()
     }
 
@@ -69,8 +88,8 @@ impl Linked {
         self.ring();
     }
 
-    /// Whether they were told to stop.
-    pub fn is_stopped<R: Wait>(&self, rt: &R) -> bool {
+    // Whether they were told to stop.
+    pub(crate) fn is_stopped<R: Wait>(&self, rt: &R) -> bool {
         self.client.shared.lock(rt).is_stopped()
     }
 
@@ -123,7 +142,8 @@ impl Linked {
         entries: Vec<(Path, Tree)>,
     ) -> Result<u64, ClientError>
         ensures made { IfOk result (λ n. IsNumbered seat.old (call.Write (Merge entries.items)) n seat.new) }
-        ensures refused { IfErr result (λ e. IsUnmade seat.old (call.Write (Merge entries.items)) e seat.new) }
+        ensures refused { IfErr result (λ e.
+            IsUnmade seat.old (call.Write (Merge entries.items)) e seat.new) }
     {
         let answer = self.client.update(rt, seat, entries);
         self.ring();

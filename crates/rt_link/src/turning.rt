@@ -1,6 +1,7 @@
 // What a turn of a connection reads, and what it sends.
-ghost use Rattle.std.specs.Prelude.{◌≡◌};
+ghost use Rattle.std.specs.Prelude.{◌≡◌, ◌++◌, List, OnOk};
 ghost use Rattle.rt_link.specs.Turning.{is_there_more, paced, unopened};
+ghost use Rattle.rt_link.specs.declared.taking.Passed.{Passed};
 
 use crate::batch::{Batch, Pause, hear_all, say_all};
 use crate::error::LinkFault;
@@ -70,7 +71,10 @@ pub(crate) fn hear_turn<R: Wait, W: Wire>(
     client: &Client,
     wire: &mut W,
     passed: &mut Vec<Passed>,
-) -> Result<Pause, LinkFault> {
+) -> Result<Pause, LinkFault>
+    ensures noted { OnOk result ((more : List Passed)
+        × (passed.new.items ≡ passed.old.items ++ more)) }
+{
     let Batch { messages, pause } = hear_all(alloc, wire, BATCH)?;
     if !messages.is_empty() {
         let mut shared = client.shared.lock(rt);

@@ -1,0 +1,2 @@
+-- What is stated for whoever calls this crate.
+pub mod Crossing
