@@ -7,7 +7,7 @@ import subprocess
 import tempfile
 import time
 
-from bodies import write
+from bodies import read, write
 from parts import Clock, part
 from rows import Row
 
@@ -61,6 +61,7 @@ def wrong_of(copy, script, out):
     """What is wrong, and how many runs there were: of a copy in which the program is built, over a script and what it prints."""
     with tempfile.TemporaryDirectory(prefix="kaltewi-launch-") as room:
         runs = Runs(copy, room)
+        help_runs(runs)
         runs.says("the program is there", ["script"], script, 0, out)
         runs.says("a build of what is built", ["build"], b"", 0, b"", "the proved program is there")
         os.remove(f"{copy}/crates/rt_console/out/kaltewi.built")
@@ -74,6 +75,13 @@ def wrong_of(copy, script, out):
         runs.says("no place for the program", ["build"], b"", 1, b"", "crates/rt_console/out can't be written")
         runs.says("no place, unproved", ["script"], script, 1, b"script\n" + script, UNPROVED, "a fault", environment=runs.stand_in)
         return runs.wrong, runs.count
+
+
+def help_runs(runs):
+    """A call for help prints what stands in the launcher's own text."""
+    text = read(f"{runs.copy}/kaltewi").partition("<<'END'\n")[2].partition("\nEND\n")[0]
+    for word in ("--help", "-h", "help"):
+        runs.says(f"its {word}", [word], b"", 0, f"{text}\n".encode())
 
 
 def build_runs(runs):

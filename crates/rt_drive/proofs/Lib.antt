@@ -1,5 +1,9 @@
 mod Costs
 mod Counting
+mod Driving
+mod Ends
+mod Hears
+mod Opens
 mod Rounds
 mod Seating
 mod Sending

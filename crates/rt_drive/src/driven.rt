@@ -1,11 +1,21 @@
 // A client behind a WebSocket, driven by lines.
-ghost use Rattle.std.specs.Prelude.{◌≡◌, ◌+◌, ◌<◌, ◌≤◌, ◌^◌, ℕ, List, Some, None, Ok};
-ghost use Rattle.std.specs.Prelude.{is_some, IfOk, IfErr, OnOk, OnErr};
+ghost use Rattle.std.specs.Prelude.{◌≡◌, ◌+◌, ◌++◌, ◌<◌, ◌≤◌, ◌^◌, ℕ, List, map, Some, None, Ok};
+ghost use Rattle.std.specs.Prelude.{is_some, if◌then◌else◌, IfOk, IfErr, IfSome, OnOk, OnErr};
 ghost use Rattle.std.specs.Io.KnownBytes.{IsAtEnd};
+ghost use Rattle.std.specs.Option.{option_map};
+ghost use Rattle.rt_world.specs.declared.step.Step.TheVariants as step;
+ghost use Rattle.rt_client.specs.Delivery.{emptied};
+ghost use Rattle.rt_lines.specs.inside.Appending.{Appends};
 ghost use Rattle.rt_input.specs.Faults.{counts, NoneFailed, Tells, WriteTells};
 ghost use Rattle.rt_input.specs.Lines.{lines_of, most_input};
 ghost use Rattle.rt_lines.specs.Orders.{is_formed, is_good_order, order_of_bytes};
+ghost use Rattle.rt_input.specs.Counted.{known_output};
+ghost use Rattle.rt_drive.specs.Ahead.{nothing_ahead};
+ghost use Rattle.rt_drive.specs.Doing.{disconnected};
+ghost use Rattle.rt_drive.specs.Driving.{Begins, DoesOrder, HasSent, PrintsHeard, PrintsLost, PrintsNone};
+ghost use Rattle.rt_drive.specs.Driving.{PrintsStep, PrintsTaken, PrintsTold, goes_on};
 ghost use Rattle.rt_drive.specs.Run.{bad_among};
+ghost use Rattle.rt_drive.specs.Sending.{linked};
 
 use crate::link::Link;
 use crate::lost::Lost;
@@ -14,7 +24,7 @@ use crate::seats::{
     Seats, obey, open_seats, settle_all, take_messages, take_told, tell_connected,
     tell_disconnected, tell_lost,
 };
-use crate::socket::{Heard, MAX_PINGS, Told, opened};
+use crate::socket::{Heard, MAX_PINGS, Socket, Told, opened};
 use rt_client::{Client, Seat};
 use rt_input::{ConsoleError, Drain, LineReader, Log, Silent, Source, write_printed};
 use rt_lines::{LineError, Order, Refusal, write_bad_line, write_refusal};
@@ -38,28 +48,87 @@ struct Driven<'a, R, S, N> {
 }
 
 impl<'a, R: Wait, S: Read + Write + Drop, N: RandomSource + Drop> Driven<'a, R, S, N> {
-    // The connection is opened: the client is told of it, and sends what it has to.
-    fn connect<L: Log>(&mut self, random: N, stream: S, log: &mut L) -> Result<(), AllocError> {
-        match opened(self.alloc, random, stream)? {
-            Ok(socket) => self.link = Some(Link::new(self.alloc, socket)),
-            Err(why) => {
-                say_lost(self.alloc, &why, log)?;
-                return self.printed.push_str("disconnected\n");
-            }
+    // Opens a connection, where a handshake comes about.
+    fn connect<L: Log>(&mut self, random: N, stream: S, log: &mut L) -> Result<(), AllocError>
+        ensures stands { OnOk result (IfSome self.new.link (λ link.
+            Begins (known_output S.contents) (linked link.socket link.ahead)
+            × (text : List ℕ) × Appends self.old.printed self.new.printed text
+            × PrintsStep step.Connected text)) }
+        ensures none { OnOk result (self.new.link ≡ None → (text : List ℕ)
+            × Appends self.old.printed self.new.printed text
+            × PrintsNone self.old.seats.items text) }
+    {
+        let opened = opened(self.alloc, random, stream)?;
+        self.take_opened(opened, log)
+    }
+
+    // Takes what came of a handshake: a socket, or why there is none.
+    fn take_opened<L: Log>(
+        &mut self,
+        opened: Result<Socket<S, N>, Lost>,
+        log: &mut L,
+    ) -> Result<(), AllocError>
+        ensures stands { IfOk opened (λ socket. OnOk result (IfSome self.new.link (λ link.
+            HasSent (known_output S.contents) (linked socket nothing_ahead)
+            (linked link.socket link.ahead)
+            × (text : List ℕ) × Appends self.old.printed self.new.printed text
+            × PrintsStep step.Connected text))) }
+        ensures lost { IfOk opened (λ _. OnOk result (self.new.link ≡ None → (why text : List ℕ)
+            × Appends self.old.printed self.new.printed (why ++ text)
+            × PrintsStep step.Connected why × PrintsLost self.old.seats.items text)) }
+        ensures none { IfErr opened (λ _. OnOk result (self.new.link ≡ None)) }
+        ensures printed { IfErr opened (λ _.
+            OnOk result (Appends self.old.printed self.new.printed disconnected)) }
+    {
+        match opened {
+            Ok(socket) => self.begin(socket, log),
+            Err(why) => self.fail_to_open(&why, log),
         }
+    }
+
+    // A connection is opened over the socket: the client is told of it, and sends what it has to.
+    fn begin<L: Log>(&mut self, socket: Socket<S, N>, log: &mut L) -> Result<(), AllocError>
+        ensures stands { OnOk result (IfSome self.new.link (λ link.
+            HasSent (known_output S.contents) (linked socket nothing_ahead)
+            (linked link.socket link.ahead)
+            × (text : List ℕ) × Appends self.old.printed self.new.printed text
+            × PrintsStep step.Connected text)) }
+        ensures lost { OnOk result (self.new.link ≡ None → (why text : List ℕ)
+            × Appends self.old.printed self.new.printed (why ++ text)
+            × PrintsStep step.Connected why × PrintsLost self.old.seats.items text) }
+    {
+        self.link = Some(Link::new(self.alloc, socket));
         self.tell_connected()?;
         self.send_waiting(log)
     }
 
+    // No connection came about, which is printed.
+    fn fail_to_open<L: Log>(&mut self, why: &Lost, log: &mut L) -> Result<(), AllocError>
+        ensures none { OnOk result (self.new.link ≡ None) }
+        ensures printed { OnOk result (Appends self.old.printed self.new.printed disconnected) }
+        ensures seats { self.new.seats ≡ self.old.seats }
+        ensures pings { self.new.pings ≡ self.old.pings }
+    {
+        self.link = None;
+        say_lost(self.alloc, why, log)?;
+        self.printed.push_str("disconnected\n")
+    }
+
     // The client is told that it is connected.
-    fn tell_connected(&mut self) -> Result<(), AllocError> {
+    fn tell_connected(&mut self) -> Result<(), AllocError>
+        ensures rest { self.new ≡ record (self.old) { printed = self.new.printed } }
+        ensures printed { OnOk result ((text : List ℕ) × Appends self.old.printed self.new.printed text
+            × PrintsStep step.Connected text) }
+    {
         let mut shared = self.client.shared.lock(self.rt);
         tell_connected(&mut self.printed, &mut shared)
     }
 
     // The client is told that its connection has ended.
     fn tell_disconnected(&mut self) -> Result<(), AllocError>
-        ensures { self.new.link ≡ self.old.link }
+        ensures rest { self.new ≡ record (self.old) { printed = self.new.printed } }
+        ensures printed { OnOk result ((text : List ℕ) × Appends self.old.printed self.new.printed text
+            × PrintsStep step.Disconnected text) }
     {
         let mut shared = self.client.shared.lock(self.rt);
         tell_disconnected(&mut self.printed, &mut shared)
@@ -67,7 +136,10 @@ impl<'a, R: Wait, S: Read + Write + Drop, N: RandomSource + Drop> Driven<'a, R, 
 
     // The client is told that its connection is gone, which is printed.
     fn tell_lost(&mut self) -> Result<(), AllocError>
-        ensures { self.new.link ≡ self.old.link }
+        ensures rest { self.new ≡ record (self.old) { printed = self.new.printed } }
+        ensures printed { OnOk result ((text : List ℕ)
+            × Appends self.old.printed self.new.printed (disconnected ++ text)
+            × PrintsStep step.Disconnected text) }
     {
         let mut shared = self.client.shared.lock(self.rt);
         tell_lost(&mut self.printed, &mut shared)
@@ -75,7 +147,12 @@ impl<'a, R: Wait, S: Read + Write + Drop, N: RandomSource + Drop> Driven<'a, R, 
 
     // The connection is gone.
     fn lose_link<L: Log>(&mut self, why: &Lost, log: &mut L) -> Result<(), AllocError>
-        ensures { self.new.link ≡ None }
+        ensures none { self.new.link ≡ None }
+        ensures pings { self.new.pings ≡ self.old.pings }
+        ensures printed { OnOk result ((text : List ℕ) × Appends self.old.printed self.new.printed text
+            × PrintsLost self.old.seats.items text) }
+        ensures rings { OnOk result
+            (self.new.seats.items ≡ map (option_map emptied) self.old.seats.items) }
     {
         drop(self.link.take());
         say_lost(self.alloc, why, log)?;
@@ -85,7 +162,12 @@ impl<'a, R: Wait, S: Read + Write + Drop, N: RandomSource + Drop> Driven<'a, R, 
 
     // Settles the seats, and prints what they are told.
     fn settle(&mut self) -> Result<(), AllocError>
-        ensures { self.new.link ≡ self.old.link }
+        ensures rest { self.new
+            ≡ record (self.old) { printed = self.new.printed; seats = self.new.seats } }
+        ensures printed { OnOk result ((text : List ℕ) × Appends self.old.printed self.new.printed text
+            × PrintsTold self.old.seats.items text) }
+        ensures rings { OnOk result
+            (self.new.seats.items ≡ map (option_map emptied) self.old.seats.items) }
     {
         let mut shared = self.client.shared.lock(self.rt);
         settle_all(&mut self.printed, self.alloc, &mut shared, &mut self.seats)
@@ -93,7 +175,14 @@ impl<'a, R: Wait, S: Read + Write + Drop, N: RandomSource + Drop> Driven<'a, R, 
 
     // Sends what the client has to send, where the connection stands.
     fn send_waiting<L: Log>(&mut self, log: &mut L) -> Result<(), AllocError>
-        ensures { self.old.link ≡ None → (result ≡ Ok tt) × (self.new ≡ self.old) × (log.new ≡ log.old) }
+        ensures none { self.old.link ≡ None
+            → (result ≡ Ok tt) × (self.new ≡ self.old) × (log.new ≡ log.old) }
+        ensures sent { IfSome self.old.link (λ old. OnOk result (IfSome self.new.link (λ new.
+            HasSent (known_output S.contents) (linked old.socket old.ahead)
+            (linked new.socket new.ahead) × (self.new.printed ≡ self.old.printed)))) }
+        ensures lost { IfSome self.old.link (λ old. OnOk result (self.new.link ≡ None → (text : List ℕ)
+            × Appends self.old.printed self.new.printed text
+            × PrintsLost self.old.seats.items text)) }
     {
         let Some(link) = &mut self.link else {
             return Ok(());
@@ -107,20 +196,24 @@ impl<'a, R: Wait, S: Read + Write + Drop, N: RandomSource + Drop> Driven<'a, R, 
 
     // Takes a message of the server.
     fn take(&mut self, told: Told) -> Result<(), AllocError>
-        ensures { self.new.link ≡ self.old.link }
+        ensures rest { self.new ≡ record (self.old) { printed = self.new.printed } }
+        ensures printed { OnOk result ((text : List ℕ) × Appends self.old.printed self.new.printed text
+            × PrintsTaken told text) }
     {
         let mut shared = self.client.shared.lock(self.rt);
         take_told(&mut self.printed, self.alloc, &mut shared, told)
     }
 
-    // Reads a message, where the connection stands, and answers whether it stands then.
-    fn read_message<L: Log>(&mut self, log: &mut L) -> Result<bool, AllocError>
-        ensures { IfOk result (λ stands. stands ≡ is_some self.new.link) }
+    // Takes what was heard of the server, and answers whether the connection stands then.
+    fn take_heard<L: Log>(&mut self, heard: Heard, log: &mut L) -> Result<bool, AllocError>
+        ensures goes_on { IfOk result (λ stands. stands ≡ goes_on heard) }
+        ensures link { OnOk result (self.new.link
+            ≡ (if goes_on heard then self.old.link else None)) }
+        ensures pings { self.new.pings ≡ self.old.pings }
+        ensures printed { OnOk result ((text : List ℕ) × Appends self.old.printed self.new.printed text
+            × PrintsHeard heard self.old.seats.items text) }
     {
-        let Some(link) = &mut self.link else {
-            return Ok(false);
-        };
-        match link.next(&mut self.pings)? {
+        match heard {
             Heard::Told(told) => {
                 self.take(told)?;
                 self.settle()?;
@@ -131,6 +224,17 @@ impl<'a, R: Wait, S: Read + Write + Drop, N: RandomSource + Drop> Driven<'a, R, 
                 Ok(false)
             }
         }
+    }
+
+    // Reads a message, where the connection stands, and answers whether it stands then.
+    fn read_message<L: Log>(&mut self, log: &mut L) -> Result<bool, AllocError>
+        ensures { IfOk result (λ stands. stands ≡ is_some self.new.link) }
+    {
+        let Some(link) = &mut self.link else {
+            return Ok(false);
+        };
+        let heard = link.next(&mut self.pings)?;
+        self.take_heard(heard, log)
     }
 
     // Reads so many messages, and writes what each prints.
@@ -159,7 +263,12 @@ impl<'a, R: Wait, S: Read + Write + Drop, N: RandomSource + Drop> Driven<'a, R, 
     }
 
     // Does what an order asks of the client and its seats.
-    fn obey(&mut self, order: Order) -> Result<(), AllocError> {
+    fn obey(&mut self, order: Order) -> Result<(), AllocError>
+        ensures rest { self.new
+            ≡ record (self.old) { printed = self.new.printed; seats = self.new.seats } }
+        ensures done { OnOk result ((text : List ℕ) × Appends self.old.printed self.new.printed text
+            × DoesOrder order self.old.seats.items text self.new.seats.items) }
+    {
         let mut shared = self.client.shared.lock(self.rt);
         obey(
             &mut self.printed,
@@ -271,7 +380,10 @@ impl<'a, R: Wait, S: Read + Write + Drop, N: RandomSource + Drop> Driven<'a, R, 
 
     // The connection is closed, and the client is told of it.
     fn end<L: Log>(&mut self, log: &mut L) -> Result<(), AllocError>
-        ensures { self.new.link ≡ None }
+        ensures none { self.new.link ≡ None }
+        ensures same { self.old.link ≡ None → (result ≡ Ok tt) × (log.new ≡ log.old) }
+        ensures printed { OnOk result (IfSome self.old.link (λ _. (text : List ℕ)
+            × Appends self.old.printed self.new.printed text × PrintsStep step.Disconnected text)) }
     {
         let Some(link) = self.link.take() else {
             return Ok(());

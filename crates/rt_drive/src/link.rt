@@ -5,6 +5,7 @@ ghost use Rattle.rt_input.specs.Counted.{known_output};
 ghost use Rattle.rt_wire.specs.Server.{server_message};
 ghost use Rattle.rt_drive.specs.Ahead.{has_way, heard_by, noted, noted_of, nothing_ahead, with_kept};
 ghost use Rattle.rt_drive.specs.Ahead.{without_first};
+ghost use Rattle.rt_drive.specs.Opening.{is_end};
 ghost use Rattle.rt_drive.specs.Sending.{MakesWay, Sends, SendsAll, linked};
 
 use crate::ahead::{Ahead, answered_by};
@@ -160,9 +161,11 @@ impl<S: Read + Write + Drop, N: RandomSource + Drop> Link<S, N> {
         Ok(None)
     }
 
-    // Ends the connection, and answers how it ended.
-    pub(crate) fn close(self) -> Result<Lost, AllocError> {
-        let Link { socket, .. } = self;
-        close_socket(socket)
+    // Ends the connection, and answers how it ended. As much is read as for one message.
+    pub(crate) fn close(mut self) -> Result<Lost, AllocError>
+        ensures { IfOk result (λ why. is_end why ≡ true) }
+    {
+        self.socket.get_mut().await_message();
+        close_socket(&mut self.socket)
     }
 }

@@ -1,11 +1,14 @@
 // A client's socket: its handshake, its messages, what is sent, and its end.
-ghost use Rattle.std.specs.Prelude.{◌≡◌, ◌==◌, ◌≤◌, [], None, false, IfOk, IfSome};
+ghost use Rattle.std.specs.Prelude.{◌≡◌, ◌==◌, ◌≤◌, [], None, false, true, IfOk, IfErr, IfSome};
 ghost use Rattle.tungstenite.specs.Connection.{close_step, write_step};
 ghost use Rattle.tungstenite.specs.Content.{text as text_content};
 ghost use Rattle.tungstenite.specs.Socket.{Writes};
 ghost use Rattle.rt_input.specs.Counted.{known_output};
 ghost use Rattle.rt_drive.specs.Ahead.{byte_count};
-ghost use Rattle.rt_drive.specs.Hearing.{closed_by, heard_from, heard_of, is_close, is_spent};
+ghost use Rattle.rt_drive.specs.Ending.{Ends, IsUnsent, PassesOver};
+ghost use Rattle.rt_drive.specs.Hearing.{AnswersIf, Hears, HearsAfter, closed_by, heard_from, heard_of};
+ghost use Rattle.rt_drive.specs.Hearing.{is_close, is_spent, known};
+ghost use Rattle.rt_drive.specs.Opening.{IsOpened, ends_it, is_end};
 
 use crate::lost::Lost;
 use rt_input::{Counted, MAX_MESSAGE_BYTES};
@@ -59,7 +62,10 @@ pub(crate) fn opened<S: Read + Write + Drop, N: RandomSource + Drop>(
     alloc: Global,
     random: N,
     stream: S,
-) -> Result<Result<Socket<S, N>, Lost>, AllocError> {
+) -> Result<Result<Socket<S, N>, Lost>, AllocError>
+    ensures opened { IfOk result (λ opened. IfOk opened (IsOpened MAX_MESSAGE_BYTES)) }
+    ensures why { IfOk result (λ opened. IfErr opened (λ why. is_end why ≡ false)) }
+{
     // The address is one, so that only memory can lack.
     let Ok(request) = request_of(alloc, ADDRESS) else {
         return Err(AllocError);
@@ -83,7 +89,8 @@ pub(crate) fn opened<S: Read + Write + Drop, N: RandomSource + Drop>(
 
 // How a connection ends that the server closes.
 fn closed(frame: Option<CloseFrame>) -> Lost
-    ensures { result ≡ closed_by frame }
+    ensures closed { result ≡ closed_by frame }
+    ensures end { is_end result ≡ true }
 {
     match frame {
         Some(frame) => Lost::ClosedWith(frame),
@@ -93,7 +100,8 @@ fn closed(frame: Option<CloseFrame>) -> Lost
 
 // What a message says; none for a ping or a pong.
 fn told_by(message: Message) -> Option<Heard>
-    ensures { result ≡ heard_of message }
+    ensures told { result ≡ heard_of message }
+    ensures end { IfSome result (λ heard. ends_it heard ≡ true) }
 {
     match message {
         Message::Text(words) => Some(Heard::Told(Told::Text(words))),
@@ -105,7 +113,8 @@ fn told_by(message: Message) -> Option<Heard>
 
 // What a read of the socket says; none for a ping or a pong.
 fn heard_from(read: Result<Message, Error>) -> Result<Option<Heard>, AllocError>
-    ensures { result ≡ heard_from read }
+    ensures heard { result ≡ heard_from read }
+    ensures end { IfOk result (λ heard. IfSome heard (λ h. ends_it h ≡ true)) }
 {
     match read {
         Ok(message) => Ok(told_by(message)),
@@ -124,22 +133,54 @@ fn is_close(read: &Result<Message, Error>) -> bool
     }
 }
 
+// Where a close came, it is answered by one, which waits to be sent.
+fn answer_close<S: Read + Write + Drop, N: RandomSource + Drop>(
+    socket: &mut Socket<S, N>,
+    is_close: bool,
+)
+    ensures { AnswersIf is_close (known_output S.contents) socket.old socket.new }
+{
+    if is_close {
+        let _ = socket.flush();
+    }
+}
+
 // The next message of the socket; none for a ping or a pong.
 fn read<S: Read + Write + Drop, N: RandomSource + Drop>(
     socket: &mut Socket<S, N>,
 ) -> Result<Option<Heard>, AllocError>
-    ensures { IfOk result (λ heard. IfSome heard (λ h. is_spent h ≡ false)) }
+    ensures hears { IfOk result (λ heard.
+        Hears (known S.remaining S.contents) socket.old heard socket.new) }
+    ensures unspent { IfOk result (λ heard. IfSome heard (λ h. is_spent h ≡ false)) }
+    ensures end { IfOk result (λ heard. IfSome heard (λ h. ends_it h ≡ true)) }
 {
     let read = socket.read();
-    if is_close(&read) {
-        // A close is answered by one, which waits to be sent.
-        let _ = socket.flush();
-    }
+    answer_close(socket, is_close(&read));
     heard_from(read)
 }
 
 // The next message of the socket. Pings and pongs are passed over, so many of them: with the last the
 // socket has failed.
+fn hear_on<S: Read + Write + Drop, N: RandomSource + Drop>(
+    socket: &mut Socket<S, N>,
+    pings: &mut u32,
+) -> Result<Heard, AllocError>
+    ensures hears { IfOk result (λ heard. HearsAfter (known S.remaining S.contents)
+        pings.old socket.old heard pings.new socket.new) }
+    ensures fewer { pings.new ≤ pings.old }
+    ensures spent { IfOk result (λ heard. is_spent heard ≡ (pings.new == 0)) }
+    ensures end { IfOk result (λ heard. ends_it heard ≡ true) }
+{
+    'pings: while *pings > 0 {
+        if let Some(heard) = read(socket)? {
+            return Ok(heard);
+        }
+        *pings -= 1;
+    }
+    Ok(Heard::Ended(Lost::Pings))
+}
+
+// The next message of the socket, for which as many bytes may be read as for any.
 pub(crate) fn hear<S: Read + Write + Drop, N: RandomSource + Drop>(
     socket: &mut Socket<S, N>,
     pings: &mut u32,
@@ -148,13 +189,7 @@ pub(crate) fn hear<S: Read + Write + Drop, N: RandomSource + Drop>(
     ensures spent { IfOk result (λ heard. is_spent heard ≡ (pings.new == 0)) }
 {
     socket.get_mut().await_message();
-    'pings: while *pings > 0 {
-        if let Some(heard) = read(socket)? {
-            return Ok(heard);
-        }
-        *pings -= 1;
-    }
-    Ok(Heard::Ended(Lost::Pings))
+    hear_on(socket, pings)
 }
 
 // Sends a text, and answers why it could not be sent, if it could not.
@@ -167,6 +202,8 @@ pub(crate) fn send<S: Read + Write + Drop, N: RandomSource + Drop>(
         → Writes (known_output S.contents) socket.old socket.new
         (write_step socket.old.conn (text_content text.now))) }
     ensures empty { IfOk result (λ lost. lost ≡ None → socket.new.output ≡ []) }
+    ensures why { IfOk result (λ lost.
+        IfSome lost (IsUnsent (write_step socket.old.conn (text_content text.now)))) }
 {
     match socket.send(Message::text(alloc, text)?) {
         Ok(()) => Ok(None),
@@ -182,6 +219,8 @@ fn say_close<S: Read + Write + Drop, N: RandomSource + Drop>(
     ensures wrote { IfOk result (λ lost. lost ≡ None
         → Writes (known_output S.contents) socket.old socket.new (close_step socket.old.conn None)) }
     ensures empty { IfOk result (λ lost. lost ≡ None → socket.new.output ≡ []) }
+    ensures why { IfOk result (λ lost. IfSome lost (IsUnsent (close_step socket.old.conn None))) }
+    ensures end { IfOk result (λ lost. IfSome lost (λ why. is_end why ≡ true)) }
 {
     match socket.close(None) {
         Ok(()) => Ok(None),
@@ -191,19 +230,20 @@ fn say_close<S: Read + Write + Drop, N: RandomSource + Drop>(
 }
 
 // Passes over what the server still sends, up to its close or the end of the stream, and answers how the
-// connection ended. No more is read than for one message.
+// connection ended.
 fn pass_over<S: Read + Write + Drop, N: RandomSource + Drop>(
     socket: &mut Socket<S, N>,
-) -> Result<Lost, AllocError> {
-    socket.get_mut().await_message();
+) -> Result<Lost, AllocError>
+    ensures passes { IfOk result (λ why. PassesOver (known S.remaining S.contents)
+        MAX_MESSAGE_BYTES MAX_PINGS socket.old why socket.new) }
+    ensures end { IfOk result (λ why. is_end why ≡ true) }
+{
     let mut pings = MAX_PINGS;
-    // The bytes that are read for a message end this loop before the number does.
-    for _ in 0..u64::MAX {
-        match read(socket)? {
-            Some(Heard::Ended(why)) => return Ok(why),
-            Some(Heard::Told(_)) => {}
-            None if pings <= 1 => return Ok(Lost::Pings),
-            None => pings -= 1,
+    // A message has more than a byte: what may be read ends this loop before the number does.
+    for _ in 0..MAX_MESSAGE_BYTES {
+        match hear_on(socket, &mut pings)? {
+            Heard::Ended(why) => return Ok(why),
+            Heard::Told(_) => {}
         }
     }
     Ok(Lost::Kept)
@@ -212,10 +252,14 @@ fn pass_over<S: Read + Write + Drop, N: RandomSource + Drop>(
 // Says that the client goes, and passes over what the server still sends: a server that was left while it
 // sent would lose what it had not read. Answers how the connection ended.
 pub(crate) fn close_socket<S: Read + Write + Drop, N: RandomSource + Drop>(
-    mut socket: Socket<S, N>,
-) -> Result<Lost, AllocError> {
-    match say_close(&mut socket)? {
+    socket: &mut Socket<S, N>,
+) -> Result<Lost, AllocError>
+    ensures ends { IfOk result (λ why. Ends (known S.remaining S.contents)
+        MAX_MESSAGE_BYTES MAX_PINGS socket.old why socket.new) }
+    ensures end { IfOk result (λ why. is_end why ≡ true) }
+{
+    match say_close(socket)? {
         Some(why) => Ok(why),
-        None => pass_over(&mut socket),
+        None => pass_over(socket),
     }
 }
