@@ -26,9 +26,14 @@ class Emulator:
 
     def __init__(self, program, *words, files=None):
         self.port = free_port()
-        limit = (lambda: resource.setrlimit(resource.RLIMIT_NOFILE, (files, files))) if files else None
+
+        def begin():
+            signal.signal(signal.SIGINT, signal.SIG_DFL)  # which whoever runs this may ignore
+            if files:
+                resource.setrlimit(resource.RLIMIT_NOFILE, (files, files))
+
         pipes = {"stdin": subprocess.PIPE, "stdout": subprocess.PIPE, "stderr": subprocess.PIPE}
-        self.ran = subprocess.Popen([program, "emulate", str(self.port), *words], preexec_fn=limit, **pipes)
+        self.ran = subprocess.Popen([program, "emulate", str(self.port), *words], preexec_fn=begin, **pipes)
         self.saying, self.ran.stderr = Saying(self.ran.stderr, self.port), None
         self.saying.start()
         self.listens = self.saying.is_known.wait(SECONDS) and self.saying.listens
