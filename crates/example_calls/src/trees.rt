@@ -131,7 +131,7 @@ fn object(alloc: Global, key: Key, child: Tree) -> Result<Tree, TreeError> {
     Tree::from_children(alloc, vec![in alloc; (key, child)]?)
 }
 
-// The object of a map of children, none of which is null, as is proved of the caller; null where there are none.
+// The object of a map of children, none of which is null, as is proved of the caller. Of none it is null.
 fn childless(alloc: Global) -> Result<Tree, AllocError> {
     Ok(Tree::object(OrdMap::new(alloc)?))
 }
@@ -148,7 +148,7 @@ fn map(alloc: Global, key: Key, tree: Tree) -> Result<OrdMap<Key, Tree>, AllocEr
     Ok(children)
 }
 
-// A map of entries whose keys rise: they are moved, and none is compared. That they rise is proved of the caller.
+// A map of entries whose keys rise, as is proved of the caller: they are moved, and none is compared.
 fn sorted(alloc: Global, key: Key, tree: Tree) -> Result<OrdMap<Key, Tree>, AllocError> {
     OrdMap::from_sorted(alloc, vec![in alloc; (key, tree)]?)
 }
