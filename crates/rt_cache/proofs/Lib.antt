@@ -1,4 +1,5 @@
 pub mod Bases
+pub mod ByListens
 pub mod Changes
 pub mod Cuts
 pub mod FilteredRuns

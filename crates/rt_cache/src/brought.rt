@@ -217,9 +217,9 @@ impl Brought {
     /// children there as a window that is whole. Windows of other forms go.
     ///
     /// Finds the regions that stay by halving, once for each plain listen kept: of these it reads the
-    /// paths that halving meets, and no tree. It passes each region that is lost with the listens
-    /// kept, and the windows with the registered forms. For each registered filtered form it finds by
-    /// halving the region above it, whether that is lost, and the part above it that stays. It copies
+    /// paths that halving meets, and no tree. For each plain listen kept it finds by halving the region
+    /// above it and whether that is lost, and for each registered filtered form the part above it that
+    /// stays too. It passes the windows with the registered forms. It copies
     /// only the parts and the windows that lost regions leave. For each row of lost regions, and for
     /// each part, the words of the regions or parts behind are moved; where none is lost, no region is
     /// touched.

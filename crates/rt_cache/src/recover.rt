@@ -1,8 +1,8 @@
 // What stays when the listens kept change.
 ghost use Rattle.std.specs.Prelude.{◌≡◌, ℕ, ◌+◌, ◌<◌, ◌≤◌, ◌++◌, T, vec_len, vec_capacity, ◌&&◌, not};
-ghost use Rattle.std.specs.Prelude.{[], List, false, is_some, length, slice_index_or, slice_range, IfOk};
+ghost use Rattle.std.specs.Prelude.{[], List, false, is_some, length, slice_index_or, IfOk};
 ghost use Rattle.std.specs.Prelude.{OnOk, OnErr};
-ghost use Rattle.std.specs.List.{filter, flat_map, list_any, All};
+ghost use Rattle.std.specs.List.{filter, list_any, All};
 ghost use Rattle.std.specs.Option.{option_map};
 ghost use Rattle.std.specs.FinMap as map_of;
 ghost use Rattle.rt_tree.specs.PathTree.{path_cmp};
@@ -10,11 +10,11 @@ ghost use Rattle.rt_tree.specs.Assignments.{have_overlap};
 ghost use Rattle.rt_query.specs.Queries.{Query};
 ghost use Rattle.rt_query.specs.QueryEq.{query_eq};
 ghost use Rattle.rt_cache.specs.QueryOrder.{query_cmp};
-ghost use Rattle.rt_cache.specs.Recover.{reaches, part_for, parts_of, with_regions, regions_kept};
+ghost use Rattle.rt_cache.specs.Recover.{reaches, with_regions, regions_kept};
 ghost use Rattle.rt_cache.specs.Recover.{window_left, do_plains_overlap, recover};
 ghost use Rattle.rt_cache.specs.inside.Held.{pair_of, pairs_of, entry_of, entries_of, for_each, held};
 ghost use Rattle.rt_cache.specs.inside.Held.{AreShort};
-ghost use Rattle.rt_cache.specs.inside.Cuts.{parts_left, IsCut};
+ghost use Rattle.rt_cache.specs.inside.Cuts.{part_below, parts_left, IsCut};
 ghost use Rattle.rt_cache.specs.inside.Spans.{have_place, AreInOrder, without, AreLost};
 ghost use Rattle.rt_cache.specs.declared.region.Region.{Region};
 
@@ -26,35 +26,6 @@ use crate::window::Window;
 use crate::windows::place_of_window;
 use rt_query::Query;
 use std::alloc::{AllocError, Global};
-
-// The part of the region at the query's path, where that is a plain listen under it.
-fn part_for(alloc: Global, region: &Region, query: &Query) -> Result<Option<Region>, AllocError>
-    ensures { IfOk result (λ part. option_map pair_of part ≡ part_for (pair_of region.now) query.now) }
-{
-    if query.is_filtered() || !region.path.is_prefix_of(query.path()) {
-        return Ok(None);
-    }
-    let tree = part_at(alloc, region, query.path())?;
-    Ok(Some(region_of(alloc, query.path(), &tree)?))
-}
-
-// The parts of the region at the plain listens under it, behind the others.
-fn push_parts(
-    alloc: Global,
-    parts: &mut Vec<Region>,
-    region: &Region,
-    kept: &[Query],
-) -> Result<(), AllocError>
-    ensures { OnOk result (pairs_of parts.new.items
-        ≡ pairs_of parts.old.items ++ parts_of kept.now (pair_of region.now)) }
-{
-    for query in kept {
-        if let Some(part) = part_for(alloc, region, query)? {
-            parts.push(part)?;
-        }
-    }
-    Ok(())
-}
 
 // Where the regions stand that the plain listens reach, by the listens.
 fn spans_kept(alloc: Global, regions: &[Region], kept: &[Query]) -> Result<Vec<Span>, AllocError>
@@ -88,29 +59,30 @@ fn spans_lost(alloc: Global, regions: &[Region], kept: &[Query]) -> Result<Vec<S
     places_between(alloc, &spans, regions.len())
 }
 
-// The parts of the regions at the plain listens under them, behind the others.
-fn push_all_parts(
+// The part that a lost region leaves to the query, where that is a plain listen under it.
+fn part_left(
     alloc: Global,
-    parts: &mut Vec<Region>,
     regions: &[Region],
-    kept: &[Query],
-) -> Result<(), AllocError>
-    ensures { OnOk result (pairs_of parts.new.items
-        ≡ pairs_of parts.old.items ++ flat_map (parts_of kept.now) (pairs_of regions.now)) }
+    lost: &[Span],
+    query: &Query,
+) -> Result<Option<Region>, AllocError>
+    requires sorted { T (map_of.is_sorted path_cmp (pairs_of regions.now)) }
+    requires apart { have_overlap (pairs_of regions.now) ≡ false }
+    ensures { (kept : List Query) → AreLost kept regions.now lost.now
+        → IfOk result (λ part. option_map pair_of part
+        ≡ part_below (filter (λ r. not (reaches kept r.0)) (pairs_of regions.now)) query.now) }
 {
-    for region in regions {
-        push_parts(alloc, parts, region, kept)?;
+    if query.is_filtered() {
+        return Ok(None);
     }
-    Ok(())
-}
-
-// The regions of the span.
-fn regions_in<'a>(regions: &'a [Region], span: &Span) -> &'a [Region]
-    requires ordered { span.now.start ≤ span.now.end }
-    requires within { span.now.end ≤ length regions.now }
-    ensures { result.now ≡ slice_range regions.now span.now.start span.now.end }
-{
-    &regions[span.start..span.end]
+    let Some(place) = place_above(regions, query.path()) else {
+        return Ok(None);
+    };
+    if !is_within(lost, place) {
+        return Ok(None);
+    }
+    let tree = part_at(alloc, &regions[place], query.path())?;
+    Ok(Some(region_of(alloc, query.path(), &tree)?))
 }
 
 // The parts that stay of the regions that are lost, in the order of their paths.
@@ -121,6 +93,7 @@ pub(crate) fn parts_left(
     kept: &[Query],
 ) -> Result<Vec<Region>, AllocError>
     requires lost { AreLost kept.now regions.now lost.now }
+    requires order { T (map_of.is_sorted path_cmp (pairs_of regions.now)) }
     requires apart { have_overlap (pairs_of regions.now) ≡ false }
     requires kept { do_plains_overlap kept.now ≡ false }
     ensures parts { IfOk result (λ parts. pairs_of parts.items
@@ -129,8 +102,10 @@ pub(crate) fn parts_left(
     ensures apart { IfOk result (λ parts. have_overlap (pairs_of parts.items) ≡ false) }
 {
     let mut parts = Vec::new(alloc);
-    for span in lost {
-        push_all_parts(alloc, &mut parts, regions_in(regions, span), kept)?;
+    for query in kept {
+        if let Some(part) = part_left(alloc, regions, lost, query)? {
+            parts.push(part)?;
+        }
     }
     in_order(alloc, parts)
 }
