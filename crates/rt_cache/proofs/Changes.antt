@@ -1,5 +1,5 @@
 -- Changes of cover.
-use Rattle.std.proofs.Common.{◌≡◌, Bool, true, false, not, List, [], ◌∷◌, ◌++◌, append-nil, refl, sym, ap, subst, ◌∙◌, OnOk, OnErr, IsOk, is_ok, cond}
+use Rattle.std.proofs.Common.{◌≡◌, Bool, true, false, not, List, [], ◌∷◌, ◌++◌, append-nil, refl, sym, ap, subst, ◌∙◌, OnOk, OnErr}
 use lib.Dec.{T}
 use Rattle.std.specs.declared.result.Result.{Result}
 use Rattle.std.specs.declared.result.Result.TheVariants.{Ok, Err}
@@ -48,10 +48,6 @@ pub changed_stays : {A E : Type 0} (r : Result A E) (registered kept : List Quer
     → OnOk r (new ≡ recover registered kept old) → OnErr r (new ≡ old) → IsCanonical old → IsCanonical new
 changed_stays (Ok x) registered kept old new e ok err h = subst IsCanonical (sym ok) (recover_stays registered kept old e h)
 changed_stays (Err x) registered kept old new e ok err h = subst IsCanonical (sym err) h
-
--- what a call that is done left
-pub of_ok : {A E X : Type 0} (r : Result A E) (x y z : X) → IsOk r → x ≡ cond (is_ok r) y z → x ≡ y
-of_ok r x y z o e = e ∙ ap (λ b. cond b y z) o
 
 twice : (b : Bool) → not (not b) ≡ b
 twice true = refl

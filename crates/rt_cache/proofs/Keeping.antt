@@ -83,19 +83,15 @@ find-both x (e ∷ es) fs =
       | false ↦ find-both x es fs
     ]
 
--- a window stays where its query is registered and no region left one
-abbrev pub stays : List Query → Listed → Query → Bool
-stays registered left q = is_among registered q && not (is_some (map_of.find query_cmp q left))
-
--- those that regions left, and those that stay
+-- those that regions left, in front of the others that are registered
 pub kept_listed : (old new : Regions) (registered : List Query) (left ws : List inside.Window) → entries_of left ≡ for_each (window_left old new) registered
-    → in_query_order (entries_of (left ++ filter (λ w. stays registered (entries_of left) w.query) ws)) ≡ windows_kept registered old new (in_query_order (entries_of ws))
+    → in_query_order (entries_of left ++ entries_of (filter (λ w. is_among registered w.query) ws)) ≡ windows_kept registered old new (in_query_order (entries_of ws))
 kept_listed old new registered left ws e =
-    ap in_query_order (entries_of-append left _ ∙ ap (λ es. entries_of left ++ es) (entries_of-filter (stays registered (entries_of left)) ws))
-    ∙ listed_is (entries_of left ++ filter (λ w. stays registered (entries_of left) w.0) (entries_of ws)) _ (listed_sorted kept)
+    ap (λ es. in_query_order (entries_of left ++ es)) (entries_of-filter (is_among registered) ws)
+    ∙ listed_is (entries_of left ++ filter (λ w. is_among registered w.0) (entries_of ws)) _ (listed_sorted kept)
     (λ x. find-both x (entries_of left) _
-    ∙ ap (option_or (map_of.find query_cmp x (entries_of left))) (find-where_key query_cmp (stays registered (entries_of left)) x (alike x) (entries_of ws))
-    ∙ ap (λ o. option_or o (cond (is_among registered x && not (is_some o)) (map_of.find query_cmp x (entries_of ws)) None)) (ap (map_of.find query_cmp x) e ∙ find-for_each (window_left old new) x registered)
+    ∙ (λ i. option_or ((ap (map_of.find query_cmp x) e ∙ find-for_each (window_left old new) x registered) i)
+    (find-where_key query_cmp (is_among registered) x (alike x) (entries_of ws) i))
     ∙ either (is_among registered x) (window_left old new x) (map_of.find query_cmp x (entries_of ws))
     ∙ ap (λ o. cond (is_among registered x) (option_or (window_left old new x) o) None) (sym (find-listed x (entries_of ws)))
     ∙ sym (find-listed x kept ∙ find-for_each (window_kept old new (in_query_order (entries_of ws))) x registered))
@@ -103,12 +99,11 @@ kept_listed old new registered left ws e =
     kept : Listed
     kept = for_each (window_kept old new (in_query_order (entries_of ws))) registered
 
-    alike : (x y : Query) → query_cmp x y ≡ Equal → stays registered (entries_of left) y ≡ stays registered (entries_of left) x
-    alike x y t = ap (stays registered (entries_of left)) (sym (exact_queries x y t))
+    alike : (x y : Query) → query_cmp x y ≡ Equal → is_among registered y ≡ is_among registered x
+    alike x y t = ap (is_among registered) (sym (exact_queries x y t))
 
-    either : (b : Bool) (l o : Option Window) → option_or (cond b l None) (cond (b && not (is_some (cond b l None))) o None) ≡ cond b (option_or l o) None
-    either true None o = refl
-    either true (Some w) o = refl
+    either : (b : Bool) (l o : Option Window) → option_or (cond b l None) (cond b o None) ≡ cond b (option_or l o) None
+    either true l o = refl
     either false l o = refl
 
 -- ---- they are filtered

@@ -1,4 +1,6 @@
 pub mod Bases
+pub mod ByListens
+pub mod ByPaths
 pub mod Changes
 pub mod Cuts
 pub mod FilteredRuns

@@ -1,14 +1,14 @@
 -- Windows listed in the order of their queries: what is found in the list says what it is.
-use Rattle.std.proofs.Common.{◌≡◌, ℕ, zero, suc, ◌+◌, ◌<◌, below_more, arith, length, set, get_or, drop, Bool, true, false, cond, List, [], ◌∷◌, ◌++◌, refl, sym, ap, ◌∙◌, Some, None}
+use Rattle.std.proofs.Common.{◌≡◌, ℕ, zero, suc, ◌<◌, ◌≤◌, arith, length, set, get_or, append_assoc, Bool, true, false, cond, ◌||◌, List, [], ◌∷◌, ◌++◌, refl, sym, ap, ◌∙◌, Option, Some, None, is_some}
 use mathlib.Core.Bool.{true≢false}
+use Rattle.std.specs.Prelude.{IfNone}
 use lib.Dec.{T}
-use Rattle.std.specs.List.{filter}
-use Rattle.std.proofs.lemmas.List.{get_or_default}
+use Rattle.std.specs.List.{filter, insert, list_any}
 use Rattle.std.specs.declared.cmp.Ordering.TheVariants.{Equal}
 use Rattle.std.specs.Ordering.{eq_by_cmp}
 use Rattle.std.specs.Cmp.{Equal-is, eq_by_cmp_equiv}
 use Rattle.std.specs.FinMap as map_of
-use Rattle.std.specs.FinMap.Entries.{is_sorted-put, is_sorted-where_key, find-put, find-where_key, find-append, same_entries}
+use Rattle.std.specs.FinMap.Entries.{is_sorted-put, is_sorted-where_key, find-put, find-where_key, same_entries}
 use Rattle.rt_query.specs.Queries.{Query}
 use Rattle.rt_query.specs.QueryEq.{query_eq}
 use Rattle.rt_query.specs.laws.QueryEq.{query_eq_tells}
@@ -97,29 +97,58 @@ map-append : (ws vs : List inside.Window) → entries_of (ws ++ vs) ≡ entries_
 map-append [] vs = refl
 map-append (w ∷ ws) vs = ap (λ es. (w.query, seen_window w) ∷ es) (map-append ws vs)
 
--- a new window behind the others
-pub listed-push : (ws : List inside.Window) (new : inside.Window) → map_of.find query_cmp new.query (entries_of ws) ≡ None
-    → in_query_order (entries_of (ws ++ new ∷ [])) ≡ map_of.put query_cmp new.query (seen_window new) (in_query_order (entries_of ws))
-listed-push ws new none =
-    ap in_query_order (map-append ws (new ∷ []))
-    ∙ listed_is (entries_of ws ++ (new.query, seen_window new) ∷ []) _ (is_sorted-put query_cmp queries_total new.query (seen_window new) (in_query_order (entries_of ws)) (listed_sorted (entries_of ws)))
-    (λ x. find-append query_cmp queries_total (entries_of ws) new.query (seen_window new) x none
+-- a new window in front of those of its query
+find-insert : (x : Query) (ws : List inside.Window) (n : ℕ) (new : inside.Window) → n ≤ length ws
+    → ((k : ℕ) (d : inside.Window) → k < n → query_eq (get_or ws k d).query new.query ≡ false)
+    → map_of.find query_cmp x (entries_of (insert ws n new)) ≡ cond (eq_by_cmp query_cmp x new.query) (Some (seen_window new)) (map_of.find query_cmp x (entries_of ws))
+find-insert x ws zero new le before = refl
+find-insert x [] (suc n) new le before = absurd (omega (arith, le))
+find-insert x (w ∷ ws) (suc n) new le before =
+    ap (cond (eq_by_cmp query_cmp x w.query) (Some (seen_window w))) (find-insert x ws n new (omega (arith, le)) (λ k d h. before (suc k) d (omega (arith, h))))
+    ∙ apart (eq_by_cmp query_cmp x w.query) (eq_by_cmp query_cmp x new.query) (Some (seen_window w)) (Some (seen_window new)) (map_of.find query_cmp x (entries_of ws))
+    (λ a b. true≢false (sym ((query_eq_tells w.query new.query).1 (sym (same_query x w.query a) ∙ same_query x new.query b)) ∙ before 0 w (omega arith)))
+
+pub listed-insert : (ws : List inside.Window) (n : ℕ) (new : inside.Window) → n ≤ length ws
+    → ((k : ℕ) (d : inside.Window) → k < n → query_eq (get_or ws k d).query new.query ≡ false)
+    → in_query_order (entries_of (insert ws n new)) ≡ map_of.put query_cmp new.query (seen_window new) (in_query_order (entries_of ws))
+listed-insert ws n new le before =
+    listed_is (entries_of (insert ws n new)) _ (is_sorted-put query_cmp queries_total new.query (seen_window new) (in_query_order (entries_of ws)) (listed_sorted (entries_of ws)))
+    (λ x. find-insert x ws n new le before
     ∙ ap (cond (eq_by_cmp query_cmp x new.query) (Some (seen_window new))) (sym (find-listed x (entries_of ws)))
     ∙ sym (find-put query_cmp queries_total x new.query (seen_window new) (in_query_order (entries_of ws))))
 
--- a window of another query is passed
-pub find-drop : (q : Query) (ws : List inside.Window) (n : ℕ) (d : inside.Window) → n < length ws → query_eq (get_or ws n d).query q ≡ false
-    → map_of.find query_cmp q (entries_of (drop n ws)) ≡ map_of.find query_cmp q (entries_of (drop (suc n) ws))
-find-drop q [] n d lt other = absurd (omega arith)
-find-drop q (w ∷ ws) zero d lt other =
-    ap (λ b. cond b (Some (seen_window w)) (map_of.find query_cmp q (entries_of ws))) ((eq_by_cmp_equiv queries_total).symm q w.query ∙ tie_is_eq w.query q ∙ other)
-find-drop q (w ∷ ws) (suc n) d lt other = find-drop q ws n d (omega arith) other
+-- whether one is found
+pub found_any : (q : Query) (ws : List inside.Window) → list_any (λ (w : inside.Window). query_eq w.query q) ws ≡ is_some (map_of.find query_cmp q (entries_of ws))
+found_any q [] = refl
+found_any q (w ∷ ws) =
+    ap (λ b. b || list_any (λ (x : inside.Window). query_eq x.query q) ws) (sym ((eq_by_cmp_equiv queries_total).symm q w.query ∙ tie_is_eq w.query q))
+    ∙ elim (eq_by_cmp query_cmp q w.query) as (λ b. (b || list_any (λ (x : inside.Window). query_eq x.query q) ws) ≡ is_some (cond b (Some (seen_window w)) (map_of.find query_cmp q (entries_of ws)))) [
+      | true ↦ refl
+      | false ↦ found_any q ws
+    ]
 
--- no window so far passes a test, nor the next
-pub before_more : (test : inside.Window → Bool) (ws : List inside.Window) (n : ℕ) (w : inside.Window) → n < length ws → test (get_or ws n w) ≡ false
-    → ((k : ℕ) (d : inside.Window) → k < n → test (get_or ws k d) ≡ false) → (k : ℕ) (d : inside.Window) → k < n + 1 → test (get_or ws k d) ≡ false
-before_more test ws n w lt here before k d h =
-    below_more (λ j. test (get_or ws j d) ≡ false) n (λ j g. before j d g) (ap test (get_or_default ws n d w lt) ∙ here) k h
+none_found : (o : Option Window) → is_some o ≡ false → o ≡ None
+none_found None e = refl
+none_found (Some w) e = absurd (true≢false e)
+
+pub none_unless : (r : Option ℕ) (o : Option Window) → is_some r ≡ is_some o → IfNone r (o ≡ None)
+none_unless None o e = none_found o (sym e)
+none_unless (Some n) o e = tt
+
+-- ---- windows in front of others
+
+pub ordered-behind : (es fs gs : Listed) → in_query_order fs ≡ in_query_order gs → in_query_order (es ++ fs) ≡ in_query_order (es ++ gs)
+ordered-behind [] fs gs e = e
+ordered-behind (x ∷ es) fs gs e = ap (map_of.put query_cmp x.0 x.1) (ordered-behind es fs gs e)
+
+-- the last of those in front is put first
+pub one_put : (before : List inside.Window) (w : inside.Window) (ws vs : List inside.Window)
+    → in_query_order (entries_of vs) ≡ map_of.put query_cmp w.query (seen_window w) (in_query_order (entries_of ws))
+    → in_query_order (entries_of before ++ entries_of vs) ≡ in_query_order (entries_of (before ++ w ∷ []) ++ entries_of ws)
+one_put before w ws vs e =
+    ordered-behind (entries_of before) (entries_of vs) ((w.query, seen_window w) ∷ entries_of ws) e
+    ∙ ap in_query_order (sym (append_assoc (entries_of before) ((w.query, seen_window w) ∷ []) (entries_of ws)))
+    ∙ ap (λ es. in_query_order (es ++ entries_of ws)) (sym (map-append before (w ∷ [])))
 
 -- ---- some windows taken out
 

@@ -28,7 +28,7 @@ use Rattle.rt_cache.proofs.Stays.{Regions, overlaps, overlaps-insert}
 overlaps_itself : (p : Path) → do_overlap p p ≡ true
 overlaps_itself p = ap (λ o. is_some o || is_some o) (ap (strip p) (sym (append-nil p)) ∙ strip-append p [])
 
-same_path : (x p : Path) → eq_by_cmp path_cmp x p ≡ true → x ≡ p
+pub same_path : (x p : Path) → eq_by_cmp path_cmp x p ≡ true → x ≡ p
 same_path x p e = exact_paths x p ((Equal-is (path_cmp x p)).0 e)
 
 -- what a path is apart from stands nowhere at it
@@ -43,7 +43,7 @@ absent p (r ∷ rs) e =
     ] refl
 
 -- regions that are apart from one another, put beside others
-find-with : (x : Path) (rs more : Regions) → have_overlap more ≡ false
+pub find-with : (x : Path) (rs more : Regions) → have_overlap more ≡ false
     → map_of.find path_cmp x (with_regions rs more) ≡ option_or (map_of.find path_cmp x more) (map_of.find path_cmp x rs)
 find-with x rs [] e = refl
 find-with x rs (r ∷ more) e =
@@ -56,7 +56,7 @@ find-with x rs (r ∷ more) e =
       | false ↦ λ f. refl
     ] refl
 
-or_none : {X : Type 0} (o : Option X) → option_or o None ≡ o
+pub or_none : {X : Type 0} (o : Option X) → option_or o None ≡ o
 or_none None = refl
 or_none (Some x) = refl
 

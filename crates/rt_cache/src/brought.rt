@@ -6,6 +6,7 @@ ghost use Rattle.rt_tree.specs.PathTree.{PathTree, path_cmp, levels};
 ghost use Rattle.rt_tree.specs.Assignments.{is_at_or_above, have_overlap};
 ghost use Rattle.rt_cache.specs.Canonical.{IsCanonical};
 ghost use Rattle.rt_cache.specs.Recover.{do_plains_overlap, recover};
+ghost use Rattle.rt_cache.specs.inside.ByPath.{AreByPath, query_of};
 ghost use Rattle.rt_cache.specs.inside.Held.{pairs_of, held};
 ghost use Rattle.rt_cache.specs.Brought.{nothing_brought, base, base_child, knows, push_plain};
 ghost use Rattle.rt_cache.specs.Brought.{push, is_without_window};
@@ -23,7 +24,8 @@ use std::marker::Model;
 /// which are the known children of filtered queries.
 ///
 /// Regions stand in the order of their paths, and none is at or above another, so that the one at
-/// or above a path is found by halving. Each tree is a store of its own, so that a tree that a call
+/// or above a path is found by halving. Windows stand in the order of their queries' paths, so that
+/// those of a path are found by halving too. Each tree is a store of its own, so that a tree that a call
 /// doesn't touch is neither copied nor walked, and has an equal tree beside it, of which all parts
 /// that are handed out are shared copies.
 pub struct Brought {
@@ -46,12 +48,14 @@ impl Model for Brought {
     ghost Value = { what.Brought };
 
     ghost use Rattle.rt_cache.specs.Canonical.{IsCanonical, FitsLevels};
+    ghost use Rattle.rt_cache.specs.inside.ByPath.{AreByPath, query_of};
     ghost use Rattle.rt_cache.specs.inside.Held.{held};
 
     ghost view = { λ a. held a.regions.items a.windows.items };
 
     ghost invariant = { λ a. IsCanonical (held a.regions.items a.windows.items)
-        × FitsLevels (held a.regions.items a.windows.items) };
+        × FitsLevels (held a.regions.items a.windows.items)
+        × AreByPath query_of a.windows.items };
 }
 
 // The tree put into the region at or above the path, or else begun as a region.
@@ -65,6 +69,8 @@ fn put_plain(
     requires levels { length path.now + levels tree.now ≤ MAX_LEVELS }
     requires sorted { T (map_of.is_sorted path_cmp (pairs_of regions.old.items)) }
     requires apart { have_overlap (pairs_of regions.old.items) ≡ false }
+    requires windows { AreByPath query_of windows.old.items }
+    ensures order { AreByPath query_of windows.new.items }
     ensures ok { OnOk result (held regions.new.items windows.new.items
         ≡ push_plain (held regions.old.items windows.old.items) (path.now, tree.now)) }
     ensures err { OnErr result (held regions.new.items windows.new.items
@@ -103,8 +109,9 @@ impl Brought {
     /// where there is none ([`Brought::lacks_window`]): the push is stale and changes nothing.
     ///
     /// Finds the region by halving, where keys that the path shares with all regions that are left
-    /// are not compared again, or the window by going over their queries, and then costs by the
-    /// path and the tree that is put. A push that begins a region finds those that it takes in by
+    /// are not compared again, or the window by halving, where it goes over those of its path alone,
+    /// and then costs by the path and the tree that is put. A new window moves the words of those
+    /// behind it. A push that begins a region finds those that it takes in by
     /// halving, drops them, moves the words of the regions behind it, and passes the queries of all
     /// windows. No other tree is walked.
     ///
@@ -128,8 +135,7 @@ impl Brought {
 
     /// Whether something is brought for the query: a region at or above its path, or its window.
     ///
-    /// Finds the region by halving; where there is none it goes over the queries of the windows.
-    /// Builds no tree, and takes no memory.
+    /// Finds the region by halving, and where there is none the window, of those of its path. Builds no tree, and takes no memory.
     pub fn knows(&self, query: &Query) -> bool
         ensures known { result ≡ knows self.now query.now }
         ensures canonical { IsCanonical self.now }
@@ -141,8 +147,8 @@ impl Brought {
     /// Whether a push on the listen of this query at the path would be stale, for want of a window:
     /// [`Brought::put`] would give `Ok(false)`, whatever the tree.
     ///
-    /// Goes over the queries of the windows, if the query is filtered and the path is not its own.
-    /// Takes no memory.
+    /// Finds the window by halving, of those of its path, if the query is filtered and the path is not
+    /// its own. Takes no memory.
     pub fn lacks_window(&self, query: &Query, path: &Path) -> bool
         ensures { (u : PathTree) → result ≡ is_without_window self.now query.now (path.now, u) }
     {
@@ -217,12 +223,12 @@ impl Brought {
     /// children there as a window that is whole. Windows of other forms go.
     ///
     /// Finds the regions that stay by halving, once for each plain listen kept: of these it reads the
-    /// paths that halving meets, and no tree. It passes each region that is lost with the listens
-    /// kept, and the windows with the registered forms. For each registered filtered form it finds by
-    /// halving the region above it, whether that is lost, and the part above it that stays. It copies
-    /// only the parts and the windows that lost regions leave. For each row of lost regions, and for
-    /// each part, the words of the regions or parts behind are moved; where none is lost, no region is
-    /// touched.
+    /// paths that halving meets, and no tree. For each plain listen kept it finds by halving the region
+    /// above it and whether that is lost, and for each registered filtered form the part above it that
+    /// stays too. It sorts the registered forms by path, without copying one, and looks for the form of
+    /// each window by halving. It copies only the parts and the windows that lost regions leave. For each
+    /// row of lost regions, and for each part or window, the words of those behind are moved; where none
+    /// is lost, no region is touched.
     ///
     /// An `Err` is want of memory, and changes nothing: all that is made is made before the first
     /// change.

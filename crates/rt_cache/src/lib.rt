@@ -10,6 +10,7 @@
 
 mod base;
 mod brought;
+mod by_path;
 mod examples;
 mod laws;
 mod paths;

@@ -1,60 +1,32 @@
 // What stays when the listens kept change.
-ghost use Rattle.std.specs.Prelude.{◌≡◌, ℕ, ◌+◌, ◌<◌, ◌≤◌, ◌++◌, T, vec_len, vec_capacity, ◌&&◌, not};
-ghost use Rattle.std.specs.Prelude.{[], List, false, is_some, length, slice_index_or, slice_range, IfOk};
+ghost use Rattle.std.specs.Prelude.{◌≡◌, ℕ, ◌+◌, ◌<◌, ◌≤◌, ◌++◌, T, vec_len, vec_capacity, not};
+ghost use Rattle.std.specs.Prelude.{[], List, false, length, slice_index_or, IfOk};
 ghost use Rattle.std.specs.Prelude.{OnOk, OnErr};
-ghost use Rattle.std.specs.List.{filter, flat_map, list_any, All};
+ghost use Rattle.std.specs.List.{filter, list_any, All};
 ghost use Rattle.std.specs.Option.{option_map};
 ghost use Rattle.std.specs.FinMap as map_of;
 ghost use Rattle.rt_tree.specs.PathTree.{path_cmp};
 ghost use Rattle.rt_tree.specs.Assignments.{have_overlap};
 ghost use Rattle.rt_query.specs.Queries.{Query};
 ghost use Rattle.rt_query.specs.QueryEq.{query_eq};
-ghost use Rattle.rt_cache.specs.QueryOrder.{query_cmp};
-ghost use Rattle.rt_cache.specs.Recover.{reaches, part_for, parts_of, with_regions, regions_kept};
+ghost use Rattle.rt_cache.specs.Recover.{reaches, with_regions, regions_kept};
 ghost use Rattle.rt_cache.specs.Recover.{window_left, do_plains_overlap, recover};
+ghost use Rattle.rt_cache.specs.inside.ByPath.{AreByPath, query_of};
 ghost use Rattle.rt_cache.specs.inside.Held.{pair_of, pairs_of, entry_of, entries_of, for_each, held};
 ghost use Rattle.rt_cache.specs.inside.Held.{AreShort};
-ghost use Rattle.rt_cache.specs.inside.Cuts.{parts_left, IsCut};
+ghost use Rattle.rt_cache.specs.inside.Cuts.{part_below, parts_left, IsCut};
 ghost use Rattle.rt_cache.specs.inside.Spans.{have_place, AreInOrder, without, AreLost};
 ghost use Rattle.rt_cache.specs.declared.region.Region.{Region};
 
+use crate::by_path::{Lent, in_path_order, place_of};
 use crate::region::Region;
 use crate::regions::{insert, part_at, place_above, region_of, remove_span, span_under};
 use crate::spans::{Span, is_within, places_between};
 use crate::stored_tree::StoredTree;
 use crate::window::Window;
-use crate::windows::place_of_window;
+use crate::windows::put_windows;
 use rt_query::Query;
 use std::alloc::{AllocError, Global};
-
-// The part of the region at the query's path, where that is a plain listen under it.
-fn part_for(alloc: Global, region: &Region, query: &Query) -> Result<Option<Region>, AllocError>
-    ensures { IfOk result (λ part. option_map pair_of part ≡ part_for (pair_of region.now) query.now) }
-{
-    if query.is_filtered() || !region.path.is_prefix_of(query.path()) {
-        return Ok(None);
-    }
-    let tree = part_at(alloc, region, query.path())?;
-    Ok(Some(region_of(alloc, query.path(), &tree)?))
-}
-
-// The parts of the region at the plain listens under it, behind the others.
-fn push_parts(
-    alloc: Global,
-    parts: &mut Vec<Region>,
-    region: &Region,
-    kept: &[Query],
-) -> Result<(), AllocError>
-    ensures { OnOk result (pairs_of parts.new.items
-        ≡ pairs_of parts.old.items ++ parts_of kept.now (pair_of region.now)) }
-{
-    for query in kept {
-        if let Some(part) = part_for(alloc, region, query)? {
-            parts.push(part)?;
-        }
-    }
-    Ok(())
-}
 
 // Where the regions stand that the plain listens reach, by the listens.
 fn spans_kept(alloc: Global, regions: &[Region], kept: &[Query]) -> Result<Vec<Span>, AllocError>
@@ -88,29 +60,30 @@ fn spans_lost(alloc: Global, regions: &[Region], kept: &[Query]) -> Result<Vec<S
     places_between(alloc, &spans, regions.len())
 }
 
-// The parts of the regions at the plain listens under them, behind the others.
-fn push_all_parts(
+// The part that a lost region leaves to the query, where that is a plain listen under it.
+fn part_left(
     alloc: Global,
-    parts: &mut Vec<Region>,
     regions: &[Region],
-    kept: &[Query],
-) -> Result<(), AllocError>
-    ensures { OnOk result (pairs_of parts.new.items
-        ≡ pairs_of parts.old.items ++ flat_map (parts_of kept.now) (pairs_of regions.now)) }
+    lost: &[Span],
+    query: &Query,
+) -> Result<Option<Region>, AllocError>
+    requires sorted { T (map_of.is_sorted path_cmp (pairs_of regions.now)) }
+    requires apart { have_overlap (pairs_of regions.now) ≡ false }
+    ensures { (kept : List Query) → AreLost kept regions.now lost.now
+        → IfOk result (λ part. option_map pair_of part
+        ≡ part_below (filter (λ r. not (reaches kept r.0)) (pairs_of regions.now)) query.now) }
 {
-    for region in regions {
-        push_parts(alloc, parts, region, kept)?;
+    if query.is_filtered() {
+        return Ok(None);
     }
-    Ok(())
-}
-
-// The regions of the span.
-fn regions_in<'a>(regions: &'a [Region], span: &Span) -> &'a [Region]
-    requires ordered { span.now.start ≤ span.now.end }
-    requires within { span.now.end ≤ length regions.now }
-    ensures { result.now ≡ slice_range regions.now span.now.start span.now.end }
-{
-    &regions[span.start..span.end]
+    let Some(place) = place_above(regions, query.path()) else {
+        return Ok(None);
+    };
+    if !is_within(lost, place) {
+        return Ok(None);
+    }
+    let tree = part_at(alloc, &regions[place], query.path())?;
+    Ok(Some(region_of(alloc, query.path(), &tree)?))
 }
 
 // The parts that stay of the regions that are lost, in the order of their paths.
@@ -121,6 +94,7 @@ pub(crate) fn parts_left(
     kept: &[Query],
 ) -> Result<Vec<Region>, AllocError>
     requires lost { AreLost kept.now regions.now lost.now }
+    requires order { T (map_of.is_sorted path_cmp (pairs_of regions.now)) }
     requires apart { have_overlap (pairs_of regions.now) ≡ false }
     requires kept { do_plains_overlap kept.now ≡ false }
     ensures parts { IfOk result (λ parts. pairs_of parts.items
@@ -129,8 +103,10 @@ pub(crate) fn parts_left(
     ensures apart { IfOk result (λ parts. have_overlap (pairs_of parts.items) ≡ false) }
 {
     let mut parts = Vec::new(alloc);
-    for span in lost {
-        push_all_parts(alloc, &mut parts, regions_in(regions, span), kept)?;
+    for query in kept {
+        if let Some(part) = part_left(alloc, regions, lost, query)? {
+            parts.push(part)?;
+        }
     }
     in_order(alloc, parts)
 }
@@ -236,28 +212,17 @@ pub(crate) fn windows_left(
     Ok(left)
 }
 
-// Whether the query is one of these.
-fn is_among(queries: &[Query], query: &Query) -> bool
-    ensures { result ≡ list_any (λ q. query_eq q query.now) queries.now }
-{
-    for other in queries {
-        if other == query {
-            return true;
-        }
-    }
-    false
-}
-
-// The windows of registered queries, but for those that a lost region left a window.
-fn retain_registered(windows: &mut Vec<Window>, left: &[Window], registered: &[Query])
-    ensures left { windows.new.items
-        ≡ filter (λ w. list_any (λ q. query_eq q w.query) registered.now && not (is_some
-        (map_of.find query_cmp w.query (entries_of left.now)))) windows.old.items }
+// The windows of these queries, which stand by their paths.
+fn retain_registered(windows: &mut Vec<Window>, registered: &[Lent<'_>])
+    requires order { AreByPath query_of windows.old.items }
+    requires registered { AreByPath (λ l. l.query.now) registered.now }
+    ensures order { AreByPath query_of windows.new.items }
+    ensures left { windows.new.items ≡ filter (λ w. list_any (λ l. query_eq l.query.now w.query)
+        registered.now) windows.old.items }
     ensures len { vec_len windows.new ≤ vec_len windows.old }
+    ensures room { vec_capacity windows.new ≡ vec_capacity windows.old }
 {
-    windows.retain(|window| {
-        is_among(registered, &window.query) && place_of_window(left, &window.query).is_none()
-    });
+    windows.retain(|window| place_of(registered, &window.query).is_some());
 }
 
 // What is brought after a change of the registered forms and of the listens kept. All that can be
@@ -271,6 +236,8 @@ pub(crate) fn change_cover(
     requires sorted { T (map_of.is_sorted path_cmp (pairs_of regions.old.items)) }
     requires apart { have_overlap (pairs_of regions.old.items) ≡ false }
     requires kept { do_plains_overlap kept.now ≡ false }
+    requires windows { AreByPath query_of windows.old.items }
+    ensures order { AreByPath query_of windows.new.items }
     ensures ok { OnOk result (held regions.new.items windows.new.items
         ≡ recover registered.now kept.now (held regions.old.items windows.old.items)) }
     ensures forms { OnOk result (AreShort registered.now) }
@@ -281,13 +248,13 @@ pub(crate) fn change_cover(
     let alloc = *regions.allocator();
     let lost = spans_lost(alloc, regions, kept)?;
     let parts = parts_left(alloc, regions, &lost, kept)?;
-    let mut all = windows_left(alloc, regions, &lost, &parts, registered)?;
-    all.reserve(windows.len())?;
+    let left = windows_left(alloc, regions, &lost, &parts, registered)?;
+    let forms = in_path_order(alloc, registered)?;
+    windows.reserve(left.len())?;
     regions.reserve(parts.len())?;
     remove_spans(regions, lost);
     insert_all(regions, parts);
-    retain_registered(windows, &all, registered);
-    let _in_reserved_room = all.append(windows);
-    *windows = all;
+    retain_registered(windows, &forms);
+    put_windows(windows, left);
     Ok(())
 }

@@ -1,4 +1,5 @@
 // A window.
+use crate::by_path::HasQuery;
 use crate::stored_tree::StoredTree;
 use rt_query::Query;
 
@@ -16,5 +17,13 @@ impl Drop for Window {
             children: _,
             is_whole: _,
         } = self;
+    }
+}
+
+impl HasQuery for Window {
+    ghost query_of = { λ w. w.query };
+
+    fn query(&self) -> &Query {
+        &self.query
     }
 }

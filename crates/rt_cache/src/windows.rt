@@ -1,5 +1,6 @@
-// Windows of filtered queries, in any order.
-ghost use Rattle.std.specs.Prelude.{◌≡◌, ℕ, ◌+◌, ◌<◌, ◌≤◌, length, IfOk, IfSome, IfNone, OnOk};
+// Windows of filtered queries, in the order of the paths.
+ghost use Rattle.std.specs.Prelude.{◌≡◌, ℕ, ◌+◌, ◌<◌, ◌≤◌, ◌++◌, length, IfOk, IfSome, IfNone, OnOk};
+ghost use Rattle.std.specs.Prelude.{vec_len, vec_capacity};
 ghost use Rattle.std.specs.Prelude.{IsOk, OnErr, None, is_some, not, true, false, slice_index_or};
 ghost use Rattle.std.specs.List.{filter};
 ghost use Rattle.std.specs.Option.{option_map_or};
@@ -9,9 +10,11 @@ ghost use Rattle.rt_tree.specs.Assignments.{is_at_or_above};
 ghost use Rattle.rt_query.specs.QueryEq.{query_eq};
 ghost use Rattle.rt_cache.specs.QueryOrder.{query_cmp};
 ghost use Rattle.rt_cache.specs.Recover.{in_query_order};
-ghost use Rattle.rt_cache.specs.inside.Held.{entries_of, pushed_windows, is_taken};
+ghost use Rattle.rt_cache.specs.inside.ByPath.{AreByPath, query_of};
+ghost use Rattle.rt_cache.specs.inside.Held.{seen_window, entries_of, pushed_windows, is_taken};
 ghost use Rattle.rt_cache.specs.declared.window.Window.{Window};
 
+use crate::by_path::{first_from, place_of};
 use crate::paths::rest_of;
 use crate::stored_tree::StoredTree;
 use crate::window::Window;
@@ -19,8 +22,9 @@ use rt_query::Query;
 use rt_tree::{MAX_LEVELS, Path, Tree};
 use std::alloc::{AllocError, Global};
 
-// Where the window of the query stands.
+// Where the window of the query stands, by halving. Goes over the windows of its path alone.
 pub(crate) fn place_of_window(windows: &[Window], query: &Query) -> Option<usize>
+    requires { AreByPath query_of windows.now }
     ensures known { is_some result
         ≡ is_some (map_of.find query_cmp query.now (entries_of windows.now)) }
     ensures none { IfNone result (map_of.find query_cmp query.now (entries_of windows.now) ≡ None) }
@@ -30,12 +34,52 @@ pub(crate) fn place_of_window(windows: &[Window], query: &Query) -> Option<usize
     ensures first { IfSome result (λ n. (k : ℕ) (d : Window) → k < n
         → query_eq (slice_index_or windows.now k d).query query.now ≡ false) }
 {
-    for (place, window) in windows.iter().enumerate() {
-        if window.query == *query {
-            return Some(place);
-        }
+    place_of(windows, query)
+}
+
+// The window in its place, in front of the others of its path. There is room for it.
+fn insert_window(windows: &mut Vec<Window>, window: Window)
+    requires order { AreByPath query_of windows.old.items }
+    requires room { vec_len windows.old < vec_capacity windows.old }
+    ensures order { AreByPath query_of windows.new.items }
+    ensures listed { in_query_order (entries_of windows.new.items)
+        ≡ map_of.put query_cmp window.query (seen_window window) (in_query_order
+        (entries_of windows.old.items)) }
+    ensures len { vec_len windows.new ≤ vec_len windows.old + 1 }
+    ensures room { vec_capacity windows.old ≤ vec_capacity windows.new }
+{
+    let place = first_from(windows, window.query.path());
+    let _in_reserved_room = windows.insert(place, window);
+}
+
+// The window in place of the one of its query, if there is one. There is room for it.
+fn put_window(windows: &mut Vec<Window>, window: Window)
+    requires order { AreByPath query_of windows.old.items }
+    requires room { vec_len windows.old < vec_capacity windows.old }
+    ensures order { AreByPath query_of windows.new.items }
+    ensures listed { in_query_order (entries_of windows.new.items)
+        ≡ map_of.put query_cmp window.query (seen_window window) (in_query_order
+        (entries_of windows.old.items)) }
+    ensures len { vec_len windows.new ≤ vec_len windows.old + 1 }
+    ensures room { vec_capacity windows.old ≤ vec_capacity windows.new }
+{
+    match place_of_window(windows, &window.query) {
+        Some(place) => windows[place] = window,
+        None => insert_window(windows, window),
     }
-    None
+}
+
+// Each of the windows in its place, for which there is room. Of two of one query the first stays.
+pub(crate) fn put_windows(windows: &mut Vec<Window>, mut more: Vec<Window>)
+    requires order { AreByPath query_of windows.old.items }
+    requires room { vec_len windows.old + vec_len more ≤ vec_capacity windows.old }
+    ensures order { AreByPath query_of windows.new.items }
+    ensures listed { in_query_order (entries_of windows.new.items)
+        ≡ in_query_order (entries_of more.items ++ entries_of windows.old.items) }
+{
+    while let Some(window) = more.pop() {
+        put_window(windows, window);
+    }
 }
 
 // The window of the query replaced by the children of the tree.
@@ -45,6 +89,8 @@ pub(crate) fn replace(
     query: &Query,
     tree: &Tree,
 ) -> Result<(), AllocError>
+    requires { AreByPath query_of windows.old.items }
+    ensures order { AreByPath query_of windows.new.items }
     ensures ok { OnOk result (in_query_order (entries_of windows.new.items)
         ≡ map_of.put query_cmp query.now
         (record { children = children_alone tree.now; is_whole = false }) (in_query_order
@@ -60,11 +106,15 @@ pub(crate) fn replace(
         }
         None => {
             let query = query.copy()?;
-            windows.push(Window {
-                query,
-                children,
-                is_whole: false,
-            })?;
+            windows.reserve(1)?;
+            insert_window(
+                windows,
+                Window {
+                    query,
+                    children,
+                    is_whole: false,
+                },
+            );
         }
     }
     Ok(())
@@ -93,7 +143,9 @@ fn put_into_window(
 
 // The windows that are not at or under the path.
 pub(crate) fn remove_under(windows: &mut Vec<Window>, path: &Path)
-    ensures { in_query_order (entries_of windows.new.items)
+    requires { AreByPath query_of windows.old.items }
+    ensures order { AreByPath query_of windows.new.items }
+    ensures left { in_query_order (entries_of windows.new.items)
         ≡ filter (λ w. not (is_at_or_above path.now w.0.path)) (in_query_order
         (entries_of windows.old.items)) }
 {
@@ -111,6 +163,8 @@ pub(crate) fn push(
 ) -> Result<bool, AllocError>
     requires under { is_at_or_above query.now.path path.now ≡ true }
     requires levels { length path.now + levels tree.now ≤ MAX_LEVELS }
+    requires order { AreByPath query_of windows.old.items }
+    ensures order { AreByPath query_of windows.new.items }
     ensures ok { OnOk result (in_query_order (entries_of windows.new.items)
         ≡ pushed_windows query.now (path.now, tree.now) (in_query_order
         (entries_of windows.old.items))) }

@@ -1,13 +1,20 @@
 -- What a change of cover takes out of regions, and what stays of it.
-use Rattle.std.specs.Prelude.{◌≡◌, not, List, []}
+use Rattle.std.specs.Prelude.{◌≡◌, not, if◌then◌else◌, List, [], Option, None}
 use Rattle.std.specs.List.{filter, flat_map}
+use Rattle.std.specs.Option.{option_map}
 use Rattle.rt_tree.specs.PathTree.{Path, PathTree}
-use Rattle.rt_query.specs.Queries.{Query}
+use Rattle.rt_query.specs.Queries.{Query, is_filtered}
+use Rattle.rt_cache.specs.Brought.{region_part}
 use Rattle.rt_cache.specs.Recover.{reaches, parts_of, with_regions}
 use Rattle.rt_cache.specs.declared.region.Region.{Region}
 use Rattle.rt_cache.specs.declared.spans.Span.{Span}
 use Rattle.rt_cache.specs.inside.Held.{pairs_of}
 use Rattle.rt_cache.specs.inside.Spans.{AreLost}
+
+-- the part of these regions at a plain listen under one of them
+abbrev pub part_below : List (Path × PathTree) → Query → Option (Path × PathTree)
+part_below regions k = if is_filtered k then None else option_map (λ t. (k.path, t))
+    (region_part regions k.path)
 
 -- the parts of the lost regions at the plain listens under them, in the order of paths
 abbrev pub parts_left : List Query → List (Path × PathTree) → List (Path × PathTree)

@@ -1,5 +1,6 @@
-use Rattle.std.proofs.Common.{rules, ◌≡◌, ◌∙◌, ◌++◌, ap, sym, subst, arith, length, not, List, IsOk, IfOk, Vec, Global}
-use Rattle.std.specs.List.{filter, flat_map}
+use Rattle.std.proofs.Common.{rules, ◌≡◌, ◌∙◌, ◌++◌, ap, sym, subst, length, not, Bool, List, IfOk, Vec, Global}
+use Rattle.std.specs.List.{filter, flat_map, list_any}
+use Rattle.std.proofs.lemmas.List.Elements.{filter_agree}
 use Rattle.std.specs.declared.result.Result.{Result}
 use Rattle.std.specs.declared.result.Result.TheVariants.{Ok}
 use lib.Dec.{T}
@@ -9,15 +10,17 @@ use Rattle.rt_tree.specs.PathTree.{path_cmp}
 use Rattle.rt_tree.specs.Assignments.{have_overlap}
 use Rattle.rt_cache.specs.Recover.{reaches, parts_of, with_regions, regions_kept, window_left, in_query_order}
 use Rattle.rt_query.specs.Queries.{Query}
+use Rattle.rt_query.specs.QueryEq.{query_eq}
+use Rattle.rt_cache.specs.declared.by_path.Lent.{Lent}
 use Rattle.rt_cache.specs.declared.region.Region.{Region}
 use Rattle.rt_cache.specs.declared.spans.Span.{Span}
 use Rattle.rt_cache.specs.declared.window.Window.{Window}
 use Rattle.rt_cache.specs.inside.Held.{pairs_of, entries_of, for_each}
 use Rattle.rt_cache.specs.inside.Spans.{AreInOrder, without, AreLost}
-use Rattle.rt_cache.proofs.Changes.{of_ok, stays_lost}
+use Rattle.rt_cache.proofs.Changes.{stays_lost}
 use Rattle.rt_cache.specs.inside.Cuts.{parts_left, IsCut}
 use Rattle.rt_cache.proofs.Parts.{all_parts_apart, in_order_first, left_with_parts}
-use Rattle.rt_cache.proofs.Keeping.{stays, kept_listed}
+use Rattle.rt_cache.proofs.Keeping.{is_among, kept_listed}
 use Rattle.rt_cache.proofs.Stays.{Regions}
 use Rattle.rt_cache.proofs.recover.change_cover.Goals as goal
 
@@ -70,17 +73,17 @@ returns-clause-ok c =
     c.insert_all.ensures ∙ (λ i. with_regions (stay i) (parts i))
     ∙ in_order_first (filter (λ r. reaches c.args.kept.now r.0) old) (flat_map (parts_of c.args.kept.now) (filter (λ r. not (reaches c.args.kept.now r.0)) old)) sorted
     (all_parts_apart c.args.kept.now old c.requires.kept c.requires.apart) in
-    let done : IsOk c.append-in_reserved_room.result =
-    c.append-in_reserved_room.ensures.succeeds (omega (arith, c.in_ok-reserve.ensures.ok, c.len.ensures, c.retain_registered.ensures.len)) in
-    let appended : c.append-in_reserved_room.new.self.items ≡ c.reserve.new.self.items ++ c.retain_registered.new.windows.items =
-    of_ok c.append-in_reserved_room.result _ _ _ done c.append-in_reserved_room.ensures.items in
-    let retained : c.retain_registered.new.windows.items ≡ filter (λ w. stays c.args.registered.now (entries_of c.in_ok-all.all.items) w.query) c.args.windows.now.items =
+    let forms : (p : Query → Bool) → list_any (λ (l : Lent). p l.query.now) c.in_ok-forms.forms.items ≡ list_any p c.args.registered.now = c.in_ok-forms.ensures.same in
+    let retained : c.retain_registered.new.windows.items ≡ filter (λ (w : Window). is_among c.args.registered.now w.query) c.args.windows.now.items =
     c.retain_registered.ensures.left
-    ∙ ap (λ (es : List Window). filter (λ (w : Window). stays c.args.registered.now (entries_of es) w.query) c.args.windows.now.items) (c.deref-7.ensures.value ∙ c.reserve.ensures.items) in
+    ∙ (λ i. filter (λ (w : Window). list_any (λ (l : Lent). query_eq l.query.now w.query) (c.deref-7.ensures.value i)) (c.reserve.ensures.items i))
+    ∙ filter_agree (λ (w : Window). list_any (λ (l : Lent). query_eq l.query.now w.query) c.in_ok-forms.forms.items) (λ (w : Window). is_among c.args.registered.now w.query)
+    (λ w. forms (λ q. query_eq q w.query)) c.args.windows.now.items in
     let cut : IsCut c.args.kept.now c.args.regions.now.items c.in_ok-lost.lost.items c.in_ok-parts.parts.items = record { lost = lost; parts = parts } in
-    let left : entries_of c.in_ok-all.all.items ≡ for_each (window_left old (regions_kept c.args.kept.now old)) c.args.registered.now =
-    left_of c.windows_left.result c.in_ok-all.all c.args.kept.now c.args.registered.now c.deref-4.result.now c.args.regions.now.items c.deref-5.result.now c.in_ok-lost.lost.items c.deref-6.result.now c.in_ok-parts.parts.items
-    c.deref-4.ensures.value c.deref-5.ensures.value c.deref-6.ensures.value c.in_ok-all.was (c.windows_left.ensures.left c.args.kept.now) cut in
-    let windows = ap (λ ws. in_query_order (entries_of ws)) (appended ∙ (λ i. c.reserve.ensures.items i ++ retained i))
-    ∙ kept_listed old (regions_kept c.args.kept.now old) c.args.registered.now c.in_ok-all.all.items c.args.windows.now.items left in
+    let left : entries_of c.in_ok-left.left.items ≡ for_each (window_left old (regions_kept c.args.kept.now old)) c.args.registered.now =
+    left_of c.windows_left.result c.in_ok-left.left c.args.kept.now c.args.registered.now c.deref-4.result.now c.args.regions.now.items c.deref-5.result.now c.in_ok-lost.lost.items c.deref-6.result.now c.in_ok-parts.parts.items
+    c.deref-4.ensures.value c.deref-5.ensures.value c.deref-6.ensures.value c.in_ok-left.was (c.windows_left.ensures.left c.args.kept.now) cut in
+    let windows = c.put_windows.ensures.listed
+    ∙ ap (λ (ws : List Window). in_query_order (entries_of c.in_ok-left.left.items ++ entries_of ws)) retained
+    ∙ kept_listed old (regions_kept c.args.kept.now old) c.args.registered.now c.in_ok-left.left.items c.args.windows.now.items left in
     λ i. record { regions = regions i; windows = windows i }

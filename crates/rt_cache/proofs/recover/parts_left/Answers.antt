@@ -1,61 +1,73 @@
-use Rattle.std.proofs.Common.{rules, ◌≡◌, ◌∙◌, ◌++◌, ◌<◌, [], append-nil, ap, length, not, List, sym, subst, IfOk}
-use Rattle.std.specs.List.{filter, flat_map, slice_range}
+use Rattle.std.proofs.Common.{rules, ◌≡◌, ◌∙◌, ◌+◌, ◌<◌, ◌++◌, ◌∷◌, [], add-one, length, get_or, drop, append-nil, ap, not, List, sym, subst, IfOk, Some, None}
+use Rattle.std.specs.List.{filter, filter_map, cons_option}
+use Rattle.std.specs.Option.{option_map}
 use lib.Dec.{T}
 use Rattle.std.specs.FinMap as map_of
 use Rattle.rt_tree.specs.PathTree.{path_cmp}
 use Rattle.rt_tree.specs.Assignments.{have_overlap}
-use Rattle.rt_cache.specs.Recover.{reaches, parts_of, with_regions}
-use Rattle.rt_cache.specs.declared.region.Region.{Region}
-use Rattle.rt_cache.specs.inside.Cuts.{parts_left}
-use Rattle.rt_cache.specs.declared.spans.Span.{Span}
-use Rattle.rt_cache.specs.inside.Held.{pairs_of}
-use Rattle.rt_cache.proofs.InPlace.{pairs_of-filter_by}
-use Rattle.rt_cache.proofs.InSpans.{passing, each_in_order}
+use Rattle.rt_query.specs.Queries.{Query}
+use Rattle.rt_cache.specs.Recover.{reaches, with_regions}
+use Rattle.rt_cache.specs.inside.Cuts.{part_below, parts_left}
+use Rattle.rt_cache.specs.inside.Held.{pair_of, pairs_of}
+use Rattle.rt_cache.proofs.ByListens.{by_listens, by_listens_apart, listed-drop, one_more_part}
 use Rattle.rt_cache.proofs.Changes.{with_sorted}
-use Rattle.rt_cache.proofs.Parts.{all_dropped, all_parts_apart, parts_apart, if_ok}
+use Rattle.rt_cache.proofs.Parts.{all_dropped, parts_apart, if_ok}
+use Rattle.rt_cache.proofs.Stays.{Regions}
 use Rattle.rt_cache.proofs.recover.parts_left.Goals as goal
+use Rattle.rt_cache.proofs.recover.parts_left.Goals.{in-Some+in_ok-push, in_default}
 
-pub loop-span-init : goal.loop-span-init
-loop-span-init c =
-    let rest : List Region = flat_map (λ (s : Span). slice_range c.args.regions.now s.start s.end) c.args.lost.now in
-    let lost : filter (λ (r : Region). not (reaches c.args.kept.now r.path)) c.args.regions.now ≡ flat_map (λ (s : Span). slice_range c.args.regions.now s.start s.end) c.args.lost.now =
-    passing (λ (r : Region). not (reaches c.args.kept.now r.path)) c.args.regions.now 0 c.args.lost.now c.requires.lost.0 (λ k d le lt. c.requires.lost.1 k d lt) in
-    ap (λ (rs : List Region). pairs_of rs ++ flat_map (parts_of c.args.kept.now) (pairs_of rest)) c.new-parts.ensures.items
-    ∙ ap (flat_map (parts_of c.args.kept.now)) (ap pairs_of (sym lost) ∙ pairs_of-filter_by (λ p. not (reaches c.args.kept.now p)) c.args.regions.now)
-
-pub regions_in-requires-clause-ordered : goal.regions_in-requires-clause-ordered
-regions_in-requires-clause-ordered c =
-    let within : c.loop-span.span-index < length c.args.lost.now = search rules in
-    (each_in_order 0 c.args.lost.now (length c.args.regions.now) c.requires.lost.0 c.loop-span.span-index (record { start = 0; end = 0 }) within).0
-
-pub regions_in-requires-clause-within : goal.regions_in-requires-clause-within
-regions_in-requires-clause-within c =
-    let within : c.loop-span.span-index < length c.args.lost.now = search rules in
-    (each_in_order 0 c.args.lost.now (length c.args.regions.now) c.requires.lost.0 c.loop-span.span-index (record { start = 0; end = 0 }) within).1
+pub loop-query-preserved : goal.loop-query-preserved
+loop-query-preserved c =
+    let ls : Regions = filter (λ r. not (reaches c.args.kept.now r.0)) (pairs_of c.args.regions.now) in
+    let q : Query = c.query-item.result in
+    let within : c.loop-query.query-index < length c.args.kept.now = search rules in
+    let at : q ≡ get_or c.args.kept.now c.loop-query.query-index q = search rules in
+    let rest : Regions = filter_map (part_below ls) (drop (c.loop-query.query-index + 1) c.args.kept.now) in
+    let more : pairs_of c.loop-query.parts.items ++ cons_option (part_below ls q) rest ≡ filter_map (part_below ls) c.args.kept.now =
+    (λ i. pairs_of c.loop-query.parts.items ++ cons_option (part_below ls (at i)) (filter_map (part_below ls) (drop (add-one c.loop-query.query-index i) c.args.kept.now)))
+    ∙ ap (λ ps. pairs_of c.loop-query.parts.items ++ ps) (sym (listed-drop ls c.args.kept.now c.loop-query.query-index q within))
+    ∙ c.loop-query.invariant in
+    let made : option_map pair_of c.in_ok-part.field-0 ≡ part_below ls q =
+    subst (λ r. IfOk r (λ part. option_map pair_of part ≡ part_below ls q)) c.in_ok-part.was (c.part_left.ensures c.args.kept.now c.requires.lost) in
+    let all = ap (λ o. pairs_of c.loop-query.parts.items ++ cons_option o rest) made ∙ more in
+    elim c.match-branch-2.branch [
+      | in-Some+in_ok-push w ↦
+          let some : c.in_ok-part.field-0 ≡ Some w.in-Some.part = search rules in
+          let pushed : c.match-branch-2.parts.items ≡ c.loop-query.parts.items ++ w.in-Some.part ∷ [] = search rules in
+          ap (λ ps. pairs_of ps ++ rest) pushed
+          ∙ one_more_part c.loop-query.parts.items w.in-Some.part rest _
+          (ap (λ o. pairs_of c.loop-query.parts.items ++ cons_option (option_map pair_of o) rest) (sym some) ∙ all)
+      | in_default w ↦
+          let none : c.in_ok-part.field-0 ≡ None = search rules in
+          let same : c.match-branch-2.parts.items ≡ c.loop-query.parts.items = search rules in
+          ap (λ ps. pairs_of ps ++ rest) same
+          ∙ ap (λ o. pairs_of c.loop-query.parts.items ++ cons_option (option_map pair_of o) rest) (sym none) ∙ all
+    ]
 
 -- the parts of all
 pub in_order-requires : goal.in_order-requires
 in_order-requires c =
-    let parts : pairs_of c.loop-span.parts.items ≡ flat_map (parts_of c.args.kept.now) (filter (λ r. not (reaches c.args.kept.now r.0)) (pairs_of c.args.regions.now)) =
-    sym (append-nil (pairs_of c.loop-span.parts.items))
-    ∙ ap (λ (spans : List Span). pairs_of c.loop-span.parts.items ++ flat_map (parts_of c.args.kept.now) (pairs_of (flat_map (λ (s : Span). slice_range c.args.regions.now s.start s.end) spans)))
-    (sym (all_dropped c.loop-span.span-index c.args.lost.now c.loop-span-test.false))
-    ∙ c.loop-span.invariant in
-    record { apart = ap have_overlap parts ∙ all_parts_apart c.args.kept.now (pairs_of c.args.regions.now) c.requires.kept c.requires.apart }
+    let parts : pairs_of c.loop-query.parts.items ≡ filter_map (part_below (filter (λ r. not (reaches c.args.kept.now r.0)) (pairs_of c.args.regions.now))) c.args.kept.now =
+    sym (append-nil (pairs_of c.loop-query.parts.items))
+    ∙ ap (λ (queries : List Query). pairs_of c.loop-query.parts.items ++ filter_map (part_below (filter (λ r. not (reaches c.args.kept.now r.0)) (pairs_of c.args.regions.now))) queries)
+    (sym (all_dropped c.loop-query.query-index c.args.kept.now c.loop-query-test.false))
+    ∙ c.loop-query.invariant in
+    record { apart = ap have_overlap parts ∙ by_listens_apart c.args.kept.now (pairs_of c.args.regions.now) c.requires.kept }
 
 pub returns-clause-parts : goal.returns-clause-parts
 returns-clause-parts c =
-    let parts : pairs_of c.loop-span.parts.items ≡ flat_map (parts_of c.args.kept.now) (filter (λ r. not (reaches c.args.kept.now r.0)) (pairs_of c.args.regions.now)) =
-    sym (append-nil (pairs_of c.loop-span.parts.items))
-    ∙ ap (λ (spans : List Span). pairs_of c.loop-span.parts.items ++ flat_map (parts_of c.args.kept.now) (pairs_of (flat_map (λ (s : Span). slice_range c.args.regions.now s.start s.end) spans)))
-    (sym (all_dropped c.loop-span.span-index c.args.lost.now c.loop-span-test.false))
-    ∙ c.loop-span.invariant in
-    subst (λ ps. IfOk c.in_order.result (λ sorted. pairs_of sorted.items ≡ with_regions [] ps)) parts c.in_order.ensures
+    let parts : pairs_of c.loop-query.parts.items ≡ filter_map (part_below (filter (λ r. not (reaches c.args.kept.now r.0)) (pairs_of c.args.regions.now))) c.args.kept.now =
+    sym (append-nil (pairs_of c.loop-query.parts.items))
+    ∙ ap (λ (queries : List Query). pairs_of c.loop-query.parts.items ++ filter_map (part_below (filter (λ r. not (reaches c.args.kept.now r.0)) (pairs_of c.args.regions.now))) queries)
+    (sym (all_dropped c.loop-query.query-index c.args.kept.now c.loop-query-test.false))
+    ∙ c.loop-query.invariant in
+    subst (λ ps. IfOk c.in_order.result (λ sorted. pairs_of sorted.items ≡ ps))
+    (ap (with_regions []) parts ∙ by_listens c.args.kept.now (pairs_of c.args.regions.now) c.requires.kept c.requires.apart) c.in_order.ensures
 
 pub returns-clause-sorted : goal.returns-clause-sorted
 returns-clause-sorted c =
-    if_ok c.in_order.result (λ sorted. pairs_of sorted.items ≡ with_regions [] (pairs_of c.loop-span.parts.items)) _ c.in_order.ensures
-    (λ sorted e. subst (λ ps. T (map_of.is_sorted path_cmp ps)) (sym e) (with_sorted [] (pairs_of c.loop-span.parts.items) tt))
+    if_ok c.in_order.result (λ sorted. pairs_of sorted.items ≡ with_regions [] (pairs_of c.loop-query.parts.items)) _ c.in_order.ensures
+    (λ sorted e. subst (λ ps. T (map_of.is_sorted path_cmp ps)) (sym e) (with_sorted [] (pairs_of c.loop-query.parts.items) tt))
 
 pub returns-clause-apart : goal.returns-clause-apart
 returns-clause-apart c =

@@ -1,8 +1,17 @@
-use Rattle.std.proofs.Common.{rules}
+use Rattle.std.proofs.Common.{rules, List, sym, subst}
+use Rattle.std.specs.List.{list_any}
 use Rattle.std.proofs.lemmas.Fn.{filter_same}
-use Rattle.rt_cache.specs.inside.Held.{entries_of}
-use Rattle.rt_cache.proofs.Keeping.{stays}
+use Rattle.rt_query.specs.QueryEq.{query_eq}
+use Rattle.rt_cache.specs.declared.by_path.Lent.{Lent}
+use Rattle.rt_cache.specs.declared.window.Window.{Window}
+use Rattle.rt_cache.specs.inside.ByPath.{AreByPath, query_of}
+use Rattle.rt_cache.proofs.ByPaths.{by_path-filter}
 use Rattle.rt_cache.proofs.recover.retain_registered.Goals as goal
 
 pub returns-clause-left : goal.returns-clause-left
-returns-clause-left c = filter_same _ (λ w. stays c.args.registered.now (entries_of c.args.left.now) w.query) _ (λ x b f' k. search rules) _ _ c.retain.ensures.filtered
+returns-clause-left c = filter_same _ (λ (w : Window). list_any (λ (l : Lent). query_eq l.query.now w.query) c.args.registered.now) _ (λ x b f' k. search rules) _ _ c.retain.ensures.filtered
+
+pub returns-clause-order : goal.returns-clause-order
+returns-clause-order c =
+    subst (λ (ws : List Window). AreByPath query_of ws) (sym (returns-clause-left c))
+    (by_path-filter query_of (λ (w : Window). list_any (λ (l : Lent). query_eq l.query.now w.query) c.args.registered.now) c.args.windows.now.items c.requires.order)

@@ -1,26 +1,12 @@
-use Rattle.std.proofs.Common.{rules, ◌≡◌, ◌∙◌, ◌<◌, ap, sym, add-one, length, false, true, is_some, get_or, drop}
+use Rattle.std.proofs.Common.{◌∙◌}
 use Rattle.std.specs.FinMap as map_of
-use Rattle.rt_query.specs.QueryEq.{query_eq}
 use Rattle.rt_cache.specs.QueryOrder.{query_cmp}
-use Rattle.rt_cache.specs.declared.window.Window.{Window}
 use Rattle.rt_cache.specs.inside.Held.{entries_of}
-use Rattle.rt_cache.proofs.Listing.{find-drop, find-at, before_more}
+use Rattle.rt_cache.proofs.Listing.{found_any, none_unless}
 use Rattle.rt_cache.proofs.windows.place_of_window.Goals as goal
 
-pub loop-place-preserved : goal.loop-place-preserved
-loop-place-preserved c =
-    let window : Window = c.index-windows-place.result in
-    let within : c.loop-place.place < length c.args.windows.now = search rules in
-    let other : query_eq (get_or c.args.windows.now c.loop-place.place window).query c.args.query.now ≡ false = search rules in
-    record {
-      before = before_more (λ w. query_eq w.query c.args.query.now) c.args.windows.now c.loop-place.place window within other c.loop-place.invariant.before;
-      left = c.loop-place.invariant.left ∙ find-drop c.args.query.now c.args.windows.now c.loop-place.place window within other
-          ∙ ap (λ n. map_of.find query_cmp c.args.query.now (entries_of (drop n c.args.windows.now))) (sym (add-one c.loop-place.place));
-    }
+pub returns-clause-known : goal.returns-clause-known
+returns-clause-known c = c.place_of.ensures.known ∙ found_any c.args.query.now c.args.windows.now
 
-pub returns-then-eq-clause-known : goal.returns-then-eq-clause-known
-returns-then-eq-clause-known c =
-    let window : Window = c.index-windows-place.result in
-    let within : c.loop-place.place < length c.args.windows.now = search rules in
-    let own : query_eq (get_or c.args.windows.now c.loop-place.place window).query c.args.query.now ≡ true = search rules in
-    sym (ap is_some (find-at c.args.query.now c.args.windows.now c.loop-place.place window within (λ k lt. c.loop-place.invariant.before k window lt) own))
+pub returns-clause-none : goal.returns-clause-none
+returns-clause-none c = none_unless c.place_of.result (map_of.find query_cmp c.args.query.now (entries_of c.args.windows.now)) (c.place_of.ensures.known ∙ found_any c.args.query.now c.args.windows.now)

@@ -12,6 +12,7 @@ invariant_of-self c =
           c.push.ensures.ok c.push.ensures.err c.self.invariant.0,
       filtered_fits c.push.result c.self.inside.regions.items c.self.inside.windows.items c.push.new.windows.items c.args.query.now (c.args.path.now, c.args.tree.now) filtered
           c.requires.levels c.push.ensures.ok c.push.ensures.err c.self.invariant.1,
+      c.push.ensures.order,
     )
 
 pub invariant_of-self-2 : goal.invariant_of-self-2
@@ -21,4 +22,5 @@ invariant_of-self-2 c =
           c.args.query.now (c.args.path.now, c.args.tree.now) plain c.put_plain.ensures.ok c.put_plain.ensures.err c.self.invariant.0,
       plain_fits c.put_plain.result (held c.put_plain.new.regions.items c.put_plain.new.windows.items) (held c.self.inside.regions.items c.self.inside.windows.items)
           c.args.query.now (c.args.path.now, c.args.tree.now) plain c.requires.levels c.put_plain.ensures.ok c.put_plain.ensures.err c.self.invariant.1,
+      c.put_plain.ensures.order,
     )

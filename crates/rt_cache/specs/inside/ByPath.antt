@@ -1,0 +1,19 @@
+-- What has a query, in the order of the paths.
+use Rattle.std.specs.Prelude.{List}
+use Rattle.std.specs.declared.cmp.Ordering.{Ordering}
+use Rattle.std.specs.List.Sorted.{IsSorted}
+use Rattle.rt_tree.specs.PathTree.{path_cmp}
+use Rattle.rt_query.specs.Queries.{Query}
+use Rattle.rt_cache.specs.declared.window.Window.{Window}
+
+-- two elements by the paths of their queries
+abbrev pub by_query : {X : Type 0} → (X → Query) → X → X → Ordering
+by_query query x y = path_cmp (query x).path (query y).path
+
+-- none stands before one in front of it
+abbrev pub AreByPath : {X : Type 0} → (X → Query) → List X → Type 0
+AreByPath query xs = IsSorted (by_query query) xs
+
+-- the query of a window
+abbrev pub query_of : Window → Query
+query_of w = w.query
