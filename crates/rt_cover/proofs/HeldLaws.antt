@@ -305,7 +305,7 @@ middle [] x b = Contains-head x b
 middle (y ∷ a) x b = Contains-later y (a ++ x ∷ b) x (middle a x b)
 
 -- the others stay
-without_one : (a : List Registered) (l : Registered) (b : List Registered) → Rise (a ++ l ∷ b) → filter (λ (x : Registered). not (x.0 == l.0)) (a ++ l ∷ b) ≡ a ++ b
+pub without_one : (a : List Registered) (l : Registered) (b : List Registered) → Rise (a ++ l ∷ b) → filter (λ (x : Registered). not (x.0 == l.0)) (a ++ l ∷ b) ≡ a ++ b
 without_one [] l b rise =
     (λ i. cond (not (eq-eqb l.0 l.0 refl i)) (l ∷ filter (λ (x : Registered). not (x.0 == l.0)) b) (filter (λ (x : Registered). not (x.0 == l.0)) b))
     ∙ filter_all (λ (x : Registered). not (x.0 == l.0)) b
@@ -400,7 +400,7 @@ next_left ends ls i l lt is e = next_is ends ls i l lt is
     ∙ append_assoc (left ends (take i ls)) (l ∷ []) (drop (i + 1) ls)
     ∙ sym (here_is ends ls i l lt is)
 
-own_here : (a : List Registered) (l : Registered) (b : List Registered) → Own (a ++ l ∷ b) → form l.1 ≡ l.1
+pub own_here : (a : List Registered) (l : Registered) (b : List Registered) → Own (a ++ l ∷ b) → form l.1 ≡ l.1
 own_here a l b own = All-contains (λ (x : Registered). form x.1 ≡ x.1) (a ++ l ∷ b) l own (middle a l b)
 
 -- one that ends is there

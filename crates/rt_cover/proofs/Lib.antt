@@ -6,6 +6,7 @@ pub mod CountLaws
 pub mod EndLaws
 pub mod FoundLaws
 pub mod HeldLaws
+pub mod LeaveLaws
 pub mod ListenLaws
 pub mod NewLaws
 pub mod PickLaws
@@ -15,6 +16,7 @@ pub mod RunLaws
 pub mod SearchLaws
 pub mod SeenLaws
 pub mod StartLaws
+pub mod SupplyLaws
 pub mod SupplierLaws
 pub mod TagLaws
 pub mod TagPlaceLaws

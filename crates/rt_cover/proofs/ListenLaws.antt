@@ -193,8 +193,8 @@ supplies_none f ks own none = All-from_contained (λ (k : Tagged). does_supply f
     let is : f ≡ k.form = (query_eq_tells f k.form).0 (sym (supply_filtered f k.form own) ∙ t) in
     true≢false (sym (list_any_with (λ x. does_supply x.form f) ks k m (subst (λ z. does_supply z f ≡ true) is (supply_filtered f f own ∙ (query_eq_tells f f).1 refl))) ∙ none)))
 
-pub none_of_filtered : (f : Query) (ks : List Tagged) → is_filtered f ≡ true → list_any (λ k. does_supply k.form f) ks ≡ false → map (λ (k : Tagged). k.tag) (filter (λ k. does_supply f k.form) ks) ≡ []
-none_of_filtered f ks own none = ap (map (λ (k : Tagged). k.tag)) (filter_none (λ (k : Tagged). does_supply f k.form) ks (supplies_none f ks own none))
+pub none_of_filtered : (f : Query) (ks : List Tagged) → is_filtered f ≡ true → list_any (λ k. does_supply k.form f) ks ≡ false → filter (λ (k : Tagged). does_supply f k.form) ks ≡ []
+none_of_filtered f ks own none = filter_none (λ (k : Tagged). does_supply f k.form) ks (supplies_none f ks own none)
 
 pub all_of_filtered : (f : Query) (ks : List Tagged) → is_filtered f ≡ true → list_any (λ k. does_supply k.form f) ks ≡ false → filter (λ (k : Tagged). not (does_supply f k.form)) ks ≡ ks
 all_of_filtered f ks own none = filter_all (λ (k : Tagged). not (does_supply f k.form)) ks (λ i d lt. ap not (supplies_none f ks own none i d lt))

@@ -1,6 +1,6 @@
 -- Lists that stand by the paths of their forms: those at a path stand together, and so do those at or
 -- under it.
-use Rattle.std.proofs.Common.{◌≡◌, ℕ, zero, suc, ◌+◌, ◌-◌, ◌<◌, ◌≤◌, nat_lt, Bool, true, false, cond, not, List, [], ◌∷◌, ◌++◌, length, take, drop, get_or, refl, sym, ap, subst, ◌∙◌, arith, ltb, ltb-true, ltb-false, None, is_some, append-nil}
+use Rattle.std.proofs.Common.{◌≡◌, ℕ, zero, suc, ◌+◌, ◌-◌, ◌<◌, ◌≤◌, nat_lt, Bool, true, false, cond, not, List, [], ◌∷◌, ◌++◌, length, take, drop, get_or, refl, sym, ap, subst, ◌∙◌, arith, ltb, ltb-true, ltb-false, None, is_some, append-nil, length-append}
 use mathlib.Core.Bool.{true≢false}
 use Rattle.std.specs.Cmp.{IsStrictWeakOrder}
 use Rattle.std.specs.List.{filter, insert, remove_range, All, AllPairs, AllWithin}
@@ -9,10 +9,11 @@ use Rattle.std.specs.Prelude.{slice_range}
 use Rattle.std.specs.Ordering.{is_lt, is_le, is_eq, ordering_index, ordering_then, ordering_reverse}
 use Rattle.std.specs.declared.cmp.Ordering.{Ordering}
 use Rattle.std.specs.declared.cmp.Ordering.TheVariants.{Less, Equal, Greater}
-use Rattle.std.proofs.lemmas.List.{get_or-take, get_or-drop, length-take-le, length-drop, take-append-drop}
+use Rattle.std.proofs.lemmas.List.{get_or-take, get_or-drop, get_or-append_right, length-take-le, length-drop, take-append-drop}
 use Rattle.std.proofs.lemmas.List.Elements.{filter-append, All-append, All-cons, All-take, All-drop}
 use Rattle.std.proofs.lemmas.List.Kept.{AllPairs-cons, AllPairs-filter}
 use Rattle.std.proofs.lemmas.List.Sorted.{searchable_from_sorted, IsPartitionedBy-ltb, IsNonDecreasingBy-drop, ranks_by, sorted_far}
+use Rattle.std.proofs.Math.ListN.{get_or-append}
 use Rattle.std.proofs.Math.Seq.{take-length}
 use Rattle.rt_tree.specs.PathTree.{Path, path_cmp, path_eq, paths_total, exact_paths, key_cmp, key_eq, key_eq-is, key_eq-symm, strip}
 use Rattle.rt_tree.specs.Assignments.{is_at_or_above}
@@ -302,10 +303,16 @@ not_le Less e = absurd (true≢false e)
 not_le Equal e = refl
 not_le Greater e = refl
 
-pub sorted_insert : {X : Type 0} (q : X → Query) (xs : List X) (i : ℕ) (y : X) → IsSorted (by_form q) xs
-    → IsPartitionPoint (λ (x : X). is_le (path_cmp (q x).path (q y).path) ≡ true) (λ (x : X). is_le (path_cmp (q x).path (q y).path) ≡ false) xs i
+lt_le : (o : Ordering) → is_lt o ≡ true → is_le o ≡ true
+lt_le Less e = refl
+lt_le Equal e = absurd (true≢false (sym e))
+lt_le Greater e = absurd (true≢false (sym e))
+
+sorted_between : {X : Type 0} (q : X → Query) (xs : List X) (i : ℕ) (y : X) → IsSorted (by_form q) xs
+    → AllWithin (λ (x : X). is_le (path_cmp (q x).path (q y).path) ≡ true) xs 0 i
+    → AllWithin (λ (x : X). is_lt (path_cmp (q x).path (q y).path) ≡ false) xs i (length xs)
     → IsSorted (by_form q) (insert xs i y)
-sorted_insert {X = X} q xs i y s at = up_sorted q (insert xs i y) (placed xs i (are_up q xs s) at.0 at.1)
+sorted_between {X = X} q xs i y s a b = up_sorted q (insert xs i y) (placed xs i (are_up q xs s) a b)
   where
     R : X → X → Type 0
     R x z = is_lt (path_cmp (q z).path (q x).path) ≡ false
@@ -315,9 +322,9 @@ sorted_insert {X = X} q xs i y s at = up_sorted q (insert xs i y) (placed xs i (
 
     placed : (zs : List X) (n : ℕ) → AllPairs R zs
         → AllWithin (λ (x : X). is_le (path_cmp (q x).path (q y).path) ≡ true) zs 0 n
-        → AllWithin (λ (x : X). is_le (path_cmp (q x).path (q y).path) ≡ false) zs n (length zs)
+        → AllWithin (λ (x : X). is_lt (path_cmp (q x).path (q y).path) ≡ false) zs n (length zs)
         → AllPairs R (insert zs n y)
-    placed zs zero up a b = AllPairs-cons R y zs (λ k d lt. not_le (path_cmp (q (get_or zs k d)).path (q y).path) (b k d (omega arith) lt)) up
+    placed zs zero up a b = AllPairs-cons R y zs (λ k d lt. b k d (omega arith) lt) up
     placed [] (suc n) up a b = AllPairs-cons R y [] (λ k d lt. absurd (omega (arith, lt))) up
     placed (z ∷ zs) (suc n) up a b =
         let first : All (R z) zs = AllPairs-first R z zs up in
@@ -325,3 +332,37 @@ sorted_insert {X = X} q xs i y s at = up_sorted q (insert xs i y) (placed xs i (
         (All-append (R z) (take n zs) (y ∷ drop n zs) (All-take (R z) n zs first)
         (All-cons (R z) y (drop n zs) (before z (a 0 z (omega arith) (omega arith))) (All-drop (R z) n zs first)))
         (placed zs n (AllPairs-rest R z zs up) (λ k d low lt. a (suc k) d (omega arith) (omega (arith, lt))) (λ k d low lt. b (suc k) d (omega (arith, low)) (omega (arith, lt))))
+
+pub sorted_insert : {X : Type 0} (q : X → Query) (xs : List X) (i : ℕ) (y : X) → IsSorted (by_form q) xs
+    → IsPartitionPoint (λ (x : X). is_le (path_cmp (q x).path (q y).path) ≡ true) (λ (x : X). is_le (path_cmp (q x).path (q y).path) ≡ false) xs i
+    → IsSorted (by_form q) (insert xs i y)
+sorted_insert {X = X} q xs i y s at = sorted_between q xs i y s at.0 (λ k d low lt. not_le (path_cmp (q (get_or xs k d)).path (q y).path) (at.1 k d low lt))
+
+-- or in front of them
+pub sorted_first : {X : Type 0} (q : X → Query) (xs : List X) (i : ℕ) (y : X) → IsSorted (by_form q) xs
+    → IsPartitionPoint (λ (x : X). is_lt (path_cmp (q x).path (q y).path) ≡ true) (λ (x : X). is_lt (path_cmp (q x).path (q y).path) ≡ false) xs i
+    → IsSorted (by_form q) (insert xs i y)
+sorted_first {X = X} q xs i y s at = sorted_between q xs i y s (λ k d low lt. lt_le (path_cmp (q (get_or xs k d)).path (q y).path) (at.0 k d low lt)) at.1
+
+-- a place is one of those that are left, too
+pub point_without : {X : Type 0} (P Q : X → Type 0) (xs : List X) (i n : ℕ) → i + n ≤ length xs → IsPartitionPoint P Q xs i
+    → IsPartitionPoint P Q (remove_range xs i (i + n)) i
+point_without {X = X} P Q xs i n fits at = (first, others)
+  where
+    size : length (take i xs) ≡ i
+    size = length-take-le i xs (omega (arith, fits))
+
+    rest : length (remove_range xs i (i + n)) ≡ i + (length xs - (i + n))
+    rest = length-append (take i xs) (drop (i + n) xs) ∙ (λ j. size j + length-drop (i + n) xs j)
+
+    first : AllWithin P (remove_range xs i (i + n)) 0 i
+    first k d low lt = subst P (sym (get_or-append (take i xs) (drop (i + n) xs) d k (omega (arith, lt, size)) ∙ get_or-take i xs k d lt)) (at.0 k d low lt)
+
+    others : AllWithin Q (remove_range xs i (i + n)) i (length (remove_range xs i (i + n)))
+    others k d low lt = subst Q (sym (get_or-append_right (take i xs) (drop (i + n) xs) i k d size low ∙ get_or-drop (i + n) xs (k - i) d))
+        (at.1 (i + n + (k - i)) d (omega arith) (omega (arith, lt, rest, low, fits)))
+
+pub first_within : {X : Type 0} (xs : List X) (i n : ℕ) → i + n ≤ length xs → i ≤ length (remove_range xs i (i + n))
+first_within {X = X} xs i n fits =
+    let size : length (take i xs) ≡ i = length-take-le i xs (omega (arith, fits)) in
+    omega (arith, size, length-append (take i xs) (drop (i + n) xs))

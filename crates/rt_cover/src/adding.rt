@@ -12,7 +12,7 @@ use rt_query::Query;
 use std::alloc::{AllocError, Global};
 
 // The first place at which no lesser number stands, by halving.
-fn place_of(listeners: &[Listener], number: u64) -> usize
+pub(crate) fn place_of(listeners: &[Listener], number: u64) -> usize
     requires { AllPairs (λ l m. l.0 < m.0) listeners.now }
     ensures first { result ≡ place number listeners.now }
     ensures within { result ≤ length listeners.now }
@@ -21,7 +21,7 @@ fn place_of(listeners: &[Listener], number: u64) -> usize
 }
 
 // Whether a listener of that number stands at the place.
-fn stands_at(listeners: &[Listener], place: usize, number: u64) -> bool
+pub(crate) fn stands_at(listeners: &[Listener], place: usize, number: u64) -> bool
     ensures { result ≡ does_stand listeners.now place number }
 {
     match listeners.get(place) {

@@ -1,4 +1,5 @@
-// What comes before a listener, of those that are left: looked for at its path and at those above.
+// What comes before a listener, of those that are left, and who supplies a query: looked for at its path and
+// at those above.
 ghost use Rattle.std.specs.Prelude.{◌≡◌, ◌<◌, ◌&&◌, true, false, not, nat_lt, length};
 ghost use Rattle.std.specs.List.{list_any, All, AllPairs};
 ghost use Rattle.rt_tree.specs.PathTree.{path_eq};
@@ -10,7 +11,7 @@ ghost use Rattle.rt_query.specs.Supply as Supply;
 ghost use Rattle.rt_cover.specs.inside.Endings.{by_number, left, is_first, is_left_form, is_replaced};
 
 use crate::by_path::HasForm;
-use crate::ending::Ending;
+use crate::ending::{Ending, OfNumbers};
 use crate::listener::Listener;
 use crate::listeners::Listeners;
 use rt_query::Query;
@@ -114,4 +115,14 @@ pub(crate) fn is_behind<E: Ending>(listeners: &Listeners, ending: &E, listener: 
     ensures { result ≡ is_replaced (by_number (E.ended ending.now)) listeners.now listener.now }
 {
     is_seen(listeners, ending, listener) || is_supplied(listeners, ending, listener.form())
+}
+
+// Whether one has a form that supplies this one, be it the same.
+pub(crate) fn has_supplier(listeners: &Listeners, form: &Query) -> bool
+    requires forms { All (λ l. Supply.form l.1 ≡ l.1) listeners.now }
+    requires own { Supply.form form.now ≡ form.now }
+    ensures { result ≡ list_any (λ l. does_supply l.1 form.now) listeners.now }
+{
+    let nobody = OfNumbers { numbers: &[] };
+    is_left(listeners, &nobody, form) || is_supplied(listeners, &nobody, form)
 }

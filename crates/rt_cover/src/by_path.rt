@@ -81,6 +81,8 @@ pub(crate) fn span_under<T: HasForm>(by_path: &[T], path: &Path) -> (usize, usiz
         ≡ filter (λ x. is_at_or_above path.now (T.form_of x).path) by_path.now }
     ensures others { remove_range by_path.now result.0 (result.0 + result.1)
         ≡ filter (λ x. not (is_at_or_above path.now (T.form_of x).path)) by_path.now }
+    ensures point { IsPartitionPoint (λ x. is_lt (path_cmp (T.form_of x).path path.now) ≡ true)
+        (λ x. is_lt (path_cmp (T.form_of x).path path.now) ≡ false) by_path.now result.0 }
 {
     let first = first_from(by_path, path.keys());
     let rest = &by_path[first..];

@@ -1,13 +1,13 @@
 // The cover.
-ghost use Rattle.std.specs.Prelude.{◌≡◌, ◌∷◌, [], ◌<◌, ◌+◌, ◌⊎◌, ◌==◌, false, true, not, map, length, IfOk, IfErr};
-ghost use Rattle.std.specs.Prelude.{OnOk, OnErr, IfSome, IfNone, is_some, ℕ, Bool, List};
+ghost use Rattle.std.specs.Prelude.{◌≡◌, ◌∷◌, [], ◌<◌, ◌+◌, ◌⊎◌, ◌==◌, false, true, not, map, length};
+ghost use Rattle.std.specs.Prelude.{IfOk, IfErr, OnOk, OnErr, IfSome, IfNone, is_some, ℕ, Bool, List};
 ghost use Rattle.std.specs.Prelude.{if◌then◌else◌};
 ghost use Rattle.std.specs.List.{list_any, All, enumerate_from};
 ghost use Rattle.std.specs.Option.{option_copied, option_map, option_map_or};
 
 use crate::adding::started_one;
 use crate::beginning::numbers_begun;
-use crate::behind::{is_first, is_left};
+use crate::behind::{has_supplier, is_first, is_left};
 use crate::by_path::HasForm;
 use crate::choice::Choice;
 use crate::delta::{Delta, Revoked};
@@ -353,7 +353,8 @@ impl Cover {
     fn plan<E: Ending>(&self, ending: &E, tags: &[u64]) -> Result<Plan, AllocError>
         requires tags { tags.now ≡ map (λ k. k.tag)
             (lost (by_number (E.ended ending.now)) self.now.kept self.now.listeners) }
-        requires room { lacks_tag self.now (left (by_number (E.ended ending.now)) self.now.listeners) ≡ false }
+        requires room { lacks_tag self.now
+            (left (by_number (E.ended ending.now)) self.now.listeners) ≡ false }
         ensures lost { IfOk result (λ plan. plan.lost.items
             ≡ lost (by_number (E.ended ending.now)) self.now.kept self.now.listeners) }
         ensures stopped { IfOk result (λ plan. plan.stopped.items ≡ map (λ k. k.tag)
@@ -381,7 +382,8 @@ impl Cover {
     fn end<E: Ending>(&mut self, ending: &E, tags: &[u64]) -> Result<Delta, CoverError>
         requires tags { tags.now ≡ map (λ k. k.tag)
             (lost (by_number (E.ended ending.now)) self.old.kept self.old.listeners) }
-        requires room { lacks_tag self.old (left (by_number (E.ended ending.now)) self.old.listeners) ≡ false }
+        requires room { lacks_tag self.old
+            (left (by_number (E.ended ending.now)) self.old.listeners) ≡ false }
         ensures cover { OnOk result (self.new
             ≡ with_listeners self.old (left (by_number (E.ended ending.now)) self.old.listeners)) }
         ensures delta { IfOk result (λ delta. delta ≡ difference self.old
@@ -461,6 +463,16 @@ impl Cover {
         })
     }
 
+    // Whether a kept listen supplies the form: one does where somebody registered does.
+    fn is_supplied(&self, form: &Query) -> bool
+        requires { Supply.form form.now ≡ form.now }
+        ensures { result ≡ is_some (supplier self.now form.now) }
+    {
+        // For the prover: the cover is sound.
+        let _last_tag = self.last_tag;
+        has_supplier(&self.listeners, form)
+    }
+
     // Registers a listener, where no tag is lacking.
     fn register(&mut self, listener: u64, query: Query) -> Result<Delta, CoverError>
         requires free { is_registered self.old.listeners listener ≡ false }
@@ -474,7 +486,7 @@ impl Cover {
         ensures unchanged { OnErr result (self.new ≡ self.old) }
     {
         let form = into_form(query)?;
-        if self.supplier(&form).is_some() {
+        if self.is_supplied(&form) {
             self.admit(listener, form)
         } else {
             self.begin(listener, form)

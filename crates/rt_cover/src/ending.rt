@@ -1,5 +1,5 @@
 // The listeners that a change ends.
-ghost use Rattle.std.specs.Prelude.{◌≡◌, ◌==◌, ℕ, Bool};
+ghost use Rattle.std.specs.Prelude.{◌≡◌, ◌==◌, ℕ, Bool, IfSome};
 ghost use Rattle.std.specs.List.{list_any};
 
 use crate::choice::Choice;
@@ -12,6 +12,25 @@ pub(crate) trait Ending {
     // Whether the listener of that number ends.
     fn ends(&self, number: u64) -> bool
         ensures { result ≡ ended self.now number };
+
+    // The numbers of those that end, where these are few and stand in a list.
+    fn few(&self) -> Option<&[u64]>
+        ensures { IfSome result (λ numbers. (n : ℕ) → ended self.now n
+            ≡ list_any (λ m. m == n) numbers.now) };
+}
+
+// Up to so many are found one by one: of more, the words that each moves cost more than a look at all.
+const FEW: usize = 32;
+
+// The numbers, where they are few.
+fn few_of(numbers: &[u64]) -> Option<&[u64]>
+    ensures { IfSome result (λ few. (n : ℕ) → list_any (λ m. m == n) numbers.now
+        ≡ list_any (λ m. m == n) few.now) }
+{
+    if numbers.len() > FEW {
+        return None;
+    }
+    Some(numbers)
 }
 
 // The listeners of these numbers end.
@@ -26,6 +45,10 @@ impl Ending for OfNumbers<'_> {
     fn ends(&self, number: u64) -> bool {
         self.numbers.contains(&number)
     }
+
+    fn few(&self) -> Option<&[u64]> {
+        few_of(self.numbers)
+    }
 }
 
 // The same of sorted numbers.
@@ -34,6 +57,10 @@ impl Ending for Sorted {
 
     fn ends(&self, number: u64) -> bool {
         self.has(number)
+    }
+
+    fn few(&self) -> Option<&[u64]> {
+        few_of(self.as_slice())
     }
 }
 
@@ -48,5 +75,9 @@ impl<C: Choice> Ending for OfChoice<'_, C> {
 
     fn ends(&self, number: u64) -> bool {
         self.choice.has(number)
+    }
+
+    fn few(&self) -> Option<&[u64]> {
+        None
     }
 }

@@ -15,7 +15,7 @@ ghost use Rattle.rt_cover.specs.inside.Endings.{by_number, left};
 use crate::adding::{has_number, insert_listener, listener_at};
 use crate::by_path::HasForm;
 use crate::ending::Ending;
-use crate::leaving::retain_left;
+use crate::leaving::{retain_left, take_one};
 use crate::listener::Listener;
 use rt_forms::Forms;
 use rt_query::Query;
@@ -163,13 +163,48 @@ impl Listeners {
         Ok(())
     }
 
-    // Takes out the listeners that end.
-    pub(crate) fn retain_left<E: Ending>(&mut self, ending: &E)
+    // Takes out the listener of that number, found by halving. Costs by its path; words of others are moved.
+    fn end_one(&mut self, number: u64)
+        requires rise { AllPairs (λ l m. l.0 < m.0) self.old }
+        requires own { All (λ l. form l.1 ≡ l.1) self.old }
+        ensures { self.new ≡ left (λ l. number == l.0) self.old }
+    {
+        let Some(listener) = take_one(&mut self.by_number, number) else {
+            return;
+        };
+        self.forms.remove(listener.number(), listener.form());
+    }
+
+    // Takes out those of the numbers, one after another.
+    fn end_each(&mut self, numbers: &[u64])
+        requires rise { AllPairs (λ l m. l.0 < m.0) self.old }
+        requires own { All (λ l. form l.1 ≡ l.1) self.old }
+        ensures { self.new ≡ left (λ l. list_any (λ n. n == l.0) numbers.now) self.old }
+    {
+        for number in numbers {
+            self.end_one(*number);
+        }
+    }
+
+    // Takes out those that end, of all.
+    fn end_among<E: Ending>(&mut self, ending: &E)
         requires rise { AllPairs (λ l m. l.0 < m.0) self.old }
         requires own { All (λ l. form l.1 ≡ l.1) self.old }
         ensures { self.new ≡ left (by_number (E.ended ending.now)) self.old }
     {
         take_ended(&mut self.forms, &self.by_number, ending);
         retain_left(&mut self.by_number, ending);
+    }
+
+    // Takes out the listeners that end: where they are few each is found, and else all are gone over.
+    pub(crate) fn retain_left<E: Ending>(&mut self, ending: &E)
+        requires rise { AllPairs (λ l m. l.0 < m.0) self.old }
+        requires own { All (λ l. form l.1 ≡ l.1) self.old }
+        ensures { self.new ≡ left (by_number (E.ended ending.now)) self.old }
+    {
+        match ending.few() {
+            Some(numbers) => self.end_each(numbers),
+            None => self.end_among(ending),
+        }
     }
 }

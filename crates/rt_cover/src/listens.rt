@@ -1,18 +1,19 @@
 // The listens kept, by tag and by path.
 ghost use Rattle.std.specs.Prelude.{◌≡◌, ◌<◌, ◌≤◌, ◌==◌, ◌+◌, ◌++◌, ◌∷◌, [], ◌&&◌, true, false, not};
-ghost use Rattle.std.specs.Prelude.{map, length, nat_lt, vec_len, vec_capacity};
+ghost use Rattle.std.specs.Prelude.{map, length, nat_lt, slice_range, vec_len, vec_capacity};
 ghost use Rattle.std.specs.Prelude.{IfOk, IfSome, IfNone, OnOk, OnErr};
-ghost use Rattle.std.specs.List.{filter, find, list_any, remove_range, AllPairs};
-ghost use Rattle.std.specs.List.Sorted.{IsSorted};
+ghost use Rattle.std.specs.List.{filter, find, insert, list_any, remove_range, AllPairs};
+ghost use Rattle.std.specs.List.Sorted.{IsPartitionPoint, IsSorted};
+ghost use Rattle.std.specs.Ordering.{is_lt};
 ghost use Rattle.std.specs.Option.{option_map};
-ghost use Rattle.rt_tree.specs.PathTree.{path_eq};
+ghost use Rattle.rt_tree.specs.PathTree.{path_cmp, path_eq};
 ghost use Rattle.rt_tree.specs.Assignments.{is_at_or_above};
 ghost use Rattle.rt_query.specs.Queries.{is_filtered};
 ghost use Rattle.rt_query.specs.QueryEq.{query_eq};
 ghost use Rattle.rt_query.specs.Supply.{does_supply};
 ghost use Rattle.rt_cover.specs.inside.Index.{by_form, form_of, SameCounts};
 
-use crate::by_path::{HasForm, at_path, span_under};
+use crate::by_path::{HasForm, at_path, first_from, span_under};
 use crate::listen::{Listen, copies, have_tag, tags_of};
 use crate::placing::place;
 use crate::supply::supplies;
@@ -126,18 +127,38 @@ fn supplier(by_path: &[Listen], query: &Query) -> Option<u64>
     }
 }
 
-// The tags of those that the form supplies, by tag, where none supplies it.
-fn tags_supplied(alloc: Global, by_path: &[Listen], form: &Query) -> Result<Vec<u64>, AllocError>
+// Where those stand that the form supplies, where none supplies it: so many, from the first on. Without them
+// its own place is there.
+fn span_supplied(by_path: &[Listen], form: &Query) -> (usize, usize)
     requires sorted { IsSorted (by_form form_of) by_path.now }
     requires unsupplied { list_any (λ k. does_supply k.form form.now) by_path.now ≡ false }
+    ensures within { result.0 + result.1 ≤ length by_path.now }
+    ensures exact { slice_range by_path.now result.0 (result.0 + result.1)
+        ≡ filter (λ k. does_supply form.now k.form) by_path.now }
+    ensures others { remove_range by_path.now result.0 (result.0 + result.1)
+        ≡ filter (λ k. not (does_supply form.now k.form)) by_path.now }
+    ensures point { IsPartitionPoint (λ k. is_lt (path_cmp k.form.path form.now.path) ≡ true)
+        (λ k. is_lt (path_cmp k.form.path form.now.path) ≡ false) by_path.now result.0 }
+{
+    let path = form.path();
+    if form.is_filtered() {
+        return (first_from(by_path, path.keys()), 0);
+    }
+    span_under(by_path, path)
+}
+
+// The tags of so many, from the first on, in order.
+fn tags_of_span(
+    alloc: Global,
+    by_path: &[Listen],
+    first: usize,
+    count: usize,
+) -> Result<Vec<u64>, AllocError>
+    requires { first + count ≤ length by_path.now }
     ensures same { IfOk result (λ tags. SameCounts tags.items
-        (map (λ k. k.tag) (filter (λ k. does_supply form.now k.form) by_path.now))) }
+        (map (λ k. k.tag) (slice_range by_path.now first (first + count)))) }
     ensures rise { IfOk result (λ tags. AllPairs (λ s t. s ≤ t) tags.items) }
 {
-    if form.is_filtered() {
-        return Ok(Vec::new(alloc));
-    }
-    let (first, count) = span_under(by_path, form.path());
     let mut tags = tags_of(alloc, &by_path[first..first + count])?;
     tags.sort_unstable_by_key(|tag| *tag);
     Ok(tags)
@@ -168,20 +189,15 @@ fn take_span(listens: &mut Vec<Listen>, first: usize, count: usize)
     drop(listens.drain(first..first + count));
 }
 
-// Takes out those that the form supplies, where none supplies it.
-fn take_supplied(by_path: &mut Vec<Listen>, form: &Query)
-    requires sorted { IsSorted (by_form form_of) by_path.old.items }
-    requires unsupplied { list_any (λ k. does_supply k.form form.now) by_path.old.items ≡ false }
-    ensures left { by_path.new.items
-        ≡ filter (λ k. not (does_supply form.now k.form)) by_path.old.items }
-    ensures len { vec_len by_path.new ≤ vec_len by_path.old }
-    ensures room { vec_capacity by_path.new ≡ vec_capacity by_path.old }
+// Puts a listen in the place of so many, from the first on; there is room for one more.
+fn replace_span(listens: &mut Vec<Listen>, first: usize, count: usize, listen: Listen)
+    requires within { first + count ≤ length listens.old.items }
+    requires room { vec_len listens.old < vec_capacity listens.old }
+    ensures { listens.new.items
+        ≡ insert (remove_range listens.old.items first (first + count)) first listen }
 {
-    if form.is_filtered() {
-        return;
-    }
-    let (first, count) = span_under(by_path, form.path());
-    take_span(by_path, first, count);
+    take_span(listens, first, count);
+    let _in_reserved_room = listens.insert(first, listen);
 }
 
 // From so many on, new listens are put behind the others and all are sorted: the words that each of them
@@ -302,12 +318,12 @@ impl Listens {
         ensures unchanged { OnErr result (self.new ≡ self.old) }
     {
         let alloc = *self.by_tag.allocator();
-        let stopped = tags_supplied(alloc, &self.by_path, listen.form())?;
+        let (first, count) = span_supplied(&self.by_path, listen.form());
+        let stopped = tags_of_span(alloc, &self.by_path, first, count)?;
         let copy = listen.copy()?;
         self.by_tag.reserve(1)?;
         self.by_path.reserve(1)?;
-        take_supplied(&mut self.by_path, listen.form());
-        place(&mut self.by_path, copy);
+        replace_span(&mut self.by_path, first, count, copy);
         take_stopped(&mut self.by_tag, listen.form(), &stopped);
         self.by_tag.push_reserved(listen);
         Ok(stopped)

@@ -69,11 +69,13 @@ beginners ends kept listeners =
 -- whether a listen starts for one whose number passes a test, at or under the path of a lost plain listen
 abbrev pub begins_under : (Registered → Bool) → List Registered → (ℕ → Bool) → Tagged → Bool
 begins_under ends listeners p k = not (is_filtered k.form) && list_any (λ l.
-    (is_at_or_above (k.form).path (l.1).path && (not (ends l) && not (is_replaced ends listeners l))) && p l.0) listeners
+    (is_at_or_above (k.form).path (l.1).path
+    && (not (ends l) && not (is_replaced ends listeners l))) && p l.0) listeners
 
 -- whether one of that number is registered, for whom a listen starts, and the number passes a test
 abbrev pub begins_at : (Registered → Bool) → List Registered → (ℕ → Bool) → ℕ → Bool
-begins_at ends listeners p n = option_map_or (λ l. (not (ends l) && not (is_replaced ends listeners l)) && p n)
+begins_at ends listeners p n =
+    option_map_or (λ l. (not (ends l) && not (is_replaced ends listeners l)) && p n)
     (find (λ l. l.0 == n) listeners) false
 
 -- a listen that starts, by its tag and its listener, and as it is told

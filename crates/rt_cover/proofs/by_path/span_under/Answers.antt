@@ -48,3 +48,8 @@ returns-clause-others g c =
     (IsPartitionPoint-from_clause (λ x. is_at_or_above p (q x).path) _ count c.partition_point-count.ensures.partitioned
     (under_first q p ls _ first (rest_is ls first) c.first_from-first.ensures.within c.requires from) (λ a r f' k. search rules)) in
     span.others
+
+pub returns-clause-point : goal.returns-clause-point
+returns-clause-point g c =
+    let q = g.T.HasForm.form_of in
+    subst (λ z. IsPartitionPoint (λ x. is_lt (path_cmp (q x).path z) ≡ true) (λ x. is_lt (path_cmp (q x).path z) ≡ false) c.args.by_path.now c.first_from-first.result) c.keys.ensures.keys c.first_from-first.ensures.point
