@@ -1,10 +1,12 @@
 // Places between entries, and ranges.
 ghost use Rattle.std.specs.Prelude.{◌≡◌, IfOk};
+ghost use Rattle.rt_order.specs.CutOrder.{cut_cmp, place_cmp};
 ghost use Rattle.rt_order.specs.Cuts.{has, is_after, is_past, mark_value};
 ghost use Rattle.rt_order.specs.Entries.{entry};
 ghost use Rattle.rt_order.specs.SortRef.{value_of};
 
 use crate::index::{Index, sort_value};
+use crate::key::key_cmp;
 use crate::placed_ref::PlacedRef;
 use crate::value::{SortRef, value_cmp};
 use rt_tree::{Key, Leaf, Tree};
@@ -119,6 +121,29 @@ impl Cut {
             Ordering::Greater => false,
         }
     }
+}
+
+// The order of places among the entries of one value.
+fn place_cmp(a: &Place, b: &Place) -> Ordering
+    ensures { result ≡ place_cmp a.now b.now }
+{
+    match (a, b) {
+        (Place::Before(j), Place::Before(k)) | (Place::After(j), Place::After(k)) => key_cmp(j, k),
+        (Place::Before(j), Place::After(k)) => key_cmp(j, k).then(Ordering::Less),
+        (Place::After(j), Place::Before(k)) => key_cmp(j, k).then(Ordering::Greater),
+        (Place::Min, Place::Min) | (Place::Max, Place::Max) => Ordering::Equal,
+        (Place::Min, _) | (_, Place::Max) => Ordering::Less,
+        (Place::Max, _) | (_, Place::Min) => Ordering::Greater,
+    }
+}
+
+/// The order of cuts: by value, then from before all entries of it to after all, those next to a
+/// key by key, before it first. As a lower bound the earlier cut leaves out no more than the later.
+pub fn cut_cmp(a: &Cut, b: &Cut) -> Ordering
+    ensures { result ≡ cut_cmp a.now b.now }
+{
+    let by_value = value_cmp(&a.value.sort_value(), &b.value.sort_value());
+    by_value.then_with(|| place_cmp(&a.place, &b.place))
 }
 
 // An equal cut, where there is one.

@@ -3,7 +3,7 @@
 
 ghost use Rattle.rt_order.specs.laws.Examples.{IntegerKeys, OtherKeys, KeysRise, ValuesByChild};
 ghost use Rattle.rt_order.specs.laws.Examples.{ValuesRise, FromFive, PastFive, FromK, PastK, ToK};
-ghost use Rattle.rt_order.specs.laws.Examples.{BelowK, OnlyK};
+ghost use Rattle.rt_order.specs.laws.Examples.{BelowK, OnlyK, CutsRise};
 
 /// Integer keys come first, by number, then by length.
 pub fn key_examples()
@@ -27,4 +27,9 @@ pub fn range_examples()
     ensures end_at_key { ToK }
     ensures end_before_key { BelowK }
     ensures equal_to_key { OnlyK }
+{}
+
+/// Cuts of one value and of several, from below all keys to above them.
+pub fn cut_examples()
+    ensures rise { CutsRise }
 {}

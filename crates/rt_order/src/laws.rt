@@ -7,6 +7,8 @@ ghost use Rattle.rt_order.specs.KeyOrder.{key_cmp};
 ghost use Rattle.rt_order.specs.Values.{value_cmp};
 ghost use Rattle.rt_order.specs.Entries.{entry_cmp};
 ghost use Rattle.rt_order.specs.laws.EntryOrder.{ObjectsGoByKey};
+ghost use Rattle.rt_order.specs.CutOrder.{cut_cmp};
+ghost use Rattle.rt_order.specs.laws.CutOrder.{EarlierCutsHaveMore};
 ghost use Rattle.rt_order.specs.laws.Cuts.{AboveStaysAfter, AfterIsNextTo, BeforeIsNextTo};
 ghost use Rattle.rt_order.specs.laws.Cuts.{RangesAreRuns};
 
@@ -32,6 +34,14 @@ pub fn cut_laws()
     ensures after { AfterIsNextTo }
     ensures above { AboveStaysAfter }
     ensures runs { RangesAreRuns }
+{}
+
+/// The order of cuts is total, and only equal cuts are equal in it; of two cuts the later one has no
+/// entry after it that the earlier one lacks.
+pub fn cut_order_laws()
+    ensures total { IsTotalOrder cut_cmp }
+    ensures exact { IsAntisymmetric cut_cmp }
+    ensures earlier { EarlierCutsHaveMore }
 {}
 
 /// The tests of equality tell exactly the equal indexes, cuts and ranges.

@@ -2,5 +2,6 @@
 pub mod Bounding
 pub mod Examples
 pub mod QueryEq
+pub mod Ranges
 pub mod Rows
 pub mod Select

@@ -5,6 +5,7 @@ ghost use Rattle.rt_query.specs.laws.Examples.{ByChild, StartsAtValue, StartsAft
 ghost use Rattle.rt_query.specs.laws.Examples.{StartsAtKey, StartsAfterKey, EndsAtKey};
 ghost use Rattle.rt_query.specs.laws.Examples.{EndsBeforeKey, EqualsKey, LastTwo, FirstTwo};
 ghost use Rattle.rt_query.specs.laws.Examples.{StartsAtText, GivenTwice, BoundTwice, BadlyNamed};
+ghost use Rattle.rt_query.specs.laws.Examples.{TakenIn, NotTakenIn};
 
 /// By a child: null, false, true, numbers, texts, objects.
 pub fn order_examples()
@@ -30,4 +31,10 @@ pub fn refusal_examples()
     ensures given_twice { GivenTwice }
     ensures bound_twice { BoundTwice }
     ensures badly_named { BadlyNamed }
+{}
+
+/// Ranges that take in others, and some that don't.
+pub fn range_examples()
+    ensures taken { TakenIn }
+    ensures not_taken { NotTakenIn }
 {}

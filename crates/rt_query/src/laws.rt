@@ -10,6 +10,7 @@ ghost use Rattle.rt_query.specs.laws.Bounding.{
 };
 ghost use Rattle.rt_query.specs.laws.Select.{SelectHasKeysOnce, UnfilteredShowsAll};
 ghost use Rattle.rt_query.specs.laws.QueryEq.{EqualityTells};
+ghost use Rattle.rt_query.specs.laws.Ranges.{WiderHasAll, TakesInOnward, TakesInOneWay};
 
 /// What a query shows: each key once, and where the query is not filtered the whole tree.
 pub fn select_laws()
@@ -38,4 +39,12 @@ pub fn bound_laws()
     ensures end_before { EndsBefore }
     ensures equal_to { Equals }
     ensures keys { ComparesKeys }
+{}
+
+/// A range that takes in another has all that this one has, and takes in what this one takes in; of
+/// two different queries at most one takes in the other.
+pub fn range_laws()
+    ensures wider { WiderHasAll }
+    ensures onward { TakesInOnward }
+    ensures one_way { TakesInOneWay }
 {}

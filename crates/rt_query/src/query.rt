@@ -5,6 +5,7 @@ ghost use Rattle.rt_tree.specs.PathTree.{leaf_of};
 ghost use Rattle.rt_tree.specs.Children.{children_of};
 ghost use Rattle.rt_query.specs.Queries.{IsQuery, is_filtered};
 ghost use Rattle.rt_query.specs.Drafts.{new_draft};
+ghost use Rattle.rt_query.specs.Ranges.{is_lower_within, is_upper_within, takes_in};
 ghost use Rattle.rt_query.specs.Select.{select, rows_of};
 ghost use Rattle.rt_query.specs.inside.Sorting.{in_range, seen};
 ghost use Rattle.rt_query.specs.Supply.{form};
@@ -15,7 +16,7 @@ use crate::limit::{Limit, cut};
 use crate::row::{Row, object_of};
 use crate::shown::Shown;
 use rt_map::OrdMap;
-use rt_order::{Index, Range};
+use rt_order::{Cut, Index, Range, cut_cmp};
 use rt_tree::{Key, Leaf, Path, Tree};
 use std::alloc::{AllocError, Global};
 use std::marker::Model;
@@ -125,6 +126,21 @@ impl Query {
         }
     }
 
+    /// Whether this is a range without a limit, of the other query's path and order, that takes in the
+    /// other's range: what a server sends for it is then enough to show the other, whose limit doesn't
+    /// matter. A query without a start, an end or a limit is no range.
+    pub fn takes_in(&self, other: &Query) -> bool
+        ensures { result ≡ takes_in self.now other.now }
+    {
+        self.is_filtered()
+            && other.is_filtered()
+            && self.path == other.path
+            && self.index == other.index
+            && self.limit.is_none()
+            && is_lower_within(&self.range.lower, &other.range.lower)
+            && is_upper_within(&self.range.upper, &other.range.upper)
+    }
+
     /// What the query shows of a tree, as the Firebase reference has it: the children in the range,
     /// in order, and of these the first or the last n. Of a leaf it shows no rows, and the leaf itself
     /// only where the query is not filtered.
@@ -200,6 +216,28 @@ impl Eq for Query {
     ghost use Rattle.rt_tree.specs.TreeEq.{equivalence};
 
     ghost laws = { equivalence query_eq_tells };
+}
+
+// Whether a lower cut leaves out no more than another.
+fn is_lower_within(outer: &Option<Cut>, inner: &Option<Cut>) -> bool
+    ensures { result ≡ is_lower_within outer.now inner.now }
+{
+    match (outer, inner) {
+        (None, _) => true,
+        (Some(_), None) => false,
+        (Some(outer), Some(inner)) => cut_cmp(outer, inner).is_le(),
+    }
+}
+
+// Whether an upper cut leaves out no more than another.
+fn is_upper_within(outer: &Option<Cut>, inner: &Option<Cut>) -> bool
+    ensures { result ≡ is_upper_within outer.now inner.now }
+{
+    match (outer, inner) {
+        (None, _) => true,
+        (Some(_), None) => false,
+        (Some(outer), Some(inner)) => cut_cmp(inner, outer).is_le(),
+    }
 }
 
 // The leaf that a tree is, if it is one.

@@ -8,6 +8,7 @@ use Rattle.rt_tree.specs.Leaf.{truth, number, text}
 use Rattle.rt_tree.specs.PathTree.{PathTree, null, of_leaf, object}
 use Rattle.rt_tree.specs.PathTree as tree
 use Rattle.rt_order.specs.declared.index.Index.TheVariants.{Child}
+use Rattle.rt_order.specs.declared.cut.Mark.{Mark}
 use Rattle.rt_order.specs.declared.cut.Mark.TheVariants as mark
 use Rattle.rt_order.specs.declared.cut.Place.{Place}
 use Rattle.rt_order.specs.declared.cut.Place.TheVariants.{Min, Before, After, Max}
@@ -16,6 +17,7 @@ use Rattle.rt_order.specs.KeyOrder.{integer_of, key_cmp}
 use Rattle.rt_order.specs.Values.{SortValue, Null, Plain, Object, value_cmp}
 use Rattle.rt_order.specs.Entries.{sort_value}
 use Rattle.rt_order.specs.Cuts.{has}
+use Rattle.rt_order.specs.CutOrder.{cut_cmp}
 
 -- whether each is below the next
 abbrev pub rises : {A : Type 0} → (A → A → Ordering) → List A → Bool
@@ -93,3 +95,18 @@ BelowK = among_fives None (at_five (Before (codes "k"))) ≡ codes "j" ∷ []
 
 abbrev pub OnlyK : Type 0
 OnlyK = among_fives (at_five (Before (codes "k"))) (at_five (After (codes "k"))) ≡ codes "k" ∷ []
+
+-- a cut of a value
+abbrev pub cut_of : Mark → Place → Cut
+cut_of value place = record { value = value; place = place }
+
+-- cuts of null, of the number 5 and of a text, the keys 7 and a among them
+abbrev pub CutsRise : Type 0
+CutsRise = rises cut_cmp
+    (cut_of mark.Null Min ∷ cut_of mark.Null (After (codes "a")) ∷ cut_of mark.Null Max
+    ∷ cut_of (mark.Leaf (number (pos 5))) Min
+    ∷ cut_of (mark.Leaf (number (pos 5))) (Before (codes "7"))
+    ∷ cut_of (mark.Leaf (number (pos 5))) (After (codes "7"))
+    ∷ cut_of (mark.Leaf (number (pos 5))) (Before (codes "a"))
+    ∷ cut_of (mark.Leaf (number (pos 5))) Max
+    ∷ cut_of (mark.Leaf (text (codes "x"))) Min ∷ []) ≡ true

@@ -1,5 +1,5 @@
 -- Outside examples, which the prover computes.
-use Rattle.std.specs.Prelude.{◌≡◌, ℕ, false, true, List, [], ◌∷◌, map, pos, negsuc, Option, Some}
+use Rattle.std.specs.Prelude.{◌≡◌, ℕ, Bool, false, true, List, [], ◌∷◌, map, pos, negsuc, Option, Some}
 use Rattle.std.specs.Prelude.{None, codes}
 use Rattle.rt_tree.specs.Leaf.{truth, number, text}
 use Rattle.rt_tree.specs.PathTree.{Key, PathTree, of_leaf, object}
@@ -15,6 +15,7 @@ use Rattle.rt_query.specs.Bounds.{Bound, start_at, start_after, end_at, end_befo
 use Rattle.rt_query.specs.Calls.{ordered_by, order_refusal, limited_to, limit_refusal, bounded_by}
 use Rattle.rt_query.specs.Calls.{bound_refusal}
 use Rattle.rt_query.specs.Drafts.{Draft, new_draft, finished}
+use Rattle.rt_query.specs.Ranges.{takes_in}
 use Rattle.rt_query.specs.Select.{select}
 
 -- drafts of the root: without an order, in key order, in value order
@@ -151,3 +152,46 @@ BadlyNamed =
     ∷ bound_refusal start_at (numbered 1) (Some (codes "a.b")) by_value
     ∷ []
     ≡ Some NeedsText ∷ Some KeyNotAllowed ∷ Some BadBoundKey ∷ None ∷ Some BadBoundKey ∷ []
+
+-- ---- ranges that take in others
+
+-- by value: startAt(n), endAt(n), and both
+abbrev pub from : ℕ → Draft
+from n = bounded_by start_at (numbered n) None by_value
+
+abbrev pub up_to : ℕ → Draft
+up_to n = bounded_by end_at (numbered n) None by_value
+
+abbrev pub between : ℕ → ℕ → Draft
+between m n = bounded_by end_at (numbered n) None (from m)
+
+-- whether the one draft's query takes in the other's
+abbrev pub is_taken_in : Draft → Draft → Bool
+is_taken_in outer inner = takes_in (finished outer) (finished inner)
+
+-- startAt(3) takes in startAt(5) endAt(9) limitToFirst(1), and itself; startAt(1) endAt(9) takes in
+-- startAt(4) endAt(8); endAt(9) takes in startAt(null) endAt(9)
+abbrev pub TakenIn : Type 0
+TakenIn =
+    is_taken_in (from 3) (limited_to (First 1) (between 5 9))
+    ∷ is_taken_in (from 3) (from 3)
+    ∷ is_taken_in (between 1 9) (between 4 8)
+    ∷ is_taken_in (up_to 9) (bounded_by start_at mark.Null None (up_to 9))
+    ∷ []
+    ≡ true ∷ true ∷ true ∷ true ∷ []
+
+-- no range takes in one that begins before it, or ends after it, or has no such end; startAt(null)
+-- endAt(9) takes in no endAt(9); none with a limit, none of another order, no query without a range
+-- takes in anything, nor does any take in that query
+abbrev pub NotTakenIn : Type 0
+NotTakenIn =
+    is_taken_in (between 4 9) (between 3 8)
+    ∷ is_taken_in (between 4 8) (between 5 9)
+    ∷ is_taken_in (between 4 8) (from 5)
+    ∷ is_taken_in (bounded_by start_at mark.Null None (up_to 9)) (up_to 9)
+    ∷ is_taken_in (limited_to (First 2) (from 3)) (from 5)
+    ∷ is_taken_in (from 3) (bounded_by start_at (worded (codes "b")) None by_key)
+    ∷ is_taken_in by_value (from 3)
+    ∷ is_taken_in (from 3) by_value
+    ∷ []
+    ≡ false ∷ false ∷ false ∷ false ∷ false ∷ false ∷ false ∷ false ∷ []
