@@ -80,7 +80,7 @@ turn : (a b : Entry) → entry_cmp a b ≡ Less → entry_cmp b a ≡ Greater
 turn a b e = entry_cmp_total.antisymm b a ∙ ap ordering_reverse e
 
 -- ---- counts
-abbrev Counts : ℕ → Entries → Entries → Type 0
+abbrev pub Counts : ℕ → Entries → Entries → Type 0
 Counts n s r = (length s ≤ n) × ((length s ≡ n) ⊎ (r ≡ []))
 
 no_length : {X : Type 0} (r : List X) → length r ≡ 0 → r ≡ []

@@ -21,4 +21,5 @@ returns c =
 pub returns-in_default : goal.returns-in_default
 returns-in_default c =
     let none : children_of c.args.known.now ≡ [] = search rules in
-    sym (ap (in_order c.args.query.now) none)
+    let made : c.new.result.entries ≡ [] = search rules in
+    made ∙ sym (ap (in_order c.args.query.now) none)

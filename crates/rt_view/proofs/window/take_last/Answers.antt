@@ -28,8 +28,8 @@ pub returns : goal.returns
 returns c =
     let s = reverse c.loop-child.last.items in
     let r = c.pop_last.new.children.entries in
-    let whole = ap (λ (es : Entries). es ++ s) c.in-None.ensures.same ∙ c.loop-child.invariant.0 in
+    let whole = ap (λ (es : Entries). es ++ s) c.in_default.ensures.same ∙ c.loop-child.invariant.0 in
     let up = sorted-right r s (subst (λ (es : Entries). T (is_sorted entry_cmp es)) (sym whole) c.requires) in
     let counts = counts_taken c.args.n s r (omega (arith, length-reverse c.loop-child.last.items, c.loop-child.invariant.1))
-    (λ fewer. c.in-None.ensures.same ∙ c.in-None.ensures.none (omega (arith, length-reverse c.loop-child.last.items, fewer))) in
+    (λ fewer. c.in_default.ensures.same ∙ c.in_default.ensures.none (omega (arith, length-reverse c.loop-child.last.items, fewer))) in
     IfOk-weaker c.ordered.result _ _ (λ m o. subst (λ (es : Entries). IsWindow (Some (Last c.args.n)) es r c.args.children.now.entries) (sym (same_order s m.entries up (subst (λ (es : Entries). IsOrdering es m.entries) c.reverse.ensures.items o))) (window_last c.args.n s r c.args.children.now.entries c.requires whole counts)) c.ordered.ensures
