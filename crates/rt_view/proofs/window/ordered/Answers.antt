@@ -10,5 +10,5 @@ use Rattle.rt_view.proofs.window.ordered.Goals as goal
 pub returns : goal.returns
 returns c =
     IfOk-weaker c.from_iter.result _ _ (λ all h.
-    let made = subst (λ (xs : Entries). IsFromIterResult entry_cmp xs all) (All-taken h.0 h.1 ((h.3.2 tt).0, h.3.0, h.3.1, (h.3.2 tt).1) ∙ h.2.0) h.4 in
+    let made = subst (λ (xs : Entries). IsFromIterResult entry_cmp xs all) (All-taken h.0 h.1 ((h.3.2 tt).0, (h.3.0, h.3.1, (h.3.2 tt).1)) ∙ h.2.0) h.4 in
     ordering_of c.args.children.items all.entries c.requires made.0 made.1) c.from_iter.ensures.ran

@@ -26,5 +26,5 @@ returns c =
     let r = c.pop_first.new.children.entries in
     let whole = ap (λ (es : Entries). s ++ es) c.in_default.ensures.same ∙ c.loop-child.invariant.0 in
     let up = sorted-left s r (subst (λ (es : Entries). T (is_sorted entry_cmp es)) (sym whole) c.requires) in
-    let counts = counts_taken c.args.n s r c.loop-child.invariant.1 (λ fewer. c.in_default.ensures.same ∙ c.in_default.ensures.none fewer) in
+    let counts = counts_taken c.args.n s r c.loop-child.invariant.1 (λ fewer. c.in_default.ensures.same ∙ c.in_default.ensures.none (omega (arith, c.len.ensures, fewer))) in
     IfOk-weaker c.ordered.result _ _ (λ m o. subst (λ (es : Entries). IsWindow (Some (First c.args.n)) es r c.args.children.now.entries) (sym (same_order s m.entries up o)) (window_first c.args.n s r c.args.children.now.entries c.requires whole counts)) c.ordered.ensures
