@@ -1,5 +1,5 @@
 // What a client holds as long as it has not failed.
-ghost use Rattle.std.specs.Prelude.{◌≡◌, Some, None, IfOk, OnOk, IfErr, IsTrue, is_some};
+ghost use Rattle.std.specs.Prelude.{◌≡◌, Some, None, IsOk, IfOk, OnOk, IfErr, IsTrue, is_some};
 ghost use Rattle.std.specs.Option.{option_map_or};
 ghost use Rattle.rt_world.specs.World.{World};
 ghost use Rattle.rt_client.specs.Seats.{caller_of, closed_by};
@@ -197,12 +197,12 @@ impl Held {
         }
     }
 
-    // The seat's lane hands over what its ring has room for. No open lane has failed, so want of memory
-    // is all that can be answered.
+    // The seat's lane hands over what its ring has room for, which is never refused.
     pub(crate) fn settle(&mut self, seat: u64, inbox: &mut Inbox) -> Result<(), AllocError>
         requires { IsTrue (is_some (lane_of self.old.lanes seat)) }
         ensures settled { OnOk result (HandsDue self.old seat inbox.old self.new inbox.new) }
         ensures refused { IfErr result (λ _. HandsPart self.old seat inbox.old inbox.new) }
+        ensures always { IsOk result }
     {
         match self.lanes.settle(seat, inbox) {
             Ok(()) => Ok(()),

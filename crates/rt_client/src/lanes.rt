@@ -1,5 +1,5 @@
 // The lanes of a client's seats.
-ghost use Rattle.std.specs.Prelude.{◌≡◌, ◌↔◌, OnOk, IfOk, IfErr, IsTrue, Some, None, is_some};
+ghost use Rattle.std.specs.Prelude.{◌≡◌, ◌↔◌, IsOk, OnOk, IfOk, IfErr, IsTrue, Some, None, is_some};
 ghost use Rattle.std.specs.Prelude.{ℕ, ◌+◌, ◌<◌, ◌≤◌, length, replicate};
 ghost use Rattle.std.specs.Option.{option_map, option_map_or};
 ghost use Rattle.rt_mail.specs.Lanes.{Line, why_not, with_waiting, signed_lane, Refuses};
@@ -98,6 +98,7 @@ fn flush_lane(lane: &mut Option<Lane>, inbox: &mut Inbox) -> Result<(), MailErro
     ensures ring { OnOk result (inbox.new ≡ option_map_or (settled_ring inbox.old) lane.old inbox.old) }
     ensures refused { IfErr result (λ e. (l m : Line) × (lane.old ≡ Some l) × (lane.new ≡ Some m)
         × Refuses l inbox.old e m inbox.new) }
+    ensures always { IsOk result }
 {
     match lane {
         Some(lane) => lane.flush(inbox),
@@ -113,6 +114,7 @@ fn flush_at(lanes: &mut Vec<Option<Lane>>, seat: u64, inbox: &mut Inbox) -> Resu
         ≡ option_map_or (settled_ring inbox.old) (lane_of lanes.old.items seat) inbox.old) }
     ensures refused { IfErr result (λ e. RefusesToHand seat lanes.old.items inbox.old e
         lanes.new.items inbox.new) }
+    ensures always { IsOk result }
 {
     if seat == 0 || (seat - 1) as usize >= lanes.len() {
         return Ok(());
@@ -300,6 +302,7 @@ impl Lanes {
         ensures ring { OnOk result (inbox.new
             ≡ option_map_or (settled_ring inbox.old) (lane_of self.old seat) inbox.old) }
         ensures refused { IfErr result (λ e. RefusesToHand seat self.old inbox.old e self.new inbox.new) }
+        ensures always { IsOk result }
     {
         flush_at(&mut self.lanes, seat, inbox)
     }

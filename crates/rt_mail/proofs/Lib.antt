@@ -1,3 +1,4 @@
+mod Walks
 pub mod Calls
 pub mod Halving
 pub mod Handing
