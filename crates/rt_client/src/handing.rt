@@ -94,10 +94,7 @@ impl Shared {
         if seat.client != self.number || !held.lanes.has_lane(seat.number) {
             return Err(ClientError::WrongSeat);
         }
-        let Ok(()) = held.settle(seat.number, &mut seat.inbox) else {
-            drop(self.held.take());
-            return Err(ClientError::NoMemory);
-        };
+        held.settle(seat.number, &mut seat.inbox);
         Ok(())
     }
 
