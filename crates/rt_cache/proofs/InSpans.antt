@@ -54,13 +54,13 @@ none_past from (s ∷ spans) end k h le =
 
 -- ---- filters
 
-filter_all : {X : Type 0} (test : X → Bool) (xs : List X) → All (λ x. test x ≡ true) xs → filter test xs ≡ xs
+pub filter_all : {X : Type 0} (test : X → Bool) (xs : List X) → All (λ x. test x ≡ true) xs → filter test xs ≡ xs
 filter_all test [] h = refl
 filter_all {X} test (x ∷ xs) h =
     ap (λ b. cond b (x ∷ filter test xs) (filter test xs)) (All-head (λ (y : X). test y ≡ true) x xs h)
     ∙ ap (λ ys. x ∷ ys) (filter_all test xs (All-tail (λ (y : X). test y ≡ true) x xs h))
 
-filter_none : {X : Type 0} (test : X → Bool) (xs : List X) → All (λ x. test x ≡ false) xs → filter test xs ≡ []
+pub filter_none : {X : Type 0} (test : X → Bool) (xs : List X) → All (λ x. test x ≡ false) xs → filter test xs ≡ []
 filter_none test [] h = refl
 filter_none {X} test (x ∷ xs) h =
     ap (λ b. cond b (x ∷ filter test xs) (filter test xs)) (All-head (λ (y : X). test y ≡ false) x xs h)

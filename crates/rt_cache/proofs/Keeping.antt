@@ -4,7 +4,7 @@ use mathlib.Core.Bool.{true≢false}
 use Rattle.std.specs.declared.cmp.Ordering.TheVariants.{Equal}
 use Rattle.std.specs.Ordering.{eq_by_cmp}
 use Rattle.std.specs.Option.{option_map, option_or, option_to_list}
-use Rattle.std.specs.List.{filter, cons_option, list_any}
+use Rattle.std.specs.List.{filter, cons_option}
 use Rattle.std.specs.Cmp.{Equal-is, eq_by_cmp_equiv}
 use Rattle.std.specs.FinMap as map_of
 use Rattle.std.specs.FinMap.Entries.{find-where_key}
@@ -14,15 +14,12 @@ use Rattle.rt_query.specs.Queries.{Query, is_filtered}
 use Rattle.rt_query.specs.QueryEq.{query_eq}
 use Rattle.rt_cache.specs.QueryOrder.{query_cmp}
 use Rattle.rt_cache.specs.Brought.{Window, region_part, window_of}
-use Rattle.rt_cache.specs.Recover.{in_query_order, window_left, window_kept, windows_kept}
+use Rattle.rt_cache.specs.Recover.{in_query_order, is_among, window_left, window_kept, windows_kept}
 use Rattle.rt_cache.specs.declared.window.Window as inside
 use Rattle.rt_cache.specs.inside.Held.{seen_window, entry_of, entries_of, for_each}
 use Rattle.rt_cache.proofs.Listing.{Listed, listed_is, listed_sorted, find-listed, entries_of-filter}
 use Rattle.rt_cache.proofs.QueryOrders.{queries_total, exact_queries, tie_is_eq}
 use Rattle.rt_cache.proofs.Stays.{Regions, Windows, AreFiltered, filtered-put}
-
-abbrev pub is_among : List Query → Query → Bool
-is_among queries x = list_any (λ q. query_eq q x) queries
 
 -- what is found of the queries' windows
 module _ (h : Query → Option Window) (x q : Query) (queries : List Query) (rest : map_of.find query_cmp x (for_each h queries) ≡ cond (is_among queries x) (h x) None) where

@@ -4,6 +4,7 @@ pub mod ByPaths
 pub mod Changes
 pub mod Cuts
 pub mod FilteredRuns
+pub mod Forgetting
 pub mod Halves
 pub mod InPlace
 pub mod InSpans

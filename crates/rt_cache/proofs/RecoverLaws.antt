@@ -26,13 +26,13 @@ use Rattle.rt_cache.specs.Brought.{Window, Brought, nothing_brought, region_part
 use Rattle.rt_cache.specs.Brought.{window_of, window_pushed, windows_pushed, push_plain, push}
 use Rattle.rt_cache.specs.Canonical.{IsCanonical}
 use Rattle.rt_cache.specs.Recover.{reaches, part_for, parts_of, with_regions, regions_kept}
-use Rattle.rt_cache.specs.Recover.{window_kept, in_query_order, windows_kept, recover}
+use Rattle.rt_cache.specs.Recover.{is_among, window_kept, in_query_order, windows_kept, recover}
 use Rattle.rt_cache.specs.Runs.{IsAllowed, after, after_all}
 use Rattle.rt_cache.specs.declared.run.Call.{Call}
 use Rattle.rt_cache.specs.declared.run.Call.TheVariants.{Put, Recover}
 use Rattle.rt_cache.specs.inside.Held.{for_each}
 use Rattle.rt_cache.proofs.Changes.{recover_stays}
-use Rattle.rt_cache.proofs.Keeping.{is_among, find-for_each}
+use Rattle.rt_cache.proofs.Keeping.{find-for_each}
 use Rattle.rt_cache.proofs.Listing.{listed_is}
 use Rattle.rt_cache.proofs.QueryOrders.{exact_queries}
 use Rattle.rt_cache.proofs.Stays.{push_stays}

@@ -1,12 +1,13 @@
 -- What stays brought when the listens kept change.
-use Rattle.std.specs.Prelude.{Bool, true, not, ◌&&◌, if◌then◌else◌, List, [], ◌∷◌, Option, Some}
+use Rattle.std.specs.Prelude.{◌≡◌, Bool, true, not, ◌&&◌, if◌then◌else◌, List, [], ◌∷◌, Option, Some}
 use Rattle.std.specs.Prelude.{None, is_some}
-use Rattle.std.specs.List.{filter, filter_map, flat_map, fold, list_any}
+use Rattle.std.specs.List.{filter, filter_map, flat_map, fold, list_any, All}
 use Rattle.std.specs.Option.{option_map, option_or}
 use Rattle.std.specs.FinMap as map_of
 use Rattle.rt_tree.specs.PathTree.{Path, path_cmp, strip, PathTree, null, sub, children_alone}
 use Rattle.rt_tree.specs.Assignments.{is_at_or_above, have_overlap}
 use Rattle.rt_query.specs.Queries.{Query, is_filtered}
+use Rattle.rt_query.specs.QueryEq.{query_eq}
 use Rattle.rt_cache.specs.QueryOrder.{query_cmp}
 use Rattle.rt_cache.specs.Brought.{Window, Brought, region_part, window_of}
 
@@ -73,3 +74,20 @@ recover registered kept b = record {
   regions = regions_kept kept b.regions;
   windows = windows_kept registered b.regions (regions_kept kept b.regions) b.windows;
 }
+
+-- ---- where no plain listen ends
+
+-- whether the query is one of these
+abbrev pub is_among : List Query → Query → Bool
+is_among queries x = list_any (λ q. query_eq q x) queries
+
+-- what was brought, without the windows of these forms
+abbrev pub forgotten : List Query → Brought → Brought
+forgotten forms b = record b { windows = filter (λ w. not (is_among forms w.0)) b.windows }
+
+-- plain listens that are kept reach all regions, and of the forms that have a window those are
+-- registered that are not among these
+pub record EndsForms (forms registered kept : List Query) (b : Brought) : Type 0 where
+  pub regions : All (λ (r : Path × PathTree). reaches kept r.0 ≡ true) b.regions
+  pub windows : All (λ (w : Query × Window). is_among registered w.0 ≡ not (is_among forms w.0))
+      b.windows

@@ -1,11 +1,12 @@
 // What the listens brought.
 ghost use Rattle.std.specs.Prelude.{◌≡◌, ◌+◌, ◌≤◌, T, true, false, not, length, IfOk, IfSome};
-ghost use Rattle.std.specs.Prelude.{◌++◌, ◌∷◌, [], None, IsOk, OnOk, OnErr};
+ghost use Rattle.std.specs.Prelude.{◌++◌, ◌∷◌, [], List, None, IsOk, OnOk, OnErr};
 ghost use Rattle.std.specs.FinMap as map_of;
 ghost use Rattle.rt_tree.specs.PathTree.{PathTree, path_cmp, levels};
 ghost use Rattle.rt_tree.specs.Assignments.{is_at_or_above, have_overlap};
 ghost use Rattle.rt_cache.specs.Canonical.{IsCanonical};
-ghost use Rattle.rt_cache.specs.Recover.{do_plains_overlap, recover};
+ghost use Rattle.rt_query.specs.Queries.{Query};
+ghost use Rattle.rt_cache.specs.Recover.{do_plains_overlap, recover, forgotten, EndsForms};
 ghost use Rattle.rt_cache.specs.inside.ByPath.{AreByPath, query_of};
 ghost use Rattle.rt_cache.specs.inside.Held.{pairs_of, held};
 ghost use Rattle.rt_cache.specs.Brought.{nothing_brought, base, base_child, knows, push_plain};
@@ -238,5 +239,17 @@ impl Brought {
         ensures err { OnErr result (self.new ≡ self.old) }
     {
         recover::change_cover(&mut self.regions, &mut self.windows, registered, kept)
+    }
+
+    /// Forgets the windows of forms that are registered no more. Where no plain listen ends, this is
+    /// all that [`Brought::recover`] does, whatever the forms registered and the listens kept.
+    ///
+    /// Finds each window by halving, and moves the words of those behind it. Takes no memory.
+    pub fn forget(&mut self, forms: &[Query])
+        ensures exact { self.new ≡ forgotten forms.now self.old }
+        ensures recovered { (registered kept : List Query) → EndsForms forms.now registered kept self.old
+            → self.new ≡ recover registered kept self.old }
+    {
+        windows::remove_queries(&mut self.windows, forms);
     }
 }

@@ -1,6 +1,6 @@
 // Windows of filtered queries, in the order of the paths.
 ghost use Rattle.std.specs.Prelude.{◌≡◌, ℕ, ◌+◌, ◌<◌, ◌≤◌, ◌++◌, length, IfOk, IfSome, IfNone, OnOk};
-ghost use Rattle.std.specs.Prelude.{vec_len, vec_capacity};
+ghost use Rattle.std.specs.Prelude.{vec_len, vec_capacity, if◌then◌else◌};
 ghost use Rattle.std.specs.Prelude.{IsOk, OnErr, None, is_some, not, true, false, slice_index_or};
 ghost use Rattle.std.specs.List.{filter};
 ghost use Rattle.std.specs.Option.{option_map_or};
@@ -9,7 +9,8 @@ ghost use Rattle.rt_tree.specs.PathTree.{levels, strip, children_alone, put};
 ghost use Rattle.rt_tree.specs.Assignments.{is_at_or_above};
 ghost use Rattle.rt_query.specs.QueryEq.{query_eq};
 ghost use Rattle.rt_cache.specs.QueryOrder.{query_cmp};
-ghost use Rattle.rt_cache.specs.Recover.{in_query_order};
+ghost use Rattle.rt_query.specs.Queries.{Query};
+ghost use Rattle.rt_cache.specs.Recover.{in_query_order, is_among};
 ghost use Rattle.rt_cache.specs.inside.ByPath.{AreByPath, query_of};
 ghost use Rattle.rt_cache.specs.inside.Held.{seen_window, entries_of, pushed_windows, is_taken};
 ghost use Rattle.rt_cache.specs.declared.window.Window.{Window};
@@ -150,6 +151,32 @@ pub(crate) fn remove_under(windows: &mut Vec<Window>, path: &Path)
         (entries_of windows.old.items)) }
 {
     windows.retain(|window| !path.is_prefix_of(window.query.path()));
+}
+
+// The windows but for that of the query.
+fn remove_query(windows: &mut Vec<Window>, query: &Query)
+    requires { AreByPath query_of windows.old.items }
+    ensures order { AreByPath query_of windows.new.items }
+    ensures left { (x : Query) → map_of.find query_cmp x (entries_of windows.new.items)
+        ≡ (if query_eq query.now x then None
+        else map_of.find query_cmp x (entries_of windows.old.items)) }
+{
+    while let Some(place) = place_of_window(windows, query) {
+        drop(windows.remove(place));
+    }
+}
+
+// The windows but for those of these queries.
+pub(crate) fn remove_queries(windows: &mut Vec<Window>, queries: &[Query])
+    requires { AreByPath query_of windows.old.items }
+    ensures order { AreByPath query_of windows.new.items }
+    ensures left { in_query_order (entries_of windows.new.items)
+        ≡ filter (λ w. not (is_among queries.now w.0)) (in_query_order
+        (entries_of windows.old.items)) }
+{
+    for query in queries {
+        remove_query(windows, query);
+    }
 }
 
 // The tree pushed on the query at the path; whether it was taken: below the query's path a window

@@ -5,7 +5,7 @@ use Rattle.std.specs.List.{filter, find, list_any, slice_get, All, AllPairs, Con
 use Rattle.std.specs.Option.{option_map, option_map_or}
 use Rattle.std.proofs.lemmas.List.{drop_more, take_more, take-append-drop, map-append}
 use Rattle.std.proofs.lemmas.List.Elements.{All-contains, All-filter, All-weaker, filter-append}
-use Rattle.std.proofs.lemmas.List.Folds.{Any-from_list_any, list_any-append}
+use Rattle.std.proofs.lemmas.List.Folds.{Any-from_list_any}
 use Rattle.std.proofs.lemmas.List.Kept.{AllPairs-cons, AllPairs-filter}
 use Rattle.rt_tree.specs.PathTree.{Path, path_eq, path_eq-is, path_eq-same}
 use Rattle.rt_tree.specs.Assignments.{is_at_or_above}
@@ -28,7 +28,7 @@ use Rattle.rt_cover.proofs.ByPathLaws.{left_among, list_any_agreed, list_any_imp
 use Rattle.rt_cover.proofs.ChangeLaws.{list_any_map, lost_of_form, known_tag, found_number}
 use Rattle.rt_cover.proofs.NewLaws.{kept_is_form}
 use Rattle.rt_cover.proofs.PickLaws.{find_one}
-use Rattle.rt_cover.proofs.StartLaws.{list_any_with, list_any_agreeing, list_any_filtered, lt_true, lt_false}
+use Rattle.rt_cover.proofs.StartLaws.{list_any_with, list_any_filtered, lt_true, lt_false}
 
 abbrev pub Rise : List Registered → Type 0
 Rise ls = AllPairs (λ (l m : Registered). l.0 < m.0) ls
@@ -41,6 +41,22 @@ Own ls = All (λ (l : Registered). form l.1 ≡ l.1) ls
 pub of_numbers : (f : Query) (b : ℕ → Bool) (ls : List Registered) → list_any b (numbers_of ls f) ≡ list_any (λ (m : Registered). query_eq m.1 f && b m.0) ls
 of_numbers f b ls = list_any_map (λ (l : Registered). l.0) b (filter (λ (l : Registered). query_eq l.1 f) ls)
     ∙ sym (list_any_filtered (λ (m : Registered). query_eq m.1 f) (λ (m : Registered). b m.0) ls)
+
+-- there is one where a listener has the form
+pub some_number : (f : Query) (ls : List Registered) → not (length (numbers_of ls f) == 0) ≡ list_any (λ (l : Registered). query_eq l.1 f) ls
+some_number f [] = refl
+some_number f (l ∷ ls) =
+    elim (query_eq l.1 f) as (λ b. not (length (map (λ (m : Registered). m.0) (cond b (l ∷ filter (λ (m : Registered). query_eq m.1 f) ls) (filter (λ (m : Registered). query_eq m.1 f) ls))) == 0)
+    ≡ (b || list_any (λ (m : Registered). query_eq m.1 f) ls)) [
+      | true ↦ some (length (map (λ (m : Registered). m.0) (filter (λ (m : Registered). query_eq m.1 f) ls)))
+      | false ↦ some_number f ls
+    ]
+  where
+    some : (n : ℕ) → not (suc n == 0) ≡ true
+    some n = elim (suc n == 0) as (λ b. (suc n == 0) ≡ b → not b ≡ true) [
+      | true ↦ λ e. let same : suc n ≡ 0 = eqb-true (suc n) 0 e in absurd (omega (arith, same))
+      | false ↦ λ e. refl
+    ] refl
 
 -- of a lesser number, and left
 pub seen_left : (f : Query) (ended : ℕ → Bool) (n : ℕ) (ls : List Registered)

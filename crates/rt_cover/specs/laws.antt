@@ -9,4 +9,5 @@ pub mod Needed
 pub mod KeptListens
 pub mod Runs
 pub mod Apart
+pub mod Registered
 pub mod Examples

@@ -2,7 +2,7 @@
 ghost use Rattle.std.specs.Prelude.{◌≡◌, ◌∷◌, [], ◌<◌, ◌+◌, ◌⊎◌, ◌==◌, false, true, not, map, length};
 ghost use Rattle.std.specs.Prelude.{IfOk, IfErr, OnOk, OnErr, IfSome, IfNone, is_some, ℕ, Bool, List};
 ghost use Rattle.std.specs.Prelude.{if◌then◌else◌};
-ghost use Rattle.std.specs.List.{list_any, All, enumerate_from};
+ghost use Rattle.std.specs.List.{find, list_any, All, enumerate_from};
 ghost use Rattle.std.specs.Option.{option_copied, option_map, option_map_or};
 
 use crate::adding::started_one;
@@ -132,6 +132,27 @@ impl Cover {
         ensures { result ≡ is_registered self.now.listeners listener }
     {
         self.listeners.has(listener)
+    }
+
+    /// The form of the registered listener with that number, found by halving.
+    pub fn form_of(&self, listener: u64) -> Option<&Query>
+        ensures { option_copied result
+            ≡ option_map (λ l. l.1) (find (λ l. l.0 == listener) self.now.listeners) }
+    {
+        match self.listeners.at(listener) {
+            Some(registered) => Some(registered.form()),
+            None => None,
+        }
+    }
+
+    /// Whether the query's listening form is registered: whether a listener has it.
+    ///
+    /// Takes no memory. Costs by the path, the logarithm of the number of siblings at each of its
+    /// keys, and the filtered forms at it.
+    pub fn has_form(&self, query: &Query) -> bool
+        ensures { result ≡ list_any (λ f. query_eq f (form query.now)) (forms self.now.listeners) }
+    {
+        self.listeners.has_form(query)
     }
 
     // The kept listens, each with the least-numbered listener of its form.

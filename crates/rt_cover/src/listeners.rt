@@ -5,6 +5,7 @@ ghost use Rattle.std.specs.List.{find, list_any, All, AllPairs};
 ghost use Rattle.std.specs.Option.{option_copied};
 ghost use Rattle.rt_tree.specs.Assignments.{is_at_or_above};
 ghost use Rattle.rt_query.specs.Queries.{plain};
+ghost use Rattle.rt_query.specs.QueryEq.{query_eq};
 ghost use Rattle.rt_query.specs.Supply.{form};
 ghost use Rattle.rt_query.specs.Supply as Supply;
 ghost use Rattle.rt_forms.specs.Forms.{numbers, count};
@@ -125,6 +126,15 @@ impl Listeners {
         // For the prover: what the tree keeps.
         let _by_number = &self.by_number;
         self.forms.numbers(form)
+    }
+
+    // Whether one has the listening form of the query. Costs by its path.
+    pub(crate) fn has_form(&self, query: &Query) -> bool
+        ensures { result ≡ list_any (λ l. query_eq l.1 (form query.now)) self.now }
+    {
+        // For the prover: what the tree keeps.
+        let _by_number = &self.by_number;
+        !self.forms.numbers(query).is_empty()
     }
 
     // The numbers of those of a path's plain form, in order. Costs by the path.

@@ -1,7 +1,8 @@
 -- What a reader must believe stands in Listeners: what the listeners are, and the views that they
 -- hold; in Refreshed: what becomes of a view whose path an entry meets; in Settling: what is left of a
--- request that is settled; and in Errors: numbers and words of errors. What is pending of requests stands in rt_world. inside/ has what only
--- the code's invariant and the contracts of its functions need.
+-- request that is settled; and in Errors: numbers and words of errors. What is pending of requests
+-- stands in rt_world. inside/ has what only the code's invariant and the contracts of its functions
+-- need.
 pub mod Errors
 pub mod Listeners
 pub mod Refreshed

@@ -1,11 +1,11 @@
 pub mod Children
 pub mod Listed
 pub mod Placed
+pub mod Orderings
 pub mod ReplayLaws
 pub mod RunLaws
 pub mod TellLaws
 pub mod TouchLaws
 pub mod TreeLaws
 pub mod TurnLaws
-pub mod ViewLaws
 pub mod WindowLaws

@@ -80,14 +80,14 @@ turn : (a b : Entry) → entry_cmp a b ≡ Less → entry_cmp b a ≡ Greater
 turn a b e = entry_cmp_total.antisymm b a ∙ ap ordering_reverse e
 
 -- ---- counts
-abbrev Counts : ℕ → Entries → Entries → Type 0
+abbrev pub Counts : ℕ → Entries → Entries → Type 0
 Counts n s r = (length s ≤ n) × ((length s ≡ n) ⊎ (r ≡ []))
 
 no_length : {X : Type 0} (r : List X) → length r ≡ 0 → r ≡ []
 no_length [] e = refl
 no_length (x ∷ r) e = absurd (omega (arith, e))
 
-cut_first : (n : ℕ) (s r : Entries) → Counts n s r → take n (s ++ r) ≡ s
+pub cut_first : (n : ℕ) (s r : Entries) → Counts n s r → take n (s ++ r) ≡ s
 cut_first n s r h = elim h.1 [
   | inl e ↦ take_at s r n e
   | inr e ↦ ap (λ x. take n (s ++ x)) e ∙ ap (take n) (append-nil s) ∙ take_all n s h.0
@@ -102,7 +102,7 @@ counts_first n s r e =
     at zero f = inl (omega (arith, f, ap length e, length-take n (s ++ r), length-append s r))
     at (suc k) f = inr (no_length r (omega (arith, f, ap length e, length-take n (s ++ r), length-append s r)))
 
-cut_last : (n : ℕ) (s r : Entries) → Counts n s r → drop (length (r ++ s) - n) (r ++ s) ≡ s
+pub cut_last : (n : ℕ) (s r : Entries) → Counts n s r → drop (length (r ++ s) - n) (r ++ s) ≡ s
 cut_last n s r h = elim h.1 [
   | inl e ↦ drop_at r s (length (r ++ s) - n) (omega (arith, e, length-append r s))
   | inr e ↦ ap (λ x. drop (length (x ++ s) - n) (x ++ s)) e ∙ ap (λ m. drop m s) (zero_of h.0)

@@ -4,80 +4,57 @@ ghost use Rattle.std.specs.Prelude.{None, Some, if◌then◌else◌};
 ghost use Rattle.std.specs.Option.{option_copied};
 ghost use Rattle.rt_tree.specs.PathTree.{child_of, is_null, leaf_of, levels, null, put};
 ghost use Rattle.rt_tree.specs.Children.{children_of};
-ghost use Rattle.rt_view.specs.inside.Windows.{Becomes, HasAll, IsWhole, all_of, value_at};
-ghost use Rattle.rt_view.specs.inside.Kept.{IsWindowOf, placed, put_in};
+ghost use Rattle.rt_view.specs.inside.Windows.{value_at};
+ghost use Rattle.rt_view.specs.inside.Kept.{IsWindowOf, in_order, in_range};
 
 use crate::position::Position;
-use crate::window::Window;
+use crate::window::{Window, ordered};
 use rt_map::OrdMap;
 use rt_query::Query;
 use rt_tree::{Key, Leaf, MAX_KEYS, Path, Tree, TreeError};
 use std::alloc::{AllocError, Global};
+use std::collections::BTreeMap;
 
-// Puts a child in its place, where it is in the range.
-fn place(
-    window: &mut Window,
+// The children in the range, by their entries.
+fn in_range(
     alloc: Global,
     query: &Query,
-    key: &Key,
-    tree: &Tree,
-) -> Result<(), AllocError>
-    requires { IsWhole window.old }
-    ensures limit { window.new.limit ≡ window.old.limit }
-    ensures placed { OnOk result
-        (Becomes window.old window.new (put_in query.now (key.now, tree.now) (all_of window.old))) }
-{
-    if query.range().has(query.index(), key, tree) {
-        let position = Position::of(alloc, query.index(), key, tree)?;
-        let tree = tree.copy(alloc)?;
-        drop(window.put(position, tree)?);
-    }
-    Ok(())
-}
-
-// The children, each with its key.
-fn listed<'a>(
-    alloc: Global,
-    children: &'a OrdMap<Key, Tree>,
-) -> Result<Vec<(&'a Key, &'a Tree)>, AllocError>
-    ensures { IfOk result (λ found. map (λ c. (c.0.now, c.1.now)) found.items
-        ≡ children.now.entries) }
+    children: &OrdMap<Key, Tree>,
+) -> Result<Vec<(Position, Tree)>, AllocError>
+    ensures { IfOk result (λ found. found.items ≡ in_range query.now children.now.entries) }
 {
     let mut found = Vec::with_capacity(alloc, children.len())?;
-    for child in children {
-        found.push(child)?;
+    for (key, tree) in children {
+        if query.range().has(query.index(), key, tree) {
+            let position = Position::of(alloc, query.index(), key, tree)?;
+            let tree = tree.copy(alloc)?;
+            found.push((position, tree))?;
+        }
     }
     Ok(found)
 }
 
-// Puts all children in their places, the last first.
-fn place_all(
-    window: &mut Window,
+// The children of a tree that lie in the query's range, in order.
+fn in_order(
     alloc: Global,
     query: &Query,
-    children: &OrdMap<Key, Tree>,
-) -> Result<(), AllocError>
-    requires { HasAll window.old [] }
-    ensures limit { window.new.limit ≡ window.old.limit }
-    ensures placed { OnOk result
-        (Becomes window.old window.new (placed query.now [] children.now.entries)) }
+    known: &Tree,
+) -> Result<BTreeMap<Position, Tree>, AllocError>
+    ensures { IfOk result (λ found. found.entries ≡ in_order query.now (children_of known.now)) }
 {
-    let mut rest = listed(alloc, children)?;
-    while let Some((key, tree)) = rest.pop() {
-        place(window, alloc, query, key, tree)?;
-    }
-    Ok(())
+    let Some(children) = known.children() else {
+        return Ok(BTreeMap::new(alloc));
+    };
+    let found = in_range(alloc, query, children)?;
+    ordered(alloc, found)
 }
 
-// The children of a tree that lie in the query's range.
+// The window of a tree.
 pub fn window_of(alloc: Global, query: &Query, known: &Tree) -> Result<Window, AllocError>
     ensures { IfOk result (λ window. IsWindowOf query.now known.now window) }
 {
-    let mut window = Window::new(alloc, query.limit());
-    let Some(children) = known.children() else {
-        return Ok(window);
-    };
-    place_all(&mut window, alloc, query, children)?;
+    let children = in_order(alloc, query, known)?;
+    let window = Window::of(alloc, query.limit(), children)?;
     Ok(window)
 }
 

@@ -1,5 +1,5 @@
 // The children in a range, in order, and how far a limit shows them.
-ghost use Rattle.std.specs.Prelude.{◌≡◌, ◌++◌, ◌∷◌, [], map, IfOk, IfSome, IfNone, OnOk, Some};
+ghost use Rattle.std.specs.Prelude.{◌≡◌, ◌<◌, ◌++◌, ◌∷◌, [], map, IfOk, IfSome, IfNone, OnOk, Some};
 ghost use Rattle.std.specs.Prelude.{None, T, is_some};
 ghost use Rattle.std.specs.Option.{option_copied};
 ghost use Rattle.std.specs.FinMap as map_of;
@@ -9,8 +9,8 @@ ghost use Rattle.std.specs.BTreeMap.{is_at};
 ghost use Rattle.rt_order.specs.Entries.{entry_cmp};
 ghost use Rattle.rt_query.specs.Select.{row_of};
 ghost use Rattle.rt_query.specs.declared.limit.Limit.TheVariants.{First, Last};
-ghost use Rattle.rt_view.specs.inside.Windows.{Becomes, Crosses, IsWhole, IsWindow, all_of, before};
-ghost use Rattle.rt_view.specs.inside.Windows.{is_from_first, is_to_last, without};
+ghost use Rattle.rt_view.specs.inside.Windows.{Becomes, Crosses, IsApart, IsOrdering, IsWhole, IsWindow};
+ghost use Rattle.rt_view.specs.inside.Windows.{all_of, before, is_from_first, is_to_last, without};
 
 use crate::position::Position;
 use rt_query::{Limit, Row};
@@ -79,16 +79,112 @@ fn is_to_last(children: &BTreeMap<Position, Tree>, position: &Position) -> bool
     }
 }
 
+// A map of these children. It is made in order, so its parts are full.
+pub fn ordered(
+    alloc: Global,
+    children: Vec<(Position, Tree)>,
+) -> Result<BTreeMap<Position, Tree>, AllocError>
+    requires { IsApart children.items }
+    ensures { IfOk result (λ map. IsOrdering children.items map.entries) }
+{
+    BTreeMap::from_iter(alloc, children)
+}
+
+// Takes out the first child, where fewer than n were taken before.
+fn pop_first(
+    children: &mut BTreeMap<Position, Tree>,
+    taken: usize,
+    n: usize,
+) -> Option<(Position, Tree)>
+    ensures child { IfSome result (λ p. children.old.entries ≡ p ∷ children.new.entries) }
+    ensures fewer { IfSome result (λ p. taken < n) }
+    ensures same { IfNone result (children.new.entries ≡ children.old.entries) }
+    ensures none { IfNone result (taken < n → children.old.entries ≡ []) }
+{
+    if taken < n {
+        children.pop_first()
+    } else {
+        None
+    }
+}
+
+// Takes out the last child, where fewer than n were taken before.
+fn pop_last(
+    children: &mut BTreeMap<Position, Tree>,
+    taken: usize,
+    n: usize,
+) -> Option<(Position, Tree)>
+    ensures child { IfSome result (λ p. children.old.entries ≡ children.new.entries ++ p ∷ []) }
+    ensures fewer { IfSome result (λ p. taken < n) }
+    ensures same { IfNone result (children.new.entries ≡ children.old.entries) }
+    ensures none { IfNone result (taken < n → children.old.entries ≡ []) }
+{
+    if taken < n { children.pop_last() } else { None }
+}
+
+// Takes out the first children, of which there are at most n.
+fn take_first(
+    children: &mut BTreeMap<Position, Tree>,
+    alloc: Global,
+    n: usize,
+) -> Result<BTreeMap<Position, Tree>, AllocError>
+    requires { T (is_sorted entry_cmp children.old.entries) }
+    ensures { IfOk result (λ first. IsWindow (Some (First n)) first.entries children.new.entries
+        children.old.entries) }
+{
+    let mut first = Vec::new(alloc);
+    while let Some(child) = pop_first(children, first.len(), n) {
+        first.push(child)?;
+    }
+    ordered(alloc, first)
+}
+
+// Takes out the last children, of which there are at most n.
+fn take_last(
+    children: &mut BTreeMap<Position, Tree>,
+    alloc: Global,
+    n: usize,
+) -> Result<BTreeMap<Position, Tree>, AllocError>
+    requires { T (is_sorted entry_cmp children.old.entries) }
+    ensures { IfOk result (λ last. IsWindow (Some (Last n)) last.entries children.new.entries
+        children.old.entries) }
+{
+    let mut last = Vec::new(alloc);
+    while let Some(child) = pop_last(children, last.len(), n) {
+        last.push(child)?;
+    }
+    last.reverse();
+    ordered(alloc, last)
+}
+
 impl Window {
-    // The window of no children.
-    pub fn new(alloc: Global, limit: Option<Limit>) -> Window
-        ensures limit { result.limit ≡ limit }
-        ensures empty { IsWindow limit result.shown.entries result.rest.entries [] }
+    // The window of these children.
+    pub fn of(
+        alloc: Global,
+        limit: Option<Limit>,
+        children: BTreeMap<Position, Tree>,
+    ) -> Result<Window, AllocError>
+        requires { T (is_sorted entry_cmp children.entries) }
+        ensures limit { IfOk result (λ window. window.limit ≡ limit) }
+        ensures cut { IfOk result (λ window. IsWindow limit window.shown.entries window.rest.entries
+            children.entries) }
     {
-        Window {
-            limit,
-            shown: BTreeMap::new(alloc),
-            rest: BTreeMap::new(alloc),
+        match limit {
+            None => Ok(Window {
+                limit,
+                shown: children,
+                rest: BTreeMap::new(alloc),
+            }),
+            Some(Limit::First(n)) => {
+                let mut rest = children;
+                let shown = take_first(&mut rest, alloc, n as usize)?;
+                Ok(Window { limit, shown, rest })
+            }
+            Some(Limit::Last(n)) => {
+                let mut rest = children;
+                let shown = take_last(&mut rest, alloc, n as usize)?;
+                Ok(Window { limit, shown, rest })
+            }
         }
     }
 

@@ -23,6 +23,10 @@ use Rattle.rt_view.specs.inside.Windows.{Entries, IsWindow, value_at, without, b
 abbrev pub in_order : Query → List (Key × PathTree) → Entries
 in_order q cs = filter (λ e. has q.range e.0) (sorted_by q.index cs)
 
+-- the same children, in the order of their keys' bytes
+abbrev pub in_range : Query → List (Key × PathTree) → Entries
+in_range q cs = filter (λ e. has q.range e.0) (map (λ c. (entry q.index c, c.1)) cs)
+
 -- the window of a tree: its children in the range, cut by the limit
 pub record IsWindowOf (query : Query) (known : PathTree) (window : Window) : Type 0 where
   pub limit : window.limit ≡ query.limit
@@ -56,11 +60,6 @@ shown_by index t = record { leaf = leaf_of t; rows = map row_of (rows_in_tree in
 abbrev pub put_in : Query → Key × PathTree → Entries → Entries
 put_in q c es = if has q.range (entry q.index c) then map_of.put entry_cmp
     (entry q.index c) c.1 es else es
-
--- the children are put in their places, the last one first
-abbrev pub placed : Query → Entries → List (Key × PathTree) → Entries
-placed q es [] = es
-placed q es (c ∷ cs) = put_in q c (placed q es cs)
 
 -- a child that may be null is put
 abbrev pub brought_in : Query → Key → PathTree → Entries → Entries

@@ -8,7 +8,7 @@ use Rattle.std.specs.FinMap as map_of
 use Rattle.std.specs.FinMap.Entries.{is_sorted-where_key}
 use Rattle.rt_tree.specs.PathTree.{path_cmp}
 use Rattle.rt_tree.specs.Assignments.{have_overlap}
-use Rattle.rt_cache.specs.Recover.{reaches, parts_of, with_regions, regions_kept, window_left, in_query_order}
+use Rattle.rt_cache.specs.Recover.{reaches, parts_of, with_regions, regions_kept, window_left, in_query_order, is_among}
 use Rattle.rt_query.specs.Queries.{Query}
 use Rattle.rt_query.specs.QueryEq.{query_eq}
 use Rattle.rt_cache.specs.declared.by_path.Lent.{Lent}
@@ -20,7 +20,7 @@ use Rattle.rt_cache.specs.inside.Spans.{AreInOrder, without, AreLost}
 use Rattle.rt_cache.proofs.Changes.{stays_lost}
 use Rattle.rt_cache.specs.inside.Cuts.{parts_left, IsCut}
 use Rattle.rt_cache.proofs.Parts.{all_parts_apart, in_order_first, left_with_parts}
-use Rattle.rt_cache.proofs.Keeping.{is_among, kept_listed}
+use Rattle.rt_cache.proofs.Keeping.{kept_listed}
 use Rattle.rt_cache.proofs.Stays.{Regions}
 use Rattle.rt_cache.proofs.recover.change_cover.Goals as goal
 

@@ -1,0 +1,15 @@
+use Rattle.std.proofs.Common.{◌≡◌, cond, drop, None}
+use Rattle.std.specs.FinMap as map_of
+use Rattle.rt_query.specs.Queries.{Query}
+use Rattle.rt_cache.specs.QueryOrder.{query_cmp}
+use Rattle.rt_cache.specs.Recover.{is_among}
+use Rattle.rt_cache.specs.inside.ByPath.{AreByPath, query_of}
+use Rattle.rt_cache.specs.inside.Held.{entries_of}
+use Rattle.rt_cache.proofs.windows.remove_queries.Given as goal
+
+-- in order; without those of the queries that are left, it is found as without those of all
+abbrev pub invariant-loop-query : goal.invariant-loop-query
+invariant-loop-query l =
+    AreByPath query_of l.windows.items
+    × ((x : Query) → cond (is_among (drop l.query-index l.queries) x) None (map_of.find query_cmp x (entries_of l.windows.items))
+    ≡ cond (is_among l.queries x) None (map_of.find query_cmp x (entries_of l.initial.windows.items)))
