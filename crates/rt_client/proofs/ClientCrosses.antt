@@ -1,7 +1,7 @@
 -- A client may be shared by threads, and a seat handed to one: type by type, from what they hold up.
 use denote.Param.Send.{IsSend, IsSync}
 use Rattle.circular_buffer.proofs.Crosses.{Cells-send, Cells-sync, Deed-send, Deed-sync}
-use Rattle.rt_mail.proofs.history.History.TheSendSync.Send.{send as history_send}
+use Rattle.rt_mail.proofs.Crosses.{history_send}
 use Rattle.rt_mail.specs.contracts.mirror.Mirror as mirror
 use Rattle.rt_mail.specs.contracts.inbox.Inbox as inbox
 use Rattle.rt_mail.specs.contracts.lane.Lane as lane
