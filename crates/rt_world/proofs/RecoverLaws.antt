@@ -10,7 +10,7 @@ use Rattle.rt_query.specs.QueryEq.{query_eq}
 use Rattle.rt_query.specs.laws.QueryEq.{query_eq_tells}
 use Rattle.rt_cache.specs.Brought.{Window, Brought, nothing_brought, region_part, window_of}
 use Rattle.rt_cache.specs.declared.base.Base.{Base}
-use Rattle.rt_cache.specs.Recover.{reaches, regions_kept, window_kept, windows_kept, do_plains_overlap}
+use Rattle.rt_cache.specs.Recover.{reaches, regions_kept, window_kept, windows_kept, do_plains_overlap, is_among}
 use Rattle.rt_cache.specs.Runs.{IsAllowed, after, after_all}
 use Rattle.rt_cache.specs.inside.Held.{for_each}
 use Rattle.rt_cache.proofs.RecoverLaws.{calls_canonical}
@@ -18,7 +18,7 @@ use Rattle.rt_cache.specs.laws.Runs.{with_push, pushed, known_after, is_known}
 use Rattle.rt_cache.specs.declared.run.Call.{Call}
 use Rattle.rt_cache.specs.declared.run.Call.TheVariants.{Recover}
 use Rattle.rt_cache.proofs.Bases.{no_window}
-use Rattle.rt_cache.proofs.Keeping.{is_among, find-for_each}
+use Rattle.rt_cache.proofs.Keeping.{find-for_each}
 use Rattle.rt_cache.proofs.Listing.{find-listed}
 use Rattle.rt_cache.proofs.RunLaws.{plain_base}
 use Rattle.rt_world.specs.Called.{IsCalled}
