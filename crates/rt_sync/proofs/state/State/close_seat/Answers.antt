@@ -11,6 +11,7 @@ use Rattle.rt_sync.specs.declared.told.Told.{Told}
 use Rattle.rt_sync.specs.inside.Due.{IsDue, IsNext}
 use Rattle.rt_sync.specs.inside.StateView.{world_of}
 use Rattle.rt_sync.proofs.Listened.{close_made, closed_is, tied_next}
+use Rattle.rt_sync.proofs.LostForms.{lost_numbers}
 use Rattle.rt_sync.proofs.NextWorlds.{along}
 use Rattle.rt_sync.proofs.TagLaws.{cover_tied}
 use Rattle.std.specs.Prelude.{◌==◌}
@@ -29,12 +30,16 @@ returns-clause-made c =
     let state = c.state.inside in
     let numbers = c.deref.result.now in
     let same : numbers ≡ c.in_ok-numbers.numbers.items = search rules in
+    let lost = λ (d : IsDue (world_of state.limits state.listeners.listeners state.requests state.brought state.cover state.is_connected state.outgoing.items state.given_listeners state.given_requests) (Step.CloseSeat c.args.seat)).
+    lost_numbers state.limits state.listeners.listeners state.requests state.brought state.cover state.is_connected state.outgoing.items state.given_listeners state.given_requests
+    c.sound_law.ensures.next c.following_law.ensures.cover c.state.invariant (Step.CloseSeat c.args.seat) d c.uncover.new.cover
+    (c.in_ok-delta.ensures.cover ∙ closed_is state.limits state.listeners.listeners state.requests state.brought state.cover state.is_connected state.outgoing.items state.given_listeners state.given_requests c.state.invariant c.args.seat numbers (same ∙ c.in_ok-numbers.ensures)) numbers c.in_ok-delta.ensures.cover c.in_ok-ended.ended.items c.in_ok-ended.ensures in
     along state.limits state.listeners.listeners state.requests state.brought state.cover state.is_connected state.outgoing.items state.given_listeners state.given_requests
     (c.args.self).world (ap (λ (h : Held). h.world) c.state.view_is) (Step.CloseSeat c.args.seat) _ (λ d.
     close_made state.limits state.listeners.listeners state.requests state.brought state.cover state.is_connected state.outgoing.items state.given_listeners state.given_requests
     c.listened_law.ensures.close c.state.invariant c.args.seat d
     numbers (same ∙ c.in_ok-numbers.ensures)
-    c.uncover.new.cover c.in_ok-delta.ensures.cover c.close.new.self.listeners c.close.ensures.listeners c.close-2.new.self c.close-2.ensures c.lose.new.brought c.in_ok-lose.ensures
+    c.uncover.new.cover c.in_ok-delta.ensures.cover c.close.new.self.listeners c.close.ensures.listeners c.close-2.new.self c.close-2.ensures c.lose.new.brought (c.in_ok-lose.ensures state.cover (lost d))
     c.in_ok-delta.delta c.in_ok-delta.ensures.delta c.send_change.new.outgoing.items c.in_ok-send_change.ensures _ refl c.new-notes.ensures.items) c.requires
 
 pub invariant_of-state : goal.invariant_of-state
@@ -42,6 +47,10 @@ invariant_of-state c =
     let state = c.state.inside in
     let numbers = c.deref.result.now in
     let same : numbers ≡ c.in_ok-numbers.numbers.items = search rules in
+    let lost = λ (d : IsDue (world_of state.limits state.listeners.listeners state.requests state.brought state.cover state.is_connected state.outgoing.items state.given_listeners state.given_requests) (Step.CloseSeat c.args.seat)).
+    lost_numbers state.limits state.listeners.listeners state.requests state.brought state.cover state.is_connected state.outgoing.items state.given_listeners state.given_requests
+    c.sound_law.ensures.next c.following_law.ensures.cover c.state.invariant (Step.CloseSeat c.args.seat) d c.uncover.new.cover
+    (c.in_ok-delta.ensures.cover ∙ closed_is state.limits state.listeners.listeners state.requests state.brought state.cover state.is_connected state.outgoing.items state.given_listeners state.given_requests c.state.invariant c.args.seat numbers (same ∙ c.in_ok-numbers.ensures)) numbers c.in_ok-delta.ensures.cover c.in_ok-ended.ended.items c.in_ok-ended.ensures in
     let old : World = world_of state.limits state.listeners.listeners state.requests state.brought state.cover state.is_connected state.outgoing.items state.given_listeners state.given_requests in
     let s : Step = Step.CloseSeat c.args.seat in
     let d : IsDue old s = subst (λ (v : Held). IsDue v.world s) (sym c.state.view_is) c.requires in
@@ -50,7 +59,7 @@ invariant_of-state c =
     close_made state.limits state.listeners.listeners state.requests state.brought state.cover state.is_connected state.outgoing.items state.given_listeners state.given_requests
     c.listened_law.ensures.close c.state.invariant c.args.seat d
     numbers (same ∙ c.in_ok-numbers.ensures)
-    c.uncover.new.cover c.in_ok-delta.ensures.cover c.close.new.self.listeners c.close.ensures.listeners c.close-2.new.self c.close-2.ensures c.lose.new.brought c.in_ok-lose.ensures
+    c.uncover.new.cover c.in_ok-delta.ensures.cover c.close.new.self.listeners c.close.ensures.listeners c.close-2.new.self c.close-2.ensures c.lose.new.brought (c.in_ok-lose.ensures state.cover (lost d))
     c.in_ok-delta.delta c.in_ok-delta.ensures.delta c.send_change.new.outgoing.items c.in_ok-send_change.ensures said refl c.new-notes.ensures.items in
     tied_next c.following_law.ensures.cover old s d.good.sound c.uncover.new.cover _
     (c.in_ok-delta.ensures.cover ∙ closed_is state.limits state.listeners.listeners state.requests state.brought state.cover state.is_connected state.outgoing.items state.given_listeners state.given_requests c.state.invariant c.args.seat numbers (same ∙ c.in_ok-numbers.ensures))
