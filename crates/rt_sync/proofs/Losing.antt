@@ -1,5 +1,5 @@
 -- Where no plain listen ends, just the windows of forms are lost that are registered no more.
-use Rattle.std.proofs.Common.{◌≡◌, Bool, true, false, cond, not, ◌&&◌, ◌||◌, List, [], ◌∷◌, map, refl, sym, ap, ◌∙◌, Some, is_some}
+use Rattle.std.proofs.Common.{◌≡◌, Bool, true, false, cond, not, ◌&&◌, ◌||◌, List, [], ◌∷◌, map, refl, sym, ap, subst, ◌∙◌, Some, is_some}
 use mathlib.Core.Bool.{true≢false}
 use Rattle.std.specs.List.{filter, find, list_any, All, Any, Contains}
 use Rattle.std.specs.Option.{option_map}
@@ -28,23 +28,24 @@ use Rattle.rt_sync.specs.inside.Losing.{HasLost}
 any_passing : (r : Query → Bool) (x : Query) (xs : List Query) → is_among (filter r xs) x ≡ (r x && is_among xs x)
 any_passing r x [] = elim (r x) as (λ b. false ≡ (b && false)) [ true ↦ refl | false ↦ refl ]
 any_passing r x (y ∷ ys) =
+    let rest : is_among (filter r ys) x ≡ (r x && is_among ys x) = any_passing r x ys in
     elim (query_eq y x) as (λ b. query_eq y x ≡ b → is_among (filter r (y ∷ ys)) x ≡ (r x && (b || is_among ys x))) [
-      | true ↦ λ e. at e (r y) refl
+      | true ↦ λ e. at e rest (r y) refl
       | false ↦ λ e. elim (r y) as (λ c. is_among (cond c (y ∷ filter r ys) (filter r ys)) x ≡ (r x && is_among ys x)) [
-          | true ↦ ap (λ b. b || is_among (filter r ys) x) e ∙ any_passing r x ys
-          | false ↦ any_passing r x ys
+          | true ↦ ap (λ b. b || is_among (filter r ys) x) e ∙ rest
+          | false ↦ rest
         ]
     ] refl
   where
-    at : query_eq y x ≡ true → (c : Bool) → r y ≡ c → is_among (cond (r y) (y ∷ filter r ys) (filter r ys)) x ≡ (r x && true)
-    at e true h =
+    at : query_eq y x ≡ true → is_among (filter r ys) x ≡ (r x && is_among ys x) → (c : Bool) → r y ≡ c → is_among (cond (r y) (y ∷ filter r ys) (filter r ys)) x ≡ (r x && true)
+    at e rest true h =
         ap (λ c. is_among (cond c (y ∷ filter r ys) (filter r ys)) x) h
         ∙ ap (λ b. b || is_among (filter r ys) x) e
         ∙ sym (ap (λ b. b && true) (sym (ap r ((query_eq_tells y x).0 e)) ∙ h))
-    at e false h =
-        let fails : r x ≡ false = sym (ap r ((query_eq_tells y x).0 e)) ∙ h in
+    at e rest false h =
+        let none : r x ≡ false = sym (ap r ((query_eq_tells y x).0 e)) ∙ h in
         ap (λ c. is_among (cond c (y ∷ filter r ys) (filter r ys)) x) h
-        ∙ any_passing r x ys ∙ ap (λ b. b && is_among ys x) fails ∙ sym (ap (λ b. b && true) fails)
+        ∙ rest ∙ ap (λ b. b && is_among ys x) none ∙ sym (ap (λ b. b && true) none)
 
 -- what none passes, a query of the list fails
 among_fails : (p : Query → Bool) (x : Query) (xs : List Query) → is_among xs x ≡ true → list_any p xs ≡ false → p x ≡ false
@@ -106,7 +107,7 @@ module _ (was is : Cover) (ended : List Query) (b : Brought) (h : HasLost was is
   either : (x : Query) → Contains (forms was.listeners) x → (is_among ended x || is_among (forms is.listeners) x) ≡ true
   either x m =
       let here : is_among (forms was.listeners) x ≡ true = list_any-from_Any (λ g. query_eq g x) (forms was.listeners) (m.0, x, m.1, m.2, (query_eq_tells x x).1 refl) in
-      ap (λ c. is_among ended x || c) (any_form x is.listeners) ∙ h.ended x (sym (any_form x was.listeners) ∙ here)
+      ap (λ c. is_among ended x || c) (any_form x is.listeners) ∙ h.ending x (sym (any_form x was.listeners) ∙ here)
 
   of_gone : (x : Query) → Contains (forms was.listeners) x → is_among gone x ≡ (not (is_among (forms is.listeners) x) && is_among ended x)
   of_gone x m = any_passing (λ f. not (has f)) x ended ∙ ap (λ y. not (list_any (λ g. query_eq g y) (forms is.listeners)) && is_among ended x) (own x m)
@@ -126,7 +127,7 @@ module _ (was is : Cover) (ended : List Query) (b : Brought) (h : HasLost was is
   registered : (q : Query) → is_among (forms is.listeners) q ≡ true → list_any (λ (k : Tagged). does_supply k.form q) is.kept ≡ true
   registered q e =
       let a = Any-from_list_any (λ g. query_eq g q) (forms is.listeners) e in
-      let m : Contains (forms is.listeners) q = (a.0, a.2, a.3 ∙ (query_eq_tells a.1 q).0 a.4) in
+      let m = subst (Contains (forms is.listeners)) ((query_eq_tells a.1 q).0 a.4) (a.0, a.2, a.3) in
       let few = fewest_kept (forms is.listeners) (map (λ (k : Tagged). k.form) is.kept) (forms_are is.listeners (h.is_sound).forms) (h.is_sound).only (h.is_sound).all in
       let s = All-contains (λ r. Any (λ s. Supplies s r) (map (λ (k : Tagged). k.form) is.kept)) (forms is.listeners) q (few.supplying).each m in
       sym (any_mapped (λ (k : Tagged). k.form) (λ s. does_supply s q) is.kept) ∙ list_any-from_Any (λ s. does_supply s q) (map (λ (k : Tagged). k.form) is.kept) s

@@ -1,9 +1,8 @@
 -- Which forms listeners leave that end: those of the ended ones, or registered ones.
-use Rattle.std.proofs.Common.{◌≡◌, ℕ, ◌<◌, ◌==◌, Bool, true, false, cond, not, ◌||◌, inl, inr, List, [], ◌∷◌, ◌++◌, ◌+◌, append_assoc, drop, get_or, length, refl, sym, ap, subst, ◌∙◌, arith, eqb-true, eq-eqb, Option, Some, None}
+use Rattle.std.proofs.Common.{◌≡◌, ℕ, ◌<◌, ◌==◌, Bool, true, false, cond, not, ◌||◌, inl, inr, List, [], ◌∷◌, refl, sym, ap, subst, ◌∙◌, arith, eqb-true, eq-eqb, Option, Some, None}
 use mathlib.Core.Bool.{true≢false}
-use Rattle.std.specs.List.{cons_option, find, list_any, All, AllPairs, Contains}
+use Rattle.std.specs.List.{find, list_any, All, AllPairs, Contains}
 use Rattle.std.specs.Option.{option_map, option_map_or}
-use Rattle.std.proofs.lemmas.List.{drop_more}
 use Rattle.std.proofs.lemmas.List.Elements.{All-contains}
 use Rattle.std.proofs.lemmas.List.Folds.{Any-from_list_any, list_any-from_Any}
 use Rattle.rt_query.specs.Queries.{Query}
@@ -59,7 +58,7 @@ true_or : (a b : Bool) → a ≡ true → (a || b) ≡ true
 true_or true b e = refl
 true_or false b e = absurd (true≢false (sym e))
 
-one_more : (o : Option Query) (xs : List Query) (f : Query) → is_among xs f ≡ true → is_among (cons_option o xs) f ≡ true
+one_more : (o : Option Query) (xs : List Query) (f : Query) → is_among xs f ≡ true → is_among (option_map_or (λ q. q ∷ xs) o xs) f ≡ true
 one_more None xs f e = e
 one_more (Some q) xs f e = ap (λ b. query_eq q f || b) e ∙ or_true (query_eq q f)
 
@@ -71,7 +70,7 @@ among_ended ls l f up m same (n ∷ ns) e =
     elim (n == l.0) as (λ b. (n == l.0) ≡ b → (b || list_any (λ k. k == l.0) ns) ≡ true → is_among (forms_at ls (n ∷ ns)) f ≡ true) [
       | true ↦ λ t h.
           let found : find (λ (x : Registered). x.0 == n) ls ≡ Some l = ap (λ k. find (λ (x : Registered). x.0 == k) ls) (eqb-true n l.0 t) ∙ find_own ls l up m in
-          ap (λ o. is_among (cons_option (option_map (λ (x : Registered). x.1) o) (forms_at ls ns)) f) found
+          ap (λ o. is_among (option_map_or (λ q. q ∷ forms_at ls ns) (option_map (λ (x : Registered). x.1) o) (forms_at ls ns)) f) found
           ∙ true_or (query_eq l.1 f) (is_among (forms_at ls ns) f) same
       | false ↦ λ t h. one_more (option_map (λ (x : Registered). x.1) (find (λ (x : Registered). x.0 == n) ls)) (forms_at ls ns) f (among_ended ls l f up m same ns h)
     ] refl e
@@ -116,29 +115,6 @@ listen_ends c tag g e =
     mapped None = refl
     mapped (Some k) = refl
 
--- ---- the forms of numbers, one number after another
-
-pub forms_taken : (ls : List Registered) (done new all : List Query) (ns : List ℕ) (i n : ℕ) (f : Query)
-    → i < length ns → n ≡ get_or ns i n → option_map (λ (l : Registered). l.1) (find (λ (l : Registered). l.0 == n) ls) ≡ Some f → new ≡ done ++ f ∷ []
-    → done ++ forms_at ls (drop i ns) ≡ all → new ++ forms_at ls (drop (i + 1) ns) ≡ all
-forms_taken ls done new all ns i n f lt at e added inv =
-    ap (λ z. z ++ forms_at ls (drop (i + 1) ns)) added
-    ∙ append_assoc done (f ∷ []) (forms_at ls (drop (i + 1) ns))
-    ∙ ap (λ z. done ++ z)
-    (ap (λ o. cons_option o (forms_at ls (drop (i + 1) ns))) (sym e)
-    ∙ ap (forms_at ls) (ap (λ y. y ∷ drop (i + 1) ns) at ∙ sym (drop_more ns i n lt)))
-    ∙ inv
-
-pub forms_passed : (ls : List Registered) (done new all : List Query) (ns : List ℕ) (i n : ℕ)
-    → i < length ns → n ≡ get_or ns i n → option_map (λ (l : Registered). l.1) (find (λ (l : Registered). l.0 == n) ls) ≡ None → new ≡ done
-    → done ++ forms_at ls (drop i ns) ≡ all → new ++ forms_at ls (drop (i + 1) ns) ≡ all
-forms_passed ls done new all ns i n lt at e same inv =
-    ap (λ z. z ++ forms_at ls (drop (i + 1) ns)) same
-    ∙ ap (λ z. done ++ z)
-    (ap (λ o. cons_option o (forms_at ls (drop (i + 1) ns))) (sym e)
-    ∙ ap (forms_at ls) (ap (λ y. y ∷ drop (i + 1) ns) at ∙ sym (drop_more ns i n lt)))
-    ∙ inv
-
 -- ---- what a step that ends listeners is handed
 
 keeps : (w : World) → IsSound w → KeepsNeeded (cover_in w)
@@ -155,7 +131,7 @@ module _ (limits : Limits) (ls : List Listener) (requests : List Request) (b : B
     is_sound = subst KeepsNeeded (follows w s d.good.sound ∙ sym e) (keeps (next w s) (sound w s d.good.sound));
     regions = d.good.reached.regions;
     windows = subst (λ (rs : List Registered). All (λ (x : Query × Window). Contains (forms rs) x.0) b.windows) (sym t.listened) d.good.reached.windows;
-    ended = told;
+    ending = told;
   }
 
   -- those of some numbers

@@ -1,7 +1,7 @@
 -- What is known of a change of the cover that ends listeners.
-use Rattle.std.specs.Prelude.{◌≡◌, ℕ, ◌==◌, ◌||◌, true, List, map}
-use Rattle.std.specs.List.{filter_map, find, list_any, All, Contains}
-use Rattle.std.specs.Option.{option_map}
+use Rattle.std.specs.Prelude.{◌≡◌, ℕ, ◌==◌, ◌||◌, true, List, [], ◌∷◌, map}
+use Rattle.std.specs.List.{find, list_any, All, Contains}
+use Rattle.std.specs.Option.{option_map, option_map_or}
 use Rattle.rt_tree.specs.PathTree.{Path, PathTree}
 use Rattle.rt_query.specs.Queries.{Query}
 use Rattle.rt_query.specs.QueryEq.{query_eq}
@@ -13,8 +13,10 @@ use Rattle.rt_cover.specs.State.{Cover, needed_forms}
 
 -- the forms of the listeners of these numbers
 abbrev pub forms_at : List Registered → List ℕ → List Query
-forms_at listeners numbers =
-    filter_map (λ n. option_map (λ l. l.1) (find (λ l. l.0 == n) listeners)) numbers
+forms_at listeners [] = []
+forms_at listeners (n ∷ ns) =
+    option_map_or (λ f. f ∷ forms_at listeners ns)
+    (option_map (λ l. l.1) (find (λ l. l.0 == n) listeners)) (forms_at listeners ns)
 
 -- each listener has its listening form, and just the needed forms are kept
 pub record KeepsNeeded (c : Cover) : Type 0 where
@@ -31,6 +33,6 @@ pub record HasLost (was is : Cover) (ended : List Query) (b : Brought) : Type 0 
       All (λ (r : Path × PathTree). reaches (map (λ (k : Tagged). k.form) was.kept) r.0 ≡ true)
       b.regions
   pub windows : All (λ (w : Query × Window). Contains (forms was.listeners) w.0) b.windows
-  pub ended : (f : Query) → list_any (λ (l : Registered). query_eq l.1 f) was.listeners ≡ true
+  pub ending : (f : Query) → list_any (λ (l : Registered). query_eq l.1 f) was.listeners ≡ true
       → (list_any (λ g. query_eq g f) ended
       || list_any (λ (l : Registered). query_eq l.1 f) is.listeners) ≡ true
