@@ -32,9 +32,9 @@ any_passing r x (y ∷ ys) =
     elim (query_eq y x) as (λ b. query_eq y x ≡ b → is_among (filter r (y ∷ ys)) x ≡ (r x && (b || is_among ys x))) [
       | true ↦ λ e. at e rest (r y) refl
       | false ↦ λ e. elim (r y) as (λ c. is_among (cond c (y ∷ filter r ys) (filter r ys)) x ≡ (r x && is_among ys x)) [
-          | true ↦ ap (λ b. b || is_among (filter r ys) x) e ∙ rest
-          | false ↦ rest
-        ]
+        | true ↦ ap (λ b. b || is_among (filter r ys) x) e ∙ rest
+        | false ↦ rest
+      ]
     ] refl
   where
     at : query_eq y x ≡ true → is_among (filter r ys) x ≡ (r x && is_among ys x) → (c : Bool) → r y ≡ c → is_among (cond (r y) (y ∷ filter r ys) (filter r ys)) x ≡ (r x && true)

@@ -34,9 +34,7 @@ fn lacks_plain(cover: &Cover, ended: &[Query]) -> bool
     ensures { result ≡ list_any (λ f. not (is_filtered f) && not (is_some (supplier cover.now f)))
         ended.now }
 {
-    ended
-        .iter()
-        .any(|form| !form.is_filtered() && cover.supplier(form).is_none())
+    ended.iter().any(|form| !form.is_filtered() && cover.supplier(form).is_none())
 }
 
 // What stays of all that was brought, once all listens are looked at.

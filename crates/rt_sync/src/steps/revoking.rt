@@ -9,7 +9,9 @@ use crate::steps::losing::lose;
 use crate::told::Told;
 use rt_cover::{Cover, Delta};
 use rt_query::Query;
-use rt_world::{CoreError, Reason, covered_law, following_law, listened_law, sound_law, stay_law, tag_law};
+use rt_world::{
+    CoreError, Reason, covered_law, following_law, listened_law, sound_law, stay_law, tag_law,
+};
 use std::alloc::AllocError;
 
 // The listeners whose form is that of the listen with the tag are covered no more: that form, and
