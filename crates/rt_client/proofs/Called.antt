@@ -1,5 +1,5 @@
 -- A seat's call: its receipt, its lane and its ring.
-use Rattle.std.proofs.Common.{◌≡◌, ℕ, zero, suc, ◌≤◌, Bool, true, false, cond, ◌==◌, List, [], ◌∷◌, ◌++◌, length, take, refl, sym, ap, subst, ◌∙◌, arith, append-nil, inl, inr, Option, Some, None, Ok, Err, Result, IfErr, unwrap_or, IsTrue}
+use Rattle.std.proofs.Common.{◌≡◌, ℕ, Bool, true, false, cond, ◌==◌, List, [], ◌∷◌, ◌++◌, length, take, refl, sym, ap, subst, ◌∙◌, append-nil, inl, inr, Option, Some, None, Ok, Err, Result, IfErr, unwrap_or, IsTrue}
 use mathlib.Core.Bool.{true≢false}
 use Rattle.std.specs.Option.{option_map, option_map_or, option_or}
 use Rattle.rt_world.specs.declared.error.CoreError.{CoreError}
@@ -10,12 +10,10 @@ use Rattle.rt_world.specs.After.{listener_given, request_given}
 use Rattle.rt_world.specs.Refusals.{refusal, is_stale}
 use Rattle.rt_world.specs.Answers.{step_by, step, done_report}
 use Rattle.rt_sync.specs.Core.{Applies, refusal_in}
-use Rattle.rt_mail.specs.declared.error.MailError.{MailError}
-use Rattle.rt_mail.specs.declared.error.MailError.TheVariants as mail
 use Rattle.rt_mail.specs.declared.item.Item.{Item}
 use Rattle.rt_mail.specs.declared.item.Item.TheVariants as item
 use Rattle.rt_mail.specs.declared.receipt.Receipt.{Receipt}
-use Rattle.rt_mail.specs.Lanes.{Line, Ring, with_items, signed_lane, Refuses}
+use Rattle.rt_mail.specs.Lanes.{Line, Ring, with_items, signed_lane}
 use Rattle.rt_world.specs.declared.call.Call.{Call}
 use Rattle.rt_world.specs.declared.call.Call.TheVariants as call
 use Rattle.rt_client.specs.declared.done.Done.{Done}
@@ -110,22 +108,12 @@ signed_after w seat c r report old new is told n =
 pub nothing_more : (ring : Ring) → ring ≡ with_items [] ring
 nothing_more ring = λ i. record ring { items = sym (append-nil ring.items) i }
 
-take_within : (n : ℕ) (xs ys : List Item) → n ≤ length xs → take n (xs ++ ys) ≡ take n xs
-take_within zero xs ys h = refl
-take_within (suc n) [] ys h = absurd (omega arith)
-take_within (suc n) (x ∷ xs) ys h = ap (λ z. x ∷ z) (take_within n xs ys (omega arith))
-
 take_whole : (xs : List Item) → take (length xs) xs ≡ xs
 take_whole [] = refl
 take_whole (x ∷ xs) = ap (λ z. x ∷ z) (take_whole xs)
 
 pub hands_none : (lane : Line) (r : Receipt) (ring left : Ring) → left ≡ ring → HandsFirst lane r ring left
 hands_none lane r ring left e = record { count = 0; ring = e ∙ nothing_more ring }
-
-pub hands_refused : (lane left_lane : Line) (r : Receipt) (ring left : Ring) (e : MailError) → Refuses lane ring e left_lane left → HandsFirst lane r ring left
-hands_refused lane left_lane r ring left mail.Failed h = hands_none lane r ring left h.2
-hands_refused lane left_lane r ring left mail.NoMemory h =
-    record { count = h.0; ring = h.1.ring ∙ ap (λ z. with_items z ring) (sym (take_within h.0 lane.waiting (item.Receipt r ∷ []) h.1.some)) }
 
 pub hands_all : (lane : Line) (r : Receipt) (ring left : Ring) → left ≡ signed_ring r ring lane → HandsFirst lane r ring left
 hands_all lane r ring left e =
@@ -181,28 +169,29 @@ call_made old new lanes told w seat c report r ring left is applies e has signed
       ring = ring_signed r ring left (lane_of lanes seat) found.0 found.1 e_ring;
     }
 
--- memory lacked behind the step
+-- memory lacked behind the step and its receipt
 pub call_gave_up : (old new : Option World) (lanes : Lines) (w : World) (seat : ℕ) (c : Call) (report : Report) (r : Receipt) (ring left : Ring)
     → old ≡ Some w → Applies old (step_of seat c) (Ok report) new → r ≡ receipt_with (unwrap_or report.given 0) c
-    → (lane : Line) × (lane_of lanes seat ≡ Some lane) × HandsFirst lane r ring left
+    → HasRoom ring (lane_of lanes seat) → left ≡ option_map_or (signed_ring r ring) (lane_of lanes seat) ring
     → LacksMemory (held_of old lanes) (step_of seat c) × HandsSome (held_of old lanes) seat ring c left
-call_gave_up old new lanes w seat c report r ring left is applies e hands = (
-  record {
-    world = w;
-    core = is;
-    not_refused = (done_is_due old new w (step_of seat c) report is applies).0;
-    not_stale = not_stale w seat c;
-  },
-  record {
-    world = w;
-    core = is;
-    lane = hands.0;
-    is_open = hands.1;
-    receipt = r;
-    signed = receipt_made w seat c report r (done_core old new w (step_of seat c) report is applies).0 e;
-    hands = hands.2;
-  },
-)
+call_gave_up old new lanes w seat c report r ring left is applies e has e_ring =
+    let found = lane_with_room ring (lane_of lanes seat) has in (
+      record {
+        world = w;
+        core = is;
+        not_refused = (done_is_due old new w (step_of seat c) report is applies).0;
+        not_stale = not_stale w seat c;
+      },
+      record {
+        world = w;
+        core = is;
+        lane = found.0;
+        is_open = found.1;
+        receipt = r;
+        signed = receipt_made w seat c report r (done_core old new w (step_of seat c) report is applies).0 e;
+        hands = hands_all found.0 r ring left (ring_signed r ring left (lane_of lanes seat) found.0 found.1 e_ring);
+      },
+    )
 
 -- where the call is not made
 pub call_not_made : (old : Held) (w : World) (seat : ℕ) (c : Call) (ring : Ring) → old.core ≡ Some w → HasRoom ring (lane_of old.lanes seat) → HandsSome old seat ring c ring

@@ -1,6 +1,7 @@
 -- A client may be shared by threads, and a seat handed to one: type by type, from what they hold up.
 use denote.Param.Send.{IsSend, IsSync}
 use Rattle.circular_buffer.proofs.Crosses.{Cells-send, Cells-sync, Deed-send, Deed-sync}
+use Rattle.rt_mail.proofs.Crosses.{history_send}
 use Rattle.rt_mail.specs.contracts.mirror.Mirror as mirror
 use Rattle.rt_mail.specs.contracts.inbox.Inbox as inbox
 use Rattle.rt_mail.specs.contracts.lane.Lane as lane
@@ -48,7 +49,7 @@ pub seat_send : IsSend seat.the_row
 seat_send = search (inbox_send, all_cross) depth 40 fits 20000
 
 lane_send : IsSend lane.the_row
-lane_send = search (item_send, mirror_send, all_cross) depth 40 fits 20000
+lane_send = search (item_send, history_send, all_cross) depth 40 fits 20000
 
 lanes_send : IsSend lanes.the_row
 lanes_send = search (lane_send, all_cross) depth 40 fits 20000

@@ -20,6 +20,8 @@ use Rattle.rt_writes.specs.contracts.entries.Entries as entries
 use Rattle.rt_wire.specs.contracts.reason.Reason as reason
 use Rattle.rt_wire.specs.contracts.request.Action as action
 use Rattle.rt_wire.specs.contracts.request.Ending as ending
+use Rattle.rt_wire.specs.contracts.server.ServerMessage as server
+use Rattle.rt_world.specs.contracts.call.Call as call
 use Rattle.rt_mail.specs.contracts.item.Item as item
 use Rattle.rt_client.proofs.MapCrosses.{map_send, map_sync}
 
@@ -81,8 +83,14 @@ ending_send = search (entries_send, trees_cross) depth 40 fits 20000
 
 pub ruleset calls_cross = (query_send, entries_send, action_send, ending_send, trees_cross)
 
+pub call_send : IsSend call.the_row
+call_send = search calls_cross depth 40 fits 20000
+
 pub reason_send : IsSend reason.the_row
 reason_send = search all_cross depth 40 fits 20000
+
+pub server_send : IsSend server.the_row
+server_send = search (reason_send, calls_cross) depth 40 fits 20000
 
 pub item_send : IsSend item.the_row
 item_send = search (reason_send, calls_cross) depth 40 fits 20000

@@ -45,7 +45,7 @@ pub here : {X : Type 0} (n : ℕ) (a b : X) → cond (n == n) a b ≡ a
 here n a b = ap (λ t. cond t a b) (nat_eq_equiv.refl n)
 
 -- what the mirror that takes the ring's items knows
-takes : (mid left : Seated) (had has : Known) (count : ℕ) → IsMirrored mid (Some had) count left (Some has) → has ≡ known_of had mid.ring.items
+pub takes : (mid left : Seated) (had has : Known) (count : ℕ) → IsMirrored mid (Some had) count left (Some has) → has ≡ known_of had mid.ring.items
 takes mid left had has count m =
     let works = m.takes.works in
     let knows = m.takes.knows in

@@ -54,7 +54,7 @@ same_world locked one before w v a b c d =
 
 -- ---- a seat that is opened
 
-lane_new : (seats n : ℕ) → 1 ≤ n → n ≤ seats → lane_of (replicate seats (Some new_lane)) n ≡ Some new_lane
+pub lane_new : (seats n : ℕ) → 1 ≤ n → n ≤ seats → lane_of (replicate seats (Some new_lane)) n ≡ Some new_lane
 lane_new seats zero one most = absurd (omega (arith, one))
 lane_new zero (suc place) one most = absurd (omega (arith, most))
 lane_new (suc seats) (suc zero) one most = refl

@@ -25,6 +25,7 @@ pub mod Steps
 pub mod Taking
 pub mod Texts
 pub mod Told
+pub mod Trailed
 pub mod Turned
 pub mod Unknown
 pub mod Viewed

@@ -10,21 +10,18 @@ use Rattle.rt_world.specs.laws.Holds.{TakenIsSound}
 use Rattle.rt_world.specs.Sound.{IsSound}
 use Rattle.rt_sync.specs.Core.{Covers, TakesOut}
 use Rattle.rt_sync.specs.Core.{without_first as without_sent}
-use Rattle.rt_mail.specs.declared.error.MailError.{MailError}
-use Rattle.rt_mail.specs.declared.error.MailError.TheVariants as mail
 use Rattle.rt_mail.specs.Mailbox.{Known, known_of}
 use Rattle.rt_mail.specs.Lanes.{Line, Ring, without_first}
 use Rattle.rt_world.specs.declared.step.Step.{Step}
 use Rattle.rt_client.specs.declared.done.Done.{Done}
 use Rattle.rt_client.specs.declared.error.ClientError.{ClientError}
 use Rattle.rt_client.specs.declared.error.ClientError.TheVariants as error
-use Rattle.rt_client.specs.declared.error.ClientError.TheVariants.{NoMemory}
-use Rattle.rt_client.specs.Lanes.{lane_of, IsChanged, due, settled, settled_ring, RefusesToHand}
+use Rattle.rt_client.specs.Lanes.{lane_of, IsChanged, due, settled, settled_ring}
 use Rattle.rt_client.specs.Shared.{Held, AreTold, IsKept}
-use Rattle.rt_client.specs.Settling.{HandsDue, HandsPart, TakesFirst, HasCover, Settles, RefusesSettle, Closes, RefusesClose}
+use Rattle.rt_client.specs.Settling.{HandsDue, TakesFirst, HasCover, Settles, Closes, RefusesClose}
 use Rattle.rt_client.specs.Calls.{Locked, IsOpen, MakesOn, RefusesOn}
 use Rattle.rt_client.specs.laws.Keeping.{SettlingKeeps, TakingKeeps}
-use Rattle.rt_client.proofs.Called.{held_of, nothing_more}
+use Rattle.rt_client.proofs.Called.{held_of}
 use Rattle.rt_client.proofs.Kept.{handing_keeps}
 use Rattle.rt_client.proofs.Numbers.{same_number}
 use Rattle.rt_client.proofs.Seated.{locked_of, seated_of, own_is}
@@ -49,11 +46,6 @@ held_settled core lanes left seat had ring has changed e =
       lanes = subst (λ o. IsChanged seat (option_map (settled had) o) lanes left) found.1 changed;
       ring = e ∙ ap (λ o. option_map_or (settled_ring had) o had) found.1;
     }
-
-pub held_part : (core : Option World) (lanes left : Lines) (seat : ℕ) (had ring : Ring) (why : MailError) → RefusesToHand seat lanes had why left ring
-    → HandsPart (held_of core lanes) seat had ring
-held_part core lanes left seat had ring mail.Failed h = record { lane = h.lane; is_open = h.is_open; count = 0; ring = (h.refused).2 ∙ nothing_more had }
-held_part core lanes left seat had ring mail.NoMemory h = record { lane = h.lane; is_open = h.is_open; count = (h.refused).0; ring = (h.refused).1.ring }
 
 -- nothing is handed over
 handed_none : (o : Option Line) → o ≡ option_map (without_first 0) o
@@ -113,12 +105,6 @@ seat_settled n ids stopped client number ring left before after own hands = reco
   seated = λ i. seated_of client number left;
   hands = hands;
 }
-
-pub seat_part : (n : ℕ) (ids : Option Stamp) (stopped : Bool) (client number : ℕ) (ring left : Ring) (before : Held) (given_up : Option Held) → client ≡ n → given_up ≡ None
-    → HandsPart before number ring left
-    → RefusesSettle (locked_of n ids stopped (Some before)) (seated_of client number ring) NoMemory (locked_of n ids stopped given_up) (seated_of client number left)
-seat_part n ids stopped client number ring left before given_up own none hands =
-    (before, λ i. Some before, own, left, hands, λ i. seated_of client number left, λ i. locked_of n ids stopped (none i))
 
 -- ---- the end of a seat
 

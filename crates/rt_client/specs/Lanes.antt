@@ -9,7 +9,7 @@ use Rattle.rt_mail.specs.declared.item.Item.{Item}
 use Rattle.rt_mail.specs.declared.item.Item.TheVariants as item
 use Rattle.rt_mail.specs.declared.receipt.Receipt.{Receipt}
 use Rattle.rt_mail.specs.Mailbox.{nothing_known}
-use Rattle.rt_mail.specs.Lanes.{Line, Ring, room, with_items, without_first, why_not, Refuses}
+use Rattle.rt_mail.specs.Lanes.{Line, Ring, room, with_items, without_first, why_not}
 use Rattle.rt_client.specs.Seats.{told_to}
 
 -- nothing waits in a lane, and nothing was handed over
@@ -65,12 +65,3 @@ HasRoom ring (Some lane) = length lane.waiting < room ring
 -- the ring to which all that waits was handed over, and then a receipt
 abbrev pub signed_ring : Receipt → Ring → Line → Ring
 signed_ring receipt ring lane = with_items (lane.waiting ++ item.Receipt receipt ∷ []) ring
-
--- a lane that is open refuses to hand over, and no other changes
-pub record RefusesToHand (seat : ℕ) (old : List (Option Line)) (old_ring : Ring) (why : MailError)
-    (new : List (Option Line)) (new_ring : Ring) : Type 0 where
-  pub lane : Line
-  pub left : Line
-  pub is_open : lane_of old seat ≡ Some lane
-  pub refused : Refuses lane old_ring why left new_ring
-  pub others : IsChanged seat (Some left) old new

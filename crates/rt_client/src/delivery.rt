@@ -1,8 +1,9 @@
 // What a seat's ring holds is given to a sink, once and over turns.
-ghost use Rattle.std.specs.Prelude.{◌≡◌, Ok, true, false, IfErr, IfNone, IfSome, OnOk};
+ghost use Rattle.std.specs.Prelude.{◌≡◌, ◌≢◌, Ok, true, false, IfErr, IfNone, IfSome, OnOk};
 ghost use Rattle.std.specs.Sync.Mutex.{mutex_guard_value};
 ghost use Rattle.rt_client.specs.Delivery.{Turns, RefusesTurnOf, Delivers, RefusesDelivery};
 ghost use Rattle.rt_client.specs.Waiting.{is_due};
+ghost use Rattle.rt_client.specs.declared.error.ClientError.TheVariants.{NoMemory};
 
 use crate::client::Client;
 use crate::error::ClientError;
@@ -53,6 +54,7 @@ pub fn turn<S: Sink>(
         (mutex_guard_value shared.entry) seat.old sink.old seat.new sink.new) }
     ensures refused { IfErr result (λ e. RefusesTurnOf (mutex_guard_value shared.entry) seat.old e seat.new) }
     ensures none { IfErr result (λ _. sink.new ≡ sink.old) }
+    ensures memory { IfErr result (λ e. e ≢ NoMemory) }
 {
     let mut shared = shared;
     shared.settle(seat)?;
@@ -93,8 +95,8 @@ fn go_on<'a, R: Wait, G: Gate>(
 ///
 /// # Errors
 ///
-/// Those of [`Shared::settle`]: Failed, WrongSeat and NoMemory. What was handed out before stays with
-/// the sink, and the ring keeps what it holds.
+/// Those of [`Shared::settle`]: Failed and WrongSeat. What was handed out before stays with the sink, and
+/// the ring keeps what it holds.
 #[tactic(auto, using(crate::proofs::Delivered::refused_once))]
 pub fn deliver<S: Sink, G: Gate>(
     rt: &impl Wait,
@@ -108,6 +110,7 @@ pub fn deliver<S: Sink, G: Gate>(
         (Delivers S.after_item (G.may_stop gate.now) turns seat.old sink.old seat.new sink.new) }
     ensures refused { IfErr result (λ e.
         RefusesDelivery S.after_item turns seat.old sink.old e seat.new sink.new) }
+    ensures memory { IfErr result (λ e. e ≢ NoMemory) }
     ensures never { (G.may_go gate.now → ⊥)
         → (result ≡ Ok tt) × (seat.new ≡ seat.old) × (sink.new ≡ sink.old) }
     ensures no_turns { turns ≡ 0

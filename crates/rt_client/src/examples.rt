@@ -5,6 +5,7 @@ ghost use Rattle.rt_client.specs.laws.Telling.{FirstIsTold, SecondIsTold, FirstI
 ghost use Rattle.rt_client.specs.laws.Telling.{SecondIsKnown, RefusedIsNotTold};
 ghost use Rattle.rt_client.specs.laws.Telling.{NotUntold, NotHalfTold, NotTheOthers, NotTooEarly};
 ghost use Rattle.rt_client.specs.laws.Telling.{FirstIsShown, NotShown};
+ghost use Rattle.rt_client.specs.laws.Following.{NotLeftOut, NotFirstLast};
 
 /// What two seats are told of one listener and one write, and what the core knows of them then.
 pub fn telling_examples()
@@ -29,4 +30,11 @@ pub fn telling_refutations()
 pub fn showing_examples()
     ensures first { FirstIsShown }
     ensures refuted { NotShown }
+{}
+
+/// A mirror loses its lane where it leaves out an item that the seat took from its ring, or takes the
+/// first one last.
+pub fn following_refutations()
+    ensures left_out { NotLeftOut }
+    ensures first_last { NotFirstLast }
 {}

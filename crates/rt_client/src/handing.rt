@@ -1,10 +1,10 @@
 // What a client's locked value hands over and shows, and the end of a seat.
-ghost use Rattle.std.specs.Prelude.{◌≡◌, IfOk, IfErr, OnOk};
+ghost use Rattle.std.specs.Prelude.{◌≡◌, ◌≢◌, IfOk, IfErr, OnOk};
 ghost use Rattle.rt_client.specs.Calls.{HasFailed};
 ghost use Rattle.rt_client.specs.Settling.{Settles, RefusesSettle, Closes, RefusesClose};
 ghost use Rattle.rt_client.specs.Settling.{TakesMessage, ShowsCover, RefusesCover};
 ghost use Rattle.rt_client.specs.Viewing.{ShowsView, RefusesView};
-ghost use Rattle.rt_client.specs.declared.error.ClientError.TheVariants.{Failed};
+ghost use Rattle.rt_client.specs.declared.error.ClientError.TheVariants.{Failed, NoMemory};
 
 use crate::error::ClientError;
 use crate::keeping::keeping_law;
@@ -80,10 +80,11 @@ impl Shared {
     ///
     /// # Errors
     ///
-    /// Failed, WrongSeat, and NoMemory, after which the client has failed; the ring keeps what it holds.
+    /// Failed and WrongSeat. It takes no memory.
     pub fn settle(&mut self, seat: &mut Seat) -> Result<(), ClientError>
         ensures settled { OnOk result (Settles self.old seat.old self.new seat.new) }
         ensures refused { IfErr result (λ e. RefusesSettle self.old seat.old e self.new seat.new) }
+        ensures memory { IfErr result (λ e. e ≢ NoMemory) }
     {
         // For the prover: what the lock keeps is kept.
         keeping_law();
@@ -93,10 +94,7 @@ impl Shared {
         if seat.client != self.number || !held.lanes.has_lane(seat.number) {
             return Err(ClientError::WrongSeat);
         }
-        let Ok(()) = held.settle(seat.number, &mut seat.inbox) else {
-            drop(self.held.take());
-            return Err(ClientError::NoMemory);
-        };
+        held.settle(seat.number, &mut seat.inbox);
         Ok(())
     }
 

@@ -3,12 +3,11 @@ ghost use Rattle.std.specs.Prelude.{◌≡◌, Some, None, IfOk, OnOk, IfErr, Is
 ghost use Rattle.std.specs.Option.{option_map_or};
 ghost use Rattle.rt_world.specs.World.{World};
 ghost use Rattle.rt_client.specs.Seats.{caller_of, closed_by};
-ghost use Rattle.rt_mail.specs.Lanes.{Line};
 ghost use Rattle.rt_client.specs.Lanes.{lane_of, HasRoom, signed_ring};
 ghost use Rattle.rt_client.specs.inside.Receipts.{AreSigned, receipt_with};
 ghost use Rattle.rt_world.specs.Calls.{step_of};
-ghost use Rattle.rt_client.specs.Calls.{HandsFirst, Made, Refuses, Called, RefusesCalled};
-ghost use Rattle.rt_client.specs.Settling.{HandsDue, HandsPart, TakesFirst, HasCover};
+ghost use Rattle.rt_client.specs.Calls.{Made, Refuses, Called, RefusesCalled};
+ghost use Rattle.rt_client.specs.Settling.{HandsDue, TakesFirst, HasCover};
 ghost use Rattle.rt_client.specs.Viewing.{HasShown, RefusesShown};
 
 use crate::done::Done;
@@ -84,8 +83,9 @@ fn closed_by(step: &Step) -> Option<u64>
     }
 }
 
-// The seat's lane hands over all that waits and then the receipt, and each note waits in its seat's
-// lane, in order. No open lane has failed, so want of memory is all that can be answered.
+// The seat's lane hands over all that waits and then the receipt, which is never refused, and each note
+// waits in its seat's lane, in order. No open lane has failed, so want of memory is all that can be
+// answered.
 fn tell(
     lanes: &mut Lanes,
     seat: u64,
@@ -95,18 +95,10 @@ fn tell(
 ) -> Result<(), AllocError>
     requires { HasRoom inbox.old (lane_of lanes.old seat) }
     ensures lanes { OnOk result (AreSigned seat receipt notes lanes.old lanes.new) }
-    ensures ring { OnOk result (inbox.new
-        ≡ option_map_or (signed_ring receipt inbox.old) (lane_of lanes.old seat) inbox.old) }
-    ensures refused { IfErr result (λ _. (lane : Line) × (lane_of lanes.old seat ≡ Some lane)
-        × HandsFirst lane receipt inbox.old inbox.new) }
+    ensures ring { inbox.new
+        ≡ option_map_or (signed_ring receipt inbox.old) (lane_of lanes.old seat) inbox.old }
 {
-    match lanes.sign(seat, inbox, receipt) {
-        Ok(()) => {}
-        Err(_why) => {
-            drop(notes);
-            return Err(AllocError);
-        }
-    }
+    lanes.sign(seat, inbox, receipt);
     match lanes.queue_all(notes) {
         Ok(()) => Ok(()),
         Err(_why) => Err(AllocError),
@@ -197,17 +189,12 @@ impl Held {
         }
     }
 
-    // The seat's lane hands over what its ring has room for. No open lane has failed, so want of memory
-    // is all that can be answered.
-    pub(crate) fn settle(&mut self, seat: u64, inbox: &mut Inbox) -> Result<(), AllocError>
+    // The seat's lane hands over what its ring has room for, which is never refused.
+    pub(crate) fn settle(&mut self, seat: u64, inbox: &mut Inbox)
         requires { IsTrue (is_some (lane_of self.old.lanes seat)) }
-        ensures settled { OnOk result (HandsDue self.old seat inbox.old self.new inbox.new) }
-        ensures refused { IfErr result (λ _. HandsPart self.old seat inbox.old inbox.new) }
+        ensures { HandsDue self.old seat inbox.old self.new inbox.new }
     {
-        match self.lanes.settle(seat, inbox) {
-            Ok(()) => Ok(()),
-            Err(_why) => Err(AllocError),
-        }
+        self.lanes.settle(seat, inbox);
     }
 
     // Takes out the first message that is to be sent.
@@ -229,6 +216,7 @@ impl Held {
             Err(_why) => Err(AllocError),
         }
     }
+
     // What a listener shows, if it is primed.
     #[tactic(auto, using(crate::proofs::Viewed::has_shown, crate::proofs::Viewed::shows_none))]
     pub(crate) fn view(&self, listener: u64) -> Result<Option<Shown>, ClientError>

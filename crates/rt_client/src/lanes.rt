@@ -2,10 +2,10 @@
 ghost use Rattle.std.specs.Prelude.{◌≡◌, ◌↔◌, OnOk, IfOk, IfErr, IsTrue, Some, None, is_some};
 ghost use Rattle.std.specs.Prelude.{ℕ, ◌+◌, ◌<◌, ◌≤◌, length, replicate};
 ghost use Rattle.std.specs.Option.{option_map, option_map_or};
-ghost use Rattle.rt_mail.specs.Lanes.{Line, why_not, with_waiting, signed_lane, Refuses};
+ghost use Rattle.rt_mail.specs.Lanes.{Line, why_not, with_waiting, signed_lane};
 ghost use Rattle.rt_client.specs.Seats.{item_of};
 ghost use Rattle.rt_client.specs.Lanes.{new_lane, lane_of, AreQueued, StopsAt, IsChanged, HasRoom};
-ghost use Rattle.rt_client.specs.Lanes.{settled, settled_ring, signed_ring, RefusesToHand};
+ghost use Rattle.rt_client.specs.Lanes.{settled, settled_ring, signed_ring};
 ghost use Rattle.rt_client.specs.Opened.{AreOpenBelow};
 ghost use Rattle.rt_client.specs.Waiting.{is_quiet};
 
@@ -93,71 +93,61 @@ fn queue_each(lanes: &mut Vec<Option<Lane>>, notes: Vec<Note>) -> Result<(), Mai
 }
 
 // The lane hands over what the ring has room for, if it is open.
-fn flush_lane(lane: &mut Option<Lane>, inbox: &mut Inbox) -> Result<(), MailError>
-    ensures lane { OnOk result (lane.new ≡ option_map (settled inbox.old) lane.old) }
-    ensures ring { OnOk result (inbox.new ≡ option_map_or (settled_ring inbox.old) lane.old inbox.old) }
-    ensures refused { IfErr result (λ e. (l m : Line) × (lane.old ≡ Some l) × (lane.new ≡ Some m)
-        × Refuses l inbox.old e m inbox.new) }
+fn flush_lane(lane: &mut Option<Lane>, inbox: &mut Inbox)
+    ensures lane { lane.new ≡ option_map (settled inbox.old) lane.old }
+    ensures ring { inbox.new ≡ option_map_or (settled_ring inbox.old) lane.old inbox.old }
 {
-    match lane {
-        Some(lane) => lane.flush(inbox),
-        None => Ok(()),
+    let Some(lane) = lane else {
+        return;
+    };
+    match lane.flush(inbox) {
+        Ok(()) => {}
+        Err(_never) => unreachable!(),
     }
 }
 
 // The seat's lane hands over what its ring has room for, if it is open.
-fn flush_at(lanes: &mut Vec<Option<Lane>>, seat: u64, inbox: &mut Inbox) -> Result<(), MailError>
-    ensures lane { OnOk result (IsChanged seat (option_map (settled inbox.old) (lane_of lanes.old.items seat))
-        lanes.old.items lanes.new.items) }
-    ensures ring { OnOk result (inbox.new
-        ≡ option_map_or (settled_ring inbox.old) (lane_of lanes.old.items seat) inbox.old) }
-    ensures refused { IfErr result (λ e. RefusesToHand seat lanes.old.items inbox.old e
-        lanes.new.items inbox.new) }
+fn flush_at(lanes: &mut Vec<Option<Lane>>, seat: u64, inbox: &mut Inbox)
+    ensures lane { IsChanged seat (option_map (settled inbox.old) (lane_of lanes.old.items seat))
+        lanes.old.items lanes.new.items }
+    ensures ring { inbox.new
+        ≡ option_map_or (settled_ring inbox.old) (lane_of lanes.old.items seat) inbox.old }
 {
     if seat == 0 || (seat - 1) as usize >= lanes.len() {
-        return Ok(());
+        return;
     }
-    flush_lane(&mut lanes[(seat - 1) as usize], inbox)
+    flush_lane(&mut lanes[(seat - 1) as usize], inbox);
 }
 
 // The lane hands over all that waits and then a receipt, if it is open.
-fn sign_in(lane: &mut Option<Lane>, inbox: &mut Inbox, receipt: Receipt) -> Result<(), MailError>
+fn sign_in(lane: &mut Option<Lane>, inbox: &mut Inbox, receipt: Receipt)
     requires { HasRoom inbox.old lane.old }
-    ensures lane { OnOk result (lane.new ≡ option_map (signed_lane receipt) lane.old) }
-    ensures ring { OnOk result (inbox.new
-        ≡ option_map_or (signed_ring receipt inbox.old) lane.old inbox.old) }
-    ensures refused { IfErr result (λ e. (l m : Line) × (lane.old ≡ Some l) × (lane.new ≡ Some m)
-        × Refuses l inbox.old e m inbox.new) }
+    ensures lane { lane.new ≡ option_map (signed_lane receipt) lane.old }
+    ensures ring { inbox.new ≡ option_map_or (signed_ring receipt inbox.old) lane.old inbox.old }
 {
-    match lane {
-        Some(lane) => lane.sign(inbox, receipt),
-        None => {
-            drop(receipt);
-            Ok(())
-        }
+    let Some(lane) = lane else {
+        drop(receipt);
+        return;
+    };
+    match lane.sign(inbox, receipt) {
+        Ok(()) => {}
+        Err(_never) => unreachable!(),
     }
 }
 
 // The seat's lane hands over all that waits and then a receipt, if it is open.
-fn sign_at(
-    lanes: &mut Vec<Option<Lane>>,
-    seat: u64,
-    inbox: &mut Inbox,
-    receipt: Receipt,
-) -> Result<(), MailError>
+fn sign_at(lanes: &mut Vec<Option<Lane>>, seat: u64, inbox: &mut Inbox, receipt: Receipt)
     requires { HasRoom inbox.old (lane_of lanes.old.items seat) }
-    ensures lane { OnOk result (IsChanged seat
-        (option_map (signed_lane receipt) (lane_of lanes.old.items seat)) lanes.old.items lanes.new.items) }
-    ensures ring { OnOk result (inbox.new
-        ≡ option_map_or (signed_ring receipt inbox.old) (lane_of lanes.old.items seat) inbox.old) }
-    ensures refused { IfErr result (λ e. RefusesToHand seat lanes.old.items inbox.old e
-        lanes.new.items inbox.new) }
+    ensures lane { IsChanged seat (option_map (signed_lane receipt) (lane_of lanes.old.items seat))
+        lanes.old.items lanes.new.items }
+    ensures ring { inbox.new
+        ≡ option_map_or (signed_ring receipt inbox.old) (lane_of lanes.old.items seat) inbox.old }
 {
     if seat == 0 || (seat - 1) as usize >= lanes.len() {
         drop(receipt);
-        return Ok(());
+        return;
     }
-    sign_in(&mut lanes[(seat - 1) as usize], inbox, receipt)
+    sign_in(&mut lanes[(seat - 1) as usize], inbox, receipt);
 }
 
 // The seat's lane, if it is open.
@@ -294,30 +284,23 @@ impl Lanes {
     }
 
     // The seat's lane hands over what its ring has room for; without a lane nothing changes.
-    pub(crate) fn settle(&mut self, seat: u64, inbox: &mut Inbox) -> Result<(), MailError>
-        ensures lane { OnOk result (IsChanged seat (option_map (settled inbox.old) (lane_of self.old seat))
-            self.old self.new) }
-        ensures ring { OnOk result (inbox.new
-            ≡ option_map_or (settled_ring inbox.old) (lane_of self.old seat) inbox.old) }
-        ensures refused { IfErr result (λ e. RefusesToHand seat self.old inbox.old e self.new inbox.new) }
+    pub(crate) fn settle(&mut self, seat: u64, inbox: &mut Inbox)
+        ensures lane { IsChanged seat (option_map (settled inbox.old) (lane_of self.old seat))
+            self.old self.new }
+        ensures ring { inbox.new
+            ≡ option_map_or (settled_ring inbox.old) (lane_of self.old seat) inbox.old }
     {
-        flush_at(&mut self.lanes, seat, inbox)
+        flush_at(&mut self.lanes, seat, inbox);
     }
 
     // The seat's lane hands over all that waits and then a receipt; without a lane nothing changes.
-    pub(crate) fn sign(
-        &mut self,
-        seat: u64,
-        inbox: &mut Inbox,
-        receipt: Receipt,
-    ) -> Result<(), MailError>
+    pub(crate) fn sign(&mut self, seat: u64, inbox: &mut Inbox, receipt: Receipt)
         requires { HasRoom inbox.old (lane_of self.old seat) }
-        ensures lane { OnOk result (IsChanged seat
-            (option_map (signed_lane receipt) (lane_of self.old seat)) self.old self.new) }
-        ensures ring { OnOk result (inbox.new
-            ≡ option_map_or (signed_ring receipt inbox.old) (lane_of self.old seat) inbox.old) }
-        ensures refused { IfErr result (λ e. RefusesToHand seat self.old inbox.old e self.new inbox.new) }
+        ensures lane { IsChanged seat (option_map (signed_lane receipt) (lane_of self.old seat))
+            self.old self.new }
+        ensures ring { inbox.new
+            ≡ option_map_or (signed_ring receipt inbox.old) (lane_of self.old seat) inbox.old }
     {
-        sign_at(&mut self.lanes, seat, inbox, receipt)
+        sign_at(&mut self.lanes, seat, inbox, receipt);
     }
 }

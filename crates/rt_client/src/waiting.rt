@@ -1,9 +1,9 @@
 // Waiting for what others do to a client, and waking whoever waits.
-ghost use Rattle.std.specs.Prelude.{◌≡◌, ◌||◌, Ok, None, true, IfOk, OnOk, IfErr, IfSome};
+ghost use Rattle.std.specs.Prelude.{◌≡◌, ◌≢◌, ◌||◌, Ok, None, true, IfOk, OnOk, IfErr, IfSome};
 ghost use Rattle.std.specs.Sync.Mutex.{mutex_guard_value};
 ghost use Rattle.rt_client.specs.Delivery.{RefusesTurn};
 ghost use Rattle.rt_client.specs.Waiting.{is_due, IsSettled, Awaits};
-ghost use Rattle.rt_client.specs.declared.error.ClientError.TheVariants.{Failed};
+ghost use Rattle.rt_client.specs.declared.error.ClientError.TheVariants.{Failed, NoMemory};
 
 use crate::client::Client;
 use crate::error::ClientError;
@@ -117,6 +117,7 @@ impl Client {
     fn settle_due<R: Wait>(&self, rt: &R, seat: &mut Seat) -> Result<(), ClientError>
         ensures settled { OnOk result (IsSettled seat.old seat.new) }
         ensures refused { IfErr result (λ e. RefusesTurn seat.old e seat.new) }
+        ensures memory { IfErr result (λ e. e ≢ NoMemory) }
     {
         let mut shared = self.lock_for(rt, seat);
         shared.settle(seat)?;
@@ -135,6 +136,7 @@ impl Client {
     pub fn wait<R: Wait>(&self, rt: &R, seat: &mut Seat) -> Result<bool, ClientError>
         ensures there { IfOk result (λ there. Awaits seat.old there seat.new) }
         ensures refused { IfErr result (λ e. RefusesTurn seat.old e seat.new) }
+        ensures memory { IfErr result (λ e. e ≢ NoMemory) }
     {
         if seat.has_items() {
             return Ok(true);

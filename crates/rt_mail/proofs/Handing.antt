@@ -1,10 +1,11 @@
 -- Items handed over one by one.
-use Rattle.std.proofs.Common.{◌≡◌, ℕ, zero, suc, ◌-◌, ◌<◌, ◌≤◌, List, [], ◌∷◌, ◌++◌, length, take, drop, refl, sym, ap, subst, ◌∙◌, append-nil, append_assoc, arith, IsTrue, Option, Some, None}
+use Rattle.std.proofs.Common.{◌≡◌, ℕ, zero, suc, ◌-◌, ◌<◌, ◌≤◌, List, [], ◌∷◌, ◌++◌, length, take, drop, refl, sym, ap, subst, ◌∙◌, append-nil, append_assoc, arith, Some}
 use Rattle.std.proofs.lemmas.List.{length-append, length-take}
 use Rattle.std.specs.Option.{option_map}
 use Rattle.rt_mail.specs.declared.item.Item.{Item}
-use Rattle.rt_mail.specs.Mailbox.{Known, taken, known_of}
-use Rattle.rt_mail.specs.Lanes.{Ring, Line, is_working, room, with_items, HandsOver, GivesUp}
+use Rattle.rt_mail.specs.Mailbox.{Known, nothing_known, taken, known_of}
+use Rattle.rt_mail.specs.Lanes.{Ring, room, with_items, HandsOver}
+use Rattle.rt_mail.specs.inside.Histories.{mirror_of, line_of}
 
 -- what is known after items and then more
 pub known-append : (m : Known) (xs ys : List Item) → known_of m (xs ++ ys) ≡ known_of (known_of m xs) ys
@@ -30,52 +31,38 @@ shorter zero (y ∷ xs) x rest e = omega arith
 shorter (suc k) [] x rest e = absurd (cc)
 shorter (suc k) (y ∷ xs) x rest e = omega (arith, shorter k xs x rest e)
 
+-- one more in the history
+pub mirror-more : (handed : List Item) (x : Item) → mirror_of (handed ++ x ∷ []) ≡ option_map (λ m. taken m x) (mirror_of handed)
+mirror-more handed x = ap Some (known-append nothing_known handed (x ∷ []))
+
 -- none are handed over
-pub hands_none : (lane : Line) (ring : Ring) (m : Known) → lane.mirror ≡ Some m → HandsOver 0 lane ring lane ring
-hands_none lane ring m e = record {
-  ring = λ i. record ring { items = sym (append-nil ring.items) i };
-  lane = λ i. record lane { mirror = (e ∙ sym (ap (option_map (λ k. known_of k [])) e)) i };
-}
+pub hands_none : (waiting handed : List Item) (ring : Ring) → HandsOver 0 (line_of waiting handed) ring (line_of waiting handed) ring
+hands_none waiting handed ring = record { ring = λ i. record ring { items = sym (append-nil ring.items) i }; lane = refl }
 
 -- one more is handed over
-pub hands_more : (k : ℕ) (lane : Line) (ring : Ring) (mid : Line) (mid_ring : Ring) (x : Item) (rest : List Item) (m : Known)
-    → HandsOver k lane ring mid mid_ring → mid.waiting ≡ x ∷ rest → mid.mirror ≡ Some m
-    → HandsOver (suc k) lane ring (record { waiting = rest; mirror = Some (taken m x) }) (with_items (x ∷ []) mid_ring)
-hands_more k lane ring mid mid_ring x rest m h e em =
-    let there : drop k lane.waiting ≡ x ∷ rest = sym (ap (λ l. l.waiting) h.lane) ∙ e in
-    let mirror : option_map (λ a. known_of a (take k lane.waiting)) lane.mirror ≡ Some m = sym (ap (λ l. l.mirror) h.lane) ∙ em in
+pub hands_more : (k : ℕ) (old before : List Item) (ring : Ring) (waiting handed : List Item) (mid_ring : Ring) (x : Item) (rest : List Item)
+    → HandsOver k (line_of old before) ring (line_of waiting handed) mid_ring → waiting ≡ x ∷ rest
+    → HandsOver (suc k) (line_of old before) ring (line_of rest (handed ++ x ∷ [])) (with_items (x ∷ []) mid_ring)
+hands_more k old before ring waiting handed mid_ring x rest h e =
+    let there : drop k old ≡ x ∷ rest = sym (ap (λ l. l.waiting) h.lane) ∙ e in
+    let first : Known = known_of nothing_known before in
+    let taken_on : take k old ++ x ∷ [] ≡ take (suc k) old = sym (take-more k old x rest there) in
     record {
       ring =
           (λ i. with_items (x ∷ []) (h.ring i))
-          ∙ (λ i. record ring { items = (append_assoc ring.items (take k lane.waiting) (x ∷ []) ∙ ap (λ z. ring.items ++ z) (sym (take-more k lane.waiting x rest there))) i });
-      lane = λ i. record { waiting = sym (drop-more k lane.waiting x rest there) i; mirror = after lane.mirror mirror i };
+          ∙ (λ i. record ring { items = (append_assoc ring.items (take k old) (x ∷ []) ∙ ap (λ z. ring.items ++ z) taken_on) i });
+      lane = λ i. record {
+        waiting = sym (drop-more k old x rest there) i;
+        mirror =
+            (mirror-more handed x
+            ∙ ap (option_map (λ m. taken m x)) (ap (λ l. l.mirror) h.lane)
+            ∙ ap Some (sym (known-append first (take k old) (x ∷ [])))
+            ∙ ap (λ z. Some (known_of first z)) taken_on) i;
+      };
     }
-  where
-    after : (o : Option Known) → option_map (λ a. known_of a (take k lane.waiting)) o ≡ Some m → Some (taken m x) ≡ option_map (λ a. known_of a (take (suc k) lane.waiting)) o
-    after None t = cc
-    after (Some a) t =
-        let there : drop k lane.waiting ≡ x ∷ rest = sym (ap (λ l. l.waiting) h.lane) ∙ e in
-        let known : known_of a (take k lane.waiting) ≡ m = cc in
-        ap (λ z. Some (taken z x)) (sym known) ∙ ap Some (sym (known-append a (take k lane.waiting) (x ∷ []))) ∙ ap (λ z. Some (known_of a z)) (sym (take-more k lane.waiting x rest there))
 
 -- there is room for one more
 pub room_more : (k : ℕ) (xs : List Item) (ring mid : Ring) → mid ≡ with_items (take k xs) ring → k ≤ length xs → 0 < room mid → suc k ≤ room ring
 room_more k xs ring mid e le lt =
     let after : 0 < ring.capacity - length (ring.items ++ take k xs) = subst (λ r. 0 < room r) e lt in
     omega (arith, after, length-append ring.items (take k xs), length-take k xs)
-
--- what waits is the rest
-pub drop_of : (k : ℕ) (lane : Line) (ring : Ring) (mid : Line) (mid_ring : Ring) → HandsOver k lane ring mid mid_ring → drop k lane.waiting ≡ mid.waiting
-drop_of k lane ring mid mid_ring h = sym (ap (λ l. l.waiting) h.lane)
-
--- all that waited is handed over, and then memory lacks
-pub gives_up_after : (n : ℕ) (old : Line) (old_ring : Ring) (mid : Line) (new_ring : Ring) (new : Line)
-    → IsTrue (is_working old) → n ≤ length old.waiting → HandsOver n old old_ring mid new_ring → new.waiting ≡ mid.waiting → new.mirror ≡ None
-    → GivesUp n old old_ring new new_ring
-gives_up_after n old old_ring mid new_ring new worked some h waiting failed = record {
-  worked = worked;
-  some = some;
-  ring = h.ring;
-  waiting = waiting ∙ ap (λ l. l.waiting) h.lane;
-  failed = failed;
-}

@@ -1,4 +1,6 @@
+mod Walks
 pub mod Calls
+pub mod Crosses
 pub mod Halving
 pub mod Handing
 pub mod Places

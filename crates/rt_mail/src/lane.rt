@@ -1,42 +1,43 @@
 // What waits for a seat.
-ghost use Rattle.std.specs.Prelude.{◌≡◌, ◌<◌, ◌↔◌, ◌∷◌, [], ◌++◌, IsTrue, OnOk, IfErr, Some, min, length};
-ghost use Rattle.rt_mail.specs.Mailbox.{Known, nothing_known};
+ghost use Rattle.std.specs.Prelude.{◌≡◌, ◌<◌, ◌↔◌, ◌∷◌, [], ◌++◌, IsTrue, IsOk, OnOk, IfErr, Some, min, length};
+ghost use Rattle.rt_mail.specs.Mailbox.{nothing_known};
 ghost use Rattle.rt_mail.specs.Lanes.{room, with_items, with_waiting, HandsOver, signed_lane};
 ghost use Rattle.rt_mail.specs.Lanes.{Refuses, is_working, why_not};
-ghost use Rattle.rt_mail.specs.inside.Places.{line};
+ghost use Rattle.rt_mail.specs.inside.Histories.{line_of};
 ghost use Rattle.rt_mail.specs.declared.item.Item.TheVariants as item;
 
 use crate::error::MailError;
+use crate::history::History;
 use crate::inbox::Inbox;
 use crate::item::Item;
-use crate::mirror::Mirror;
 use crate::receipt::Receipt;
 use std::alloc::Global;
 use std::collections::VecDeque;
 use std::marker::Model;
 
-/// The items that wait for a seat, and a mirror of all that was handed over to it. Once that has
-/// lacked memory the lane has failed, and hands over nothing.
+/// The items that wait for a seat. Contracts see beside them the mirror of all that was handed over to
+/// it, by a history that only proofs read: it takes no memory, and nothing at run time.
 pub struct Lane {
     waiting: VecDeque<Item>,
-    mirror: Mirror,
+    handed: History<Item>,
 }
 
 impl Drop for Lane {
     fn drop(self) {
         let Lane {
             waiting: _,
-            mirror: _,
+            handed: _,
         } = self;
     }
 }
 
 impl Model for Lane {
     ghost use Rattle.rt_mail.specs.Lanes.{Line};
+    ghost use Rattle.rt_mail.specs.inside.Histories.{line_of};
 
     ghost Value = { Line };
 
-    ghost view = { λ a. record { waiting = a.waiting.items; mirror = a.mirror } };
+    ghost view = { λ a. line_of a.waiting.items a.handed.items };
 }
 
 /// An item that a lane did not queue, handed back, and why.
@@ -46,32 +47,19 @@ pub struct Unqueued {
     pub why: MailError,
 }
 
-// Hands over as many items as the ring has room for, in order; the mirror takes just these, each
-// before it leaves the lane.
-fn hand_over(
-    waiting: &mut VecDeque<Item>,
-    mirror: &mut Mirror,
-    inbox: &mut Inbox,
-) -> Result<(), MailError>
-    requires { (m : Known) × (mirror.old ≡ Some m) }
-    ensures flushed { OnOk result (HandsOver (min (length waiting.old.items) (room inbox.old))
-        (line waiting.old.items mirror.old) inbox.old (line waiting.new.items mirror.new) inbox.new) }
-    ensures refused { IfErr result (λ e. Refuses
-        (line waiting.old.items mirror.old) inbox.old e (line waiting.new.items mirror.new) inbox.new) }
+// Hands over as many items as the ring has room for, in order; the history takes just these.
+fn hand_over(waiting: &mut VecDeque<Item>, handed: &mut History<Item>, inbox: &mut Inbox)
+    ensures { HandsOver (min (length waiting.old.items) (room inbox.old))
+        (line_of waiting.old.items handed.old.items) inbox.old
+        (line_of waiting.new.items handed.new.items) inbox.new }
 {
     while inbox.room() > 0 {
-        let Some(first) = waiting.front() else {
-            return Ok(());
+        let Some(item) = waiting.pop_front() else {
+            return;
         };
-        if mirror.take_from(first).is_err() {
-            return Err(MailError::NoMemory);
-        }
-        match waiting.pop_front() {
-            Some(item) => inbox.put(item),
-            None => unreachable!(),
-        }
+        *handed = handed.and(&item);
+        inbox.put(item);
     }
-    Ok(())
 }
 
 impl Lane {
@@ -81,7 +69,7 @@ impl Lane {
     {
         Lane {
             waiting: VecDeque::new(alloc),
-            mirror: Mirror::new(alloc),
+            handed: History::new(),
         }
     }
 
@@ -89,17 +77,13 @@ impl Lane {
     ///
     /// # Errors
     ///
-    /// Failed where the lane has failed, else want of memory.
+    /// Want of memory; a lane never fails.
     pub fn queue(&mut self, item: Item) -> Result<(), Unqueued>
         ensures queued { OnOk result (self.new ≡ with_waiting item self.old) }
         ensures working { OnOk result (IsTrue (is_working self.old)) }
         ensures unchanged { IfErr result (λ e. (e.item ≡ item) × (self.new ≡ self.old)) }
         ensures why { IfErr result (λ e. e.why ≡ why_not self.old) }
     {
-        if self.mirror.has_failed() {
-            let why = MailError::Failed;
-            return Err(Unqueued { item, why });
-        }
         match self.waiting.push_back(item) {
             Ok(()) => Ok(()),
             Err(refused) => Err(Unqueued {
@@ -124,30 +108,20 @@ impl Lane {
     }
 
     /// Hands over as many items as the ring has room for, in order. Items are moved, and none is
-    /// copied; the mirror keeps keys and trees, which it shares with them.
-    ///
-    /// # Errors
-    ///
-    /// Failed where the lane has failed, which changes nothing; else want of memory, for the mirror:
-    /// the lane has failed then, and what the ring holds stays to be taken.
+    /// copied. It takes no memory, and is never refused.
     pub fn flush(&mut self, inbox: &mut Inbox) -> Result<(), MailError>
         ensures flushed { OnOk result (HandsOver (min (length self.old.waiting) (room inbox.old))
             self.old inbox.old self.new inbox.new) }
         ensures working { OnOk result (IsTrue (is_working self.old)) }
         ensures refused { IfErr result (λ e. Refuses self.old inbox.old e self.new inbox.new) }
+        ensures always { IsOk result }
     {
-        if self.mirror.has_failed() {
-            return Err(MailError::Failed);
-        }
-        hand_over(&mut self.waiting, &mut self.mirror, inbox)
+        hand_over(&mut self.waiting, &mut self.handed, inbox);
+        Ok(())
     }
 
     /// Hands over all that waits and then a receipt. The caller has seen that there is room:
-    /// [`Lane::has_room`].
-    ///
-    /// # Errors
-    ///
-    /// As [`Lane::flush`]; the receipt is dropped.
+    /// [`Lane::has_room`]. It takes no memory, and is never refused.
     pub fn sign(&mut self, inbox: &mut Inbox, receipt: Receipt) -> Result<(), MailError>
         requires room { length self.old.waiting < room inbox.old }
         ensures ring { OnOk result (inbox.new
@@ -155,13 +129,11 @@ impl Lane {
         ensures lane { OnOk result (self.new ≡ signed_lane receipt self.old) }
         ensures working { OnOk result (IsTrue (is_working self.old)) }
         ensures refused { IfErr result (λ e. Refuses self.old inbox.old e self.new inbox.new) }
+        ensures always { IsOk result }
     {
         self.flush(inbox)?;
         let item = Item::Receipt(receipt);
-        if self.mirror.take_from(&item).is_err() {
-            drop(item);
-            return Err(MailError::NoMemory);
-        }
+        self.handed = self.handed.and(&item);
         inbox.put(item);
         Ok(())
     }

@@ -17,6 +17,7 @@
 
 mod error;
 pub mod examples;
+mod history;
 mod inbox;
 mod item;
 mod known;

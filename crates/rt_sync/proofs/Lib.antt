@@ -2,6 +2,8 @@ pub mod AppliedAll
 pub mod GoodWorlds
 pub mod LentEntries
 pub mod Listened
+pub mod Losing
+pub mod LostForms
 pub mod NextWorlds
 pub mod RefusalLaws
 pub mod TagLaws

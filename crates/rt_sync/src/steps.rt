@@ -3,6 +3,7 @@ mod asking;
 mod closing;
 mod connection;
 mod listening;
+mod losing;
 mod pushing;
 mod revoking;
 mod settling;

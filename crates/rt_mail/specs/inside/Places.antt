@@ -1,12 +1,10 @@
 -- Numbers and their places in a list.
-use Rattle.std.specs.Prelude.{◌≡◌, ℕ, Bool, false, List, map, ◌==◌, Option}
+use Rattle.std.specs.Prelude.{◌≡◌, ℕ, Bool, false, List, map, ◌==◌}
 use Rattle.std.specs.List.{slice_get}
 use Rattle.std.specs.Option.{option_map_or}
 use Rattle.rt_view.specs.declared.change.Change.{Change}
 use Rattle.rt_view.specs.Changes.{replay}
-use Rattle.rt_mail.specs.declared.item.Item.{Item}
-use Rattle.rt_mail.specs.Mailbox.{Children, Known}
-use Rattle.rt_mail.specs.Lanes.{Line}
+use Rattle.rt_mail.specs.Mailbox.{Children}
 use Rattle.rt_mail.specs.laws.Replays.{Rise}
 
 -- whether the number stands at the place
@@ -26,7 +24,3 @@ pub record AreInOrder (listeners : List (ℕ × Children)) (numbers requests : L
 -- a listener after changes of its own
 abbrev pub after_changes : List Change → ℕ × Children → ℕ × Children
 after_changes changes l = (l.0, replay changes l.1)
-
--- a lane of these
-abbrev pub line : List Item → Option Known → Line
-line waiting mirror = record { waiting = waiting; mirror = mirror }

@@ -4,11 +4,12 @@ ghost use Rattle.std.specs.List.{list_any};
 
 use crate::sending::send_change;
 use crate::state::State;
-use crate::steps::listening::{lose, uncover};
+use crate::steps::listening::uncover;
+use crate::steps::losing::{forms_of, lose};
 use crate::told::Told;
 use rt_cover::Choice;
 use rt_parts::Listeners;
-use rt_world::{CoreError, covered_law, following_law, listened_law, tag_law};
+use rt_world::{CoreError, covered_law, following_law, listened_law, sound_law, tag_law};
 use std::alloc::AllocError;
 
 // The listeners of a seat.
@@ -67,11 +68,13 @@ impl State {
         listened_law();
         covered_law();
         following_law();
+        sound_law();
         let alloc = self.alloc();
         let mut state = self;
         let numbers = state.listeners.numbers_of(alloc, seat)?;
+        let ended = forms_of(alloc, &state.cover, &numbers)?;
         let delta = uncover(&mut state.cover, &numbers)?;
-        lose(&mut state.brought, &state.cover)?;
+        lose(&mut state.brought, &state.cover, ended)?;
         state.listeners.close(seat);
         state.requests.close(seat);
         send_change(&mut state.outgoing, state.is_connected, delta)?;

@@ -1,18 +1,16 @@
 // Listeners begin and end.
-ghost use Rattle.std.specs.Prelude.{◌≡◌, ◌||◌, ℕ, false, length, map, nat_le, nat_lt};
+ghost use Rattle.std.specs.Prelude.{◌≡◌, ◌||◌, ℕ, false, length, nat_le, nat_lt};
 ghost use Rattle.std.specs.Prelude.{None, IfOk, OnOk};
-ghost use Rattle.rt_cache.specs.Recover.{recover};
-ghost use Rattle.rt_cover.specs.Cover.{forms};
 ghost use Rattle.rt_cover.specs.State.{added, add_fault, difference, is_registered, remove_fault};
 ghost use Rattle.rt_cover.specs.State.{removed};
 
 use crate::sending::send_change;
 use crate::state::State;
+use crate::steps::losing::{forms_of, lose};
 use crate::told::Told;
-use rt_cache::Brought;
 use rt_cover::{Cover, Delta};
 use rt_query::Query;
-use rt_world::{CoreError, covered_law, following_law, listened_law, tag_law};
+use rt_world::{CoreError, covered_law, following_law, listened_law, sound_law, tag_law};
 use std::alloc::AllocError;
 
 // A listener is covered. Only memory can refuse: whether a tag is lacking was looked at.
@@ -40,20 +38,6 @@ pub(crate) fn uncover(cover: &mut Cover, numbers: &[u64]) -> Result<Delta, Alloc
         Ok(delta) => Ok(delta),
         Err(_) => Err(AllocError),
     }
-}
-
-// What no kept listen reaches any more is lost.
-pub(crate) fn lose(brought: &mut Brought, cover: &Cover) -> Result<(), AllocError>
-    ensures { OnOk result (brought.new
-        ≡ recover (forms cover.now.listeners) (map (λ k. k.form) cover.now.kept) brought.old) }
-{
-    let Ok(registered) = cover.forms() else {
-        return Err(AllocError);
-    };
-    let Ok(kept) = cover.kept_forms() else {
-        return Err(AllocError);
-    };
-    brought.recover(&registered, &kept)
 }
 
 impl State {
@@ -158,10 +142,12 @@ impl State {
         listened_law();
         covered_law();
         following_law();
+        sound_law();
         let alloc = self.alloc();
         let mut state = self;
+        let ended = forms_of(alloc, &state.cover, &[listener])?;
         let delta = uncover(&mut state.cover, &[listener])?;
-        lose(&mut state.brought, &state.cover)?;
+        lose(&mut state.brought, &state.cover, ended)?;
         state.listeners.remove(listener);
         send_change(&mut state.outgoing, state.is_connected, delta)?;
         let notes = Vec::new(alloc);

@@ -5,11 +5,13 @@ ghost use Rattle.rt_cover.specs.State.{difference, listen_at, revoke_fault, revo
 
 use crate::sending::send_change;
 use crate::state::State;
-use crate::steps::listening::lose;
+use crate::steps::losing::lose;
 use crate::told::Told;
 use rt_cover::{Cover, Delta};
 use rt_query::Query;
-use rt_world::{CoreError, Reason, covered_law, following_law, listened_law, stay_law, tag_law};
+use rt_world::{
+    CoreError, Reason, covered_law, following_law, listened_law, sound_law, stay_law, tag_law,
+};
 use std::alloc::AllocError;
 
 // The listeners whose form is that of the listen with the tag are covered no more: that form, and
@@ -84,10 +86,13 @@ impl State {
         listened_law();
         covered_law();
         following_law();
+        sound_law();
         let alloc = self.alloc();
         let mut state = self;
         let (form, delta) = uncover_revoked(&mut state.cover, tag)?;
-        lose(&mut state.brought, &state.cover)?;
+        let mut ended = Vec::new(alloc);
+        ended.push(form.copy()?)?;
+        lose(&mut state.brought, &state.cover, ended)?;
         let mut notes = Vec::new(alloc);
         state.listeners.cancel(&form, &why, &mut notes)?;
         send_change(&mut state.outgoing, state.is_connected, delta)?;

@@ -39,11 +39,12 @@ returns-in_err-tell-in-Ok-apply-clause-refused c =
     let is : (world_in c.self.inside.core) ≡ Some c.requires.world.0 = search rules in
     let step : c.in-Ok.step ≡ step_of c.args.seat c.args.call = search rules in
     let applies : Applies (world_in c.self.inside.core) (step_of c.args.seat c.args.call) (Ok c.in-Ok-apply.field-0) (world_in c.apply.new.self) = subst (λ s. Applies (world_in c.self.inside.core) s (Ok c.in-Ok-apply.field-0) (world_in c.apply.new.self)) step c.in-Ok-apply.ensures.made in
+    let has : HasRoom c.args.inbox.now (lane_of c.self.inside.lanes c.args.seat) = search rules in
     let receipt : c.receipt_of-receipt.result ≡ receipt_with (unwrap_or c.in-Ok-apply.field-0.given 0) c.args.call = search rules in
     let why : c.from_residual.result ≡ Err NoMemory = search rules in
     if_no_memory c.from_residual.result _ why
     (subst (λ h. LacksMemory h (step_of c.args.seat c.args.call) × HandsSome h c.args.seat ring c.args.call c.tell.new.inbox) (sym seen)
-    (call_gave_up (world_in c.self.inside.core) (world_in c.apply.new.self) c.self.inside.lanes c.requires.world.0 c.args.seat c.args.call report c.receipt_of-receipt.result ring c.tell.new.inbox is applies receipt c.in_err-tell-in-Ok-apply.ensures.refused))
+    (call_gave_up (world_in c.self.inside.core) (world_in c.apply.new.self) c.self.inside.lanes c.requires.world.0 c.args.seat c.args.call report c.receipt_of-receipt.result ring c.tell.new.inbox is applies receipt has c.tell.ensures.ring))
 
 pub returns-in_ok-tell-in-Ok-apply-clause-made : goal.returns-in_ok-tell-in-Ok-apply-clause-made
 returns-in_ok-tell-in-Ok-apply-clause-made c =
@@ -58,4 +59,4 @@ returns-in_ok-tell-in-Ok-apply-clause-made c =
     let applies : Applies (world_in c.self.inside.core) (step_of c.args.seat c.args.call) (Ok c.in-Ok-apply.field-0) (world_in c.apply.new.self) = subst (λ s. Applies (world_in c.self.inside.core) s (Ok c.in-Ok-apply.field-0) (world_in c.apply.new.self)) step c.in-Ok-apply.ensures.made in
     let receipt : c.receipt_of-receipt.result ≡ receipt_with (unwrap_or c.in-Ok-apply.field-0.given 0) c.args.call = search rules in
     subst (λ h. Called h c.args.seat ring c.args.call (record { outcome = report.outcome; given = report.given }) left c.tell.new.inbox) (sym seen)
-    (call_made (world_in c.self.inside.core) (world_in c.apply.new.self) c.self.inside.lanes c.tell.new.lanes c.requires.world.0 c.args.seat c.args.call report c.receipt_of-receipt.result ring c.tell.new.inbox is applies receipt has c.in_ok-tell-in-Ok-apply.ensures.lanes c.in_ok-tell-in-Ok-apply.ensures.ring)
+    (call_made (world_in c.self.inside.core) (world_in c.apply.new.self) c.self.inside.lanes c.tell.new.lanes c.requires.world.0 c.args.seat c.args.call report c.receipt_of-receipt.result ring c.tell.new.inbox is applies receipt has c.in_ok-tell-in-Ok-apply.ensures.lanes c.tell.ensures.ring)

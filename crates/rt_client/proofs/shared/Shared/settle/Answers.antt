@@ -1,24 +1,14 @@
-use Rattle.std.proofs.Common.{◌≡◌, Some, None, sym, subst, rules}
-use Rattle.rt_client.specs.declared.error.ClientError.TheVariants.{NoMemory}
-use Rattle.rt_client.specs.Settling.{HandsDue, HandsPart, Settles, RefusesSettle}
+use Rattle.std.proofs.Common.{◌≡◌, Some, sym, subst, rules}
+use Rattle.rt_client.specs.Settling.{HandsDue, Settles}
+use Rattle.rt_client.specs.Shared.{IsWhole}
 use Rattle.rt_client.proofs.Seated.{locked_of, seated_of}
-use Rattle.rt_client.proofs.Settled.{seat_settled, seat_part}
+use Rattle.rt_client.proofs.Settled.{seat_settled}
 use Rattle.rt_client.proofs.shared.Shared.settle.Goals as goal
 
-pub returns-in_default-settle-clause-refused : goal.returns-in_default-settle-clause-refused
-returns-in_default-settle-clause-refused c =
-    let shared = c.self.inside in
-    let seat = c.seat.inside in
-    let old : c.args.self.now ≡ locked_of shared.number shared.ids shared.stopped (Some c.in-Some.held) = search rules in
-    let chair : c.args.seat.now ≡ seated_of seat.client seat.number seat.inbox = search rules in
-    let own : c.seat.inside.client ≡ c.self.inside.number = search rules in
-    let part : HandsPart c.in-Some.held c.seat.inside.number c.seat.inside.inbox c.settle.new.inbox = search rules in
-    let none : c.take.new.self ≡ None = search rules in
-    let new = locked_of shared.number shared.ids shared.stopped c.take.new.self in
-    let left = seated_of seat.client seat.number c.settle.new.inbox in
-    subst (λ l. RefusesSettle l c.args.seat.now NoMemory new left) (sym old)
-    (subst (λ s. RefusesSettle (locked_of shared.number shared.ids shared.stopped (Some c.in-Some.held)) s NoMemory new left) (sym chair)
-    (seat_part shared.number shared.ids shared.stopped seat.client seat.number seat.inbox c.settle.new.inbox c.in-Some.held c.take.new.self own none part))
+pub invariant_of-self-2 : goal.invariant_of-self-2
+invariant_of-self-2 c =
+    let kept : IsWhole c.in-Some.held = search rules in
+    c.keeping_law.ensures.settled c.in-Some.held c.settle.new.self c.seat.inside.number c.seat.inside.inbox c.settle.new.inbox kept c.settle.ensures
 
 pub returns-clause-settled : goal.returns-clause-settled
 returns-clause-settled c =
@@ -27,7 +17,7 @@ returns-clause-settled c =
     let old : c.args.self.now ≡ locked_of shared.number shared.ids shared.stopped (Some c.in-Some.held) = search rules in
     let chair : c.args.seat.now ≡ seated_of seat.client seat.number seat.inbox = search rules in
     let own : c.seat.inside.client ≡ c.self.inside.number = search rules in
-    let hands : HandsDue c.in-Some.held c.seat.inside.number c.seat.inside.inbox c.settle.new.self c.settle.new.inbox = search rules in
+    let hands : HandsDue c.in-Some.held c.seat.inside.number c.seat.inside.inbox c.settle.new.self c.settle.new.inbox = c.settle.ensures in
     let new = locked_of shared.number shared.ids shared.stopped (Some c.settle.new.self) in
     let left = seated_of seat.client seat.number c.settle.new.inbox in
     subst (λ l. Settles l c.args.seat.now new left) (sym old)

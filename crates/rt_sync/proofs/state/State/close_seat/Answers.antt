@@ -9,8 +9,10 @@ use Rattle.rt_parts.specs.Listeners.{views_left}
 use Rattle.rt_sync.specs.Core.{Held}
 use Rattle.rt_sync.specs.declared.told.Told.{Told}
 use Rattle.rt_sync.specs.inside.Due.{IsDue, IsNext}
+use Rattle.rt_sync.specs.inside.Losing.{forms_at}
 use Rattle.rt_sync.specs.inside.StateView.{world_of}
 use Rattle.rt_sync.proofs.Listened.{close_made, closed_is, tied_next}
+use Rattle.rt_sync.proofs.LostForms.{lost_numbers}
 use Rattle.rt_sync.proofs.NextWorlds.{along}
 use Rattle.rt_sync.proofs.TagLaws.{cover_tied}
 use Rattle.std.specs.Prelude.{◌==◌}
@@ -20,28 +22,40 @@ pub uncover-requires : goal.uncover-requires
 uncover-requires c =
     let state = c.state.inside in
     let cover : state.cover ≡ cover_in (c.args.self).world = cover_tied state.cover _ c.state.invariant refl refl ∙ ap (λ (h : Held). cover_in h.world) c.state.view_is in
-    let same : c.deref.result.now ≡ c.in_ok-numbers.numbers.items = search rules in
-    let numbers : c.deref.result.now ≡ numbers_of (c.args.self).world c.args.seat = same ∙ c.in_ok-numbers.ensures ∙ ap (λ (h : Held). numbers_of h.world c.args.seat) c.state.view_is in
+    let same : c.deref-2.result.now ≡ c.in_ok-numbers.numbers.items = search rules in
+    let numbers : c.deref-2.result.now ≡ numbers_of (c.args.self).world c.args.seat = same ∙ c.in_ok-numbers.ensures ∙ ap (λ (h : Held). numbers_of h.world c.args.seat) c.state.view_is in
     (λ i. remove_fault (cover i) (numbers i)) ∙ c.covered_law.ensures.close (c.args.self).world c.args.seat c.requires.good.sound c.requires.not_refused
 
 pub returns-clause-made : goal.returns-clause-made
 returns-clause-made c =
     let state = c.state.inside in
-    let numbers = c.deref.result.now in
+    let numbers = c.deref-2.result.now in
     let same : numbers ≡ c.in_ok-numbers.numbers.items = search rules in
+    let first : c.deref.result.now ≡ c.in_ok-numbers.numbers.items = search rules in
+    let ending : c.in_ok-ended.ended.items ≡ forms_at state.cover.listeners numbers = c.in_ok-ended.ensures ∙ ap (forms_at state.cover.listeners) (first ∙ sym same) in
+    let lost = λ (d : IsDue (world_of state.limits state.listeners.listeners state.requests state.brought state.cover state.is_connected state.outgoing.items state.given_listeners state.given_requests) (Step.CloseSeat c.args.seat)).
+    lost_numbers state.limits state.listeners.listeners state.requests state.brought state.cover state.is_connected state.outgoing.items state.given_listeners state.given_requests
+    c.sound_law.ensures.next c.following_law.ensures.cover c.state.invariant (Step.CloseSeat c.args.seat) d c.uncover.new.cover
+    (c.in_ok-delta.ensures.cover ∙ closed_is state.limits state.listeners.listeners state.requests state.brought state.cover state.is_connected state.outgoing.items state.given_listeners state.given_requests c.state.invariant c.args.seat numbers (same ∙ c.in_ok-numbers.ensures)) numbers c.in_ok-delta.ensures.cover c.in_ok-ended.ended.items ending in
     along state.limits state.listeners.listeners state.requests state.brought state.cover state.is_connected state.outgoing.items state.given_listeners state.given_requests
     (c.args.self).world (ap (λ (h : Held). h.world) c.state.view_is) (Step.CloseSeat c.args.seat) _ (λ d.
     close_made state.limits state.listeners.listeners state.requests state.brought state.cover state.is_connected state.outgoing.items state.given_listeners state.given_requests
     c.listened_law.ensures.close c.state.invariant c.args.seat d
     numbers (same ∙ c.in_ok-numbers.ensures)
-    c.uncover.new.cover c.in_ok-delta.ensures.cover c.close.new.self.listeners c.close.ensures.listeners c.close-2.new.self c.close-2.ensures c.lose.new.brought c.in_ok-lose.ensures
+    c.uncover.new.cover c.in_ok-delta.ensures.cover c.close.new.self.listeners c.close.ensures.listeners c.close-2.new.self c.close-2.ensures c.lose.new.brought (c.in_ok-lose.ensures state.cover (lost d))
     c.in_ok-delta.delta c.in_ok-delta.ensures.delta c.send_change.new.outgoing.items c.in_ok-send_change.ensures _ refl c.new-notes.ensures.items) c.requires
 
 pub invariant_of-state : goal.invariant_of-state
 invariant_of-state c =
     let state = c.state.inside in
-    let numbers = c.deref.result.now in
+    let numbers = c.deref-2.result.now in
     let same : numbers ≡ c.in_ok-numbers.numbers.items = search rules in
+    let first : c.deref.result.now ≡ c.in_ok-numbers.numbers.items = search rules in
+    let ending : c.in_ok-ended.ended.items ≡ forms_at state.cover.listeners numbers = c.in_ok-ended.ensures ∙ ap (forms_at state.cover.listeners) (first ∙ sym same) in
+    let lost = λ (d : IsDue (world_of state.limits state.listeners.listeners state.requests state.brought state.cover state.is_connected state.outgoing.items state.given_listeners state.given_requests) (Step.CloseSeat c.args.seat)).
+    lost_numbers state.limits state.listeners.listeners state.requests state.brought state.cover state.is_connected state.outgoing.items state.given_listeners state.given_requests
+    c.sound_law.ensures.next c.following_law.ensures.cover c.state.invariant (Step.CloseSeat c.args.seat) d c.uncover.new.cover
+    (c.in_ok-delta.ensures.cover ∙ closed_is state.limits state.listeners.listeners state.requests state.brought state.cover state.is_connected state.outgoing.items state.given_listeners state.given_requests c.state.invariant c.args.seat numbers (same ∙ c.in_ok-numbers.ensures)) numbers c.in_ok-delta.ensures.cover c.in_ok-ended.ended.items ending in
     let old : World = world_of state.limits state.listeners.listeners state.requests state.brought state.cover state.is_connected state.outgoing.items state.given_listeners state.given_requests in
     let s : Step = Step.CloseSeat c.args.seat in
     let d : IsDue old s = subst (λ (v : Held). IsDue v.world s) (sym c.state.view_is) c.requires in
@@ -50,7 +64,7 @@ invariant_of-state c =
     close_made state.limits state.listeners.listeners state.requests state.brought state.cover state.is_connected state.outgoing.items state.given_listeners state.given_requests
     c.listened_law.ensures.close c.state.invariant c.args.seat d
     numbers (same ∙ c.in_ok-numbers.ensures)
-    c.uncover.new.cover c.in_ok-delta.ensures.cover c.close.new.self.listeners c.close.ensures.listeners c.close-2.new.self c.close-2.ensures c.lose.new.brought c.in_ok-lose.ensures
+    c.uncover.new.cover c.in_ok-delta.ensures.cover c.close.new.self.listeners c.close.ensures.listeners c.close-2.new.self c.close-2.ensures c.lose.new.brought (c.in_ok-lose.ensures state.cover (lost d))
     c.in_ok-delta.delta c.in_ok-delta.ensures.delta c.send_change.new.outgoing.items c.in_ok-send_change.ensures said refl c.new-notes.ensures.items in
     tied_next c.following_law.ensures.cover old s d.good.sound c.uncover.new.cover _
     (c.in_ok-delta.ensures.cover ∙ closed_is state.limits state.listeners.listeners state.requests state.brought state.cover state.is_connected state.outgoing.items state.given_listeners state.given_requests c.state.invariant c.args.seat numbers (same ∙ c.in_ok-numbers.ensures))
