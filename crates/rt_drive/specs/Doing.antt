@@ -1,5 +1,6 @@
--- What lines and the connection do to a client and its seats, and what is printed for it.
-use Rattle.std.specs.Prelude.{◌≡◌, ◌⊎◌, ◌-◌, ◌==◌, ◌++◌, ℕ, if◌then◌else◌, codes}
+-- What lines and the connection do to a client and its seats, and what is printed for it. Where memory is
+-- refused nothing is answered: a call that answers was refused for another cause.
+use Rattle.std.specs.Prelude.{◌≡◌, ◌≢◌, ◌⊎◌, ◌-◌, ◌==◌, ◌++◌, ℕ, if◌then◌else◌, codes}
 use Rattle.std.specs.Prelude.{List, [], ◌∷◌, set, Option, Some, None}
 use Rattle.std.specs.Option.{option_and_then}
 use Rattle.std.specs.List.{slice_get}
@@ -10,7 +11,7 @@ use Rattle.rt_world.specs.declared.report.Outcome.TheVariants.{Done as IsDone}
 use Rattle.rt_world.specs.declared.step.Step.{Step}
 use Rattle.rt_client.specs.declared.done.Done.{Done}
 use Rattle.rt_client.specs.declared.error.ClientError.{ClientError}
-use Rattle.rt_client.specs.declared.error.ClientError.TheVariants.{WrongSeat}
+use Rattle.rt_client.specs.declared.error.ClientError.TheVariants.{NoMemory, WrongSeat}
 use Rattle.rt_client.specs.Calls.{Comes, Locked, MakesCall, RefusesCall, RefusesOn, Seated}
 use Rattle.rt_client.specs.Settling.{Closes, RefusesClose, RefusesCover, ShowsCover}
 use Rattle.rt_lines.specs.Printing.{cover_text, line, outcome_text}
@@ -50,7 +51,8 @@ abbrev pub IsCalled : Locked → Seated → Call → List ℕ → Locked → Sea
 IsCalled old seat call text new left =
     ((done : Done) × MakesCall old seat call done new left
     × (text ≡ line (outcome_text done.outcome done.given)))
-    ⊎ ((why : ClientError) × RefusesCall old seat call why new left × (text ≡ refusal_text why))
+    ⊎ ((why : ClientError) × RefusesCall old seat call why new left × (why ≢ NoMemory)
+    × (text ≡ refusal_text why))
 
 -- there is no such seat, which changes nothing
 abbrev pub IsNoSeat : Locked → Seats → List ℕ → Locked → Seats → Type 0
@@ -72,7 +74,8 @@ Calls old seats number call text new left =
 abbrev pub IsClosed : Locked → Seated → List ℕ → Locked → Option Seated → Type 0
 IsClosed old seat text new left =
     (Closes old seat new × (text ≡ line (outcome_text IsDone None)) × (left ≡ None))
-    ⊎ ((why : ClientError) × RefusesClose old seat why new × (text ≡ refusal_text why) × (left ≡ Some seat))
+    ⊎ ((why : ClientError) × RefusesClose old seat why new × (why ≢ NoMemory)
+    × (text ≡ refusal_text why) × (left ≡ Some seat))
 
 -- the seat of that number is closed; the others stay
 abbrev pub ClosesSeat : Option Seated → Locked → Seats → ℕ → List ℕ → Locked → Seats → Type 0
@@ -90,7 +93,7 @@ ClosesAt old seats number text new left =
 abbrev pub Shows : Locked → List ℕ → Type 0
 Shows locked text =
     ((kept : List Kept) × ShowsCover locked kept × (text ≡ cover_text kept))
-    ⊎ ((why : ClientError) × RefusesCover locked why × (text ≡ refusal_text why))
+    ⊎ ((why : ClientError) × RefusesCover locked why × (why ≢ NoMemory) × (text ≡ refusal_text why))
 
 -- a message of the server is taken; one that is no text changes nothing
 abbrev pub TakesTold : Told → Locked → Locked → List ℕ → Type 0
@@ -101,7 +104,7 @@ TakesTold Binary old new text = (new ≡ old) × (text ≡ lines.refusal_text (W
 abbrev pub IsTold : Locked → Step → Locked → List ℕ → Type 0
 IsTold old step new text =
     ((outcome : Outcome) × Comes old step outcome new × (text ≡ []))
-    ⊎ ((why : ClientError) × RefusesOn old step why new × (text ≡ refusal_text why))
+    ⊎ ((why : ClientError) × RefusesOn old step why new × (why ≢ NoMemory) × (text ≡ refusal_text why))
 
 -- the line that says that a connection is gone, or did not come about
 abbrev pub disconnected : List ℕ

@@ -21,11 +21,15 @@ use rt_wire::{ServerMessage, WireError};
 use rt_world::{ClientMessage, Outcome};
 use std::alloc::{AllocError, Global};
 
-// The client's seats by their numbers, from 1; none where one is closed.
-pub(crate) type Seats = Vec<Option<Seat>>;
+/// The client's seats by their numbers, from 1; none where one is closed.
+pub type Seats = Vec<Option<Seat>>;
 
-// The seats, all of them open.
-pub(crate) fn open_seats(alloc: Global, seats: Vec<Seat>) -> Result<Seats, AllocError>
+/// The seats by their numbers, all of them open.
+///
+/// # Errors
+///
+/// Only where memory is refused.
+pub fn open_seats(alloc: Global, seats: Vec<Seat>) -> Result<Seats, AllocError>
     ensures { IfOk result (λ all. all.items ≡ map Some seats.items) }
 {
     let mut open = Vec::with_capacity(alloc, seats.len())?;
@@ -203,9 +207,15 @@ pub(crate) fn tell_lost(out: &mut String, shared: &mut Shared) -> Result<(), All
     tell_disconnected(out, shared)
 }
 
-// Does what an order asks of the client and its seats, and prints what became of it. Messages are read
-// elsewhere.
-pub(crate) fn obey(
+/// Does what an order asks of a client and its seats, and appends what became of it to `out`: of a call its
+/// outcome or why it is refused, of the end of a seat `done` or why it stays, and of a look the listens that
+/// are kept. Of an order to read messages it does nothing: the caller reads them. What the seats are then
+/// told, [`settle_all`] prints.
+///
+/// # Errors
+///
+/// Only where memory is refused. `out` may then have a part of the text, and the client may have failed.
+pub fn obey(
     out: &mut String,
     alloc: Global,
     shared: &mut Shared,
@@ -328,8 +338,14 @@ fn settle_each(
     Ok(())
 }
 
-// Settles the seats in the order of their numbers, and prints what each is told.
-pub(crate) fn settle_all(
+/// Tells each seat, in the order of their numbers, what its ring holds and then what waits for it, and
+/// appends that to `out`, in a script's words. The rings are empty then. Where the client has failed, or the
+/// seat is another client's, nothing waits for it.
+///
+/// # Errors
+///
+/// Only where memory is refused. `out` may then have a part of the text, and the client may have failed.
+pub fn settle_all(
     out: &mut String,
     alloc: Global,
     shared: &mut Shared,
