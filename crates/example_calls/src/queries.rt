@@ -80,6 +80,11 @@ fn show_listen(rt: &impl Print, alloc: Global, query: &Query) -> Result<()> {
     Ok(())
 }
 
+// Whether what a server sends for one query is enough to show another: a range takes in a narrower one.
+fn is_enough(query: &Query, other: &Query) -> bool {
+    query.takes_in(other)
+}
+
 // What a query shows of a tree: rows in its order, or a leaf.
 fn shown(alloc: Global, query: &Query) -> Result<Shown> {
     Ok(query.select(&chat(alloc)?)?)
@@ -128,7 +133,10 @@ fn show_drafts(rt: &impl Print, alloc: Global) -> Result<()> {
 fn show_values(rt: &impl Print, alloc: Global) -> Result<()> {
     let mut draft = drawn(alloc)?;
     by_value(&mut draft, text(alloc, "hi")?)?;
-    show_query(rt, &draft.done())
+    let query = draft.done();
+    show_query(rt, &query)?;
+    println!(rt; "enough for itself: {}", is_enough(&query, &query))?;
+    Ok(())
 }
 
 fn show_equal(rt: &impl Print, alloc: Global) -> Result<()> {

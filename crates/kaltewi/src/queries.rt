@@ -15,6 +15,10 @@
 ///     Ok(())
 /// }
 ///
+/// fn is_enough(query: &Query, other: &Query) -> bool {
+///     query.takes_in(other)
+/// }
+///
 /// fn shown(alloc: Global, query: &Query) -> Result<Shown> {
 ///     Ok(query.select(&chat(alloc)?)?)
 /// }
