@@ -1,8 +1,6 @@
 // What no clause says: that a wire which has memory is read, and takes texts.
 ghost use Rattle.std.specs.Prelude.{None, Some, map, string_bytes};
 
-mod loopback;
-
 use crate::{Flushed, Heard, Lost, Pause, Said, Wire, hear_all, say_all};
 use rt_wire::{ClientMessage, WireError};
 use std::alloc::{AllocError, Global};
