@@ -14,7 +14,7 @@ from parts import ROOT, Clock, crates, part, some_of
 from proving import copied
 
 PROGRAMS_SHOWN = ("example_chat", "example_threads")  # README.md shows a text of each
-PROGRAMS_OF_GUIDE = ("example_guide", "example_threads", "example_calls")  # docs/GUIDE.md shows texts of these
+PROGRAMS_OF_GUIDE = ("example_guide", "example_threads")  # docs/GUIDE.md shows texts of these
 
 
 def tools_part():

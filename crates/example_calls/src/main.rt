@@ -5,7 +5,6 @@
 mod client;
 mod errors;
 mod ids;
-mod link;
 mod messages;
 mod queries;
 mod steps;
@@ -20,7 +19,6 @@ fn main(rt: HostRuntime) -> Result<()> {
     queries::show(&rt, alloc)?;
     steps::show(&rt, alloc)?;
     client::show(&rt, alloc)?;
-    link::show(&rt, alloc)?;
     told::show(&rt, alloc)?;
     messages::show(&rt, alloc)?;
     ids::show(&rt, alloc)?;
