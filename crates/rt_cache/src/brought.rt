@@ -136,7 +136,8 @@ impl Brought {
 
     /// Whether something is brought for the query: a region at or above its path, or its window.
     ///
-    /// Finds the region by halving, and where there is none the window, of those of its path. Builds no tree, and takes no memory.
+    /// Finds the region by halving, and where there is none the window, of those of its path. Builds no
+    /// tree, and takes no memory.
     pub fn knows(&self, query: &Query) -> bool
         ensures known { result ≡ knows self.now query.now }
         ensures canonical { IsCanonical self.now }

@@ -7,8 +7,9 @@ ghost use Rattle.rt_client.specs.laws.Crossing.{MessageIsSent, ServerMessageIsSe
 
 /// Threads may share a client, and each may be handed one, a seat, what the seat is told, a mirror,
 /// snapshots, what its calls are made of, and what is sent and comes; a tree may be shared. Whoever starts
-/// threads over a client calls this, in each function and closure that starts one, and has nothing of its
-/// own to prove: what its own structs and enums are made of is found by itself.
+/// threads over a client calls this, in each function and closure that starts one. What small structs and
+/// enums of its own are made of is found by itself; of a list of jobs that is handed out, it may have to
+/// be proved.
 pub fn crossing_law()
     ensures client { ClientIsShared }
     ensures moved { ClientIsSent }
