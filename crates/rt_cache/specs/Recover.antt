@@ -4,10 +4,11 @@ use Rattle.std.specs.Prelude.{None, is_some}
 use Rattle.std.specs.List.{filter, filter_map, flat_map, fold, list_any, All}
 use Rattle.std.specs.Option.{option_map, option_or}
 use Rattle.std.specs.FinMap as map_of
-use Rattle.rt_tree.specs.PathTree.{Path, path_cmp, strip, PathTree, null, sub, children_alone}
-use Rattle.rt_tree.specs.Assignments.{is_at_or_above, have_overlap}
+use Rattle.rt_tree.specs.PathTree.{Path, path_cmp, strip, PathTree, sub, children_alone}
+use Rattle.rt_tree.specs.Assignments.{is_at_or_above}
 use Rattle.rt_query.specs.Queries.{Query, is_filtered}
 use Rattle.rt_query.specs.QueryEq.{query_eq}
+pub use Rattle.rt_query.specs.Apart.{plain_spots, do_plains_overlap}
 use Rattle.rt_cache.specs.QueryOrder.{query_cmp}
 use Rattle.rt_cache.specs.Brought.{Window, Brought, region_part, window_of}
 
@@ -23,14 +24,6 @@ part_for r k = if is_filtered k then None else option_map (λ rest. (k.path, sub
 -- its parts at all of them
 abbrev pub parts_of : List Query → Path × PathTree → List (Path × PathTree)
 parts_of kept r = filter_map (part_for r) kept
-
--- the paths of the plain listens
-abbrev pub plain_spots : List Query → List (Path × PathTree)
-plain_spots kept = filter_map (λ k. if is_filtered k then None else Some (k.path, null)) kept
-
--- whether of two plain listens one is at or above the other
-abbrev pub do_plains_overlap : List Query → Bool
-do_plains_overlap kept = have_overlap (plain_spots kept)
 
 -- more regions, each in its place
 abbrev pub with_regions : List (Path × PathTree) → List (Path × PathTree) → List (Path × PathTree)

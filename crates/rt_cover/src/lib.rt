@@ -34,7 +34,6 @@ mod placing;
 mod plan;
 mod shown;
 mod starting;
-mod supply;
 
 pub use choice::Choice;
 pub use cover::Cover;

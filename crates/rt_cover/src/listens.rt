@@ -16,7 +16,6 @@ ghost use Rattle.rt_cover.specs.inside.Index.{by_form, form_of, SameCounts};
 use crate::by_path::{HasForm, at_path, first_from, span_under};
 use crate::listen::{Listen, copies, have_tag, tags_of};
 use crate::placing::place;
-use crate::supply::supplies;
 use rt_query::Query;
 use rt_tree::Key;
 use std::alloc::{AllocError, Global};
@@ -176,7 +175,7 @@ fn take_stopped(by_tag: &mut Vec<Listen>, form: &Query, stopped: &[u64])
     if stopped.is_empty() {
         return;
     }
-    by_tag.retain(|listen| !supplies(form, listen.form()));
+    by_tag.retain(|listen| !form.supplies(listen.form()));
 }
 
 // Takes out so many, from the first on.

@@ -7,7 +7,6 @@ use crate::by_path::HasForm;
 use crate::ending::Ending;
 use crate::listen::{Listen, is_kept};
 use crate::listener::Listener;
-use crate::supply::supplies;
 
 // Whether the other listener's listen does for this one too: it has the same form and a lesser
 // number, or another form that supplies this one's.
@@ -17,7 +16,7 @@ pub(crate) fn comes_before(other: &Listener, listener: &Listener) -> bool
     if other.form() == listener.form() {
         other.number() < listener.number()
     } else {
-        supplies(other.form(), listener.form())
+        other.form().supplies(listener.form())
     }
 }
 

@@ -6,6 +6,7 @@ ghost use Rattle.rt_query.specs.laws.Examples.{StartsAtKey, StartsAfterKey, Ends
 ghost use Rattle.rt_query.specs.laws.Examples.{EndsBeforeKey, EqualsKey, LastTwo, FirstTwo};
 ghost use Rattle.rt_query.specs.laws.Examples.{StartsAtText, GivenTwice, BoundTwice, BadlyNamed};
 ghost use Rattle.rt_query.specs.laws.Examples.{TakenIn, NotTakenIn};
+ghost use Rattle.rt_query.specs.laws.Examples.{Supplied, NotSupplied, LastTwoNeeded};
 
 /// By a child: null, false, true, numbers, texts, objects.
 pub fn order_examples()
@@ -37,4 +38,11 @@ pub fn refusal_examples()
 pub fn range_examples()
     ensures taken { TakenIn }
     ensures not_taken { NotTakenIn }
+{}
+
+/// Queries that supply others, some that don't, and which of four are needed.
+pub fn supply_examples()
+    ensures supplied { Supplied }
+    ensures not_supplied { NotSupplied }
+    ensures needed { LastTwoNeeded }
 {}

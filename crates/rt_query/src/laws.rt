@@ -11,6 +11,8 @@ ghost use Rattle.rt_query.specs.laws.Bounding.{
 ghost use Rattle.rt_query.specs.laws.Select.{SelectHasKeysOnce, UnfilteredShowsAll};
 ghost use Rattle.rt_query.specs.laws.QueryEq.{EqualityTells};
 ghost use Rattle.rt_query.specs.laws.Ranges.{WiderHasAll, TakesInOnward, TakesInOneWay};
+ghost use Rattle.rt_query.specs.laws.Needed.{SuppliesItself, SuppliesOnward, SuppliesOneWay};
+ghost use Rattle.rt_query.specs.laws.Needed.{NeededAreFewest};
 
 /// What a query shows: each key once, and where the query is not filtered the whole tree.
 pub fn select_laws()
@@ -47,4 +49,13 @@ pub fn range_laws()
     ensures wider { WiderHasAll }
     ensures onward { TakesInOnward }
     ensures one_way { TakesInOneWay }
+{}
+
+/// The three facts of supply on which the fewest listens stand; and that of any forms the needed ones
+/// are the fewest that supply all.
+pub fn supply_laws()
+    ensures itself { SuppliesItself }
+    ensures onward { SuppliesOnward }
+    ensures one_way { SuppliesOneWay }
+    ensures fewest { NeededAreFewest }
 {}

@@ -25,8 +25,10 @@ mod shown;
 
 pub use draft::Draft;
 pub use error::QueryError;
-pub use examples::{bound_examples, order_examples, range_examples, refusal_examples};
-pub use laws::{bound_laws, equality_laws, range_laws, row_laws, select_laws};
+pub use examples::{
+    bound_examples, order_examples, range_examples, refusal_examples, supply_examples,
+};
+pub use laws::{bound_laws, equality_laws, range_laws, row_laws, select_laws, supply_laws};
 pub use limit::Limit;
 pub use query::Query;
 pub use row::Row;

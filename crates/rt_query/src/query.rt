@@ -8,7 +8,7 @@ ghost use Rattle.rt_query.specs.Drafts.{new_draft};
 ghost use Rattle.rt_query.specs.Ranges.{is_lower_within, is_upper_within, takes_in};
 ghost use Rattle.rt_query.specs.Select.{select, rows_of};
 ghost use Rattle.rt_query.specs.inside.Sorting.{in_range, seen};
-ghost use Rattle.rt_query.specs.Supply.{form};
+ghost use Rattle.rt_query.specs.Supply.{form, does_supply};
 
 use crate::child::{self, Child};
 use crate::draft::Draft;
@@ -123,6 +123,18 @@ impl Query {
             self.copy()
         } else {
             Ok(Query::at(self.path.copy()?).done())
+        }
+    }
+
+    /// Whether listening to this query brings what the other one needs: it is the other's listening
+    /// form, or it is unfiltered and its path is at or above the other's. Takes no memory.
+    pub fn supplies(&self, other: &Query) -> bool
+        ensures { result ≡ does_supply self.now other.now }
+    {
+        if self.is_filtered() {
+            self == other
+        } else {
+            self.path.is_prefix_of(&other.path)
         }
     }
 

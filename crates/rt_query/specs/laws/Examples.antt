@@ -15,8 +15,11 @@ use Rattle.rt_query.specs.Bounds.{Bound, start_at, start_after, end_at, end_befo
 use Rattle.rt_query.specs.Calls.{ordered_by, order_refusal, limited_to, limit_refusal, bounded_by}
 use Rattle.rt_query.specs.Calls.{bound_refusal}
 use Rattle.rt_query.specs.Drafts.{Draft, new_draft, finished}
+use Rattle.rt_query.specs.Needed.{needed}
+use Rattle.rt_query.specs.Queries.{Query, plain}
 use Rattle.rt_query.specs.Ranges.{takes_in}
 use Rattle.rt_query.specs.Select.{select}
+use Rattle.rt_query.specs.Supply.{does_supply}
 
 -- drafts of the root: without an order, in key order, in value order
 abbrev pub fresh : Draft
@@ -195,3 +198,40 @@ NotTakenIn =
     ∷ is_taken_in (from 3) by_value
     ∷ []
     ≡ false ∷ false ∷ false ∷ false ∷ false ∷ false ∷ false ∷ false ∷ []
+
+-- ---- supply
+
+-- all of a path of one key, and of one below it; the first n children of it
+abbrev pub all_of : List ℕ → Query
+all_of k = plain (k ∷ [])
+
+abbrev pub all_below : List ℕ → List ℕ → Query
+all_below k j = plain (k ∷ j ∷ [])
+
+abbrev pub first_of : ℕ → List ℕ → Query
+first_of n k = finished (limited_to (First n) (new_draft (k ∷ [])))
+
+-- all of a supplies a's children, all of a/b, and a in the order of values
+abbrev pub Supplied : Type 0
+Supplied =
+    does_supply (all_of (codes "a")) (first_of 2 (codes "a"))
+    ∷ does_supply (all_of (codes "a")) (all_below (codes "a") (codes "b"))
+    ∷ does_supply (all_of (codes "a")) (finished (ordered_by index.Value (new_draft (codes "a" ∷ []))))
+    ∷ []
+    ≡ true ∷ true ∷ true ∷ []
+
+-- neither all of a/b nor some of a's children supplies all of a; nor do the first two the first one
+abbrev pub NotSupplied : Type 0
+NotSupplied =
+    does_supply (all_below (codes "a") (codes "b")) (all_of (codes "a"))
+    ∷ does_supply (first_of 2 (codes "a")) (all_of (codes "a"))
+    ∷ does_supply (first_of 2 (codes "a")) (first_of 1 (codes "a"))
+    ∷ []
+    ≡ false ∷ false ∷ false ∷ []
+
+-- of all of a/b, the first of a, all of a and the first two of b the last two are needed
+abbrev pub LastTwoNeeded : Type 0
+LastTwoNeeded =
+    needed (all_below (codes "a") (codes "b") ∷ first_of 1 (codes "a") ∷ all_of (codes "a")
+    ∷ first_of 2 (codes "b") ∷ [])
+    ≡ all_of (codes "a") ∷ first_of 2 (codes "b") ∷ []
