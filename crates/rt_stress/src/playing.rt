@@ -4,10 +4,10 @@ use crate::chance::Chance;
 use crate::diary::Diary;
 use crate::serving::{self, Server};
 use crate::talking::{self, End, Ended, Worker};
-use anyhow::Result;
+use anyhow::{Result, anyhow};
 use rt_client::{Client, Seat, crossing_law};
 use rt_world::Limits;
-use std::alloc::Global;
+use std::alloc::{AllocError, Global};
 use std::io::Print;
 use std::sync::Wait;
 use std::sync::atomic::AtomicU64;
@@ -20,23 +20,70 @@ const ROOMS: [usize; 6] = [1, 2, 3, 8, 64, 1024];
 // So many steps of the server stand for one call of each thread.
 const SERVED: u64 = 4;
 
-// A worker for each seat.
-fn workers(alloc: Global, seed: u64, seats: Vec<Seat>) -> Result<Vec<Worker>> {
-    let mut workers = Vec::new(alloc);
-    let mut place = 0u64;
+// What a thread of a run does: one serves, and one talks on each seat, whose place is the seat's number.
+#[derive(Drop)]
+enum Job {
+    Serve,
+    Talk { place: u64, seat: Seat },
+}
+
+// The jobs of a run.
+fn jobs(alloc: Global, seats: Vec<Seat>) -> Result<Vec<Job>, AllocError> {
+    let mut jobs = Vec::new(alloc);
+    jobs.push(Job::Serve)?;
     for seat in seats {
-        let room = ROOMS.get(workers.len()).copied().unwrap_or(1);
-        place = place.wrapping_add(1);
-        let (chance, diary) = (Chance::new(seed, place), Diary::new(alloc));
-        workers.push(Worker {
-            place,
-            room,
-            seat,
-            chance,
-            diary,
-        })?;
+        let place = jobs.len() as u64;
+        jobs.push(Job::Talk { place, seat })?;
     }
-    Ok(workers)
+    Ok(jobs)
+}
+
+// What a run is made of: its seed, and how often each thread that talks calls.
+#[derive(Drop, Clone, Copy)]
+struct Run {
+    alloc: Global,
+    seed: u64,
+    calls: u64,
+}
+
+impl Run {
+    fn worker(self, place: u64, seat: Seat) -> Worker {
+        Worker {
+            place,
+            room: ROOMS
+                .get(place.wrapping_sub(1) as usize)
+                .copied()
+                .unwrap_or(1),
+            seat,
+            chance: Chance::new(self.seed, place),
+            diary: Diary::new(self.alloc),
+        }
+    }
+
+    fn server(self) -> Server {
+        Server::new(Chance::new(self.seed, 0), Diary::new(self.alloc))
+    }
+}
+
+// Does the job, to its end.
+fn work<R: Wait>(
+    rt: &R,
+    run: Run,
+    client: &Client,
+    job: Job,
+    tickets: &AtomicU64,
+    talking: &AtomicU64,
+) -> Ended {
+    match job {
+        Job::Serve => {
+            let most = run.calls.wrapping_mul(SERVED);
+            serving::work(rt, client, run.server(), tickets, talking, most)
+        }
+        Job::Talk { place, seat } => {
+            let worker = run.worker(place, seat);
+            talking::work(rt, client, worker, tickets, talking, run.calls)
+        }
+    }
 }
 
 fn word_of(end: Option<End>) -> &'static str {
@@ -49,55 +96,19 @@ fn word_of(end: Option<End>) -> &'static str {
     }
 }
 
-// Prints what a thread wrote down, behind the seed, its place and how it ended.
-fn show<R: Print>(rt: &R, seed: u64, place: u64, diary: &Diary, word: &str) -> Result<()> {
-    println!(rt; "== {seed} {place} {word}")?;
-    println!(rt;
-        "-- steps\n{}-- heard\n{}-- views\n{}",
-        diary.steps,
-        diary.heard,
-        diary.views()?
-    )?;
-    Ok(())
+// What a thread wrote down, behind the seed, its place and how it ended; nothing where memory lacks for it.
+fn report(run: Run, ended: &Ended) -> Option<String> {
+    let Ended { place, diary, end } = ended;
+    let views = diary.views().ok()?;
+    let (seed, word) = (run.seed, word_of(*end));
+    let text = format!(in run.alloc;
+        "== {seed} {place} {word}\n-- steps\n{}-- heard\n{}-- views\n{views}",
+        diary.steps, diary.heard
+    );
+    text.ok()
 }
 
-// What a thread of a run does.
-#[derive(Drop)]
-enum Job {
-    Talk(Worker),
-    Serve(Server),
-}
-
-// Each of the run's threads does this.
-fn work<R: Wait>(
-    rt: &R,
-    client: &Client,
-    job: Job,
-    tickets: &AtomicU64,
-    talking: &AtomicU64,
-    calls: u64,
-) -> Ended {
-    match job {
-        Job::Talk(worker) => talking::work(rt, client, worker, tickets, talking, calls),
-        Job::Serve(server) => {
-            let most = calls.wrapping_mul(SERVED);
-            serving::work(rt, client, server, tickets, talking, most)
-        }
-    }
-}
-
-// The jobs of a run: a worker for each seat, and the server.
-fn jobs(alloc: Global, seed: u64, seats: Vec<Seat>) -> Result<Vec<Job>> {
-    let mut jobs = Vec::new(alloc);
-    let server = Server::new(Chance::new(seed, 0), Diary::new(alloc));
-    jobs.push(Job::Serve(server))?;
-    for worker in workers(alloc, seed, seats)? {
-        jobs.push(Job::Talk(worker))?;
-    }
-    Ok(jobs)
-}
-
-// A run of a seed, each of whose threads calls so often.
+// A run of a seed, each of whose threads calls so often: each prints what it wrote down.
 pub(crate) fn play<R: Threads + Wait + Print + Sync>(
     rt: &R,
     alloc: Global,
@@ -106,16 +117,19 @@ pub(crate) fn play<R: Threads + Wait + Print + Sync>(
 ) -> Result<()> {
     // For the prover: what may go to another thread.
     crossing_law();
+    let run = Run { alloc, seed, calls };
     let (client, seats) = Client::open(alloc, 1, &ROOMS, Limits::full())?;
-    let jobs = jobs(alloc, seed, seats)?;
     let (tickets, talking) = (AtomicU64::new(0), AtomicU64::new(ROOMS.len() as u64));
-    let ended = thread::map_vec(
+    let reports = thread::map_vec(
         rt,
-        jobs,
-        &|job| work(rt, &client, job, &tickets, &talking, calls),
+        jobs(alloc, seats)?,
+        &|job| report(run, &work(rt, run, &client, job, &tickets, &talking)),
     )?;
-    for Ended { place, diary, end } in ended {
-        show(rt, seed, place, &diary, word_of(end))?;
+    for text in reports {
+        let Some(text) = text else {
+            return Err(anyhow!("no memory for what a thread wrote down"));
+        };
+        println!(rt; "{text}")?;
     }
     Ok(())
 }
