@@ -1,12 +1,13 @@
 #!/usr/bin/env python3
-"""The examples of kaltewi's page: each stands word for word in the program `example_calls`, which is proved and run.
+"""The examples of kaltewi's page: each stands word for word in one of the programs `example_calls` and `example_link`, which are proved and run.
 
 Usage: tools/examples.py            says what is wrong with them, and fails where anything is
        tools/examples.py --write    writes each item of each example as the program has it; an item's first words, as 'fn path', do for a new one
 
   page      crates/kaltewi/src: its root hands on names of its modules alone, and a module those of the crates below, one `pub use` after another
   examples  above each `pub use` stands one, in a block of ```rust, and names each name that is handed on
-  quotes    each item of it, a function, a type or an impl, is word for word one of the program's module of the same name, without its comment
+  quotes    each item of it, a function, a type or an impl, is word for word one of the module of the same name, in the first program that has
+            such a module, without its comment
   calls     each public call with a `///` of a type that is handed on is made in an example, but for `copy`, which all types have alike
 """
 import os
@@ -17,7 +18,7 @@ import names
 from pages import read, sources
 
 ROOT = os.path.realpath(f"{os.path.dirname(os.path.realpath(__file__))}/..")
-PAGE, PROGRAM = "crates/kaltewi/src", "crates/example_calls/src"
+PAGE, PROGRAMS = "crates/kaltewi/src", ("crates/example_calls/src", "crates/example_link/src")
 BLOCK = re.compile(r"(?m)^/// ```rust\n((?:^///.*\n)*?)^/// ```\n")
 HANDED_ON = re.compile(r"(?m)((?:^///.*\n)*)^pub use (?:(\w+)::)(?:\{([^}]*)\}|(\w+));")
 HEAD = re.compile(r"(?:pub(?:\(crate\))? )?((?:fn|struct|enum|const|trait) \w+|impl.*? for \w+)")
@@ -61,9 +62,9 @@ def modules(root):
 
 
 def program(root, module):
-    """The items of the program's module, none where there is no such module."""
-    file = f"{root}/{PROGRAM}/{module}.rt"
-    return items(read(file)) if os.path.isfile(file) else {}
+    """The items of a module of that name, of the first program that has one; none where none has."""
+    files = (f"{root}/{it}/{module}.rt" for it in PROGRAMS)
+    return next((items(read(it)) for it in files if os.path.isfile(it)), {})
 
 
 def wrong_quotes(module, text, made):

@@ -14,7 +14,19 @@ from parts import ROOT, Clock, crates, part, some_of
 from proving import copied
 
 PROGRAMS_SHOWN = ("example_chat", "example_threads")  # README.md shows a text of each
-PROGRAMS_OF_GUIDE = ("example_guide", "example_threads")  # docs/GUIDE.md shows texts of these
+ERRORS = {
+    "TreeError": "rt_tree/src/error.rt",
+    "QueryError": "rt_query/src/error.rt",
+    "CoreError": "rt_world/src/error.rt",
+    "ClientError": "rt_client/src/error.rt",
+    "MailError": "rt_mail/src/error.rt",
+    "PushError": "rt_push/src/error.rt",
+    "WireError": "rt_wire/src/error.rt",
+    "LinkFault": "rt_link/src/error.rt",
+    "Lost": "rt_link/src/lost.rt",
+}  # docs/GUIDE.md shows each refusal of these, with its text
+PATIENCE = "rt_link/src/patience.rt"  # the numbers that some texts name
+PROGRAMS_OF_GUIDE = ("example_guide", "example_threads", "example_link")  # docs/GUIDE.md shows texts of these
 
 
 def tools_part():
@@ -66,6 +78,42 @@ def wrong_of_guide(guide, sources, printed):
         shown = [text for it, text in blocks if it == kind]
         wrong += [f"{text.splitlines()[0]} is not so {where}" for text in shown if not any(text in it for it in texts)] if shown else [f"nothing is shown {where}"]
     return wrong
+
+
+def refusals_of(error, text, numbers):
+    """The refusals of an error by their names, each with its text: a number in the place of its name, and '..' in that of a value."""
+    found = re.findall(r'#\[error\("((?:[^"\\]|\\.)*)"[^\]]*\)\]\n    (\w+)', text)
+    return {f"{error}::{name}": re.sub(r"\{([^}]*)\}", lambda it: numbers.get(it[1], ".."), words) for words, name in found}
+
+
+def wrong_of_refusals(guide, refusals):
+    """What is wrong with the refusals that a guide shows: each of these stands in one row, with its text."""
+    rows = re.findall(r"(?m)^\| `(\w+::\w+)` \| (.*?) \|", guide)
+    shown = dict(rows)
+    wrong = [f"{it} is not shown" for it in refusals if it not in shown]
+    wrong += [f"{it} is shown twice" for it in shown if [name for name, _ in rows].count(it) > 1]
+    return wrong + [f"{it} says '{refusals.get(it, '')}'" for it, text in shown.items() if refusals.get(it) != text]
+
+
+def refusals_part():
+    """The refusals that docs/GUIDE.md shows."""
+    numbers = {name: number.replace("_", "") for name, number in re.findall(r"const (\w+): \w+ = ([\d_]+);", read(f"{ROOT}/crates/{PATIENCE}"))}
+    refusals = {key: it for error, file in ERRORS.items() for key, it in refusals_of(error, read(f"{ROOT}/crates/{file}"), numbers).items()}
+    wrong = wrong_of_refusals(read(f"{ROOT}/docs/GUIDE.md"), refusals)
+    part(f"docs/GUIDE.md shows {len(refusals)} refusals with their texts", some_of(wrong, refusals))
+
+
+def wrong_of_sdk(page, names):
+    """The names of the SDK, in lines of kinds of names, that a page has in no piece of code; and all of them."""
+    said = "\n".join(re.findall(r"`[^`\n]*`", page))
+    asked = [it for line in names.splitlines() if not line.startswith("#") for it in line.partition(": ")[2].split()]
+    return [f"{it} is missing" for it in asked if not re.search(rf"\b{it}\b", said)], asked
+
+
+def sdk_part():
+    """docs/FIREBASE.md has each name of the Firebase SDK's module."""
+    wrong, asked = wrong_of_sdk(read(f"{ROOT}/docs/FIREBASE.md"), read(f"{ROOT}/tools/firebase.txt"))
+    part(f"docs/FIREBASE.md has {len(asked)} names of the SDK", some_of(wrong, asked))
 
 
 def guide_part():

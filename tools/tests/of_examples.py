@@ -121,6 +121,14 @@ class Quotes(unittest.TestCase):
         self.assertIn("///     Key::parse(alloc, TEXT)\n/// }\n///\n/// impl Sink for Heard {\n", text)
         self.assertEqual(examples.written(PAGE, self.made), PAGE)
 
+    def test_programs(self):
+        with tempfile.TemporaryDirectory() as room:
+            first, second = examples.PROGRAMS
+            files(room, {f"{first}/trees.rt": PROGRAM, f"{second}/trees.rt": "fn other() {}\n", f"{second}/link.rt": "fn ring() {}\n"})
+            self.assertEqual(examples.program(room, "trees"), self.made)
+            self.assertEqual(examples.program(room, "link"), {"fn ring": "fn ring() {}"})
+            self.assertEqual(examples.program(room, "told"), {})
+
 
 class Names(unittest.TestCase):
     def test_names(self):

@@ -66,6 +66,22 @@ class Gate(unittest.TestCase):
         self.assertEqual(texts.wrong_of_guide("```\ndone\n```\n" + guide, ["fn main() {}\n"], ["done\n"]), ["a block of kind '' is compared with nothing"])
         self.assertEqual(texts.wrong_of_guide("", [], []), ["nothing is shown in a program", "nothing is shown in what is printed"])
 
+    def test_refusals(self):
+        source = 'pub enum Lost {\n    /// A doc.\n    #[error("late by {LATE} ms")]\n    Late,\n    #[error("code {}: {0}", .0.code)]\n    Closed(u8),\n}\n'
+        refusals = texts.refusals_of("Lost", source, {"LATE": "9"})
+        self.assertEqual(refusals, {"Lost::Late": "late by 9 ms", "Lost::Closed": "code ..: .."})
+        guide = "| `Lost::Late` | late by 9 ms | where it is slow |\n| `Lost::Closed` | code ..: .. | at the end |\n"
+        self.assertEqual(texts.wrong_of_refusals(guide, refusals), [])
+        self.assertEqual(texts.wrong_of_refusals(guide.replace("9", "8"), refusals), ["Lost::Late says 'late by 9 ms'"])
+        self.assertEqual(texts.wrong_of_refusals(guide.splitlines()[0], refusals), ["Lost::Closed is not shown"])
+        self.assertEqual(texts.wrong_of_refusals(guide + guide.splitlines()[0], refusals), ["Lost::Late is shown twice"])
+        self.assertEqual(texts.wrong_of_refusals(guide + "| `Lost::Gone` | it went | never |\n", refusals), ["Lost::Gone says ''"])
+
+    def test_sdk(self):
+        names = "# A comment.\nfunctions: get set\nfunctions: push\n"
+        self.assertEqual(texts.wrong_of_sdk("`get`, `set(..)` and `push`", names), ([], ["get", "set", "push"]))
+        self.assertEqual(texts.wrong_of_sdk("`get`, `settle` and push", names)[0], ["set is missing", "push is missing"])
+
     def test_last_line(self):
         self.assertEqual(proving.counts_in("27 passed, 0 failed\n"), (27, 0))
         self.assertEqual(proving.counts_in("rt: 27 passed, 0 failed\n"), None)

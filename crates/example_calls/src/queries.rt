@@ -85,6 +85,11 @@ fn is_enough(query: &Query, other: &Query) -> bool {
     query.takes_in(other)
 }
 
+// Whether listening to one query brings what another one needs.
+fn brings(query: &Query, other: &Query) -> bool {
+    query.supplies(other)
+}
+
 // What a query shows of a tree: rows in its order, or a leaf.
 fn shown(alloc: Global, query: &Query) -> Result<Shown> {
     Ok(query.select(&chat(alloc)?)?)
@@ -135,7 +140,8 @@ fn show_values(rt: &impl Print, alloc: Global) -> Result<()> {
     by_value(&mut draft, text(alloc, "hi")?)?;
     let query = draft.done();
     show_query(rt, &query)?;
-    println!(rt; "enough for itself: {}", is_enough(&query, &query))?;
+    let (is_enough, brings) = (is_enough(&query, &query), brings(&query, &query));
+    println!(rt; "enough for itself: {is_enough} {brings}")?;
     Ok(())
 }
 

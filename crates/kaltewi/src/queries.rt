@@ -19,6 +19,10 @@
 ///     query.takes_in(other)
 /// }
 ///
+/// fn brings(query: &Query, other: &Query) -> bool {
+///     query.supplies(other)
+/// }
+///
 /// fn shown(alloc: Global, query: &Query) -> Result<Shown> {
 ///     Ok(query.select(&chat(alloc)?)?)
 /// }

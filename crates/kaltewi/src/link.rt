@@ -1,0 +1,166 @@
+// A link, which carries a client's connection over a WebSocket in a thread of its own.
+
+/// A client and the link that carries its connection: one thread runs the link, and sleeps while there is
+/// nothing to do. Threads share the linked client; each of its calls is the client's call of that name, and
+/// wakes the link. A run ends when the connection does, or when it is told to stop, and can be made again:
+/// what was not answered is sent again then.
+///
+/// ```rust
+/// fn open_linked(rt: &impl Net, alloc: Global) -> Result<(Link, Linked, Vec<Seat>), LinkFault> {
+///     let (client, seats) = Client::open(alloc, 1, &[64], Limits::full())?;
+///     let (link, linked) = Link::open(rt, alloc, client)?;
+///     Ok((link, linked, seats))
+/// }
+///
+/// fn carry_all<R: Net + Wait + Clock + RandomSource>(
+///     rt: &R,
+///     alloc: Global,
+///     link: &mut Link,
+///     linked: &Linked,
+///     server: SocketAddr,
+/// ) -> Result<(), LinkFault> {
+///     for _ in rt.forever() {
+///         let ending = link.run(rt, alloc, linked, rt, server)?;
+///         let is_last = matches!(ending, LinkEnd::Stopped);
+///         drop(ending);
+///         if is_last {
+///             break;
+///         }
+///         link.wait(Duration::from_secs(1))?;
+///     }
+///     Ok(())
+/// }
+///
+/// fn stop_all(rt: &impl Wait, linked: &Linked) {
+///     linked.stop(rt);
+/// }
+///
+/// fn listen_linked(
+///     rt: &impl Wait,
+///     linked: &Linked,
+///     seat: &mut Seat,
+///     query: Query,
+/// ) -> Result<u64, ClientError> {
+///     linked.listen(rt, seat, query)
+/// }
+///
+/// fn write_linked(
+///     rt: &impl Wait,
+///     linked: &Linked,
+///     seat: &mut Seat,
+///     path: Path,
+///     tree: Tree,
+/// ) -> Result<u64, ClientError> {
+///     linked.set(rt, seat, path, tree)
+/// }
+///
+/// fn remove_and_ring(
+///     rt: &impl Wait,
+///     linked: &Linked,
+///     seat: &mut Seat,
+///     path: Path,
+/// ) -> Result<u64, ClientError> {
+///     let removal = linked.client.remove(rt, seat, path)?;
+///     linked.ring();
+///     Ok(removal)
+/// }
+///
+/// fn not_taken(link: &Link) -> u64 {
+///     link.passed_over()
+/// }
+/// ```
+pub use rt_link::{Link, LinkEnd, LinkFault, Linked};
+
+/// What wakes a link, for a thread that makes no call.
+///
+/// ```rust
+/// fn bell_of(linked: &Linked) -> Result<Bell, AllocError> {
+///     linked.bell()
+/// }
+///
+/// fn ring_and_clone(bell: &Bell) -> Result<Bell, AllocError> {
+///     bell.ring();
+///     bell.try_clone()
+/// }
+/// ```
+pub use rt_link::Bell;
+
+/// The law that threads may share a linked client, and may be handed a link. Who starts threads over them
+/// calls it; `crossing_law` says the same of seats and of what they are told.
+///
+/// ```rust
+/// fn wake_beside<R: Threads>(rt: &R, link: &mut Link, linked: &Linked) -> Result<(), LinkFault> {
+///     // For the prover: what may go to another thread.
+///     link_crossing_law();
+///     let (woken, ()) = thread::join(rt, || link.wait(Duration::from_secs(60)), || linked.ring());
+///     woken
+/// }
+/// ```
+pub use rt_link::link_crossing_law;
+
+/// One connection, for a loop of one's own, which does what else it has to do between turns.
+///
+/// ```rust
+/// fn shake_hands<R: Clock, S: Read + Write + Drop, N: RandomSource + Drop>(
+///     rt: &R,
+///     alloc: Global,
+///     random: N,
+///     stream: S,
+/// ) -> Result<Result<Connection<S, N>, Lost>, LinkFault> {
+///     Connection::new(rt, alloc, random, stream, "ws://127.0.0.1/")
+/// }
+///
+/// fn pause_after(turn: &Turn) -> Option<Duration> {
+///     match turn {
+///         Turn::Idle(most) => Some(*most),
+///         Turn::More => Some(Duration::ZERO),
+///         Turn::NotOpened(_) | Turn::Ended(_) => None,
+///     }
+/// }
+///
+/// fn turn_once<R: Wait + Clock, S: Read + Write + Drop, N: RandomSource + Drop>(
+///     rt: &R,
+///     client: &Client,
+///     connection: &mut Connection<S, N>,
+/// ) -> Result<Option<Duration>, LinkFault> {
+///     let turn = connection.turn(rt, client)?;
+///     let pause = pause_after(&turn);
+///     drop(turn);
+///     Ok(pause)
+/// }
+///
+/// fn look_at<S: Read + Write + Drop, N: RandomSource + Drop>(
+///     connection: &mut Connection<S, N>,
+/// ) -> (bool, bool) {
+///     let passed = connection.take_passed();
+///     let has_unread = passed.iter().any(|why| matches!(why, Passed::Wire(_)));
+///     (connection.is_open(), has_unread)
+/// }
+///
+/// fn leave<R: Wait + Clock, S: Read + Write + Drop, N: RandomSource + Drop>(
+///     rt: &R,
+///     client: &Client,
+///     connection: &mut Connection<S, N>,
+/// ) -> Result<(), LinkFault> {
+///     connection.close(rt, client)
+/// }
+///
+/// fn try_once<R: Net + Wait + Clock + RandomSource>(
+///     rt: &R,
+///     alloc: Global,
+///     link: &mut Link,
+///     linked: &Linked,
+///     server: SocketAddr,
+/// ) -> Result<Option<Lost>, LinkFault> {
+///     match link.connect(rt, alloc, rt, server)? {
+///         Ok(mut connection) => {
+///             let closed = link.close(rt, &linked.client, &mut connection);
+///             drop(connection);
+///             closed?;
+///             Ok(None)
+///         }
+///         Err(why) => Ok(Some(why)),
+///     }
+/// }
+/// ```
+pub use rt_link::{Connection, Lost, Passed, Turn};
