@@ -11,6 +11,7 @@ import many
 import refusing
 import serving
 import streams
+import talking
 from parts import Clock, part, some_of
 from rows import builds_of
 
@@ -31,6 +32,7 @@ def sockets_parts(copy):
         sockets_part("serve, streams to the byte: {} connections", streams.wrong_of, programs, room)
         sockets_part("serve, clients that write and go at once: {} connections", leaving.wrong_of, programs, room)
         sockets_part("emulate: {} sessions of many clients at once", emulating.wrong_of, programs, room)
+        sockets_part("applications: {} talks over emulators", talking.wrong_of, copy, programs)
         sockets_part("serve and connect: {} reads and writes that fail in turn", cutting.wrong_of, programs, room)
         sockets_part("serve and connect: {} sessions of many writes, of which none is lost", handing.wrong_of, programs, room)
         sockets_part("serve and connect: {} allocations refused in turn", refusing.wrong_of, programs, lacking.refuser(room)[0])

@@ -14,6 +14,7 @@ from parts import ROOT, Clock, crates, part, some_of
 from proving import copied
 
 PROGRAMS_SHOWN = ("example_chat", "example_threads")  # README.md shows a text of each
+APPLICATIONS = ("example_rooms", "example_board", "example_game", "example_scores")
 ERRORS = {
     "TreeError": "rt_tree/src/error.rt",
     "QueryError": "rt_query/src/error.rt",
@@ -26,7 +27,7 @@ ERRORS = {
     "Lost": "rt_link/src/lost.rt",
 }  # docs/GUIDE.md shows each refusal of these, with its text
 PATIENCE = "rt_link/src/patience.rt"  # the numbers that some texts name
-PROGRAMS_OF_GUIDE = ("example_guide", "example_threads", "example_link")  # docs/GUIDE.md shows texts of these
+PROGRAMS_OF_GUIDE = ("example_guide", "example_threads", "example_link")  # docs/GUIDE.md shows texts of these, and of the applications
 
 
 def tools_part():
@@ -117,9 +118,10 @@ def sdk_part():
 
 
 def guide_part():
-    """What docs/GUIDE.md shows of programs, of what they print, and of crates.txt."""
-    files = [f"{at}/{name}" for it in PROGRAMS_OF_GUIDE for at, _, names in os.walk(f"{ROOT}/crates/{it}/src") for name in names]
+    """What docs/GUIDE.md shows of programs, of what they print, also in the talks of applications/, and of crates.txt."""
+    files = [f"{at}/{name}" for it in (*PROGRAMS_OF_GUIDE, *APPLICATIONS) for at, _, names in os.walk(f"{ROOT}/crates/{it}/src") for name in names]
     printed = [read(f"{ROOT}/crates.txt"), *(read(f"{ROOT}/crates/{it}/stdout") for it in PROGRAMS_OF_GUIDE)]
+    printed += [read(f"{ROOT}/applications/{it}") for it in os.listdir(f"{ROOT}/applications")]
     part("docs/GUIDE.md's examples are as they are proved", "; ".join(wrong_of_guide(read(f"{ROOT}/docs/GUIDE.md"), [read(it) for it in files], printed)))
 
 
