@@ -100,6 +100,7 @@ def unproved_runs(runs, script):
     fails = {**runs.stand_in, "STAND_IN_FAILS": "1"}
     lines = (UNPROVED, "error: no program", "run=none", "did not come about")
     runs.says("unproved, no run", ["connect", "8080"], script, 1, b"8080\n" + script, *lines, environment=fails)
+    runs.says("unproved, lines that are done as they come", ["watch", "8080"], script, 1, b"8080\n" + script, UNPROVED, "a fault", environment=runs.stand_in)
     runs.says("another word", ["try"], script, 2, b"", "there is no command 'try'", environment=runs.stand_in)
     lines = (UNPROVED, "it goes on when its input ends", "a fault")
     runs.says("unproved, which ends with its input", ["emulate", "8080"], script, 1, b"--no-input\n", *lines, environment=runs.stand_in)

@@ -12,6 +12,7 @@ import refusing
 import serving
 import streams
 import talking
+import watching
 from parts import Clock, part, some_of
 from rows import builds_of
 
@@ -28,6 +29,7 @@ def sockets_parts(copy):
     sockets_part("serve: {} connections", serving.wrong_of, programs)
     sockets_part("serve, a million messages: {} connections", many.wrong_of, programs)
     sockets_part("connect: {} runs", connecting.wrong_of, programs)
+    sockets_part("watch: {} runs", watching.wrong_of, programs)
     with tempfile.TemporaryDirectory(prefix="kaltewi-cut-") as room:
         sockets_part("serve, streams to the byte: {} connections", streams.wrong_of, programs, room)
         sockets_part("serve, clients that write and go at once: {} connections", leaving.wrong_of, programs, room)
@@ -35,4 +37,6 @@ def sockets_parts(copy):
         sockets_part("applications: {} talks over emulators", talking.wrong_of, copy, programs)
         sockets_part("serve and connect: {} reads and writes that fail in turn", cutting.wrong_of, programs, room)
         sockets_part("serve and connect: {} sessions of many writes, of which none is lost", handing.wrong_of, programs, room)
-        sockets_part("serve and connect: {} allocations refused in turn", refusing.wrong_of, programs, lacking.refuser(room)[0])
+        refuser = lacking.refuser(room)[0]
+        sockets_part("serve and connect: {} allocations refused in turn", refusing.wrong_of, programs, refuser)
+        sockets_part("watch: {} allocations refused in turn", watching.refused_of, programs, refuser)

@@ -107,7 +107,7 @@ class Server:
         self.socket.settimeout(SECONDS)
         self.stream = self.socket.makefile("rb")
         self.head = self.stream.readline().rstrip()
-        fields = [line.partition(b":") for line in iter(self.stream.readline, b"\r\n") if line]
+        fields = [line.partition(b":") for line in itertools.takewhile(bytes.strip, self.stream)]
         self.fields = {name.lower(): value.strip() for name, _, value in fields}
         self.key = self.fields.get(b"sec-websocket-key", b"")
 

@@ -22,7 +22,8 @@ use Rattle.rt_tree.specs.Path.{path_fault, path_keys}
 use Rattle.rt_tree.specs.PathTree.{Path, PathTree}
 use Rattle.rt_tree.specs.declared.error.TreeError.{TreeError}
 use Rattle.rt_commands.specs.Words.{Gives, GivesWork, all_texts, count_of, denied_of, emulate_of, emulation_of}
-use Rattle.rt_commands.specs.Words.{live_of, number_of, other_of, path_of, paths_of, serving_of, tree_of, work_of}
+use Rattle.rt_commands.specs.Words.{live_of, number_of, other_of, path_of, paths_of, serving_of, tree_of, watch_of}
+use Rattle.rt_commands.specs.Words.{watching_of, work_of}
 use Rattle.rt_commands.specs.declared.words.Asked.{Asked}
 use Rattle.rt_commands.specs.declared.words.Serving.{Serving}
 use Rattle.rt_commands.specs.declared.words.Work.{Work}
@@ -206,16 +207,30 @@ module _ {Z : Type 0} where
         | false ↦ λ e. refl
       ] refl
 
-  script_in : (o : Option (Box SubCommand Z))
+  watch_in : (o : Option (Box SubCommand Z))
       → (option_map (λ b. (out-SubCommand (box_value b)).name.now) o ≡ Some (codes "connect") → ⊥)
-      → other_of (subcommand_rows o) ≡ Script
+      → other_of (subcommand_rows o) ≡ watch_of (subcommand_rows o)
+  watch_in None h = refl
+  watch_in (Some b) h =
+      let name : List ℕ = (out-SubCommand (box_value b)).name.now in
+      let rows : List Row = rows_of (found_of (out-SubCommand (box_value b)).matches) in
+      elim (bytes_eq name (codes "connect")) as (λ t. bytes_eq name (codes "connect") ≡ t
+      → (if t then Connect (number_of (one_of (codes "PORT") rows)) else watch_of (Some (name, rows)))
+      ≡ watch_of (Some (name, rows))) [
+        | true ↦ λ e. absurd (h (ap Some (same name (codes "connect") e)))
+        | false ↦ λ e. refl
+      ] refl
+
+  script_in : (o : Option (Box SubCommand Z))
+      → (option_map (λ b. (out-SubCommand (box_value b)).name.now) o ≡ Some (codes "watch") → ⊥)
+      → watch_of (subcommand_rows o) ≡ Script
   script_in None h = refl
   script_in (Some b) h =
       let name : List ℕ = (out-SubCommand (box_value b)).name.now in
       let rows : List Row = rows_of (found_of (out-SubCommand (box_value b)).matches) in
-      elim (bytes_eq name (codes "connect")) as (λ t. bytes_eq name (codes "connect") ≡ t
-      → (if t then Connect (number_of (one_of (codes "PORT") rows)) else Script) ≡ Script) [
-        | true ↦ λ e. absurd (h (ap Some (same name (codes "connect") e)))
+      elim (bytes_eq name (codes "watch")) as (λ t. bytes_eq name (codes "watch") ≡ t
+      → (if t then watching_of rows else Script) ≡ Script) [
+        | true ↦ λ e. absurd (h (ap Some (same name (codes "watch") e)))
         | false ↦ λ e. refl
       ] refl
 
@@ -231,6 +246,10 @@ pub other_live : (m : ArgMatches) → (subcommand_name_of m ≡ Some (codes "emu
     → live_of (subcommand_rows_of m) ≡ Some (other_of (subcommand_rows_of m))
 other_live m h = other_in (out-ArgMatches m).subcommand h
 
-pub script_entered : (m : ArgMatches) → (subcommand_name_of m ≡ Some (codes "connect") → ⊥)
-    → other_of (subcommand_rows_of m) ≡ Script
+pub watch_entered : (m : ArgMatches) → (subcommand_name_of m ≡ Some (codes "connect") → ⊥)
+    → other_of (subcommand_rows_of m) ≡ watch_of (subcommand_rows_of m)
+watch_entered m h = watch_in (out-ArgMatches m).subcommand h
+
+pub script_entered : (m : ArgMatches) → (subcommand_name_of m ≡ Some (codes "watch") → ⊥)
+    → watch_of (subcommand_rows_of m) ≡ Script
 script_entered m h = script_in (out-ArgMatches m).subcommand h

@@ -2,7 +2,7 @@
 use Rattle.std.proofs.Common.{◌≡◌, ℕ, List, [], ◌∷◌, ◌++◌, Bool, true, false, not, Option, Some, refl, sym, ap, subst, ◌∙◌, append-nil}
 use Rattle.std.proofs.Common.{append_assoc}
 use Rattle.std.specs.Prelude.{if◌then◌else◌}
-use Rattle.rt_input.specs.Lines.{Gives, Lines, given_by, lines_of, to_come}
+use Rattle.rt_input.specs.Lines.{Gives, Lines, lines_of, to_come}
 use Rattle.rt_commands.specs.declared.script.Script.{Script}
 use Rattle.rt_commands.specs.Run.{Progress}
 use Rattle.rt_commands.specs.inside.Pieces.{Begins, Runs, so_far}

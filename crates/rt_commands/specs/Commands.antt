@@ -102,8 +102,20 @@ emulate_app = with_rule (with_rule (with_rule (with_rule (with_rule (with_rule (
 abbrev pub connect_app : App
 connect_app = with_rule (with_rule (new_app (codes "connect")) port_rule) verbose_rule
 
--- `script`, `serve`, `emulate` and `connect`
+-- `--idle MS`
+abbrev pub idle_rule : Rule
+idle_rule = record (new_rule (codes "idle")) {
+  long = Some (codes "idle");
+  value_names = 1;
+  parser = Some whole;
+}
+
+-- `watch PORT [--idle MS] [-v]`
+abbrev pub watch_app : App
+watch_app = with_rule (with_rule (with_rule (new_app (codes "watch")) port_rule) idle_rule) verbose_rule
+
+-- `script`, `serve`, `emulate`, `connect` and `watch`
 abbrev pub console_app : App
 console_app =
-    with_subcommand (with_subcommand (with_subcommand (with_subcommand base_app script_app.top)
-    serve_app.top) emulate_app.top) connect_app.top
+    with_subcommand (with_subcommand (with_subcommand (with_subcommand (with_subcommand base_app script_app.top)
+    serve_app.top) emulate_app.top) connect_app.top) watch_app.top

@@ -22,7 +22,7 @@ use Rattle.rt_commands.specs.Commands.{console_app}
 use Rattle.rt_commands.specs.declared.words.Asked.{Asked}
 use Rattle.rt_commands.specs.declared.words.Serving.{Serving}
 use Rattle.rt_commands.specs.declared.words.Work.{Work}
-use Rattle.rt_commands.specs.declared.words.Work.TheVariants.{Connect, Emulate, Script, Serve}
+use Rattle.rt_commands.specs.declared.words.Work.TheVariants.{Connect, Emulate, Script, Serve, Watch}
 
 -- ---- what is asked for
 
@@ -83,11 +83,22 @@ emulation_of rows =
       origins = all_texts (codes "origin") rows;
     }) (paths_of (all_texts (codes "deny") rows))) (tree_of (first_of (codes "tree") rows))
 
--- what a subcommand asks for, by its name and its entries, where it is neither `serve` nor `emulate`
+-- what the entries of `watch` ask for
+abbrev pub watching_of : List Row → Work
+watching_of rows =
+    Watch (number_of (one_of (codes "PORT") rows)) (count_of (number_of (one_of (codes "idle") rows)))
+
+-- what a subcommand asks for, by its name and its entries, where it is none of the others
+abbrev pub watch_of : Option (List ℕ × List Row) → Work
+watch_of None = Script
+watch_of (Some (name, rows)) = if bytes_eq name (codes "watch") then watching_of rows else Script
+
+-- and where it is neither `serve` nor `emulate`
 abbrev pub other_of : Option (List ℕ × List Row) → Work
 other_of None = Script
 other_of (Some (name, rows)) =
-    if bytes_eq name (codes "connect") then Connect (number_of (one_of (codes "PORT") rows)) else Script
+    if bytes_eq name (codes "connect") then Connect (number_of (one_of (codes "PORT") rows))
+    else watch_of (Some (name, rows))
 
 -- whether a flag was given, by the text that stands for it
 abbrev pub flag_of : Option (List ℕ) → Bool

@@ -13,11 +13,13 @@
 //! [`serve_stream`]), and how lines drive a client ([`drive`]).
 #![tactic(auto)]
 
+mod commands;
 mod connecting;
 mod script;
 mod serving;
 mod words;
 
+pub use commands::PROGRAM;
 pub use connecting::{ConnectFault, connect};
 pub use rt_drive::{drive, drive_logged};
 pub use rt_input::{ConsoleError, Drain, Source};
@@ -25,4 +27,4 @@ pub use rt_peer::Peer;
 pub use rt_serve::serve_stream;
 pub use script::{run_logged, run_script};
 pub use serving::{ServeFault, Streams, Visitors, serve};
-pub use words::{Asked, PROGRAM, Serving, Work, explain, read_words};
+pub use words::{Asked, Serving, Work, explain, read_words};

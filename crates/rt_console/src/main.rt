@@ -1,5 +1,5 @@
 //! The console: runs a script of lines over one core, serves a peer to one client after another or to many
-//! at once, or drives a client by lines.
+//! at once, drives a client by lines, or watches one.
 #![tactic(auto)]
 
 mod arguments;
@@ -9,13 +9,15 @@ use rt_commands::{
 };
 use rt_emulate::{EmulateFault, Emulating, Emulator, Stopper};
 use rt_input::{ConsoleError, Fault, Log, Reading, Silent, Telling, Writing};
+use rt_watch::{WatchFault, Watching, watch};
 use std::alloc::Global;
 use std::fmt::Display;
-use std::net::Net;
+use std::net::{Ipv4Addr, Net, SocketAddr};
 use std::process::ExitCode;
 use std::random::RandomSource;
 use std::sync::Wait;
 use std::thread::Threads;
+use std::time::Clock;
 use std::{io, thread};
 
 // Says why the program ends, and answers the exit status of a fault.
@@ -114,8 +116,37 @@ fn status_of_connection<R: Net + Wait + RandomSource, L: Log>(
     }
 }
 
+// Connects a client that does the lines of the standard input as they come while what the server sends is
+// printed, and answers the exit status: 1 where a fault or a bad line was printed.
+fn status_of_watching<
+    R: Net + Wait + Threads + Clock + RandomSource + Clone + Drop + Send + 'static,
+    L: Log,
+>(
+    rt: &R,
+    system: &HostRuntime,
+    watching: Watching,
+    log: &mut L,
+) -> u8 {
+    let reader = Reading::new(system.stdin());
+    let mut writer = Writing::new(system.stdout());
+    let (watched, reader) = watch(rt, system.alloc(), watching, reader, &mut writer, log);
+    match watched {
+        Ok(0) => 0,
+        Ok(_) => 1,
+        Err(WatchFault::Ended(error)) => {
+            // Where the reader is in a thread still, it has not failed.
+            let reader = reader.unwrap_or(Reading::new(system.stdin()));
+            say_fault(system, &Fault::of(error, reader, writer))
+        }
+        Err(fault) => say_fault(system, &fault),
+    }
+}
+
 // Does the work, and answers the exit status.
-fn status_of_work<R: Net + Wait + Threads + RandomSource, L: Log>(
+fn status_of_work<
+    R: Net + Wait + Threads + Clock + RandomSource + Clone + Drop + Send + 'static,
+    L: Log,
+>(
     rt: &R,
     system: &HostRuntime,
     work: Work,
@@ -129,11 +160,16 @@ fn status_of_work<R: Net + Wait + Threads + RandomSource, L: Log>(
             ends_with_input,
         } => status_of_emulating(rt, system, emulating, ends_with_input, log),
         Work::Connect { port } => status_of_connection(rt, system, port, log),
+        Work::Watch { port, idle } => {
+            let address = SocketAddr::from((Ipv4Addr::LOCALHOST, port));
+            let idle_ms = idle.map(u64::from);
+            status_of_watching(rt, system, Watching { address, idle_ms }, log)
+        }
     }
 }
 
 // Does what is asked for, and answers the exit status.
-fn status_of_asked<R: Net + Wait + Threads + RandomSource>(
+fn status_of_asked<R: Net + Wait + Threads + Clock + RandomSource + Clone + Drop + Send + 'static>(
     rt: &R,
     system: &HostRuntime,
     asked: Asked,
@@ -148,7 +184,7 @@ fn status_of_asked<R: Net + Wait + Threads + RandomSource>(
 }
 
 // Does what the words ask for, and answers the exit status.
-fn status_of_words<R: Net + Wait + Threads + RandomSource>(
+fn status_of_words<R: Net + Wait + Threads + Clock + RandomSource + Clone + Drop + Send + 'static>(
     rt: &R,
     system: &HostRuntime,
     words: &[String],

@@ -1,9 +1,9 @@
-use Rattle.std.proofs.Common.{◌≡◌, ℕ, List, [], Option, Some, subst}
+use Rattle.std.proofs.Common.{◌≡◌, ℕ, List, Some, subst}
 use Rattle.std.specs.Prelude.{OnErr}
 use Rattle.rt_input.specs.Lines.{lines_of}
 use Rattle.rt_input.specs.Streams.{AppendsPart}
 use Rattle.rt_commands.specs.Run.{Progress, after_lines}
-use Rattle.rt_commands.specs.inside.Pieces.{Runs, so_far}
+use Rattle.rt_commands.specs.inside.Pieces.{Runs}
 use Rattle.rt_commands.proofs.Written.{Ran-whole, if_ok_three}
 use Rattle.rt_commands.proofs.script.run_logged.Goals as goal
 

@@ -1,4 +1,4 @@
-use Rattle.std.proofs.Common.{◌≡◌, ◌≤◌}
+use Rattle.std.proofs.Common.{◌≡◌}
 use Rattle.std.specs.Prelude.{IfSome}
 use Rattle.rt_commands.proofs.Clients.{Left}
 use Rattle.rt_commands.proofs.serving.serve_all.Given as goal

@@ -1,4 +1,4 @@
-use Rattle.std.proofs.Common.{rules, ◌≡◌, Bool, false, ap, ◌∙◌}
+use Rattle.std.proofs.Common.{rules, ◌≡◌, false, ap, ◌∙◌}
 use Rattle.std.specs.Option.{unwrap_or}
 use Rattle.clap.proofs.WalkLemmas.{one_text-rows}
 use Rattle.clap.specs.Words.{found_of, one_text}

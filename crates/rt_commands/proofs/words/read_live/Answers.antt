@@ -1,8 +1,8 @@
 use Rattle.std.proofs.Common.{◌≡◌, Some, codes, ap, refl, sym, true≢false, ◌∙◌}
 use Rattle.std.specs.Prelude.{Bool, not, option_map}
 use Rattle.clap.specs.Matches.{subcommand_name_of}
-use Rattle.clap.specs.Words.{Row, found_of, one_of, rows_of, subcommand_rows_of}
-use Rattle.rt_commands.specs.Words.{emulate_of, emulation_of, flag_of, live_of}
+use Rattle.clap.specs.Words.{found_of, one_of, rows_of, subcommand_rows_of}
+use Rattle.rt_commands.specs.Words.{emulation_of, flag_of, live_of}
 use Rattle.rt_commands.specs.declared.words.Work.TheVariants.{Emulate}
 use Rattle.rt_commands.proofs.Asking.{entered, other_live, passed}
 use Rattle.rt_commands.proofs.words.read_live.Goals as goal

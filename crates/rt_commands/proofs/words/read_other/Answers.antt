@@ -3,7 +3,7 @@ use Rattle.clap.specs.Matches.{subcommand_name_of}
 use Rattle.clap.specs.Words.{found_of, rows_of, subcommand_rows_of}
 use Rattle.rt_commands.specs.Words.{other_of}
 use Rattle.rt_commands.specs.declared.words.Work.TheVariants.{Connect}
-use Rattle.rt_commands.proofs.Asking.{entered, script_entered}
+use Rattle.rt_commands.proofs.Asking.{entered, watch_entered}
 use Rattle.rt_commands.proofs.words.read_other.Goals as goal
 
 pub returns-in-Some : goal.returns-in-Some
@@ -16,4 +16,5 @@ returns-in-Some c =
 
 pub returns-in-None : goal.returns-in-None
 returns-in-None c =
-    sym (script_entered c.args.matches.now (λ e. true≢false (sym (c.in-None.ensures.found.1 e))))
+    c.read_watch.ensures
+    ∙ sym (watch_entered c.args.matches.now (λ e. true≢false (sym (c.in-None.ensures.found.1 e))))

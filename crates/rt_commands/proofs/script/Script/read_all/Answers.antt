@@ -1,4 +1,4 @@
-use Rattle.std.proofs.Common.{rules, ◌≡◌, ℕ, ◌∷◌, List, [], Bool, true, false, not, Option, Some, OnOk, arith, subst, ◌∙◌, string_bytes}
+use Rattle.std.proofs.Common.{rules, ◌≡◌, ℕ, ◌∷◌, List, [], true, false, Option, Some, arith, subst, ◌∙◌, string_bytes}
 use Rattle.std.specs.Io.KnownBytes.{Appends}
 use Rattle.rt_input.specs.Lines.{lines_of}
 use Rattle.rt_commands.specs.Run.{Progress}

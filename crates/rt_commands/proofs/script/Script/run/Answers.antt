@@ -1,4 +1,4 @@
-use Rattle.std.proofs.Common.{◌≡◌, ℕ, List, [], Option, Some, string_bytes}
+use Rattle.std.proofs.Common.{◌≡◌, ℕ, List, [], Option, Some}
 use Rattle.rt_input.specs.Lines.{lines_of}
 use Rattle.rt_input.specs.Streams.{AppendsPart}
 use Rattle.rt_commands.specs.Run.{after_lines}

@@ -1,0 +1,5 @@
+mod Counting
+mod Faulting
+mod Printed
+mod Queues
+mod Telling

@@ -1,0 +1,9 @@
+-- What a reader has to believe: the definitions that contracts name. In reading order:
+--     Watching    what a line does, and what is printed of what the server sends
+--     Queued      the lines that wait to be done
+--     Pacing      what a turn leaves, when a run sleeps, and when it ends
+--     Faults      why a run ends early
+pub mod Faults
+pub mod Pacing
+pub mod Queued
+pub mod Watching

@@ -1,0 +1,34 @@
+-- When a run sleeps, and when it ends, and what a turn of its connection leaves.
+use Rattle.std.specs.Prelude.{◌-◌, ◌/◌, ◌^◌, ℕ, nat_le, min, if◌then◌else◌, Bool, true, false, Option, Some, None}
+use Rattle.std.specs.Duration.{as_nanos}
+use Rattle.std.specs.declared.time.Duration.{Duration}
+use Rattle.rt_link.specs.declared.connection.Turn.{Turn}
+use Rattle.rt_link.specs.declared.connection.Turn.TheVariants as turn
+use Rattle.rt_link.specs.declared.lost.Lost.TheVariants as why
+use Rattle.rt_watch.specs.declared.watched.Left.{Left}
+use Rattle.rt_watch.specs.declared.watched.Left.TheVariants as left
+use Rattle.rt_watch.specs.declared.pace.Next.{Next}
+use Rattle.rt_watch.specs.declared.pace.Next.TheVariants.{Sleep, End}
+
+-- what a run does next that did all that it could: its connection waits for so long, none where there is
+-- none; its input has ended or not; nothing was printed for so many milliseconds, of which so many are
+-- enough, none where none are
+abbrev pub next : Option ℕ → Bool → ℕ → Option ℕ → Next
+next None true quiet enough = End
+next None false quiet enough = Sleep (2 ^ 64 - 1)
+next (Some most) false quiet enough = Sleep most
+next (Some most) true quiet None = Sleep most
+next (Some most) true quiet (Some enough) =
+    if nat_le enough quiet then End else Sleep (min most (enough - quiet))
+
+-- how many milliseconds it is, as far as 64 bits count
+abbrev pub millis_of : Duration → ℕ
+millis_of time = min (as_nanos time / 1000000) (2 ^ 64 - 1)
+
+-- what a turn of the connection leaves: it waits so long at most, nothing listens there, or it is gone
+abbrev pub left_by : Turn → Left
+left_by (turn.Idle most) = left.Waits (millis_of most)
+left_by turn.More = left.Waits 0
+left_by (turn.NotOpened (why.Unreachable e)) = left.Unreached (why.Unreachable e)
+left_by (turn.NotOpened e) = left.Lost e
+left_by (turn.Ended e) = left.Lost e

@@ -1,0 +1,136 @@
+// What a line asks of a client's locked value and its seats, and what is printed of it and of what the server
+// sends.
+ghost use Rattle.std.specs.Prelude.{◌≡◌, ◌++◌, ℕ, List, IfOk, OnOk};
+ghost use Rattle.rt_lines.specs.Orders.{order_of_bytes};
+ghost use Rattle.rt_lines.specs.inside.Appending.{Appends};
+ghost use Rattle.rt_drive.specs.Doing.{disconnected};
+ghost use Rattle.rt_watch.specs.Watching.{DoesAsked, DoesLine, DoesOrder, TellsNews, is_done, is_good};
+ghost use Rattle.rt_watch.specs.Watching.{passed_text, passed_texts};
+
+use rt_client::Shared;
+use rt_drive::{Seats, obey, settle_all};
+use rt_lines::{LineError, Order, Refusal, write_bad_line, write_refusal};
+use rt_link::Passed;
+use std::alloc::{AllocError, Global};
+
+// Whether an order is done. Messages come by themselves, so that one which reads them is not.
+fn is_done(order: &Order) -> bool
+    ensures { result ≡ is_done order.now }
+{
+    match order {
+        Order::Seat { .. } | Order::Close { .. } | Order::Cover => true,
+        Order::Read { .. } => false,
+    }
+}
+
+// Does an order, or prints that the line of that number is bad, and answers which.
+fn do_order(
+    out: &mut String,
+    alloc: Global,
+    shared: &mut Shared,
+    seats: &mut Seats,
+    number: u64,
+    order: Order,
+) -> Result<bool, AllocError>
+    ensures good { IfOk result (λ good. good ≡ is_done order) }
+    ensures done { OnOk result ((text : List ℕ) × Appends out.old out.new text
+        × DoesOrder (is_done order) order number shared.old seats.old.items text shared.new
+        seats.new.items) }
+{
+    if !is_done(&order) {
+        write_bad_line(out, number)?;
+        return Ok(false);
+    }
+    obey(out, alloc, shared, seats, order)?;
+    Ok(true)
+}
+
+// Does what the line of that number asks for, and prints what became of it. Answers whether the line is
+// good.
+fn do_asked(
+    out: &mut String,
+    alloc: Global,
+    shared: &mut Shared,
+    seats: &mut Seats,
+    number: u64,
+    bytes: &[u8],
+) -> Result<bool, AllocError>
+    ensures good { IfOk result (λ good. good ≡ is_good (order_of_bytes bytes.now)) }
+    ensures done { OnOk result ((text : List ℕ) × Appends out.old out.new text
+        × DoesAsked (order_of_bytes bytes.now) number shared.old seats.old.items text shared.new
+        seats.new.items) }
+{
+    match Order::read(alloc, bytes) {
+        Ok(order) => do_order(out, alloc, shared, seats, number, order),
+        Err(LineError::Refused(refusal)) => {
+            write_refusal(out, refusal)?;
+            Ok(true)
+        }
+        Err(LineError::Bad) => {
+            write_bad_line(out, number)?;
+            Ok(false)
+        }
+        Err(LineError::NoMemory) => Err(AllocError),
+    }
+}
+
+// Does the line of that number, which is not empty, and prints what became of it and what the seats are told
+// then. Answers whether the line is good.
+pub(crate) fn do_line(
+    out: &mut String,
+    alloc: Global,
+    shared: &mut Shared,
+    seats: &mut Seats,
+    number: u64,
+    bytes: &[u8],
+) -> Result<bool, AllocError>
+    ensures good { IfOk result (λ good. good ≡ is_good (order_of_bytes bytes.now)) }
+    ensures done { OnOk result ((text : List ℕ) × Appends out.old out.new text
+        × DoesLine bytes.now number shared.old seats.old.items text shared.new seats.new.items) }
+{
+    let is_good = do_asked(out, alloc, shared, seats, number, bytes)?;
+    settle_all(out, alloc, shared, seats)?;
+    Ok(is_good)
+}
+
+// Prints why a message of the server was passed over.
+fn write_passed(out: &mut String, why: Passed) -> Result<(), AllocError>
+    ensures { OnOk result (Appends out.old out.new (passed_text why)) }
+{
+    match why {
+        Passed::Wire(why) => write_refusal(out, Refusal::Wire(why)),
+        Passed::Core(why) => write_refusal(out, Refusal::Core(why)),
+    }
+}
+
+// Prints why messages of the server were passed over, in order.
+fn write_all_passed(out: &mut String, passed: &[Passed]) -> Result<(), AllocError>
+    ensures { OnOk result (Appends out.old out.new (passed_texts passed.now)) }
+{
+    for why in passed {
+        write_passed(out, *why)?;
+    }
+    Ok(())
+}
+
+// Prints what came of messages of the server that the client has taken, of which these were passed over.
+pub(crate) fn tell_news(
+    out: &mut String,
+    alloc: Global,
+    shared: &mut Shared,
+    seats: &mut Seats,
+    passed: &[Passed],
+) -> Result<(), AllocError>
+    ensures { OnOk result ((text : List ℕ) × Appends out.old out.new text
+        × TellsNews passed.now shared.old seats.old.items text shared.new seats.new.items) }
+{
+    write_all_passed(out, passed)?;
+    settle_all(out, alloc, shared, seats)
+}
+
+// Prints that the connection is gone, or did not come about.
+pub(crate) fn write_lost(out: &mut String) -> Result<(), AllocError>
+    ensures { OnOk result (Appends out.old out.new disconnected) }
+{
+    out.push_str("disconnected\n")
+}

@@ -1,0 +1,376 @@
+// A client that is driven by lines, while what the server sends is printed.
+ghost use Rattle.std.specs.Prelude.{◌≡◌, ◌+◌, ◌<◌, ◌≤◌, ◌^◌, ℕ, List, Ok, Err, IfOk, IfErr, OnOk};
+ghost use Rattle.rt_lines.specs.inside.Appending.{Appends};
+ghost use Rattle.rt_drive.specs.Doing.{disconnected};
+ghost use Rattle.rt_watch.specs.Faults.{IsNoWriteFault, TellsWrite, of_link};
+ghost use Rattle.rt_watch.specs.Pacing.{left_by, millis_of};
+ghost use Rattle.rt_watch.specs.Watching.{PrintsNews};
+
+use crate::fault::WatchFault;
+use crate::lines::Lines;
+use crate::pace::{Next, next_of};
+use crate::reading::feed;
+use crate::terminal::Terminal;
+use mio::net::TcpStream;
+use rt_client::{Client, Seat};
+use rt_drive::open_seats;
+use rt_input::{ConsoleError, Drain, Log, Source};
+use rt_link::{Connection, Link, LinkFault, Linked, Lost, Turn, link_crossing_law};
+use rt_world::Limits;
+use std::alloc::{AllocError, Global};
+use std::net::{Net, SocketAddr};
+use std::random::RandomSource;
+use std::sync::{Arc, Wait};
+use std::thread::{Builder, JoinHandle, Threads};
+use std::time::{Clock, Duration, Instant};
+
+// The client's number, and how many items each of its seats holds.
+const NUMBER: u64 = 1;
+
+const CAPACITIES: [usize; 8] = [1_024; 8];
+
+/// What is to be watched.
+#[derive(Clone, Copy, Debug)]
+pub struct Watching {
+    /// Where the server listens.
+    pub address: SocketAddr,
+    /// After how many milliseconds in which nothing was printed the run ends, once the input has ended.
+    pub idle_ms: Option<u64>,
+}
+
+// Where the connection stands.
+#[derive(Clone, Copy, Debug, PartialEq, Eq)]
+enum Standing {
+    // Its handshake is not done.
+    Opening,
+    // It stands.
+    Open,
+    // It has ended, or did not come about.
+    Gone,
+}
+
+// A run: what is typed and printed, and the client's connection.
+#[derive(Drop)]
+struct Watched<N: RandomSource + Drop> {
+    address: SocketAddr,
+    terminal: Terminal,
+    connection: Connection<TcpStream, N>,
+    standing: Standing,
+    // What the connection waits for next.
+    waits: u64,
+}
+
+// What a turn of the connection leaves of a run.
+#[derive(Drop)]
+enum Left {
+    // The connection waits so many milliseconds at most.
+    Waits(u64),
+    // Nothing listens there.
+    Unreached(Lost),
+    // The connection is gone, or did not come about.
+    Lost(Lost),
+}
+
+// How many milliseconds it is, as far as 64 bits count.
+fn millis_of(time: Duration) -> u64
+    ensures { result ≡ millis_of time }
+{
+    u64::try_from(time.as_millis()).unwrap_or(u64::MAX)
+}
+
+// What a turn of the connection leaves.
+fn left_by(turn: Turn) -> Left
+    ensures { result ≡ left_by turn }
+{
+    match turn {
+        Turn::Idle(most) => Left::Waits(millis_of(most)),
+        Turn::More => Left::Waits(0),
+        Turn::NotOpened(why @ Lost::Unreachable(_)) => Left::Unreached(why),
+        Turn::NotOpened(why) | Turn::Ended(why) => Left::Lost(why),
+    }
+}
+
+impl<N: RandomSource + Drop> Watched<N> {
+    // The connection is gone, which is printed, and told why.
+    fn lose<L: Log>(&mut self, why: &Lost, log: &mut L) -> Result<(), AllocError>
+        ensures gone { self.new.standing ≡ Standing.Gone }
+        ensures printed { OnOk result
+            (Appends self.old.terminal.printed self.new.terminal.printed disconnected) }
+    {
+        self.standing = Standing::Gone;
+        self.terminal.tell_lost(why, log)
+    }
+
+    // Prints what the messages say that the client has taken.
+    fn tell_news<R: Wait>(&mut self, rt: &R, linked: &Linked) -> Result<(), AllocError>
+        ensures { OnOk result ((text : List ℕ)
+            × Appends self.old.terminal.printed self.new.terminal.printed text
+            × PrintsNews self.old.connection.passed self.old.terminal.seats.items text
+            self.new.terminal.seats.items) }
+    {
+        let passed = self.connection.take_passed();
+        self.terminal.tell_news(rt, linked, passed.as_slice())
+    }
+
+    // Carries the connection on, and prints what comes of it.
+    #[tactic(auto, using(crate::proofs::Faulting::faults))]
+    fn turn<R: Wait + Clock, L: Log>(
+        &mut self,
+        rt: &R,
+        linked: &Linked,
+        log: &mut L,
+    ) -> Result<(), WatchFault>
+        ensures { IfErr result IsNoWriteFault }
+    {
+        if self.standing == Standing::Gone {
+            return Ok(());
+        }
+        let turn = self.connection.turn(rt, &linked.client)?;
+        if self.connection.is_open() {
+            self.standing = Standing::Open;
+        }
+        if let Err(why) = self.tell_news(rt, linked) {
+            drop(turn);
+            return Err(WatchFault::from(why));
+        }
+        self.leave(turn, log)
+    }
+
+    // Notes what a turn leaves.
+    #[tactic(auto, using(crate::proofs::Faulting::faults))]
+    fn leave<L: Log>(&mut self, turn: Turn, log: &mut L) -> Result<(), WatchFault>
+        ensures { IfErr result IsNoWriteFault }
+    {
+        match left_by(turn) {
+            Left::Waits(most) => {
+                self.waits = most;
+                Ok(())
+            }
+            Left::Unreached(why) => Err(WatchFault::NotConnected {
+                address: self.address,
+                why,
+            }),
+            Left::Lost(why) => {
+                let lost = self.lose(&why, log);
+                drop(why);
+                lost?;
+                Ok(())
+            }
+        }
+    }
+
+    // One round: lines are done once the connection stands or is gone, and it is carried on.
+    #[tactic(auto, using(crate::proofs::Faulting::faults))]
+    fn round<R: Wait + Clock, D: Drain, L: Log>(
+        &mut self,
+        rt: &R,
+        linked: &Linked,
+        lines: &Lines,
+        enough: Option<u64>,
+        writer: &mut D,
+        log: &mut L,
+    ) -> Result<Next, WatchFault>
+        requires { D.failures writer.old + 1 < 2 ^ 64 }
+        ensures ok { OnOk result (D.failures writer.new ≡ D.failures writer.old) }
+        ensures fault { IfErr result (λ e. TellsWrite e (D.failures writer.old) (D.failures writer.new)) }
+    {
+        if self.standing != Standing::Opening {
+            let done = self.terminal.do_lines(rt, linked, lines, log);
+            self.terminal.write_out(rt, writer)?;
+            done?;
+        }
+        let was = self.standing;
+        let turned = self.turn(rt, linked, log);
+        self.terminal.write_out(rt, writer)?;
+        turned?;
+        if self.standing != was {
+            return Ok(Next::GoOn);
+        }
+        let connection = match self.standing {
+            Standing::Opening | Standing::Open => Some(self.waits),
+            Standing::Gone => None,
+        };
+        let quiet = millis_of(self.terminal.quiet_since.elapsed(rt)?);
+        Ok(next_of(connection, self.terminal.has_ended, quiet, enough))
+    }
+
+    // What a run answers that ended so, and whose connection was closed so.
+    fn outcome(
+        &self,
+        outcome: Result<(), WatchFault>,
+        closed: Result<(), LinkFault>,
+    ) -> Result<u64, WatchFault>
+        ensures ok { IfOk result (λ bad_lines. (bad_lines ≡ self.now.terminal.bad_lines)) }
+        ensures run { IfErr outcome (λ why. result ≡ Err why) }
+        ensures closed { OnOk outcome (IfErr closed (λ why. result ≡ Err (of_link why))) }
+        ensures done { OnOk outcome (OnOk closed (result ≡ Ok self.now.terminal.bad_lines)) }
+    {
+        outcome?;
+        closed?;
+        Ok(self.terminal.bad_lines)
+    }
+
+    // Runs until the input has ended, and then the connection or the news.
+    #[tactic(auto, using(crate::proofs::Faulting::faults))]
+    fn run<R: Wait + Clock, D: Drain, L: Log>(
+        &mut self,
+        rt: &R,
+        linked: &Linked,
+        link: &mut Link,
+        lines: &Lines,
+        enough: Option<u64>,
+        writer: &mut D,
+        log: &mut L,
+    ) -> Result<(), WatchFault>
+        requires { D.failures writer.old + 1 < 2 ^ 64 }
+        ensures ok { OnOk result (D.failures writer.new ≡ D.failures writer.old) }
+        ensures fault { IfErr result (λ e. TellsWrite e (D.failures writer.old) (D.failures writer.new)) }
+    {
+        for _ in rt.forever() {
+            match self.round(rt, linked, lines, enough, writer, log)? {
+                Next::GoOn => {}
+                Next::Sleep(most) => link.wait(Duration::from_millis(most))?,
+                Next::End => return Ok(()),
+            }
+        }
+        unreachable!()
+    }
+}
+
+// A new client of eight seats, with what carries it.
+#[tactic(auto, using(crate::proofs::Faulting::faults))]
+fn open<R: Net>(rt: &R, alloc: Global) -> Result<(Link, Linked, Vec<Seat>), WatchFault>
+    ensures { IfErr result IsNoWriteFault }
+{
+    let Ok((client, seats)) = Client::open(alloc, NUMBER, &CAPACITIES, Limits::full()) else {
+        return Err(WatchFault::Ended(ConsoleError::NoMemory));
+    };
+    match Link::open(rt, alloc, client) {
+        Ok((link, linked)) => Ok((link, linked, seats)),
+        Err(why) => {
+            drop(seats);
+            Err(WatchFault::from(why))
+        }
+    }
+}
+
+// Starts the thread that reads lines. It gives the reader back.
+#[tactic(auto, using(crate::proofs::Faulting::faults))]
+fn read_on<R: Threads + Wait + Clone + Drop + Send + 'static, I: Source + Send + Drop + 'static>(
+    rt: &R,
+    alloc: Global,
+    linked: &Linked,
+    reader: I,
+) -> Result<(Arc<Lines, Global>, JoinHandle<I>), WatchFault>
+    requires bytes { I.given reader ≤ 2 ^ 63 }
+    requires reads { I.failures reader + 1 < 2 ^ 64 }
+    ensures { IfErr result IsNoWriteFault }
+{
+    // For the prover: what the thread is handed.
+    link_crossing_law();
+    let lines = Arc::new(alloc, Lines::new(alloc, linked.bell()?))?;
+    let (theirs, theirs_rt) = (Arc::try_clone(&lines)?, rt.clone()?);
+    let read = move || -> I
+        requires bytes { I.given reader ≤ 2 ^ 63 }
+        requires reads { I.failures reader + 1 < 2 ^ 64 }
+    { feed(&theirs_rt, alloc, reader, &theirs) };
+    let reading = Builder::new().spawn(rt, read)?;
+    Ok((lines, reading))
+}
+
+// A run that is ready: its client has so many seats, and its connection is begun.
+#[tactic(auto, using(crate::proofs::Faulting::faults))]
+fn begin<R: Net + Clock + RandomSource + Clone + Drop>(
+    rt: &R,
+    alloc: Global,
+    link: &mut Link,
+    seats: Vec<Seat>,
+    address: SocketAddr,
+) -> Result<Watched<R>, WatchFault>
+    ensures { IfErr result IsNoWriteFault }
+{
+    let terminal = Terminal::new(alloc, open_seats(alloc, seats)?, Instant::now(rt)?);
+    match link.connect(rt, alloc, rt.clone()?, address)? {
+        Ok(connection) => Ok(Watched {
+            address,
+            terminal,
+            connection,
+            standing: Standing::Opening,
+            waits: 0,
+        }),
+        Err(why) => {
+            drop(terminal);
+            Err(WatchFault::NotConnected { address, why })
+        }
+    }
+}
+
+/// Connects a new client of eight seats to an address, and does the lines that a reader gives as they come:
+/// the calls of its seats, by their numbers from 1, the end of a seat, and the listens that are kept. What
+/// the server sends is taken as it comes, and what the seats are told of it is written at once. A message
+/// prints nothing itself, but why it is refused. Answers the number of bad lines.
+///
+/// Lines are done from when the handshake is done. Where none comes about, and where the connection ends,
+/// `disconnected` is printed, and the lines go on. Once the input has ended the run goes on until the
+/// connection has ended, or nothing was printed for so long as is asked for. Then the client says that it
+/// goes, and waits a second at most until the server has gone too.
+///
+/// The lines are read in a thread of their own, which ends with the input. It is not waited for where the
+/// run ends early. The reader is given back where it is: that its cause can be had where it failed.
+///
+/// # Errors
+///
+/// `NotConnected` where nothing listens there, `System` where the system refuses the thread or what waiting
+/// needs, and `Ended`: `ReadFault` where the reader fails or gives more than 67,108,864 bytes, `WriteFault`
+/// where the writer fails, and `NoMemory`.
+#[tactic(auto, using(crate::proofs::Faulting::faults))]
+pub fn watch<
+    R: Net + Threads + Wait + Clock + RandomSource + Clone + Drop + Send + 'static,
+    I: Source + Send + Drop + 'static,
+    D: Drain,
+    L: Log,
+>(
+    rt: &R,
+    alloc: Global,
+    watching: Watching,
+    reader: I,
+    writer: &mut D,
+    log: &mut L,
+) -> (Result<u64, WatchFault>, Option<I>)
+    requires bytes { I.given reader ≤ 2 ^ 63 }
+    requires reads { I.failures reader + 1 < 2 ^ 64 }
+    requires writes { D.failures writer.old + 1 < 2 ^ 64 }
+    ensures ok { OnOk result.0 (D.failures writer.new ≡ D.failures writer.old) }
+    ensures fault { IfErr result.0 (λ e. TellsWrite e (D.failures writer.old) (D.failures writer.new)) }
+{
+    let (mut link, linked, seats) = match open(rt, alloc) {
+        Ok(opened) => opened,
+        Err(why) => return (Err(why), Some(reader)),
+    };
+    let mut watched = match begin(rt, alloc, &mut link, seats, watching.address) {
+        Ok(begun) => begun,
+        Err(why) => return (Err(why), Some(reader)),
+    };
+    let (lines, reading) = match read_on(rt, alloc, &linked, reader) {
+        Ok(started) => started,
+        Err(why) => return (Err(why), None),
+    };
+    let outcome = watched.run(
+        rt,
+        &linked,
+        &mut link,
+        &lines,
+        watching.idle_ms,
+        writer,
+        log,
+    );
+    lines.leave(rt);
+    let reader = if watched.terminal.has_ended {
+        Some(reading.join(rt))
+    } else {
+        drop(reading);
+        None
+    };
+    let closed = link.close(rt, &linked.client, &mut watched.connection);
+    (watched.outcome(outcome, closed), reader)
+}
