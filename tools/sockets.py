@@ -7,6 +7,7 @@ import emulating
 import handing
 import lacking
 import leaving
+import linking
 import many
 import refusing
 import serving
@@ -35,6 +36,7 @@ def sockets_parts(copy):
         sockets_part("serve, clients that write and go at once: {} connections", leaving.wrong_of, programs, room)
         sockets_part("emulate: {} sessions of many clients at once", emulating.wrong_of, programs, room)
         sockets_part("applications: {} talks over emulators", talking.wrong_of, copy, programs)
+        sockets_part("a link: {} sessions whose connections end", linking.wrong_of, copy)
         sockets_part("serve and connect: {} reads and writes that fail in turn", cutting.wrong_of, programs, room)
         sockets_part("serve and connect: {} sessions of many writes, of which none is lost", handing.wrong_of, programs, room)
         refuser = lacking.refuser(room)[0]

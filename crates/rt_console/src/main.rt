@@ -121,12 +121,7 @@ fn status_of_connection<R: Net + Wait + RandomSource, L: Log>(
 fn status_of_watching<
     R: Net + Wait + Threads + Clock + RandomSource + Clone + Drop + Send + 'static,
     L: Log,
->(
-    rt: &R,
-    system: &HostRuntime,
-    watching: Watching,
-    log: &mut L,
-) -> u8 {
+>(rt: &R, system: &HostRuntime, watching: Watching, log: &mut L) -> u8 {
     let reader = Reading::new(system.stdin());
     let mut writer = Writing::new(system.stdout());
     let (watched, reader) = watch(rt, system.alloc(), watching, reader, &mut writer, log);
@@ -146,12 +141,7 @@ fn status_of_watching<
 fn status_of_work<
     R: Net + Wait + Threads + Clock + RandomSource + Clone + Drop + Send + 'static,
     L: Log,
->(
-    rt: &R,
-    system: &HostRuntime,
-    work: Work,
-    log: &mut L,
-) -> u8 {
+>(rt: &R, system: &HostRuntime, work: Work, log: &mut L) -> u8 {
     match work {
         Work::Script => status_of_script(system, log),
         Work::Serve(serving) => status_of_serving(rt, system, serving, log),
