@@ -298,9 +298,15 @@ fn begin<R: Net + Clock + RandomSource + Clone + Drop>(
             standing: Standing::Opening,
             waits: 0,
         }),
-        Err(why) => {
+        Err(why @ Lost::Unreachable(_)) => {
             drop(terminal);
             Err(WatchFault::NotConnected { address, why })
+        }
+        // What a handshake says of an address is well-formed, so that only memory can lack for it.
+        Err(why) => {
+            drop(why);
+            drop(terminal);
+            Err(WatchFault::Ended(ConsoleError::NoMemory))
         }
     }
 }
