@@ -129,8 +129,11 @@ class Edit:
 
     def functions(self, folder):
         """The functions that the edit changes, each as a check's lines name it, or the end of that name."""
-        texts = {path: read(f"{folder}/{path}") for path, _, _ in self.pairs}
-        found = {function_at(path, texts[path], texts[path].find(old) + len(old)) for path, old, _ in self.pairs}
+        texts, found = {path: read(f"{folder}/{path}") for path, _, _ in self.pairs}, set()
+        for path, old, new in self.pairs:
+            # where it stands once those before it are made: before that it may stand elsewhere too
+            found.add(function_at(path, texts[path], texts[path].find(old) + len(old)))
+            texts[path] = texts[path].replace(old, new)
         return sorted(found - {None})
 
 

@@ -288,6 +288,11 @@ class Edits(unittest.TestCase):
         self.assertEqual((why, texts["src/lane.rt"]), ("", CODE.replace("self.waits < MOST", "true")))
         self.assertEqual((edit.name, edit.central, edit.functions(folder)), ("rt_mail/full", "no room", ["Lane::has_room"]))
 
+    def test_a_text_that_stands_once_behind_what_was_made_before(self):
+        edit, folder = self.made("file: src/lane.rt\nold: self.waits < MOST\nnew: true\nold: self.waits\nnew: self.others\n")
+        self.assertEqual(edit.applied({}, folder)[1], "")
+        self.assertEqual(edit.functions(folder), ["Lane::has_room", "Lane::put"])
+
     def test_that_does_not_apply(self):
         for text, why in (
             ("file: src/lane.rt\nold: false\nnew: true\n", ""),
