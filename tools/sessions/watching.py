@@ -293,7 +293,8 @@ def failing_streams(program):
 # ---- where memory lacks
 
 REFUSED = b"refused\n"  # what calls/refuse.c says where it refuses
-LACKING = (b"kaltewi: out of memory\n", b"error: out of memory\n")  # the second is what clap says
+NO_THREAD = b"kaltewi: the system refuses a thread, or what waiting needs: operation would block\n"  # it has no memory for one
+LACKING = (b"kaltewi: out of memory\n", b"error: out of memory\n", NO_THREAD)  # the second is what clap says
 LOOKS, LOOKED = '["cover"]\n' + LISTENS, "T none\ndone 1\n"
 PUSHED_OUT = 'L1 added "x" 5 after none\nL1 value {"x":5}\n'
 WHOLE = (LOOKED + PUSHED_OUT + "disconnected\n").encode()
@@ -327,7 +328,7 @@ def refused_at(program, library, number):
     if REFUSED not in err:
         must("how it ends with memory", (status, out, err), (0, WHOLE, b""))
     elif (status, out, err) not in ((0, WHOLE, REFUSED), (0, NO_HANDSHAKE, REFUSED)):
-        is_told = status == 1 and WHOLE.startswith(out) and out[-1:] in (b"", b"\n") and err.replace(REFUSED, b"", 1) in LACKING
+        is_told = status == 1 and WHOLE.startswith(out) and err.replace(REFUSED, b"", 1) in LACKING
         must(f"allocation {number} refused: {(status, out, err)}", is_told, True)
     return REFUSED in err
 

@@ -19,7 +19,7 @@ pub enum WatchFault {
     #[error("{address}: {why}")]
     NotConnected { address: SocketAddr, why: Lost },
     /// The system refuses a thread, or what waiting needs.
-    #[error("{0}")]
+    #[error("the system refuses a thread, or what waiting needs: {0}")]
     System(io::Error),
     /// The reader or the writer failed, or memory is lacking.
     #[error("{0}")]
