@@ -222,11 +222,12 @@ ADDED = [f"L1 added {part} after {before}" for part, before in (
 case(
     "a text of 1 MiB either way",
     [f'["set",1,"/b",{VALUE}]', LISTEN, read(2)],
-    ["done 1", "done 1", "done", *ADDED, f"L1 value {VALUE}", "done", "R1 ok"],
+    # so much waits for its answer: the client sends nothing behind it before
+    ["done 1", "done 1", "done", "R1 ok", "done", *ADDED, f"L1 value {VALUE}"],
     hear(put(1, "/b", VALUE)),
+    send(ok(1)),
     HEAR,
     ["parts", parts(data("/a", 1, VALUE), 1000)],
-    send(ok(1)),
     CLOSED,
 )
 
