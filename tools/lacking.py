@@ -178,6 +178,11 @@ def judged(row, program, is_told, ends):
     return count, unsaid, ""
 
 
+def is_as_many(unsaid, wanted, is_part):
+    """Whether so many refusals are unsaid as a row names: where a part of its allocations are refused, perhaps fewer."""
+    return unsaid == wanted or is_part and unsaid < wanted
+
+
 class Sweep:
     """The refusals of a row's allocations by a program, in tasks of a pool."""
 
@@ -191,7 +196,7 @@ class Sweep:
         def ends_of(piece):
             return in_copies(row, program, library, piece[0], piece[-1], room)[:-1] if is_whole else in_turn(row, program, library, piece)
 
-        self.due = len(numbers)
+        self.due, self.is_part = len(numbers), len(numbers) < count
         self.runs = [pool.submit(lambda piece=piece: judged(row, program, is_told, ends_of(piece))) for piece in pieces]
 
     def ended(self):
@@ -200,7 +205,7 @@ class Sweep:
         count, unsaid, wrong = sum(it[0] for it in ends), sum(it[1] for it in ends), next((it[2] for it in ends if it[2]), "")
         if not self.due:
             wrong = f"{self.row.name} takes no memory"
-        elif not wrong and (count, unsaid) != (self.due, self.row.unsaid):
+        elif not wrong and (count != self.due or not is_as_many(unsaid, self.row.unsaid, self.is_part)):
             wrong = f"{self.row.name}: of {count} refused allocations, {self.due} in all, no answer shows {unsaid}, not {self.row.unsaid}"
         return count, f"{wrong} ({os.path.basename(self.program)})" if wrong else ""
 

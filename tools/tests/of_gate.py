@@ -98,6 +98,10 @@ class Gate(unittest.TestCase):
         self.assertEqual(len(lacking.numbers_of(lacking.MOST + 1)), lacking.SOME + 1)
         self.assertEqual(list(lacking.numbers_of(0)), [])
 
+    def test_how_many_are_unsaid(self):
+        self.assertEqual([lacking.is_as_many(it, 2, False) for it in (1, 2, 3)], [False, True, False])
+        self.assertEqual([lacking.is_as_many(it, 2, True) for it in (1, 2, 3)], [True, True, False])
+
     def test_how_copies_ended(self):
         put = lacking.END.pack
         data = put(1, 2, 1, 1, 2) + b"cno" + put(2, lacking.SAME, 0, 0, 0) + put(3, lacking.WHOLE, 0, 0, 0)
