@@ -1,5 +1,5 @@
-//! A dashboard of a game with many players: the ten best, and how many play, as they change. Two queries bring
-//! what is shown, and no more of the players.
+//! A dashboard of a game with many players: the ten best, and how many play, as they change. Two queries
+//! bring what is shown, and no more of the players.
 //!
 //! ```text
 //! ./kaltewi emulate 8080  in a terminal of its own

@@ -36,8 +36,9 @@
 //! ```
 //!
 //! Each name has an example above the line that hands it on, in the module of its topic: `trees`, `queries`,
-//! `steps`, `client`, `link`, `told`, `messages`, `ids`, `errors`. They are quoted from the programs `example_calls`
-//! and `example_link`. There `rt` is the runtime that `main` is given, and `alloc` its allocator.
+//! `steps`, `client`, `link`, `told`, `messages`, `ids`, `errors`. They are quoted from the programs
+//! `example_calls` and `example_link`. There `rt` is the runtime that `main` is given, and `alloc` its
+//! allocator.
 //!
 //! `example_chat` and `example_threads` are whole programs over this crate. Each call's contract, which says
 //! all that it does, stands in the crate that it comes from; `docs/PROOFS.md` has them by crate.

@@ -105,7 +105,8 @@ passed_text (passed.Core why) = refusal_text (Core why)
 abbrev pub passed_texts : List Passed → List ℕ
 passed_texts passed = flat_map passed_text passed
 
--- once messages were taken, it is printed why any were passed over, and the seats are told what waits for them
+-- once messages were taken, it is printed why any were passed over, and the seats are told what waits for
+-- them
 pub record TellsNews (passed : List Passed) (old : Locked) (seats : Seats) (text : List ℕ) (new : Locked)
     (left : Seats) : Type 0 where
   pub tells : List ℕ
