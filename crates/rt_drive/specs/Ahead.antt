@@ -2,7 +2,7 @@
 use Rattle.std.specs.Prelude.{ℕ, ◌+◌, ◌-◌, ◌^◌, ◌==◌, ◌||◌, nat_le, min, length, Bool, true, false}
 use Rattle.std.specs.Prelude.{if◌then◌else◌, List, [], ◌∷◌, ◌++◌, drop, Option, Some, None, Result, Ok, Err}
 use Rattle.std.specs.Option.{option_map_or}
-use Rattle.std.specs.List.{list_any}
+use Rattle.std.specs.List.{fold, list_any}
 use Rattle.rt_wire.specs.Server.{server_message}
 use Rattle.rt_wire.specs.declared.client.ClientMessage.{ClientMessage}
 use Rattle.rt_wire.specs.declared.error.WireError.{WireError}
@@ -82,6 +82,10 @@ answered name a =
     then record a { due = (up_to name a.due).1; read = option_map_or (λ n. n) (up_to name a.due).0 a.read }
     else a
 
+-- answers of these names came, one after another
+abbrev pub all_answered : List Name → ReadAhead → ReadAhead
+all_answered names a = fold (λ b name. answered name b) a names
+
 -- ---- what was read ahead
 
 -- how many bytes a message has
@@ -110,7 +114,7 @@ without_first a = record a { kept = drop 1 a.kept }
 
 -- a text that is a message of the server answers; one that is none answers nothing
 abbrev pub noted : Result ServerMessage WireError → ReadAhead → ReadAhead
-noted (Ok m) a = answered (answered_by m) a
+noted (Ok m) a = all_answered (answered_by m) a
 noted (Err e) a = a
 
 abbrev pub noted_of : Told → ReadAhead → ReadAhead

@@ -2,9 +2,9 @@
 use Rattle.std.specs.Prelude.{ℕ, List, [], ◌∷◌, bytes_eq, codes, if◌then◌else◌, Option, Some, None}
 use Rattle.std.specs.Prelude.{option_map, option_and_then}
 use Rattle.serde_json.specs.Data.{Data as Json, Members}
-use Rattle.serde_json.specs.Find.{as_object, as_str}
+use Rattle.serde_json.specs.Find.{as_array, as_object, as_str}
 use Rattle.rt_lines.specs.Calls.{Call, calls_in}
-use Rattle.rt_lines.specs.Words.{named_in, random_in, seat_in, whole}
+use Rattle.rt_lines.specs.Words.{elements, named_in, random_in, seat_in, whole}
 
 -- what a write sets: a value at a path, several values at their paths, or nothing at a path
 pub data Written : Type 0 where
@@ -22,6 +22,7 @@ pub data Form : Type 0 where
   Close : ℕ → Form
   Data : ℕ → List ℕ → Json → Form
   Merge : ℕ → Members → Form
+  Parts : List (ℕ × Members) → Form
   Accepted : ℕ → Form
   Refused : ℕ → List ℕ → Form
   Revoked : ℕ → List ℕ → Form
@@ -115,6 +116,29 @@ merge_form (tag ∷ entries ∷ []) =
     option_and_then (λ n. option_map (Merge n) (as_object entries)) (whole tag)
 merge_form _ = None
 
+-- a part: `[tag,{path:value,..}]`
+abbrev pub part_words : List Json → Option (ℕ × Members)
+part_words (tag ∷ entries ∷ []) =
+    option_and_then (λ n. option_map (λ ms. (n, ms)) (as_object entries)) (whole tag)
+part_words _ = None
+
+abbrev pub part_in : Json → Option (ℕ × Members)
+part_in d = option_and_then (λ ds. part_words (elements ds)) (as_array d)
+
+-- the parts that JSON values are, if each is one
+abbrev pub all_parts : List Json → Option (List (ℕ × Members))
+all_parts [] = Some []
+all_parts (d ∷ ds) = option_and_then (λ part. option_map (λ parts. part ∷ parts) (all_parts ds)) (part_in d)
+
+-- the parts of an array, if each of its values is one
+abbrev pub parts_in : Json → Option (List (ℕ × Members))
+parts_in d = option_and_then (λ ds. all_parts (elements ds)) (as_array d)
+
+-- `["parts",[[tag,{path:value,..}],..]]`
+abbrev pub parts_form : List Json → Option Form
+parts_form (parts ∷ []) = option_map Parts (parts_in parts)
+parts_form _ = None
+
 -- `["ok",id]`
 abbrev pub ok_form : List Json → Option Form
 ok_form (id ∷ []) = option_map Accepted (whole id)
@@ -189,7 +213,9 @@ seat_named name words =
 
 abbrev pub form_named : List ℕ → List Json → Option Form
 form_named name words =
-    if bytes_eq name (codes "listen") then listen_form words else seat_named name words
+    if bytes_eq name (codes "listen") then listen_form words
+    else if bytes_eq name (codes "parts") then parts_form words
+    else seat_named name words
 
 -- the form that a JSON value has, if it has one
 abbrev pub form_in : Json → Option Form

@@ -18,7 +18,7 @@ use Rattle.rt_lines.specs.declared.line.Line.{Line}
 use Rattle.rt_lines.specs.declared.line.Line.TheVariants as line
 use Rattle.rt_lines.specs.Forms.{Form, form_in}
 use Rattle.rt_lines.specs.Forms as form
-use Rattle.rt_lines.specs.Reading.{and_then, path_in, tree_in, entries_in, action_in}
+use Rattle.rt_lines.specs.Reading.{and_then, path_in, tree_in, entries_in, parts_read, action_in}
 use Rattle.rt_lines.specs.Drafts.{query_in}
 
 -- the step of a message of the server that was read, or why there is none
@@ -47,6 +47,7 @@ line_in (form.Close seat) = makes (step.CloseSeat seat)
 line_in (form.Data tag path value) =
     and_then (path_in path) (λ p. and_then (tree_in value) (λ t. makes (step.Data tag p t)))
 line_in (form.Merge tag ms) = and_then (entries_in ms) (λ entries. makes (step.DataMerge tag entries))
+line_in (form.Parts ps) = and_then (parts_read ps) (λ parts. makes (step.Push parts))
 line_in (form.Accepted id) = makes (step.Accepted id)
 line_in (form.Refused id why) = makes (step.Refused id why)
 line_in (form.Revoked tag why) = makes (step.Revoked tag why)

@@ -45,6 +45,7 @@ order_in (form.Close seat) = Ok (order.Close seat)
 order_in form.Cover = Ok order.Cover
 order_in (form.Data tag path value) = Err Bad
 order_in (form.Merge tag ms) = Err Bad
+order_in (form.Parts ps) = Err Bad
 order_in (form.Accepted id) = Err Bad
 order_in (form.Refused id why) = Err Bad
 order_in (form.Revoked tag why) = Err Bad

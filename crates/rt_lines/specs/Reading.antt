@@ -1,4 +1,4 @@
--- Paths, trees and entries of a line; each that is no path or no tree refuses the line.
+-- Paths, trees, entries and parts of a line; each that is no path or no tree refuses the line.
 use Rattle.std.specs.Prelude.{ℕ, List, [], ◌∷◌, Option, Some, None, Result, Ok, Err}
 use Rattle.std.specs.Option.{option_map_or}
 use Rattle.serde_json.specs.Data.{Data as Json, Members, no_members, member}
@@ -9,6 +9,7 @@ use Rattle.rt_tree.specs.PathTree.{Path, PathTree, leaf_of, null}
 use Rattle.rt_tree.specs.Reading.{tree_of_data, data_fault}
 use Rattle.rt_order.specs.declared.cut.Mark.{Mark}
 use Rattle.rt_order.specs.declared.cut.Mark.TheVariants as mark
+use Rattle.rt_wire.specs.Parts.{Part}
 use Rattle.rt_wire.specs.declared.request.Action.{Action}
 use Rattle.rt_wire.specs.declared.request.Action.TheVariants.{Put, Merge}
 use Rattle.rt_lines.specs.declared.error.LineError.{LineError}
@@ -50,6 +51,12 @@ abbrev pub entries_in : Members → Result (List Assignment) LineError
 entries_in no_members = Ok []
 entries_in (member name d ms) =
     and_then (path_in name) (λ path. and_then (tree_in d) (λ tree. in_front path tree (entries_in ms)))
+
+-- parts, in their order: of each the entries
+abbrev pub parts_read : List (ℕ × Members) → Result (List Part) LineError
+parts_read [] = Ok []
+parts_read (p ∷ ps) =
+    and_then (entries_in p.1) (λ entries. and_then (parts_read ps) (λ parts. Ok ((p.0, entries) ∷ parts)))
 
 -- what a write sets
 abbrev pub action_in : Written → Result Action LineError

@@ -1,6 +1,6 @@
 -- What each call of a peer leaves, and what it sends.
 use Rattle.std.specs.Prelude.{ℕ, Bool, true, false, not, ◌==◌, ◌||◌, if◌then◌else◌, List, [], ◌∷◌, ◌++◌, map}
-use Rattle.std.specs.Prelude.{Option, Some, None, codes, nat_lt}
+use Rattle.std.specs.Prelude.{Option, Some, None, codes, nat_lt, nat_le}
 use Rattle.std.specs.List.{filter, list_any}
 use Rattle.rt_tree.specs.PathTree.{Path}
 use Rattle.rt_tree.specs.Assignments.{Assignment, have_overlap, is_at_or_above}
@@ -9,7 +9,7 @@ use Rattle.rt_wire.specs.declared.request.Ending.TheVariants.{Run, Cancel}
 use Rattle.rt_wire.specs.declared.request.Asked.{Asked}
 use Rattle.rt_wire.specs.declared.request.Asked.TheVariants.{Now, AtDisconnect}
 use Rattle.rt_wire.specs.declared.client.ClientMessage.{ClientMessage}
-use Rattle.rt_wire.specs.declared.client.ClientMessage.TheVariants.{Listen as ListenTo, Unlisten, Ask}
+use Rattle.rt_wire.specs.declared.client.ClientMessage.TheVariants.{Hello, Listen as ListenTo, Unlisten, Ask}
 use Rattle.rt_wire.specs.declared.server.ServerMessage.{ServerMessage}
 use Rattle.rt_wire.specs.declared.server.ServerMessage.TheVariants.{Data, Accepted, Refused, Revoked}
 use Rattle.rt_peer.specs.declared.error.PeerError.{PeerError}
@@ -17,7 +17,7 @@ use Rattle.rt_peer.specs.declared.error.PeerError.TheVariants.{Failed, UnknownCo
 use Rattle.rt_peer.specs.declared.sent.Sent.{Sent}
 use Rattle.rt_peer.specs.Peers.{Deferred, Peer, in_place, is_known, least_free, is_denied}
 use Rattle.rt_peer.specs.Peers.{stands_too_deep, is_before, runs_before, is_at}
-use Rattle.rt_peer.specs.Pushes.{written, seen, pushes, tree_after, pushes_after}
+use Rattle.rt_peer.specs.Pushes.{written, seen, pushes, bundled, tree_after, pushes_after}
 pub use Rattle.rt_wire.specs.Actions.{entries_of}
 
 abbrev pub is_empty : List Assignment → Bool
@@ -37,6 +37,17 @@ one n message = record { to = n; message = message } ∷ []
 -- a connection with the least free number
 abbrev pub connected : Peer → Peer
 connected p = record p { connections = in_place nat_lt (least_free p.connections) p.connections }
+
+-- ---- versions
+
+-- the numbers with this one, in its place, or without it
+abbrev pub marked : Bool → ℕ → List ℕ → List ℕ
+marked true n numbers = in_place nat_lt n (filter (λ m. not (m == n)) numbers)
+marked false n numbers = filter (λ m. not (m == n)) numbers
+
+-- from now on the connection reads version 2 where it says 2 or more, else version 1; nothing is sent
+abbrev pub greeted : Peer → ℕ → ℕ → Outcome
+greeted p n version = (record p { newer = marked (nat_le 2 version) n p.newer }, [])
 
 -- ---- listens
 
@@ -80,7 +91,7 @@ unless_refused (Some why) p n id outcome = (p, one n (Refused id why))
 abbrev pub wrote : Peer → ℕ → ℕ → List Assignment → Outcome
 wrote p n id entries = (
   record p { tree = written p.tree entries },
-  pushes p.tree (written p.tree entries) entries p.listens ++ one n (Accepted id),
+  bundled p.newer (pushes p.tree (written p.tree entries) entries p.listens) ++ one n (Accepted id),
 )
 
 -- an action is kept, behind those of its number, and answered `ok`
@@ -126,6 +137,7 @@ asked p n id (AtDisconnect (Cancel path)) = cancelled p n id path
 
 -- a message of a known connection
 abbrev pub answered : Peer → ℕ → ClientMessage → Outcome
+answered p n (Hello version) = greeted p n version
 answered p n (ListenTo tag query) = listened p n tag query
 answered p n (Unlisten tag) = unlistened p n tag
 answered p n (Ask id asked') = asked p n id asked'
@@ -140,6 +152,7 @@ ended p n = record {
   tree = p.tree;
   denied = p.denied;
   connections = filter (λ m. not (m == n)) p.connections;
+  newer = filter (λ m. not (m == n)) p.newer;
   listens = filter (λ l. not (l.connection == n)) p.listens;
   actions = filter (λ a. not (a.connection == n)) p.actions;
 }
@@ -147,7 +160,7 @@ ended p n = record {
 abbrev pub disconnected : Peer → ℕ → Outcome
 disconnected p n = (
   record (ended p n) { tree = tree_after p.tree (actions_of p n) },
-  pushes_after (ended p n).listens p.tree (actions_of p n),
+  pushes_after (ended p n).newer (ended p n).listens p.tree (actions_of p n),
 )
 
 -- ---- refusals

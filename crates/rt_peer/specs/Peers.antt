@@ -1,5 +1,5 @@
--- What a peer holds: its tree, the denied paths, the known connections, their listens, and what is to
--- be done when they end.
+-- What a peer holds: its tree, the denied paths, the known connections and which of them read messages
+-- of version 2, their listens, and what is to be done when they end.
 use Rattle.std.specs.Prelude.{ℕ, ◌+◌, Bool, not, ◌==◌, ◌&&◌, ◌||◌, nat_lt, if◌then◌else◌, List, []}
 use Rattle.std.specs.Prelude.{◌∷◌, ◌++◌}
 use Rattle.std.specs.List.{filter, fold, list_any}
@@ -20,18 +20,20 @@ pub record Deferred : Type 0 where
   pub id : ℕ
   pub entries : List Assignment
 
--- the connections by number, the listens by connection and tag, the actions by connection and number
+-- the connections by number, and by number those that read version 2; the listens by connection and
+-- tag, the actions by connection and number
 pub record Peer : Type 0 where
   pub tree : PathTree
   pub denied : List Path
   pub connections : List ℕ
+  pub newer : List ℕ
   pub listens : List Listen
   pub actions : List Deferred
 
 -- a peer of a tree, with no connection
 abbrev pub new_peer : PathTree → List Path → Peer
 new_peer tree denied =
-    record { tree = tree; denied = denied; connections = []; listens = []; actions = [] }
+    record { tree = tree; denied = denied; connections = []; newer = []; listens = []; actions = [] }
 
 -- x behind those that it doesn't come before, and in front of the others
 abbrev pub in_place : {X : Type 0} → (X → X → Bool) → X → List X → List X

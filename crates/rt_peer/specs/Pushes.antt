@@ -1,5 +1,5 @@
 -- What listens show, and what they are sent when a write changes that.
-use Rattle.std.specs.Prelude.{ℕ, Bool, not, ◌||◌, if◌then◌else◌, List, [], ◌∷◌, ◌++◌, map}
+use Rattle.std.specs.Prelude.{ℕ, Bool, not, ◌==◌, ◌&&◌, ◌||◌, if◌then◌else◌, List, [], ◌∷◌, ◌++◌, map}
 use Rattle.std.specs.List.{filter, fold, list_any}
 use Rattle.rt_tree.specs.PathTree.{Path, PathTree, sub, put}
 use Rattle.rt_tree.specs.Trees.{tree_eq}
@@ -7,9 +7,11 @@ use Rattle.rt_tree.specs.Assignments.{Assignment, is_at_or_above}
 use Rattle.rt_query.specs.Queries.{Query, is_filtered}
 use Rattle.rt_query.specs.Select.{select, tree_of}
 use Rattle.rt_wire.specs.declared.server.ServerMessage.{ServerMessage}
-use Rattle.rt_wire.specs.declared.server.ServerMessage.TheVariants.{Data, DataMerge}
+use Rattle.rt_wire.specs.declared.server.ServerMessage.TheVariants.{Data, DataMerge, Push}
+use Rattle.rt_wire.specs.declared.server.ServerMessage.TheVariants.{Accepted, Refused, Revoked}
+use Rattle.rt_wire.specs.Parts.{Part}
 use Rattle.rt_peer.specs.declared.sent.Sent.{Sent}
-use Rattle.rt_peer.specs.Peers.{Listen, Deferred}
+use Rattle.rt_peer.specs.Peers.{Listen, Deferred, is_known}
 
 -- the tree after some entries, one put after another
 abbrev pub written : PathTree → List Assignment → PathTree
@@ -47,13 +49,40 @@ pushes t u entries listens =
     map (λ l. record { to = l.connection; message = push_of u entries l })
     (filter (is_changed t u) listens)
 
+-- the parts of a message that pushes
+abbrev pub parts_in : ServerMessage → List Part
+parts_in (Data tag path tree) = (tag, (path, tree) ∷ []) ∷ []
+parts_in (DataMerge tag entries) = (tag, entries) ∷ []
+parts_in (Push parts) = parts
+parts_in (Accepted id) = []
+parts_in (Refused id why) = []
+parts_in (Revoked tag why) = []
+
+-- whether two are for one connection, which reads version 2
+abbrev pub go_together : List ℕ → Sent → Sent → Bool
+go_together newer s r = s.to == r.to && is_known newer s.to
+
+-- one push with the parts of both
+abbrev pub together : Sent → Sent → Sent
+together s r = record { to = s.to; message = Push (parts_in s.message ++ parts_in r.message) }
+
+-- a message in front of others, as one with the next where they go together
+abbrev pub joined : List ℕ → Sent → List Sent → List Sent
+joined newer s [] = s ∷ []
+joined newer s (r ∷ rest) = if go_together newer s r then together s r ∷ rest else s ∷ r ∷ rest
+
+-- pushes, by connection, as they are sent: to one that reads version 2, several as one
+abbrev pub bundled : List ℕ → List Sent → List Sent
+bundled newer [] = []
+bundled newer (s ∷ rest) = joined newer s (bundled newer rest)
+
 -- the tree after some actions
 abbrev pub tree_after : PathTree → List Deferred → PathTree
 tree_after t actions = fold (λ u a. written u a.entries) t actions
 
 -- what the listens are sent, one action after another
-abbrev pub pushes_after : List Listen → PathTree → List Deferred → List Sent
-pushes_after listens t [] = []
-pushes_after listens t (a ∷ actions) =
-    pushes t (written t a.entries) a.entries listens
-    ++ pushes_after listens (written t a.entries) actions
+abbrev pub pushes_after : List ℕ → List Listen → PathTree → List Deferred → List Sent
+pushes_after newer listens t [] = []
+pushes_after newer listens t (a ∷ actions) =
+    bundled newer (pushes t (written t a.entries) a.entries listens)
+    ++ pushes_after newer listens (written t a.entries) actions

@@ -6,9 +6,9 @@ use Rattle.rt_tree.specs.Assignments.{Assignment}
 use Rattle.rt_wire.specs.declared.request.Asked.{Asked}
 use Rattle.rt_wire.specs.declared.request.Asked.TheVariants.{Now, AtDisconnect}
 use Rattle.rt_wire.specs.declared.client.ClientMessage.{ClientMessage}
-use Rattle.rt_wire.specs.declared.client.ClientMessage.TheVariants.{Listen, Unlisten, Ask}
+use Rattle.rt_wire.specs.declared.client.ClientMessage.TheVariants.{Hello, Listen, Unlisten, Ask}
 use Rattle.rt_wire.specs.declared.server.ServerMessage.{ServerMessage}
-use Rattle.rt_wire.specs.declared.server.ServerMessage.TheVariants.{Data, DataMerge, Accepted}
+use Rattle.rt_wire.specs.declared.server.ServerMessage.TheVariants.{Data, DataMerge, Push, Accepted}
 use Rattle.rt_wire.specs.declared.server.ServerMessage.TheVariants.{Refused, Revoked}
 use Rattle.rt_peer.specs.declared.sent.Sent.{Sent}
 use Rattle.rt_peer.specs.Peers.{Peer, is_known}
@@ -41,6 +41,7 @@ sent_all p (call ∷ calls) = (outcome p call).1 ++ sent_all (outcome p call).0 
 abbrev pub says_no : ℕ → ServerMessage → Bool
 says_no id (Data tag path tree) = false
 says_no id (DataMerge tag entries) = false
+says_no id (Push parts) = false
 says_no id (Accepted i) = false
 says_no id (Refused i why) = i == id
 says_no id (Revoked tag why) = false
@@ -56,6 +57,7 @@ written_by refused (AtDisconnect ending) = []
 
 -- what a message writes, given what was sent for it
 abbrev pub message_writes : ℕ → ClientMessage → List Sent → List Assignment
+message_writes n (Hello version) sent = []
 message_writes n (Listen tag query) sent = []
 message_writes n (Unlisten tag) sent = []
 message_writes n (Ask id asked) sent = written_by (is_refused n id sent) asked

@@ -1,3 +1,5 @@
 pub mod Examples
 pub mod Orders
+pub mod Pushed
 pub mod Runs
+pub mod Versions

@@ -15,7 +15,7 @@ use Rattle.rt_wire.specs.declared.request.Ending.TheVariants.{Run, Cancel}
 use Rattle.rt_wire.specs.declared.request.Asked.{Asked}
 use Rattle.rt_wire.specs.declared.request.Asked.TheVariants.{Now, AtDisconnect}
 use Rattle.rt_wire.specs.declared.client.ClientMessage.{ClientMessage}
-use Rattle.rt_wire.specs.declared.client.ClientMessage.TheVariants.{Listen, Unlisten, Ask}
+use Rattle.rt_wire.specs.declared.client.ClientMessage.TheVariants.{Hello, Listen, Unlisten, Ask}
 use Rattle.rt_wire.specs.Fields.{field, any_of, number_of, path_of, tree_of, with, made}
 use Rattle.rt_wire.specs.EntryFields.{entries_of, trees_of}
 use Rattle.rt_wire.specs.QueryFields.{query_of}
@@ -41,8 +41,11 @@ merge_in d = with (field entries_of (codes "entries") d) (λ places.
 abbrev pub ask : Data → Result Asked WireError → Result ClientMessage WireError
 ask d asked = with (field number_of (codes "id") d) (λ id. made asked (λ a. Ask id a))
 
--- ---- the message of each kind: `listen`, `unlisten`, `put`, `merge`, `od-put`, `od-merge` and
--- `od-cancel`
+-- ---- the message of each kind: `hello`, `listen`, `unlisten`, `put`, `merge`, `od-put`, `od-merge`
+-- and `od-cancel`
+abbrev pub hello_in : Data → Result ClientMessage WireError
+hello_in d = with (field number_of (codes "version") d) (λ version. Ok (Hello version))
+
 abbrev pub listen_in : Data → Result ClientMessage WireError
 listen_in d =
     with (field number_of (codes "tag") d) (λ tag. with (field path_of (codes "path") d) (λ path.
@@ -71,7 +74,8 @@ od_cancel_message d =
 -- the message of that kind
 abbrev pub client_of_kind : List ℕ → Data → Result ClientMessage WireError
 client_of_kind kind d =
-    if bytes_eq kind (codes "listen") then listen_in d
+    if bytes_eq kind (codes "hello") then hello_in d
+    else if bytes_eq kind (codes "listen") then listen_in d
     else if bytes_eq kind (codes "unlisten") then unlisten_in d
     else if bytes_eq kind (codes "put") then put_message d
     else if bytes_eq kind (codes "merge") then merge_message d

@@ -8,7 +8,7 @@ use Rattle.rt_wire.specs.declared.request.Action.TheVariants.{Put, Merge}
 use Rattle.rt_wire.specs.declared.request.Ending.TheVariants.{Run, Cancel}
 use Rattle.rt_wire.specs.declared.request.Asked.TheVariants.{Now, AtDisconnect}
 use Rattle.rt_wire.specs.declared.client.ClientMessage.{ClientMessage}
-use Rattle.rt_wire.specs.declared.client.ClientMessage.TheVariants.{Listen, Unlisten, Ask}
+use Rattle.rt_wire.specs.declared.client.ClientMessage.TheVariants.{Hello, Listen, Unlisten, Ask}
 use Rattle.rt_wire.specs.FieldData.{kind, number_field, path_field, tree_field, entries_field}
 use Rattle.rt_wire.specs.FieldData.{object_of}
 use Rattle.rt_wire.specs.QueryData.{query_field}
@@ -26,6 +26,7 @@ action_data id put merge (Merge entries) =
     object_of (entries_field entries ∷ number_field (codes "id") id ∷ kind merge ∷ [])
 
 abbrev pub client_data : ClientMessage → Data
+client_data (Hello version) = object_of (kind (codes "hello") ∷ number_field (codes "version") version ∷ [])
 client_data (Listen tag query) = listen_data tag query
 client_data (Unlisten tag) = object_of (kind (codes "unlisten") ∷ number_field (codes "tag") tag ∷ [])
 client_data (Ask id (Now action)) = action_data id (codes "put") (codes "merge") action

@@ -18,7 +18,7 @@ field f name message = option_and_then f (get name message)
 abbrev pub any_of : Data → Option Data
 any_of d = Some d
 
--- a tag, or the number of a request: a whole number from 1 to the largest
+-- a tag, the number of a request, or a version: a whole number from 1 to the largest
 abbrev pub in_range : ℕ → Option ℕ
 in_range n = if nat_le 1 n && nat_le n MAX_NUMBER then Some n else None
 

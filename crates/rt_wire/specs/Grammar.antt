@@ -2,8 +2,8 @@
 -- refused; `Server` and `Client` have the message that a text says as a function, and the order of
 -- the faults.
 use Rattle.std.specs.Prelude.{◌≡◌, ℕ, ◌<◌, true, List, [], ◌∷◌, length, codes, Option, Some, None, Ok}
-use Rattle.serde_json.specs.Data.{Data, Members, no_members, member}
-use Rattle.serde_json.specs.Find.{get, as_object, as_str}
+use Rattle.serde_json.specs.Data.{Data, Items, no_items, item, Members, no_members, member}
+use Rattle.serde_json.specs.Find.{get, as_array, as_object, as_str}
 use Rattle.serde_json.specs.Read.{read}
 use Rattle.rt_tree.specs.PathTree.{Path, PathTree}
 use Rattle.rt_tree.specs.Assignments.{Assignment}
@@ -15,7 +15,8 @@ use Rattle.rt_wire.specs.declared.request.Action.TheVariants.{Put, Merge}
 use Rattle.rt_wire.specs.declared.request.Ending.TheVariants.{Run, Cancel}
 use Rattle.rt_wire.specs.declared.request.Asked.TheVariants.{Now, AtDisconnect}
 use Rattle.rt_wire.specs.declared.client.ClientMessage.{ClientMessage}
-use Rattle.rt_wire.specs.declared.client.ClientMessage.TheVariants.{Listen, Unlisten, Ask}
+use Rattle.rt_wire.specs.declared.client.ClientMessage.TheVariants.{Hello, Listen, Unlisten, Ask}
+use Rattle.rt_wire.specs.Parts.{Part}
 use Rattle.rt_wire.specs.Fields.{field, number_of, path_of, path_of_text, reason_of, tree_of}
 use Rattle.rt_wire.specs.QueryFields.{index_of, cut_of, limit_of, if_there}
 use Rattle.rt_wire.specs.Server.{server_message}
@@ -52,6 +53,18 @@ abbrev pub HasEntries : List Assignment → Data → Type 0
 HasEntries entries d = (ms : Members) × (field as_object (codes "entries") d ≡ Some ms)
     × (0 < length entries) × AreSaid ms entries
 
+-- a part for each element, in the same order: its tag and its entries
+abbrev pub ArePartsSaid : Items → List Part → Type 0
+ArePartsSaid no_items [] = Unit {0}
+ArePartsSaid no_items (p ∷ ps) = ⊥
+ArePartsSaid (item d ds) [] = ⊥
+ArePartsSaid (item d ds) (p ∷ ps) = HasNumber (codes "tag") p.0 d × HasEntries p.1 d × ArePartsSaid ds ps
+
+-- at least one
+abbrev pub HasParts : List Part → Data → Type 0
+HasParts parts d = (ds : Items) × (field as_array (codes "parts") d ≡ Some ds) × (0 < length parts)
+    × ArePartsSaid ds parts
+
 -- what a listen asks for: all of a path, or what `q` has of an order, a range and a limit
 abbrev pub IsSaidByQ : Query → Data → Type 0
 IsSaidByQ query q =
@@ -73,6 +86,7 @@ SaysServer (server.Data tag path tree) d =
     IsOfKind (codes "data") d × HasNumber (codes "tag") tag d × HasPath path d × HasTree tree d
 SaysServer (server.DataMerge tag entries) d =
     IsOfKind (codes "data-merge") d × HasNumber (codes "tag") tag d × HasEntries entries d
+SaysServer (server.Push parts) d = IsOfKind (codes "push") d × HasParts parts d
 SaysServer (server.Accepted id) d = IsOfKind (codes "ok") d × HasNumber (codes "id") id d
 SaysServer (server.Refused id why) d = IsOfKind (codes "no") d × HasNumber (codes "id") id d
     × HasReason why d
@@ -91,6 +105,7 @@ SaysAction put merge (Put path tree) d = IsOfKind put d × HasPath path d × Has
 SaysAction put merge (Merge entries) d = IsOfKind merge d × HasEntries entries d
 
 abbrev pub SaysClient : ClientMessage → Data → Type 0
+SaysClient (Hello version) d = IsOfKind (codes "hello") d × HasNumber (codes "version") version d
 SaysClient (Listen tag query) d = IsOfKind (codes "listen") d × HasNumber (codes "tag") tag d
     × HasQuery query d
 SaysClient (Unlisten tag) d = IsOfKind (codes "unlisten") d × HasNumber (codes "tag") tag d

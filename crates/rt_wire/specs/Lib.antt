@@ -4,6 +4,8 @@ pub mod Errors
 pub mod Actions
 pub mod Fields
 pub mod EntryFields
+pub mod Parts
+pub mod PartFields
 pub mod Server
 pub mod FieldData
 pub mod ServerData

@@ -1,5 +1,5 @@
 -- Which messages are read back from their texts, and as what.
-use Rattle.std.specs.Prelude.{◌≡◌, ℕ, ◌<◌, ◌≤◌, true, false, List, length, None, IfSome, Ok}
+use Rattle.std.specs.Prelude.{◌≡◌, ℕ, ◌<◌, ◌≤◌, true, false, List, [], ◌∷◌, length, None, IfSome, Ok}
 use Rattle.std.specs.List.{AllByRecursion}
 use Rattle.std.specs.List.Sorted.{IsPermutation}
 use Rattle.rt_tree.specs.PathTree.{PathTree}
@@ -9,21 +9,22 @@ use Rattle.rt_query.specs.Queries.{Query}
 use Rattle.rt_query.specs.Supply.{form}
 use Rattle.rt_wire.specs.declared.limits.TheConstants.{MAX_NUMBER, MAX_REASON_BYTES}
 use Rattle.rt_wire.specs.declared.server.ServerMessage.{ServerMessage}
-use Rattle.rt_wire.specs.declared.server.ServerMessage.TheVariants.{Data, DataMerge, Accepted}
+use Rattle.rt_wire.specs.declared.server.ServerMessage.TheVariants.{Data, DataMerge, Push, Accepted}
 use Rattle.rt_wire.specs.declared.server.ServerMessage.TheVariants.{Refused, Revoked}
+use Rattle.rt_wire.specs.Parts.{Part}
 use Rattle.rt_wire.specs.Server.{server_message}
 use Rattle.rt_wire.specs.declared.request.Action.{Action}
 use Rattle.rt_wire.specs.declared.request.Action.TheVariants.{Put, Merge}
 use Rattle.rt_wire.specs.declared.request.Ending.TheVariants.{Run, Cancel}
 use Rattle.rt_wire.specs.declared.request.Asked.TheVariants.{Now, AtDisconnect}
 use Rattle.rt_wire.specs.declared.client.ClientMessage.{ClientMessage}
-use Rattle.rt_wire.specs.declared.client.ClientMessage.TheVariants.{Listen, Unlisten, Ask}
+use Rattle.rt_wire.specs.declared.client.ClientMessage.TheVariants.{Hello, Listen, Unlisten, Ask}
 use Rattle.rt_wire.specs.QueryFields.{may_cut}
 use Rattle.rt_wire.specs.Client.{client_message}
 
 -- ---- parts within their limits
 
--- a tag, or the number of a request
+-- a tag, the number of a request, or a version
 abbrev pub IsNumber : ℕ → Type 0
 IsNumber n = (1 ≤ n) × (n ≤ MAX_NUMBER)
 
@@ -35,6 +36,10 @@ IsReadable tree = back_fault tree ≡ None
 abbrev pub AreEntries : List Assignment → Type 0
 AreEntries entries = (0 < length entries) × (have_overlap entries ≡ false)
     × AllByRecursion (λ entry. IsReadable entry.1) entries
+
+-- at least one part; two may have one tag
+abbrev pub AreParts : List Part → Type 0
+AreParts parts = (0 < length parts) × AllByRecursion (λ p. IsNumber p.0 × AreEntries p.1) parts
 
 -- a reason
 abbrev pub IsShort : List ℕ → Type 0
@@ -58,15 +63,24 @@ IsReadableAction (Merge entries) = AreEntries entries
 abbrev pub IsServerMessage : ServerMessage → Type 0
 IsServerMessage (Data tag path tree) = IsNumber tag × IsReadable tree
 IsServerMessage (DataMerge tag entries) = IsNumber tag × AreEntries entries
+IsServerMessage (Push parts) = AreParts parts
 IsServerMessage (Accepted id) = IsNumber id
 IsServerMessage (Refused id why) = IsNumber id × IsShort why
 IsServerMessage (Revoked tag why) = IsNumber tag × IsShort why
+
+-- the tags in the same order, each with its entries in any order
+abbrev pub AreSameParts : List Part → List Part → Type 0
+AreSameParts [] [] = Unit {0}
+AreSameParts [] (q ∷ qs) = ⊥
+AreSameParts (p ∷ ps) [] = ⊥
+AreSameParts (p ∷ ps) (q ∷ qs) = (q.0 ≡ p.0) × IsPermutation p.1 q.1 × AreSameParts ps qs
 
 -- n is m up to the order of the entries
 abbrev pub IsServerSame : ServerMessage → ServerMessage → Type 0
 IsServerSame (Data tag path tree) n = n ≡ Data tag path tree
 IsServerSame (DataMerge tag entries) n = (others : List Assignment) × IsPermutation entries others
     × (n ≡ DataMerge tag others)
+IsServerSame (Push parts) n = (others : List Part) × AreSameParts parts others × (n ≡ Push others)
 IsServerSame (Accepted id) n = n ≡ Accepted id
 IsServerSame (Refused id why) n = n ≡ Refused id why
 IsServerSame (Revoked tag why) n = n ≡ Revoked tag why
@@ -79,6 +93,7 @@ IsServerText m text = (n : ServerMessage) × (server_message text ≡ Ok n) × I
 
 -- each part is within its limits
 abbrev pub IsClientMessage : ClientMessage → Type 0
+IsClientMessage (Hello version) = IsNumber version
 IsClientMessage (Listen tag query) = IsNumber tag × IsListened query
 IsClientMessage (Unlisten tag) = IsNumber tag
 IsClientMessage (Ask id (Now action)) = IsNumber id × IsReadableAction action
@@ -93,6 +108,7 @@ IsSameAction (Merge entries) b = (others : List Assignment) × IsPermutation ent
 
 -- n is m up to the order of the entries
 abbrev pub IsClientSame : ClientMessage → ClientMessage → Type 0
+IsClientSame (Hello version) n = n ≡ Hello version
 IsClientSame (Listen tag query) n = n ≡ Listen tag query
 IsClientSame (Unlisten tag) n = n ≡ Unlisten tag
 IsClientSame (Ask id (Now action)) n = (b : Action) × IsSameAction action b × (n ≡ Ask id (Now b))

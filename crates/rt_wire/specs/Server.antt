@@ -7,12 +7,13 @@ use Rattle.serde_json.specs.Read.{read}
 use Rattle.rt_wire.specs.declared.error.WireError.{WireError}
 use Rattle.rt_wire.specs.declared.error.WireError.TheVariants.{NotJson, UnknownKind}
 use Rattle.rt_wire.specs.declared.server.ServerMessage.{ServerMessage}
-use Rattle.rt_wire.specs.declared.server.ServerMessage.TheVariants.{Data as DataMessage, DataMerge}
+use Rattle.rt_wire.specs.declared.server.ServerMessage.TheVariants.{Data as DataMessage, DataMerge, Push}
 use Rattle.rt_wire.specs.declared.server.ServerMessage.TheVariants.{Accepted, Refused, Revoked}
 use Rattle.rt_wire.specs.Fields.{field, any_of, number_of, path_of, reason_of, tree_of, with, made}
 use Rattle.rt_wire.specs.EntryFields.{entries_of, trees_of}
+use Rattle.rt_wire.specs.PartFields.{parts_of, part_trees}
 
--- ---- the message of each kind: `data`, `data-merge`, `ok`, `no` and `revoke`
+-- ---- the message of each kind: `data`, `data-merge`, `push`, `ok`, `no` and `revoke`
 abbrev pub data_in : Data → Result ServerMessage WireError
 data_in d =
     with (field number_of (codes "tag") d) (λ tag. with (field path_of (codes "path") d) (λ path.
@@ -24,6 +25,11 @@ data_merge_in d =
     with (field number_of (codes "tag") d) (λ tag. with (field entries_of (codes "entries") d)
     (λ places.
     made (trees_of places) (λ entries. DataMerge tag entries)))
+
+-- all fields of all parts are looked at before any tree
+abbrev pub push_in : Data → Result ServerMessage WireError
+push_in d =
+    with (field parts_of (codes "parts") d) (λ found. made (part_trees found) (λ parts. Push parts))
 
 abbrev pub ok_in : Data → Result ServerMessage WireError
 ok_in d = with (field number_of (codes "id") d) (λ id. Ok (Accepted id))
@@ -41,6 +47,7 @@ abbrev pub of_kind : List ℕ → Data → Result ServerMessage WireError
 of_kind kind d =
     if bytes_eq kind (codes "data") then data_in d
     else if bytes_eq kind (codes "data-merge") then data_merge_in d
+    else if bytes_eq kind (codes "push") then push_in d
     else if bytes_eq kind (codes "ok") then ok_in d
     else if bytes_eq kind (codes "no") then no_in d
     else if bytes_eq kind (codes "revoke") then revoke_in d

@@ -12,7 +12,8 @@ use Rattle.rt_wire.specs.declared.request.Asked.TheVariants.{Now, AtDisconnect}
 use Rattle.rt_world.specs.declared.request.Request.{Request}
 use Rattle.rt_world.specs.declared.step.Step.{Step}
 use Rattle.rt_world.specs.Views.{is_known, view_of}
-use Rattle.rt_world.specs.World.{Listener, World, registered, pending, listen_of}
+use Rattle.rt_world.specs.World.{Listener, World, registered, listening, pending}
+use Rattle.rt_world.specs.World.{listen_of}
 use Rattle.rt_world.specs.steps.Asking.{ask}
 use Rattle.rt_world.specs.steps.Closing.{close_seat}
 use Rattle.rt_world.specs.steps.Connection.{connected, disconnected}
@@ -28,8 +29,9 @@ kind (Step.Listen seat query) = listen seat query
 kind (Step.Unlisten seat listener) = unlisten seat listener
 kind (Step.Write seat action) = ask seat (Now action)
 kind (Step.OnDisconnect seat ending) = ask seat (AtDisconnect ending)
-kind (Step.Data tag path tree) = push_of tag ((path, tree) ∷ [])
-kind (Step.DataMerge tag entries) = push_of tag entries
+kind (Step.Data tag path tree) = push_of ((tag, (path, tree) ∷ []) ∷ [])
+kind (Step.DataMerge tag entries) = push_of ((tag, entries) ∷ [])
+kind (Step.Push parts) = push_of parts
 kind (Step.Accepted id) = settle id None
 kind (Step.Refused id why) = settle id (Some why)
 kind (Step.Revoked tag why) = revoke tag why
@@ -53,6 +55,10 @@ requests_after w s = (kind s).requests w
 abbrev pub forms_after : World → Step → List Query
 forms_after w s = forms (registered (listeners_after w s))
 
+-- the forms of the listeners after the step, one for each
+abbrev pub listening_after : World → Step → List Query
+listening_after w s = listening (registered (listeners_after w s))
+
 -- the listens that are kept after the step
 abbrev pub kept_after : World → Step → List Tagged
 kept_after w s = kept_for w.next_tag w.kept (needed (forms_after w s))
@@ -71,7 +77,8 @@ pushed w s = fold (part_pushed w) w.brought (kind s).parts
 
 -- what is brought after the step: its push, then its change of cover
 abbrev pub brought_after : World → Step → Brought
-brought_after w s = recover (forms_after w s) (map (λ k. k.form) (kept_after w s)) (pushed w s)
+brought_after w s =
+    recover (listening_after w s) (map (λ k. k.form) (kept_after w s)) (pushed w s)
 
 -- a listener with its primed mark and its view taken from scratch
 abbrev pub renewed : Brought → List Write → Listener → Listener

@@ -17,6 +17,7 @@ step_of seat (call.OnDisconnect ending) = Step.OnDisconnect seat ending
 abbrev pub step_of_message : ServerMessage → Step
 step_of_message (message.Data tag path tree) = Step.Data tag path tree
 step_of_message (message.DataMerge tag entries) = Step.DataMerge tag entries
+step_of_message (message.Push parts) = Step.Push parts
 step_of_message (message.Accepted id) = Step.Accepted id
 step_of_message (message.Refused id why) = Step.Refused id why
 step_of_message (message.Revoked tag why) = Step.Revoked tag why

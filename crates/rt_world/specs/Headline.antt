@@ -11,6 +11,7 @@ use Rattle.rt_cover.specs.Shown.{AreFewest, IsCertified}
 use Rattle.rt_view.specs.declared.change.Change.{Change}
 use Rattle.rt_view.specs.Changes.{Turns}
 use Rattle.rt_wire.specs.declared.client.ClientMessage.{ClientMessage}
+use Rattle.rt_wire.specs.declared.limits.TheConstants.{VERSION}
 use Rattle.rt_world.specs.declared.report.Body.{Body}
 use Rattle.rt_world.specs.declared.report.Body.TheVariants.{Settled, Cancelled, Batch}
 use Rattle.rt_world.specs.declared.step.Step.{Step}
@@ -66,13 +67,14 @@ abbrev pub ended : World → Step → World → List Tagged
 ended old s new = unrevoked s (beyond old.kept new.kept)
 
 -- what a step has to send: the listens that it begins, those that it ends, and its request; one that
--- opens a connection sends all that is kept and unsettled; without a connection nothing is sent
+-- opens a connection sends the version and all that is kept and unsettled; without a connection nothing
+-- is sent
 abbrev pub sent_due : World → Step → World → List ClientMessage
 sent_due old s new =
     if new.is_connected
     then (if old.is_connected
     then listens (begun old new) ++ unlistens (ended old s new) ++ request_sent old s
-    else listens old.kept ++ map request_message new.requests)
+    else ClientMessage.Hello VERSION ∷ (listens old.kept ++ map request_message new.requests))
     else []
 
 -- of a step that is done: it sends just that, and a server that hears it keeps what the core keeps

@@ -5,6 +5,7 @@ use Rattle.std.specs.Option.{option_map_or}
 use Rattle.rt_cover.specs.Cover.{Tagged}
 use Rattle.rt_cover.specs.State.{beyond}
 use Rattle.rt_wire.specs.declared.client.ClientMessage.{ClientMessage}
+use Rattle.rt_wire.specs.declared.limits.TheConstants.{VERSION}
 use Rattle.rt_world.specs.declared.request.Request.{Request}
 use Rattle.rt_world.specs.declared.step.Step.{Step}
 use Rattle.rt_world.specs.World.{World}
@@ -37,15 +38,19 @@ abbrev pub request_sent : World → Step → List ClientMessage
 request_sent w s =
     option_map_or (λ asked. ClientMessage.Ask w.next_request asked.1 ∷ []) (kind s).asked []
 
+-- the messages that a connection begins with: the version, the kept listens, then the unsettled requests
+abbrev pub greeting : World → List ClientMessage
+greeting w = ClientMessage.Hello VERSION ∷ (listens w.kept ++ map request_message w.requests)
+
 -- the messages of a step while connected: listens that start, listens that stop, the request
 abbrev pub messages_online : World → Step → List ClientMessage
 messages_online w s = listens (started_by w s) ++ unlistens (stopped_by w s) ++ request_sent w s
 
--- the messages that the step makes: on Connected the kept listens, then the unsettled requests;
--- while disconnected none
+-- the messages that the step makes: on Connected those that a connection begins with; while
+-- disconnected none
 abbrev pub messages_of : World → Step → List ClientMessage
 messages_of w s =
-    if (kind s).opens then listens w.kept ++ map request_message w.requests
+    if (kind s).opens then greeting w
     else if (kind s).closes then []
     else if w.is_connected then messages_online w s
     else []
@@ -62,6 +67,7 @@ kept_before s kept = if (kind s).opens then [] else unrevoked s kept
 
 -- the listens that it keeps once it hears a message
 abbrev pub heard_by : List Tagged → ClientMessage → List Tagged
+heard_by kept (ClientMessage.Hello version) = kept
 heard_by kept (ClientMessage.Listen tag q) = kept ++ record { tag = tag; form = q } ∷ []
 heard_by kept (ClientMessage.Unlisten tag) = filter (λ k. not (k.tag == tag)) kept
 heard_by kept (ClientMessage.Ask id asked) = kept

@@ -1,11 +1,12 @@
 -- Plain listens: what their steps write and bring, said by the steps and the answers alone.
-use Rattle.std.specs.Prelude.{◌≡◌, ℕ, false, List, [], ◌∷◌, ◌++◌, Option, Some, None, Ok, Err}
+use Rattle.std.specs.Prelude.{◌≡◌, ℕ, ◌≤◌, false, List, [], ◌∷◌, ◌++◌, length, Option, Some, None, Ok, Err}
 use Rattle.std.specs.List.{fold}
 use Rattle.std.specs.Option.{option_map_or}
 use Rattle.rt_tree.specs.Assignments.{Assignment}
 use Rattle.rt_query.specs.Queries.{is_filtered}
+use Rattle.rt_query.specs.Supply.{form}
 use Rattle.rt_writes.specs.Writes.{Write, without}
-use Rattle.rt_cache.specs.Brought.{Brought, push_plain}
+use Rattle.rt_cache.specs.Brought.{Brought, with_form, push_plain}
 use Rattle.rt_cover.specs.Runs.{Change, Add, Remove, Revoke}
 use Rattle.rt_wire.specs.declared.request.Asked.{Asked}
 use Rattle.rt_wire.specs.declared.request.Asked.TheVariants.{Now, AtDisconnect}
@@ -25,9 +26,10 @@ IsPlainChange (Some (Add number query)) = is_filtered query ≡ false
 IsPlainChange (Some (Remove numbers)) = ⊥
 IsPlainChange (Some (Revoke tag)) = ⊥
 
--- the steps of plain listens that are not lost
+-- the steps of plain listens that are not lost; a push of several parts is none, since its answer does
+-- not tell which of them were on kept listens
 abbrev pub IsPlainStep : Step → Type 0
-IsPlainStep s = (w : World) → IsPlainChange (change_by w s)
+IsPlainStep s = ((w : World) → IsPlainChange (change_by w s)) × (length (kind s).parts ≤ 1)
 
 -- the first where the step is done, else the second
 abbrev pub if_done : {X : Type 0} → Outcome → X → X → X
@@ -64,11 +66,16 @@ writes_by ws s answer =
     (kind s).settled
     (option_map_or (λ a. with_asked ws a.1 answer) (kind s).asked ws)
 
--- what is brought once these entries are taken in, by the answer to their step
-abbrev pub with_push : Brought → List Assignment → Answer → Brought
-with_push b entries (Ok report) = if_done report.outcome (fold push_plain b entries) b
-with_push b entries (Err e) = b
+-- what is brought, with the form of a new listener
+abbrev pub with_new : Brought → Step → Brought
+with_new b (Step.Listen seat query) = with_form (form query) b
+with_new b s = b
 
--- what is brought after a step, by its answer: the listens are plain, and none is lost
+-- what is brought once a step's new form and its pushes are taken in; the listens are plain
+abbrev pub taken_in : Brought → Step → Brought
+taken_in b s = fold (λ c p. fold push_plain c p.1) (with_new b s) (kind s).parts
+
+-- what is brought after a step, by its answer: none of the plain listens is lost
 abbrev pub brought_by : Brought → Step → Answer → Brought
-brought_by b s answer = fold (λ c p. with_push c p.1 answer) b (kind s).parts
+brought_by b s (Ok report) = if_done report.outcome (taken_in b s) b
+brought_by b s (Err e) = b

@@ -13,6 +13,7 @@ use Rattle.rt_wire.specs.declared.request.Asked.TheVariants.{Now, AtDisconnect}
 use Rattle.rt_world.specs.declared.step.Step.{Step}
 use Rattle.rt_world.specs.Views.{seen_over}
 use Rattle.rt_world.specs.World.{Listener, World, entries_of, pending}
+use Rattle.rt_world.specs.steps.Kind.{Part}
 use Rattle.rt_world.specs.After.{kind}
 
 -- ---- what a step names
@@ -26,6 +27,10 @@ abbrev pub entries_asked : Asked → List Assignment
 entries_asked (Now action) = entries_of action
 entries_asked (AtDisconnect ending) = []
 
+-- the entries of all parts, in order
+abbrev pub entries_pushed : List Part → List Assignment
+entries_pushed parts = fold (λ entries p. entries ++ p.1) [] parts
+
 -- the entries of a step: those of the write that it settles, of its write, or of its push
 abbrev pub entries_by : World → Step → List Assignment
 entries_by w s =
@@ -35,7 +40,7 @@ entries_by w s =
     (option_map_or
     (λ a. entries_asked a.1)
     (kind s).asked
-    (fold (λ entries p. entries ++ p.1) [] (kind s).parts))
+    (entries_pushed (kind s).parts))
 
 -- whether an entry sits at or above p
 abbrev pub is_covered : Path → List Assignment → Bool

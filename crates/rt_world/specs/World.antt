@@ -80,6 +80,10 @@ empty_world limits = record {
 abbrev pub registered : List Listener → List Registered
 registered listeners = map (λ l. (l.number, form l.query)) listeners
 
+-- the forms of registered listeners, one for each
+abbrev pub listening : List Registered → List Query
+listening listeners = map (λ l. l.1) listeners
+
 -- the write that a request asks for, if it asks for one
 abbrev pub write_asked : ℕ → Asked → Option Write
 write_asked id (Now action) = Some (record { id = id; entries = entries_of action })

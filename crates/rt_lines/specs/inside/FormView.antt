@@ -1,12 +1,13 @@
 -- Forms and calls of the code, whose words are lent, as forms and calls.
-use Rattle.std.specs.Prelude.{List, map, option_map}
-use Rattle.serde_json.specs.Data.{Data}
+use Rattle.std.specs.Prelude.{ℕ, List, map, option_map}
+use Rattle.serde_json.specs.Data.{Data, Members}
 use Rattle.serde_json.specs.View.{view, members_view}
 use Rattle.serde_json.specs.declared.value.Value.{Value}
 use Rattle.rt_lines.specs.declared.call.Call.{Call as CodeCall}
 use Rattle.rt_lines.specs.declared.call.Call.TheVariants as call_code
 use Rattle.rt_lines.specs.declared.form.Form.{Form as CodeForm}
 use Rattle.rt_lines.specs.declared.form.Form.TheVariants as form_code
+use Rattle.rt_lines.specs.declared.form.PartWords.{PartWords}
 use Rattle.rt_lines.specs.declared.form.Written.{Written as CodeWritten}
 use Rattle.rt_lines.specs.declared.form.Written.TheVariants as written_code
 use Rattle.rt_lines.specs.Calls.{Call}
@@ -31,6 +32,12 @@ as_written (written_code.Set path value) = form.Set path.now (view value.now)
 as_written (written_code.Update entries) = form.Update (members_view entries.now.entries)
 as_written (written_code.Remove path) = form.Remove path.now
 
+abbrev pub as_part : PartWords → ℕ × Members
+as_part part = (part.tag, members_view part.entries.now.entries)
+
+abbrev pub as_parts : List PartWords → List (ℕ × Members)
+as_parts parts = map as_part parts
+
 abbrev pub as_form : CodeForm → Form
 as_form (form_code.Listen seat path calls) = form.Listen seat path.now (as_calls calls.items)
 as_form (form_code.Unlisten seat listener) = form.Unlisten seat listener
@@ -40,6 +47,7 @@ as_form (form_code.CancelDisconnect seat path) = form.CancelDisconnect seat path
 as_form (form_code.Close seat) = form.Close seat
 as_form (form_code.Data tag path value) = form.Data tag path.now (view value.now)
 as_form (form_code.Merge tag entries) = form.Merge tag (members_view entries.now.entries)
+as_form (form_code.Parts parts) = form.Parts (as_parts parts.items)
 as_form (form_code.Accepted id) = form.Accepted id
 as_form (form_code.Refused id why) = form.Refused id why.now
 as_form (form_code.Revoked tag why) = form.Revoked tag why.now

@@ -1,5 +1,5 @@
 -- Lines that the prover computes: what they ask for, what they are refused as, and what is printed.
-use Rattle.std.specs.Prelude.{◌≡◌, ℕ, pos, true, List, [], ◌++◌, codes, Some, None, Result, Ok, Err}
+use Rattle.std.specs.Prelude.{◌≡◌, ℕ, pos, true, List, [], ◌∷◌, ◌++◌, codes, Some, None, Result, Ok, Err}
 use Rattle.std.specs.Option.{option_map_or}
 use Rattle.serde_json.specs.Read.{read}
 use Rattle.rt_tree.specs.Leaf.{number, truth}
@@ -54,6 +54,9 @@ LinesAreRead =
     ≡ makes (step.OnDisconnect 1 (Cancel at_a)))
     × (line_of_text (codes "[\"server\",\"{\\\"k\\\":\\\"ok\\\",\\\"id\\\":1}\"]")
     ≡ makes (step.Accepted 1))
+    × (line_of_text (codes "[\"parts\",[[1,{\"/a\":5}],[1,{}]]]")
+    ≡ makes (step.Push ((1, (at_a, of_leaf (number (pos 5))) ∷ []) ∷ (1, []) ∷ [])))
+    × (line_of_text (codes "[\"parts\",[]]") ≡ makes (step.Push []))
     × (line_of_text (codes "[\"view\",7]") ≡ Ok (line.View 7))
 
 -- what has none of the forms, whatever else is wrong with its words
@@ -62,6 +65,7 @@ FormsComeFirst =
     (line_of_text [] ≡ Err Bad) × (line_of_text (codes "[\"connect\"]") ≡ Err Bad)
     × (line_of_text (codes "[\"connected\",1]") ≡ Err Bad)
     × (line_of_text (codes "[\"set\",0,\"/a\",1]") ≡ Err Bad)
+    × (line_of_text (codes "[\"parts\",[[1,{\"/a.b\":1}],[1]]]") ≡ Err Bad)
     × (line_of_text (codes "[\"set\",1.0,\"/a\",1]") ≡ Err Bad)
     × (line_of_text (codes "[\"listen\",1,\"/a.b\",[[\"foo\"]]]") ≡ Err Bad)
     × (line_of_text (codes "[\"listen\",1,\"/a.b\",[[\"limitToFirst\",4294967296]]]") ≡ Err Bad)

@@ -57,6 +57,7 @@ LooksAreShown =
     ∷ codes "T none"
     ∷ codes "done 1"
     ∷ codes "unknown"
+    ∷ codes "> {\"k\":\"hello\",\"version\":2}"
     ∷ codes "> {\"k\":\"listen\",\"path\":\"/a\",\"tag\":1}"
     ∷ codes "> none"
     ∷ codes "T1 /a by L1"
@@ -88,7 +89,7 @@ RefusedLines =
     ∷ codes "refused query 5 LimitZero"
     ∷ codes "refused wire 2 UnknownKind"
     ∷ codes "stale"
-    ∷ codes "> none" ∷ [])
+    ∷ codes "> {\"k\":\"hello\",\"version\":2}" ∷ [])
 
 -- push ids go on from line to line, whatever stands between; a refusal changes nothing, and eleven
 -- random numbers are no line

@@ -16,7 +16,7 @@ use Rattle.rt_wire.specs.declared.request.Action.TheVariants.{Put, Merge}
 use Rattle.rt_wire.specs.declared.request.Ending.TheVariants.{Run, Cancel}
 use Rattle.rt_wire.specs.declared.request.Asked.TheVariants.{Now, AtDisconnect}
 use Rattle.rt_wire.specs.declared.client.ClientMessage.{ClientMessage}
-use Rattle.rt_wire.specs.declared.client.ClientMessage.TheVariants.{Listen, Unlisten, Ask}
+use Rattle.rt_wire.specs.declared.client.ClientMessage.TheVariants.{Hello, Listen, Unlisten, Ask}
 use Rattle.rt_wire.specs.inside.Standing.{IsStandingPath, IsStandingTree, IsStanding}
 
 abbrev pub IsStandingIndex : Index → Type 0
@@ -54,6 +54,7 @@ IsStandingAction (Put path tree) = IsStandingPath path × IsStandingTree tree
 IsStandingAction (Merge entries) = AllByRecursion IsStanding entries
 
 abbrev pub IsStandingRequest : ClientMessage → Type 0
+IsStandingRequest (Hello version) = Unit {0}
 IsStandingRequest (Listen tag query) = IsStandingListen query
 IsStandingRequest (Unlisten tag) = Unit {0}
 IsStandingRequest (Ask id (Now action)) = IsStandingAction action

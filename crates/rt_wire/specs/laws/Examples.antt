@@ -15,13 +15,14 @@ use Rattle.rt_query.specs.Queries.{Query, plain}
 use Rattle.rt_wire.specs.declared.error.WireError.{WireError}
 use Rattle.rt_wire.specs.declared.error.WireError.TheVariants.{NotJson, UnknownKind, BadField, BadTree}
 use Rattle.rt_wire.specs.declared.server.ServerMessage.{ServerMessage}
-use Rattle.rt_wire.specs.declared.server.ServerMessage.TheVariants.{Data, DataMerge, Accepted, Refused}
+use Rattle.rt_wire.specs.declared.server.ServerMessage.TheVariants.{Data, DataMerge, Push, Accepted, Refused}
 use Rattle.rt_wire.specs.declared.request.Action.{Action}
 use Rattle.rt_wire.specs.declared.request.Action.TheVariants.{Put}
 use Rattle.rt_wire.specs.declared.request.Ending.TheVariants.{Run, Cancel}
 use Rattle.rt_wire.specs.declared.request.Asked.TheVariants.{Now, AtDisconnect}
 use Rattle.rt_wire.specs.declared.client.ClientMessage.{ClientMessage}
-use Rattle.rt_wire.specs.declared.client.ClientMessage.TheVariants.{Listen, Unlisten, Ask}
+use Rattle.rt_wire.specs.declared.client.ClientMessage.TheVariants.{Hello, Listen, Unlisten, Ask}
+use Rattle.rt_wire.specs.Parts.{Part}
 use Rattle.rt_wire.specs.Server.{server_message}
 use Rattle.rt_wire.specs.ServerData.{server_data}
 use Rattle.rt_wire.specs.Client.{client_message}
@@ -103,7 +104,46 @@ nested n = data_by (codes "\"path\":\"/\",\"value\":" ++ (replicate n 91 ++ repl
 abbrev pub DepthIsBounded : Type 0
 DepthIsBounded = (nested 40 ≡ Err BadTree) × (nested 200 ≡ Err NotJson)
 
+-- a push of these parts
+abbrev pub push_by : List ℕ → Result ServerMessage WireError
+push_by parts = server_message (codes "{\"k\":\"push\",\"parts\":" ++ (parts ++ codes "}"))
+
+-- a push on two listens, as it is written
+abbrev pub push_two : List ℕ
+push_two = codes "{\"k\":\"push\",\"parts\":[{\"entries\":{\"/a/x\":1},\"tag\":1},{\"entries\":{\"/b/y\":2},\"tag\":2}]}"
+
+abbrev pub two_parts : List Part
+two_parts =
+    (1, entry_at (codes "/a/x") 1 ∷ [])
+    ∷ (2, entry_at (codes "/b/y") 2 ∷ [])
+    ∷ []
+
+-- parts are read in their order, whatever their tags
+abbrev pub PartsAreRead : Type 0
+PartsAreRead =
+    (server_message push_two ≡ Ok (Push two_parts))
+    × (push_by (codes "[{\"tag\":7,\"entries\":{\"a\":1}},{\"tag\":7,\"entries\":{\"a\":2}}]")
+    ≡ Ok (Push ((7, entry_at (codes "a") 1 ∷ []) ∷ (7, entry_at (codes "a") 2 ∷ []) ∷ [])))
+
+-- there is at least one part, each an object with a tag and entries; all fields of all parts come
+-- before any tree
+abbrev pub PartsHaveFaults : Type 0
+PartsHaveFaults =
+    (push_by (codes "[]") ≡ Err BadField) × (push_by (codes "[{\"tag\":1}]") ≡ Err BadField)
+    × (push_by (codes "[7]") ≡ Err BadField) × (push_by (codes "{}") ≡ Err BadField)
+    × (push_by (codes "[{\"tag\":1,\"entries\":{}}]") ≡ Err BadField)
+    × (push_by (codes "[{\"tag\":1,\"entries\":{\"/a\":1.5}}]") ≡ Err BadTree)
+    × (push_by (codes "[{\"tag\":1,\"entries\":{\"/a\":1.5}},{\"tag\":0,\"entries\":{\"/a\":1}}]")
+    ≡ Err BadField)
+
 -- ---- messages of the client
+
+abbrev pub HelloIsRead : Type 0
+HelloIsRead =
+    (client_message (codes "{\"k\":\"hello\",\"version\":2}") ≡ Ok (Hello 2))
+    × (client_message (codes "{\"k\":\"hello\",\"version\":0}") ≡ Err BadField)
+    × (client_message (codes "{\"k\":\"hello\"}") ≡ Err BadField)
+    × (client_message (codes "{\"k\":\"hello\",\"version\":9007199254740992}") ≡ Err BadField)
 
 abbrev pub first_two : Query
 first_two = record {
@@ -171,6 +211,8 @@ abbrev pub MessagesAreWritten : Type 0
 MessagesAreWritten =
     (compact_text (server_data (Data 1 (path_keys (codes "a//b/")) null))
     ≡ codes "{\"k\":\"data\",\"path\":\"/a/b\",\"tag\":1,\"value\":null}")
+    × (compact_text (server_data (Push two_parts)) ≡ push_two)
+    × (compact_text (client_data (Hello 2)) ≡ codes "{\"k\":\"hello\",\"version\":2}")
     × (compact_text (query_data first_two) ≡ codes "{\"limit\":[\"first\",2],\"order\":\"key\"}")
     × (compact_text (client_data (Listen 1 first_two)) ≡ listen_first)
     × (compact_text (query_data some_range)
@@ -181,19 +223,22 @@ MessagesAreWritten =
 abbrev pub two_entries : List ℕ
 two_entries = codes "{\"k\":\"data-merge\",\"tag\":1,\"entries\":{\"a\":1,\"b\":2}}"
 
--- a text says no other number, no other kind, nothing where its number is 0, no part of its entries
--- and no query without its limit
+-- a text says no other number, no other kind, nothing where its number is 0, no part of its entries,
+-- no part of its parts, no query without its limit and no other version
 abbrev pub NothingElseIsSaid : Type 0
 NothingElseIsSaid =
     (IsServerWord ok_one (Accepted 2) → ⊥) × (IsServerWord ok_one (Refused 1 []) → ⊥)
     × (IsServerWord (codes "{\"k\":\"ok\",\"id\":0}") (Accepted 0) → ⊥)
     × (IsServerWord two_entries (DataMerge 1 (entry_at (codes "a") 1 ∷ [])) → ⊥)
+    × (IsServerWord push_two (Push ((1, entry_at (codes "/a/x") 1 ∷ []) ∷ [])) → ⊥)
+    × (IsClientWord (codes "{\"k\":\"hello\",\"version\":2}") (Hello 1) → ⊥)
     × (IsClientWord listen_first (Listen 1 (plain (path_keys (codes "/a")))) → ⊥)
 
--- what is read back is no other message, and has no entry less
+-- what is read back is no other message, has no entry less, and its parts in the same order
 abbrev pub NothingElseIsReadBack : Type 0
 NothingElseIsReadBack =
     (IsServerText (Accepted 2) ok_one → ⊥)
     × (IsClientText (Unlisten 2) (codes "{\"k\":\"unlisten\",\"tag\":1}") → ⊥)
     × (IsServerSame (DataMerge 1 (entry_at [] 1 ∷ entry_at [] 1 ∷ []))
     (DataMerge 1 (entry_at [] 1 ∷ [])) → ⊥)
+    × (IsServerSame (Push ((1, []) ∷ (2, []) ∷ [])) (Push ((2, []) ∷ (1, []) ∷ [])) → ⊥)

@@ -41,6 +41,10 @@ abbrev pub ServersAreDue : Type 0
 ServersAreDue =
     IsDue busy (Step.Data 1 (path_keys (codes "/a/y")) (num 5))
     × IsDue busy (Step.DataMerge 1 ((path_keys (codes "/a/x"), num 6) ∷ []))
+    × IsDue busy (Step.Push (
+    (9, (path_keys (codes "/b"), num 6) ∷ [])
+    ∷ (1, (path_keys (codes "/a/x"), num 6) ∷ [])
+    ∷ []))
     × IsDue busy (Step.Accepted 1)
     × IsDue busy (Step.Refused 1 (codes "denied"))
     × IsDue busy (Step.Revoked 1 (codes "denied"))
@@ -67,7 +71,7 @@ FilteredAreDue =
 
 -- /a has children that no listen brought
 abbrev pub unreached : World
-unreached = record fresh { brought = record { regions = (at_a, two) ∷ []; windows = [] } }
+unreached = record fresh { brought = record { registered = []; regions = (at_a, two) ∷ []; windows = [] } }
 
 -- they are lost in any step: so the laws ask that all that is brought is reached
 abbrev pub UnreachedIsLost : Type 0

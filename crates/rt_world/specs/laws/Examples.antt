@@ -1,5 +1,5 @@
 -- Outside examples over one core, which the prover computes.
-use Rattle.std.specs.Prelude.{◌≡◌, [], ◌∷◌, pos, Some, None, codes}
+use Rattle.std.specs.Prelude.{◌≡◌, List, [], ◌∷◌, ◌++◌, pos, Some, None, codes}
 use Rattle.rt_tree.specs.Leaf.{number}
 use Rattle.rt_tree.specs.Path.{path_keys}
 use Rattle.rt_tree.specs.PathTree.{null, object}
@@ -16,7 +16,7 @@ use Rattle.rt_wire.specs.declared.request.Asked.TheVariants.{Now, AtDisconnect}
 use Rattle.rt_wire.specs.declared.request.Ending.TheVariants.{Run, Cancel}
 use Rattle.rt_wire.specs.declared.request.Action.TheVariants.{Put, Merge}
 use Rattle.rt_world.specs.declared.step.Step.{Step}
-use Rattle.rt_world.specs.laws.Script.{Do, TakeOut, ShowCover, ShowView, Sent, Covered, Viewed, shows}
+use Rattle.rt_world.specs.laws.Script.{Line, Do, TakeOut, ShowCover, ShowView, Sent, Covered, Viewed, shows}
 use Rattle.rt_world.specs.laws.Script.{fresh, num, yes_leaf, txt, ordered, answered, was_stale, refused}
 use Rattle.rt_world.specs.laws.Script.{told, batch, kept_as, shown_leaf, row_of, of_rows}
 
@@ -46,7 +46,7 @@ ParentTakesOverListen =
     ∷ ShowCover ∷ [])
     ≡ answered None []
     ∷ answered (Some 1) []
-    ∷ Sent (ClientMessage.Listen 1 (plain (path_keys (codes "/a/b"))) ∷ [])
+    ∷ Sent (ClientMessage.Hello 2 ∷ ClientMessage.Listen 1 (plain (path_keys (codes "/a/b"))) ∷ [])
     ∷ answered (Some 2) []
     ∷ Sent (ClientMessage.Listen 2 (plain (path_keys (codes "/a"))) ∷ ClientMessage.Unlisten 1 ∷ [])
     ∷ Covered (kept_as 2 (plain (path_keys (codes "/a"))) 2 ∷ [])
@@ -118,7 +118,8 @@ WindowKeptWhole =
     ∷ told 1 (batch 2 (Removed (codes "w") (num 0)
     ∷ Value (object ((codes "x", num 1) ∷ (codes "y", num 2) ∷ [])) ∷ [])) ∷ [])
     ∷ answered None []
-    ∷ Sent (ClientMessage.Listen 1 (ordered (path_keys (codes "/a")) Index.Key (Some (First 2)))
+    ∷ Sent (ClientMessage.Hello 2
+    ∷ ClientMessage.Listen 1 (ordered (path_keys (codes "/a")) Index.Key (Some (First 2)))
     ∷ ClientMessage.Listen 2 (plain (path_keys (codes "/a"))) ∷ ClientMessage.Unlisten 1
     ∷ ClientMessage.Ask 1 (Now (Put (path_keys (codes "/a/w")) null))
     ∷ ClientMessage.Listen 3 (ordered (path_keys (codes "/a")) Index.Key (Some (First 2)))
@@ -281,7 +282,8 @@ ReconnectResends =
     ∷ answered (Some 3) []
     ∷ answered None []
     ∷ answered None []
-    ∷ Sent (ClientMessage.Listen 1 (plain (path_keys (codes "/a")))
+    ∷ Sent (ClientMessage.Hello 2
+    ∷ ClientMessage.Listen 1 (plain (path_keys (codes "/a")))
     ∷ ClientMessage.Listen 2 (plain (path_keys (codes "/b")))
     ∷ ClientMessage.Ask 1 (Now (Put (path_keys (codes "/a/x")) (num 1)))
     ∷ ClientMessage.Ask 2 (Now (Merge (((path_keys (codes "/b/y")), num 2)
@@ -311,7 +313,8 @@ RevokedPlainListen =
     ∷ told 1 (batch 2 (Added (codes "y") (num 2) None ∷ Value (object ((codes "y", num 2) ∷ []))
     ∷ [])) ∷ [])
     ∷ answered None (told 1 (Cancelled 1 (codes "denied")) ∷ [])
-    ∷ Sent (ClientMessage.Listen 1 (plain (path_keys (codes "/a")))
+    ∷ Sent (ClientMessage.Hello 2
+    ∷ ClientMessage.Listen 1 (plain (path_keys (codes "/a")))
     ∷ ClientMessage.Listen 2 (ordered (path_keys (codes "/a")) Index.Key (Some (Last 1))) ∷ [])
     ∷ []
 
@@ -412,7 +415,8 @@ DisconnectActions =
     ∷ answered (Some 1) []
     ∷ answered (Some 2) []
     ∷ answered (Some 3) []
-    ∷ Sent (ClientMessage.Ask 1 (AtDisconnect (Run (Put (path_keys (codes "/p")) yes_leaf)))
+    ∷ Sent (ClientMessage.Hello 2
+    ∷ ClientMessage.Ask 1 (AtDisconnect (Run (Put (path_keys (codes "/p")) yes_leaf)))
     ∷ ClientMessage.Ask 2 (AtDisconnect (Run (Merge (((path_keys (codes "/p")), num 1) ∷ []))))
     ∷ ClientMessage.Ask 3 (AtDisconnect (Cancel (path_keys (codes "/p")))) ∷ [])
     ∷ []
@@ -439,6 +443,79 @@ MergePush =
     ∷ Value (object ((codes "b", num 1) ∷ (codes "d", num 2) ∷ [])) ∷ [])) ∷ [])
     ∷ refused BadPush
     ∷ refused BadPush
+    ∷ []
+
+-- a listen that is pushed null at its path, and the same for the second
+abbrev pub pushed_nulls : List Line
+pushed_nulls =
+    Do Step.Connected
+    ∷ Do (Step.Listen 1 (plain (path_keys (codes "/a"))))
+    ∷ Do (Step.Listen 1 (plain (path_keys (codes "/b"))))
+    ∷ Do (Step.Data 1 (path_keys (codes "/a")) null)
+    ∷ Do (Step.Data 2 (path_keys (codes "/b")) null)
+    ∷ []
+
+-- parts are one step; one whose tag isn't kept is passed over, and all such are stale; a path outside a
+-- part's listen, two parts of one tag and no parts are refused
+abbrev pub PartsInOneStep : Type 0
+PartsInOneStep =
+    shows fresh (pushed_nulls ++
+    Do (Step.Push ((1, (path_keys (codes "/a/x"), num 1) ∷ [])
+    ∷ (2, (path_keys (codes "/b/y"), num 2) ∷ []) ∷ []))
+    ∷ Do (Step.Push ((9, (path_keys (codes "/a"), num 1) ∷ []) ∷ []))
+    ∷ Do (Step.Push ((9, (path_keys (codes "/a"), num 1) ∷ [])
+    ∷ (1, (path_keys (codes "/a/x"), num 3) ∷ []) ∷ []))
+    ∷ Do (Step.Push ((1, (path_keys (codes "/b"), num 1) ∷ []) ∷ []))
+    ∷ Do (Step.Push ((1, (path_keys (codes "/a/x"), num 1) ∷ [])
+    ∷ (1, (path_keys (codes "/a/z"), num 1) ∷ []) ∷ []))
+    ∷ Do (Step.Push []) ∷ [])
+    ≡ answered None []
+    ∷ answered (Some 1) []
+    ∷ answered (Some 2) []
+    ∷ answered None (told 1 (batch 1 (Value null ∷ [])) ∷ [])
+    ∷ answered None (told 1 (batch 2 (Value null ∷ [])) ∷ [])
+    ∷ answered None (told 1 (batch 1 (Added (codes "x") (num 1) None
+    ∷ Value (object ((codes "x", num 1) ∷ [])) ∷ []))
+    ∷ told 1 (batch 2 (Added (codes "y") (num 2) None
+    ∷ Value (object ((codes "y", num 2) ∷ [])) ∷ [])) ∷ [])
+    ∷ was_stale
+    ∷ answered None (told 1 (batch 1 (Changed (codes "x") (num 3) None
+    ∷ Value (object ((codes "x", num 3) ∷ [])) ∷ [])) ∷ [])
+    ∷ refused BadPush
+    ∷ refused BadPush
+    ∷ refused BadPush
+    ∷ []
+
+-- a filtered listen without a window is given one by an entry at its path alone, and does not hold up a
+-- part beside it; a listener that two parts meet is told once
+abbrev pub PartsPassedOver : Type 0
+PartsPassedOver =
+    shows fresh (
+    Do (Step.Push [])
+    ∷ Do (Step.Push ((1, (path_keys (codes "/a"), num 1) ∷ []) ∷ []))
+    ∷ Do Step.Connected
+    ∷ Do (Step.Listen 1 (ordered (path_keys (codes "/a")) Index.Key (Some (First 2))))
+    ∷ Do (Step.Listen 1 (plain (path_keys (codes "/a/x"))))
+    ∷ Do (Step.Push ((1, (path_keys (codes "/a/x"), num 1) ∷ []) ∷ []))
+    ∷ Do (Step.Push ((1, (path_keys (codes "/a/x"), num 1) ∷ [])
+    ∷ (2, (path_keys (codes "/a/x"), num 7) ∷ []) ∷ []))
+    ∷ Do (Step.Push ((1, (path_keys (codes "/a"), object ((codes "x", num 1) ∷ [])) ∷ [])
+    ∷ (2, (path_keys (codes "/a/x"), num 8) ∷ []) ∷ []))
+    ∷ Do (Step.Push ((1, (path_keys (codes "/a/x"), num 2) ∷ (path_keys (codes "/a/y"), num 3) ∷ [])
+    ∷ (2, (path_keys (codes "/a/x"), num 8) ∷ []) ∷ [])) ∷ [])
+    ≡ refused BadPush
+    ∷ refused NotConnected
+    ∷ answered None []
+    ∷ answered (Some 1) []
+    ∷ answered (Some 2) []
+    ∷ was_stale
+    ∷ answered None (told 1 (batch 2 (Value (num 7) ∷ [])) ∷ [])
+    ∷ answered None (told 1 (batch 1 (Added (codes "x") (num 1) None
+    ∷ Value (object ((codes "x", num 1) ∷ [])) ∷ []))
+    ∷ told 1 (batch 2 (Value (num 8) ∷ [])) ∷ [])
+    ∷ answered None (told 1 (batch 1 (Added (codes "y") (num 3) (Some (codes "x"))
+    ∷ Changed (codes "x") (num 2) None
+    ∷ Value (object ((codes "x", num 2) ∷ (codes "y", num 3) ∷ [])) ∷ [])) ∷ [])
     ∷ []
 
 -- a refused write over a leaf shows the leaf again

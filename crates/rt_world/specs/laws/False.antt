@@ -186,7 +186,9 @@ WriteBeginsListen = NeverLeads connected set_a noisy
 
 -- a listen gets another tag than the next one
 abbrev pub mistagged : World
-mistagged = record (kept_as 77 listening) { outgoing = ClientMessage.Listen 77 (plain a) ∷ [] }
+mistagged = record (kept_as 77 listening) {
+  outgoing = connected.outgoing ++ ClientMessage.Listen 77 (plain a) ∷ [];
+}
 
 abbrev pub ListenGetsAnyTag : Type 0
 ListenGetsAnyTag = NeverLeads connected (Step.Listen 1 (plain a)) mistagged
@@ -259,3 +261,29 @@ bare = record spent { kept = [] }
 
 abbrev pub WritePassesLastTag : Type 0
 WritePassesLastTag = NeverLeads bare set_a (step bare set_a).0
+
+-- ---- the version
+
+-- a connection is opened, and the version is not told
+abbrev pub unsaid : World
+unsaid = record connected { outgoing = [] }
+
+abbrev pub VersionIsNotTold : Type 0
+VersionIsNotTold = NeverLeads fresh Step.Connected unsaid
+
+-- one is opened again, and it is told behind the listens, or not told again
+abbrev pub said_late : World
+said_late = record (step offline Step.Connected).0 {
+  outgoing = ClientMessage.Listen 1 (plain a) ∷ ClientMessage.Hello 2 ∷ [];
+}
+
+abbrev pub VersionIsToldLate : Type 0
+VersionIsToldLate = NeverLeads offline Step.Connected said_late
+
+abbrev pub said_once : World
+said_once = record (step offline Step.Connected).0 {
+  outgoing = ClientMessage.Listen 1 (plain a) ∷ [];
+}
+
+abbrev pub VersionIsToldOnce : Type 0
+VersionIsToldOnce = NeverLeads offline Step.Connected said_once

@@ -4,15 +4,17 @@ use Rattle.std.specs.Prelude.{map, ◌==◌, None}
 use Rattle.std.specs.List.{filter}
 use Rattle.std.specs.Option.{option_to_list}
 use Rattle.rt_query.specs.Queries.{Query}
+use Rattle.rt_query.specs.Supply.{form}
+use Rattle.rt_cache.specs.Brought.{with_form}
 use Rattle.rt_cache.specs.Recover.{recover}
 use Rattle.rt_cover.specs.declared.delta.Delta.{Delta}
-use Rattle.rt_cover.specs.Cover.{forms}
 use Rattle.rt_cover.specs.State.{Cover, is_registered, difference, added}
 use Rattle.rt_cover.specs.State.{removed, revoked, without_tag, add_fault, remove_fault, revoke_fault}
 use Rattle.rt_wire.specs.declared.client.ClientMessage.{ClientMessage}
 use Rattle.rt_world.specs.declared.report.Body.TheVariants.{Cancelled}
 use Rattle.rt_world.specs.declared.step.Step.{Step}
-use Rattle.rt_world.specs.World.{Reason, Listener, World, registered, pending}
+use Rattle.rt_world.specs.World.{Reason, Listener, World, registered}
+use Rattle.rt_world.specs.World.{listening, pending}
 use Rattle.rt_world.specs.steps.Revoking.{is_cancelled}
 use Rattle.rt_world.specs.steps.Closing.{numbers_of, unseated}
 use Rattle.rt_world.specs.After.{renewed}
@@ -48,20 +50,22 @@ new_listener w seat query =
 abbrev pub cover_with : World → Query → Cover
 cover_with w query = added (cover_in w) w.next_listener query
 
--- it alone is renewed, and told; what is brought stays
+-- it alone is renewed, and told; what is brought stays, and its form is registered there
 abbrev pub ListenIsMade : Type 0
 ListenIsMade =
     (w : World) (seat : ℕ) (query : Query) → let s = Step.Listen seat query in
     IsMade w s → IsReached w
     → let new = new_listener w seat query in
     let c = cover_with w query in
+    let b = with_form (form query) w.brought in
     Leaves w s (record w {
-      listeners = w.listeners ++ renewed w.brought (pending w.requests) new ∷ [];
+      listeners = w.listeners ++ renewed b (pending w.requests) new ∷ [];
+      brought = b;
       kept = c.kept;
       outgoing = w.outgoing ++ changing w.is_connected (difference (cover_in w) c);
       next_listener = w.next_listener + 1;
       next_tag = c.next_tag;
-    }) (option_to_list (told w.brought (pending w.requests) new))
+    }) (option_to_list (told b (pending w.requests) new))
 
 -- its number is registered for none, and no tag is lacking for it
 pub record MayAdd (w : World) (query : Query) : Type 0 where
@@ -82,7 +86,7 @@ abbrev pub left_world : World → (Listener → Bool) → Cover → Delta → Wo
 left_world w stays c delta =
     record w {
       listeners = filter stays w.listeners;
-      brought = recover (forms c.listeners) (map (λ k. k.form) c.kept) w.brought;
+      brought = recover (listening c.listeners) (map (λ k. k.form) c.kept) w.brought;
       kept = c.kept;
       outgoing = w.outgoing ++ changing w.is_connected delta;
       next_tag = c.next_tag;

@@ -1,13 +1,11 @@
 -- What each kind of step leaves and tells, part by part, as a core makes it.
 use Rattle.std.specs.Prelude.{◌≡◌, ◌<◌, ℕ, ◌+◌, Bool, true, false, not, if◌then◌else◌, List, [], ◌∷◌}
 use Rattle.std.specs.Prelude.{◌++◌, map, ◌==◌, Option, Some, None}
-use Rattle.std.specs.List.{filter, find, fold, list_all, All}
-use Rattle.std.specs.Option.{option_map_or, option_and_then, option_to_list}
-use Rattle.rt_tree.specs.PathTree.{Path, PathTree}
+use Rattle.std.specs.List.{filter, find, fold, All}
+use Rattle.std.specs.Option.{option_and_then, option_to_list}
 use Rattle.rt_tree.specs.Assignments.{Assignment, is_at_or_above}
 use Rattle.rt_query.specs.Queries.{Query}
 use Rattle.rt_writes.specs.Writes.{Write, IsShallow, without}
-use Rattle.rt_cache.specs.Brought.{push, is_without_window}
 use Rattle.rt_wire.specs.declared.client.ClientMessage.{ClientMessage}
 use Rattle.rt_wire.specs.declared.request.Action.{Action}
 use Rattle.rt_wire.specs.declared.request.Asked.{Asked}
@@ -16,12 +14,14 @@ use Rattle.rt_wire.specs.declared.request.Ending.{Ending}
 use Rattle.rt_world.specs.declared.report.Note.{Note}
 use Rattle.rt_world.specs.declared.step.Step.{Step}
 use Rattle.rt_world.specs.World.{Reason, World, entries_of, pending, listen_of}
-use Rattle.rt_world.specs.After.{requests_after, pushed}
-use Rattle.rt_world.specs.Messages.{listens, request_message, request_sent}
+use Rattle.rt_world.specs.After.{kind, requests_after, part_pushed, pushed}
+use Rattle.rt_world.specs.Messages.{greeting, request_sent}
 use Rattle.rt_world.specs.Messages.{messages_online, next}
 use Rattle.rt_world.specs.Refusals.{refusal, is_stale}
 use Rattle.rt_world.specs.Answers.{settled_note, batch_notes, done_report}
-use Rattle.rt_world.specs.Touched.{entries_settled, entries_by}
+use Rattle.rt_world.specs.Touched.{entries_settled, entries_pushed, entries_by}
+use Rattle.rt_world.specs.steps.Kind.{Part}
+use Rattle.rt_world.specs.steps.Pushing.{push_of}
 use Rattle.rt_world.specs.Met.{renewed_met, all_told}
 use Rattle.rt_world.specs.Called.{IsCalled}
 use Rattle.rt_world.specs.Reached.{IsReached}
@@ -94,66 +94,45 @@ RefusedIsMade =
 
 -- ---- pushes
 
--- the world once the entries are pushed on the listen of the query
-abbrev pub pushed_world : World → Query → List Assignment → World
-pushed_world w q entries =
-    let brought = fold (push q) w.brought entries in
+-- the world once the parts are pushed
+abbrev pub pushed_world : World → List Part → World
+pushed_world w parts =
+    let brought = fold (part_pushed w) w.brought parts in
     record w {
-      listeners = map (renewed_met entries brought (pending w.requests)) w.listeners;
+      listeners = map (renewed_met (entries_pushed parts) brought (pending w.requests)) w.listeners;
       brought = brought;
     }
 
--- what the listeners are told then
-abbrev pub pushed_told : World → Query → List Assignment → List Note
-pushed_told w q entries =
-    all_told entries (fold (push q) w.brought entries) (pending w.requests) w.listeners
+-- what the listeners are told then: each once, however many parts it meets
+abbrev pub pushed_told : World → List Part → List Note
+pushed_told w parts =
+    all_told (entries_pushed parts) (fold (part_pushed w) w.brought parts) (pending w.requests)
+    w.listeners
 
--- a push of one tree
-abbrev pub DataIsMade : Type 0
-DataIsMade =
-    (w : World) (tag : ℕ) (path : Path) (tree : PathTree) → let s = Step.Data tag path tree in
-    IsMade w s → IsReached w → (q : Query) → listen_of w tag ≡ Some q
-    → let entries = (path, tree) ∷ [] in
-    Leaves w s (pushed_world w q entries) (pushed_told w q entries)
+-- a push of these parts, in whatever form it came
+abbrev pub Pushes : List Part → Step → Type 0
+Pushes parts s = kind s ≡ push_of parts
 
--- of several
-abbrev pub MergeIsMade : Type 0
-MergeIsMade =
-    (w : World) (tag : ℕ) (entries : List Assignment) → let s = Step.DataMerge tag entries in
-    IsMade w s → IsReached w → (q : Query) → listen_of w tag ≡ Some q
-    → Leaves w s (pushed_world w q entries) (pushed_told w q entries)
+-- what it makes
+abbrev pub PushIsMade : Type 0
+PushIsMade =
+    (w : World) (s : Step) (parts : List Part) → Pushes parts s
+    → IsMade w s → IsReached w → Leaves w s (pushed_world w parts) (pushed_told w parts)
 
 -- an entry that may be pushed on the listen of the query
 pub record IsPushOn (q : Query) (a : Assignment) : Type 0 where
   pub under : is_at_or_above q.path a.0 ≡ true
   pub shallow : IsShallow a
 
--- so may that of a push of one tree that is not refused
-abbrev pub DataMayPush : Type 0
-DataMayPush =
-    (w : World) (tag : ℕ) (path : Path) (tree : PathTree)
-    → refusal w (Step.Data tag path tree) ≡ None
-    → (q : Query) → listen_of w tag ≡ Some q → IsPushOn q (path, tree)
+-- so may each entry of a part, where its tag is kept
+abbrev pub IsPartOn : World → Part → Type 0
+IsPartOn w p = (q : Query) → listen_of w p.0 ≡ Some q → All (IsPushOn q) p.1
 
--- and each of several
-abbrev pub MergeMayPush : Type 0
-MergeMayPush =
-    (w : World) (tag : ℕ) (entries : List Assignment)
-    → refusal w (Step.DataMerge tag entries) ≡ None
-    → (q : Query) → listen_of w tag ≡ Some q → All (IsPushOn q) entries
-
--- a push is stale where its tag is not kept, or all its entries want a window
-abbrev pub DataIsStale : Type 0
-DataIsStale =
-    (w : World) (tag : ℕ) (path : Path) (tree : PathTree)
-    → is_stale w (Step.Data tag path tree)
-    ≡ option_map_or (λ q. is_without_window w.brought q (path, tree)) (listen_of w tag) true
-
-abbrev pub MergeIsStale : Type 0
-MergeIsStale =
-    (w : World) (tag : ℕ) (entries : List Assignment)
-    → is_stale w (Step.DataMerge tag entries)
-    ≡ option_map_or (λ q. list_all (is_without_window w.brought q) entries) (listen_of w tag) true
+-- so is each part of a push that is not refused
+abbrev pub PushMayPush : Type 0
+PushMayPush =
+    (w : World) (s : Step) (parts : List Part) → Pushes parts s → refusal w s ≡ None
+    → All (IsPartOn w) parts
 
 -- ---- requests and the connection
 
@@ -192,14 +171,14 @@ EndingIsMade =
     (w : World) (seat : ℕ) (ending : Ending) → let s = Step.OnDisconnect seat ending in
     IsMade w s → IsReached w → Leaves w s (asked_world w seat (AtDisconnect ending)) []
 
--- a connection that opens sends the listens that are kept, and then the unsettled requests
+-- a connection that opens sends the version, the listens that are kept, and then the unsettled requests
 abbrev pub ConnectedIsMade : Type 0
 ConnectedIsMade =
     (w : World) → let s = Step.Connected in
     IsMade w s → IsReached w
     → Leaves w s (record w {
       is_connected = true;
-      outgoing = listens w.kept ++ map request_message w.requests;
+      outgoing = greeting w;
     }) []
 
 -- one that ends drops what is to be sent

@@ -4,11 +4,10 @@ use Rattle.std.specs.Prelude.{None, Ok, Err}
 use Rattle.std.specs.List.{find, All}
 use Rattle.std.specs.Option.{option_map_or, option_or}
 use Rattle.rt_cache.specs.Recover.{recover}
-use Rattle.rt_cover.specs.Cover.{forms}
 use Rattle.rt_world.specs.declared.report.Outcome.TheVariants.{Done}
 use Rattle.rt_world.specs.declared.report.Report.{Report}
 use Rattle.rt_world.specs.declared.step.Step.{Step}
-use Rattle.rt_world.specs.World.{World, Listener, registered, pending}
+use Rattle.rt_world.specs.World.{World, Listener, registered, listening, pending}
 use Rattle.rt_world.specs.Views.{is_known}
 use Rattle.rt_world.specs.After.{listeners_after, requests_after, pushed, is_connected_after}
 use Rattle.rt_world.specs.After.{listener_given, request_given, counted}
@@ -42,7 +41,7 @@ pub record Makes (old : World) (s : Step) (new : World) : Type 0 where
   pub listeners : map unseen new.listeners ≡ map unseen (listeners_after old s)
   pub requests : new.requests ≡ requests_after old s
   pub brought : new.brought
-      ≡ recover (forms (registered new.listeners)) (map (λ k. k.form) new.kept) (pushed old s)
+      ≡ recover (listening (registered new.listeners)) (map (λ k. k.form) new.kept) (pushed old s)
   pub connected : new.is_connected ≡ is_connected_after old s
   pub next_listener : new.next_listener ≡ counted old.next_listener (listener_given old s)
   pub next_request : new.next_request ≡ counted old.next_request (request_given old s)

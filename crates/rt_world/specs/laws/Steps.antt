@@ -1,12 +1,13 @@
 -- Laws of one step of a world that holds what holds between steps, for whoever keeps such a world.
 use Rattle.std.specs.Prelude.{◌≡◌, ◌<◌, ◌==◌, ℕ, true, false, not, List, [], ◌∷◌, ◌++◌, map}
-use Rattle.std.specs.Prelude.{Option, None}
+use Rattle.std.specs.Prelude.{Option, Some, None}
 use Rattle.std.specs.List.{filter, filter_map, find, list_any, AllPairs, Contains}
 use Rattle.std.specs.Option.{option_and_then, option_to_list}
 use Rattle.rt_tree.specs.Assignments.{do_overlap}
 use Rattle.rt_query.specs.Queries.{Query}
 use Rattle.rt_writes.specs.Writes.{Write, without}
-use Rattle.rt_cache.specs.Brought.{Brought}
+use Rattle.rt_query.specs.Supply.{form}
+use Rattle.rt_cache.specs.Brought.{Brought, with_form, may_put}
 use Rattle.rt_wire.specs.declared.request.Action.{Action}
 use Rattle.rt_wire.specs.declared.request.Asked.TheVariants.{Now, AtDisconnect}
 use Rattle.rt_wire.specs.declared.request.Ending.{Ending}
@@ -15,6 +16,7 @@ use Rattle.rt_world.specs.declared.report.Note.{Note}
 use Rattle.rt_world.specs.declared.request.Request.{Request}
 use Rattle.rt_world.specs.declared.step.Step.{Step}
 use Rattle.rt_world.specs.World.{Reason, Listener, World, empty_world, entries_of, pending}
+use Rattle.rt_world.specs.World.{listen_of}
 use Rattle.rt_world.specs.After.{listeners_after, requests_after, kept_after, started_by, pushed}
 use Rattle.rt_world.specs.After.{brought_after, renewed}
 use Rattle.rt_world.specs.steps.Closing.{unseated}
@@ -99,11 +101,18 @@ PushIsBrought =
     (w : World) (s : Step) → IsSound w → IsCalled w.brought → IsReached w → refusal w s ≡ None
     → changes_listeners s ≡ false → brought_after w s ≡ pushed w s
 
--- where a step registers a listener its change of cover leaves what is brought
+-- where a step registers a listener its change of cover leaves what is brought, with the listener's
+-- form registered
 abbrev pub ListenBringsNothing : Type 0
 ListenBringsNothing =
     (w : World) (seat : ℕ) (query : Query) → IsSound w → IsCalled w.brought → IsReached w
-    → brought_after w (Step.Listen seat query) ≡ w.brought
+    → brought_after w (Step.Listen seat query) ≡ with_form (form query) w.brought
+
+-- a push may be put on each listen that is kept
+abbrev pub KeptMayBePut : Type 0
+KeptMayBePut =
+    (w : World) (tag : ℕ) (query : Query) → IsSound w → IsReached w → listen_of w tag ≡ Some query
+    → may_put w.brought query ≡ true
 
 -- ---- pending writes
 

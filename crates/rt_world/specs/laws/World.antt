@@ -15,7 +15,7 @@ use Rattle.rt_world.specs.declared.step.Step.{Step}
 use Rattle.rt_world.specs.Plain.{IsPlainStep, fold_both, writes_by, brought_by}
 use Rattle.rt_world.specs.World.{Listener, World, empty_world, pending}
 use Rattle.rt_world.specs.After.{kind}
-use Rattle.rt_world.specs.Messages.{listens, request_message}
+use Rattle.rt_world.specs.Messages.{greeting}
 use Rattle.rt_world.specs.Refusals.{refusal}
 use Rattle.rt_world.specs.Answers.{step, answers, world_after}
 use Rattle.rt_world.specs.Runs.{made, heard, left_to_send}
@@ -120,9 +120,10 @@ abbrev pub MessagesAreHeard : Type 0
 MessagesAreHeard = (w : World) (steps : List Step) → IsSound w
     → (world_after w steps).is_connected ≡ true → SendsWhatIsMade w steps (world_after w steps)
 
--- the messages to be sent are the kept listens by tag, and then the unsettled requests by number
+-- the messages to be sent are the version, the kept listens by tag, and then the unsettled requests by
+-- number
 pub record SendsAll (w : World) : Type 0 where
-  pub sent : w.outgoing ≡ listens w.kept ++ map request_message w.requests
+  pub sent : w.outgoing ≡ greeting w
   pub tags : AllPairs (λ (j k : Tagged). j.tag < k.tag) w.kept
   pub numbers : AllPairs (λ (r s : Request). r.id < s.id) w.requests
 
@@ -149,7 +150,7 @@ IsWritten =
     ≡ fold_both writes_by (pending w.requests) steps (answers w steps)
 
 -- where no listener's query is filtered, what plain listens brought is that of before with the pushes
--- that the steps took in
+-- that the steps took in, and the forms of new listeners are registered there
 abbrev pub IsBrought : Type 0
 IsBrought =
     (w : World) (steps : List Step) → IsSteady w

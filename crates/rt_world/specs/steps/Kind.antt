@@ -1,16 +1,12 @@
 -- What there is to say of a step, whatever its kind.
 use Rattle.std.specs.Prelude.{ℕ, Bool, false, List, [], Option, None}
-use Rattle.rt_tree.specs.Assignments.{Assignment}
 use Rattle.rt_cover.specs.Runs.{Change}
 use Rattle.rt_wire.specs.declared.request.Asked.{Asked}
 use Rattle.rt_world.specs.declared.error.CoreError.{CoreError}
 use Rattle.rt_world.specs.declared.request.Request.{Request}
 use Rattle.rt_world.specs.World.{Reason, Listener, World}
 pub use Rattle.rt_wire.specs.Actions.{stands_too_deep}
-
--- a part of a push: entries for one tag
-abbrev pub Part : Type 0
-Part = ℕ × List Assignment
+pub use Rattle.rt_wire.specs.Parts.{Part}
 
 -- what comes with it, what it changes, when it is refused, when it is stale, and what it leaves
 pub record Kind : Type 0 where
