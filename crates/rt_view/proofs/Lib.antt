@@ -1,3 +1,4 @@
+pub mod AloneLaws
 pub mod Children
 pub mod Listed
 pub mod Placed

@@ -26,10 +26,11 @@ use Rattle.rt_view.specs.Changes.{placed, removals, placed_changes}
 use Rattle.rt_view.specs.inside.Given.{change_of, is_given}
 use Rattle.rt_view.specs.inside.Windows.{Entries, value_at, before, last_key}
 use Rattle.rt_view.specs.inside.Kept.{is_noted, Notes, NotesAll, noted_in, gone_at, gone_from, removed_of, given_in, rows_in_tree}
+use Rattle.rt_view.specs.declared.told.Seen.{Seen}
 use Rattle.rt_view.specs.declared.told.Told.{Told}
 use Rattle.rt_view.specs.declared.told.Was.{Was}
 use Rattle.rt_view.specs.declared.window.Window.{Window}
-use Rattle.rt_view.specs.inside.Telling.{WasShown, given_of, gone_too, keys_in, told_in, told_of, told_too, was_in}
+use Rattle.rt_view.specs.inside.Telling.{AreSeen, IsSeen, given_of, gone_too, keys_in, seen_of, told_in, told_of, told_too, was_in}
 use Rattle.rt_view.proofs.Listed.{IsListed, Once, same_listed, passing, listed-filter, value_at-filter, listed-puts, value_at-puts_all, puts_there, value_at-cons, value_at-children}
 use Rattle.rt_view.proofs.WindowLaws.{above_head, below_of, last_key-push}
 use Rattle.rt_view.proofs.TouchLaws.{is_noted-push}
@@ -207,21 +208,31 @@ told_also index ks k t shown h = at (value_at shown k) refl
     at None e = ap (told_in t shown) (noted_none index ks k shown h e)
     at (Some v) e = told_in-puts t shown (entry index (k, v)) v (noted_in ks shown) ∙ ap (told_in t shown) (noted_some index ks k v shown h e)
 
--- what was shown under one key more
-pub keys_in-more : (was : List Was) (w : Was) → keys_in (was ++ w ∷ []) ≡ keys_in was ++ w.key ∷ []
-keys_in-more was w = map-append (λ v. v.key) was (w ∷ [])
+-- what is shown under one key more
+pub keys_in-more : (seen : List Seen) (s : Seen) → keys_in (seen ++ s ∷ []) ≡ keys_in seen ++ s.key ∷ []
+keys_in-more seen s = map-append (λ r. r.key) seen (s ∷ [])
 
-pub keys_in-was : (t : PathTree) (ks : List Key) → keys_in (was_in t ks) ≡ ks
-keys_in-was t [] = refl
-keys_in-was t (k ∷ ks) = ap (λ js. k ∷ js) (keys_in-was t ks)
+-- what is shown now beside what was shown under these keys
+seen_in : PathTree → Entries → List Key → List Seen
+seen_in t shown ks = map (seen_of shown) (was_in t ks)
 
-had_all : (t : PathTree) (ks : List Key) → All (λ w. w.old ≡ child_of (children_of t) w.key) (was_in t ks)
-had_all t [] = All-nil (λ w. w.old ≡ child_of (children_of t) w.key)
-had_all t (k ∷ ks) = All-cons (λ w. w.old ≡ child_of (children_of t) w.key) (record { key = k; old = child_of (children_of t) k }) (was_in t ks) refl (had_all t ks)
+keys_in-seen : (t : PathTree) (shown : Entries) (ks : List Key) → keys_in (seen_in t shown ks) ≡ ks
+unfolding seen_in
+keys_in-seen t shown [] = refl
+keys_in-seen t shown (k ∷ ks) = ap (λ js. k ∷ js) (keys_in-seen t shown ks)
 
-pub was_in-shown : (index : Index) (t : PathTree) (w : Window) (ks : List Key) (was : List Was) → was ≡ was_in t ks → NotesAll index ks t w → WasShown index t w was
-was_in-shown index t w ks was is notes =
-    subst (λ x. WasShown index t w x) (sym is) (record { had = had_all t ks; notes = subst (λ js. NotesAll index js t w) (sym (keys_in-was t ks)) notes })
+each_seen : (t : PathTree) (shown : Entries) (ks : List Key) → All (IsSeen t shown) (seen_in t shown ks)
+unfolding seen_in
+each_seen t shown [] = All-nil (IsSeen t shown)
+each_seen t shown (k ∷ ks) = All-cons (IsSeen t shown) (record { key = k; old = child_of (children_of t) k; new = value_at shown k }) (seen_in t shown ks) (refl, refl) (each_seen t shown ks)
+
+pub are_seen : (index : Index) (t : PathTree) (w : Window) (ks : List Key) (was : List Was) (seen : List Seen) → was ≡ was_in t ks → seen ≡ map (seen_of w.shown.entries) was → NotesAll index ks t w → AreSeen index t w seen
+unfolding seen_in
+are_seen index t w ks was seen is now notes =
+    subst (λ x. AreSeen index t w x) (sym (now ∙ ap (map (seen_of w.shown.entries)) is)) (record {
+      each = each_seen t w.shown.entries ks;
+      notes = subst (λ js. NotesAll index js t w) (sym (keys_in-seen t w.shown.entries ks)) notes;
+    })
 
 -- the changes of one kind, by what is told
 pub given_of-told : (k : Kind) (index : Index) (t : PathTree) (shown es : Entries) → given_of k index (told_in t shown es) ≡ given_in k index t shown es

@@ -1,4 +1,5 @@
 -- What only the bodies need.
+pub mod Alone
 pub mod Given
 pub mod Kept
 pub mod Positions

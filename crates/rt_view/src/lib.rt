@@ -7,6 +7,7 @@
 //! ```
 #![tactic(auto)]
 
+mod alone;
 mod apply;
 mod batch;
 mod change;

@@ -1,26 +1,27 @@
 // What is told of the noted children.
-ghost use Rattle.std.specs.Prelude.{◌≡◌, ◌==◌, ◌&&◌, ◌++◌, [], true, false, map, length, IfOk, OnOk, None};
-ghost use Rattle.std.specs.Prelude.{Some};
+ghost use Rattle.std.specs.Prelude.{◌≡◌, ◌==◌, ◌&&◌, ◌++◌, [], true, false, map, length, All, IfOk, OnOk, None};
+ghost use Rattle.std.specs.Prelude.{List, Some};
 ghost use Rattle.std.specs.Bool.{OnFalse, OnTrue};
 ghost use Rattle.std.specs.Option.{option_copied, option_eq};
-ghost use Rattle.rt_tree.specs.PathTree.{PathTree, leaf_of};
+ghost use Rattle.rt_tree.specs.PathTree.{Key, PathTree, leaf_of};
 ghost use Rattle.rt_tree.specs.Children.{children_of};
 ghost use Rattle.rt_tree.specs.TreeEq.{leaf_eq};
 ghost use Rattle.rt_query.specs.Queries.{is_filtered};
 ghost use Rattle.rt_query.specs.Select.{select, tree_of};
 ghost use Rattle.rt_query.specs.QueryEq.{shown_eq};
 ghost use Rattle.rt_view.specs.Changes.{changes};
-ghost use Rattle.rt_view.specs.inside.Windows.{value_at};
+ghost use Rattle.rt_view.specs.inside.Windows.{Entries};
 ghost use Rattle.rt_view.specs.inside.Kept.{IsWindowOf, NotesAll, SetsChild, SetsNoted, changes_to};
 ghost use Rattle.rt_view.specs.inside.Kept.{removed_of, shown_by};
-ghost use Rattle.rt_view.specs.inside.Telling.{WasShown, given_of};
+ghost use Rattle.rt_view.specs.inside.Telling.{AreSeen, IsFit, IsSeen, given_of, keys_in, was_in};
+ghost use Rattle.rt_view.specs.declared.window.Window.{Window};
 
 use crate::change::Change;
 use crate::change_list::ChangeList;
 use crate::kind::Kind;
-use crate::place::{drop_child, put_child, shown_at};
+use crate::place::{drop_child, put_child};
 use crate::position::Position;
-use crate::told::{Told, Was, find_all_told, was_at_all};
+use crate::told::{Seen, Told, Was, find_all_told, see_all, was_at_all};
 use crate::window::Window;
 use rt_order::Index;
 use rt_query::Query;
@@ -68,17 +69,16 @@ fn push_given(
 fn row_changes(
     alloc: Global,
     query: &Query,
-    known: &Tree,
     window: &Window,
-    was: &[Was],
+    seen: &[Seen],
 ) -> Result<Vec<Change>, AllocError>
-    requires { IsWindowOf query.now known.now window.now }
-    ensures { IfOk result (λ changes. (t : PathTree)
-        → WasShown query.now.index t window.now was.now
+    ensures { IfOk result (λ changes. (known t : PathTree)
+        → IsWindowOf query.now known window.now
+        → AreSeen query.now.index t window.now seen.now
         → changes.items ≡ changes_to query.now.index t window.now) }
 {
     let index = query.index();
-    let found = find_all_told(alloc, query, known, window, was)?;
+    let found = find_all_told(alloc, query, window, seen)?;
     let mut changes = Vec::new(alloc);
     push_removed(&mut changes, alloc, &found.gone)?;
     push_given(&mut changes, alloc, Kind::Added, index, &found.now)?;
@@ -88,45 +88,31 @@ fn row_changes(
 }
 
 // Puts a child in its place in a tree of children, as it is shown now.
-fn set_child(
-    tree: &mut Tree,
-    alloc: Global,
-    query: &Query,
-    known: &Tree,
-    window: &Window,
-    key: &Key,
-) -> Result<(), AllocError>
-    requires kept { IsWindowOf query.now known.now window.now }
+fn set_child(tree: &mut Tree, alloc: Global, seen: &Seen) -> Result<(), AllocError>
     requires object { leaf_of tree.old ≡ None }
+    requires fits { IsFit seen.now }
     ensures object { OnOk result (leaf_of tree.new ≡ None) }
-    ensures set { OnOk result (SetsChild key.now (value_at window.now.shown.entries key.now)
-        (children_of tree.old) (children_of tree.new)) }
+    ensures set { OnOk result (SetsChild seen.now.key seen.now.new (children_of tree.old)
+        (children_of tree.new)) }
 {
-    let Some(child) = shown_at(alloc, query, known, window, key)? else {
-        drop_child(tree, alloc, key)?;
+    let Some(child) = &seen.new else {
+        drop_child(tree, alloc, &seen.key)?;
         return Ok(());
     };
-    put_child(tree, alloc, key, child)?;
+    put_child(tree, alloc, &seen.key, child)?;
     Ok(())
 }
 
 // Puts the noted children in their places in a tree of children, as they are shown now.
-fn set_noted(
-    tree: &mut Tree,
-    alloc: Global,
-    query: &Query,
-    known: &Tree,
-    window: &Window,
-    noted: &[Key],
-) -> Result<(), AllocError>
-    requires kept { IsWindowOf query.now known.now window.now }
+fn set_noted(tree: &mut Tree, alloc: Global, seen: &[Seen]) -> Result<(), AllocError>
     requires object { leaf_of tree.old ≡ None }
+    requires fits { All IsFit seen.now }
     ensures object { OnOk result (leaf_of tree.new ≡ None) }
-    ensures set { OnOk result (SetsNoted noted.now window.now.shown.entries (children_of tree.old)
-        (children_of tree.new)) }
+    ensures set { OnOk result ((t : PathTree) (shown : Entries) → All (IsSeen t shown) seen.now
+        → SetsNoted (keys_in seen.now) shown (children_of tree.old) (children_of tree.new)) }
 {
-    for key in noted {
-        set_child(tree, alloc, query, known, window, key)?;
+    for one in seen {
+        set_child(tree, alloc, one)?;
     }
     Ok(())
 }
@@ -151,11 +137,13 @@ pub fn tell_filtered(
         (select query.now known.now)) }
 {
     let was = was_at_all(alloc, tree, noted)?;
-    let mut changes = row_changes(alloc, query, known, window, was.as_slice())?;
+    let found = see_all(alloc, query, known, window, was.as_slice())?;
+    let seen = found.as_slice();
+    let mut changes = row_changes(alloc, query, window, seen)?;
     if changes.is_empty() {
         return Ok(ChangeList::of(changes));
     }
-    set_noted(tree, alloc, query, known, window, noted)?;
+    set_noted(tree, alloc, seen)?;
     let value = tree.copy(alloc)?;
     changes.push(Change::Value { value })?;
     Ok(ChangeList::of(changes))
@@ -176,9 +164,34 @@ fn is_same_plain(changes: &[Change], known: &Tree, leaf: Option<&Leaf>) -> bool
     }
 }
 
-// The changes to what is shown now from a tree that was shown, where the query isn't filtered: the
-// known tree is shown as it is. Of the tree before there is only what was under the noted keys, and
-// the leaf that it was, or none.
+// The changes of the rows, and then the whole view, where it differs from a tree that was shown. The
+// query isn't filtered, so the known tree is shown as it is. Of the tree before there is only the leaf
+// that it was, or none.
+pub fn with_value(
+    alloc: Global,
+    query: &Query,
+    known: &Tree,
+    rows: Vec<Change>,
+    leaf: Option<&Leaf>,
+) -> Result<ChangeList, AllocError>
+    requires { is_filtered query.now ≡ false }
+    ensures { IfOk result (λ list. (window : Window) (t : PathTree)
+        → IsWindowOf query.now known.now window → rows.items ≡ changes_to query.now.index t window
+        → leaf_of t ≡ option_copied leaf.entry
+        → list ≡ changes query.now.index (Some (shown_by query.now.index t))
+        (select query.now known.now)) }
+{
+    let mut rows = rows;
+    if is_same_plain(rows.as_slice(), known, leaf) {
+        return Ok(ChangeList::of(rows));
+    }
+    let value = known.copy(alloc)?;
+    rows.push(Change::Value { value })?;
+    Ok(ChangeList::of(rows))
+}
+
+// The changes to what is shown now from a tree that was shown, where the query isn't filtered. Of the
+// tree before there is only what was under the noted keys, and the leaf that it was, or none.
 pub fn tell_plain(
     alloc: Global,
     query: &Query,
@@ -189,16 +202,12 @@ pub fn tell_plain(
 ) -> Result<ChangeList, AllocError>
     requires kept { IsWindowOf query.now known.now window.now }
     requires plain { is_filtered query.now ≡ false }
-    ensures { IfOk result (λ list. (t : PathTree) → WasShown query.now.index t window.now was.now
-        → leaf_of t ≡ option_copied leaf.entry
+    ensures { IfOk result (λ list. (t : PathTree) (ks : List Key) → was.now ≡ was_in t ks
+        → NotesAll query.now.index ks t window.now → leaf_of t ≡ option_copied leaf.entry
         → list ≡ changes query.now.index (Some (shown_by query.now.index t))
         (select query.now known.now)) }
 {
-    let mut changes = row_changes(alloc, query, known, window, was)?;
-    if is_same_plain(changes.as_slice(), known, leaf) {
-        return Ok(ChangeList::of(changes));
-    }
-    let value = known.copy(alloc)?;
-    changes.push(Change::Value { value })?;
-    Ok(ChangeList::of(changes))
+    let found = see_all(alloc, query, known, window, was)?;
+    let rows = row_changes(alloc, query, window, found.as_slice())?;
+    with_value(alloc, query, known, rows, leaf)
 }

@@ -5,9 +5,10 @@ ghost use Rattle.std.specs.FinMap as map_of;
 ghost use Rattle.rt_tree.specs.PathTree.{PathTree, child_of};
 ghost use Rattle.rt_tree.specs.Children.{children_of};
 ghost use Rattle.rt_order.specs.Entries.{entry, entry_cmp};
-ghost use Rattle.rt_view.specs.inside.Windows.{before, value_at};
+ghost use Rattle.rt_view.specs.inside.Windows.{before};
 ghost use Rattle.rt_view.specs.inside.Kept.{IsWindowOf, gone_at, gone_from, noted_in, rows_in_tree};
-ghost use Rattle.rt_view.specs.inside.Telling.{gone_too, keys_in, told_in, told_too, was_in};
+ghost use Rattle.rt_view.specs.inside.Telling.{IsFit, IsSeen, gone_too, keys_in, seen_of, told_in};
+ghost use Rattle.rt_view.specs.inside.Telling.{told_too, was_in};
 
 use crate::change::copy_key;
 use crate::place::{child_at, shown_at};
@@ -28,6 +29,23 @@ pub struct Was {
 impl Drop for Was {
     fn drop(self) {
         let Was { key: _, old: _ } = self;
+    }
+}
+
+// What was shown under a key, and what is shown there now.
+pub struct Seen {
+    pub key: Key,
+    pub old: Option<Tree>,
+    pub new: Option<Tree>,
+}
+
+impl Drop for Seen {
+    fn drop(self) {
+        let Seen {
+            key: _,
+            old: _,
+            new: _,
+        } = self;
     }
 }
 
@@ -110,6 +128,44 @@ pub fn was_at_named(
     Ok(was)
 }
 
+// What is shown under a key now, beside what was. It is looked for here alone.
+fn see(
+    alloc: Global,
+    query: &Query,
+    known: &Tree,
+    window: &Window,
+    was: &Was,
+) -> Result<Seen, AllocError>
+    requires { IsWindowOf query.now known.now window.now }
+    ensures seen { IfOk result (λ seen. seen ≡ seen_of window.now.shown.entries was.now) }
+    ensures fits { IfOk result IsFit }
+{
+    let new = copy_tree(alloc, shown_at(alloc, query, known, window, &was.key)?)?;
+    let old = copy_tree(alloc, was.old.as_ref())?;
+    let key = was.key.copy()?;
+    Ok(Seen { key, old, new })
+}
+
+// What is shown under these keys now, beside what was.
+pub fn see_all(
+    alloc: Global,
+    query: &Query,
+    known: &Tree,
+    window: &Window,
+    was: &[Was],
+) -> Result<Vec<Seen>, AllocError>
+    requires { IsWindowOf query.now known.now window.now }
+    ensures seen { IfOk result (λ seen. seen.items
+        ≡ map (seen_of window.now.shown.entries) was.now) }
+    ensures fits { IfOk result (λ seen. All IsFit seen.items) }
+{
+    let mut seen = Vec::with_capacity(alloc, was.len())?;
+    for one in was {
+        seen.push(see(alloc, query, known, window, one)?)?;
+    }
+    Ok(seen)
+}
+
 // Puts a child that is gone in its place.
 fn put_gone(
     gone: &mut BTreeMap<Position, Tree>,
@@ -168,23 +224,20 @@ fn put_told(
 fn find_told(
     noted: &mut Noted,
     alloc: Global,
-    query: &Query,
-    known: &Tree,
+    index: &Index,
     window: &Window,
-    was: &Was,
+    seen: &Seen,
 ) -> Result<(), AllocError>
-    requires { IsWindowOf query.now known.now window.now }
-    ensures gone { OnOk result (noted.new.gone.entries ≡ gone_too query.now.index was.now.key
-        (gone_at (value_at window.now.shown.entries was.now.key) was.now.old) noted.old.gone.entries) }
-    ensures now { OnOk result (noted.new.now.entries ≡ told_too query.now.index was.now
-        window.now.shown.entries (value_at window.now.shown.entries was.now.key)
-        noted.old.now.entries) }
+    ensures gone { OnOk result (noted.new.gone.entries ≡ gone_too index.now seen.now.key
+        (gone_at seen.now.new seen.now.old) noted.old.gone.entries) }
+    ensures now { OnOk result (noted.new.now.entries ≡ told_too index.now
+        (record { key = seen.now.key; old = seen.now.old }) window.now.shown.entries
+        seen.now.new noted.old.now.entries) }
 {
-    let index = query.index();
-    let old = was.old.as_ref();
-    match (old, shown_at(alloc, query, known, window, &was.key)?) {
-        (old, Some(new)) => put_told(&mut noted.now, alloc, index, window, &was.key, old, new),
-        (Some(old), None) => put_gone(&mut noted.gone, alloc, index, &was.key, old),
+    let key = &seen.key;
+    match (seen.old.as_ref(), seen.new.as_ref()) {
+        (old, Some(new)) => put_told(&mut noted.now, alloc, index, window, key, old, new),
+        (Some(old), None) => put_gone(&mut noted.gone, alloc, index, key, old),
         (None, None) => Ok(()),
     }
 }
@@ -193,26 +246,24 @@ fn find_told(
 pub fn find_all_told(
     alloc: Global,
     query: &Query,
-    known: &Tree,
     window: &Window,
-    was: &[Was],
+    seen: &[Seen],
 ) -> Result<Noted, AllocError>
-    requires { IsWindowOf query.now known.now window.now }
-    ensures gone { IfOk result (λ noted. (t : PathTree)
-        → All (λ w. w.old ≡ child_of (children_of t) w.key) was.now
-        → noted.gone.entries ≡ gone_from (keys_in was.now) window.now.shown.entries
+    ensures gone { IfOk result (λ noted. (known t : PathTree)
+        → IsWindowOf query.now known window.now → All (IsSeen t window.now.shown.entries) seen.now
+        → noted.gone.entries ≡ gone_from (keys_in seen.now) window.now.shown.entries
         (rows_in_tree query.now.index t)) }
-    ensures now { IfOk result (λ noted. (t : PathTree)
-        → All (λ w. w.old ≡ child_of (children_of t) w.key) was.now
+    ensures now { IfOk result (λ noted. (known t : PathTree)
+        → IsWindowOf query.now known window.now → All (IsSeen t window.now.shown.entries) seen.now
         → noted.now.entries ≡ told_in t window.now.shown.entries
-        (noted_in (keys_in was.now) window.now.shown.entries)) }
+        (noted_in (keys_in seen.now) window.now.shown.entries)) }
 {
     let mut noted = Noted {
         gone: BTreeMap::new(alloc),
         now: BTreeMap::new(alloc),
     };
-    for one in was {
-        find_told(&mut noted, alloc, query, known, window, one)?;
+    for one in seen {
+        find_told(&mut noted, alloc, query.index(), window, one)?;
     }
     Ok(noted)
 }

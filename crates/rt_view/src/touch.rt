@@ -10,10 +10,11 @@ ghost use Rattle.rt_view.specs.inside.Windows.{Becomes, IsWhole, all_of};
 ghost use Rattle.rt_view.specs.inside.Kept.{IsWindowOf, Notes, NotesBeside, brought_in, noted_too};
 ghost use Rattle.rt_view.specs.inside.Telling.{left_by, takes_place};
 
+use crate::alone::changes_alone;
 use crate::change_list::ChangeList;
 use crate::place::{child_at, copy_leaf, put_child};
 use crate::position::Position;
-use crate::tell::{tell_filtered, tell_plain};
+use crate::tell::{tell_filtered, tell_plain, with_value};
 use crate::told::was_at_named;
 use crate::window::Window;
 use rt_order::{Index, sort_value, value_cmp};
@@ -163,6 +164,35 @@ fn touch_all(
     Ok(noted)
 }
 
+// Puts one child in the place of the one at its key, and tells what changes. The query isn't filtered,
+// so the known tree is what is shown, and crosses no limit. What stood at the key is found once: where
+// the new one goes, and what is told of it, follow from that.
+fn touch_alone(
+    known: &mut Tree,
+    window: &mut Window,
+    alloc: Global,
+    query: &Query,
+    key: &Key,
+    child: &Tree,
+) -> Result<ChangeList, AllocError>
+    requires kept { IsWindowOf query.now known.old window.old }
+    requires plain { is_filtered query.now ≡ false }
+    requires fits { levels child.now ≤ MAX_KEYS }
+    ensures put { OnOk result (known.new ≡ put known.old (key.now ∷ []) child.now) }
+    ensures kept { OnOk result (IsWindowOf query.now known.new window.new) }
+    ensures changes { IfOk result (λ list. list ≡ changes query.now.index
+        (Some (select query.now known.old)) (select query.now known.new)) }
+{
+    let mut noted = Vec::new(alloc);
+    let old = child_at(known, key);
+    take_out(window, &mut noted, alloc, query, key, old, child)?;
+    bring_in(window, &mut noted, alloc, query, key, child)?;
+    let rows = changes_alone(alloc, query.index(), window, key, old, child)?;
+    let leaf = copy_leaf(alloc, known)?;
+    put_child(known, alloc, key, child)?;
+    with_value(alloc, query, known, rows, leaf.as_ref())
+}
+
 // Puts the named children in their places, and tells what changes. The query isn't filtered, so the
 // known tree is what is shown, and crosses no limit: the named children are all that change.
 pub fn touch_plain(
@@ -180,6 +210,11 @@ pub fn touch_plain(
     ensures changes { IfOk result (λ list. list ≡ changes query.now.index
         (Some (select query.now known.old)) (select query.now known.new)) }
 {
+    if let Some((first, rest)) = named.split_first() {
+        if rest.is_empty() {
+            return touch_alone(known, window, alloc, query, &first.0, &first.1);
+        }
+    }
     let was = was_at_named(alloc, known, named)?;
     let leaf = copy_leaf(alloc, known)?;
     drop(touch_all(known, window, alloc, query, named)?);

@@ -1,14 +1,16 @@
 -- What is told of the noted children, each found once.
-use Rattle.std.specs.Prelude.{◌≡◌, Bool, not, ◌&&◌, if◌then◌else◌, List, map, Option, Some, None}
+use Rattle.std.specs.Prelude.{◌≡◌, ◌≤◌, Bool, false, not, ◌&&◌, if◌then◌else◌, List, map, Option}
+use Rattle.std.specs.Prelude.{Some, None, IfSome}
 use Rattle.std.specs.List.{All, filter}
 use Rattle.std.specs.Ordering.{is_eq}
 use Rattle.std.specs.FinMap as map_of
-use Rattle.rt_tree.specs.PathTree.{Key, PathTree, is_null, child_of}
+use Rattle.rt_tree.specs.PathTree.{Key, PathTree, is_null, levels, child_of}
 use Rattle.rt_tree.specs.Children.{children_of}
 use Rattle.rt_order.specs.declared.index.Index.{Index}
 use Rattle.rt_order.specs.Entries.{Entry, entry, entry_cmp, sort_value}
 use Rattle.rt_order.specs.Values.{value_cmp}
 use Rattle.rt_query.specs.Queries.{Query}
+use Rattle.rt_view.specs.declared.told.Seen.{Seen}
 use Rattle.rt_view.specs.declared.told.Told.{Told}
 use Rattle.rt_view.specs.declared.told.Was.{Was}
 use Rattle.rt_view.specs.declared.window.Window.{Window}
@@ -16,7 +18,7 @@ use Rattle.rt_view.specs.declared.change.Change.{Change}
 use Rattle.rt_view.specs.declared.kind.Kind.{Kind}
 use Rattle.rt_view.specs.inside.Given.{change_of, is_given}
 use Rattle.rt_view.specs.inside.Kept.{NotesAll, taken_out}
-use Rattle.rt_view.specs.inside.Windows.{Entries, before}
+use Rattle.rt_view.specs.inside.Windows.{Entries, before, value_at}
 
 -- ---- a child that comes
 
@@ -30,19 +32,31 @@ abbrev pub left_by : Query → Key → Option PathTree → PathTree → Entries 
 left_by q k None new es = es
 left_by q k (Some t) new es = if takes_place q.index t new then es else taken_out q k (Some t) es
 
--- ---- what was shown
+-- ---- what was shown, and what is shown now
 
 -- what was shown under these keys, of a tree that was shown
 abbrev pub was_in : PathTree → List Key → List Was
 was_in t ks = map (λ k. record { key = k; old = child_of (children_of t) k }) ks
 
-abbrev pub keys_in : List Was → List Key
-keys_in was = map (λ w. w.key) was
+-- and what is shown now beside it
+abbrev pub seen_of : Entries → Was → Seen
+seen_of shown w = record { key = w.key; old = w.old; new = value_at shown w.key }
 
--- a tree that was shown: it had these children, and under other keys than theirs the same is shown
-pub record WasShown (index : Index) (t : PathTree) (window : Window) (was : List Was) : Type 0 where
-  pub had : All (λ w. w.old ≡ child_of (children_of t) w.key) was
-  pub notes : NotesAll index (keys_in was) t window
+abbrev pub keys_in : List Seen → List Key
+keys_in seen = map (λ s. s.key) seen
+
+-- it was shown of a tree, and is shown now
+abbrev pub IsSeen : PathTree → Entries → Seen → Type 0
+IsSeen t shown s = (s.old ≡ child_of (children_of t) s.key) × (s.new ≡ value_at shown s.key)
+
+-- what is shown now is not null, and fits below a key
+abbrev pub IsFit : Seen → Type 0
+IsFit s = IfSome s.new (λ t. (is_null t ≡ false) × (levels t ≤ 32))
+
+-- what was shown of a tree and what is shown now, where under other keys than these the same is shown
+pub record AreSeen (index : Index) (t : PathTree) (window : Window) (seen : List Seen) : Type 0 where
+  pub each : All (IsSeen t window.shown.entries) seen
+  pub notes : NotesAll index (keys_in seen) t window
 
 -- ---- a child that is shown now
 

@@ -1,23 +1,12 @@
-use Rattle.std.proofs.Common.{◌++◌, ◌∷◌, [], sym, ◌∙◌}
-use Rattle.std.specs.Option.{option_copied}
-use Rattle.rt_query.specs.laws.Select.{select-whole}
-use Rattle.rt_view.specs.declared.change.Change.TheVariants.{Value}
-use Rattle.rt_view.proofs.TreeLaws.{plain_same, told_same, told_other}
+use Rattle.std.proofs.Common.{◌∙◌}
+use Rattle.std.proofs.lemmas.Result.{IfOk-weaker}
+use Rattle.rt_view.proofs.TellLaws.{are_seen}
 use Rattle.rt_view.proofs.tell.tell_plain.Goals as goal
 
-pub returns-then-is_same_plain : goal.returns-then-is_same_plain
-returns-then-is_same_plain c t was old =
-    let q = c.args.query.now in
-    let rows = c.in_ok-changes.ensures t was in
-    let same = sym (plain_same q c.args.known.now t c.args.window.now c.as_slice.result.now (option_copied c.args.leaf) c.requires.kept c.requires.plain (c.as_slice.ensures.value ∙ rows) old)
-    ∙ sym c.is_same_plain.ensures ∙ c.if-is_same_plain.true in
-    c.of.ensures ∙ rows ∙ told_same q c.args.known.now t c.args.window.now c.requires.kept same
-
 pub returns : goal.returns
-returns c t was old =
-    let q = c.args.query.now in
-    let rows = c.in_ok-changes.ensures t was in
-    let other = sym (plain_same q c.args.known.now t c.args.window.now c.as_slice.result.now (option_copied c.args.leaf) c.requires.kept c.requires.plain (c.as_slice.ensures.value ∙ rows) old)
-    ∙ sym c.is_same_plain.ensures ∙ c.if-is_same_plain.false in
-    c.of-2.ensures ∙ c.in_ok-push.ensures.items ∙ (λ i. rows i ++ Value ((c.in_ok-value.ensures ∙ sym (select-whole q c.args.known.now c.requires.plain)) i) ∷ [])
-    ∙ told_other q c.args.known.now t c.args.window.now c.requires.kept other
+returns c =
+    IfOk-weaker c.with_value.result _ _
+    (λ list told t ks was notes old.
+    let seen = are_seen c.args.query.now.index t c.args.window.now ks _ _ was (c.as_slice.ensures.value ∙ c.in_ok-found.ensures.seen) notes in
+    told c.args.window.now t c.requires.kept (c.in_ok-rows.ensures c.args.known.now t c.requires.kept seen) old)
+    c.with_value.ensures

@@ -1,50 +1,49 @@
 use Rattle.std.proofs.Common.{◌≡◌, ◌+◌, [], ◌∷◌, ◌++◌, List, take, ap, sym, subst, ◌∙◌}
 use Rattle.std.proofs.lemmas.List.{take_all}
 use Rattle.std.proofs.lemmas.List.Elements.{All-get_or}
-use Rattle.rt_tree.specs.PathTree.{Key, child_of}
-use Rattle.rt_tree.specs.Children.{children_of}
-use Rattle.rt_view.specs.declared.told.Was.{Was}
-use Rattle.rt_view.specs.inside.Windows.{value_at}
+use Rattle.rt_tree.specs.PathTree.{Key}
+use Rattle.rt_view.specs.declared.told.Seen.{Seen}
+use Rattle.rt_view.specs.inside.Windows.{Entries}
 use Rattle.rt_view.specs.inside.Kept.{gone_at, gone_from, noted_in, rows_in_tree}
-use Rattle.rt_view.specs.inside.Telling.{gone_too, keys_in, told_in, told_too}
+use Rattle.rt_view.specs.inside.Telling.{IsSeen, gone_too, keys_in, told_in, told_too}
 use Rattle.rt_view.proofs.Listed.{listed-children, value_at-children}
 use Rattle.rt_view.proofs.TellLaws.{next_taken, keys_in-more, gone_also, told_also, noted_nothing, gone_nothing}
 use Rattle.rt_view.proofs.TreeLaws.{listed-window}
 use Rattle.rt_view.proofs.told.find_all_told.Goals as goal
 
 pub loop-one-init : goal.loop-one-init
-loop-one-init c t had = (
+loop-one-init c known t kept had = (
   c.new.ensures.empty ∙ sym (gone_nothing c.args.window.now.shown.entries (rows_in_tree c.args.query.now.index t)),
   c.new-2.ensures.empty ∙ ap (told_in t c.args.window.now.shown.entries) (sym (noted_nothing c.args.window.now.shown.entries)),
 )
 
 pub loop-one-preserved : goal.loop-one-preserved
-loop-one-preserved c t had =
+loop-one-preserved c known t kept had =
     let index = c.args.query.now.index in
-    let new = c.args.window.now.shown.entries in
+    let own = c.index.ensures in
+    let new : Entries = c.args.window.now.shown.entries in
     let old = rows_in_tree index t in
-    let was : List Was = c.args.was.now in
-    let one : Was = c.one-item.result in
-    let ks : List Key = keys_in (take c.loop-one.one-index was) in
-    let next : keys_in (take (c.loop-one.one-index + 1) was) ≡ ks ++ one.key ∷ [] =
-    ap keys_in (next_taken was c.loop-one.one-index one c.loop-one-test.true c.one-item.is) ∙ keys_in-more (take c.loop-one.one-index was) one in
-    let at : one.old ≡ child_of (children_of t) one.key =
-    subst (λ (w : Was). w.old ≡ child_of (children_of t) w.key) (sym c.one-item.is) (All-get_or (λ w. w.old ≡ child_of (children_of t) w.key) was c.loop-one.one-index one c.loop-one-test.true had) in
-    let before = c.loop-one.invariant t had in
-    let listed = listed-window c.args.query.now c.args.known.now c.args.window.now c.requires in (
+    let seen : List Seen = c.args.seen.now in
+    let one : Seen = c.one-item.result in
+    let ks : List Key = keys_in (take c.loop-one.one-index seen) in
+    let next : keys_in (take (c.loop-one.one-index + 1) seen) ≡ ks ++ one.key ∷ [] =
+    ap keys_in (next_taken seen c.loop-one.one-index one c.loop-one-test.true c.one-item.is) ∙ keys_in-more (take c.loop-one.one-index seen) one in
+    let at : IsSeen t new one = subst (λ (s : Seen). IsSeen t new s) (sym c.one-item.is) (All-get_or (IsSeen t new) seen c.loop-one.one-index one c.loop-one-test.true had) in
+    let before = c.loop-one.invariant known t kept had in
+    let listed = listed-window c.args.query.now known c.args.window.now kept in (
       c.in_ok-find_told.ensures.gone
-          ∙ (λ i. gone_too index one.key (gone_at (value_at new one.key) ((at ∙ sym (value_at-children index t one.key)) i)) (before.0 i))
+          ∙ (λ i. gone_too (own i) one.key (gone_at (at.1 i) ((at.0 ∙ sym (value_at-children index t one.key)) i)) (before.0 i))
           ∙ gone_also index ks one.key new old (listed-children index t) ∙ ap (λ js. gone_from js new old) (sym next),
-      c.in_ok-find_told.ensures.now ∙ (λ i. told_too index (record { key = one.key; old = at i }) new (value_at new one.key) (before.1 i))
+      c.in_ok-find_told.ensures.now ∙ (λ i. told_too (own i) (record { key = one.key; old = at.0 i }) new (at.1 i) (before.1 i))
           ∙ told_also index ks one.key t new listed ∙ ap (λ js. told_in t new (noted_in js new)) (sym next),
     )
 
 pub returns-clause-gone : goal.returns-clause-gone
-returns-clause-gone c t had =
-    (c.loop-one.invariant t had).0
-    ∙ ap (λ ws. gone_from (keys_in ws) c.args.window.now.shown.entries (rows_in_tree c.args.query.now.index t)) (take_all c.loop-one.one-index c.args.was.now c.loop-one-test.false)
+returns-clause-gone c known t kept had =
+    (c.loop-one.invariant known t kept had).0
+    ∙ ap (λ ws. gone_from (keys_in ws) c.args.window.now.shown.entries (rows_in_tree c.args.query.now.index t)) (take_all c.loop-one.one-index c.args.seen.now c.loop-one-test.false)
 
 pub returns-clause-now : goal.returns-clause-now
-returns-clause-now c t had =
-    (c.loop-one.invariant t had).1
-    ∙ ap (λ ws. told_in t c.args.window.now.shown.entries (noted_in (keys_in ws) c.args.window.now.shown.entries)) (take_all c.loop-one.one-index c.args.was.now c.loop-one-test.false)
+returns-clause-now c known t kept had =
+    (c.loop-one.invariant known t kept had).1
+    ∙ ap (λ ws. told_in t c.args.window.now.shown.entries (noted_in (keys_in ws) c.args.window.now.shown.entries)) (take_all c.loop-one.one-index c.args.seen.now c.loop-one-test.false)

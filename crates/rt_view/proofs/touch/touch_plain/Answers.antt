@@ -6,7 +6,6 @@ use Rattle.rt_query.specs.Select.{select}
 use Rattle.rt_view.specs.Changes.{changes}
 use Rattle.rt_view.specs.inside.Windows.{Entries, value_at}
 use Rattle.rt_view.specs.inside.Kept.{NotesAll, is_noted}
-use Rattle.rt_view.proofs.TellLaws.{was_in-shown}
 use Rattle.rt_view.proofs.TreeLaws.{plain_limit, plain_rows, plain_shown}
 use Rattle.rt_view.proofs.touch.touch_plain.Goals as goal
 
@@ -22,8 +21,7 @@ returns-clause-changes c =
       (c.in_ok-touch_all.ensures.notes k (ap (λ js. is_noted js k) own ∙ e)).1
           ∙ ap (λ (es : Entries). value_at es k) (sym (plain_rows q t c.args.window.now c.requires.plain c.requires.kept)),
     ) in
-    let was = was_in-shown q.index t c.touch_all.new.window ks _ (c.as_slice.ensures.value ∙ c.in_ok-was.ensures) notes in
     let leaf : leaf_of t ≡ option_copied c.as_ref.result = search rules in
     IfOk-weaker c.tell_plain.result _ _
-    (λ list told. told t was leaf ∙ ap (λ v. changes q.index (Some v) (select q c.touch_all.new.known)) (plain_shown q t c.args.window.now c.requires.plain c.requires.kept))
+    (λ list told. told t ks (c.as_slice.ensures.value ∙ c.in_ok-was.ensures) notes leaf ∙ ap (λ v. changes q.index (Some v) (select q c.touch_all.new.known)) (plain_shown q t c.args.window.now c.requires.plain c.requires.kept))
     c.tell_plain.ensures
