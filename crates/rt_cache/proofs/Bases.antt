@@ -40,13 +40,13 @@ form_window q ws h = at (is_filtered q) refl
 abbrev pub found : Option PathTree → Option Window → Option Base
 found t w = option_or (option_map (λ t. record { tree = t; whole = true }) t) (option_map (λ (x : Window). record { tree = x.children; whole = x.is_whole }) w)
 
-pub base_found : (rs : List Region) (ws : List inside.Window) (q : Query) (t : Option PathTree) (w : Option Window) → AreFiltered (in_query_order (entries_of ws))
-    → region_part (pairs_of rs) q.path ≡ t → map_of.find query_cmp q (entries_of ws) ≡ w → base (held rs ws) q ≡ found t w
-base_found rs ws q t w h e f = λ i. found (e i) ((form_window q (in_query_order (entries_of ws)) h ∙ find-listed q (entries_of ws) ∙ f) i)
+pub base_found : (fs : List Query) (rs : List Region) (ws : List inside.Window) (q : Query) (t : Option PathTree) (w : Option Window) → AreFiltered (in_query_order (entries_of ws))
+    → region_part (pairs_of rs) q.path ≡ t → map_of.find query_cmp q (entries_of ws) ≡ w → base (held fs rs ws) q ≡ found t w
+base_found fs rs ws q t w h e f = λ i. found (e i) ((form_window q (in_query_order (entries_of ws)) h ∙ find-listed q (entries_of ws) ∙ f) i)
 
-pub knows_found : (rs : List Region) (ws : List inside.Window) (q : Query) → AreFiltered (in_query_order (entries_of ws))
-    → knows (held rs ws) q ≡ (is_some (region_part (pairs_of rs) q.path) || is_some (map_of.find query_cmp q (entries_of ws)))
-knows_found rs ws q h = ap is_some (base_found rs ws q _ _ h refl refl) ∙ either (region_part (pairs_of rs) q.path) (map_of.find query_cmp q (entries_of ws))
+pub knows_found : (fs : List Query) (rs : List Region) (ws : List inside.Window) (q : Query) → AreFiltered (in_query_order (entries_of ws))
+    → knows (held fs rs ws) q ≡ (is_some (region_part (pairs_of rs) q.path) || is_some (map_of.find query_cmp q (entries_of ws)))
+knows_found fs rs ws q h = ap is_some (base_found fs rs ws q _ _ h refl refl) ∙ either (region_part (pairs_of rs) q.path) (map_of.find query_cmp q (entries_of ws))
   where
     either : (t : Option PathTree) (w : Option Window) → is_some (found t w) ≡ (is_some t || is_some w)
     either (Some t) w = refl
@@ -54,9 +54,9 @@ knows_found rs ws q h = ap is_some (base_found rs ws q _ _ h refl refl) ∙ eith
     either None None = refl
 
 -- a filtered query lacks a window, by what is found where they are kept
-pub lacks_found : (rs : List Region) (ws : List inside.Window) (q : Query) (p : Path) (u : PathTree) → is_filtered q ≡ true → path_eq q.path p ≡ false
-    → not (is_some (map_of.find query_cmp q (entries_of ws))) ≡ is_without_window (held rs ws) q (p, u)
-lacks_found rs ws q p u filtered other = sym (λ i. filtered i && not (other i) && not (is_some (find-listed q (entries_of ws) i)))
+pub lacks_found : (fs : List Query) (rs : List Region) (ws : List inside.Window) (q : Query) (p : Path) (u : PathTree) → is_filtered q ≡ true → path_eq q.path p ≡ false
+    → not (is_some (map_of.find query_cmp q (entries_of ws))) ≡ is_without_window (held fs rs ws) q (p, u)
+lacks_found fs rs ws q p u filtered other = sym (λ i. filtered i && not (other i) && not (is_some (find-listed q (entries_of ws) i)))
 
 pub child_seen : (t : PathTree) (o : Option Path) (tree : PathTree) (k : Key) (w : Option Window) → Some tree ≡ option_map (λ rest. child (sub t rest) k) o
     → Some (record { tree = tree; whole = true }) ≡ option_map (child_base k) (found (option_map (sub t) o) w)

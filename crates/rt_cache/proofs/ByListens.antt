@@ -1,5 +1,5 @@
 -- The parts that stay, listen by listen: in the order of paths they are those of the lost regions.
-use Rattle.std.proofs.Common.{◌≡◌, ℕ, zero, suc, ◌<◌, arith, length, get_or, drop, append-nil, append_assoc, Bool, true, false, cond, not, ◌||◌, ◌&&◌, List, [], ◌∷◌, ◌++◌, refl, sym, ap, subst, ◌∙◌, Option, Some, None, is_some}
+use Rattle.std.proofs.Common.{◌≡◌, ℕ, zero, suc, ◌<◌, arith, length, get_or, drop, append_assoc, Bool, true, false, cond, not, ◌||◌, ◌&&◌, List, [], ◌∷◌, ◌++◌, refl, sym, ap, ◌∙◌, Option, Some, None, is_some}
 use Rattle.std.specs.Ordering.{eq_by_cmp}
 use Rattle.std.specs.Option.{option_map, option_or}
 use Rattle.std.specs.List.{filter, flat_map, filter_map, list_any, cons_option}
@@ -9,7 +9,7 @@ use Rattle.rt_tree.specs.PathTree.{Path, PathTree, path_cmp, paths_total, exact_
 use Rattle.rt_tree.specs.Assignments.{do_overlap, have_overlap}
 use Rattle.rt_query.specs.Queries.{Query, is_filtered}
 use Rattle.rt_cache.specs.Brought.{region_part}
-use Rattle.rt_cache.specs.Recover.{reaches, part_for, parts_of, plain_spots, with_regions}
+use Rattle.rt_cache.specs.Recover.{reaches, parts_of, plain_spots, with_regions}
 use Rattle.rt_cache.specs.declared.region.Region.{Region}
 use Rattle.rt_cache.specs.inside.Held.{pair_of, pairs_of}
 use Rattle.rt_cache.specs.inside.Cuts.{part_below, parts_left}
@@ -22,10 +22,10 @@ use Rattle.rt_cache.proofs.Stays.{Regions, overlaps}
 -- ---- what is found at a path
 
 -- whether one of the plain listens has this path
-abbrev has_plain : List Query → Path → Bool
+abbrev pub has_plain : List Query → Path → Bool
 has_plain kept x = list_any (λ k. not (is_filtered k) && eq_by_cmp path_cmp x k.path) kept
 
-neither : (b : Bool) (o : Option PathTree) → o ≡ None → cond b o None ≡ None
+pub neither : (b : Bool) (o : Option PathTree) → o ≡ None → cond b o None ≡ None
 neither true o e = e
 neither false o e = refl
 
@@ -76,7 +76,7 @@ find-parts x (k ∷ kept) r =
           ∙ in_front (part_of r) x k.path (parts_of kept r) (has_plain kept x) (find-parts x kept r)
     ]
 
-find-by_regions : (x : Path) (kept : List Query) (ls : Regions) → map_of.find path_cmp x (flat_map (parts_of kept) ls) ≡ cond (has_plain kept x) (region_part ls x) None
+pub find-by_regions : (x : Path) (kept : List Query) (ls : Regions) → map_of.find path_cmp x (flat_map (parts_of kept) ls) ≡ cond (has_plain kept x) (region_part ls x) None
 find-by_regions x kept [] = sym (neither (has_plain kept x) None refl)
 find-by_regions x kept (r ∷ ls) =
     find-both x (parts_of kept r) (flat_map (parts_of kept) ls)
@@ -86,7 +86,7 @@ find-by_regions x kept (r ∷ ls) =
       | false ↦ refl
     ]
 
-find-by_listens : (x : Path) (kept : List Query) (ls : Regions) → map_of.find path_cmp x (filter_map (part_below ls) kept) ≡ cond (has_plain kept x) (region_part ls x) None
+pub find-by_listens : (x : Path) (kept : List Query) (ls : Regions) → map_of.find path_cmp x (filter_map (part_below ls) kept) ≡ cond (has_plain kept x) (region_part ls x) None
 find-by_listens x [] ls = refl
 find-by_listens x (k ∷ kept) ls =
     elim (is_filtered k) as (λ b. map_of.find path_cmp x (cons_option (cond b None (option_map (λ t. (k.path, t)) (region_part ls k.path))) (filter_map (part_below ls) kept))
@@ -125,7 +125,7 @@ apart_from p (k ∷ kept) ls e =
     each_listed (λ ps. overlaps p ps ≡ false) ls k _ rest
     (λ u f. or_false _ _ (or_left _ (overlaps p (plain_spots kept)) (ap (overlaps p) (sym (spot_first k kept f)) ∙ e)) rest)
 
-listed_apart : (kept : List Query) (ls : Regions) → have_overlap (plain_spots kept) ≡ false → have_overlap (filter_map (part_below ls) kept) ≡ false
+pub listed_apart : (kept : List Query) (ls : Regions) → have_overlap (plain_spots kept) ≡ false → have_overlap (filter_map (part_below ls) kept) ≡ false
 listed_apart [] ls e = refl
 listed_apart (k ∷ kept) ls e =
     let rest = listed_apart kept ls (spot_behind have_overlap k kept (λ x xs h. or_right (overlaps x.0 xs) _ h) e) in
@@ -136,9 +136,6 @@ listed_apart (k ∷ kept) ls e =
 
 abbrev lost_of : List Query → Regions → Regions
 lost_of kept rs = filter (λ r. not (reaches kept r.0)) rs
-
-pub by_listens_apart : (kept : List Query) (rs : Regions) → have_overlap (plain_spots kept) ≡ false → have_overlap (filter_map (part_below (filter (λ r. not (reaches kept r.0)) rs)) kept) ≡ false
-by_listens_apart kept rs h = listed_apart kept (lost_of kept rs) h
 
 pub by_listens : (kept : List Query) (rs : Regions) → have_overlap (plain_spots kept) ≡ false → have_overlap rs ≡ false
     → with_regions [] (filter_map (part_below (filter (λ r. not (reaches kept r.0)) rs)) kept) ≡ parts_left kept rs

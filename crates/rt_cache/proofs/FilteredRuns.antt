@@ -111,7 +111,7 @@ plain_kept : (q : Query) (b : Brought) (a : Assignment) → is_at_or_above a.0 q
     → window_of (push_plain b a).windows q ≡ window_of b.windows q
 plain_kept q b a e =
     elim (is_some (region_part b.regions a.0)) as (λ o. window_of (cond o (record b { regions = map (region_put a) b.regions })
-    (record { regions = map_of.put path_cmp a.0 a.1 (filter (λ r. not (is_at_or_above a.0 r.0)) b.regions); windows = filter (λ w. not (is_at_or_above a.0 (w.0).path)) b.windows })).windows q ≡ window_of b.windows q) [
+    (record b { regions = map_of.put path_cmp a.0 a.1 (filter (λ r. not (is_at_or_above a.0 r.0)) b.regions); windows = filter (λ w. not (is_at_or_above a.0 (w.0).path)) b.windows })).windows q ≡ window_of b.windows q) [
       | true ↦ refl
       | false ↦ find-where_key query_cmp (λ r. not (is_at_or_above a.0 r.path)) q (λ x f. ap (λ r. not (is_at_or_above a.0 r.path)) (sym (exact_queries q x f))) b.windows
           ∙ ap (λ t. cond (not t) (window_of b.windows q) None) e
@@ -397,11 +397,11 @@ since_begun q before later c w f ok e l =
     let first = begins q before c w f ok e in
     let then_all = run_keeps q later (after (after_all nothing_brought before) c) (window_as w) f l first.0 first.1 in
     ap (λ b. base b q) (after_append before (c ∷ later) nothing_brought)
-    ∙ base_seen _ q None _ f (unseen q.path _ then_all.0) then_all.1
+    ∙ base_seen (after_all (after_all nothing_brought before) (c ∷ later)) q None _ f (unseen q.path _ then_all.0) then_all.1
 
 gone_base : (q : Query) (calls : List Call) → is_filtered q ≡ true → is_known calls q.path ≡ false
     → window_of (after_all nothing_brought calls).windows q ≡ None → base (after_all nothing_brought calls) q ≡ None
-gone_base q calls f k gone = base_seen _ q None None f (unseen q.path _ (known_is q calls ∙ k)) gone
+gone_base q calls f k gone = base_seen (after_all nothing_brought calls) q None None f (unseen q.path _ (known_is q calls ∙ k)) gone
 
 told_base : (calls : List Call) (q : Query) → All IsAllowed calls → is_filtered q ≡ true
     → Stands q calls → Tells calls q (base (after_all nothing_brought calls) q)

@@ -1,34 +1,26 @@
 -- Windows of forms that are registered no more.
-use Rattle.std.proofs.Common.{◌≡◌, ℕ, zero, suc, ◌+◌, ◌<◌, ◌≤◌, arith, length, take, drop, get_or, Bool, true, false, cond, not, ◌&&◌, ◌||◌, List, [], ◌∷◌, refl, sym, ap, ◌∙◌, Option, Some, None, is_some}
+use Rattle.std.proofs.Common.{◌≡◌, ℕ, zero, suc, ◌+◌, ◌<◌, arith, length, take, drop, get_or, Bool, true, false, cond, not, ◌||◌, List, [], ◌∷◌, refl, sym, ap, ◌∙◌, Option, Some, None}
 use Rattle.std.specs.declared.cmp.Ordering.TheVariants.{Equal}
 use Rattle.std.specs.Ordering.{is_lt, eq_by_cmp}
-use Rattle.std.specs.Option.{option_map, option_or}
-use Rattle.std.specs.List.{filter, remove, flat_map, list_any, All, AllPairs}
+use Rattle.std.specs.List.{filter, remove, list_any, All, AllPairs}
 use Rattle.std.specs.Cmp.{Equal-is, eq_by_cmp_equiv}
 use Rattle.std.specs.FinMap as map_of
 use Rattle.std.specs.FinMap.Entries.{is_sorted-where_key, find-where_key}
-use Rattle.std.proofs.lemmas.List.Elements.{All-append, All-take, All-drop, All-head, All-tail, All-filter}
+use Rattle.std.proofs.lemmas.List.Elements.{All-append, All-take, All-drop, All-head, All-tail}
 use Rattle.std.proofs.lemmas.List.Kept.{AllPairs-cons}
 use Rattle.std.proofs.lemmas.List.Sorted.{sorted_far}
-use Rattle.rt_tree.specs.PathTree.{levels, children_alone}
-use Rattle.rt_tree.specs.declared.limits.TheConstants.{MAX_LEVELS}
-use Rattle.rt_query.specs.Queries.{Query, is_filtered}
+use Rattle.rt_query.specs.Queries.{Query}
 use Rattle.rt_query.specs.QueryEq.{query_eq}
 use Rattle.rt_query.specs.laws.QueryEq.{query_eq_tells}
 use Rattle.rt_cache.specs.QueryOrder.{query_cmp}
-use Rattle.rt_cache.specs.Brought.{Window, Brought, region_part, window_of}
-use Rattle.rt_cache.specs.Canonical.{IsCanonical, FitsLevels}
-use Rattle.rt_cache.specs.Recover.{reaches, parts_of, with_regions, regions_kept, in_query_order, window_kept, windows_kept, recover, is_among, forgotten, EndsForms}
-use Rattle.rt_cache.specs.declared.region.Region.{Region}
+use Rattle.rt_cache.specs.Brought.{Window, window_of}
+use Rattle.rt_cache.specs.Recover.{in_query_order, is_among}
 use Rattle.rt_cache.specs.declared.window.Window as inside
 use Rattle.rt_cache.specs.inside.ByPath.{by_query, AreByPath}
-use Rattle.rt_cache.specs.inside.Held.{seen_window, entries_of, pairs_of, held, for_each}
+use Rattle.rt_cache.specs.inside.Held.{seen_window, entries_of}
 use Rattle.rt_cache.proofs.ByPaths.{query_ranks}
-use Rattle.rt_cache.proofs.InSpans.{filter_all, filter_none}
-use Rattle.rt_cache.proofs.Keeping.{find-for_each}
 use Rattle.rt_cache.proofs.Listing.{Listed, listed_is, listed_sorted, find-listed}
 use Rattle.rt_cache.proofs.QueryOrders.{queries_total, exact_queries, tie_is_eq}
-use Rattle.rt_cache.proofs.Stays.{Regions}
 
 -- ---- one taken out
 
@@ -89,37 +81,10 @@ others_listed forms ws vs found =
     alike : (x y : Query) → query_cmp x y ≡ Equal → not (is_among forms y) ≡ not (is_among forms x)
     alike x y e = ap (λ q. not (is_among forms q)) (sym (exact_queries x y e))
 
--- ---- what is held of it
-
-pub forgotten_inside : (forms : List Query) (rs : List Region) (ws vs : List inside.Window)
-    → in_query_order (entries_of vs) ≡ filter (λ w. not (is_among forms w.0)) (in_query_order (entries_of ws)) → held rs vs ≡ forgotten forms (held rs ws)
-forgotten_inside forms rs ws vs e = λ i. record { regions = pairs_of rs; windows = e i }
-
-pub forgotten_stays : (forms : List Query) (b : Brought) → IsCanonical b → IsCanonical (forgotten forms b)
-forgotten_stays forms b h = record {
-  regions = h.regions;
-  apart = h.apart;
-  windows = is_sorted-where_key query_cmp (λ q. not (is_among forms q)) b.windows h.windows;
-  filtered = All-filter (λ w. not (is_among forms w.0)) (λ (w : Query × Window). is_filtered w.0 ≡ true) b.windows h.filtered;
-}
-
-pub forgotten_fits : (forms : List Query) (b : Brought) → FitsLevels b → FitsLevels (forgotten forms b)
-forgotten_fits forms b h = record {
-  regions = h.regions;
-  windows = All-filter (λ w. not (is_among forms w.0)) (λ (w : Query × Window). length (w.0).path + levels (w.1).children ≤ MAX_LEVELS) b.windows h.windows;
-}
-
--- ---- where no plain listen ends, a change of cover leaves no more
-
-unleft : (rs : Regions) (ws : Listed) (x : Query) → window_kept rs rs ws x ≡ window_of ws x
-unleft rs ws x =
-    elim (region_part rs x.path) as (λ o. option_or (cond (is_filtered x && not (is_some o)) (option_map (λ t. record { children = children_alone t; is_whole = true }) o) None) (window_of ws x) ≡ window_of ws x) [
-      | None ↦ elim (is_filtered x) as (λ b. option_or (cond (b && true) None None) (window_of ws x) ≡ window_of ws x) [ true ↦ refl | false ↦ refl ]
-      | Some t ↦ elim (is_filtered x) as (λ b. option_or (cond (b && false) (Some (record { children = children_alone t; is_whole = true })) None) (window_of ws x) ≡ window_of ws x) [ true ↦ refl | false ↦ refl ]
-    ]
+-- ---- tests of their queries
 
 -- a test that holds of the windows alike finds alike
-alike_found : (p r : Query → Bool) (ws : Listed) → All (λ (w : Query × Window). p w.0 ≡ r w.0) ws → (x : Query) → cond (p x) (window_of ws x) None ≡ cond (r x) (window_of ws x) None
+pub alike_found : (p r : Query → Bool) (ws : Listed) → All (λ (w : Query × Window). p w.0 ≡ r w.0) ws → (x : Query) → cond (p x) (window_of ws x) None ≡ cond (r x) (window_of ws x) None
 alike_found p r [] h x = none (p x) ∙ sym (none (r x))
   where
     none : (b : Bool) → cond b (window_of [] x) None ≡ window_of [] x
@@ -132,25 +97,3 @@ alike_found p r (w ∷ ws) h x =
           ap (λ b. cond b (Some w.1) None) (ap p same ∙ All-head (λ (v : Query × Window). p v.0 ≡ r v.0) w ws h ∙ ap r (sym same))
       | false ↦ λ e. alike_found p r ws (All-tail (λ (v : Query × Window). p v.0 ≡ r v.0) w ws h) x
     ] refl
-
-pub recovers_forgotten : (forms registered kept : List Query) (b : Brought) → IsCanonical b → EndsForms forms registered kept b → forgotten forms b ≡ recover registered kept b
-recovers_forgotten forms registered kept b h ends = λ i. record { regions = sym regions i; windows = sym windows i }
-  where
-    rs : Regions
-    rs = b.regions
-
-    regions : regions_kept kept rs ≡ rs
-    regions = λ i. with_regions (filter_all (λ r. reaches kept r.0) rs ends.regions i)
-        (flat_map (parts_of kept) (filter_none (λ r. not (reaches kept r.0)) rs (λ k d lt. ap not (ends.regions k d lt)) i))
-
-    alike : (x y : Query) → query_cmp x y ≡ Equal → not (is_among forms y) ≡ not (is_among forms x)
-    alike x y e = ap (λ q. not (is_among forms q)) (sym (exact_queries x y e))
-
-    windows : windows_kept registered rs (regions_kept kept rs) b.windows ≡ filter (λ w. not (is_among forms w.0)) b.windows
-    windows =
-        ap (λ ss. windows_kept registered rs ss b.windows) regions
-        ∙ listed_is (for_each (window_kept rs rs b.windows) registered) _ (is_sorted-where_key query_cmp (λ q. not (is_among forms q)) b.windows h.windows)
-        (λ x. find-for_each (window_kept rs rs b.windows) x registered
-        ∙ ap (λ o. cond (is_among registered x) o None) (unleft rs b.windows x)
-        ∙ alike_found (is_among registered) (λ q. not (is_among forms q)) b.windows ends.windows x
-        ∙ sym (find-where_key query_cmp (λ q. not (is_among forms q)) x (alike x) b.windows))

@@ -324,17 +324,17 @@ recover_fits registered kept b forms listens h = record {
 -- ---- what is held
 
 -- after a push, or a refusal of it
-pub filtered_fits : {A E : Type 0} (r : Result A E) (rs : List Region) (ws xs : List inside.Window)
+pub filtered_fits : {A E : Type 0} (r : Result A E) (fs : List Query) (rs : List Region) (ws xs : List inside.Window)
     (q : Query) (a : Assignment) → is_filtered q ≡ true → Fits a.0 a.1
     → OnOk r (in_query_order (entries_of xs) ≡ pushed_windows q a (in_query_order (entries_of ws)))
     → OnErr r (in_query_order (entries_of xs) ≡ in_query_order (entries_of ws))
-    → FitsLevels (held rs ws) → FitsLevels (held rs xs)
-filtered_fits (Ok x) rs ws xs q a f new ok err h =
-    let pushed : held rs xs ≡ push q (held rs ws) a =
-    (λ i. record { regions = pairs_of rs; windows = ok i }) ∙ push_of_filtered q (held rs ws) a f in
-    subst FitsLevels (sym pushed) (push_fits q (held rs ws) a new h)
-filtered_fits (Err e) rs ws xs q a f new ok err h =
-    subst (λ es. FitsLevels (record { regions = pairs_of rs; windows = es })) (sym err) h
+    → FitsLevels (held fs rs ws) → FitsLevels (held fs rs xs)
+filtered_fits (Ok x) fs rs ws xs q a f new ok err h =
+    let pushed : held fs rs xs ≡ push q (held fs rs ws) a =
+    (λ i. record { registered = fs; regions = pairs_of rs; windows = ok i }) ∙ push_of_filtered q (held fs rs ws) a f in
+    subst FitsLevels (sym pushed) (push_fits q (held fs rs ws) a new h)
+filtered_fits (Err e) fs rs ws xs q a f new ok err h =
+    subst (λ es. FitsLevels (record { registered = fs; regions = pairs_of rs; windows = es })) (sym err) h
 
 pub plain_fits : {A E : Type 0} (r : Result A E) (new old : Brought) (q : Query) (a : Assignment)
     → is_filtered q ≡ false → Fits a.0 a.1 → OnOk r (new ≡ push_plain old a) → OnErr r (new ≡ old)

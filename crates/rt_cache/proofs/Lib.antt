@@ -1,8 +1,11 @@
 pub mod Bases
+pub mod Belonging
 pub mod ByListens
 pub mod ByPaths
 pub mod Changes
 pub mod Cuts
+pub mod CutSlices
+pub mod Ending
 pub mod FilteredRuns
 pub mod Forgetting
 pub mod Halves
@@ -16,6 +19,7 @@ pub mod Places
 pub mod Pushes
 pub mod QueryOrders
 pub mod RecoverLaws
+pub mod Removing
 pub mod RunLaws
 pub mod Sharing
 pub mod Stays

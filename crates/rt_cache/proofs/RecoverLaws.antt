@@ -161,7 +161,7 @@ pub pushed_all : (P : Path × PathTree → Type 0) (b : Brought) (a : Assignment
     → All P (push_plain b a).regions
 pushed_all P b a new keep h =
     elim (is_some (region_part b.regions a.0)) as (λ c.
-    All P (cond c (record b { regions = map (region_put a) b.regions }) (record {
+    All P (cond c (record b { regions = map (region_put a) b.regions }) (record b {
       regions = map_of.put path_cmp a.0 a.1 (filter (λ r. not (is_at_or_above a.0 r.0)) b.regions);
       windows = filter (λ w. not (is_at_or_above a.0 (w.0).path)) b.windows;
     })).regions) [
@@ -237,7 +237,7 @@ pushed_windows_all P q b a new h =
     plainly : All P (push_plain b a).windows
     plainly =
         elim (is_some (region_part b.regions a.0)) as (λ c. All P (cond c
-        (record b { regions = map (region_put a) b.regions }) (record {
+        (record b { regions = map (region_put a) b.regions }) (record b {
           regions = map_of.put path_cmp a.0 a.1 (filter (λ r. not (is_at_or_above a.0 r.0)) b.regions);
           windows = filter (λ w. not (is_at_or_above a.0 (w.0).path)) b.windows;
         })).windows) [
@@ -278,7 +278,7 @@ left_none true None = refl
 left_none true (Some t) = refl
 left_none false o = refl
 
-among : (registered : List Query) (q : Query) → Contains registered q → is_among registered q ≡ true
+pub among : (registered : List Query) (q : Query) → Contains registered q → is_among registered q ≡ true
 among registered q m = list_any_at (λ x. query_eq x q) registered m.0 q m.1
     (ap (λ x. query_eq x q) m.2 ∙ (query_eq_tells q q).1 refl)
 
@@ -317,16 +317,17 @@ windows_stay registered rs ws sorted h =
     ∙ found_registered registered ws q h)
 
 -- where a plain listen that is kept reaches each region, and each window is of a registered form, a
--- change of cover changes nothing
+-- change of cover changes nothing but the registered forms
 pub nothing_lost : (registered kept : List Query) (b : Brought) → IsCanonical b
     → All (λ (r : Path × PathTree). reaches kept r.0 ≡ true) b.regions
-    → All (λ (w : Query × Window). Contains registered w.0) b.windows → recover registered kept b ≡ b
+    → All (λ (w : Query × Window). Contains registered w.0) b.windows
+    → recover registered kept b ≡ record b { registered = registered }
 nothing_lost registered kept b h reached known =
     let same = regions_stay kept b.regions reached in
     let windows : windows_kept registered b.regions (regions_kept kept b.regions) b.windows ≡ b.windows =
     ap (λ rs. windows_kept registered b.regions rs b.windows) same
     ∙ windows_stay registered b.regions b.windows h.windows known in
-    λ i. record { regions = same i; windows = windows i }
+    λ i. record { registered = registered; regions = same i; windows = windows i }
 
 -- ---- runs of calls
 

@@ -147,7 +147,7 @@ known_inside : (p : Path) (a : Assignment) (rs : Regions)
 known_inside p a [] = refl
 known_inside p a (r ∷ rs) = ap (λ b. is_at_or_above r.0 p || b) (known_inside p a rs)
 
-any_under : (x p : Path) (rs : Regions) → any_above x rs ≡ true → is_at_or_above x p ≡ true
+pub any_under : (x p : Path) (rs : Regions) → any_above x rs ≡ true → is_at_or_above x p ≡ true
     → any_above p rs ≡ true
 any_under x p [] e f = e
 any_under x p (r ∷ rs) e f =
@@ -256,7 +256,7 @@ true_plain : (t : PathTree) (b : Brought) (a : Assignment) → have_overlap b.re
     → IsTrueTo t b.regions → IsTrueTo (put t a.0 a.1) (push_plain b a).regions
 true_plain t b a e h =
     elim (is_some (region_part b.regions a.0)) as (λ o. is_some (region_part b.regions a.0) ≡ o → IsTrueTo (put t a.0 a.1)
-    (cond o (record b { regions = map (region_put a) b.regions }) (record { regions = map_of.put path_cmp a.0 a.1 (filter (λ r. not (is_at_or_above a.0 r.0)) b.regions); windows = filter (λ w. not (is_at_or_above a.0 (w.0).path)) b.windows })).regions) [
+    (cond o (record b { regions = map (region_put a) b.regions }) (record b { regions = map_of.put path_cmp a.0 a.1 (filter (λ r. not (is_at_or_above a.0 r.0)) b.regions); windows = filter (λ w. not (is_at_or_above a.0 (w.0).path)) b.windows })).regions) [
       | true ↦ λ f. true_inside t a b.regions (clean a.0 b.regions e (sym (part_any a.0 b.regions) ∙ f)) h
       | false ↦ λ f. true_put (put t a.0 a.1) a.0 a.1 _
           (sym (ap (sub (put t a.0 a.1)) (sym (append-nil a.0)) ∙ sub-put_above t a.0 [] a.1 ∙ sub_root a.1))
@@ -267,7 +267,7 @@ known_plain : (p : Path) (b : Brought) (a : Assignment)
     → any_above p (push_plain b a).regions ≡ (any_above p b.regions || is_at_or_above a.0 p)
 known_plain p b a =
     elim (is_some (region_part b.regions a.0)) as (λ o. is_some (region_part b.regions a.0) ≡ o → any_above p
-    (cond o (record b { regions = map (region_put a) b.regions }) (record { regions = map_of.put path_cmp a.0 a.1 (filter (λ r. not (is_at_or_above a.0 r.0)) b.regions); windows = filter (λ w. not (is_at_or_above a.0 (w.0).path)) b.windows })).regions
+    (cond o (record b { regions = map (region_put a) b.regions }) (record b { regions = map_of.put path_cmp a.0 a.1 (filter (λ r. not (is_at_or_above a.0 r.0)) b.regions); windows = filter (λ w. not (is_at_or_above a.0 (w.0).path)) b.windows })).regions
     ≡ (any_above p b.regions || is_at_or_above a.0 p)) [
       | true ↦ λ f. known_inside p a b.regions ∙ inside (any_above p b.regions) (is_at_or_above a.0 p) (λ g. any_under a.0 p b.regions (sym (part_any a.0 b.regions) ∙ f) g)
       | false ↦ λ f. any_put p a.0 a.1 (filter (λ r. not (is_at_or_above a.0 r.0)) b.regions)

@@ -140,7 +140,7 @@ plain_stays b a h = at (is_some (region_part b.regions a.0)) refl
   where
     at : (o : Bool) → is_some (region_part b.regions a.0) ≡ o → IsCanonical (push_plain b a)
     at true e =
-        subst (λ c. IsCanonical (cond c (record b { regions = map (region_put a) b.regions }) (record { regions = map_of.put path_cmp a.0 a.1 (filter (λ r. not (is_at_or_above a.0 r.0)) b.regions); windows = filter (λ w. not (is_at_or_above a.0 (w.0).path)) b.windows }))) (sym e)
+        subst (λ c. IsCanonical (cond c (record b { regions = map (region_put a) b.regions }) (record b { regions = map_of.put path_cmp a.0 a.1 (filter (λ r. not (is_at_or_above a.0 r.0)) b.regions); windows = filter (λ w. not (is_at_or_above a.0 (w.0).path)) b.windows }))) (sym e)
         (record {
           regions = subst T (sym (sorted-put a b.regions)) h.regions;
           apart = overlap-put a b.regions ∙ h.apart;
@@ -148,7 +148,7 @@ plain_stays b a h = at (is_some (region_part b.regions a.0)) refl
           filtered = h.filtered;
         })
     at false e =
-        subst (λ c. IsCanonical (cond c (record b { regions = map (region_put a) b.regions }) (record { regions = map_of.put path_cmp a.0 a.1 (filter (λ r. not (is_at_or_above a.0 r.0)) b.regions); windows = filter (λ w. not (is_at_or_above a.0 (w.0).path)) b.windows }))) (sym e)
+        subst (λ c. IsCanonical (cond c (record b { regions = map (region_put a) b.regions }) (record b { regions = map_of.put path_cmp a.0 a.1 (filter (λ r. not (is_at_or_above a.0 r.0)) b.regions); windows = filter (λ w. not (is_at_or_above a.0 (w.0).path)) b.windows }))) (sym e)
         (record {
           regions = is_sorted-put path_cmp paths_total a.0 a.1 _ (is_sorted-where_key path_cmp (λ p. not (is_at_or_above a.0 p)) b.regions h.regions);
           apart = overlap-insert a.0 a.1 _ (alone a.0 b.regions e) (overlap-filter (λ p. not (is_at_or_above a.0 p)) b.regions h.apart);

@@ -1,14 +1,15 @@
 -- What the listens brought: regions under plain listens, windows of filtered ones.
-use Rattle.std.specs.Prelude.{Bool, true, false, ◌&&◌, not, if◌then◌else◌, List, [], ◌∷◌, map}
-use Rattle.std.specs.Prelude.{Option, Some, None, is_some}
-use Rattle.std.specs.List.{filter}
+use Rattle.std.specs.Prelude.{Bool, true, false, ◌&&◌, not, if◌then◌else◌, List, [], ◌∷◌, ◌++◌}
+use Rattle.std.specs.Prelude.{map, Option, Some, None, is_some}
+use Rattle.std.specs.List.{filter, list_any}
 use Rattle.std.specs.Option.{option_map, option_map_or, option_or}
 use Rattle.std.specs.FinMap as map_of
 use Rattle.rt_tree.specs.PathTree.{Key, Path, path_cmp, path_eq, strip, PathTree, sub, child, put}
 use Rattle.rt_tree.specs.PathTree.{children_alone}
 use Rattle.rt_tree.specs.Assignments.{is_at_or_above, Assignment}
 use Rattle.rt_query.specs.Queries.{Query, is_filtered}
-use Rattle.rt_query.specs.Supply.{form}
+use Rattle.rt_query.specs.QueryEq.{query_eq}
+use Rattle.rt_query.specs.Supply.{form, does_supply}
 use Rattle.rt_cache.specs.QueryOrder.{query_cmp}
 pub use Rattle.rt_cache.specs.declared.base.Base.{Base}
 
@@ -17,15 +18,28 @@ pub record Window : Type 0 where
   pub children : PathTree
   pub is_whole : Bool
 
--- regions at paths of which none is at or above another, in the order of paths; windows by their
--- filtered form, in the order of forms
+-- the forms of the registered listeners, in order; regions at paths of which none is at or above
+-- another, in the order of paths; windows by their filtered form, in the order of forms
 pub record Brought : Type 0 where
+  pub registered : List Query
   pub regions : List (Path × PathTree)
   pub windows : List (Query × Window)
 
--- before any push
+-- before any listener is registered, and any push
 abbrev pub nothing_brought : Brought
-nothing_brought = record { regions = []; windows = [] }
+nothing_brought = record { registered = []; regions = []; windows = [] }
+
+-- ---- what is registered
+
+-- one more form, behind the others
+abbrev pub with_form : Query → Brought → Brought
+with_form f b = record b { registered = b.registered ++ f ∷ [] }
+
+-- whether the listen of the form is kept: it is registered, and no other registered form supplies it
+abbrev pub may_put : Brought → Query → Bool
+may_put b q =
+    list_any (λ f. query_eq f q) b.registered
+    && not (list_any (λ f. not (query_eq f q) && does_supply f q) b.registered)
 
 -- ---- what is there
 
@@ -68,7 +82,7 @@ abbrev pub push_plain : Brought → Assignment → Brought
 push_plain b a =
     if is_some (region_part b.regions a.0)
     then record b { regions = map (region_put a) b.regions }
-    else record {
+    else record b {
       regions = map_of.put path_cmp a.0 a.1 (filter (λ r. not (is_at_or_above a.0 r.0)) b.regions);
       windows = filter (λ w. not (is_at_or_above a.0 w.0.path)) b.windows;
     }

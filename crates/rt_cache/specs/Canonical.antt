@@ -1,14 +1,15 @@
 -- What always holds of what was brought: each region and each window stands once, in order, no region
--- is at or above another, and nothing is deeper than trees are.
+-- is at or above another, nothing is deeper than trees are, and all belongs to registered forms.
 use Rattle.std.specs.Prelude.{◌≡◌, ◌+◌, ◌≤◌, true, false, T, length}
-use Rattle.std.specs.List.{All}
+use Rattle.std.specs.List.{All, Contains, list_any}
 use Rattle.std.specs.FinMap as map_of
 use Rattle.rt_tree.specs.PathTree.{Path, PathTree, path_cmp, levels}
 use Rattle.rt_tree.specs.declared.limits.TheConstants.{MAX_LEVELS}
-use Rattle.rt_tree.specs.Assignments.{have_overlap}
+use Rattle.rt_tree.specs.Assignments.{is_at_or_above, have_overlap}
 use Rattle.rt_query.specs.Queries.{Query, is_filtered}
 use Rattle.rt_cache.specs.QueryOrder.{query_cmp}
 use Rattle.rt_cache.specs.Brought.{Window, Brought}
+use Rattle.rt_cache.specs.Recover.{reaches}
 
 -- regions in the order of their paths, none at or above another; windows of filtered queries, in
 -- the order of queries
@@ -23,3 +24,11 @@ pub record FitsLevels (b : Brought) : Type 0 where
   pub regions : All (λ (r : Path × PathTree). length r.0 + levels r.1 ≤ MAX_LEVELS) b.regions
   pub windows : All (λ (w : Query × Window). length (w.0).path + levels (w.1).children ≤ MAX_LEVELS)
       b.windows
+
+-- a registered plain form is at or above each region, each window is of a registered form, and no
+-- region is at or above a window's path
+pub record Belongs (b : Brought) : Type 0 where
+  pub regions : All (λ (r : Path × PathTree). reaches b.registered r.0 ≡ true) b.regions
+  pub windows : All (λ (w : Query × Window). Contains b.registered w.0) b.windows
+  pub beside : All (λ (w : Query × Window). list_any (λ r. is_at_or_above r.0 (w.0).path) b.regions
+      ≡ false) b.windows

@@ -1,7 +1,7 @@
 -- What stays brought when the listens kept change.
-use Rattle.std.specs.Prelude.{◌≡◌, Bool, true, not, ◌&&◌, if◌then◌else◌, List, [], ◌∷◌, Option, Some}
-use Rattle.std.specs.Prelude.{None, is_some}
-use Rattle.std.specs.List.{filter, filter_map, flat_map, fold, list_any, All}
+use Rattle.std.specs.Prelude.{◌≡◌, ℕ, ◌==◌, Bool, true, false, not, ◌&&◌, ◌||◌, if◌then◌else◌, List, []}
+use Rattle.std.specs.Prelude.{◌∷◌, map, Option, Some, None, is_some}
+use Rattle.std.specs.List.{filter, filter_map, flat_map, fold, list_any, enumerate_from, All, Contains}
 use Rattle.std.specs.Option.{option_map, option_or}
 use Rattle.std.specs.FinMap as map_of
 use Rattle.rt_tree.specs.PathTree.{Path, path_cmp, strip, PathTree, sub, children_alone}
@@ -64,23 +64,48 @@ windows_kept registered old new windows =
 -- what was brought, after a change of the registered forms and the kept listens
 abbrev pub recover : List Query → List Query → Brought → Brought
 recover registered kept b = record {
+  registered = registered;
   regions = regions_kept kept b.regions;
   windows = windows_kept registered b.regions (regions_kept kept b.regions) b.windows;
 }
 
--- ---- where no plain listen ends
+-- ---- where listeners end
 
 -- whether the query is one of these
 abbrev pub is_among : List Query → Query → Bool
 is_among queries x = list_any (λ q. query_eq q x) queries
 
--- what was brought, without the windows of these forms
-abbrev pub forgotten : List Query → Brought → Brought
-forgotten forms b = record b { windows = filter (λ w. not (is_among forms w.0)) b.windows }
+-- the forms but for those at these places, which count from 0
+abbrev pub without_places : List ℕ → List Query → List Query
+without_places places registered =
+    map (λ e. e.1) (filter (λ e. not (list_any (λ p. p == e.0) places)) (enumerate_from 0 registered))
 
--- plain listens that are kept reach all regions, and of the forms that have a window those are
--- registered that are not among these
-pub record EndsForms (forms registered kept : List Query) (b : Brought) : Type 0 where
-  pub regions : All (λ (r : Path × PathTree). reaches kept r.0 ≡ true) b.regions
-  pub windows : All (λ (w : Query × Window). is_among registered w.0 ≡ not (is_among forms w.0))
-      b.windows
+-- whether a plain listen of k would have a part of a region that none of the kept ones reaches
+abbrev pub is_under_lost : List Query → List (Path × PathTree) → Query → Bool
+is_under_lost kept regions k =
+    not (is_filtered k) && list_any (λ r. is_at_or_above r.0 k.path && not (reaches kept r.0)) regions
+
+-- whether a region holds what a filtered form needs, and none will
+abbrev pub loses_region : List Query → List (Path × PathTree) → Query → Bool
+loses_region kept regions f =
+    is_filtered f && list_any (λ r. is_at_or_above r.0 f.path) regions && not (reaches kept f.path)
+
+-- the forms that end and the listens that begin tell a change of cover over these regions and windows,
+-- after which these forms are registered and these listens are kept
+pub record EndsForms (ended begun forms listens : List Query) (rs : List (Path × PathTree))
+    (ws : List (Query × Window)) : Type 0 where
+  -- kept are registered forms, and of the plain ones none is at or above another
+  pub registered : All (Contains forms) listens
+  pub apart : do_plains_overlap listens ≡ false
+  -- listens that begin are kept, each once if it is plain
+  pub begun_kept : All (Contains listens) begun
+  pub begun_apart : do_plains_overlap begun ≡ false
+  -- a region is lost that an ended plain form reaches, and none that begins
+  pub regions : All (λ (r : Path × PathTree). reaches listens r.0
+      ≡ (not (reaches ended r.0) || reaches begun r.0)) rs
+  -- listens that a lost region leaves something to begin
+  pub parts : All (λ k. is_under_lost listens rs k ≡ true → Contains begun k) listens
+  pub left : All (λ f. loses_region listens rs f ≡ true → Contains begun f) forms
+  -- a filtered form with a window ended, or is registered
+  pub windows : All (λ (w : Query × Window). is_filtered w.0 ≡ true
+      → is_among forms w.0 ≡ not (is_among ended w.0)) ws

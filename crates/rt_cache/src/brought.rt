@@ -1,19 +1,22 @@
 // What the listens brought.
-ghost use Rattle.std.specs.Prelude.{◌≡◌, ◌+◌, ◌≤◌, T, true, false, not, length, IfOk, IfSome};
+ghost use Rattle.std.specs.Prelude.{◌≡◌, ◌+◌, ◌<◌, ◌≤◌, T, true, false, not, length, IfOk, IfSome};
 ghost use Rattle.std.specs.Prelude.{◌++◌, ◌∷◌, [], List, None, IsOk, OnOk, OnErr};
+ghost use Rattle.std.specs.List.{All, AllPairs, Contains};
 ghost use Rattle.std.specs.FinMap as map_of;
 ghost use Rattle.rt_tree.specs.PathTree.{PathTree, path_cmp, levels};
 ghost use Rattle.rt_tree.specs.Assignments.{is_at_or_above, have_overlap};
-ghost use Rattle.rt_cache.specs.Canonical.{IsCanonical};
 ghost use Rattle.rt_query.specs.Queries.{Query};
-ghost use Rattle.rt_cache.specs.Recover.{do_plains_overlap, recover, forgotten, EndsForms};
+ghost use Rattle.rt_query.specs.Supply.{form};
+ghost use Rattle.rt_cache.specs.Canonical.{IsCanonical, Belongs};
+ghost use Rattle.rt_cache.specs.Recover.{do_plains_overlap, recover, without_places, EndsForms};
 ghost use Rattle.rt_cache.specs.inside.ByPath.{AreByPath, query_of};
 ghost use Rattle.rt_cache.specs.inside.Held.{pairs_of, held};
 ghost use Rattle.rt_cache.specs.Brought.{nothing_brought, base, base_child, knows, push_plain};
-ghost use Rattle.rt_cache.specs.Brought.{push, is_without_window};
+ghost use Rattle.rt_cache.specs.Brought.{with_form, may_put, push, is_without_window};
 
 use crate::base::Base;
 use crate::region::Region;
+use crate::registered::{copies, is_among, is_supplied, remove_places};
 use crate::window::Window;
 use crate::{recover, regions, windows};
 use rt_query::Query;
@@ -30,6 +33,7 @@ use std::marker::Model;
 /// doesn't touch is neither copied nor walked, and has an equal tree beside it, of which all parts
 /// that are handed out are shared copies.
 pub struct Brought {
+    registered: Vec<Query>,
     regions: Vec<Region>,
     windows: Vec<Window>,
 }
@@ -37,6 +41,7 @@ pub struct Brought {
 impl Drop for Brought {
     fn drop(self) {
         let Brought {
+            registered: _,
             regions: _,
             windows: _,
         } = self;
@@ -48,15 +53,17 @@ impl Model for Brought {
 
     ghost Value = { what.Brought };
 
-    ghost use Rattle.rt_cache.specs.Canonical.{IsCanonical, FitsLevels};
+    ghost use Rattle.rt_cache.specs.Canonical.{IsCanonical, FitsLevels, Belongs};
     ghost use Rattle.rt_cache.specs.inside.ByPath.{AreByPath, query_of};
-    ghost use Rattle.rt_cache.specs.inside.Held.{held};
+    ghost use Rattle.rt_cache.specs.inside.Held.{held, AreShort};
 
-    ghost view = { λ a. held a.regions.items a.windows.items };
+    ghost view = { λ a. held a.registered.items a.regions.items a.windows.items };
 
-    ghost invariant = { λ a. IsCanonical (held a.regions.items a.windows.items)
-        × FitsLevels (held a.regions.items a.windows.items)
-        × AreByPath query_of a.windows.items };
+    ghost invariant = { λ a. IsCanonical (held a.registered.items a.regions.items a.windows.items)
+        × FitsLevels (held a.registered.items a.regions.items a.windows.items)
+        × AreByPath query_of a.windows.items
+        × Belongs (held a.registered.items a.regions.items a.windows.items)
+        × AreShort a.registered.items };
 }
 
 // The tree put into the region at or above the path, or else begun as a region.
@@ -72,10 +79,10 @@ fn put_plain(
     requires apart { have_overlap (pairs_of regions.old.items) ≡ false }
     requires windows { AreByPath query_of windows.old.items }
     ensures order { AreByPath query_of windows.new.items }
-    ensures ok { OnOk result (held regions.new.items windows.new.items
-        ≡ push_plain (held regions.old.items windows.old.items) (path.now, tree.now)) }
-    ensures err { OnErr result (held regions.new.items windows.new.items
-        ≡ held regions.old.items windows.old.items) }
+    ensures ok { (fs : List Query) → OnOk result (held fs regions.new.items windows.new.items
+        ≡ push_plain (held fs regions.old.items windows.old.items) (path.now, tree.now)) }
+    ensures err { (fs : List Query) → OnErr result (held fs regions.new.items windows.new.items
+        ≡ held fs regions.old.items windows.old.items) }
 {
     match regions::place_above(regions, path) {
         Some(place) => regions::put_into(alloc, &mut regions[place], path, tree),
@@ -97,12 +104,40 @@ impl Brought {
         ensures { result ≡ nothing_brought }
     {
         Brought {
+            registered: Vec::new(alloc),
             regions: Vec::new(alloc),
             windows: Vec::new(alloc),
         }
     }
 
+    /// Registers a listener of the query, behind those that are registered, by its listening form.
+    /// Nothing is brought for it. It costs a copy of the form.
+    ///
+    /// An `Err` is want of memory, and changes nothing.
+    pub fn register(&mut self, query: &Query) -> Result<(), AllocError>
+        ensures ok { OnOk result (self.new ≡ with_form (form query.now) self.old) }
+        ensures err { OnErr result (self.new ≡ self.old) }
+    {
+        let form = query.listening_form()?;
+        // For the prover: so long are paths at most.
+        let _ = form.path().keys();
+        self.registered.push(form)?;
+        Ok(())
+    }
+
+    /// Whether the listen of the query is kept, so that [`Brought::put`] may be called for it: the
+    /// query is registered, and no other registered form supplies it.
+    ///
+    /// It looks at each registered form. Takes no memory.
+    pub fn may_put(&self, query: &Query) -> bool
+        ensures answer { result ≡ may_put self.now query.now }
+        ensures belongs { Belongs self.now }
+    {
+        is_among(&self.registered, query) && !is_supplied(&self.registered, query)
+    }
+
     /// Takes in a tree that was pushed on the listen of this query, at the query's path or under it.
+    /// That listen is kept: the query is registered, and no other registered form supplies it.
     ///
     /// On an unfiltered query the tree is put into the region at or above the path; where there is
     /// none, it begins a region, which takes in the regions and windows below. On a filtered one it
@@ -118,6 +153,7 @@ impl Brought {
     ///
     /// An `Err` is want of memory, and changes nothing. A stale push takes none.
     pub fn put(&mut self, query: &Query, path: &Path, tree: &Tree) -> Result<bool, AllocError>
+        requires kept { may_put self.old query.now ≡ true }
         requires under { is_at_or_above query.now.path path.now ≡ true }
         requires levels { length path.now + levels tree.now ≤ MAX_LEVELS }
         ensures ok { OnOk result (self.new ≡ push query.now self.old (path.now, tree.now)) }
@@ -219,7 +255,8 @@ impl Brought {
         }))
     }
 
-    /// Takes in a change of the registered forms and of the listens kept. A region at or under a
+    /// Takes in a change of the registered forms and of the listens kept, which are registered forms,
+    /// and of which no plain one is at or above another. A region at or under a
     /// plain listen that is kept stays as it is; of any other the parts at the plain listens under
     /// it stay. A registered filtered form whose path a region held, and none holds now, gets the
     /// children there as a window that is whole. Windows of other forms go.
@@ -235,22 +272,46 @@ impl Brought {
     /// An `Err` is want of memory, and changes nothing: all that is made is made before the first
     /// change.
     pub fn recover(&mut self, registered: &[Query], kept: &[Query]) -> Result<(), AllocError>
-        requires { do_plains_overlap kept.now ≡ false }
+        requires apart { do_plains_overlap kept.now ≡ false }
+        requires registered { All (Contains registered.now) kept.now }
         ensures ok { OnOk result (self.new ≡ recover registered.now kept.now self.old) }
         ensures err { OnErr result (self.new ≡ self.old) }
     {
-        recover::change_cover(&mut self.regions, &mut self.windows, registered, kept)
+        let forms = copies(self.allocator(), registered)?;
+        recover::change_cover(&mut self.regions, &mut self.windows, registered, kept)?;
+        self.registered = forms;
+        Ok(())
     }
 
-    /// Forgets the windows of forms that are registered no more. Where no plain listen ends, this is
-    /// all that [`Brought::recover`] does, whatever the forms registered and the listens kept.
+    /// Takes in that listeners end: those at these places among the registered ones, which count from
+    /// 0 and rise. `ended` are the forms that no listener has any more, but for the plain ones that a
+    /// registered plain form is at or above; `begun` are the listens that are kept now and weren't
+    /// before. All that changes is what [`Brought::recover`] would change, handed the forms that are
+    /// registered then and the listens that are kept then.
     ///
-    /// Finds each window by halving, and moves the words of those behind it. Takes no memory.
-    pub fn forget(&mut self, forms: &[Query])
-        ensures exact { self.new ≡ forgotten forms.now self.old }
-        ensures recovered { (registered kept : List Query) → EndsForms forms.now registered kept self.old
-            → self.new ≡ recover registered kept self.old }
+    /// Finds what these forms and listens name by halving: the regions at and under each plain one, the
+    /// region above each listen that begins, the window of each form that ends. It copies only the
+    /// parts and the windows that lost regions leave, and moves the words of what stands behind.
+    ///
+    /// An `Err` is want of memory, and changes nothing.
+    pub fn unregister(
+        &mut self,
+        places: &[usize],
+        ended: &[Query],
+        begun: &[Query],
+    ) -> Result<(), AllocError>
+        requires rising { AllPairs (λ p q. p < q) places.now }
+        requires within { All (λ p. p < length self.old.registered) places.now }
+        requires ends { (kept : List Query) × EndsForms ended.now begun.now
+            (without_places places.now self.old.registered) kept self.old.regions self.old.windows }
+        ensures ok { (kept : List Query) → EndsForms ended.now begun.now
+            (without_places places.now self.old.registered) kept self.old.regions self.old.windows
+            → OnOk result (self.new
+            ≡ recover (without_places places.now self.old.registered) kept self.old) }
+        ensures err { OnErr result (self.new ≡ self.old) }
     {
-        windows::remove_queries(&mut self.windows, forms);
+        recover::end_forms(&mut self.regions, &mut self.windows, ended, begun)?;
+        remove_places(&mut self.registered, places);
+        Ok(())
     }
 }

@@ -3,6 +3,7 @@
 //! ```text
 //! let mut brought = Brought::new(alloc);
 //! let chat = Query::at(Path::parse(alloc, "/chat")?).done();
+//! brought.register(&chat)?;
 //! brought.put(&chat, chat.path(), &tree)?;            // true: it was not stale
 //! brought.base(&chat)?                                // the tree, whole
 //! ```
@@ -17,6 +18,7 @@ mod paths;
 mod recover;
 mod region;
 mod regions;
+mod registered;
 mod run;
 mod spans;
 mod stored_tree;

@@ -1,20 +1,21 @@
 // What stays when the listens kept change.
-ghost use Rattle.std.specs.Prelude.{◌≡◌, ℕ, ◌+◌, ◌<◌, ◌≤◌, ◌++◌, T, vec_len, vec_capacity, not};
-ghost use Rattle.std.specs.Prelude.{[], List, false, length, slice_index_or, IfOk};
+ghost use Rattle.std.specs.Prelude.{◌≡◌, ℕ, ◌+◌, ◌<◌, ◌≤◌, ◌++◌, ◌||◌, T, vec_len, vec_capacity};
+ghost use Rattle.std.specs.Prelude.{[], List, true, false, not, length, slice_index_or, IfOk};
 ghost use Rattle.std.specs.Prelude.{OnOk, OnErr};
-ghost use Rattle.std.specs.List.{filter, list_any, All};
+ghost use Rattle.std.specs.List.{filter, filter_map, list_any, All};
 ghost use Rattle.std.specs.Option.{option_map};
 ghost use Rattle.std.specs.FinMap as map_of;
 ghost use Rattle.rt_tree.specs.PathTree.{path_cmp};
 ghost use Rattle.rt_tree.specs.Assignments.{have_overlap};
-ghost use Rattle.rt_query.specs.Queries.{Query};
+ghost use Rattle.rt_query.specs.Queries.{Query, is_filtered};
 ghost use Rattle.rt_query.specs.QueryEq.{query_eq};
 ghost use Rattle.rt_cache.specs.Recover.{reaches, with_regions, regions_kept};
-ghost use Rattle.rt_cache.specs.Recover.{window_left, do_plains_overlap, recover};
+ghost use Rattle.rt_cache.specs.Recover.{window_left, do_plains_overlap, in_query_order, recover};
+ghost use Rattle.rt_cache.specs.Recover.{EndsForms};
 ghost use Rattle.rt_cache.specs.inside.ByPath.{AreByPath, query_of};
 ghost use Rattle.rt_cache.specs.inside.Held.{pair_of, pairs_of, entry_of, entries_of, for_each, held};
 ghost use Rattle.rt_cache.specs.inside.Held.{AreShort};
-ghost use Rattle.rt_cache.specs.inside.Cuts.{part_below, parts_left, IsCut};
+ghost use Rattle.rt_cache.specs.inside.Cuts.{part_below, IsCut};
 ghost use Rattle.rt_cache.specs.inside.Spans.{have_place, AreInOrder, without, AreLost};
 ghost use Rattle.rt_cache.specs.declared.region.Region.{Region};
 
@@ -24,7 +25,7 @@ use crate::regions::{insert, part_at, place_above, region_of, remove_span, span_
 use crate::spans::{Span, is_within, places_between};
 use crate::stored_tree::StoredTree;
 use crate::window::Window;
-use crate::windows::put_windows;
+use crate::windows::{put_windows, remove_queries};
 use rt_query::Query;
 use std::alloc::{AllocError, Global};
 
@@ -49,15 +50,50 @@ fn spans_kept(alloc: Global, regions: &[Region], kept: &[Query]) -> Result<Vec<S
     Ok(spans)
 }
 
+// Where those regions stand that are in none of the spans.
+fn spans_between(
+    alloc: Global,
+    regions: &[Region],
+    mut spans: Vec<Span>,
+) -> Result<Vec<Span>, AllocError>
+    requires within { All (λ s. (s.start ≤ s.end) × (s.end ≤ length regions.now)) spans.items }
+    ensures order { IfOk result (λ gaps. AreInOrder 0 gaps.items (length regions.now)) }
+    ensures places { IfOk result (λ gaps. (k : ℕ) → k < length regions.now
+        → have_place gaps.items k ≡ not (have_place spans.items k)) }
+{
+    spans.sort_unstable_by_key(|span| span.start);
+    places_between(alloc, &spans, regions.len())
+}
+
 // Where the regions stand that are lost: between those that the plain listens reach.
 fn spans_lost(alloc: Global, regions: &[Region], kept: &[Query]) -> Result<Vec<Span>, AllocError>
     requires sorted { T (map_of.is_sorted path_cmp (pairs_of regions.now)) }
     ensures lost { IfOk result (λ spans. AreLost kept.now regions.now spans.items) }
     ensures short { OnOk result (AreShort kept.now) }
 {
-    let mut spans = spans_kept(alloc, regions, kept)?;
-    spans.sort_unstable_by_key(|span| span.start);
-    places_between(alloc, &spans, regions.len())
+    let spans = spans_kept(alloc, regions, kept)?;
+    spans_between(alloc, regions, spans)
+}
+
+// Where the regions stand that plain forms reached which end, and none of those that begin.
+fn spans_ended(
+    alloc: Global,
+    regions: &[Region],
+    ended: &[Query],
+    begun: &[Query],
+) -> Result<Vec<Span>, AllocError>
+    requires sorted { T (map_of.is_sorted path_cmp (pairs_of regions.now)) }
+    ensures order { IfOk result (λ spans. AreInOrder 0 spans.items (length regions.now)) }
+    ensures places { IfOk result (λ spans. (k : ℕ) (d : Region) → k < length regions.now
+        → have_place spans.items k
+        ≡ not (not (reaches ended.now (slice_index_or regions.now k d).path)
+        || reaches begun.now (slice_index_or regions.now k d).path)) }
+{
+    let reached = spans_kept(alloc, regions, ended)?;
+    let mut staying = spans_between(alloc, regions, reached)?;
+    let mut held = spans_kept(alloc, regions, begun)?;
+    staying.append(&mut held)?;
+    spans_between(alloc, regions, staying)
 }
 
 // The part that a lost region leaves to the query, where that is a plain listen under it.
@@ -86,24 +122,25 @@ fn part_left(
     Ok(Some(region_of(alloc, query.path(), &tree)?))
 }
 
-// The parts that stay of the regions that are lost, in the order of their paths.
+// The parts of the regions that are lost at the plain listens, in the order of their paths.
 pub(crate) fn parts_left(
     alloc: Global,
     regions: &[Region],
     lost: &[Span],
-    kept: &[Query],
+    listens: &[Query],
 ) -> Result<Vec<Region>, AllocError>
-    requires lost { AreLost kept.now regions.now lost.now }
+    requires lost { (kept : List Query) × AreLost kept regions.now lost.now }
     requires order { T (map_of.is_sorted path_cmp (pairs_of regions.now)) }
     requires apart { have_overlap (pairs_of regions.now) ≡ false }
-    requires kept { do_plains_overlap kept.now ≡ false }
-    ensures parts { IfOk result (λ parts. pairs_of parts.items
-        ≡ parts_left kept.now (pairs_of regions.now)) }
+    requires listens { do_plains_overlap listens.now ≡ false }
+    ensures parts { (kept : List Query) → AreLost kept regions.now lost.now
+        → IfOk result (λ parts. pairs_of parts.items ≡ with_regions [] (filter_map
+        (part_below (filter (λ r. not (reaches kept r.0)) (pairs_of regions.now))) listens.now)) }
     ensures sorted { IfOk result (λ parts. T (map_of.is_sorted path_cmp (pairs_of parts.items))) }
     ensures apart { IfOk result (λ parts. have_overlap (pairs_of parts.items) ≡ false) }
 {
     let mut parts = Vec::new(alloc);
-    for query in kept {
+    for query in listens {
         if let Some(part) = part_left(alloc, regions, lost, query)? {
             parts.push(part)?;
         }
@@ -238,12 +275,12 @@ pub(crate) fn change_cover(
     requires kept { do_plains_overlap kept.now ≡ false }
     requires windows { AreByPath query_of windows.old.items }
     ensures order { AreByPath query_of windows.new.items }
-    ensures ok { OnOk result (held regions.new.items windows.new.items
-        ≡ recover registered.now kept.now (held regions.old.items windows.old.items)) }
+    ensures ok { (fs : List Query) → OnOk result (held registered.now regions.new.items windows.new.items
+        ≡ recover registered.now kept.now (held fs regions.old.items windows.old.items)) }
     ensures forms { OnOk result (AreShort registered.now) }
     ensures listens { OnOk result (AreShort kept.now) }
-    ensures err { OnErr result (held regions.new.items windows.new.items
-        ≡ held regions.old.items windows.old.items) }
+    ensures err { (fs : List Query) → OnErr result (held fs regions.new.items windows.new.items
+        ≡ held fs regions.old.items windows.old.items) }
 {
     let alloc = *regions.allocator();
     let lost = spans_lost(alloc, regions, kept)?;
@@ -255,6 +292,42 @@ pub(crate) fn change_cover(
     remove_spans(regions, lost);
     insert_all(regions, parts);
     retain_registered(windows, &forms);
+    put_windows(windows, left);
+    Ok(())
+}
+
+// What is brought after these forms ended and these listens began. All that can be refused comes
+// first.
+pub(crate) fn end_forms(
+    regions: &mut Vec<Region>,
+    windows: &mut Vec<Window>,
+    ended: &[Query],
+    begun: &[Query],
+) -> Result<(), AllocError>
+    requires sorted { T (map_of.is_sorted path_cmp (pairs_of regions.old.items)) }
+    requires apart { have_overlap (pairs_of regions.old.items) ≡ false }
+    requires windows { AreByPath query_of windows.old.items }
+    requires filtered { All (λ w. is_filtered w.0 ≡ true)
+        (in_query_order (entries_of windows.old.items)) }
+    requires ends { (registered kept : List Query) × EndsForms ended.now begun.now registered kept
+        (pairs_of regions.old.items) (in_query_order (entries_of windows.old.items)) }
+    ensures order { AreByPath query_of windows.new.items }
+    ensures ok { (registered kept fs : List Query) → EndsForms ended.now begun.now registered kept
+        (pairs_of regions.old.items) (in_query_order (entries_of windows.old.items))
+        → OnOk result (held registered regions.new.items windows.new.items
+        ≡ recover registered kept (held fs regions.old.items windows.old.items)) }
+    ensures err { (fs : List Query) → OnErr result (held fs regions.new.items windows.new.items
+        ≡ held fs regions.old.items windows.old.items) }
+{
+    let alloc = *regions.allocator();
+    let lost = spans_ended(alloc, regions, ended, begun)?;
+    let parts = parts_left(alloc, regions, &lost, begun)?;
+    let left = windows_left(alloc, regions, &lost, &parts, begun)?;
+    windows.reserve(left.len())?;
+    regions.reserve(parts.len())?;
+    remove_spans(regions, lost);
+    insert_all(regions, parts);
+    remove_queries(windows, ended);
     put_windows(windows, left);
     Ok(())
 }

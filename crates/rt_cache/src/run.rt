@@ -1,7 +1,6 @@
 // Runs of calls.
 ghost use Rattle.std.specs.Prelude.{◌≡◌, ℕ, ◌≤◌, [], length, take, IfOk, IsOk, OnOk, OnErr};
-ghost use Rattle.std.specs.List.{All};
-ghost use Rattle.rt_cache.specs.Runs.{IsAllowed, after, after_all, takes, taken_all};
+ghost use Rattle.rt_cache.specs.Runs.{IsAllowed, IsKept, AreAllowed, after, after_all, takes, taken_all};
 
 use crate::brought::Brought;
 use rt_query::Query;
@@ -60,7 +59,7 @@ impl Brought {
     /// Costs what its calls cost. Where memory is lacking, some of the first calls stay made, and
     /// none of those behind them. No calls take no memory.
     pub fn run(&mut self, calls: &[Call]) -> Result<Vec<bool>, AllocError>
-        requires { All IsAllowed calls.now }
+        requires { AreAllowed self.old calls.now }
         ensures ok { OnOk result (self.new ≡ after_all self.old calls.now) }
         ensures taken { IfOk result (λ taken. taken.items ≡ taken_all self.old calls.now) }
         ensures err { OnErr result ((n : ℕ) × (n ≤ length calls.now) × (self.new
@@ -77,7 +76,8 @@ impl Brought {
 
     // Makes a call; whether it was taken.
     fn make(&mut self, call: &Call) -> Result<bool, AllocError>
-        requires { IsAllowed call.now }
+        requires allowed { IsAllowed call.now }
+        requires kept { IsKept self.old call.now }
         ensures ok { OnOk result (self.new ≡ after self.old call.now) }
         ensures taken { IfOk result (λ taken. taken ≡ takes self.old call.now) }
         ensures err { OnErr result (self.new ≡ self.old) }

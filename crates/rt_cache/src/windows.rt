@@ -160,6 +160,8 @@ fn remove_query(windows: &mut Vec<Window>, query: &Query)
     ensures left { (x : Query) → map_of.find query_cmp x (entries_of windows.new.items)
         ≡ (if query_eq query.now x then None
         else map_of.find query_cmp x (entries_of windows.old.items)) }
+    ensures len { vec_len windows.new ≤ vec_len windows.old }
+    ensures room { vec_capacity windows.new ≡ vec_capacity windows.old }
 {
     while let Some(place) = place_of_window(windows, query) {
         drop(windows.remove(place));
@@ -173,6 +175,8 @@ pub(crate) fn remove_queries(windows: &mut Vec<Window>, queries: &[Query])
     ensures left { in_query_order (entries_of windows.new.items)
         ≡ filter (λ w. not (is_among queries.now w.0)) (in_query_order
         (entries_of windows.old.items)) }
+    ensures len { vec_len windows.new ≤ vec_len windows.old }
+    ensures room { vec_capacity windows.new ≡ vec_capacity windows.old }
 {
     for query in queries {
         remove_query(windows, query);

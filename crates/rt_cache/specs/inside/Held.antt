@@ -28,9 +28,10 @@ entry_of w = (w.query, seen_window w)
 abbrev pub entries_of : List inside.Window → List (Query × Window)
 entries_of windows = map entry_of windows
 
--- regions stand in order; windows stand anyhow
-abbrev pub held : List Region → List inside.Window → Brought
-held regions windows = record {
+-- forms and regions stand in order; windows stand anyhow
+abbrev pub held : List Query → List Region → List inside.Window → Brought
+held registered regions windows = record {
+  registered = registered;
   regions = pairs_of regions;
   windows =
       in_query_order (entries_of windows);

@@ -42,7 +42,11 @@ parent_pushed =
 -- the parent's region takes in the child's
 abbrev pub ParentTakesIn : Type 0
 ParentTakesIn = parent_pushed
-    ≡ record { regions = (at (codes "/a"), two (codes "b") 2 (codes "c") 3) ∷ []; windows = [] }
+    ≡ record {
+      registered = [];
+      regions = (at (codes "/a"), two (codes "b") 2 (codes "c") 3) ∷ [];
+      windows = [];
+    }
 
 -- a part of it is whole, and so is a child, also one that is not there
 abbrev pub PartsAreWhole : Type 0
@@ -62,7 +66,12 @@ abbrev pub parent_cut : Brought
 parent_cut = recover (plain_at (codes "/a/c") ∷ []) (plain_at (codes "/a/c") ∷ []) parent_pushed
 
 abbrev pub PartStays : Type 0
-PartStays = parent_cut ≡ record { regions = (at (codes "/a/c"), num 3) ∷ []; windows = [] }
+PartStays = parent_cut
+    ≡ record {
+      registered = plain_at (codes "/a/c") ∷ [];
+      regions = (at (codes "/a/c"), num 3) ∷ [];
+      windows = [];
+    }
 
 abbrev pub OtherIsLost : Type 0
 OtherIsLost = knows parent_cut (plain_at (codes "/a/b")) ≡ false
@@ -79,7 +88,11 @@ cut_in_two = recover both_kept both_kept (push (plain_at (codes "/")) nothing_br
 
 abbrev pub CutInOrder : Type 0
 CutInOrder = cut_in_two
-    ≡ record { regions = (at (codes "/a"), num 1) ∷ (at (codes "/b"), num 2) ∷ []; windows = [] }
+    ≡ record {
+      registered = both_kept;
+      regions = (at (codes "/a"), num 1) ∷ (at (codes "/b"), num 2) ∷ [];
+      windows = [];
+    }
 
 -- two windows are listed alike, whichever came first
 abbrev pub windows_pushed : Query → Query → Brought
@@ -129,7 +142,11 @@ WholeNoMore = base (push (first_at 2 (codes "/a")) whole_window (at (codes "/a")
 -- a new region takes the windows in
 abbrev pub TakenIn : Type 0
 TakenIn = push (plain_at (codes "/")) whole_window (at (codes "/"), num 7)
-    ≡ record { regions = (at (codes "/"), num 7) ∷ []; windows = [] }
+    ≡ record {
+      registered = first_at 2 (codes "/a") ∷ [];
+      regions = (at (codes "/"), num 7) ∷ [];
+      windows = [];
+    }
 
 -- ---- runs of calls
 
@@ -143,7 +160,11 @@ row =
 
 abbrev pub RowRuns : Type 0
 RowRuns =
-    (after_all nothing_brought row ≡ record { regions = (at (codes "/a/c"), num 3) ∷ []; windows = [] })
+    (after_all nothing_brought row ≡ record {
+      registered = plain_at (codes "/a/c") ∷ [];
+      regions = (at (codes "/a/c"), num 3) ∷ [];
+      windows = [];
+    })
     × (taken_all nothing_brought row ≡ true ∷ true ∷ true ∷ [])
 
 -- it doesn't leave nothing, nor are there fewer answers than calls
@@ -155,6 +176,7 @@ RowDoesSomething = (after_all nothing_brought row ≢ nothing_brought)
 abbrev pub NoRegionBeside : Type 0
 NoRegionBeside =
     (after_all nothing_brought row ≢ record {
+      registered = plain_at (codes "/a/c") ∷ [];
       regions =
           (at (codes "/a/b"), num 1) ∷ (at (codes "/a/c"), num 3) ∷ [];
       windows = [];
@@ -185,6 +207,7 @@ abbrev pub StaleLeavesNothing : Type 0
 StaleLeavesNothing =
     after_all nothing_brought (Put (first_at 2 (codes "/a")) (at (codes "/a/x")) (num 1) ∷ [])
     ≢ record {
+      registered = [];
       regions = [];
       windows = (
         first_at 2 (codes "/a"),

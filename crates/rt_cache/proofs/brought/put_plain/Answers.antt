@@ -12,8 +12,8 @@ returns-in-Some-clause-ok c =
     let within : c.in-Some.place < length c.args.regions.now.items = search rules in
     let at : old ≡ get_or c.args.regions.now.items c.in-Some.place old = search rules in
     let above : is_at_or_above (get_or c.args.regions.now.items c.in-Some.place old).path c.args.path.now ≡ true = search rules in
-    on_ok _ _ _ c.put_into.ensures.ok (λ e.
-    plain_inside c.args.regions.now.items c.args.windows.now.items c.args.path.now c.args.tree.now c.in-Some.place old c.put_into.new.region c.requires.apart within above
+    λ fs. on_ok _ _ _ c.put_into.ensures.ok (λ e.
+    plain_inside fs c.args.regions.now.items c.args.windows.now.items c.args.path.now c.args.tree.now c.in-Some.place old c.put_into.new.region c.requires.apart within above
     (e ∙ ap (λ (r : Region). region_put (c.args.path.now, c.args.tree.now) (pair_of r)) at))
 
 pub returns-in-Some-clause-err : goal.returns-in-Some-clause-err
@@ -21,4 +21,4 @@ returns-in-Some-clause-err c =
     let old : Region = c.index_mut.result.now in
     let within : c.in-Some.place < length c.args.regions.now.items = search rules in
     let at : old ≡ get_or c.args.regions.now.items c.in-Some.place old = search rules in
-    refused_inside c.put_into.result c.args.regions.now.items c.args.windows.now.items c.in-Some.place old c.put_into.new.region within at c.put_into.ensures.err
+    λ fs. refused_inside c.put_into.result fs c.args.regions.now.items c.args.windows.now.items c.in-Some.place old c.put_into.new.region within at c.put_into.ensures.err

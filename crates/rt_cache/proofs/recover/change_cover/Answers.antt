@@ -1,8 +1,6 @@
-use Rattle.std.proofs.Common.{rules, ◌≡◌, ◌∙◌, ◌++◌, ap, sym, subst, length, not, Bool, List, IfOk, Vec, Global}
+use Rattle.std.proofs.Common.{rules, ◌≡◌, ◌∙◌, ◌++◌, ap, sym, subst, length, not, Bool, List}
 use Rattle.std.specs.List.{filter, flat_map, list_any}
 use Rattle.std.proofs.lemmas.List.Elements.{filter_agree}
-use Rattle.std.specs.declared.result.Result.{Result}
-use Rattle.std.specs.declared.result.Result.TheVariants.{Ok}
 use lib.Dec.{T}
 use Rattle.std.specs.FinMap as map_of
 use Rattle.std.specs.FinMap.Entries.{is_sorted-where_key}
@@ -17,24 +15,22 @@ use Rattle.rt_cache.specs.declared.spans.Span.{Span}
 use Rattle.rt_cache.specs.declared.window.Window.{Window}
 use Rattle.rt_cache.specs.inside.Held.{pairs_of, entries_of, for_each}
 use Rattle.rt_cache.specs.inside.Spans.{AreInOrder, without, AreLost}
-use Rattle.rt_cache.proofs.Changes.{stays_lost}
 use Rattle.rt_cache.specs.inside.Cuts.{parts_left, IsCut}
+use Rattle.rt_cache.proofs.ByListens.{by_listens}
+use Rattle.rt_cache.proofs.Changes.{stays_lost}
+use Rattle.rt_cache.proofs.CutSlices.{parts_of_left, left_of}
 use Rattle.rt_cache.proofs.Parts.{all_parts_apart, in_order_first, left_with_parts}
 use Rattle.rt_cache.proofs.Keeping.{kept_listed}
 use Rattle.rt_cache.proofs.Stays.{Regions}
 use Rattle.rt_cache.proofs.recover.change_cover.Goals as goal
 
--- the windows that are left, told of slices of what there is
-left_of : {E : Type 0} (r : Result (Vec Window Global) E) (all : Vec Window Global) (kept registered : List Query) (rs old : List Region) (ss lost : List Span) (ps parts : List Region)
-    → rs ≡ old → ss ≡ lost → ps ≡ parts → r ≡ Ok all
-    → (IsCut kept rs ss ps → IfOk r (λ left. entries_of left.items ≡ for_each (window_left (pairs_of rs) (regions_kept kept (pairs_of rs))) registered))
-    → IsCut kept old lost parts
-    → entries_of all.items ≡ for_each (window_left (pairs_of old) (regions_kept kept (pairs_of old))) registered
-left_of r all kept registered rs old ss lost ps parts e f g was told cut =
-    subst (λ (xs : List Region). entries_of all.items ≡ for_each (window_left (pairs_of xs) (regions_kept kept (pairs_of xs))) registered) e
-    (subst (λ x. IfOk x (λ left. entries_of left.items ≡ for_each (window_left (pairs_of rs) (regions_kept kept (pairs_of rs))) registered)) was
-    (told (subst (λ (xs : List Region). IsCut kept xs ss ps) (sym e)
-    (subst (λ (xs : List Span). IsCut kept old xs ps) (sym f) (subst (λ (xs : List Region). IsCut kept old lost xs) (sym g) cut)))))
+pub parts_left-requires-clause-lost : goal.parts_left-requires-clause-lost
+parts_left-requires-clause-lost c =
+    let lost : AreLost c.args.kept.now c.args.regions.now.items c.in_ok-lost.lost.items = search rules in (
+      c.args.kept.now,
+      subst (λ (rs : List Region). AreLost c.args.kept.now rs c.deref-3.result.now) (sym c.deref-2.ensures.value)
+          (subst (λ (ss : List Span). AreLost c.args.kept.now c.args.regions.now.items ss) (sym c.deref-3.ensures.value) lost),
+    )
 
 pub remove_spans-requires : goal.remove_spans-requires
 remove_spans-requires c =
@@ -57,7 +53,10 @@ insert_all-requires-clause-apart c =
     let stay : pairs_of c.remove_spans.new.regions.items ≡ filter (λ r. reaches c.args.kept.now r.0) old =
     ap pairs_of (c.remove_spans.ensures.left ∙ ap (without c.in_ok-lost.lost.items) c.reserve-2.ensures.items)
     ∙ stays_lost c.args.kept.now c.args.regions.now.items c.in_ok-lost.lost.items lost in
-    let parts : pairs_of c.in_ok-parts.parts.items ≡ parts_left c.args.kept.now old = search rules in
+    let parts : pairs_of c.in_ok-parts.parts.items ≡ parts_left c.args.kept.now old =
+    parts_of_left c.parts_left.result c.in_ok-parts.parts c.args.kept.now c.args.kept.now c.deref-2.result.now c.args.regions.now.items c.deref-3.result.now c.in_ok-lost.lost.items
+    c.deref-2.ensures.value c.deref-3.ensures.value c.in_ok-parts.was (c.parts_left.ensures.parts c.args.kept.now) lost
+    ∙ by_listens c.args.kept.now old c.requires.kept c.requires.apart in
     (λ i. have_overlap (stay i ++ parts i)) ∙ left_with_parts c.args.kept.now old c.requires.kept c.requires.apart
 
 pub returns-clause-ok : goal.returns-clause-ok
@@ -67,7 +66,10 @@ returns-clause-ok c =
     let stay : pairs_of c.remove_spans.new.regions.items ≡ filter (λ r. reaches c.args.kept.now r.0) old =
     ap pairs_of (c.remove_spans.ensures.left ∙ ap (without c.in_ok-lost.lost.items) c.reserve-2.ensures.items)
     ∙ stays_lost c.args.kept.now c.args.regions.now.items c.in_ok-lost.lost.items lost in
-    let parts : pairs_of c.in_ok-parts.parts.items ≡ parts_left c.args.kept.now old = search rules in
+    let parts : pairs_of c.in_ok-parts.parts.items ≡ parts_left c.args.kept.now old =
+    parts_of_left c.parts_left.result c.in_ok-parts.parts c.args.kept.now c.args.kept.now c.deref-2.result.now c.args.regions.now.items c.deref-3.result.now c.in_ok-lost.lost.items
+    c.deref-2.ensures.value c.deref-3.ensures.value c.in_ok-parts.was (c.parts_left.ensures.parts c.args.kept.now) lost
+    ∙ by_listens c.args.kept.now old c.requires.kept c.requires.apart in
     let sorted : T (map_of.is_sorted path_cmp (filter (λ r. reaches c.args.kept.now r.0) old)) = is_sorted-where_key path_cmp (λ p. reaches c.args.kept.now p) old c.requires.sorted in
     let regions : pairs_of c.insert_all.new.regions.items ≡ regions_kept c.args.kept.now old =
     c.insert_all.ensures ∙ (λ i. with_regions (stay i) (parts i))
@@ -86,4 +88,4 @@ returns-clause-ok c =
     let windows = c.put_windows.ensures.listed
     ∙ ap (λ (ws : List Window). in_query_order (entries_of c.in_ok-left.left.items ++ entries_of ws)) retained
     ∙ kept_listed old (regions_kept c.args.kept.now old) c.args.registered.now c.in_ok-left.left.items c.args.windows.now.items left in
-    λ i. record { regions = regions i; windows = windows i }
+    λ fs. λ i. record { registered = c.args.registered.now; regions = regions i; windows = windows i }

@@ -7,28 +7,28 @@ use Rattle.rt_tree.specs.PathTree.{path_cmp}
 use Rattle.rt_tree.specs.Assignments.{have_overlap}
 use Rattle.rt_query.specs.Queries.{Query}
 use Rattle.rt_cache.specs.Recover.{reaches, with_regions}
-use Rattle.rt_cache.specs.inside.Cuts.{part_below, parts_left}
+use Rattle.rt_cache.specs.inside.Cuts.{part_below}
 use Rattle.rt_cache.specs.inside.Held.{pair_of, pairs_of}
-use Rattle.rt_cache.proofs.ByListens.{by_listens, by_listens_apart, listed-drop, one_more_part}
-use Rattle.rt_cache.proofs.Changes.{with_sorted}
-use Rattle.rt_cache.proofs.Parts.{all_dropped, parts_apart, if_ok}
+use Rattle.rt_cache.proofs.ByListens.{listed_apart, listed-drop, one_more_part}
+use Rattle.rt_cache.proofs.Changes.{with_apart, with_sorted}
+use Rattle.rt_cache.proofs.Parts.{all_dropped, if_ok}
 use Rattle.rt_cache.proofs.Stays.{Regions}
 use Rattle.rt_cache.proofs.recover.parts_left.Goals as goal
 use Rattle.rt_cache.proofs.recover.parts_left.Goals.{in-Some+in_ok-push, in_default}
 
 pub loop-query-preserved : goal.loop-query-preserved
-loop-query-preserved c =
-    let ls : Regions = filter (λ r. not (reaches c.args.kept.now r.0)) (pairs_of c.args.regions.now) in
+loop-query-preserved c = λ kept lost.
+    let ls : Regions = filter (λ r. not (reaches kept r.0)) (pairs_of c.args.regions.now) in
     let q : Query = c.query-item.result in
-    let within : c.loop-query.query-index < length c.args.kept.now = search rules in
-    let at : q ≡ get_or c.args.kept.now c.loop-query.query-index q = search rules in
-    let rest : Regions = filter_map (part_below ls) (drop (c.loop-query.query-index + 1) c.args.kept.now) in
-    let more : pairs_of c.loop-query.parts.items ++ cons_option (part_below ls q) rest ≡ filter_map (part_below ls) c.args.kept.now =
-    (λ i. pairs_of c.loop-query.parts.items ++ cons_option (part_below ls (at i)) (filter_map (part_below ls) (drop (add-one c.loop-query.query-index i) c.args.kept.now)))
-    ∙ ap (λ ps. pairs_of c.loop-query.parts.items ++ ps) (sym (listed-drop ls c.args.kept.now c.loop-query.query-index q within))
-    ∙ c.loop-query.invariant in
+    let within : c.loop-query.query-index < length c.args.listens.now = search rules in
+    let at : q ≡ get_or c.args.listens.now c.loop-query.query-index q = search rules in
+    let rest : Regions = filter_map (part_below ls) (drop (c.loop-query.query-index + 1) c.args.listens.now) in
+    let more : pairs_of c.loop-query.parts.items ++ cons_option (part_below ls q) rest ≡ filter_map (part_below ls) c.args.listens.now =
+    (λ i. pairs_of c.loop-query.parts.items ++ cons_option (part_below ls (at i)) (filter_map (part_below ls) (drop (add-one c.loop-query.query-index i) c.args.listens.now)))
+    ∙ ap (λ ps. pairs_of c.loop-query.parts.items ++ ps) (sym (listed-drop ls c.args.listens.now c.loop-query.query-index q within))
+    ∙ c.loop-query.invariant kept lost in
     let made : option_map pair_of c.in_ok-part.field-0 ≡ part_below ls q =
-    subst (λ r. IfOk r (λ part. option_map pair_of part ≡ part_below ls q)) c.in_ok-part.was (c.part_left.ensures c.args.kept.now c.requires.lost) in
+    subst (λ r. IfOk r (λ part. option_map pair_of part ≡ part_below ls q)) c.in_ok-part.was (c.part_left.ensures kept lost) in
     let all = ap (λ o. pairs_of c.loop-query.parts.items ++ cons_option o rest) made ∙ more in
     elim c.match-branch-2.branch [
       | in-Some+in_ok-push w ↦
@@ -47,22 +47,24 @@ loop-query-preserved c =
 -- the parts of all
 pub in_order-requires : goal.in_order-requires
 in_order-requires c =
-    let parts : pairs_of c.loop-query.parts.items ≡ filter_map (part_below (filter (λ r. not (reaches c.args.kept.now r.0)) (pairs_of c.args.regions.now))) c.args.kept.now =
+    let kept : List Query = c.requires.lost.0 in
+    let ls : Regions = filter (λ r. not (reaches kept r.0)) (pairs_of c.args.regions.now) in
+    let parts : pairs_of c.loop-query.parts.items ≡ filter_map (part_below ls) c.args.listens.now =
     sym (append-nil (pairs_of c.loop-query.parts.items))
-    ∙ ap (λ (queries : List Query). pairs_of c.loop-query.parts.items ++ filter_map (part_below (filter (λ r. not (reaches c.args.kept.now r.0)) (pairs_of c.args.regions.now))) queries)
-    (sym (all_dropped c.loop-query.query-index c.args.kept.now c.loop-query-test.false))
-    ∙ c.loop-query.invariant in
-    record { apart = ap have_overlap parts ∙ by_listens_apart c.args.kept.now (pairs_of c.args.regions.now) c.requires.kept }
+    ∙ ap (λ (queries : List Query). pairs_of c.loop-query.parts.items ++ filter_map (part_below ls) queries)
+    (sym (all_dropped c.loop-query.query-index c.args.listens.now c.loop-query-test.false))
+    ∙ c.loop-query.invariant kept c.requires.lost.1 in
+    record { apart = ap have_overlap parts ∙ listed_apart c.args.listens.now ls c.requires.listens }
 
 pub returns-clause-parts : goal.returns-clause-parts
-returns-clause-parts c =
-    let parts : pairs_of c.loop-query.parts.items ≡ filter_map (part_below (filter (λ r. not (reaches c.args.kept.now r.0)) (pairs_of c.args.regions.now))) c.args.kept.now =
+returns-clause-parts c = λ kept lost.
+    let ls : Regions = filter (λ r. not (reaches kept r.0)) (pairs_of c.args.regions.now) in
+    let parts : pairs_of c.loop-query.parts.items ≡ filter_map (part_below ls) c.args.listens.now =
     sym (append-nil (pairs_of c.loop-query.parts.items))
-    ∙ ap (λ (queries : List Query). pairs_of c.loop-query.parts.items ++ filter_map (part_below (filter (λ r. not (reaches c.args.kept.now r.0)) (pairs_of c.args.regions.now))) queries)
-    (sym (all_dropped c.loop-query.query-index c.args.kept.now c.loop-query-test.false))
-    ∙ c.loop-query.invariant in
-    subst (λ ps. IfOk c.in_order.result (λ sorted. pairs_of sorted.items ≡ ps))
-    (ap (with_regions []) parts ∙ by_listens c.args.kept.now (pairs_of c.args.regions.now) c.requires.kept c.requires.apart) c.in_order.ensures
+    ∙ ap (λ (queries : List Query). pairs_of c.loop-query.parts.items ++ filter_map (part_below ls) queries)
+    (sym (all_dropped c.loop-query.query-index c.args.listens.now c.loop-query-test.false))
+    ∙ c.loop-query.invariant kept lost in
+    subst (λ ps. IfOk c.in_order.result (λ sorted. pairs_of sorted.items ≡ with_regions [] ps)) parts c.in_order.ensures
 
 pub returns-clause-sorted : goal.returns-clause-sorted
 returns-clause-sorted c =
@@ -71,5 +73,8 @@ returns-clause-sorted c =
 
 pub returns-clause-apart : goal.returns-clause-apart
 returns-clause-apart c =
-    if_ok c.in_order.result (λ sorted. pairs_of sorted.items ≡ parts_left c.args.kept.now (pairs_of c.args.regions.now)) _ (returns-clause-parts c)
-    (λ sorted e. ap have_overlap e ∙ parts_apart c.args.kept.now (pairs_of c.args.regions.now) c.requires.kept c.requires.apart)
+    let kept : List Query = c.requires.lost.0 in
+    let ls : Regions = filter (λ r. not (reaches kept r.0)) (pairs_of c.args.regions.now) in
+    let parts : Regions = filter_map (part_below ls) c.args.listens.now in
+    if_ok c.in_order.result (λ sorted. pairs_of sorted.items ≡ with_regions [] parts) _ (returns-clause-parts c kept c.requires.lost.1)
+    (λ sorted e. ap have_overlap e ∙ with_apart [] parts (listed_apart c.args.listens.now ls c.requires.listens))

@@ -1,4 +1,4 @@
-use Rattle.std.proofs.Common.{rules, ◌≡◌, ◌∙◌, ◌<◌, ◌||◌, suc, List, ap, sym, add-one, length, get_or, drop, cond, None}
+use Rattle.std.proofs.Common.{rules, ◌≡◌, ◌∙◌, ◌<◌, ◌||◌, arith, suc, List, ap, sym, add-one, length, get_or, drop, cond, None}
 use Rattle.std.specs.FinMap as map_of
 use Rattle.rt_query.specs.Queries.{Query}
 use Rattle.rt_query.specs.QueryEq.{query_eq}
@@ -26,6 +26,8 @@ loop-query-preserved c =
           ∙ none_of_both (query_eq q x) (is_among (drop (suc c.loop-query.query-index) qs) x) (map_of.find query_cmp x (entries_of old))
           ∙ ap (λ b. cond b None (map_of.find query_cmp x (entries_of old))) (sym one)
           ∙ c.loop-query.invariant.1 x,
+      omega (arith, c.remove_query.ensures.len, c.loop-query.invariant.2),
+      c.remove_query.ensures.room ∙ c.loop-query.invariant.3,
     )
 
 pub returns-clause-left : goal.returns-clause-left

@@ -1,4 +1,4 @@
-use Rattle.std.proofs.Common.{rules, ◌≡◌, ◌∙◌, ◌<◌, List, ap, sym, subst, length, get_or, refl, cond, true, false, None}
+use Rattle.std.proofs.Common.{rules, ◌≡◌, ◌∙◌, ◌<◌, arith, List, ap, sym, subst, length, get_or, refl, cond, true, false, None}
 use Rattle.std.specs.List.{remove}
 use Rattle.std.specs.FinMap as map_of
 use Rattle.rt_query.specs.Queries.{Query}
@@ -20,6 +20,8 @@ loop-place-preserved c =
       subst (λ (ws : List Window). AreByPath query_of ws) (sym left) (by_path-remove query_of old c.in-Some.place c.loop-place.invariant.0),
       λ x e. ap (λ (ws : List Window). map_of.find query_cmp x (entries_of ws)) left
           ∙ find-remove x c.args.query.now old c.in-Some.place within own e ∙ c.loop-place.invariant.1 x e,
+      omega (arith, c.remove.ensures.len, c.loop-place.invariant.2),
+      c.remove.ensures.capacity ∙ c.loop-place.invariant.3,
     )
 
 pub returns-clause-left : goal.returns-clause-left

@@ -30,14 +30,14 @@ returns-in-Some-clause-found c =
     let seen : region_part (pairs_of c.self.inside.regions.items) (c.args.query.now).path ≡ Some c.in_ok-tree.tree =
     part_is (c.args.query.now).path c.self.inside.regions.items c.in-Some.place region c.self.invariant.0.apart within above
     ∙ ap (λ (r : Region). option_map (sub r.tree) (strip r.path (c.args.query.now).path)) (sym at) ∙ sym part in
-    sym (base_found c.self.inside.regions.items c.self.inside.windows.items c.args.query.now (Some c.in_ok-tree.tree) _ c.self.invariant.0.filtered seen refl)
+    sym (base_found c.self.inside.registered.items c.self.inside.regions.items c.self.inside.windows.items c.args.query.now (Some c.in_ok-tree.tree) _ c.self.invariant.0.filtered seen refl)
     ∙ ap (λ b. base b c.args.query.now) c.self.view_is
 
 pub returns-in_default-place_of_window-clause-found : goal.returns-in_default-place_of_window-clause-found
 returns-in_default-place_of_window-clause-found c =
     let none : region_part (pairs_of c.self.inside.regions.items) (c.args.query.now).path ≡ None = search rules in
     let window : map_of.find query_cmp c.args.query.now (entries_of c.self.inside.windows.items) ≡ None = search rules in
-    sym (base_found c.self.inside.regions.items c.self.inside.windows.items c.args.query.now None None c.self.invariant.0.filtered none window)
+    sym (base_found c.self.inside.registered.items c.self.inside.regions.items c.self.inside.windows.items c.args.query.now None None c.self.invariant.0.filtered none window)
     ∙ ap (λ b. base b c.args.query.now) c.self.view_is
 
 pub returns-clause-found : goal.returns-clause-found
@@ -52,7 +52,7 @@ returns-clause-found c =
     let found : map_of.find query_cmp c.args.query.now (entries_of c.self.inside.windows.items) ≡ Some (seen_window window) =
     find-at c.args.query.now c.self.inside.windows.items c.in-Some-place_of_window.place window within first own ∙ ap (λ (w : Window). Some (seen_window w)) (sym at) in
     (λ i. Some (record { tree = (tree ∙ ap (sub window.children) c.root.ensures ∙ sub_root window.children) i; whole = window.is_whole }))
-    ∙ sym (base_found c.self.inside.regions.items c.self.inside.windows.items c.args.query.now None (Some (seen_window window)) c.self.invariant.0.filtered none found)
+    ∙ sym (base_found c.self.inside.registered.items c.self.inside.regions.items c.self.inside.windows.items c.args.query.now None (Some (seen_window window)) c.self.invariant.0.filtered none found)
     ∙ ap (λ b. base b c.args.query.now) c.self.view_is
 
 pub returns-in-Some-clause-shallow : goal.returns-in-Some-clause-shallow
@@ -72,5 +72,5 @@ pub returns-in_err-tree-2-clause-absent : goal.returns-in_err-tree-2-clause-abse
 returns-in_err-tree-2-clause-absent c e =
     let window : is_some (map_of.find query_cmp c.args.query.now (entries_of c.self.inside.windows.items)) ≡ true = search rules in
     absurd (true≢false (sym (or_true _ _ window)
-    ∙ sym (knows_found c.self.inside.regions.items c.self.inside.windows.items c.args.query.now c.self.invariant.0.filtered)
+    ∙ sym (knows_found c.self.inside.registered.items c.self.inside.regions.items c.self.inside.windows.items c.args.query.now c.self.invariant.0.filtered)
     ∙ ap is_some (ap (λ b. base b c.args.query.now) c.self.view_is ∙ e)))

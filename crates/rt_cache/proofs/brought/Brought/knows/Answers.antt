@@ -11,7 +11,7 @@ returns-then-is_some-clause-known c =
     let region : is_some (region_part (pairs_of c.self.inside.regions.items) (c.args.query.now).path) ≡ true = search rules in
     c.if-is_some.true
     ∙ ap (λ b. b || is_some (map_of.find query_cmp c.args.query.now (entries_of c.self.inside.windows.items))) (sym region)
-    ∙ sym (knows_found c.self.inside.regions.items c.self.inside.windows.items c.args.query.now c.self.invariant.0.filtered)
+    ∙ sym (knows_found c.self.inside.registered.items c.self.inside.regions.items c.self.inside.windows.items c.args.query.now c.self.invariant.0.filtered)
     ∙ ap (λ b. knows b c.args.query.now) c.self.view_is
 
 pub returns-else-is_some-clause-known : goal.returns-else-is_some-clause-known
@@ -20,5 +20,5 @@ returns-else-is_some-clause-known c =
     let window : c.is_some-else-is_some.result ≡ is_some (map_of.find query_cmp c.args.query.now (entries_of c.self.inside.windows.items)) = search rules in
     window
     ∙ ap (λ b. b || is_some (map_of.find query_cmp c.args.query.now (entries_of c.self.inside.windows.items))) (sym region)
-    ∙ sym (knows_found c.self.inside.regions.items c.self.inside.windows.items c.args.query.now c.self.invariant.0.filtered)
+    ∙ sym (knows_found c.self.inside.registered.items c.self.inside.regions.items c.self.inside.windows.items c.args.query.now c.self.invariant.0.filtered)
     ∙ ap (λ b. knows b c.args.query.now) c.self.view_is

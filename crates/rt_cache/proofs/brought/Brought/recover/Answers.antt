@@ -1,13 +1,40 @@
-use Rattle.rt_cache.specs.inside.Held.{held}
-use Rattle.rt_cache.proofs.Changes.{changed_stays}
-use Rattle.rt_cache.proofs.Levels.{changed_fits}
+use Rattle.std.proofs.Common.{◌≡◌, ◌∙◌, ap, sym, subst}
+use Rattle.rt_cache.specs.Brought.{Brought}
+use Rattle.rt_cache.specs.Canonical.{IsCanonical, FitsLevels, Belongs}
+use Rattle.rt_cache.specs.Recover.{recover}
+use Rattle.rt_cache.specs.inside.Held.{held, AreShort}
+use Rattle.rt_cache.proofs.Belonging.{recover_belongs}
+use Rattle.rt_cache.proofs.Changes.{recover_stays}
+use Rattle.rt_cache.proofs.Levels.{recover_fits}
 use Rattle.rt_cache.proofs.brought.Brought.recover.Goals as goal
 
+-- a refused change leaves all as it was
 pub invariant_of-self : goal.invariant_of-self
-invariant_of-self c = (
-  changed_stays c.change_cover.result c.args.registered.now c.args.kept.now (held c.self.inside.regions.items c.self.inside.windows.items)
-      (held c.change_cover.new.regions.items c.change_cover.new.windows.items) c.requires c.change_cover.ensures.ok c.change_cover.ensures.err c.self.invariant.0,
-  changed_fits c.change_cover.result c.args.registered.now c.args.kept.now (held c.self.inside.regions.items c.self.inside.windows.items)
-      (held c.change_cover.new.regions.items c.change_cover.new.windows.items) c.change_cover.ensures.ok c.change_cover.ensures.forms c.change_cover.ensures.listens c.change_cover.ensures.err c.self.invariant.1,
-  c.change_cover.ensures.order,
-)
+invariant_of-self c =
+    let e = c.in_err-change_cover.ensures.err c.self.inside.registered.items in (
+      subst IsCanonical (sym e) c.self.invariant.0,
+      subst FitsLevels (sym e) c.self.invariant.1,
+      c.change_cover.ensures.order,
+      subst Belongs (sym e) c.self.invariant.3,
+      c.self.invariant.4,
+    )
+
+pub invariant_of-self-2 : goal.invariant_of-self-2
+invariant_of-self-2 c =
+    let b : Brought = held c.self.inside.registered.items c.self.inside.regions.items c.self.inside.windows.items in
+    let copied : c.in_ok-forms.forms.items ≡ c.args.registered.now = c.in_ok-forms.ensures in
+    let e : held c.in_ok-forms.forms.items c.change_cover.new.regions.items c.change_cover.new.windows.items ≡ recover c.args.registered.now c.args.kept.now b =
+    (λ i. held (copied i) c.change_cover.new.regions.items c.change_cover.new.windows.items) ∙ c.in_ok-change_cover.ensures.ok c.self.inside.registered.items in (
+      subst IsCanonical (sym e) (recover_stays c.args.registered.now c.args.kept.now b c.requires.apart c.self.invariant.0),
+      subst FitsLevels (sym e) (recover_fits c.args.registered.now c.args.kept.now b c.in_ok-change_cover.ensures.forms c.in_ok-change_cover.ensures.listens c.self.invariant.1),
+      c.change_cover.ensures.order,
+      subst Belongs (sym e) (recover_belongs c.args.registered.now c.args.kept.now b c.requires.registered c.self.invariant.3),
+      subst AreShort (sym copied) c.in_ok-change_cover.ensures.forms,
+    )
+
+pub returns-clause-ok : goal.returns-clause-ok
+returns-clause-ok c =
+    let copied : c.in_ok-forms.forms.items ≡ c.args.registered.now = c.in_ok-forms.ensures in
+    (λ i. held (copied i) c.change_cover.new.regions.items c.change_cover.new.windows.items)
+    ∙ c.in_ok-change_cover.ensures.ok c.self.inside.registered.items
+    ∙ ap (recover c.args.registered.now c.args.kept.now) c.self.view_is
