@@ -1,7 +1,10 @@
 // The messages of a connection, and a server in the same process.
+use crate::queries::at;
+use crate::trees::entries;
 use anyhow::Result;
 use kaltewi::{
-    Asked, ClientMessage, Path, Peer, PeerError, Reason, Sent, ServerMessage, Tree, WireError,
+    Asked, ClientMessage, Entries, Part, Parts, Path, Peer, PeerError, Reason, Sent, ServerMessage,
+    Tree, WireError,
 };
 use std::alloc::{AllocError, Global};
 use std::io::Print;
@@ -16,6 +19,7 @@ fn why(message: &ServerMessage) -> Option<&Reason> {
         ServerMessage::Refused { why, .. } | ServerMessage::Revoked { why, .. } => Some(why),
         ServerMessage::Data { .. }
         | ServerMessage::DataMerge { .. }
+        | ServerMessage::Push { .. }
         | ServerMessage::Accepted { .. } => None,
     }
 }
@@ -28,6 +32,32 @@ fn denied(alloc: Global) -> Result<Reason, AllocError> {
 // A message of the server as a text, as a server sends it.
 fn refusal_text(alloc: Global, id: u64, why: Reason) -> Result<String, AllocError> {
     ServerMessage::Refused { id, why }.text(alloc)
+}
+
+// A push on two listens: a client shows all of it at once.
+fn push(alloc: Global, first: Entries, second: Entries) -> Result<ServerMessage, AllocError> {
+    let parts = vec![in alloc; Part::new(1, first), Part::new(2, second)]?;
+    let parts = Parts::of(parts);
+    Ok(ServerMessage::Push { parts })
+}
+
+// What each part is: the tag of its listen, and its entries.
+fn show_part(rt: &impl Print, part: &Part) -> Result<()> {
+    let (tag, count) = (part.tag(), part.entries().as_slice().len());
+    println!(rt; "tag {tag}, entries: {count}")?;
+    Ok(())
+}
+
+fn show_parts(rt: &impl Print, parts: &Parts) -> Result<()> {
+    for part in parts.as_slice() {
+        show_part(rt, part)?;
+    }
+    Ok(())
+}
+
+// The entries of the last part, taken out.
+fn last_entries(parts: Parts) -> Option<Entries> {
+    Some(parts.into_vec().pop()?.into_entries())
 }
 
 // A message of the client, read, and as a text, which is what goes to the server.
@@ -43,6 +73,7 @@ fn show_client_message(rt: &impl Print, alloc: Global, message: &ClientMessage) 
 // What a client asks for.
 fn asked_for(message: &ClientMessage) -> &'static str {
     match message {
+        ClientMessage::Hello { .. } => "its version",
         ClientMessage::Listen { .. } => "a listen",
         ClientMessage::Unlisten { .. } => "the end of a listen",
         ClientMessage::Ask { asked, .. } => kind_of(asked),
@@ -99,6 +130,39 @@ fn show_refusal(rt: &impl Print, alloc: Global) -> Result<()> {
     Ok(())
 }
 
+// A push on two listens, under whose paths nothing is left.
+fn removals(alloc: Global) -> Result<ServerMessage> {
+    let first = entries(alloc, at(alloc, "/chat/m1")?, Tree::null())?;
+    let second = entries(alloc, at(alloc, "/online")?, Tree::null())?;
+    Ok(push(alloc, first, second)?)
+}
+
+// The parts of a push; of another message there are none.
+fn parts_of(message: ServerMessage) -> Option<Parts> {
+    match message {
+        ServerMessage::Push { parts } => Some(parts),
+        other => {
+            drop(other);
+            None
+        }
+    }
+}
+
+fn show_taken(rt: &impl Print, parts: Parts) -> Result<()> {
+    show_parts(rt, &parts)?;
+    println!(rt; "taken: {}", last_entries(parts).is_some())?;
+    Ok(())
+}
+
+fn show_push(rt: &impl Print, alloc: Global) -> Result<()> {
+    let message = removals(alloc)?;
+    println!(rt; "{}", message.text(alloc)?)?;
+    match parts_of(message) {
+        Some(parts) => show_taken(rt, parts),
+        None => Ok(()),
+    }
+}
+
 fn show_answer(rt: &impl Print, alloc: Global, peer: &mut Peer, connection: u64) -> Result<()> {
     let sent = answer(peer, connection, client_message(alloc)?)?;
     if let Some(message) = first_to(&sent, connection) {
@@ -109,6 +173,7 @@ fn show_answer(rt: &impl Print, alloc: Global, peer: &mut Peer, connection: u64)
 
 pub(crate) fn show(rt: &impl Print, alloc: Global) -> Result<()> {
     show_refusal(rt, alloc)?;
+    show_push(rt, alloc)?;
     show_client_message(rt, alloc, &client_message(alloc)?)?;
     let mut peer = server(alloc);
     let connection = connect(&mut peer)?;

@@ -21,6 +21,7 @@ pub use rt_wire::ServerMessage;
 ///         ServerMessage::Refused { why, .. } | ServerMessage::Revoked { why, .. } => Some(why),
 ///         ServerMessage::Data { .. }
 ///         | ServerMessage::DataMerge { .. }
+///         | ServerMessage::Push { .. }
 ///         | ServerMessage::Accepted { .. } => None,
 ///     }
 /// }
@@ -38,6 +39,35 @@ pub use rt_wire::ServerMessage;
 /// ```
 pub use rt_wire::Reason;
 
+/// The parts of a push, each with entries for the listen of its tag. A client takes them as one step, and
+/// tells each listener of it once.
+///
+/// ```rust
+/// fn push(alloc: Global, first: Entries, second: Entries) -> Result<ServerMessage, AllocError> {
+///     let parts = vec![in alloc; Part::new(1, first), Part::new(2, second)]?;
+///     let parts = Parts::of(parts);
+///     Ok(ServerMessage::Push { parts })
+/// }
+///
+/// fn show_part(rt: &impl Print, part: &Part) -> Result<()> {
+///     let (tag, count) = (part.tag(), part.entries().as_slice().len());
+///     println!(rt; "tag {tag}, entries: {count}")?;
+///     Ok(())
+/// }
+///
+/// fn show_parts(rt: &impl Print, parts: &Parts) -> Result<()> {
+///     for part in parts.as_slice() {
+///         show_part(rt, part)?;
+///     }
+///     Ok(())
+/// }
+///
+/// fn last_entries(parts: Parts) -> Option<Entries> {
+///     Some(parts.into_vec().pop()?.into_entries())
+/// }
+/// ```
+pub use rt_wire::{Part, Parts};
+
 /// A message of the client, whose text goes to the server.
 ///
 /// ```rust
@@ -47,6 +77,7 @@ pub use rt_wire::Reason;
 ///
 /// fn asked_for(message: &ClientMessage) -> &'static str {
 ///     match message {
+///         ClientMessage::Hello { .. } => "its version",
 ///         ClientMessage::Listen { .. } => "a listen",
 ///         ClientMessage::Unlisten { .. } => "the end of a listen",
 ///         ClientMessage::Ask { asked, .. } => kind_of(asked),

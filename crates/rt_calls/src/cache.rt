@@ -1,8 +1,9 @@
 // What the listens brought, changed by runs of pushes and of changes of cover.
-ghost use Rattle.std.specs.Prelude.{◌≡◌, false, IfOk};
-ghost use Rattle.std.specs.List.{All};
-ghost use Rattle.rt_cache.specs.Recover.{do_plains_overlap};
-ghost use Rattle.rt_cache.specs.Runs.{IsAllowed};
+ghost use Rattle.std.specs.Prelude.{◌≡◌, true, false, IfOk, OnOk};
+ghost use Rattle.std.specs.List.{All, list_all};
+ghost use Rattle.rt_cache.specs.Brought.{may_put};
+ghost use Rattle.rt_cache.specs.Recover.{do_plains_overlap, is_among};
+ghost use Rattle.rt_cache.specs.Runs.{IsAllowed, IsKept};
 
 use crate::fault::{Fault, Told};
 use crate::line::Line;
@@ -70,12 +71,74 @@ fn calls(line: &mut Line) -> Result<Vec<Call>, Fault>
     Ok(calls)
 }
 
-// Makes calls in one run, and says of each whether it was taken. Where memory lacks, the first of
-// them stay made.
+// Whether the query is one of those.
+fn is_among(those: &[Query], query: &Query) -> bool
+    ensures { result ≡ is_among those.now query.now }
+{
+    those.iter().any(|other| other == query)
+}
+
+// Whether each of these queries is one of those.
+fn are_among(those: &[Query], queries: &[Query]) -> bool
+    ensures { result ≡ list_all (is_among those.now) queries.now }
+{
+    queries.iter().all(|query| is_among(those, query))
+}
+
+// The listen of the query is kept: where it isn't yet, its form is registered.
+fn keep(brought: &mut Brought, query: &Query) -> Told
+    ensures { OnOk result (may_put brought.new query.now ≡ true) }
+{
+    if !brought.may_put(query) {
+        brought.register(query)?;
+    }
+    if brought.may_put(query) {
+        Ok(())
+    } else {
+        Err(Fault::NoSuchCall)
+    }
+}
+
+// The call is one that may be made: a push is on a listen that is kept, and the listens kept are
+// registered.
+fn admit(brought: &mut Brought, call: &Call) -> Told
+    ensures { OnOk result (IsKept brought.new call.now) }
+{
+    match call {
+        Call::Put(query, _, _) => keep(brought, query),
+        Call::Recover(registered, kept) => {
+            if are_among(registered.as_slice(), kept.as_slice()) {
+                Ok(())
+            } else {
+                Err(Fault::NoSuchCall)
+            }
+        }
+    }
+}
+
+// Makes the call; whether it was taken.
+fn make(brought: &mut Brought, call: Call) -> Result<bool, Fault>
+    requires { IsAllowed call }
+{
+    admit(brought, &call)?;
+    let taken = brought.run(&[call])?;
+    Ok(taken.first() == Some(&true))
+}
+
+// Makes calls, one after another, and says of each whether it was taken. Where memory lacks, the
+// first of them stay made.
 fn run(brought: &mut Brought, line: &mut Line) -> Told {
     let calls = calls(line)?;
     line.sound()?;
-    line.debug(brought.run(&calls).map_err(|_| Fault::Lost)?);
+    let mut taken = Vec::with_capacity(line.alloc, calls.len())?;
+    for call in calls {
+        let is_taken = make(brought, call).map_err(|fault| match fault {
+            Fault::NoMemory => Fault::Lost,
+            other => other,
+        })?;
+        taken.push(is_taken)?;
+    }
+    line.debug(taken);
     Ok(())
 }
 

@@ -26,6 +26,7 @@ no_receipt w (Step.Write own action) seat e = absurd (true≢false (sym e))
 no_receipt w (Step.OnDisconnect own ending) seat e = absurd (true≢false (sym e))
 no_receipt w (Step.Data tag path tree) seat e = refl
 no_receipt w (Step.DataMerge tag entries) seat e = refl
+no_receipt w (Step.Push parts) seat e = refl
 no_receipt w (Step.Accepted id) seat e = refl
 no_receipt w (Step.Refused id why) seat e = refl
 no_receipt w (Step.Revoked tag why) seat e = refl

@@ -101,6 +101,7 @@ no_receipt w (Step.Write seat action) e = absurd (cc)
 no_receipt w (Step.OnDisconnect seat ending) e = absurd (cc)
 no_receipt w (Step.Data tag path tree) e = refl
 no_receipt w (Step.DataMerge tag entries) e = refl
+no_receipt w (Step.Push parts) e = refl
 no_receipt w (Step.Accepted id) e = refl
 no_receipt w (Step.Refused id why) e = refl
 no_receipt w (Step.Revoked tag why) e = refl

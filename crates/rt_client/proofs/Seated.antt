@@ -62,6 +62,7 @@ number_there old new seat left c done makes m none = number_given m.before m.aft
 pub no_seats : (m : ServerMessage) → caller_of (step_of_message m) ≡ None
 no_seats (message.Data tag path tree) = λ i. None
 no_seats (message.DataMerge tag entries) = λ i. None
+no_seats (message.Push parts) = λ i. None
 no_seats (message.Accepted id) = λ i. None
 no_seats (message.Refused id why) = λ i. None
 no_seats (message.Revoked tag why) = λ i. None
@@ -70,6 +71,7 @@ no_seats (message.Revoked tag why) = λ i. None
 pub no_ends : (m : ServerMessage) → closed_by (step_of_message m) ≡ None
 no_ends (message.Data tag path tree) = λ i. None
 no_ends (message.DataMerge tag entries) = λ i. None
+no_ends (message.Push parts) = λ i. None
 no_ends (message.Accepted id) = λ i. None
 no_ends (message.Refused id why) = λ i. None
 no_ends (message.Revoked tag why) = λ i. None

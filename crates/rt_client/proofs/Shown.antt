@@ -90,6 +90,7 @@ notes_show w (Step.OnDisconnect own ending) seat h known closed =
     receipt_shows seat own (receipt.Asked w.next_request ending) (seen_in w seat) ∙ asked_shows seat own (seen_in w seat)
 notes_show w (Step.Data tag path tree) seat h known closed = refl
 notes_show w (Step.DataMerge tag entries) seat h known closed = refl
+notes_show w (Step.Push parts) seat h known closed = refl
 notes_show w (Step.Accepted id) seat h known closed = settle_shows w seat id None
 notes_show w (Step.Refused id why) seat h known closed = settle_shows w seat id (Some why)
 notes_show w (Step.Revoked tag why) seat h known closed = revoke_shows w seat tag why h

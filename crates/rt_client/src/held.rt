@@ -75,6 +75,7 @@ fn closed_by(step: &Step) -> Option<u64>
         | Step::OnDisconnect { .. }
         | Step::Data { .. }
         | Step::DataMerge { .. }
+        | Step::Push { .. }
         | Step::Accepted { .. }
         | Step::Refused { .. }
         | Step::Revoked { .. }

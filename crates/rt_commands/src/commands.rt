@@ -36,10 +36,11 @@ A seat listens, writes, asks for what the server is to do once the connection en
 The server sends values on the listen with that tag, settles requests, and ends listens:
   [\"data\",TAG,PATH,VALUE]
   [\"merge\",TAG,{PATH:VALUE,..}]
+  [\"parts\",[[TAG,{PATH:VALUE,..}],..]]   values on several listens, as one step
   [\"ok\",REQUEST]
   [\"no\",REQUEST,REASON]
   [\"revoke\",TAG,REASON]
-  [\"server\",TEXT]                        one of these five as the message that it sends
+  [\"server\",TEXT]                        one of these six as the message that it sends
 Looks at the client:
   [\"view\",LISTENER]                      what the listener shows
   [\"cover\"]                              the listens that are kept

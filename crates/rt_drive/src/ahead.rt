@@ -1,12 +1,14 @@
 // What a server was sent and may not have read yet, and what was read of it before a line asked for it.
-ghost use Rattle.std.specs.Prelude.{◌≡◌, true, false, IfOk, OnOk};
+ghost use Rattle.std.specs.Prelude.{◌≡◌, map, true, false, IfOk, OnOk};
 ghost use Rattle.std.specs.List.{slice_get};
 ghost use Rattle.rt_drive.specs.Answers.{answer_to, answered_by};
-ghost use Rattle.rt_drive.specs.Ahead.{answered, fits, has_way, is_due, is_same, nothing_ahead};
+ghost use Rattle.rt_drive.specs.declared.ahead.Name.TheVariants.{Listen};
+ghost use Rattle.rt_drive.specs.Ahead.{all_answered, answered, fits, has_way, is_due, is_same};
+ghost use Rattle.rt_drive.specs.Ahead.{nothing_ahead};
 ghost use Rattle.rt_drive.specs.Ahead.{up_to, with_kept, with_sent, without_first};
 
 use crate::socket::Told;
-use rt_wire::{ClientMessage, ServerMessage};
+use rt_wire::{ClientMessage, Part, ServerMessage};
 use std::alloc::{AllocError, Global};
 use std::collections::VecDeque;
 use std::marker::Model;
@@ -44,21 +46,10 @@ pub(crate) fn answer_to(message: &ClientMessage) -> Option<Name>
     ensures { result ≡ answer_to message.now }
 {
     match message {
+        ClientMessage::Hello { .. } => None,
         ClientMessage::Listen { tag, .. } => Some(Name::Listen(*tag)),
         ClientMessage::Unlisten { .. } => None,
         ClientMessage::Ask { id, .. } => Some(Name::Request(*id)),
-    }
-}
-
-// What a message answers, if it is the first of that name.
-pub(crate) fn answered_by(message: &ServerMessage) -> Name
-    ensures { result ≡ answered_by message.now }
-{
-    match message {
-        ServerMessage::Data { tag, .. }
-        | ServerMessage::DataMerge { tag, .. }
-        | ServerMessage::Revoked { tag, .. } => Name::Listen(*tag),
-        ServerMessage::Accepted { id } | ServerMessage::Refused { id, .. } => Name::Request(*id),
     }
 }
 
@@ -162,7 +153,7 @@ impl Ahead {
     }
 
     // Notes what a message of that name says: what was sent up to what it answers was read.
-    pub(crate) fn note_answer(&mut self, name: Name)
+    fn note_answer(&mut self, name: Name)
         ensures { self.new ≡ answered name self.old }
     {
         if !is_due(&self.due, name) {
@@ -170,6 +161,30 @@ impl Ahead {
         }
         if let Some(sent) = take_up_to(&mut self.due, name) {
             self.read = sent;
+        }
+    }
+
+    // Notes that the listens of these parts are answered, if it is the first that is sent for them.
+    fn note_parts(&mut self, parts: &[Part])
+        ensures { self.new ≡ all_answered (map (λ p. Listen p.0) parts.now) self.old }
+    {
+        for part in parts {
+            self.note_answer(Name::Listen(part.tag()));
+        }
+    }
+
+    // Notes what a message answers, if it is the first of its name.
+    pub(crate) fn note_message(&mut self, message: &ServerMessage)
+        ensures { self.new ≡ all_answered (answered_by message.now) self.old }
+    {
+        match message {
+            ServerMessage::Data { tag, .. }
+            | ServerMessage::DataMerge { tag, .. }
+            | ServerMessage::Revoked { tag, .. } => self.note_answer(Name::Listen(*tag)),
+            ServerMessage::Push { parts } => self.note_parts(parts.as_slice()),
+            ServerMessage::Accepted { id } | ServerMessage::Refused { id, .. } => {
+                self.note_answer(Name::Request(*id));
+            }
         }
     }
 

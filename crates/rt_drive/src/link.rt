@@ -8,7 +8,7 @@ ghost use Rattle.rt_drive.specs.Ahead.{without_first};
 ghost use Rattle.rt_drive.specs.Opening.{is_end};
 ghost use Rattle.rt_drive.specs.Sending.{MakesWay, Sends, SendsAll, linked};
 
-use crate::ahead::{Ahead, answered_by};
+use crate::ahead::Ahead;
 use crate::lost::Lost;
 use crate::socket::{Heard, Socket, Told, close_socket, hear, send};
 use rt_wire::{ClientMessage, ServerMessage, WireError};
@@ -29,7 +29,7 @@ fn note(alloc: Global, ahead: &mut Ahead, words: &str) -> Result<(), AllocError>
     ensures { OnOk result (ahead.new ≡ noted (server_message words.now) ahead.old) }
 {
     match ServerMessage::read(alloc, words) {
-        Ok(message) => ahead.note_answer(answered_by(&message)),
+        Ok(message) => ahead.note_message(&message),
         Err(WireError::NoMemory) => return Err(AllocError),
         Err(
             WireError::NotJson | WireError::UnknownKind | WireError::BadField | WireError::BadTree,

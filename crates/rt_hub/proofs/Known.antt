@@ -8,7 +8,7 @@ use Rattle.std.specs.List.{filter, fold, list_any}
 use Rattle.std.proofs.lemmas.Bool.Decides.{nat_tests}
 use Rattle.std.proofs.lemmas.List.Folds.{list_any-append}
 use Rattle.rt_wire.specs.declared.client.ClientMessage.{ClientMessage}
-use Rattle.rt_wire.specs.declared.client.ClientMessage.TheVariants.{Listen as ListenTo, Unlisten, Ask}
+use Rattle.rt_wire.specs.declared.client.ClientMessage.TheVariants.{Hello, Listen as ListenTo, Unlisten, Ask}
 use Rattle.rt_wire.specs.declared.request.Asked.{Asked}
 use Rattle.rt_wire.specs.declared.request.Asked.TheVariants.{Now, AtDisconnect}
 use Rattle.rt_wire.specs.declared.request.Ending.TheVariants.{Run, Cancel}
@@ -42,6 +42,7 @@ asks p n id (AtDisconnect (Cancel path)) =
 
 pub answers : (p : Peer) (n : ℕ) (message : ClientMessage)
     → (answered p n message).0.connections ≡ p.connections
+answers p n (Hello version) = refl
 answers p n (ListenTo tag q) =
     elim (is_denied p.denied q.path) as (λ b. (let o : Outcome = if b
     then (p, one n (Revoked tag (codes "denied")))

@@ -8,6 +8,7 @@ use Rattle.serde_json.specs.View.{items_view}
 use Rattle.serde_json.specs.declared.value.Value.{Value}
 use Rattle.rt_lines.specs.declared.call.Call.{Call as CodeCall}
 use Rattle.rt_lines.specs.Calls.{Call, call_in, calls_in, calls_of}
+use Rattle.rt_lines.specs.Forms.{all_parts, part_in, part_words, parts_in}
 use Rattle.rt_lines.specs.Words.{elements, random_in, twelve_of}
 use Rattle.rt_lines.specs.Reading.{and_then, path_in, tree_in, in_front, entries_in}
 use Rattle.rt_lines.specs.declared.error.LineError.{LineError}
@@ -34,6 +35,14 @@ calls-more all found d ds call h is =
 pub calls_in_array : (d : Data) (vs : List Value) → Some (items_view vs) ≡ as_array d → calls_in d ≡ calls_of (views vs)
 calls_in_array d vs e =
     ap (option_and_then (λ ds. calls_of (elements ds))) (sym e) ∙ ap calls_of (elements-items_of (views vs))
+
+pub parts_in_array : (d : Data) (vs : List Value) → Some (items_view vs) ≡ as_array d → parts_in d ≡ all_parts (views vs)
+parts_in_array d vs e =
+    ap (option_and_then (λ ds. all_parts (elements ds))) (sym e) ∙ ap all_parts (elements-items_of (views vs))
+
+pub part_in_array : (d : Data) (vs : List Value) → Some (items_view vs) ≡ as_array d → part_in d ≡ part_words (views vs)
+part_in_array d vs e =
+    ap (option_and_then (λ ds. part_words (elements ds))) (sym e) ∙ ap part_words (elements-items_of (views vs))
 
 pub random_in_array : (d : Data) (vs : List Value) → Some (items_view vs) ≡ as_array d → random_in d ≡ twelve_of (views vs)
 random_in_array d vs e =

@@ -2,13 +2,13 @@
 ghost use Rattle.std.specs.Prelude.{◌≡◌, ◌⊎◌, IfOk, IfErr, Some, None, option_map};
 ghost use Rattle.serde_json.specs.View.{view as data_of};
 ghost use Rattle.rt_lines.specs.Forms.{cancel_form, close_form, data_form, ending_form, form_in};
-ghost use Rattle.rt_lines.specs.Forms.{form_named};
+ghost use Rattle.rt_lines.specs.Forms.{all_parts, form_named, part_in, part_words, parts_form, parts_in};
 ghost use Rattle.rt_lines.specs.Forms.{listen_form, lone_form, lone_named, merge_form, no_form};
 ghost use Rattle.rt_lines.specs.Forms.{ok_form, on_disconnect_form, push_form, remove_words, revoke_form};
 ghost use Rattle.rt_lines.specs.Forms.{seat_named, server_form, server_named, set_words};
 ghost use Rattle.rt_lines.specs.Forms.{unlisten_form, update_words, view_form, write_form};
 ghost use Rattle.rt_lines.specs.Forms.{written_in};
-ghost use Rattle.rt_lines.specs.inside.FormView.{as_form, as_written, views};
+ghost use Rattle.rt_lines.specs.inside.FormView.{as_form, as_part, as_parts, as_written, views};
 
 use crate::call::{Call, calls_in};
 use crate::error::LineError;
@@ -33,6 +33,13 @@ pub(crate) enum Written<'a> {
     Remove {
         path: &'a str,
     },
+}
+
+/// A part of a push, its words as they stand there: `[tag,{path:value,..}]`
+#[derive(Clone, Copy)]
+pub(crate) struct PartWords<'a> {
+    pub(crate) tag: u64,
+    pub(crate) entries: &'a BTreeMap<String, Value>,
 }
 
 /// A line of one of the script's forms, its words as they stand there.
@@ -78,6 +85,10 @@ pub(crate) enum Form<'a> {
     Merge {
         tag: u64,
         entries: &'a BTreeMap<String, Value>,
+    },
+    /// `["parts",[[tag,{path:value,..}],..]]`
+    Parts {
+        parts: Vec<PartWords<'a>>,
     },
     /// `["ok",id]`
     Accepted {
@@ -389,6 +400,67 @@ fn listen<'a>(alloc: Global, words: &'a [Value]) -> Result<Form<'a>, LineError>
     Ok(Form::Listen { seat, path, calls })
 }
 
+// The part of these words.
+fn part_of(words: &[Value]) -> Option<PartWords<'_>>
+    ensures { option_map as_part result ≡ part_words (views words.now) }
+{
+    let [tag, entries] = words else {
+        return None;
+    };
+    Some(PartWords {
+        tag: tag.as_u64()?,
+        entries: entries.as_object()?,
+    })
+}
+
+// The part that a JSON value is.
+fn part(value: &Value) -> Option<PartWords<'_>>
+    ensures { option_map as_part result ≡ part_in (data_of value.now) }
+{
+    part_of(value.as_array()?.as_slice())
+}
+
+// The parts that JSON values are, each of that form.
+fn all_parts<'a>(alloc: Global, values: &'a [Value]) -> Result<Vec<PartWords<'a>>, LineError>
+    ensures ok { IfOk result (λ found. all_parts (views values.entry.now)
+        ≡ Some (as_parts found.items)) }
+    ensures err { IfErr result (λ e. (e ≡ LineError.Bad) × (all_parts (views values.entry.now) ≡ None)
+        ⊎ (e ≡ LineError.NoMemory)) }
+{
+    let mut found = Vec::new(alloc);
+    for value in values {
+        found.push(part(value).ok_or(LineError::Bad)?)?;
+    }
+    Ok(found)
+}
+
+// The parts of an array.
+#[tactic(auto, using(crate::proofs::Lists::parts_in_array))]
+fn parts_in(alloc: Global, value: &Value) -> Result<Vec<PartWords<'_>>, LineError>
+    ensures ok { IfOk result (λ found. parts_in (data_of value.entry.now)
+        ≡ Some (as_parts found.items)) }
+    ensures err { IfErr result (λ e. (e ≡ LineError.Bad) × (parts_in (data_of value.entry.now) ≡ None)
+        ⊎ (e ≡ LineError.NoMemory)) }
+{
+    match value.as_array() {
+        Some(values) => all_parts(alloc, values.as_slice()),
+        None => Err(LineError::Bad),
+    }
+}
+
+// The parts that are pushed together.
+fn parts<'a>(alloc: Global, words: &'a [Value]) -> Result<Form<'a>, LineError>
+    ensures ok { IfOk result (λ form. parts_form (views words.entry.now) ≡ Some (as_form form)) }
+    ensures err { IfErr result (λ e. (e ≡ LineError.Bad) × (parts_form (views words.entry.now) ≡ None)
+        ⊎ (e ≡ LineError.NoMemory)) }
+{
+    let [value] = words else {
+        return Err(LineError::Bad);
+    };
+    let parts = parts_in(alloc, value)?;
+    Ok(Form::Parts { parts })
+}
+
 /// A line of that name.
 pub(crate) fn named<'a>(
     alloc: Global,
@@ -403,6 +475,9 @@ pub(crate) fn named<'a>(
 {
     if name == "listen" {
         return listen(alloc, words);
+    }
+    if name == "parts" {
+        return parts(alloc, words);
     }
     match seat_named(name, words) {
         Some(form) => Ok(form),

@@ -4,12 +4,12 @@ ghost use Rattle.serde_json.specs.View.{view as data_of};
 ghost use Rattle.rt_lines.specs.Lines.{data_of_bytes, line_in, line_of_bytes, line_of_data};
 ghost use Rattle.rt_lines.specs.Lines.{makes, server_step};
 ghost use Rattle.rt_lines.specs.Forms as form;
-ghost use Rattle.rt_lines.specs.inside.FormView.{as_form, as_written};
+ghost use Rattle.rt_lines.specs.inside.FormView.{as_form, as_parts, as_written};
 
 use crate::draft::query_of;
 use crate::error::{LineError, Refusal};
-use crate::form::{Form, Written, form_of};
-use crate::reading::{action_of, entries_of, path_of, tree_of};
+use crate::form::{Form, PartWords, Written, form_of};
+use crate::reading::{action_of, entries_of, parts_read, path_of, tree_of};
 use rt_wire::{Ending, Reason, ServerMessage, WireError};
 use rt_world::Step;
 use serde_json::Value;
@@ -61,6 +61,16 @@ fn data_step(alloc: Global, tag: u64, path: &str, value: &Value) -> Result<Step,
     Ok(Step::Data { tag, path, tree })
 }
 
+// Values that the server sends on several listens.
+fn parts_step(alloc: Global, parts: &[PartWords<'_>]) -> Result<Step, LineError>
+    ensures ok { IfOk result (λ step. line_in (form.Parts (as_parts parts.now)) ≡ makes step) }
+    ensures fault { IfErr result (λ e. (line_in (form.Parts (as_parts parts.now)) ≡ Err e)
+        ⊎ (e ≡ LineError.NoMemory)) }
+{
+    let parts = parts_read(alloc, parts)?;
+    Ok(Step::Push { parts })
+}
+
 // A write that a seat asks for at the end of the connection.
 fn run_at_end(alloc: Global, seat: u64, written: Written<'_>) -> Result<Step, LineError>
     ensures ok { IfOk result (λ step. line_in (form.OnDisconnect seat (as_written written.entry))
@@ -108,6 +118,7 @@ fn line_of(alloc: Global, form: Form<'_>) -> Result<Line, LineError>
             let entries = entries_of(alloc, entries)?;
             Step::DataMerge { tag, entries }
         }
+        Form::Parts { parts } => parts_step(alloc, &parts)?,
         Form::Accepted { id } => Step::Accepted { id },
         Form::Refused { id, why } => {
             let why = reason_of(alloc, why)?;

@@ -73,6 +73,7 @@ fn order_of(alloc: Global, form: Form<'_>) -> Result<Order, LineError>
         Form::Cover => return Ok(Order::Cover),
         Form::Data { .. }
         | Form::Merge { .. }
+        | Form::Parts { .. }
         | Form::Accepted { .. }
         | Form::Refused { .. }
         | Form::Revoked { .. }

@@ -1,14 +1,14 @@
-// Paths, trees and entries of a line.
+// Paths, trees, entries and parts of a line.
 ghost use Rattle.std.specs.Prelude.{◌≡◌, ◌⊎◌, IfOk, IfErr, Ok, Err};
 ghost use Rattle.serde_json.specs.View.{view as data_of, members_view};
-ghost use Rattle.rt_lines.specs.Reading.{action_in, entries_in, mark_in, path_in, tree_in};
-ghost use Rattle.rt_lines.specs.inside.FormView.{as_written};
+ghost use Rattle.rt_lines.specs.Reading.{action_in, entries_in, mark_in, parts_read, path_in, tree_in};
+ghost use Rattle.rt_lines.specs.inside.FormView.{as_parts, as_written};
 
 use crate::error::{LineError, Refusal};
-use crate::form::Written;
+use crate::form::{PartWords, Written};
 use rt_order::Mark;
 use rt_tree::{Path, Tree, TreeError};
-use rt_wire::Action;
+use rt_wire::{Action, Part, Parts};
 use rt_writes::Entries;
 use serde_json::Value;
 use std::alloc::Global;
@@ -68,6 +68,20 @@ pub(crate) fn entries_of(
         items.push((path, tree))?;
     }
     Ok(Entries::of(items))
+}
+
+/// The parts of a push, in their order: of each the entries.
+pub(crate) fn parts_read(alloc: Global, words: &[PartWords<'_>]) -> Result<Parts, LineError>
+    ensures ok { IfOk result (λ parts. parts_read (as_parts words.now) ≡ Ok parts) }
+    ensures fault { IfErr result (λ e. (parts_read (as_parts words.now) ≡ Err e)
+        ⊎ (e ≡ LineError.NoMemory)) }
+{
+    let mut parts = Vec::new(alloc);
+    for part in words {
+        let entries = entries_of(alloc, part.entries)?;
+        parts.push(Part::new(part.tag, entries))?;
+    }
+    Ok(Parts::of(parts))
 }
 
 /// What a write sets.

@@ -1,7 +1,7 @@
 -- The listeners and their views, of what is held.
-use Rattle.std.proofs.Common.{◌≡◌, ℕ, zero, suc, ◌<◌, Bool, true, false, cond, ◌||◌, List, [], ◌∷◌, ◌++◌, length, get_or, map, refl, sym, ap, ◌∙◌, arith, Option, Some, None}
+use Rattle.std.proofs.Common.{◌≡◌, ℕ, zero, suc, ◌<◌, ◌+◌, nat_lt, Bool, true, false, cond, not, ◌||◌, List, [], ◌∷◌, ◌++◌, length, get_or, map, refl, sym, ap, ◌∙◌, arith, Option, Some, None}
 use Rattle.std.specs.Prelude.{◌==◌}
-use Rattle.std.specs.List.{All, filter, filter_map, cons_option, find, list_any}
+use Rattle.std.specs.List.{All, filter, filter_map, cons_option, find, list_any, position, position_or_len}
 use Rattle.std.specs.Option.{option_and_then, option_map}
 use Rattle.std.proofs.lemmas.List.Elements.{All-append, All-filter}
 use Rattle.std.proofs.lemmas.List.Kept.{AllPairs-filter}
@@ -20,6 +20,14 @@ use Rattle.rt_parts.specs.inside.HeldView.{all_of, AreHeld, views_of, ended_note
 pub any_map : {X Y : Type 0} (test : Y → Bool) (f : X → Y) (xs : List X) → list_any test (map f xs) ≡ list_any (λ x. test (f x)) xs
 any_map test f [] = refl
 any_map test f (x ∷ xs) = ap (λ b. test (f x) || b) (any_map test f xs)
+
+-- where the first stands that passes
+pub position_map : {X Y : Type 0} (test : Y → Bool) (f : X → Y) (xs : List X) → position test (map f xs) ≡ position (λ x. test (f x)) xs
+position_map {X = X} test f xs = λ i. cond (nat_lt (first xs i) (length-map xs f i)) (Some (first xs i)) None
+  where
+    first : (ys : List X) → position_or_len test (map f ys) ≡ position_or_len (λ x. test (f x)) ys
+    first [] = refl
+    first (y ∷ ys) = ap (λ n. cond (not (test (f y))) (1 + n) 0) (first ys)
 
 -- the views of the listeners that pass
 pub views_held : (test : Listener → Bool) (held : List Held) → views_where test (all_of held) ≡ own_views test held

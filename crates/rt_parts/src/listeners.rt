@@ -1,7 +1,7 @@
 // The registered listeners.
 ghost use Rattle.std.specs.Prelude.{◌≡◌, ◌≢◌, ◌==◌, ◌↔◌, ◌&&◌, ◌<◌, ◌++◌, ◌∷◌, [], not, map};
 ghost use Rattle.std.specs.Prelude.{length, IsTrue, IfOk, OnOk, OnErr, None, Err};
-ghost use Rattle.std.specs.List.{All, filter, find, list_any, zip};
+ghost use Rattle.std.specs.List.{All, filter, find, list_any, position, zip};
 ghost use Rattle.std.specs.Option.{option_to_list};
 ghost use Rattle.rt_query.specs.QueryEq.{query_eq};
 ghost use Rattle.rt_query.specs.Supply.{form};
@@ -15,7 +15,7 @@ ghost use Rattle.rt_parts.specs.Refreshed.{FollowNamed, view_met};
 use crate::adding::first;
 use crate::ending::{end_form, end_number, end_seat, tell_ends};
 use crate::error::ShownError;
-use crate::held::{Held, is_seats};
+use crate::held::{Held, is_seats, place_of};
 use crate::places::{Place, insert_place, numbers_met};
 use crate::reading::{numbers_of, shown};
 use crate::views::refresh;
@@ -86,6 +86,13 @@ impl Listeners {
         ensures { result ≡ list_any (λ l. l.number == number && l.seat == seat) self.now.listeners }
     {
         is_seats(&self.held, seat, number)
+    }
+
+    /// Where the listener of that number stands among all, which count from 0. Finds it by halving.
+    pub fn place_of(&self, number: u64) -> Option<usize>
+        ensures { result ≡ position (λ l. l.number == number) self.now.listeners }
+    {
+        place_of(&self.held, number)
     }
 
     /// Takes anew what the entries meet, and tells the seats what changes. A view below whose path

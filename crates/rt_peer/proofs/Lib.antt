@@ -1,5 +1,10 @@
+pub mod BundleLaws
 pub mod Numbers
 pub mod OrderLaws
 pub mod PartLaws
+pub mod PartsRising
 pub mod Places
+pub mod PushedLaws
 pub mod RunLaws
+pub mod ToOne
+pub mod VersionLaws

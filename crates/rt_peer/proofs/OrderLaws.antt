@@ -1,10 +1,10 @@
 -- The orders that a peer's connections, listens and actions stand in.
 use Rattle.std.proofs.Common.{◌≡◌, ℕ, ◌+◌, ◌<◌, ◌≤◌, ◌==◌, ◌&&◌, Bool, true, false, not, ◌||◌}
 use Rattle.std.proofs.Common.{nat_lt, List, [], ◌∷◌, Option, Some, None, codes, refl, sym, ap, subst, ◌∙◌}
-use Rattle.std.proofs.Common.{arith, map, zero, suc, if◌then◌else◌}
+use Rattle.std.proofs.Common.{arith, cond, map, nat_le, zero, suc, if◌then◌else◌}
 use Rattle.std.specs.List.{All, AllPairs, filter}
 use Rattle.std.proofs.lemmas.Bool.Decides.{nat_tests}
-use Rattle.std.proofs.lemmas.List.Elements.{All-filter, All-map}
+use Rattle.std.proofs.lemmas.List.Elements.{All-filter, All-head, All-map, All-tail}
 use Rattle.std.proofs.lemmas.List.Kept.{AllPairs-cons, AllPairs-filter}
 use Rattle.std.proofs.lemmas.Map.Views.{any-filter_same}
 use Rattle.rt_tree.specs.PathTree.{Path, PathTree}
@@ -14,14 +14,14 @@ use Rattle.rt_wire.specs.declared.request.Asked.{Asked}
 use Rattle.rt_wire.specs.declared.request.Asked.TheVariants.{Now, AtDisconnect}
 use Rattle.rt_wire.specs.declared.request.Ending.TheVariants.{Run, Cancel}
 use Rattle.rt_wire.specs.declared.client.ClientMessage.{ClientMessage}
-use Rattle.rt_wire.specs.declared.client.ClientMessage.TheVariants.{Listen as ListenTo, Unlisten, Ask}
+use Rattle.rt_wire.specs.declared.client.ClientMessage.TheVariants.{Hello, Listen as ListenTo, Unlisten, Ask}
 use Rattle.rt_wire.specs.declared.server.ServerMessage.TheVariants.{Data, Accepted, Refused, Revoked}
 use Rattle.rt_peer.specs.Peers.{Listen, Deferred, Peer, is_known, least_free, is_denied}
 use Rattle.rt_peer.specs.Peers.{is_before, runs_before, is_at, new_peer}
 use Rattle.rt_peer.specs.Pushes.{seen}
 use Rattle.rt_peer.specs.Calls.{Outcome, one, connected, kept, answered, disconnected, entries_of}
 use Rattle.rt_peer.specs.Calls.{refusal, unless_refused, wrote, deferred, dropped, without_below}
-use Rattle.rt_peer.specs.Calls.{has_entries, asked}
+use Rattle.rt_peer.specs.Calls.{has_entries, asked, marked}
 use Rattle.rt_peer.specs.Runs.{Call, Connect, Message, Disconnect, outcome, after_all}
 use Rattle.rt_peer.specs.inside.Rising.{RisesFrom}
 use Rattle.rt_peer.specs.laws.Orders.{ListensRise, ListensAreOfKnown}
@@ -77,6 +77,8 @@ least_of ms h =
 
 pub record Keeps (p : Peer) : Type 0 where
   pub numbers : RisesFrom 1 p.connections
+  pub newer : RisesFrom 0 p.newer
+  pub newer_known : All (λ n. is_known p.connections n ≡ true) p.newer
   pub listens : ListensRise p
   pub listens_known : ListensAreOfKnown p
   pub actions : ActionsRise p
@@ -88,6 +90,8 @@ connects p h =
     let is = least_of p.connections h.numbers in
     record {
       numbers = rises-in_place 1 n p.connections is.from h.numbers is.fresh;
+      newer = h.newer;
+      newer_known = λ i d lt. known-in_place n _ p.connections (h.newer_known i d lt);
       listens = h.listens;
       listens_known = λ i d lt. known-in_place n _ p.connections (h.listens_known i d lt);
       actions = h.actions;
@@ -102,6 +106,8 @@ listens p n tag q known h =
     let R : Listen → Listen → Type 0 = λ a b. is_before a b ≡ true in
     record {
       numbers = h.numbers;
+      newer = h.newer;
+      newer_known = h.newer_known;
       listens = pairs-in_place R is_before l others
           (AllPairs-filter R (λ m. not (is_at n tag m)) p.listens h.listens)
           (filter_with (λ m. not (is_at n tag m)) (λ m. is_known p.connections m.connection ≡ true)
@@ -124,6 +130,8 @@ unlistens : (p : Peer) (n tag : ℕ) → Keeps p
     → Keeps (record p { listens = filter (λ l. not (is_at n tag l)) p.listens })
 unlistens p n tag h = record {
   numbers = h.numbers;
+  newer = h.newer;
+  newer_known = h.newer_known;
   listens = AllPairs-filter (λ a b. is_before a b ≡ true) (λ l. not (is_at n tag l)) p.listens h.listens;
   listens_known = All-filter (λ l. not (is_at n tag l))
       (λ l. is_known p.connections l.connection ≡ true) p.listens h.listens_known;
@@ -134,6 +142,8 @@ unlistens p n tag h = record {
 writes : (p : Peer) (t : PathTree) → Keeps p → Keeps (record p { tree = t })
 writes p t h = record {
   numbers = h.numbers;
+  newer = h.newer;
+  newer_known = h.newer_known;
   listens = h.listens;
   listens_known = h.listens_known;
   actions = h.actions;
@@ -147,6 +157,8 @@ defers p n id entries known h =
     let R : Deferred → Deferred → Type 0 = λ a b. runs_before b a ≡ false in
     record {
       numbers = h.numbers;
+      newer = h.newer;
+      newer_known = h.newer_known;
       listens = h.listens;
       listens_known = h.listens_known;
       actions = pairs-in_place R runs_before x p.actions h.actions
@@ -192,6 +204,8 @@ drops p n path h =
     let Known : Deferred → Type 0 = λ a. is_known p.connections a.connection ≡ true in
     record {
       numbers = h.numbers;
+      newer = h.newer;
+      newer_known = h.newer_known;
       listens = h.listens;
       listens_known = h.listens_known;
       actions = AllPairs-filter R has_entries (map (without_below n path) p.actions)
@@ -211,6 +225,10 @@ drops p n path h =
 ends : (p : Peer) (n : ℕ) → Keeps p → Keeps (disconnected p n).0
 ends p n h = record {
   numbers = rises-filter (λ m. not (m == n)) 1 p.connections h.numbers;
+  newer = rises-filter (λ m. not (m == n)) 0 p.newer h.newer;
+  newer_known = filter_with (λ m. not (m == n)) (λ m. is_known p.connections m ≡ true)
+      (λ m. is_known (filter (λ k. not (k == n)) p.connections) m ≡ true) p.newer
+      h.newer_known (λ m. still_known m);
   listens = AllPairs-filter (λ a b. is_before a b ≡ true) (λ l. not (l.connection == n)) p.listens
       h.listens;
   listens_known = filter_with (λ l. not (l.connection == n))
@@ -252,8 +270,41 @@ asks p n id (AtDisconnect (Cancel path)) known h =
     then (p, one n (Refused id (codes "denied")))
     else (dropped p n path, one n (Accepted id)) in o.0)) [ true ↦ h | false ↦ drops p n path h ]
 
+-- a number is marked, or not
+not_left : (n : ℕ) (ms : List ℕ) → is_known (filter (λ m. not (m == n)) ms) n ≡ false
+not_left n [] = refl
+not_left n (m ∷ ms) =
+    elim (m == n) as (λ b. (m == n) ≡ b → is_known (cond (not b) (m ∷ filter (λ k. not (k == n)) ms)
+    (filter (λ k. not (k == n)) ms)) n ≡ false) [
+      | true ↦ λ e. not_left n ms
+      | false ↦ λ e. ap (λ b. b || is_known (filter (λ k. not (k == n)) ms) n) e ∙ not_left n ms
+    ] refl
+
+marked_rises : (b : Bool) (n : ℕ) (ms : List ℕ) → RisesFrom 0 ms → RisesFrom 0 (marked b n ms)
+marked_rises true n ms h =
+    rises-in_place 0 n (filter (λ m. not (m == n)) ms) (omega arith)
+    (rises-filter (λ m. not (m == n)) 0 ms h) (not_left n ms)
+marked_rises false n ms h = rises-filter (λ m. not (m == n)) 0 ms h
+
+marked_known : (b : Bool) (all : List ℕ) (n : ℕ) (ms : List ℕ) → is_known all n ≡ true
+    → All (λ m. is_known all m ≡ true) ms → All (λ m. is_known all m ≡ true) (marked b n ms)
+marked_known true all n ms known h =
+    all-in_place (λ m. is_known all m ≡ true) nat_lt n (filter (λ m. not (m == n)) ms)
+    (All-filter (λ m. not (m == n)) (λ m. is_known all m ≡ true) ms h) known
+marked_known false all n ms known h =
+    All-filter (λ m. not (m == n)) (λ m. is_known all m ≡ true) ms h
+
 answers : (p : Peer) (n : ℕ) (message : ClientMessage) → is_known p.connections n ≡ true → Keeps p
     → Keeps (answered p n message).0
+answers p n (Hello version) known h = record {
+  numbers = h.numbers;
+  newer = marked_rises (nat_le 2 version) n p.newer h.newer;
+  newer_known = marked_known (nat_le 2 version) p.connections n p.newer known h.newer_known;
+  listens = h.listens;
+  listens_known = h.listens_known;
+  actions = h.actions;
+  actions_known = h.actions_known;
+}
 answers p n (ListenTo tag q) known h =
     elim (is_denied p.denied q.path) as (λ b. Keeps (let o : Outcome = if b
     then (p, one n (Revoked tag (codes "denied")))
@@ -281,9 +332,36 @@ pub run_keeps : (p : Peer) (calls : List Call) → Keeps p → Keeps (after_all 
 run_keeps p [] h = h
 run_keeps p (call ∷ calls) h = run_keeps (outcome p call).0 calls (calls_keep p call h)
 
+equal : (a c : ℕ) → (a == c) ≡ true → a ≡ c
+equal a c e = grind (arith, nat_tests)
+
+-- a new connection has no number that reads version 2
+pub begins_older : (p : Peer) → Keeps p → is_known p.newer (least_free p.connections) ≡ false
+begins_older p h = none_known p.newer h.newer_known
+  where
+    fresh : is_known p.connections (least_free p.connections) ≡ false
+    fresh = (least_of p.connections h.numbers).fresh
+
+    other : (m : ℕ) → is_known p.connections m ≡ true → (m == least_free p.connections) ≡ false
+    other m known =
+        elim (m == least_free p.connections) as (λ b. (m == least_free p.connections) ≡ b → b ≡ false) [
+          | true ↦ λ e. sym known ∙ ap (is_known p.connections) (equal m (least_free p.connections) e) ∙ fresh
+          | false ↦ λ e. refl
+        ] refl
+
+    none_known : (ms : List ℕ) → All (λ m. is_known p.connections m ≡ true) ms
+        → is_known ms (least_free p.connections) ≡ false
+    none_known [] all = refl
+    none_known (m ∷ ms) all =
+        ap (λ b. b || is_known ms (least_free p.connections))
+        (other m (All-head (λ k. is_known p.connections k ≡ true) m ms all))
+        ∙ none_known ms (All-tail (λ k. is_known p.connections k ≡ true) m ms all)
+
 pub new_keeps : (tree : PathTree) (denied : List Path) → Keeps (new_peer tree denied)
 new_keeps tree denied = record {
   numbers = tt;
+  newer = tt;
+  newer_known = λ i d lt. absurd (omega arith);
   listens = λ i j d lt within. absurd (omega arith);
   listens_known = λ i d lt. absurd (omega arith);
   actions = λ i j d lt within. absurd (omega arith);

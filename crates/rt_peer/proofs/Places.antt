@@ -23,10 +23,10 @@ all-in_place P before x xs h px =
 -- ---- pairs
 
 module _ {X : Type 0} (R : X → X → Type 0) where
-  pairs_head : (x : X) (xs : List X) → AllPairs R (x ∷ xs) → All (R x) xs
+  pub pairs_head : (x : X) (xs : List X) → AllPairs R (x ∷ xs) → All (R x) xs
   pairs_head x xs h k d lt = h zero (suc k) d (omega arith) (omega arith)
 
-  pairs_tail : (x : X) (xs : List X) → AllPairs R (x ∷ xs) → AllPairs R xs
+  pub pairs_tail : (x : X) (xs : List X) → AllPairs R (x ∷ xs) → AllPairs R xs
   pairs_tail x xs h i j d lt within = h (suc i) (suc j) d (omega arith) (omega arith)
 
   pub pairs-append : (xs ys : List X) → AllPairs R xs → AllPairs R ys → All (λ x. All (R x) ys) xs
@@ -68,7 +68,7 @@ module _ {X : Type 0} (R : X → X → Type 0) where
 
 -- ---- known numbers
 
-swapped : (a t b : Bool) → (a || (t || b)) ≡ (t || (a || b))
+pub swapped : (a t b : Bool) → (a || (t || b)) ≡ (t || (a || b))
 swapped true true b = refl
 swapped true false b = refl
 swapped false t b = refl
@@ -77,7 +77,7 @@ apart : (t a b : Bool) → ((t || a) || b) ≡ (t || (a || b))
 apart true a b = refl
 apart false a b = refl
 
-any-parted : {X : Type 0} (test q : X → Bool) (xs : List X)
+pub any-parted : {X : Type 0} (test q : X → Bool) (xs : List X)
     → (list_any test (filter (λ y. not (q y)) xs) || list_any test (filter q xs)) ≡ list_any test xs
 any-parted test q [] = refl
 any-parted test q (x ∷ xs) =

@@ -11,17 +11,18 @@ use Rattle.rt_query.specs.Queries.{is_filtered}
 use Rattle.rt_wire.specs.declared.request.Asked.TheVariants.{Now, AtDisconnect}
 use Rattle.rt_wire.specs.declared.request.Ending.TheVariants.{Run, Cancel}
 use Rattle.rt_wire.specs.declared.client.ClientMessage.{ClientMessage}
-use Rattle.rt_wire.specs.declared.client.ClientMessage.TheVariants.{Listen, Unlisten, Ask}
+use Rattle.rt_wire.specs.declared.client.ClientMessage.TheVariants.{Hello, Listen, Unlisten, Ask}
 use Rattle.rt_wire.specs.declared.server.ServerMessage.TheVariants.{Data, Accepted, Refused, Revoked}
 use Rattle.rt_peer.specs.declared.sent.Sent.{Sent}
 use Rattle.rt_peer.specs.Peers as peers
 use Rattle.rt_peer.specs.Peers.{Peer, Deferred, is_known, is_denied}
-use Rattle.rt_peer.specs.Pushes.{written, tree_after, seen, is_changed, push_of, parts_below}
+use Rattle.rt_peer.specs.Pushes.{written, tree_after, seen, is_changed, push_of, pushes, bundled, parts_below}
 use Rattle.rt_peer.specs.Pushes.{parts_message}
 use Rattle.rt_peer.specs.Calls.{Outcome, one, answered, kept, actions_of, entries_of}
 use Rattle.rt_peer.specs.Calls.{disconnected, refusal, unless_refused, wrote, deferred, dropped}
 use Rattle.rt_peer.specs.Runs.{Call, Connect, Message, Disconnect, outcome, after_all, is_refused}
 use Rattle.rt_peer.specs.Runs.{says_no, writes, writes_all, message_writes}
+use Rattle.rt_peer.proofs.BundleLaws.{bundled_no}
 
 -- ---- writes one after another
 
@@ -74,8 +75,9 @@ wrote_no p n id entries =
     let u = written p.tree entries in
     let ls = filter (is_changed p.tree u) p.listens in
     list_any-append (λ (s : Sent). s.to == n && says_no id s.message)
-    (map (λ l. record { to = l.connection; message = push_of u entries l }) ls) (one n (Accepted id))
-    ∙ ap (λ b. b || (n == n && false || false)) (told_no n id u entries ls)
+    (bundled p.newer (pushes p.tree u entries p.listens)) (one n (Accepted id))
+    ∙ ap (λ b. b || (n == n && false || false))
+    (bundled_no p.newer n id (pushes p.tree u entries p.listens) (told_no n id u entries ls))
     ∙ ap (λ b. b || false) (and_false (n == n) false refl)
 
 equal : (n : ℕ) → (n == n) ≡ true
@@ -103,6 +105,7 @@ later_writes p n id entries (Some why) = refl
 
 message_is : (p : Peer) (n : ℕ) (message : ClientMessage) → (answered p n message).0.tree
     ≡ written p.tree (message_writes n message (answered p n message).1)
+message_is p n (Hello version) = refl
 message_is p n (Listen tag q) =
     elim (is_denied p.denied q.path) as (λ b. (let o : Outcome = if b then (
       p,

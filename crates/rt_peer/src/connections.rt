@@ -1,7 +1,8 @@
 // The known connections.
-ghost use Rattle.std.specs.Prelude.{◌≡◌, ◌<◌, ◌≤◌, ℕ, nat_lt, not, ◌==◌, [], true, false, IfOk};
+ghost use Rattle.std.specs.Prelude.{◌≡◌, ◌<◌, ◌≤◌, ℕ, nat_lt, not, ◌==◌, [], true, false, IfOk, OnOk};
 ghost use Rattle.std.specs.List.{filter};
 ghost use Rattle.rt_peer.specs.Peers.{in_place, is_known, least_free};
+ghost use Rattle.rt_peer.specs.Calls.{marked};
 
 use std::alloc::{AllocError, Global};
 use std::marker::Model;
@@ -101,8 +102,20 @@ fn with_number(alloc: Global, numbers: &[u64], number: u64) -> Result<Vec<u64>, 
 }
 
 // Takes a number out, if it is there.
-fn remove_number(numbers: &mut Vec<u64>, number: u64)
+pub(crate) fn remove_number(numbers: &mut Vec<u64>, number: u64)
     ensures { numbers.new.items ≡ filter (λ m. not (m == number)) numbers.old.items }
 {
     numbers.retain(|known| *known != number);
+}
+
+// Puts a number in its place, or takes it out.
+pub(crate) fn mark(numbers: &mut Vec<u64>, number: u64, is_there: bool) -> Result<(), AllocError>
+    ensures { OnOk result (numbers.new.items ≡ marked is_there number numbers.old.items) }
+{
+    remove_number(numbers, number);
+    if is_there {
+        let all = with_number(*numbers.allocator(), numbers, number)?;
+        *numbers = all;
+    }
+    Ok(())
 }

@@ -3,14 +3,40 @@
 
 ghost use Rattle.rt_peer.specs.laws.Examples.{RowIsSent, RowLeaves, RowDoesSomething};
 ghost use Rattle.rt_peer.specs.laws.Examples.{RowDoesNoMore, WriterIsNotTold, NumberIsFreeAgain};
+ghost use Rattle.rt_peer.specs.laws.Examples.{PushesParts, VersionsCount, OlderGetsNoParts};
+ghost use Rattle.rt_peer.specs.laws.Examples.{NewerGetsParts, PartsStayInOrder, SingleStays};
+ghost use Rattle.rt_peer.specs.laws.Examples.{WritesStayApart};
 ghost use Rattle.rt_peer.specs.laws.Orders.{ActionsMayTie, BusyIsSorted, NoListenIsLeft};
 ghost use Rattle.rt_peer.specs.laws.Orders.{NumbersMayHaveGaps};
+ghost use Rattle.rt_peer.specs.laws.Versions.{SomeAreOlder, VersionsMayFall};
 
 /// What two connections are sent, one that listens and one that writes.
 pub fn sent_examples()
     ensures row { RowIsSent }
     ensures writer { WriterIsNotTold }
     ensures again { NumberIsFreeAgain }
+{}
+
+/// What a connection that reads version 2 is sent, and which connections do.
+pub fn peer_pushes_parts()
+    ensures parts { PushesParts }
+    ensures versions { VersionsCount }
+    ensures older { OlderGetsNoParts }
+{}
+
+/// What does not come to a connection that reads version 2: each push by itself, one push for two writes,
+/// its parts in another order, a push of one part.
+pub fn push_refutations()
+    ensures newer { NewerGetsParts }
+    ensures writes { WritesStayApart }
+    ensures order { PartsStayInOrder }
+    ensures single { SingleStays }
+{}
+
+/// What does not hold of versions: that every connection reads version 2, and that one which did goes on.
+pub fn version_refutations()
+    ensures older { SomeAreOlder }
+    ensures fall { VersionsMayFall }
 {}
 
 /// What they leave in the tree, and what they do not.

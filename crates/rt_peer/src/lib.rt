@@ -11,6 +11,7 @@
 //! A contract sees a peer as what it holds (`specs/Peers.antt`), none once it has lacked memory.
 #![tactic(auto)]
 
+mod bundles;
 mod connections;
 mod deferred;
 mod error;
@@ -24,7 +25,10 @@ mod shown;
 mod state;
 
 pub use error::PeerError;
-pub use examples::{order_examples, run_examples, sent_examples};
-pub use laws::{connections_law, orders_law, run_law};
+pub use examples::{
+    order_examples, peer_pushes_parts, push_refutations, run_examples, sent_examples,
+    version_refutations,
+};
+pub use laws::{connections_law, orders_law, pushes_law, run_law, versions_law};
 pub use peer::Peer;
 pub use sent::Sent;

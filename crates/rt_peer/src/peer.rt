@@ -125,7 +125,8 @@ impl Peer {
 
     /// Takes a message of the connection, and gives what is to be sent, in order.
     ///
-    /// A listen is sent what it shows, or revoked as denied. A write is put into the tree, told to each
+    /// A connection that tells version 2 or above is sent several pushes of one write as one, from then
+    /// on. A listen is sent what it shows, or revoked as denied. A write is put into the tree, told to each
     /// listen that then shows something else, the writer's own among them, and answered. What is to be
     /// done at the end of the connection is kept. A request is refused as bad where its entries overlap
     /// or stand too deep, and as denied where one of its paths is denied.

@@ -1,5 +1,5 @@
 // What listens are sent when a write changes what they show.
-ghost use Rattle.std.specs.Prelude.{◌≡◌, ◌++◌, IfOk, OnOk};
+ghost use Rattle.std.specs.Prelude.{◌≡◌, IfOk};
 ghost use Rattle.std.specs.List.{list_any};
 ghost use Rattle.rt_tree.specs.Assignments.{is_at_or_above};
 ghost use Rattle.rt_peer.specs.Pushes.{is_changed, parts_below, parts_message, push_of, pushes};
@@ -83,18 +83,18 @@ fn push_of(
     Ok(ServerMessage::Data { tag, path, tree })
 }
 
-// Adds what the listens are sent once the entries have made one tree of the other.
+// What the listens are sent once the entries have made one tree of the other.
 pub(crate) fn push_all(
     alloc: Global,
-    sent: &mut Vec<Sent>,
     before: &Tree,
     after: &Tree,
     entries: &[(Path, Tree)],
     listens: &[Listen],
-) -> Result<(), AllocError>
-    ensures { OnOk result (sent.new.items
-        ≡ sent.old.items ++ pushes before.now after.now entries.now listens.now) }
+) -> Result<Vec<Sent>, AllocError>
+    ensures { IfOk result (λ sent. sent.items
+        ≡ pushes before.now after.now entries.now listens.now) }
 {
+    let mut sent = Vec::new(alloc);
     for listen in listens {
         if is_changed(alloc, before, after, listen)? {
             let message = push_of(alloc, after, entries, listen)?;
@@ -104,5 +104,5 @@ pub(crate) fn push_all(
             })?;
         }
     }
-    Ok(())
+    Ok(sent)
 }

@@ -5,14 +5,15 @@ ghost use Rattle.std.specs.Option.{option_copied};
 ghost use Rattle.rt_writes.specs.Writes.{IsShallow};
 ghost use Rattle.rt_wire.specs.declared.server.ServerMessage.TheVariants as ServerMessage;
 ghost use Rattle.rt_peer.specs.Peers.{is_denied, is_known, least_free, new_peer};
-ghost use Rattle.rt_peer.specs.Pushes.{pushes, pushes_after, tree_after, written};
+ghost use Rattle.rt_peer.specs.Pushes.{bundled, pushes, pushes_after, tree_after, written};
 ghost use Rattle.rt_peer.specs.Calls.{actions_of, answered, asked as outcome, cancelled, connected};
-ghost use Rattle.rt_peer.specs.Calls.{deferred, disconnected, ended, is_bad, kept, listened};
+ghost use Rattle.rt_peer.specs.Calls.{deferred, disconnected, ended, greeted, is_bad, kept, listened};
 ghost use Rattle.rt_peer.specs.Calls.{one, refusal, unlistened, wrote};
 ghost use Rattle.rt_wire.specs.declared.request.Asked.TheVariants as Asked;
 ghost use Rattle.rt_wire.specs.declared.request.Ending.TheVariants as Ending;
 
-use crate::connections::Connections;
+use crate::bundles::bundle;
+use crate::connections::{Connections, mark, remove_number};
 use crate::deferred::{Deferred, parted, with_action, without_entries_below};
 use crate::listen::{Listen, remove_listen, remove_listens_of, with_listen};
 use crate::pushes::push_all;
@@ -26,12 +27,13 @@ use std::alloc::{AllocError, Global};
 use std::marker::Model;
 use std::mem;
 
-// The tree, the denied paths, the known connections, their listens by connection and tag, and what is
-// to be done when they end, by connection and number.
+// The tree, the denied paths, the known connections and those that read version 2, their listens by
+// connection and tag, and what is to be done when they end, by connection and number.
 pub(crate) struct State {
     tree: Tree,
     denied: Vec<Path>,
     connections: Connections,
+    newer: Vec<u64>,
     listens: Vec<Listen>,
     actions: Vec<Deferred>,
 }
@@ -42,6 +44,7 @@ impl Drop for State {
             tree: _,
             denied: _,
             connections: _,
+            newer: _,
             listens: _,
             actions: _,
         } = self;
@@ -57,6 +60,7 @@ impl Model for State {
       tree = a.tree;
       denied = a.denied.items;
       connections = a.connections;
+      newer = a.newer.items;
       listens = a.listens.items;
       actions = a.actions.items;
     } };
@@ -71,6 +75,7 @@ impl State {
             tree,
             denied,
             connections: Connections::new(alloc),
+            newer: Vec::new(alloc),
             listens: Vec::new(alloc),
             actions: Vec::new(alloc),
         }
@@ -129,6 +134,15 @@ impl State {
         }
     }
 
+    // From now on the connection reads version 2, or version 1.
+    fn greet(&mut self, connection: u64, version: u64) -> Result<Vec<Sent>, AllocError>
+        ensures peer { OnOk result (self.new ≡ (greeted self.old connection version).0) }
+        ensures sent { IfOk result (λ sent. sent.items ≡ (greeted self.old connection version).1) }
+    {
+        mark(&mut self.newer, connection, version >= 2)?;
+        Ok(Vec::new(self.alloc()))
+    }
+
     // Keeps a listen, in the place of an older one with its tag.
     fn keep(&mut self, connection: u64, tag: u64, query: &Query) -> Result<(), AllocError>
         ensures { OnOk result (self.new ≡ kept self.old connection tag query.now) }
@@ -175,12 +189,16 @@ impl State {
         ensures peer { OnOk result
             (self.new ≡ record self.old { tree = written self.old.tree entries.now }) }
         ensures sent { OnOk result (sent.new.items ≡ sent.old.items
-            ++ pushes self.old.tree (written self.old.tree entries.now) entries.now self.old.listens) }
+            ++ bundled self.old.newer
+            (pushes self.old.tree (written self.old.tree entries.now) entries.now self.old.listens)) }
     {
         let alloc = self.alloc();
         let before = self.tree.copy(alloc)?;
         put_all(alloc, &mut self.tree, entries)?;
-        push_all(alloc, sent, &before, &self.tree, entries, &self.listens)
+        let pushes = push_all(alloc, &before, &self.tree, entries, &self.listens)?;
+        let mut told = bundle(alloc, &self.newer, pushes)?;
+        sent.append(&mut told)?;
+        Ok(())
     }
 
     // A write that is not refused.
@@ -289,6 +307,7 @@ impl State {
         ensures sent { IfOk result (λ sent. sent.items ≡ (answered self.old connection message.now).1) }
     {
         match message {
+            ClientMessage::Hello { version } => self.greet(connection, *version),
             ClientMessage::Listen { tag, query } => self.listen(connection, *tag, query),
             ClientMessage::Unlisten { tag } => {
                 self.unlisten(connection, *tag);
@@ -303,7 +322,7 @@ impl State {
         ensures peer { OnOk result
             (self.new ≡ record self.old { tree = tree_after self.old.tree actions.now }) }
         ensures sent { OnOk result (sent.new.items
-            ≡ sent.old.items ++ pushes_after self.old.listens self.old.tree actions.now) }
+            ≡ sent.old.items ++ pushes_after self.old.newer self.old.listens self.old.tree actions.now) }
     {
         for action in actions {
             self.run(sent, action.entries().as_slice())?;
@@ -318,6 +337,7 @@ impl State {
     {
         let alloc = self.alloc();
         self.connections.remove(connection);
+        remove_number(&mut self.newer, connection);
         remove_listens_of(&mut self.listens, connection);
         let actions = mem::replace(&mut self.actions, Vec::new(alloc));
         let (own, others) = parted(alloc, actions, connection)?;

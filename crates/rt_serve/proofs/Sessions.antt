@@ -10,7 +10,7 @@ use Rattle.std.proofs.lemmas.List.Elements.{All-head, All-tail, filter-append}
 use Rattle.std.proofs.lemmas.List.Folds.{list_any-append}
 use Rattle.rt_wire.specs.Client.{client_message}
 use Rattle.rt_wire.specs.declared.client.ClientMessage.{ClientMessage}
-use Rattle.rt_wire.specs.declared.client.ClientMessage.TheVariants.{Listen as ListenTo, Unlisten, Ask}
+use Rattle.rt_wire.specs.declared.client.ClientMessage.TheVariants.{Hello, Listen as ListenTo, Unlisten, Ask}
 use Rattle.rt_wire.specs.declared.error.WireError.{WireError}
 use Rattle.rt_wire.specs.declared.request.Asked.{Asked}
 use Rattle.rt_wire.specs.declared.request.Asked.TheVariants.{Now, AtDisconnect}
@@ -47,6 +47,7 @@ asks p n id (AtDisconnect (Cancel path)) =
 
 answers : (p : Peer) (n : ℕ) (message : ClientMessage)
     → (answered p n message).0.connections ≡ p.connections
+answers p n (Hello version) = refl
 answers p n (ListenTo tag q) =
     elim (is_denied p.denied q.path) as (λ b. (let o : Outcome = if b
     then (p, one n (Revoked tag (codes "denied")))

@@ -102,4 +102,17 @@ impl Pushed {
             _ => format!(in alloc; "[\"merge\",{tag},{{\"{path}\":{value}}}]"),
         }
     }
+
+    // The line of both of its values as one step, each on a listen with that tag and path.
+    pub(crate) fn parts(
+        &self,
+        alloc: Global,
+        (tag, path): (u64, &str),
+        (other, below): (u64, &str),
+    ) -> Result<String, AllocError> {
+        let (value, next) = (self.value, self.next);
+        format!(in alloc;
+            "[\"parts\",[[{tag},{{\"{path}\":{value}}}],[{other},{{\"{below}/a\":{next}}}]]]"
+        )
+    }
 }

@@ -44,6 +44,7 @@ impl Server {
     // Takes a message of the client.
     fn hears(&mut self, message: ClientMessage) -> Result<()> {
         match message {
+            ClientMessage::Hello { version: _ } => {}
             ClientMessage::Listen { tag, query } => {
                 let mut path = query.path().text()?;
                 drop(query);
@@ -72,6 +73,22 @@ impl Server {
             }
             None => Ok(None),
         }
+    }
+
+    // The line of what is sent on two of the listens at once, if there are two.
+    fn push_parts(&mut self) -> Result<Option<String>> {
+        let place = self.chance.below(self.listens.len() as u64) as usize;
+        let pushed = Pushed::by(&mut self.chance);
+        let (first, second) = (
+            self.listens.get(place),
+            self.listens.get(place.wrapping_add(1)),
+        );
+        let (Some(first), Some(second)) = (first, second) else {
+            return Ok(None);
+        };
+        let first = (first.tag, first.path.as_str());
+        let second = (second.tag, second.path.as_str());
+        Ok(Some(pushed.parts(self.diary.alloc, first, second)?))
     }
 
     // The line of an answer to one of the requests, if there is one.
@@ -104,7 +121,8 @@ impl Server {
     // The line of what it does by chance.
     fn choose(&mut self) -> Result<Option<String>> {
         match self.chance.below(64) {
-            0..=23 => self.push(),
+            0..=19 => self.push(),
+            20..=23 => self.push_parts(),
             24..=44 => self.answer(),
             45 | 46 => self.revoke(),
             47 => self.turn("disconnected"),
@@ -217,6 +235,7 @@ fn served(shared: &mut Shared, step: Step) -> Result<Outcome, ClientError> {
         Step::Disconnected => return shared.disconnected(),
         Step::Data { tag, path, tree } => ServerMessage::Data { tag, path, tree },
         Step::DataMerge { tag, entries } => ServerMessage::DataMerge { tag, entries },
+        Step::Push { parts } => ServerMessage::Push { parts },
         Step::Accepted { id } => ServerMessage::Accepted { id },
         Step::Refused { id, why } => ServerMessage::Refused { id, why },
         Step::Revoked { tag, why } => ServerMessage::Revoked { tag, why },

@@ -62,6 +62,7 @@ fn call_in(alloc: Global, line: &str) -> Result<Call> {
         Step::OnDisconnect { ending, .. } => Ok(Call::OnDisconnect { ending }),
         Step::Data { .. }
         | Step::DataMerge { .. }
+        | Step::Push { .. }
         | Step::Accepted { .. }
         | Step::Refused { .. }
         | Step::Revoked { .. }

@@ -5,6 +5,8 @@ pub mod Listened
 pub mod Losing
 pub mod LostForms
 pub mod NextWorlds
+pub mod PlacesLeft
+pub mod PushedTags
 pub mod RefusalLaws
 pub mod TagLaws
 pub mod Viewed

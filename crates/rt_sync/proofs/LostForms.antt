@@ -1,32 +1,40 @@
 -- Which forms listeners leave that end: those of the ended ones, or registered ones.
-use Rattle.std.proofs.Common.{◌≡◌, ℕ, ◌<◌, ◌==◌, Bool, true, false, cond, not, ◌||◌, inl, inr, List, [], ◌∷◌, refl, sym, ap, subst, ◌∙◌, arith, eqb-true, eq-eqb, Option, Some, None}
+use Rattle.std.proofs.Common.{◌≡◌, ℕ, suc, ◌<◌, ◌==◌, Bool, true, false, cond, not, ◌||◌, inl, inr, List, [], ◌∷◌, map, refl, sym, ap, subst, ◌∙◌, slice_index_or, arith, eqb-true, eq-eqb, Option, Some, None}
 use mathlib.Core.Bool.{true≢false}
-use Rattle.std.specs.List.{find, list_any, All, AllPairs, Contains}
+use Rattle.std.specs.List.{filter, find, list_any, All, AllPairs, Contains}
 use Rattle.std.specs.Option.{option_map, option_map_or}
-use Rattle.std.proofs.lemmas.List.Elements.{All-contains}
-use Rattle.std.proofs.lemmas.List.Folds.{Any-from_list_any, list_any-from_Any}
+use Rattle.std.proofs.lemmas.List.Elements.{All-contains, All-nil, All-cons, Contains-get_or}
+use Rattle.std.proofs.lemmas.List.Folds.{Any-from_list_any, list_any-from_Any, list_any_at}
+use Rattle.std.proofs.lemmas.List.Kept.{AllPairs-filter}
 use Rattle.rt_query.specs.Queries.{Query}
 use Rattle.rt_query.specs.QueryEq.{query_eq}
+use Rattle.rt_query.specs.Supply.{form}
 use Rattle.rt_query.specs.laws.QueryEq.{query_eq_tells}
 use Rattle.rt_cache.specs.Brought.{Brought, Window}
 use Rattle.rt_cache.specs.Recover.{is_among}
-use Rattle.rt_cover.specs.Cover.{Registered, Tagged, forms}
-use Rattle.rt_cover.specs.State.{Cover, left_after, listen_at, removed, revoked, without_form, without_listeners}
-use Rattle.rt_cover.specs.laws.CoverLaws.{Contains-filter}
-use Rattle.rt_cover.specs.laws.Pairs.{Contains-cases, AllPairs-first, AllPairs-rest}
+use Rattle.rt_cover.specs.declared.delta.Delta.{Delta}
+use Rattle.rt_cover.specs.declared.kept.Kept.{Kept}
+use Rattle.rt_cover.specs.Cover.{Registered, Tagged, forms, is_kept}
+use Rattle.rt_cover.specs.State.{Cover, difference, ended_by, left_after, listen_at, needed_forms, numbers_of, removed, revoked, shown_with, started_for, with_listeners, without_form, without_listeners, without_tag}
+use Rattle.rt_cover.specs.laws.CoverLaws.{Contains-filter, Contains-from_filter, passes-from_filter, is_covered}
+use Rattle.rt_cover.specs.laws.FormLaws.{same_tests}
+use Rattle.rt_cover.specs.laws.KeepLaws.{Contains-map, Contains-from_map, length_of_map, forms-started}
+use Rattle.rt_cover.specs.laws.Pairs.{Contains-cases, AllPairs-first, AllPairs-rest, AllPairs-map, AllPairs-from_map, filter_agreeing}
+use Rattle.rt_cover.specs.laws.SoundLaws.{told_exactly}
 use Rattle.rt_wire.specs.declared.client.ClientMessage.{ClientMessage}
 use Rattle.rt_world.specs.declared.limits.Limits.{Limits}
 use Rattle.rt_world.specs.declared.request.Request.{Request}
 use Rattle.rt_world.specs.declared.step.Step.{Step}
-use Rattle.rt_world.specs.World.{World, Listener}
+use Rattle.rt_world.specs.World.{World, Listener, registered, listening}
 use Rattle.rt_world.specs.Covering.{cover_in, cover_after}
 use Rattle.rt_world.specs.Messages.{next}
-use Rattle.rt_world.specs.Sound.{IsSound}
+use Rattle.rt_world.specs.Sound.{cover_of, IsSound}
 use Rattle.rt_world.specs.laws.Holds.{CoverFollows}
 use Rattle.rt_world.specs.laws.Steps.{StaysSound}
 use Rattle.rt_sync.specs.inside.Due.{IsDue}
 use Rattle.rt_sync.specs.inside.Losing.{forms_at, KeepsNeeded, HasLost}
 use Rattle.rt_sync.specs.inside.StateView.{IsTied, world_of}
+use Rattle.rt_sync.proofs.Losing.{listening_of}
 use Rattle.rt_sync.proofs.TagLaws.{cover_tied}
 
 -- whether a listener has the form
@@ -115,36 +123,165 @@ listen_ends c tag g e =
     mapped None = refl
     mapped (Some k) = refl
 
+-- ---- numbers and forms that end
+
+-- what is found is there
+found_in : (p : Registered → Bool) (rs : List Registered) (l : Registered) → find p rs ≡ Some l → Contains rs l
+found_in p [] l e = cc
+found_in p (x ∷ xs) l e =
+    elim (p x) as (λ b. cond b (Some x) (find p xs) ≡ Some l → Contains (x ∷ xs) l) [
+      | true ↦ λ f. let same : x ≡ l = cc in (0, omega arith, same)
+      | false ↦ λ f. let m = found_in p xs l f in (suc m.0, omega (arith, m.1), m.2)
+    ] e
+
+listened_by : (rs : List Registered) (l : Registered) → Contains rs l → Contains (listening rs) l.1
+listened_by rs l m = Contains-map (λ (r : Registered). r.1) rs m.0 l m.1 m.2
+
+-- the forms at some numbers are listened to
+forms_listened : (rs : List Registered) (ns : List ℕ) → All (Contains (listening rs)) (forms_at rs ns)
+forms_listened rs [] = All-nil (Contains (listening rs))
+forms_listened rs (n ∷ ns) = at (forms_listened rs ns) (find (λ (l : Registered). l.0 == n) rs) refl
+  where
+    at : All (Contains (listening rs)) (forms_at rs ns) → (o : Option Registered) → find (λ (l : Registered). l.0 == n) rs ≡ o
+        → All (Contains (listening rs)) (option_map_or (λ f. f ∷ forms_at rs ns) (option_map (λ (l : Registered). l.1) o) (forms_at rs ns))
+    at rest None e = rest
+    at rest (Some l) e = All-cons (Contains (listening rs)) l.1 (forms_at rs ns) (listened_by rs l (found_in (λ (x : Registered). x.0 == n) rs l e)) rest
+
+some_is : (x y : Registered) → Some x ≡ Some y → x ≡ y
+some_is x y e = cc
+
+-- the listeners without those of a form are those without its numbers
+form_numbers : (rs : List Registered) → AllPairs (λ (x y : Registered). x.0 < y.0) rs → (g : Query) → without_form rs g ≡ without_listeners rs (numbers_of rs g)
+form_numbers rs up g =
+    filter_agreeing (λ (l : Registered). not (query_eq l.1 g)) (λ (l : Registered). not (list_any (λ n. n == l.0) (numbers_of rs g))) rs
+    (λ k d lt. ap not (one (slice_index_or rs k d) (Contains-get_or rs k d lt)))
+  where
+    of_form : Registered → Bool
+    of_form l = query_eq l.1 g
+
+    one : (l : Registered) → Contains rs l → query_eq l.1 g ≡ list_any (λ n. n == l.0) (numbers_of rs g)
+    one l m = same_tests (query_eq l.1 g) (list_any (λ n. n == l.0) (numbers_of rs g)) there back
+      where
+        there : query_eq l.1 g ≡ true → list_any (λ n. n == l.0) (numbers_of rs g) ≡ true
+        there e =
+            let k = Contains-filter of_form rs l m e in
+            let n = Contains-map (λ (x : Registered). x.0) (filter of_form rs) k.0 l k.1 k.2 in
+            list_any_at (λ j. j == l.0) (numbers_of rs g) n.0 l.0 n.1 (ap (λ j. j == l.0) n.2 ∙ eq-eqb l.0 l.0 refl)
+
+        back : list_any (λ n. n == l.0) (numbers_of rs g) ≡ true → query_eq l.1 g ≡ true
+        back e =
+            let a = Any-from_list_any (λ n. n == l.0) (numbers_of rs g) e in
+            let x = Contains-from_map (λ (y : Registered). y.0) (filter of_form rs) a.0 a.1 (subst (λ n. a.0 < n) (length_of_map (λ (y : Registered). y.0) (filter of_form rs)) a.2) a.3 in
+            let y : Registered = x.0 in
+            let my : Contains rs y = Contains-from_filter of_form rs y x.1 in
+            let number : y.0 ≡ l.0 = x.2 ∙ eqb-true a.1 l.0 a.4 in
+            let both : Some y ≡ Some l = sym (find_own rs y up my) ∙ ap (λ n. find (λ (z : Registered). z.0 == n) rs) number ∙ find_own rs l up m in
+            let same : y ≡ l = some_is y l both in
+            ap (λ (z : Registered). query_eq z.1 g) (sym same) ∙ passes-from_filter of_form rs y x.1
+
+-- numbers rise as listeners do
+pub numbers_rise : (rs : List Registered) → AllPairs (λ (x y : Registered). x.0 < y.0) rs → (g : Query) → AllPairs (λ (m n : ℕ). m < n) (numbers_of rs g)
+numbers_rise rs up g =
+    AllPairs-map (λ (l : Registered). l.0) (λ (m n : ℕ). m < n) (filter (λ (l : Registered). query_eq l.1 g) rs)
+    (AllPairs-filter (λ (x y : Registered). x.0 < y.0) (λ (l : Registered). query_eq l.1 g) rs up)
+
+pub seat_rises : (ls : List Listener) → AllPairs (λ (x y : Registered). x.0 < y.0) (registered ls) → (seat : ℕ)
+    → AllPairs (λ (m n : ℕ). m < n) (map (λ (l : Listener). l.number) (filter (λ (l : Listener). l.seat == seat) ls))
+seat_rises ls up seat =
+    AllPairs-map (λ (l : Listener). l.number) (λ (m n : ℕ). m < n) (filter (λ (l : Listener). l.seat == seat) ls)
+    (AllPairs-filter (λ (l m : Listener). l.number < m.number) (λ (l : Listener). l.seat == seat) ls
+    (AllPairs-from_map (λ (l : Listener). (l.number, form l.query)) (λ (x y : Registered). x.0 < y.0) ls up))
+
+pub one_rises : (n : ℕ) → AllPairs (λ (j k : ℕ). j < k) (n ∷ [])
+one_rises n i j d lt within = absurd (omega (arith, lt, within))
+
+-- ---- listens that begin
+
+shown_forms : (rs : List Registered) (ks : List Tagged) → map (λ (k : Kept). k.query) (map (shown_with rs) ks) ≡ map (λ (k : Tagged). k.form) ks
+shown_forms rs [] = refl
+shown_forms rs (k ∷ ks) = ap (λ fs. k.form ∷ fs) (shown_forms rs ks)
+
+-- the listen with a tag is a kept one
+kept_of : (kept : List Tagged) (tag : ℕ) (q : Query) → option_map (λ (k : Tagged). k.form) (find (λ (k : Tagged). k.tag == tag) kept) ≡ Some q → Contains (map (λ (k : Tagged). k.form) kept) q
+kept_of [] tag q e = cc
+kept_of (k ∷ kept) tag q e =
+    elim (k.tag == tag) as (λ b. option_map (λ (x : Tagged). x.form) (cond b (Some k) (find (λ (x : Tagged). x.tag == tag) kept)) ≡ Some q → Contains (map (λ (x : Tagged). x.form) (k ∷ kept)) q) [
+      | true ↦ λ f. let same : k.form ≡ q = cc in (0, omega arith, same)
+      | false ↦ λ f. let m = kept_of kept tag q f in (suc m.0, omega (arith, m.1), m.2)
+    ] e
+
 -- ---- what a step that ends listeners is handed
 
 keeps : (w : World) → IsSound w → KeepsNeeded (cover_in w)
-keeps w h = record { forms = (h.listens).forms; only = (h.listens).only; all = (h.listens).all }
+keeps w h = record { forms = (h.listens).forms; only = (h.listens).only; all = (h.listens).all; once = (h.listens).once }
 
 module _ (limits : Limits) (ls : List Listener) (requests : List Request) (b : Brought) (cover : Cover) (c : Bool) (out : List ClientMessage) (gl gr : ℕ) where
   abbrev w : World
   w = world_of limits ls requests b cover c out gl gr
 
-  lost_after : StaysSound → CoverFollows → IsTied cover w → (s : Step) → IsDue w s → (is : Cover) → is ≡ cover_after w s → (ended : List Query)
-      → ((f : Query) → has_listener cover.listeners f ≡ true → (is_among ended f || has_listener is.listeners f) ≡ true) → HasLost cover is ended b
-  lost_after sound follows t s d is e ended told = record {
+  -- the cover's listeners rise
+  pub covered_rise : IsTied cover w → IsSound w → AllPairs (λ (x y : Registered). x.0 < y.0) cover.listeners
+  covered_rise t h = subst (AllPairs (λ (x y : Registered). x.0 < y.0)) (sym t.listened) (h.listens).listeners
+
+  -- what begins where these listeners are left
+  begun_told : IsTied cover w → IsSound w → (rs : List Registered) (delta : Delta) → delta.started ≡ (difference cover (with_listeners cover rs)).started
+      → map (λ (k : Kept). k.query) delta.started ≡ filter (λ f. not (is_kept cover.kept f)) (needed_forms rs)
+  begun_told t h rs delta e =
+      ap (map (λ (k : Kept). k.query)) (e ∙ ap (λ (d : Delta). d.started) (told_exactly (cover_of w) rs h.listens))
+      ∙ shown_forms rs (started_for (cover_of w) rs)
+      ∙ forms-started cover.next_tag (filter (λ f. not (is_kept cover.kept f)) (needed_forms rs))
+
+  lost_after : StaysSound → CoverFollows → IsTied cover w → (s : Step) → IsDue w s → (is : Cover) → is ≡ cover_after w s
+      → (numbers : List ℕ) → AllPairs (λ (m n : ℕ). m < n) numbers → is.listeners ≡ without_listeners cover.listeners numbers
+      → (ended : List Query) → All (Contains (listening cover.listeners)) ended
+      → ((f : Query) → has_listener cover.listeners f ≡ true → (is_among ended f || has_listener is.listeners f) ≡ true)
+      → (delta : Delta) → delta.started ≡ (difference cover (with_listeners cover is.listeners)).started → HasLost cover is numbers ls ended delta b
+  lost_after sound follows t s d is e numbers rising left ended were told delta begun = record {
     was_sound = subst KeepsNeeded (sym (cover_tied cover w t refl refl)) (keeps w d.good.sound);
     is_sound = subst KeepsNeeded (follows w s d.good.sound ∙ sym e) (keeps (next w s) (sound w s d.good.sound));
-    regions = d.good.reached.regions;
-    windows = subst (λ (rs : List Registered). All (λ (x : Query × Window). Contains (forms rs) x.0) b.windows) (sym t.listened) d.good.reached.windows;
+    listened = t.listened;
+    rises = covered_rise t d.good.sound;
+    rising = rising;
+    left = left;
+    were = were;
     ending = told;
+    begun = begun_told t d.good.sound is.listeners delta begun;
+    registered = d.good.reached.forms ∙ ap listening (sym t.listened);
+    regions = d.good.reached.regions;
+    windows = subst (λ (rs : List Registered). All (λ (x : Query × Window). Contains (listening rs) x.0) b.windows) (sym t.listened) d.good.reached.windows;
   }
 
   -- those of some numbers
-  pub lost_numbers : StaysSound → CoverFollows → IsTied cover w → (s : Step) → IsDue w s → (is : Cover) → is ≡ cover_after w s → (numbers : List ℕ) → is ≡ removed cover numbers
-      → (ended : List Query) → ended ≡ forms_at cover.listeners numbers → HasLost cover is ended b
-  lost_numbers sound follows t s d is e numbers left ended forms_are =
-      let up : AllPairs (λ (x y : Registered). x.0 < y.0) cover.listeners = subst (AllPairs (λ (x y : Registered). x.0 < y.0)) (sym t.listened) (d.good.sound.listens).listeners in
-      lost_after sound follows t s d is e ended (λ f here.
-      (λ i. is_among (forms_are i) f || has_listener (left i).listeners f) ∙ numbers_end cover.listeners numbers up f here)
+  pub lost_numbers : StaysSound → CoverFollows → IsTied cover w → (s : Step) → IsDue w s → (is : Cover) → is ≡ cover_after w s → (numbers : List ℕ) → AllPairs (λ (m n : ℕ). m < n) numbers
+      → is ≡ removed cover numbers → (ended : List Query) → ended ≡ forms_at cover.listeners numbers
+      → (delta : Delta) → delta ≡ difference cover (removed cover numbers) → HasLost cover is numbers ls ended delta b
+  lost_numbers sound follows t s d is e numbers rising left ended forms_are delta de =
+      lost_after sound follows t s d is e numbers rising (ap (λ (x : Cover). x.listeners) left)
+      ended (subst (λ fs. All (Contains (listening cover.listeners)) fs) (sym forms_are) (forms_listened cover.listeners numbers))
+      (λ f here. (λ i. is_among (forms_are i) f || has_listener (left i).listeners f) ∙ numbers_end cover.listeners numbers (covered_rise t d.good.sound) f here)
+      delta (ap (λ (x : Delta). x.started) de ∙ ap (λ (x : Cover). (difference cover (with_listeners cover x.listeners)).started) (sym left))
 
   -- those of a listen
   pub lost_listen : StaysSound → CoverFollows → IsTied cover w → (s : Step) → IsDue w s → (is : Cover) → is ≡ cover_after w s → (tag : ℕ) → is ≡ revoked cover tag
-      → (g : Query) → option_map (λ (k : Tagged). k.form) (listen_at cover tag) ≡ Some g → (ended : List Query) → ended ≡ g ∷ [] → HasLost cover is ended b
-  lost_listen sound follows t s d is e tag left g at ended one =
-      lost_after sound follows t s d is e ended (λ f here.
-      (λ i. is_among (one i) f || has_listener ((left i).listeners) f) ∙ (λ i. is_among (g ∷ []) f || has_listener (listen_ends cover tag g at i) f) ∙ form_ends cover.listeners g f here)
+      → (g : Query) → option_map (λ (k : Tagged). k.form) (listen_at cover tag) ≡ Some g → (numbers : List ℕ) → numbers ≡ ended_by cover tag → (ended : List Query) → ended ≡ g ∷ []
+      → (delta : Delta) → delta ≡ without_tag tag (difference cover (revoked cover tag)) → HasLost cover is numbers ls ended delta b
+  lost_listen sound follows t s d is e tag left g at numbers ne ended one delta de =
+      let up = covered_rise t d.good.sound in
+      let ns : numbers ≡ numbers_of cover.listeners g = ne ∙ ends_of (listen_at cover tag) at in
+      let rs : is.listeners ≡ without_form cover.listeners g = ap (λ (x : Cover). x.listeners) left ∙ listen_ends cover tag g at in
+      lost_after sound follows t s d is e numbers (subst (AllPairs (λ (m n : ℕ). m < n)) (sym ns) (numbers_rise cover.listeners up g))
+      (rs ∙ form_numbers cover.listeners up g ∙ ap (without_listeners cover.listeners) (sym ns))
+      ended (subst (λ fs. All (Contains (listening cover.listeners)) fs) (sym one) (All-cons (Contains (listening cover.listeners)) g [] (kept_listened t d.good.sound) (All-nil (Contains (listening cover.listeners)))))
+      (λ f here. (λ i. is_among (one i) f || has_listener ((rs) i) f) ∙ form_ends cover.listeners g f here)
+      delta (ap (λ (x : Delta). x.started) de ∙ ap (λ (x : Cover). (difference cover (with_listeners cover x.listeners)).started) (sym left))
+    where
+      ends_of : (o : Option Tagged) → option_map (λ (k : Tagged). k.form) o ≡ Some g → option_map_or (λ (k : Tagged). numbers_of cover.listeners k.form) o [] ≡ numbers_of cover.listeners g
+      ends_of None h = cc
+      ends_of (Some k) h = let same : k.form ≡ g = cc in ap (numbers_of cover.listeners) same
+
+      -- the form of a kept listen is listened to
+      kept_listened : IsTied cover w → IsSound w → Contains (listening cover.listeners) g
+      kept_listened t h =
+          let m : Contains (needed_forms (registered ls)) g = All-contains (Contains (needed_forms (registered ls))) (map (λ (k : Tagged). k.form) cover.kept) g (h.listens).only (kept_of cover.kept tag g at) in
+          subst (λ (rs : List Registered). Contains (listening rs) g) (sym t.listened)
+          (listening_of (registered ls) g (Contains-from_filter (λ f. not (is_covered (forms (registered ls)) f)) (forms (registered ls)) g m))

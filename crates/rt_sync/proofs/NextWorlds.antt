@@ -3,16 +3,16 @@ use Rattle.std.proofs.Common.{◌≡◌, ℕ, ◌+◌, Bool, true, false, cond, 
 use mathlib.Core.Bool.{true≢false}
 use Rattle.std.specs.Prelude.{◌==◌, is_some}
 use Rattle.rt_parts.specs.declared.requests.Settled.{Settled as Left}
-use Rattle.std.specs.List.{filter, find, fold, list_all, list_any}
+use Rattle.std.specs.List.{filter, find, fold, list_any}
 use Rattle.std.specs.Option.{option_and_then, option_map, option_map_or, option_to_list}
-use Rattle.rt_query.specs.Queries.{Query}
 use Rattle.rt_query.specs.Supply.{form}
 use Rattle.rt_tree.specs.Assignments.{Assignment}
 use Rattle.rt_writes.specs.Writes.{Write}
-use Rattle.rt_cache.specs.Brought.{Brought, is_without_window, push}
+use Rattle.rt_cache.specs.Brought.{Brought, push}
 use Rattle.rt_cover.specs.Cover.{Registered, Tagged}
 use Rattle.rt_cover.specs.State.{Cover, listen_at, shown, shown_with}
 use Rattle.rt_wire.specs.declared.client.ClientMessage.{ClientMessage}
+use Rattle.rt_wire.specs.declared.limits.TheConstants.{VERSION}
 use Rattle.rt_wire.specs.declared.request.Action.{Action}
 use Rattle.rt_wire.specs.declared.request.Asked.TheVariants.{Now, AtDisconnect}
 use Rattle.rt_wire.specs.declared.request.Ending.{Ending}
@@ -21,15 +21,16 @@ use Rattle.rt_world.specs.declared.request.Request.{Request}
 use Rattle.rt_world.specs.declared.step.Step.{Step}
 use Rattle.rt_world.specs.declared.report.Body.TheVariants.{Settled}
 use Rattle.rt_world.specs.declared.report.Note.{Note}
-use Rattle.rt_world.specs.World.{Reason, World, Listener, registered, pending, entries_of, listen_of}
+use Rattle.rt_world.specs.World.{Reason, World, Listener, registered, pending, entries_of}
 use Rattle.rt_world.specs.After.{renewed}
 use Rattle.rt_world.specs.Messages.{listens, request_message}
 use Rattle.rt_parts.specs.Settling.{settled}
 use Rattle.rt_world.specs.Refusals.{is_stale}
 use Rattle.rt_world.specs.Answers.{settled_note, done_report}
-use Rattle.rt_world.specs.Touched.{entries_settled}
+use Rattle.rt_world.specs.steps.Kind.{Part}
+use Rattle.rt_world.specs.Touched.{entries_settled, entries_pushed}
 use Rattle.rt_world.specs.Met.{do_meet, renewed_met, all_told}
-use Rattle.rt_world.specs.laws.Made.{asked_sent, IsMade, Leaves, AcceptedIsMade, RefusedIsMade, MergeIsMade, MergeIsStale, WriteIsMade, EndingIsMade, ConnectedIsMade, DisconnectedIsMade, settled_world, settled_told, writes_with}
+use Rattle.rt_world.specs.laws.Made.{asked_sent, IsMade, Leaves, AcceptedIsMade, RefusedIsMade, PushIsMade, WriteIsMade, EndingIsMade, ConnectedIsMade, DisconnectedIsMade, settled_world, settled_told, writes_with}
 use Rattle.rt_world.specs.laws.Steps.{RenewedIsOne, WriteIsPending, SettledIsNotPending}
 use Rattle.rt_sync.specs.declared.told.Told.{Told}
 use Rattle.rt_sync.specs.inside.Due.{IsDue, IsNext, settling}
@@ -162,28 +163,23 @@ module _ (limits : Limits) (ls : List Listener) (requests : List Request) (b : B
         notes = notes ∙ (λ i. option_to_list (told_seat id why requests i) ++ all_told (ee i) b (ws i) ls) ∙ sym leaves.notes;
       }
 
-  pub merge_made : MergeIsMade → MergeIsStale → (tag : ℕ) (entries : List Assignment) → IsDue w (Step.DataMerge tag entries)
-      → (b' : Brought) → b' ≡ option_map_or (λ q. fold (push q) b entries) (option_map (λ (k : Tagged). k.form) (listen_at cover tag)) b
+  pub push_made : PushIsMade → (parts : List Part) → IsDue w (Step.Push parts)
+      → (b' : Brought) → b' ≡ fold (λ (x : Brought) (p : Part). option_map_or (λ q. fold (push q) x p.1) (option_map (λ (k : Tagged). k.form) (listen_at cover p.0)) x) b parts
+      → (entries : List Assignment) → entries ≡ entries_pushed parts
       → (ls' : List Listener) → ls' ≡ map (renewed_met entries b' (pending requests)) ls
       → (told : Told) → told.given ≡ None → told.notes.items ≡ all_told entries b' (pending requests) ls
-      → IsNext w (Step.DataMerge tag entries) (world_of limits ls' requests b' cover c out gl gr, told)
-  merge_made law stale tag entries d b' be ls' he told given notes =
-      let s : Step = Step.DataMerge tag entries in
-      let made : IsMade w s = made_of w s d in
-      elim (listen_of w tag) as (λ (o : Option Query). listen_of w tag ≡ o → IsNext w s (world_of limits ls' requests b' cover c out gl gr, told)) [
-        | None ↦ λ e. absurd (true≢false (sym (ap (λ (o : Option Query). option_map_or (λ q. list_all (is_without_window b q) entries) o true) e) ∙ sym (stale w tag entries) ∙ d.not_stale))
-        | Some q ↦ λ e.
-            let leaves = law w tag entries made d.good.reached q e in
-            let same : b' ≡ fold (push q) b entries = be ∙ ap (λ (o : Option Query). option_map_or (λ x. fold (push x) b entries) o b) e in
-            record {
-              world = (λ i. record w {
-                listeners = (he ∙ ap (λ x. map (renewed_met entries x (pending requests)) ls) same) i;
-                brought = same i;
-              }) ∙ sym leaves.world;
-              given = given;
-              notes = notes ∙ ap (λ x. all_told entries x (pending requests) ls) same ∙ sym leaves.notes;
-            }
-      ] refl
+      → IsNext w (Step.Push parts) (world_of limits ls' requests b' cover c out gl gr, told)
+  push_made law parts d b' be entries ee ls' he told given notes =
+      let s : Step = Step.Push parts in
+      let leaves = law w s parts refl (made_of w s d) d.good.reached in
+      record {
+        world = (λ i. record w {
+          listeners = (he ∙ (λ j. map (renewed_met (ee j) (be j) (pending requests)) ls)) i;
+          brought = be i;
+        }) ∙ sym leaves.world;
+        given = given;
+        notes = notes ∙ (λ i. all_told (ee i) (be i) (pending requests) ls) ∙ sym leaves.notes;
+      }
 
   pub write_made : WriteIsMade → WriteIsPending → (seat : ℕ) (action : Action) → IsDue w (Step.Write seat action)
       → (entries : List Assignment) → entries ≡ entries_of action
@@ -206,14 +202,14 @@ module _ (limits : Limits) (ls : List Listener) (requests : List Request) (b : B
         notes = notes ∙ (λ i. all_told (ee i) b (ws i) ls) ∙ sym leaves.notes;
       }
 
-  pub connect_made : ConnectedIsMade → IsDue w Step.Connected → (out' : List ClientMessage) → out' ≡ listens_shown (shown cover) ++ map request_message requests
+  pub connect_made : ConnectedIsMade → IsDue w Step.Connected → (out' : List ClientMessage) → out' ≡ ClientMessage.Hello VERSION ∷ (listens_shown (shown cover) ++ map request_message requests)
       → (told : Told) → told.given ≡ None → told.notes.items ≡ [] → IsNext w Step.Connected (world_of limits ls requests b cover true out' gl gr, told)
   connect_made law d out' oe told given notes =
       let leaves = law w (made_of w Step.Connected d) d.good.reached in
       record {
         world = (λ i. record w {
           is_connected = true;
-          outgoing = (oe ∙ ap (λ ms. ms ++ map request_message requests) (listens_same cover.listeners cover.kept)) i;
+          outgoing = (oe ∙ ap (λ ms. ClientMessage.Hello VERSION ∷ (ms ++ map request_message requests)) (listens_same cover.listeners cover.kept)) i;
         }) ∙ sym leaves.world;
         given = given;
         notes = notes ∙ sym leaves.notes;

@@ -1,4 +1,4 @@
-// When a step is refused, and when it is stale: each kind says it in its file of steps/. None takes
+// When a step is refused, and when it is stale: each kind says it in its file of steps/. None needs
 // memory.
 ghost use Rattle.std.specs.Prelude.{◌≡◌};
 
@@ -21,6 +21,7 @@ impl State {
             Step::OnDisconnect { ending, .. } => self.on_disconnect_refusal(ending),
             Step::Data { tag, path, tree } => self.data_refusal(*tag, path, tree),
             Step::DataMerge { tag, entries } => self.merge_refusal(*tag, entries),
+            Step::Push { parts } => self.push_refusal(parts),
             Step::Accepted { .. } => self.settle_refusal(),
             Step::Refused { .. } => self.settle_refusal(),
             Step::Revoked { tag, .. } => self.revoke_refusal(*tag),
@@ -37,6 +38,7 @@ impl State {
         match step {
             Step::Data { tag, path, .. } => self.data_is_stale(*tag, path),
             Step::DataMerge { tag, entries } => self.merge_is_stale(*tag, entries),
+            Step::Push { parts } => self.push_is_stale(parts),
             Step::Accepted { id } => self.settle_is_stale(*id),
             Step::Refused { id, .. } => self.settle_is_stale(*id),
             Step::Revoked { tag, .. } => self.revoke_is_stale(*tag),

@@ -1,15 +1,26 @@
 // The messages to be sent.
-ghost use Rattle.std.specs.Prelude.{◌≡◌, ◌++◌, map, OnOk};
+ghost use Rattle.std.specs.Prelude.{◌≡◌, ◌∷◌, [], ◌++◌, map, IfOk, OnOk};
+ghost use Rattle.rt_wire.specs.declared.limits.TheConstants.{VERSION};
+ghost use Rattle.rt_wire.specs.declared.client.ClientMessage.TheVariants as ClientMessage;
 ghost use Rattle.rt_world.specs.Messages.{request_message};
 ghost use Rattle.rt_world.specs.laws.Made.{asked_sent};
 ghost use Rattle.rt_sync.specs.inside.Parts.{changing, listens_shown, unlistens_of};
 
 use rt_cover::{Delta, Kept};
 use rt_parts::Requests;
-use rt_wire::Asked;
+use rt_wire::{Asked, VERSION};
 use rt_world::{ClientMessage, Request};
 use std::alloc::{AllocError, Global};
 use std::collections::VecDeque;
+
+// What a connection begins with: the version is told.
+pub(crate) fn greeted(alloc: Global) -> Result<VecDeque<ClientMessage>, AllocError>
+    ensures { IfOk result (λ outgoing. outgoing.items ≡ ClientMessage.Hello VERSION ∷ []) }
+{
+    let mut outgoing = VecDeque::new(alloc);
+    outgoing.push_back(ClientMessage::Hello { version: VERSION })?;
+    Ok(outgoing)
+}
 
 // Begins these listens.
 pub(crate) fn send_listens(

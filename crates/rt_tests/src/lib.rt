@@ -1,7 +1,7 @@
 //! Tests of what no line of `calls/` shows: that trees may go to another thread, that two threads work
 //! on one client at once, that the cover is that of a list in which each form is compared with each, that
-//! the pending writes show what a list shows whose looks go over all of them, and that a view tells what
-//! one tells that is sorted and compared anew.
+//! the pending writes show what a list shows whose looks go over all of them, that a view tells what
+//! one tells that is sorted and compared anew, and that a link's wire with memory is read, and takes texts.
 #![tactic(auto)]
 
 #[cfg(test)]
@@ -20,5 +20,7 @@ mod threads;
 mod views_two_ways;
 #[cfg(test)]
 mod waits;
+#[cfg(test)]
+mod wires;
 #[cfg(test)]
 mod writes_two_ways;

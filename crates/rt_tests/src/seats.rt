@@ -146,7 +146,8 @@ fn both<R: Threads + Wait + Sync>(
     )
 }
 
-// Whether a listen of a seat was made, and its message taken out.
+// Whether a listen of a seat was made, and a message taken out: with the first the version, with the second
+// the listen, which both have.
 fn listens(shared: &mut Shared, seat: &mut Seat, path: Path) -> bool {
     shared.listen(seat, Query::at(path).done()).is_ok() && shared.take_outgoing().is_ok()
 }

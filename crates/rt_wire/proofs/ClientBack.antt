@@ -31,7 +31,7 @@ use Rattle.rt_wire.specs.declared.request.Ending.TheVariants.{Run, Cancel}
 use Rattle.rt_wire.specs.declared.request.Asked.{Asked}
 use Rattle.rt_wire.specs.declared.request.Asked.TheVariants.{Now, AtDisconnect}
 use Rattle.rt_wire.specs.declared.client.ClientMessage.{ClientMessage}
-use Rattle.rt_wire.specs.declared.client.ClientMessage.TheVariants.{Listen, Unlisten, Ask}
+use Rattle.rt_wire.specs.declared.client.ClientMessage.TheVariants.{Hello, Listen, Unlisten, Ask}
 use Rattle.rt_wire.specs.Fields.{with, made, in_range, path_of_text, tree_of}
 use Rattle.rt_wire.specs.EntryFields.{trees_of}
 use Rattle.rt_wire.specs.QueryFields.{query_of}
@@ -109,6 +109,7 @@ action_depth id put merge (Merge entries) s = omega (arith, entries_depth entrie
 
 pub client_depth : (m : ClientMessage) → IsStandingRequest m → depth (client_data m) ≤ max_depth
 unfolding listen_with
+client_depth (Hello version) s = omega arith
 client_depth (Listen tag query) s = listen_depth (is_filtered query) tag query
 client_depth (Unlisten tag) s = omega arith
 client_depth (Ask id (Now action)) s = action_depth id (codes "put") (codes "merge") action s
@@ -185,6 +186,7 @@ run_back id (Merge entries) s n h = (
 
 client_back : (m : ClientMessage) → IsStandingRequest m → IsClientMessage m → IsBack m
 unfolding IsBack listen_with
+client_back (Hello version) s h = (Hello version, ap (λ o. with o (λ v. Ok (Hello v))) (number_back version h), refl)
 client_back (Listen tag query) s h = (Listen tag query, listen_back (is_filtered query) tag query refl s h.0 h.1, refl)
 client_back (Unlisten tag) s h = (Unlisten tag, ap (λ o. with o (λ t. Ok (Unlisten t))) (number_back tag h), refl)
 client_back (Ask id (Now action)) s h = now_back id action s h.0 h.1

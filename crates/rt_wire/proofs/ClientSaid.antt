@@ -20,11 +20,11 @@ use Rattle.rt_wire.specs.declared.request.Ending.TheVariants.{Run, Cancel}
 use Rattle.rt_wire.specs.declared.request.Asked.{Asked}
 use Rattle.rt_wire.specs.declared.request.Asked.TheVariants.{Now, AtDisconnect}
 use Rattle.rt_wire.specs.declared.client.ClientMessage.{ClientMessage}
-use Rattle.rt_wire.specs.declared.client.ClientMessage.TheVariants.{Listen, Unlisten, Ask}
+use Rattle.rt_wire.specs.declared.client.ClientMessage.TheVariants.{Hello, Listen, Unlisten, Ask}
 use Rattle.rt_wire.specs.Fields.{field, any_of, number_of, path_of, tree_of, with, made}
 use Rattle.rt_wire.specs.EntryFields.{entries_of, trees_of}
 use Rattle.rt_wire.specs.QueryFields.{index_of, cut_of, limit_of, if_there, range_of, if_filtered, query_of}
-use Rattle.rt_wire.specs.Client.{query_at, put_in, merge_in, ask, listen_in, unlisten_in, put_message, merge_message, od_put_message, od_merge_message, od_cancel_message}
+use Rattle.rt_wire.specs.Client.{query_at, put_in, merge_in, ask, hello_in, listen_in, unlisten_in, put_message, merge_message, od_put_message, od_merge_message, od_cancel_message}
 use Rattle.rt_wire.specs.Client.{client_of_kind, client_message_in, client_message}
 use Rattle.rt_wire.specs.Grammar.{IsOfKind, HasNumber, IsSaidByQ, IsSaidBy, SaysAction, SaysClient, IsClientWord}
 use Rattle.rt_wire.proofs.Said.{with_ok, same_Ok, made_ok, map_some, by_kind, tree_said, tree_read, entries_said, entries_read}
@@ -100,6 +100,12 @@ listen_said d m kind h =
       ),
     ))))
 
+hello_said : (d : Data) (m : ClientMessage) → IsOfKind (codes "hello") d → hello_in d ≡ Ok m
+    → SaysClient m d
+hello_said d m kind h =
+    with_ok (field number_of (codes "version") d) (λ version. Ok (Hello version)) m h (λ version is_version same.
+    subst (λ n. SaysClient n d) (same_Ok (Hello version) m same) (kind, is_version))
+
 unlisten_said : (d : Data) (m : ClientMessage) → IsOfKind (codes "unlisten") d → unlisten_in d ≡ Ok m
     → SaysClient m d
 unlisten_said d m kind h =
@@ -172,10 +178,15 @@ from_put s d = if bytes_eq s (codes "put") then put_message d else from_merge s 
 abbrev from_unlisten : List ℕ → Data → Result ClientMessage WireError
 from_unlisten s d = if bytes_eq s (codes "unlisten") then unlisten_in d else from_put s d
 
+abbrev from_listen : List ℕ → Data → Result ClientMessage WireError
+from_listen s d = if bytes_eq s (codes "listen") then listen_in d else from_unlisten s d
+
 kind_said : (s : List ℕ) (d : Data) (m : ClientMessage) → field as_str (codes "k") d ≡ Some s
     → client_of_kind s d ≡ Ok m → SaysClient m d
 kind_said s d m k h =
-    by_kind s (codes "listen") (listen_in d) (from_unlisten s d) m h (λ is. listen_said d m
+    by_kind s (codes "hello") (hello_in d) (from_listen s d) m h (λ is. hello_said d m
+    (k ∙ ap Some is)) (λ h0.
+    by_kind s (codes "listen") (listen_in d) (from_unlisten s d) m h0 (λ is. listen_said d m
     (k ∙ ap Some is)) (λ h1.
     by_kind s (codes "unlisten") (unlisten_in d) (from_put s d) m h1 (λ is. unlisten_said d m
     (k ∙ ap Some is)) (λ h2.
@@ -191,7 +202,7 @@ kind_said s d m k h =
     (λ is it. run_said d (merge_in d) m it (λ a. merge_said (codes "od-put") (codes "od-merge") d a
     (k ∙ ap Some is))) (λ h6.
     by_kind s (codes "od-cancel") (od_cancel_message d) (Err UnknownKind) m h6 (λ is. cancel_said d m
-    (k ∙ ap Some is)) (λ none. absurd cc)))))))
+    (k ∙ ap Some is)) (λ none. absurd cc))))))))
 
 value_said : (d : Data) (m : ClientMessage) → client_message_in d ≡ Ok m → SaysClient m d
 value_said d m =
@@ -229,6 +240,8 @@ ask_read d id r a is_id is = ap (λ o. with o (λ id. made r (λ a. Ask id a))) 
     ∙ ap (λ x. made x (λ a. Ask id a)) is
 
 value_read : (m : ClientMessage) (d : Data) → SaysClient m d → client_message_in d ≡ Ok m
+value_read (Hello version) d h = of_its_kind (codes "hello") d h.0
+    ∙ ap (λ o. with o (λ v. Ok (Hello v))) h.1
 value_read (Listen tag query) d h =
     of_its_kind (codes "listen") d h.0
     ∙ ap (λ o. with o (λ t. with (field path_of (codes "path") d)

@@ -21,7 +21,7 @@ use Rattle.rt_wire.specs.declared.request.Action.TheVariants.{Put, Merge}
 use Rattle.rt_wire.specs.declared.request.Ending.TheVariants.{Run, Cancel}
 use Rattle.rt_wire.specs.declared.request.Asked.TheVariants.{Now, AtDisconnect}
 use Rattle.rt_wire.specs.declared.client.ClientMessage.{ClientMessage}
-use Rattle.rt_wire.specs.declared.client.ClientMessage.TheVariants.{Listen, Unlisten, Ask}
+use Rattle.rt_wire.specs.declared.client.ClientMessage.TheVariants.{Hello, Listen, Unlisten, Ask}
 use Rattle.rt_wire.specs.FieldData.{Field, members_of, number_field}
 use Rattle.rt_wire.specs.QueryData.{index_data, mark_data, place_items, cut_data, limit_data, field_if, query_data, query_field}
 use Rattle.rt_wire.specs.ClientData.{action_data, client_data}
@@ -84,6 +84,7 @@ action_float id put merge (Put path tree) = ap (λ b. b || false) (has_float-dat
 action_float id put merge (Merge entries) = ap (λ b. b || false) (entries_float entries)
 
 pub client_float : (m : ClientMessage) → has_float (client_data m) ≡ false
+client_float (Hello version) = refl
 client_float (Listen tag query) = append_float (query_field query) (number_field (codes "tag") tag ∷ []) (query_field_float query) refl
 client_float (Unlisten tag) = refl
 client_float (Ask id (Now action)) = action_float id (codes "put") (codes "merge") action

@@ -2,6 +2,7 @@ pub mod Faults
 pub mod Places
 pub mod FieldsBack
 pub mod EntriesBack
+pub mod PartsBack
 pub mod ServerBack
 pub mod QueryItems
 pub mod Lent
@@ -11,6 +12,7 @@ pub mod Floats
 pub mod QueryBack
 pub mod ClientBack
 pub mod Said
+pub mod PartsSaid
 pub mod ServerSaid
 pub mod ClientSaid
 pub mod Others

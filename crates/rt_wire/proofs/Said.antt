@@ -85,13 +85,13 @@ members_said (member name d ms) ps es h g =
     in_front_ok path (tree_of d) (trees_of rest) es (ap trees_of same ∙ g) (λ t others is_tree are_trees all.
     subst (AreSaid (member name d ms)) all (is_path, is_tree, members_said ms rest others is_rest are_trees))))
 
-some_places : (ps places : List (Path × Data)) → some_of ps ≡ Some places → (ps ≡ places) × (0 < length places)
-some_places [] places h = absurd cc
-some_places (p ∷ ps) places h =
-    let same = same_Some (p ∷ ps) places h in
-    (same, subst (λ xs. 0 < length xs) same (omega arith))
+pub some_filled : {A : Type 0} (xs ys : List A) → some_of xs ≡ Some ys → (xs ≡ ys) × (0 < length ys)
+some_filled [] ys h = absurd cc
+some_filled (x ∷ xs) ys h =
+    let same = same_Some (x ∷ xs) ys h in
+    (same, subst (λ zs. 0 < length zs) same (omega arith))
 
-as_many : (ps : List (Path × Data)) (es : List Assignment) → trees_of ps ≡ Ok es → length es ≡ length ps
+pub as_many : (ps : List (Path × Data)) (es : List Assignment) → trees_of ps ≡ Ok es → length es ≡ length ps
 as_many [] es h = ap length (sym (same_Ok [] es h))
 as_many (p ∷ ps) es h = in_front_ok p.0 (tree_of p.1) (trees_of ps) es h (λ t others is_tree are_trees all.
     omega (arith, ap length all, as_many ps others are_trees))
@@ -103,14 +103,14 @@ entries_said d places es h g =
     option_and_then_some entries_of (get (codes "entries") d) places h (λ v is_v found.
     option_and_then_some some_of (option_and_then places_of (as_object v)) places found (λ ps are_ps some.
     option_and_then_some places_of (as_object v) ps are_ps (λ ms are_ms are_places.
-    let filled = some_places ps places some in (
+    let filled = some_filled ps places some in (
       ms,
       ap (option_and_then as_object) is_v ∙ are_ms,
       omega (arith, as_many places es g, filled.1),
       members_said ms places es (are_places ∙ ap Some filled.0) g,
     ))))
 
-members_read : (ms : Members) (es : List Assignment) → AreSaid ms es
+pub members_read : (ms : Members) (es : List Assignment) → AreSaid ms es
     → (ps : List (Path × Data)) × (places_of ms ≡ Some ps) × (trees_of ps ≡ Ok es)
 members_read no_members [] h = ([], refl, refl)
 members_read no_members (e ∷ es) h = absurd h
@@ -123,9 +123,9 @@ members_read (member name d ms) (e ∷ es) h =
       (λ i. in_front e.0 (h.1 i) (rest.2 i)),
     )
 
-some_read : (ps : List (Path × Data)) → 0 < length ps → some_of ps ≡ Some ps
+pub some_read : {A : Type 0} (xs : List A) → 0 < length xs → some_of xs ≡ Some xs
 some_read [] h = absurd (omega arith)
-some_read (p ∷ ps) h = refl
+some_read (x ∷ xs) h = refl
 
 field_entries : {B : Type 0} (f : List Assignment → B) (o : Option Data) (ms : Members)
     → option_and_then as_object o ≡ Some ms

@@ -1,5 +1,5 @@
 -- Messages of the server that are written are read back.
-use Rattle.std.proofs.Common.{◌≡◌, ℕ, ◌≤◌, false, List, Some, Ok, Err, refl, ap, ◌∙◌, arith}
+use Rattle.std.proofs.Common.{◌≡◌, ℕ, ◌≤◌, false, List, map, Some, Ok, Err, refl, ap, ◌∙◌, arith}
 use Rattle.std.specs.Prelude.{◌||◌}
 use Rattle.std.specs.List.{fold}
 use Rattle.std.specs.Option.{option_map_or}
@@ -12,9 +12,10 @@ use Rattle.rt_tree.specs.Writing.{data_of}
 use Rattle.rt_tree.proofs.Writings.{has_float-data_of, depth-data_of}
 use Rattle.rt_wire.specs.declared.error.WireError.TheVariants.{NotJson}
 use Rattle.rt_wire.specs.declared.server.ServerMessage.{ServerMessage}
-use Rattle.rt_wire.specs.declared.server.ServerMessage.TheVariants.{Data as DataMessage, DataMerge, Accepted, Refused, Revoked}
+use Rattle.rt_wire.specs.declared.server.ServerMessage.TheVariants.{Data as DataMessage, DataMerge, Push, Accepted, Refused, Revoked}
 use Rattle.rt_wire.specs.Fields.{with, made, path_of_text, reason_of_text, tree_of}
 use Rattle.rt_wire.specs.EntryFields.{entries_of, trees_of}
+use Rattle.rt_wire.specs.PartFields.{part_trees}
 use Rattle.rt_wire.specs.Server.{server_message_in}
 use Rattle.rt_wire.specs.FieldData.{with_entry}
 use Rattle.rt_wire.specs.ServerData.{server_data}
@@ -22,10 +23,12 @@ use Rattle.rt_wire.specs.ReadBack.{IsServerMessage, IsServerSame, IsServerText}
 use Rattle.rt_wire.specs.inside.StandingServer.{IsStandingMessage}
 use Rattle.rt_wire.proofs.FieldsBack.{number_back, reason_back, path_back, tree_back}
 use Rattle.rt_wire.proofs.EntriesBack.{in_text_order, order_back, order_moved, trees_back, entries_places, entries_float, entries_depth}
+use Rattle.rt_wire.proofs.PartsBack.{in_order, parts_found, part_trees_back, parts_moved, parts_float, parts_depth}
 
 pub server_float : (m : ServerMessage) → has_float (server_data m) ≡ false
 server_float (DataMessage tag path tree) = ap (λ b. b || false) (has_float-data_of tree)
 server_float (DataMerge tag entries) = ap (λ b. b || false) (entries_float entries)
+server_float (Push parts) = ap (λ b. b || false) (parts_float parts)
 server_float (Accepted id) = refl
 server_float (Refused id why) = refl
 server_float (Revoked tag why) = refl
@@ -33,6 +36,7 @@ server_float (Revoked tag why) = refl
 pub server_depth : (m : ServerMessage) → IsStandingMessage m → depth (server_data m) ≤ max_depth
 server_depth (DataMessage tag path tree) s = omega (arith, depth-data_of tree, shallow_of tree s.1.allowed)
 server_depth (DataMerge tag entries) s = omega (arith, entries_depth entries s)
+server_depth (Push parts) s = omega (arith, parts_depth parts s)
 server_depth (Accepted id) s = omega arith
 server_depth (Refused id why) s = omega arith
 server_depth (Revoked tag why) s = omega arith
@@ -51,6 +55,12 @@ server_back (DataMerge tag entries) s h = (
       ∙ ap (λ o. with o (λ places. made (trees_of places) (λ entries. DataMerge tag entries))) (entries_places entries s h.1)
       ∙ ap (λ r. made r (λ entries. DataMerge tag entries)) (trees_back (in_text_order entries) (order_back entries s h.1.2)),
   (in_text_order entries, order_moved entries s h.1.1, refl),
+)
+server_back (Push parts) s h = (
+  Push (map in_order parts),
+  ap (λ o. with o (λ found. made (part_trees found) (λ ps. Push ps))) (parts_found parts s h)
+      ∙ ap (λ r. made r (λ ps. Push ps)) (part_trees_back parts s h.1),
+  (map in_order parts, parts_moved parts s h.1, refl),
 )
 server_back (Accepted id) s h = (Accepted id, ap (λ o. with o (λ id. Ok (Accepted id))) (number_back id h), refl)
 server_back (Refused id why) s h = (

@@ -8,12 +8,14 @@ use Rattle.serde_json.specs.Read.{read}
 use Rattle.rt_wire.specs.declared.error.WireError.{WireError}
 use Rattle.rt_wire.specs.declared.error.WireError.TheVariants.{NotJson, UnknownKind}
 use Rattle.rt_wire.specs.declared.server.ServerMessage.{ServerMessage}
-use Rattle.rt_wire.specs.declared.server.ServerMessage.TheVariants.{Data as DataMessage, DataMerge, Accepted, Refused, Revoked}
+use Rattle.rt_wire.specs.declared.server.ServerMessage.TheVariants.{Data as DataMessage, DataMerge, Push, Accepted, Refused, Revoked}
 use Rattle.rt_wire.specs.Fields.{field, any_of, number_of, path_of, reason_of, tree_of, with, made}
 use Rattle.rt_wire.specs.EntryFields.{entries_of, trees_of}
-use Rattle.rt_wire.specs.Server.{data_in, data_merge_in, ok_in, no_in, revoke_in, of_kind, server_message_in, server_message}
+use Rattle.rt_wire.specs.PartFields.{parts_of, part_trees}
+use Rattle.rt_wire.specs.Server.{data_in, data_merge_in, push_in, ok_in, no_in, revoke_in, of_kind, server_message_in, server_message}
 use Rattle.rt_wire.specs.Grammar.{IsOfKind, SaysServer, IsServerWord}
 use Rattle.rt_wire.proofs.Said.{with_ok, same_Ok, made_ok, by_kind, tree_said, tree_read, entries_said, entries_read}
+use Rattle.rt_wire.proofs.PartsSaid.{parts_said, parts_read}
 
 -- ---- what is read is said
 data_said : (d : Data) (m : ServerMessage) → IsOfKind (codes "data") d → data_in d ≡ Ok m → SaysServer m d
@@ -37,6 +39,13 @@ data_merge_said d m kind h =
     (λ entries. DataMerge tag entries)) m h1 (λ places are_places h2.
     made_ok (trees_of places) (λ entries. DataMerge tag entries) m h2 (λ entries are_trees same.
     subst (λ n. SaysServer n d) same (kind, is_tag, entries_said d places entries are_places are_trees))))
+
+push_said : (d : Data) (m : ServerMessage) → IsOfKind (codes "push") d → push_in d ≡ Ok m → SaysServer m d
+push_said d m kind h =
+    with_ok (field parts_of (codes "parts") d) (λ found. made (part_trees found) (λ parts. Push parts)) m h
+    (λ found is_found h1.
+    made_ok (part_trees found) (λ parts. Push parts) m h1 (λ parts are_trees same.
+    subst (λ n. SaysServer n d) same (kind, parts_said d found parts is_found are_trees)))
 
 ok_said : (d : Data) (m : ServerMessage) → IsOfKind (codes "ok") d → ok_in d ≡ Ok m → SaysServer m d
 ok_said d m kind h =
@@ -67,19 +76,23 @@ from_no s d = if bytes_eq s (codes "no") then no_in d else from_revoke s d
 abbrev from_ok : List ℕ → Data → Result ServerMessage WireError
 from_ok s d = if bytes_eq s (codes "ok") then ok_in d else from_no s d
 
+abbrev from_push : List ℕ → Data → Result ServerMessage WireError
+from_push s d = if bytes_eq s (codes "push") then push_in d else from_ok s d
+
 abbrev from_merge : List ℕ → Data → Result ServerMessage WireError
-from_merge s d = if bytes_eq s (codes "data-merge") then data_merge_in d else from_ok s d
+from_merge s d = if bytes_eq s (codes "data-merge") then data_merge_in d else from_push s d
 
 kind_said : (s : List ℕ) (d : Data) (m : ServerMessage) → field as_str (codes "k") d ≡ Some s
     → of_kind s d ≡ Ok m → SaysServer m d
 kind_said s d m k h =
     by_kind s (codes "data") (data_in d) (from_merge s d) m h (λ is. data_said d m (k ∙ ap Some is)) (λ h1.
-    by_kind s (codes "data-merge") (data_merge_in d) (from_ok s d) m h1 (λ is. data_merge_said d m
+    by_kind s (codes "data-merge") (data_merge_in d) (from_push s d) m h1 (λ is. data_merge_said d m
     (k ∙ ap Some is)) (λ h2.
-    by_kind s (codes "ok") (ok_in d) (from_no s d) m h2 (λ is. ok_said d m (k ∙ ap Some is)) (λ h3.
+    by_kind s (codes "push") (push_in d) (from_ok s d) m h2 (λ is. push_said d m (k ∙ ap Some is)) (λ h2'.
+    by_kind s (codes "ok") (ok_in d) (from_no s d) m h2' (λ is. ok_said d m (k ∙ ap Some is)) (λ h3.
     by_kind s (codes "no") (no_in d) (from_revoke s d) m h3 (λ is. no_said d m (k ∙ ap Some is)) (λ h4.
     by_kind s (codes "revoke") (revoke_in d) (Err UnknownKind) m h4 (λ is. revoke_said d m
-    (k ∙ ap Some is)) (λ none. absurd cc)))))
+    (k ∙ ap Some is)) (λ none. absurd cc))))))
 
 value_said : (d : Data) (m : ServerMessage) → server_message_in d ≡ Ok m → SaysServer m d
 value_said d m =
@@ -114,6 +127,8 @@ value_read (DataMerge tag entries) d h =
     ∙ ap (λ o. with o (λ t. with (field entries_of (codes "entries") d) (λ places. made (trees_of places)
     (λ es. DataMerge t es)))) h.1
     ∙ entries_read d entries (λ es. DataMerge tag es) h.2
+value_read (Push parts) d h =
+    of_its_kind (codes "push") d h.0 ∙ parts_read d parts (λ ps. Push ps) h.1
 value_read (Accepted id) d h = of_its_kind (codes "ok") d h.0 ∙ ap (λ o. with o (λ id. Ok (Accepted id))) h.1
 value_read (Refused id why) d h =
     of_its_kind (codes "no") d h.0

@@ -6,7 +6,7 @@ ghost use Rattle.serde_json.specs.Find.{get};
 ghost use Rattle.serde_json.specs.View.{view};
 ghost use Rattle.serde_json.specs.Written.{compact_text};
 ghost use Rattle.rt_wire.specs.Client.{client_message, client_message_in, query_at, put_in};
-ghost use Rattle.rt_wire.specs.Client.{merge_in, listen_in, unlisten_in};
+ghost use Rattle.rt_wire.specs.Client.{merge_in, hello_in, listen_in, unlisten_in};
 ghost use Rattle.rt_wire.specs.Client.{put_message, merge_message, od_put_message};
 ghost use Rattle.rt_wire.specs.Client.{od_merge_message, od_cancel_message};
 ghost use Rattle.rt_wire.specs.ClientData.{client_data, listen_data, action_data};
@@ -19,7 +19,7 @@ ghost use Rattle.rt_wire.specs.QueryData.{query_field};
 ghost use Rattle.rt_wire.specs.declared.request.Action.TheVariants.{Put, Merge};
 ghost use Rattle.rt_wire.specs.declared.request.Ending.TheVariants.{Cancel};
 ghost use Rattle.rt_wire.specs.declared.request.Asked.TheVariants.{AtDisconnect};
-ghost use Rattle.rt_wire.specs.declared.client.ClientMessage.TheVariants.{Unlisten, Ask};
+ghost use Rattle.rt_wire.specs.declared.client.ClientMessage.TheVariants.{Hello, Unlisten, Ask};
 
 use crate::entries::entries;
 use crate::error::WireError;
@@ -40,6 +40,9 @@ use std::alloc::{AllocError, Global};
 /// A message of the client.
 #[derive(Drop)]
 pub enum ClientMessage {
+    /// `hello`: the version of the messages that the client reads. A connection reads version 1 where
+    /// it has said none.
+    Hello { version: u64 },
     /// `listen`: a listen begins under a tag.
     Listen { tag: u64, query: Query },
     /// `unlisten`: the listen with that tag ends.
@@ -66,6 +69,7 @@ impl ClientMessage {
             ⊎ (e ≡ WireError.NoMemory)) }
     {
         match kind(&message)? {
+            "hello" => ClientMessage::hello(&message),
             "listen" => ClientMessage::listen(alloc, &message),
             "unlisten" => ClientMessage::unlisten(&message),
             "put" => ClientMessage::put(alloc, message),
@@ -75,6 +79,13 @@ impl ClientMessage {
             "od-cancel" => ClientMessage::od_cancel(alloc, &message),
             _ => Err(WireError::UnknownKind),
         }
+    }
+
+    fn hello(message: &Value) -> Result<ClientMessage, WireError>
+        ensures { result ≡ hello_in (view message.now) }
+    {
+        let version = number(message, "version")?;
+        Ok(ClientMessage::Hello { version })
     }
 
     fn listen(alloc: Global, message: &Value) -> Result<ClientMessage, WireError>
@@ -177,6 +188,7 @@ impl ClientMessage {
         ensures standing { OnOk result (IsStandingRequest self.now) }
     {
         match self {
+            ClientMessage::Hello { version } => write_hello(out, *version),
             ClientMessage::Listen { tag, query } => write_listen(out, *tag, query),
             ClientMessage::Unlisten { tag } => write_unlisten(out, *tag),
             ClientMessage::Ask { id, asked } => match asked {
@@ -232,6 +244,15 @@ fn write_q(out: &mut Writer, query: &Query) -> Result<(), AllocError>
     }
     out.key("q")?;
     write_query(out, query)
+}
+
+fn write_hello(out: &mut Writer, version: u64) -> Result<(), AllocError>
+    ensures { OnOk result (PutsValue (client_data (Hello version)) out.old out.new) }
+{
+    out.begin_object()?;
+    write_text(out, "k", "hello")?;
+    write_number(out, "version", version)?;
+    out.end_object()
 }
 
 fn write_listen(out: &mut Writer, tag: u64, query: &Query) -> Result<(), AllocError>

@@ -15,7 +15,10 @@ use std::alloc::Global;
 use std::collections::BTreeMap;
 
 // The members' paths, each with its value.
-fn places(alloc: Global, members: BTreeMap<String, Value>) -> Result<Vec<(Path, Value)>, WireError>
+fn places_of(
+    alloc: Global,
+    members: BTreeMap<String, Value>,
+) -> Result<Vec<(Path, Value)>, WireError>
     ensures ok { IfOk result (λ found. places_of (members_view members.entries)
         ≡ Some (places found.items)) }
     ensures err { IfErr result (λ e. (e ≡ WireError.BadField)
@@ -43,7 +46,7 @@ fn object(message: Value) -> Result<BTreeMap<String, Value>, WireError>
 }
 
 // The entries at these places.
-fn trees(alloc: Global, found: Vec<(Path, Value)>) -> Result<Entries, WireError>
+pub(crate) fn trees(alloc: Global, found: Vec<(Path, Value)>) -> Result<Entries, WireError>
     ensures ok { IfOk result (λ entries. trees_of (places found.items) ≡ Ok entries) }
     ensures err { IfErr result (λ e. (trees_of (places found.items) ≡ Err e)
         ⊎ (e ≡ WireError.NoMemory)) }
@@ -56,6 +59,20 @@ fn trees(alloc: Global, found: Vec<(Path, Value)>) -> Result<Entries, WireError>
     Ok(Entries::of(items))
 }
 
+// The paths of the member `entries`, an object of at least one member, each with its value.
+pub(crate) fn places(alloc: Global, message: Value) -> Result<Vec<(Path, Value)>, WireError>
+    ensures ok { IfOk result (λ found. field entries_of (codes "entries") (view message)
+        ≡ Some (places found.items)) }
+    ensures err { IfErr result (λ e. (e ≡ WireError.BadField)
+        × (field entries_of (codes "entries") (view message) ≡ None) ⊎ (e ≡ WireError.NoMemory)) }
+{
+    let found = places_of(alloc, object(message)?)?;
+    if found.is_empty() {
+        return Err(WireError::BadField);
+    }
+    Ok(found)
+}
+
 // The member `entries`: an object of at least one member, from paths to trees. All paths are looked
 // at before the trees.
 pub(crate) fn entries(alloc: Global, message: Value) -> Result<Entries, WireError>
@@ -65,9 +82,5 @@ pub(crate) fn entries(alloc: Global, message: Value) -> Result<Entries, WireErro
         (with (field entries_of (codes "entries") (view message)) trees_of ≡ Err e)
         ⊎ (e ≡ WireError.NoMemory)) }
 {
-    let found = places(alloc, object(message)?)?;
-    if found.is_empty() {
-        return Err(WireError::BadField);
-    }
-    trees(alloc, found)
+    trees(alloc, places(alloc, message)?)
 }

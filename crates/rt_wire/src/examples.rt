@@ -1,7 +1,7 @@
 //! Messages that the prover computes.
 ghost use Rattle.rt_wire.specs.laws.Examples.{AnswersAreRead, PrefixesAreNoMessages, KindsAreUnknown};
 ghost use Rattle.rt_wire.specs.laws.Examples.{NumbersHaveBounds, FieldsComeFirst, SpellingsAreEntries};
-ghost use Rattle.rt_wire.specs.laws.Examples.{DepthIsBounded};
+ghost use Rattle.rt_wire.specs.laws.Examples.{DepthIsBounded, PartsAreRead, PartsHaveFaults, HelloIsRead};
 ghost use Rattle.rt_wire.specs.laws.Examples.{RequestsAreRead, QueriesHaveFaults, CutsAreRead};
 ghost use Rattle.rt_wire.specs.laws.Examples.{MessagesAreWritten, NothingElseIsSaid};
 ghost use Rattle.rt_wire.specs.laws.Examples.{NothingElseIsReadBack};
@@ -39,6 +39,21 @@ pub fn spellings_are_entries()
 /// Nothing stands under more than 32 keys, and no JSON nests deeper than 127 levels.
 pub fn depth_is_bounded()
     ensures { DepthIsBounded }
+{}
+
+/// The parts of a push are read in their order.
+pub fn parts_are_read()
+    ensures { PartsAreRead }
+{}
+
+/// What parts must be, and that a bad field of any part comes before a bad tree of any.
+pub fn parts_have_faults()
+    ensures { PartsHaveFaults }
+{}
+
+/// The version that a client tells is read.
+pub fn hello_is_read()
+    ensures { HelloIsRead }
 {}
 
 /// What the client asks for is read.

@@ -17,6 +17,7 @@ mod field;
 pub mod laws;
 mod limits;
 mod made;
+mod parts;
 mod query;
 mod query_json;
 mod reason;
@@ -26,7 +27,8 @@ mod writing;
 
 pub use client::ClientMessage;
 pub use error::WireError;
-pub use limits::{MAX_NUMBER, MAX_REASON_BYTES};
+pub use limits::{MAX_NUMBER, MAX_REASON_BYTES, VERSION};
+pub use parts::{Part, Parts};
 pub use query_json::query_text;
 pub use reason::Reason;
 pub use request::{Action, Asked, Ending, some_stands_too_deep, stands_too_deep};

@@ -1,19 +1,21 @@
 // What the server sends.
-ghost use Rattle.std.specs.Prelude.{◌≡◌, ◌⊎◌, IfOk, IfErr, OnOk, Ok, Err, string_bytes};
+ghost use Rattle.std.specs.Prelude.{◌≡◌, ◌⊎◌, IfOk, IfErr, OnOk, Ok, Err, codes, string_bytes};
+ghost use Rattle.serde_json.specs.Data.{array};
 ghost use Rattle.serde_json.specs.View.{view};
 ghost use Rattle.serde_json.specs.Written.{compact_text};
-ghost use Rattle.rt_wire.specs.ServerData.{server_data};
+ghost use Rattle.rt_wire.specs.ServerData.{server_data, part_items};
 ghost use Rattle.rt_wire.specs.ReadBack.{IsServerMessage, IsServerText};
 ghost use Rattle.rt_wire.specs.inside.StandingServer.{IsStandingMessage};
-ghost use Rattle.rt_wire.specs.inside.Writing.{PutsValue};
-ghost use Rattle.rt_wire.specs.Server.{server_message, server_message_in, data_in, data_merge_in};
+ghost use Rattle.rt_wire.specs.inside.Writing.{PutsValue, PutsField};
+ghost use Rattle.rt_wire.specs.Server.{server_message, server_message_in, data_in, data_merge_in, push_in};
 ghost use Rattle.rt_wire.specs.Server.{ok_in, no_in, revoke_in};
-ghost use Rattle.rt_wire.specs.declared.server.ServerMessage.TheVariants.{Data as DataMessage, DataMerge};
+ghost use Rattle.rt_wire.specs.declared.server.ServerMessage.TheVariants.{Data as DataMessage, DataMerge, Push};
 ghost use Rattle.rt_wire.specs.declared.server.ServerMessage.TheVariants.{Accepted, Refused, Revoked};
 
 use crate::entries::entries;
 use crate::error::WireError;
 use crate::field::{json_value, kind, number, path, reason, taken, tree};
+use crate::parts::{Parts, parts_in, write_parts};
 use crate::reason::Reason;
 use crate::writing::{
     new_writer, text_of, write_entries, write_number, write_path, write_text, write_tree,
@@ -31,6 +33,8 @@ pub enum ServerMessage {
     Data { tag: u64, path: Path, tree: Tree },
     /// `data-merge`: several trees, each at its path, on the listen with that tag.
     DataMerge { tag: u64, entries: Entries },
+    /// `push`: trees at paths on several listens, in one step.
+    Push { parts: Parts },
     /// `ok`: the request is accepted.
     Accepted { id: u64 },
     /// `no`: the request is refused.
@@ -59,6 +63,7 @@ impl ServerMessage {
         match kind(&message)? {
             "data" => ServerMessage::data(alloc, message),
             "data-merge" => ServerMessage::data_merge(alloc, message),
+            "push" => ServerMessage::push(alloc, message),
             "ok" => ServerMessage::ok(&message),
             "no" => ServerMessage::no(message),
             "revoke" => ServerMessage::revoke(message),
@@ -85,6 +90,15 @@ impl ServerMessage {
         let tag = number(&message, "tag")?;
         let entries = entries(alloc, message)?;
         Ok(ServerMessage::DataMerge { tag, entries })
+    }
+
+    fn push(alloc: Global, message: Value) -> Result<ServerMessage, WireError>
+        ensures ok { IfOk result (λ m. push_in (view message) ≡ Ok m) }
+        ensures fault { IfErr result (λ e. (push_in (view message) ≡ Err e)
+            ⊎ (e ≡ WireError.NoMemory)) }
+    {
+        let parts = parts_in(alloc, message)?;
+        Ok(ServerMessage::Push { parts })
     }
 
     fn ok(message: &Value) -> Result<ServerMessage, WireError>
@@ -129,6 +143,7 @@ impl ServerMessage {
         match self {
             ServerMessage::Data { tag, path, tree } => write_data(out, *tag, path, tree),
             ServerMessage::DataMerge { tag, entries } => write_merge(alloc, out, *tag, entries),
+            ServerMessage::Push { parts } => write_push(alloc, out, parts),
             ServerMessage::Accepted { id } => write_accepted(out, *id),
             ServerMessage::Refused { id, why } => write_refused(out, *id, why),
             ServerMessage::Revoked { tag, why } => write_revoked(out, *tag, why),
@@ -165,6 +180,28 @@ fn write_merge(
     write_text(out, "k", "data-merge")?;
     write_number(out, "tag", tag)?;
     out.end_object()
+}
+
+// A push of parts.
+fn write_push(alloc: Global, out: &mut Writer, parts: &Parts) -> Result<(), AllocError>
+    ensures put { OnOk result (PutsValue (server_data (Push parts.now)) out.old out.new) }
+    ensures standing { OnOk result (IsStandingMessage (Push parts.now)) }
+{
+    out.begin_object()?;
+    write_text(out, "k", "push")?;
+    write_parts_field(alloc, out, parts)?;
+    out.end_object()
+}
+
+// The member `parts`.
+fn write_parts_field(alloc: Global, out: &mut Writer, parts: &Parts) -> Result<(), AllocError>
+    ensures put { OnOk result (PutsField (codes "parts", array (part_items parts.now)) out.old out.new) }
+    ensures standing { OnOk result (IsStandingMessage (Push parts.now)) }
+{
+    out.key("parts")?;
+    out.begin_array()?;
+    write_parts(alloc, out, parts.as_slice())?;
+    out.end_array()
 }
 
 fn write_accepted(out: &mut Writer, id: u64) -> Result<(), AllocError>

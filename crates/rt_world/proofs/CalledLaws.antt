@@ -24,17 +24,16 @@ use Rattle.rt_world.specs.declared.limits.Limits.{Limits}
 use Rattle.rt_world.specs.declared.error.CoreError.{CoreError}
 use Rattle.rt_world.specs.declared.step.Step.{Step}
 use Rattle.rt_world.specs.World.{World, empty_world, listen_of, registered}
-use Rattle.rt_world.specs.After.{forms_after, kept_after, pushed}
+use Rattle.rt_world.specs.After.{listening_after, kept_after, part_pushed, pushed}
 use Rattle.rt_world.specs.Messages.{next}
-use Rattle.rt_world.specs.steps.Kind.{stands_too_deep}
-use Rattle.rt_world.specs.steps.Pushing.{is_no_merge, is_within_listen}
+use Rattle.rt_world.specs.steps.Kind.{Part}
 use Rattle.rt_world.specs.Refusals.{refusal, is_stale}
 use Rattle.rt_world.specs.Answers.{step, step_by, world_after}
 use Rattle.rt_world.specs.Called.{IsCalled}
 use Rattle.rt_world.specs.Sound.{IsSound}
-use Rattle.rt_world.specs.laws.Made.{IsPushOn}
-use Rattle.rt_world.proofs.LimitLaws.{allowed}
-use Rattle.rt_world.proofs.Reaching.{forms_kept, pushes_on}
+use Rattle.rt_world.specs.laws.Made.{IsPushOn, IsPartOn}
+use Rattle.rt_world.proofs.PartLaws.{push_may_push}
+use Rattle.rt_world.proofs.Reaching.{forms_kept}
 use Rattle.rt_world.proofs.SoundLaws.{sound_empty, sound_next, sound_step}
 
 -- ---- of the plain listens kept none is at or above another
@@ -130,24 +129,29 @@ puts_allowed q (a ∷ entries) h =
 
 -- ---- a step
 
--- a push on the listen of a tag
-called_push : (w : World) (tag : ℕ) (entries : List Assignment) → IsCalled w.brought
-    → (not (is_within_listen w (tag, entries)) || is_no_merge entries) ≡ false → list_any stands_too_deep entries ≡ false
-    → IsCalled (option_map_or (λ q. fold (push q) w.brought entries) (listen_of w tag) w.brought)
-called_push w tag entries h good deep = at (listen_of w tag) refl
+-- a part, and parts one after another
+called_part : (w : World) (b : Brought) (p : Part) → IsCalled b → IsPartOn w p → IsCalled (part_pushed w b p)
+called_part w b p h on = at (listen_of w p.0) refl
   where
-    at : (o : Option Query) → listen_of w tag ≡ o → IsCalled (option_map_or (λ q. fold (push q) w.brought entries) o w.brought)
+    at : (o : Option Query) → listen_of w p.0 ≡ o → IsCalled (option_map_or (λ q. fold (push q) b p.1) o b)
     at None e = h
-    at (Some q) e = subst IsCalled (puts_push q entries w.brought) (called_more w.brought (puts q entries) h (puts_allowed q entries (pushes_on w tag entries q e good deep)))
+    at (Some q) e = subst IsCalled (puts_push q p.1 b) (called_more b (puts q p.1) h (puts_allowed q p.1 (on q e)))
+
+called_parts : (w : World) (parts : List Part) (b : Brought) → IsCalled b → All (IsPartOn w) parts → IsCalled (fold (part_pushed w) b parts)
+called_parts w [] b h on = h
+called_parts w (p ∷ parts) b h on =
+    called_parts w parts (part_pushed w b p) (called_part w b p h (All-head (IsPartOn w) p parts on)) (All-tail (IsPartOn w) p parts on)
 
 -- what is brought once the step's push is taken
 pub called_pushed : (w : World) (s : Step) → IsCalled w.brought → refusal w s ≡ None → IsCalled (pushed w s)
 called_pushed w (Step.Data tag path tree) h free =
-    let a = allowed w (Step.Data tag path tree) free in
-    called_push w tag ((path, tree) ∷ []) h a.push a.deep
+    let parts : List Part = (tag, (path, tree) ∷ []) ∷ [] in
+    called_parts w parts w.brought h (push_may_push w (Step.Data tag path tree) parts refl free)
 called_pushed w (Step.DataMerge tag entries) h free =
-    let a = allowed w (Step.DataMerge tag entries) free in
-    called_push w tag entries h a.push a.deep
+    let parts : List Part = (tag, entries) ∷ [] in
+    called_parts w parts w.brought h (push_may_push w (Step.DataMerge tag entries) parts refl free)
+called_pushed w (Step.Push parts) h free =
+    called_parts w parts w.brought h (push_may_push w (Step.Push parts) parts refl free)
 called_pushed w (Step.Listen seat query) h free = h
 called_pushed w (Step.Unlisten seat listener) h free = h
 called_pushed w (Step.Write seat action) h free = h
@@ -161,8 +165,8 @@ called_pushed w (Step.CloseSeat seat) h free = h
 
 pub called_next : (w : World) (s : Step) → IsSound w → IsCalled w.brought → refusal w s ≡ None → IsCalled (next w s).brought
 called_next w s sound h free =
-    called_more (pushed w s) (Recover (forms_after w s) (forms_kept (kept_after w s)) ∷ []) (called_pushed w s h free)
-    (All-cons IsAllowed (Recover (forms_after w s) (forms_kept (kept_after w s))) [] (kept_apart w s sound) (All-nil IsAllowed))
+    called_more (pushed w s) (Recover (listening_after w s) (forms_kept (kept_after w s)) ∷ []) (called_pushed w s h free)
+    (All-cons IsAllowed (Recover (listening_after w s) (forms_kept (kept_after w s))) [] (kept_apart w s sound) (All-nil IsAllowed))
 
 called_step : (w : World) (s : Step) (o : Option CoreError) (b : Bool) → refusal w s ≡ o → IsSound w → IsCalled w.brought → IsCalled (step_by o b w s).0.brought
 called_step w s (Some e) b f sound h = h

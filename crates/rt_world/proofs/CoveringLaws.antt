@@ -128,6 +128,7 @@ follows w (Step.Write seat action) h = unchanged w (Step.Write seat action) h re
 follows w (Step.OnDisconnect seat ending) h = unchanged w (Step.OnDisconnect seat ending) h refl
 follows w (Step.Data tag path tree) h = unchanged w (Step.Data tag path tree) h refl
 follows w (Step.DataMerge tag entries) h = unchanged w (Step.DataMerge tag entries) h refl
+follows w (Step.Push parts) h = unchanged w (Step.Push parts) h refl
 follows w (Step.Accepted id) h = unchanged w (Step.Accepted id) h refl
 follows w (Step.Refused id why) h = unchanged w (Step.Refused id why) h refl
 follows w Step.Connected h = unchanged w Step.Connected h refl

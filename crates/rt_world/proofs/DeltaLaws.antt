@@ -60,6 +60,7 @@ delta w (Step.Write seat action) h change e = cc
 delta w (Step.OnDisconnect seat ending) h change e = cc
 delta w (Step.Data tag path tree) h change e = cc
 delta w (Step.DataMerge tag entries) h change e = cc
+delta w (Step.Push parts) h change e = cc
 delta w (Step.Accepted id) h change e = cc
 delta w (Step.Refused id why) h change e = cc
 delta w Step.Connected h change e = cc

@@ -16,6 +16,7 @@ use Rattle.rt_wire.specs.declared.client.ClientMessage.{ClientMessage}
 use Rattle.rt_world.specs.declared.step.Step.{Step}
 use Rattle.rt_world.specs.World.{World, Listener, empty_world, pending}
 use Rattle.rt_world.specs.After.{listeners_after, brought_after, requests_after, listener_given, counted}
+use Rattle.rt_wire.specs.declared.limits.TheConstants.{VERSION}
 use Rattle.rt_world.specs.Messages.{listens, unlistens, request_message, request_sent, messages_of, outgoing_before, kept_before, heard_by, next}
 use Rattle.rt_world.specs.Refusals.{refusal, is_stale}
 use Rattle.rt_world.specs.Answers.{Answer, step, step_by, answers, world_after, view_before}
@@ -98,7 +99,7 @@ opened w has off answer v m =
     going u = listens (begun w u) ++ unlistens (ended w Step.Connected u) ++ request_sent w Step.Connected
 
     all : World → List ClientMessage
-    all u = listens w.kept ++ map request_message u.requests
+    all u = ClientMessage.Hello VERSION ∷ (listens w.kept ++ map request_message u.requests)
 
 is_kept : (w : World) (steps : List Step) → IsSound w → IsKept (has_after w.kept w steps) (world_after w steps)
 is_kept w steps h =

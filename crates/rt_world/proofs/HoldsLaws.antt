@@ -19,7 +19,7 @@ pub empty_is_steady : EmptyIsSteady
 empty_is_steady limits = record {
   sound = sound_empty limits;
   called = called_world limits [];
-  reached = record { regions = λ k d lt. absurd (omega arith); windows = λ k d lt. absurd (omega arith) };
+  reached = record { forms = refl; regions = λ k d lt. absurd (omega arith); windows = λ k d lt. absurd (omega arith) };
 }
 
 pub stays_steady : StaysSteady
@@ -67,5 +67,5 @@ pub taken_is_steady : TakenIsSteady
 taken_is_steady w messages h = record {
   sound = taken_is_sound w messages h.sound;
   called = h.called;
-  reached = record { regions = (h.reached).regions; windows = (h.reached).windows };
+  reached = record { forms = (h.reached).forms; regions = (h.reached).regions; windows = (h.reached).windows };
 }

@@ -79,6 +79,7 @@ has_tags w (Step.Accepted id) h a = inl (started-same w (Step.Accepted id) h ref
 has_tags w (Step.Refused id why) h a = inl (started-same w (Step.Refused id why) h refl)
 has_tags w (Step.Data t path tree) h a = inl (started-same w (Step.Data t path tree) h refl)
 has_tags w (Step.DataMerge t entries) h a = inl (started-same w (Step.DataMerge t entries) h refl)
+has_tags w (Step.Push parts) h a = inl (started-same w (Step.Push parts) h refl)
 has_tags w Step.Connected h a = inl (started-same w Step.Connected h refl)
 has_tags w Step.Disconnected h a = inl (started-same w Step.Disconnected h refl)
 

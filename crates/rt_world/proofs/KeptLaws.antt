@@ -24,6 +24,7 @@ unrevoked-nil (Step.Write seat action) = refl
 unrevoked-nil (Step.OnDisconnect seat ending) = refl
 unrevoked-nil (Step.Data tag path tree) = refl
 unrevoked-nil (Step.DataMerge tag entries) = refl
+unrevoked-nil (Step.Push parts) = refl
 unrevoked-nil (Step.Accepted id) = refl
 unrevoked-nil (Step.Refused id why) = refl
 unrevoked-nil (Step.Revoked tag why) = refl

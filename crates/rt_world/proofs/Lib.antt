@@ -17,6 +17,7 @@ pub mod MovesLaws
 pub mod NamedLaws
 pub mod NoteLaws
 pub mod Numbers
+pub mod PartLaws
 pub mod PlainLaws
 pub mod PushLaws
 pub mod ReachedLaws

@@ -144,6 +144,8 @@ counts w (Step.Data t path tree) h i a =
     record { listeners = i.listeners; requests = i.requests; next_listener = i.next_listener; next_request = i.next_request; next_tag = no_tag w (Step.Data t path tree) h i refl }
 counts w (Step.DataMerge t entries) h i a =
     record { listeners = i.listeners; requests = i.requests; next_listener = i.next_listener; next_request = i.next_request; next_tag = no_tag w (Step.DataMerge t entries) h i refl }
+counts w (Step.Push parts) h i a =
+    record { listeners = i.listeners; requests = i.requests; next_listener = i.next_listener; next_request = i.next_request; next_tag = no_tag w (Step.Push parts) h i refl }
 counts w Step.Connected h i a =
     record { listeners = i.listeners; requests = i.requests; next_listener = i.next_listener; next_request = i.next_request; next_tag = no_tag w Step.Connected h i refl }
 counts w Step.Disconnected h i a =

@@ -4,9 +4,11 @@ use Rattle.std.specs.List.{filter, filter_map, cons_option, Contains}
 use Rattle.std.specs.Option.{option_to_list}
 use Rattle.std.proofs.lemmas.List.Elements.{filter_map-append}
 use Rattle.rt_writes.specs.Writes.{Write}
+use Rattle.rt_query.specs.Supply.{form}
+use Rattle.rt_cache.specs.Brought.{Brought, with_form}
 use Rattle.rt_cache.specs.Recover.{recover}
 use Rattle.rt_cover.specs.declared.delta.Delta.{Delta}
-use Rattle.rt_cover.specs.Cover.{Registered, Tagged, forms}
+use Rattle.rt_cover.specs.Cover.{Registered, Tagged}
 use Rattle.rt_cover.specs.Runs.{Add, Remove, Revoke}
 use Rattle.rt_cover.specs.State.{Cover, shown_with, difference, removed, revoked, without_tag, left_after, without_listeners}
 use Rattle.rt_cover.specs.laws.CoverLaws.{Contains-from_filter}
@@ -14,7 +16,7 @@ use Rattle.rt_wire.specs.declared.client.ClientMessage.{ClientMessage}
 use Rattle.rt_world.specs.declared.report.Body.TheVariants.{Cancelled}
 use Rattle.rt_world.specs.declared.report.Note.{Note}
 use Rattle.rt_world.specs.declared.step.Step.{Step}
-use Rattle.rt_world.specs.World.{World, Listener, registered, pending}
+use Rattle.rt_world.specs.World.{World, Listener, registered, listening, pending}
 use Rattle.rt_world.specs.steps.Revoking.{is_cancelled}
 use Rattle.rt_world.specs.steps.Closing.{numbers_of, unseated}
 use Rattle.rt_world.specs.After.{listeners_after, requests_after, started_by, pushed, brought_after, renewed, renewed_after}
@@ -92,9 +94,9 @@ module _ (w : World) (s : Step) (d : IsMade w s) (c : changes_listeners s ≡ tr
 
     -- what is brought, said by the cover after the step
     pub left_brought : pushed w s ≡ w.brought → (ls : List Registered) → registered (listeners_after w s) ≡ ls → (k : Cover) → cover_in (next w s) ≡ k → k.listeners ≡ ls
-        → brought_after w s ≡ recover (forms k.listeners) (map (λ (x : Tagged). x.form) k.kept) w.brought
+        → brought_after w s ≡ recover (listening k.listeners) (map (λ (x : Tagged). x.form) k.kept) w.brought
     left_brought p ls e k f g =
-        (λ i. recover (forms ((e ∙ sym g) i)) (map (λ (x : Tagged). x.form) (f i).kept) (p i))
+        (λ i. recover (listening ((e ∙ sym g) i)) (map (λ (x : Tagged). x.form) (f i).kept) (p i))
 
 -- ---- one listener ends
 
@@ -154,17 +156,18 @@ listen_is_made w seat query d r =
     let c : Cover = cover_with w query in
     let ws : List Write = pending w.requests in
     let f : cover_in (next w s) ≡ c = follows w s d.sound in
-    let b : brought_after w s ≡ w.brought = listen_brings_nothing w seat query d.sound d.called r in
+    let now : Brought = with_form (form query) w.brought in
+    let b : brought_after w s ≡ now = listen_brings_nothing w seat query d.sound d.called r in
     let there : (l : Listener) → Contains w.listeners l → Contains (listeners_after w s) l = λ l m. Contains-more w.listeners (new ∷ []) l m in
-    let ls : renewed_after w s ≡ w.listeners ++ renewed w.brought ws new ∷ [] =
+    let ls : renewed_after w s ≡ w.listeners ++ renewed now ws new ∷ [] =
     map-append (renewed (brought_after w s) ws) w.listeners (new ∷ [])
     ∙ (λ i. map_id (renewed (brought_after w s) ws) w.listeners (λ l m. stays_same w s d.sound d.called refl l m (there l m)) i ++ renewed (b i) ws new ∷ []) in
     let ms = sends w s refl (difference (cover_in w) c) (delta w s d.sound (Add w.next_listener query) refl) in
-    let said : batch_notes w s ≡ option_to_list (told w.brought ws new) =
+    let said : batch_notes w s ≡ option_to_list (told now ws new) =
     batches_are_notes w s d.sound
     ∙ filter_map-append (note_of w s) w.listeners (new ∷ [])
     ∙ (λ i. gather_none (note_of w s) w.listeners (λ l m. quiet w s d refl l m (there l m)) i ++ cons_option (told (b i) ws new) [])
-    ∙ one_gathered (told w.brought ws new) in
+    ∙ one_gathered (told now ws new) in
     record {
       world = (λ i. record w { listeners = ls i; brought = b i; kept = (f i).kept; outgoing = w.outgoing ++ ms i; next_listener = w.next_listener + 1; next_tag = (f i).next_tag });
       notes = said;

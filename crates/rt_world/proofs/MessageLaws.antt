@@ -6,6 +6,7 @@ use Rattle.rt_world.specs.declared.error.CoreError.{CoreError}
 use Rattle.rt_wire.specs.declared.client.ClientMessage.{ClientMessage}
 use Rattle.rt_world.specs.declared.step.Step.{Step}
 use Rattle.rt_world.specs.World.{World}
+use Rattle.rt_wire.specs.declared.limits.TheConstants.{VERSION}
 use Rattle.rt_world.specs.Messages.{listens, request_message, messages_of, outgoing_before, next}
 use Rattle.rt_world.specs.Refusals.{refusal, is_stale}
 use Rattle.rt_world.specs.Answers.{step, step_by, world_after}
@@ -44,6 +45,7 @@ made-done w (Step.Write seat action) c same online = made-going w (Step.Write se
 made-done w (Step.OnDisconnect seat ending) c same online = made-going w (Step.OnDisconnect seat ending) c same online refl refl
 made-done w (Step.Data tag path tree) c same online = made-going w (Step.Data tag path tree) c same online refl refl
 made-done w (Step.DataMerge tag entries) c same online = made-going w (Step.DataMerge tag entries) c same online refl refl
+made-done w (Step.Push parts) c same online = made-going w (Step.Push parts) c same online refl refl
 made-done w (Step.Accepted id) c same online = made-going w (Step.Accepted id) c same online refl refl
 made-done w (Step.Refused id why) c same online = made-going w (Step.Refused id why) c same online refl refl
 made-done w (Step.CloseSeat seat) c same online = made-going w (Step.CloseSeat seat) c same online refl refl
@@ -86,7 +88,7 @@ connected_sends : (w : World) → IsSound w → SendsAll (next w Step.Connected)
 connected_sends w h =
     let g = sound_next w Step.Connected h in
     record {
-      sent = ap (λ kept. listens kept ++ map request_message w.requests) (sym (kept-same w Step.Connected h refl));
+      sent = ap (λ kept. ClientMessage.Hello VERSION ∷ (listens kept ++ map request_message w.requests)) (sym (kept-same w Step.Connected h refl));
       tags = (g.listens).tags;
       numbers = g.requests;
     }

@@ -9,16 +9,17 @@ use Rattle.rt_query.specs.Queries.{Query}
 use Rattle.rt_writes.specs.Writes.{Write}
 use Rattle.rt_cache.specs.Brought.{Brought}
 use Rattle.rt_cache.specs.Recover.{recover}
-use Rattle.rt_cover.specs.Cover.{Tagged, forms}
+use Rattle.rt_cover.specs.Cover.{Tagged}
 use Rattle.rt_cover.specs.laws.CoverLaws.{Contains-from_filter}
 use Rattle.rt_world.specs.declared.error.CoreError.{CoreError}
 use Rattle.rt_world.specs.declared.error.CoreError.TheVariants.{AlreadyConnected}
 use Rattle.rt_wire.specs.declared.client.ClientMessage.{ClientMessage}
 use Rattle.rt_world.specs.declared.step.Step.{Step}
 use Rattle.rt_world.specs.Views.{is_known}
-use Rattle.rt_world.specs.World.{World, Listener, pending}
+use Rattle.rt_world.specs.World.{World, Listener, listening, pending}
 use Rattle.rt_world.specs.After.{listeners_after, requests_after, brought_after, kept_after, pushed, renewed, is_connected_after}
-use Rattle.rt_world.specs.Messages.{listens, unlistens, request_message, request_sent, stopped_by, messages_online, messages_of, outgoing_before, kept_before, heard_by, next}
+use Rattle.rt_wire.specs.declared.limits.TheConstants.{VERSION}
+use Rattle.rt_world.specs.Messages.{greeting, listens, unlistens, request_message, request_sent, stopped_by, messages_online, messages_of, outgoing_before, kept_before, heard_by, next}
 use Rattle.rt_world.specs.Refusals.{refusal, is_stale, is_done}
 use Rattle.rt_world.specs.Answers.{step, step_by, stale_report}
 use Rattle.rt_world.specs.Headline.{AreKept, begun, ended, sent_due, Sends, Keeps, Moves}
@@ -105,8 +106,8 @@ sends_going w s h same messages =
     sends_of w s h
     (messages
     ∙ ap (λ ks. cond w.is_connected (listens ks ++ unlistens (stopped_by w s) ++ request_sent w s) []) (sym (begun_are w s h))
-    ∙ twice w.is_connected online (listens w.kept ++ map request_message (requests_after w s))
-    ∙ (λ i. cond (sym same i) (cond w.is_connected online (listens w.kept ++ map request_message (requests_after w s))) []))
+    ∙ twice w.is_connected online (ClientMessage.Hello VERSION ∷ (listens w.kept ++ map request_message (requests_after w s)))
+    ∙ (λ i. cond (sym same i) (cond w.is_connected online (ClientMessage.Hello VERSION ∷ (listens w.kept ++ map request_message (requests_after w s)))) []))
   where
     online : List ClientMessage
     online = listens (begun w (next w s)) ++ unlistens (ended w s (next w s)) ++ request_sent w s
@@ -128,7 +129,7 @@ was_closed w r =
 
 sends : (w : World) (s : Step) → IsSound w → refusal w s ≡ None → Sends w s (next w s)
 sends w Step.Connected h r =
-    sends_of w Step.Connected h (λ i. cond (sym (was_closed w r) i) (listens (begun w (next w Step.Connected)) ++ unlistens (ended w Step.Connected (next w Step.Connected)) ++ request_sent w Step.Connected) (listens w.kept ++ map request_message w.requests))
+    sends_of w Step.Connected h (λ i. cond (sym (was_closed w r) i) (listens (begun w (next w Step.Connected)) ++ unlistens (ended w Step.Connected (next w Step.Connected)) ++ request_sent w Step.Connected) (greeting w))
 sends w Step.Disconnected h r = sends_of w Step.Disconnected h refl
 sends w (Step.Listen seat query) h r = sends_going w (Step.Listen seat query) h refl refl
 sends w (Step.Unlisten seat listener) h r = sends_going w (Step.Unlisten seat listener) h refl refl
@@ -136,6 +137,7 @@ sends w (Step.Write seat action) h r = sends_going w (Step.Write seat action) h 
 sends w (Step.OnDisconnect seat ending) h r = sends_going w (Step.OnDisconnect seat ending) h refl refl
 sends w (Step.Data tag path tree) h r = sends_going w (Step.Data tag path tree) h refl refl
 sends w (Step.DataMerge tag entries) h r = sends_going w (Step.DataMerge tag entries) h refl refl
+sends w (Step.Push parts) h r = sends_going w (Step.Push parts) h refl refl
 sends w (Step.Accepted id) h r = sends_going w (Step.Accepted id) h refl refl
 sends w (Step.Refused id why) h r = sends_going w (Step.Refused id why) h refl refl
 sends w (Step.Revoked tag why) h r = sends_going w (Step.Revoked tag why) h refl refl
@@ -158,7 +160,7 @@ makes w s =
       limits = refl;
       listeners = unseen_renewed b ws (listeners_after w s);
       requests = refl;
-      brought = ap (λ rs. recover (forms rs) (map (λ (k : Tagged). k.form) (kept_after w s)) (pushed w s)) (sym (registered-renewed b ws (listeners_after w s)));
+      brought = ap (λ rs. recover (listening rs) (map (λ (k : Tagged). k.form) (kept_after w s)) (pushed w s)) (sym (registered-renewed b ws (listeners_after w s)));
       connected = refl;
       next_listener = refl;
       next_request = refl;

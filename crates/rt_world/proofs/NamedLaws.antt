@@ -1,5 +1,5 @@
 -- A step changes of what a listener sees what its entries name.
-use Rattle.std.proofs.Common.{◌≡◌, Bool, true, false, cond, not, ◌&&◌, ◌||◌, inl, inr, List, [], ◌∷◌, ◌++◌, length, ◌≤◌, arith, refl, sym, ap, subst, ◌∙◌, append-nil, Option, Some, None, is_some}
+use Rattle.std.proofs.Common.{◌≡◌, Bool, true, false, cond, not, ◌&&◌, ◌||◌, inl, inr, List, [], ◌∷◌, ◌++◌, length, ◌≤◌, arith, refl, sym, ap, subst, ◌∙◌, append-nil, append_assoc, Option, Some, None, is_some}
 use mathlib.Core.Bool.{true≢false}
 use Rattle.std.specs.List.{filter, filter_map, cons_option, flat_map, fold, list_any, Contains}
 use Rattle.std.specs.Option.{option_and_then, option_map_or}
@@ -148,9 +148,15 @@ parts_alike w (p ∷ parts) b q d h =
     one None m = alike_same d _ _ refl
     one (Some f) m = pushes_alike f p.1 b q d m
 
+-- all entries, part by part
+entries_flat : (xs : List Assignment) (parts : List Part) → fold (λ (entries : List Assignment) (p : Part). entries ++ p.1) xs parts ≡ xs ++ flat_map (λ (p : Part). p.1) parts
+entries_flat xs [] = sym (append-nil xs)
+entries_flat xs (p ∷ parts) = entries_flat (xs ++ p.1) parts ∙ append_assoc xs p.1 (flat_map (λ (r : Part). r.1) parts)
+
 pushed_alike : (w : World) (s : Step) (q : Query) (d : Path) → misses (q.path ++ d) (entries_by w s) → AlikeAt d (base (pushed w s) q) (base w.brought q)
 pushed_alike w (Step.Data tag path tree) q d h = parts_alike w (kind (Step.Data tag path tree)).parts w.brought q d h
 pushed_alike w (Step.DataMerge tag entries) q d h = parts_alike w (kind (Step.DataMerge tag entries)).parts w.brought q d (subst (misses (q.path ++ d)) (sym (append-nil entries)) h)
+pushed_alike w (Step.Push parts) q d h = parts_alike w parts w.brought q d (subst (misses (q.path ++ d)) (entries_flat [] parts) h)
 pushed_alike w (Step.Listen seat query) q d h = alike_same d _ _ refl
 pushed_alike w (Step.Unlisten seat listener) q d h = alike_same d _ _ refl
 pushed_alike w (Step.Write seat action) q d h = alike_same d _ _ refl

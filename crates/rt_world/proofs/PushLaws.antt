@@ -162,7 +162,7 @@ plain_alike b a q d h =
     inside = record b { regions = map (region_put a) b.regions }
 
     outside : Brought
-    outside = record {
+    outside = record b {
       regions = map_of.put path_cmp a.0 a.1 (filter (λ r. not (is_at_or_above a.0 r.0)) b.regions);
       windows = filter (λ w. not (is_at_or_above a.0 (w.0).path)) b.windows;
     }

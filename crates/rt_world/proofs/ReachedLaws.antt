@@ -1,34 +1,40 @@
 -- What is brought is reached, and stays so: a change of cover that ends no listener leaves it as it is.
-use Rattle.std.proofs.Common.{◌≡◌, ℕ, true, false, not, ◌||◌, List, [], ◌∷◌, refl, sym, subst, slice_index_or, Option, Some, None}
+use Rattle.std.proofs.Common.{◌≡◌, ℕ, Bool, true, false, not, ◌&&◌, ◌||◌, List, [], ◌∷◌, ◌++◌, map, refl, sym, ap, subst, ◌∙◌, slice_index_or, Option, Some, None}
 use mathlib.Core.Bool.{true≢false}
 use Rattle.std.specs.List.{fold, list_any, All, Contains}
 use Rattle.std.specs.Option.{option_map_or}
-use Rattle.std.proofs.lemmas.List.Elements.{All-head, All-tail}
+use Rattle.std.proofs.lemmas.List.Elements.{All-head, All-tail, All-contains}
+use Rattle.std.proofs.lemmas.List.Folds.{Any-from_list_any, list_any_at}
 use Rattle.rt_tree.specs.PathTree.{Path, PathTree}
 use Rattle.rt_tree.specs.Assignments.{Assignment}
+use Rattle.rt_tree.specs.TreeEq.{both}
 use Rattle.rt_query.specs.Queries.{Query}
-use Rattle.rt_cache.specs.Brought.{Window, Brought, push}
+use Rattle.rt_query.specs.QueryEq.{query_eq}
+use Rattle.rt_query.specs.Supply.{form, does_supply}
+use Rattle.rt_query.specs.laws.QueryEq.{query_eq_tells}
+use Rattle.rt_cache.specs.Brought.{Window, Brought, with_form, may_put, push}
 use Rattle.rt_cache.specs.Canonical.{IsCanonical}
 use Rattle.rt_cache.specs.Recover.{reaches}
+use Rattle.rt_cache.proofs.Belonging.{push_registered}
 use Rattle.rt_cache.proofs.RecoverLaws.{nothing_lost, left_reached, left_registered, pushed_reached, pushed_registered, calls_canonical}
-use Rattle.rt_cover.specs.Cover.{Registered, forms}
+use Rattle.rt_cover.specs.Cover.{Registered, forms, needed}
+use Rattle.rt_cover.specs.laws.CoverLaws.{Contains-from_filter, passes-from_filter, is_covered}
 use Rattle.rt_world.specs.declared.step.Step.{Step}
-use Rattle.rt_world.specs.World.{World, Listener, registered, pending, listen_of}
-use Rattle.rt_world.specs.After.{listeners_after, requests_after, forms_after, kept_after, pushed, brought_after}
-use Rattle.rt_world.specs.steps.Kind.{stands_too_deep}
-use Rattle.rt_world.specs.steps.Pushing.{is_no_merge, is_within_listen}
+use Rattle.rt_world.specs.World.{World, Listener, registered, listening, pending, listen_of}
+use Rattle.rt_world.specs.After.{listeners_after, requests_after, listening_after, kept_after, part_pushed, pushed, brought_after, kind}
+use Rattle.rt_world.specs.steps.Kind.{Part}
 use Rattle.rt_world.specs.Refusals.{refusal}
 use Rattle.rt_world.specs.Called.{IsCalled}
 use Rattle.rt_world.specs.Reached.{IsReached}
 use Rattle.rt_world.specs.Sound.{IsSound}
 use Rattle.rt_world.specs.laws.World.{changes_listeners}
-use Rattle.rt_world.specs.laws.Steps.{StaysReached, PushIsBrought, ListenBringsNothing}
-use Rattle.rt_world.specs.laws.Made.{IsPushOn}
+use Rattle.rt_world.specs.laws.Steps.{StaysReached, PushIsBrought, ListenBringsNothing, KeptMayBePut}
+use Rattle.rt_world.specs.laws.Made.{IsPushOn, IsPartOn}
 use Rattle.rt_world.proofs.CalledLaws.{called_pushed}
 use Rattle.rt_world.proofs.HeardLaws.{kept-same}
-use Rattle.rt_world.proofs.LimitLaws.{allowed}
 use Rattle.rt_world.proofs.Listeners.{registered-renewed}
-use Rattle.rt_world.proofs.Reaching.{forms_kept, kept_of, kept_registered, registered_still, reached_still, pushes_on, Contains-more}
+use Rattle.rt_world.proofs.Reaching.{forms_kept, kept_of, kept_registered, listening_of, form_listened, listening_still, reached_still, Contains-more}
+use Rattle.rt_world.proofs.PartLaws.{push_may_push}
 use Rattle.rt_world.proofs.ShowLaws.{first_seen}
 
 -- what calls leave is in order
@@ -42,11 +48,11 @@ record AreReached (fs kept : List Query) (b : Brought) : Type 0 where
 
 -- what is reached before the step
 abbrev AreReachedIn : World → Brought → Type 0
-AreReachedIn w b = AreReached (forms (registered w.listeners)) (forms_kept w.kept) b
+AreReachedIn w b = AreReached (listening (registered w.listeners)) (forms_kept w.kept) b
 
 -- what is reached after the step
 abbrev AreReachedAfter : World → Step → Brought → Type 0
-AreReachedAfter w s b = AreReached (forms_after w s) (forms_kept (kept_after w s)) b
+AreReachedAfter w s b = AreReached (listening_after w s) (forms_kept (kept_after w s)) b
 
 -- ---- pushes
 
@@ -58,20 +64,20 @@ push_reached fs kept q mf mk (a ∷ entries) on b h =
       windows = pushed_registered fs q b a mf h.windows;
     })
 
--- a push on the listen of a tag
-part_reached : (w : World) (tag : ℕ) (entries : List Assignment) → IsSound w → IsReached w
-    → (not (is_within_listen w (tag, entries)) || is_no_merge entries) ≡ false → list_any stands_too_deep entries ≡ false
-    → AreReachedIn w (option_map_or (λ q. fold (push q) w.brought entries) (listen_of w tag) w.brought)
-part_reached w tag entries h r good deep = at (listen_of w tag) refl
+-- a part, and parts one after another
+part_reached : (w : World) (b : Brought) (p : Part) → IsSound w → AreReachedIn w b → IsPartOn w p → AreReachedIn w (part_pushed w b p)
+part_reached w b p h old on = at (listen_of w p.0) refl
   where
-    old : AreReachedIn w w.brought
-    old = record { regions = r.regions; windows = r.windows }
-
-    at : (o : Option Query) → listen_of w tag ≡ o → AreReachedIn w (option_map_or (λ q. fold (push q) w.brought entries) o w.brought)
+    at : (o : Option Query) → listen_of w p.0 ≡ o → AreReachedIn w (option_map_or (λ q. fold (push q) b p.1) o b)
     at None e = old
     at (Some q) e =
-        let m = kept_of w.kept tag q e in
-        push_reached (forms (registered w.listeners)) (forms_kept w.kept) q (kept_registered w h q m) m entries (pushes_on w tag entries q e good deep) w.brought old
+        let m = kept_of w.kept p.0 q e in
+        push_reached (listening (registered w.listeners)) (forms_kept w.kept) q (listening_of (registered w.listeners) q (kept_registered w h q m)) m p.1 (on q e) b old
+
+parts_reached : (w : World) (parts : List Part) (b : Brought) → IsSound w → AreReachedIn w b → All (IsPartOn w) parts → AreReachedIn w (fold (part_pushed w) b parts)
+parts_reached w [] b h old on = old
+parts_reached w (p ∷ parts) b h old on =
+    parts_reached w parts (part_pushed w b p) h (part_reached w b p h old (All-head (IsPartOn w) p parts on)) (All-tail (IsPartOn w) p parts on)
 
 -- what is brought once the step's push is taken
 pushed_still : (w : World) (s : Step) → IsSound w → IsReached w → refusal w s ≡ None → AreReachedIn w (pushed w s)
@@ -82,11 +88,12 @@ pushed_still w s h r free = at s free
 
     at : (s : Step) → refusal w s ≡ None → AreReachedIn w (pushed w s)
     at (Step.Data tag path tree) free =
-        let a = allowed w (Step.Data tag path tree) free in
-        part_reached w tag ((path, tree) ∷ []) h r a.push a.deep
+        let parts : List Part = (tag, (path, tree) ∷ []) ∷ [] in
+        parts_reached w parts w.brought h old (push_may_push w (Step.Data tag path tree) parts refl free)
     at (Step.DataMerge tag entries) free =
-        let a = allowed w (Step.DataMerge tag entries) free in
-        part_reached w tag entries h r a.push a.deep
+        let parts : List Part = (tag, entries) ∷ [] in
+        parts_reached w parts w.brought h old (push_may_push w (Step.DataMerge tag entries) parts refl free)
+    at (Step.Push parts) free = parts_reached w parts w.brought h old (push_may_push w (Step.Push parts) parts refl free)
     at (Step.Listen seat query) free = old
     at (Step.Unlisten seat listener) free = old
     at (Step.Write seat action) free = old
@@ -100,15 +107,29 @@ pushed_still w s h r free = at s free
 
 -- ---- changes of cover
 
--- one that reaches all changes nothing
-brings : (w : World) (s : Step) → IsCalled (pushed w s) → AreReachedAfter w s (pushed w s) → brought_after w s ≡ pushed w s
-brings w s c r = nothing_lost (forms_after w s) (forms_kept (kept_after w s)) (pushed w s) (canonical (pushed w s) c) r.regions r.windows
+-- one that reaches all changes the registered forms alone
+brings : (w : World) (s : Step) → IsCalled (pushed w s) → AreReachedAfter w s (pushed w s) → brought_after w s ≡ record (pushed w s) { registered = listening_after w s }
+brings w s c r = nothing_lost (listening_after w s) (forms_kept (kept_after w s)) (pushed w s) (canonical (pushed w s) c) r.regions r.windows
+
+-- pushes leave these
+entries_registered : (q : Query) (b : Brought) (entries : List Assignment) → (fold (push q) b entries).registered ≡ b.registered
+entries_registered q b [] = refl
+entries_registered q b (a ∷ entries) = entries_registered q (push q b a) entries ∙ push_registered q b a
+
+parts_registered : (w : World) (b : Brought) (parts : List Part) → (fold (part_pushed w) b parts).registered ≡ b.registered
+parts_registered w b [] = refl
+parts_registered w b (p ∷ parts) = parts_registered w (part_pushed w b p) parts
+    ∙ elim (listen_of w p.0) as (λ o. (option_map_or (λ q. fold (push q) b p.1) o b).registered ≡ b.registered) [
+      | None ↦ refl
+      | Some q ↦ entries_registered q b p.1
+    ]
 
 pub still_listeners : (w : World) (s : Step) → changes_listeners s ≡ false → listeners_after w s ≡ w.listeners
 still_listeners w (Step.Write seat action) e = refl
 still_listeners w (Step.OnDisconnect seat ending) e = refl
 still_listeners w (Step.Data tag path tree) e = refl
 still_listeners w (Step.DataMerge tag entries) e = refl
+still_listeners w (Step.Push parts) e = refl
 still_listeners w (Step.Accepted id) e = refl
 still_listeners w (Step.Refused id why) e = refl
 still_listeners w Step.Connected e = refl
@@ -121,25 +142,57 @@ still_listeners w (Step.CloseSeat seat) e = absurd (true≢false e)
 pub push_is_brought : PushIsBrought
 push_is_brought w s h c r free e =
     let same = still_listeners w s e in
-    let kept : AreReached (forms (registered w.listeners)) (forms_kept (kept_after w s)) (pushed w s) =
-    subst (λ ks. AreReached (forms (registered w.listeners)) (forms_kept ks) (pushed w s)) (sym (kept-same w s h same)) (pushed_still w s h r free) in
-    brings w s (called_pushed w s c free) (subst (λ (ls : List Listener). AreReached (forms (registered ls)) (forms_kept (kept_after w s)) (pushed w s)) (sym same) kept)
+    let kept : AreReached (listening (registered w.listeners)) (forms_kept (kept_after w s)) (pushed w s) =
+    subst (λ ks. AreReached (listening (registered w.listeners)) (forms_kept ks) (pushed w s)) (sym (kept-same w s h same)) (pushed_still w s h r free) in
+    let fs : listening_after w s ≡ (pushed w s).registered =
+    ap (λ (ls : List Listener). listening (registered ls)) same ∙ sym r.forms ∙ sym (parts_registered w w.brought (kind s).parts) in
+    brings w s (called_pushed w s c free) (subst (λ (ls : List Listener). AreReached (listening (registered ls)) (forms_kept (kept_after w s)) (pushed w s)) (sym same) kept)
+    ∙ (λ i. record (pushed w s) { registered = fs i })
+
+-- ---- a form more
+
+forms_end : (ls : List Listener) (l : Listener) → map (λ (r : Registered). r.1) (registered (ls ++ l ∷ [])) ≡ map (λ (r : Registered). r.1) (registered ls) ++ form l.query ∷ []
+forms_end [] l = refl
+forms_end (x ∷ ls) l = ap (λ fs. form x.query ∷ fs) (forms_end ls l)
 
 pub listen_brings_nothing : ListenBringsNothing
 listen_brings_nothing w seat query h c r =
     let s : Step = Step.Listen seat query in
     let stay : (l : Listener) → Contains w.listeners l → Contains (listeners_after w s) l = λ l m. Contains-more w.listeners (first_seen w seat query ∷ []) l m in
+    let fs : listening_after w s ≡ (w.brought).registered ++ form query ∷ [] = forms_end w.listeners (first_seen w seat query) ∙ ap (λ gs. gs ++ form query ∷ []) (sym r.forms) in
     brings w s c (record {
       regions = λ k d lt. reached_still w s h stay (slice_index_or (w.brought).regions k d).0 (r.regions k d lt);
-      windows = λ k d lt. registered_still w s stay (slice_index_or (w.brought).windows k d).0 (r.windows k d lt);
+      windows = λ k d lt. listening_still w s stay (slice_index_or (w.brought).windows k d).0 (r.windows k d lt);
     })
+    ∙ (λ i. record w.brought { registered = fs i })
+
+-- ---- listens that are kept
+
+pub kept_may_be_put : KeptMayBePut
+kept_may_be_put w tag q h r e =
+    let rs : List Registered = registered w.listeners in
+    let m : Contains (needed (forms rs)) q = All-contains (Contains (needed (forms rs))) (forms_kept w.kept) q (h.listens).only (kept_of w.kept tag q e) in
+    let there : Contains (listening rs) q = listening_of rs q (Contains-from_filter (λ f. not (is_covered (forms rs) f)) (forms rs) q m) in
+    let one : list_any (λ f. query_eq f q) (listening rs) ≡ true = list_any_at (λ f. query_eq f q) (listening rs) there.0 q there.1 (ap (λ f. query_eq f q) there.2 ∙ (query_eq_tells q q).1 refl) in
+    let free : not (is_covered (forms rs) q) ≡ true = passes-from_filter (λ f. not (is_covered (forms rs) f)) (forms rs) q m in
+    subst (λ gs. (list_any (λ f. query_eq f q) gs && not (list_any (λ f. not (query_eq f q) && does_supply f q) gs)) ≡ true) (sym r.forms) (both _ _ one (uncovered rs (is_covered (listening rs) q) refl free))
+  where
+    -- what supplies it is one of the forms
+    uncovered : (rs : List Registered) (b : Bool) → is_covered (listening rs) q ≡ b → not (is_covered (forms rs) q) ≡ true → not (is_covered (listening rs) q) ≡ true
+    uncovered rs false t free = ap not t
+    uncovered rs true t free =
+        let a = Any-from_list_any (λ (f : Query). not (query_eq f q) && does_supply f q) (listening rs) t in
+        let m = form_listened rs a.1 (a.0, a.2, a.3) in
+        let covered : is_covered (forms rs) q ≡ true = list_any_at (λ (f : Query). not (query_eq f q) && does_supply f q) (forms rs) m.0 a.1 m.1 (ap (λ (f : Query). not (query_eq f q) && does_supply f q) m.2 ∙ a.4) in
+        absurd (true≢false (sym free ∙ ap not covered))
 
 pub stays_reached : StaysReached
 stays_reached w s =
-    let fs = forms_after w s in
+    let fs = listening_after w s in
     let kept = forms_kept (kept_after w s) in
     record {
+      forms = ap listening (sym (registered-renewed (brought_after w s) (pending (requests_after w s)) (listeners_after w s)));
       regions = left_reached fs kept (pushed w s);
-      windows = subst (λ (rs : List Registered). All (λ (x : Query × Window). Contains (forms rs) x.0) (brought_after w s).windows)
+      windows = subst (λ (rs : List Registered). All (λ (x : Query × Window). Contains (listening rs) x.0) (brought_after w s).windows)
           (sym (registered-renewed (brought_after w s) (pending (requests_after w s)) (listeners_after w s))) (left_registered fs kept (pushed w s));
     }

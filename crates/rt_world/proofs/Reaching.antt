@@ -19,8 +19,8 @@ use Rattle.rt_cover.specs.laws.KeepLaws.{Contains-map, Contains-from_map, length
 use Rattle.rt_cover.specs.laws.Paths.{is_at_or_above-trans}
 use Rattle.rt_cover.specs.laws.ShownLaws.{found, form_in}
 use Rattle.rt_world.specs.declared.step.Step.{Step}
-use Rattle.rt_world.specs.World.{World, Listener, registered, listen_of}
-use Rattle.rt_world.specs.After.{listeners_after, forms_after, kept_after}
+use Rattle.rt_world.specs.World.{World, Listener, registered, listening, listen_of}
+use Rattle.rt_world.specs.After.{listeners_after, forms_after, listening_after, kept_after}
 use Rattle.rt_world.specs.steps.Kind.{stands_too_deep}
 use Rattle.rt_world.specs.steps.Pushing.{is_no_merge, is_within_listen}
 use Rattle.rt_world.specs.Sound.{IsSound}
@@ -44,6 +44,15 @@ form_of ls f m =
 -- a listener's form is registered
 pub form_stays : (ls : List Listener) (l : Listener) → Contains ls l → Contains (forms (registered ls)) (form l.query)
 form_stays ls l m = form_in (registered ls) (l.number, form l.query) (Contains-map (λ (x : Listener). (x.number, form x.query)) ls m.0 l m.1 m.2)
+
+-- the registered forms are those of the listeners, one for each
+pub listening_of : (rs : List Registered) (f : Query) → Contains (forms rs) f → Contains (listening rs) f
+listening_of rs f m = let x = found rs f m in subst (Contains (listening rs)) x.2 (Contains-map (λ (r : Registered). r.1) rs (x.1).0 x.0 (x.1).1 (x.1).2)
+
+pub form_listened : (rs : List Registered) (f : Query) → Contains (listening rs) f → Contains (forms rs) f
+form_listened rs f m =
+    let x = Contains-from_map (λ (r : Registered). r.1) rs m.0 f (subst (λ n. m.0 < n) (length_of_map (λ (r : Registered). r.1) rs) m.1) m.2 in
+    subst (Contains (forms rs)) x.2 (form_in rs x.0 x.1)
 
 -- a kept listen's form is registered
 pub kept_registered : (w : World) → IsSound w → (f : Query) → Contains (forms_kept w.kept) f → Contains (forms (registered w.listeners)) f
@@ -87,6 +96,10 @@ pub registered_still : (w : World) (s : Step) → ((l : Listener) → Contains w
 registered_still w s stay f m =
     let l = form_of w.listeners f m in
     subst (Contains (forms_after w s)) l.2 (form_stays (listeners_after w s) l.0 (stay l.0 l.1))
+
+pub listening_still : (w : World) (s : Step) → ((l : Listener) → Contains w.listeners l → Contains (listeners_after w s) l)
+    → (f : Query) → Contains (listening (registered w.listeners)) f → Contains (listening_after w s) f
+listening_still w s stay f m = listening_of (registered (listeners_after w s)) f (registered_still w s stay f (form_listened (registered w.listeners) f m))
 
 -- and what was reached is reached still
 pub reached_still : (w : World) (s : Step) → IsSound w → ((l : Listener) → Contains w.listeners l → Contains (listeners_after w s) l)

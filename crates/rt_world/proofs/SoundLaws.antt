@@ -110,6 +110,7 @@ requests_order w s h = at s
     at (Step.Unlisten seat listener) = same w.next_request refl
     at (Step.Data tag path tree) = same w.next_request refl
     at (Step.DataMerge tag entries) = same w.next_request refl
+    at (Step.Push parts) = same w.next_request refl
     at (Step.Revoked tag why) = same w.next_request refl
     at Step.Connected = same w.next_request refl
     at Step.Disconnected = same w.next_request refl

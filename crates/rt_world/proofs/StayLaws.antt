@@ -23,8 +23,8 @@ use Rattle.rt_cover.specs.laws.Paths.{is_at_or_above-same}
 use Rattle.rt_world.specs.declared.error.CoreError.{CoreError}
 use Rattle.rt_world.specs.declared.step.Step.{Step}
 use Rattle.rt_world.specs.Views.{is_known, seen_over, view_of}
-use Rattle.rt_world.specs.World.{World, Listener, pending}
-use Rattle.rt_world.specs.After.{listeners_after, requests_after, forms_after, kept_after, pushed, brought_after, renewed, renewed_after}
+use Rattle.rt_world.specs.World.{World, Listener, registered, pending}
+use Rattle.rt_world.specs.After.{listeners_after, requests_after, forms_after, listening_after, kept_after, pushed, brought_after, renewed, renewed_after}
 use Rattle.rt_world.specs.Messages.{next}
 use Rattle.rt_world.specs.Refusals.{refusal, is_stale}
 use Rattle.rt_world.specs.Answers.{step_by}
@@ -37,7 +37,7 @@ use Rattle.rt_world.specs.laws.World.{changes_listeners, StayAsTheyWere, CoverCh
 use Rattle.rt_world.proofs.CalledLaws.{kept_apart}
 use Rattle.rt_world.proofs.Listeners.{number-renewed, primed_view}
 use Rattle.rt_world.proofs.Numbers.{one_number}
-use Rattle.rt_world.proofs.Reaching.{forms_kept, form_stays, reached_form}
+use Rattle.rt_world.proofs.Reaching.{forms_kept, form_stays, listening_of, reached_form}
 use Rattle.rt_world.proofs.RecoverLaws.{whole, region_after, window_after}
 use Rattle.rt_world.proofs.ShowLaws.{left_or_more, first_seen}
 use Rattle.rt_world.proofs.WrittenLaws.{pending-unseated}
@@ -149,11 +149,12 @@ module _ (w : World) (s : Step) (q : Query) (sound : IsSound w) (m : Contains (f
       let low : is_filtered (form q) ≡ false = ap is_filtered (form_unfiltered q e) in
       reached_form w s (form q) m (form_is_form q) low q.path (subst (λ p. is_at_or_above p q.path ≡ true) (sym (path_of_form q)) (is_at_or_above-same q.path))
 
-  pub recover_same : (writes : List Write) (b : Brought) → IsCalled b → LooksSame writes q (base (recover (forms_after w s) (forms_kept (kept_after w s)) b) q) (base b q)
+  pub recover_same : (writes : List Write) (b : Brought) → IsCalled b → LooksSame writes q (base (recover (listening_after w s) (forms_kept (kept_after w s)) b) q) (base b q)
   recover_same writes b h =
+      let there : Contains (listening_after w s) (form q) = listening_of (registered (listeners_after w s)) (form q) m in
       let kept = forms_kept (kept_after w s) in
       subst (λ o. LooksSame writes q o (base b q))
-      (sym (base_after (forms_after w s) kept b q m (λ p. region_after (forms_after w s) kept b p h (kept_apart w s sound))))
+      (sym (base_after (listening_after w s) kept b q there (λ p. region_after (listening_after w s) kept b p h (kept_apart w s sound))))
       (looks_same writes q (reaches kept q.path) (region_part b.regions q.path) (window_of b.windows (form q)) reached)
 
 -- ---- a listener that stays
@@ -196,6 +197,7 @@ cover_alone w (Step.Write seat action) e = absurd (true≢false (sym e))
 cover_alone w (Step.OnDisconnect seat ending) e = absurd (true≢false (sym e))
 cover_alone w (Step.Data tag path tree) e = absurd (true≢false (sym e))
 cover_alone w (Step.DataMerge tag entries) e = absurd (true≢false (sym e))
+cover_alone w (Step.Push parts) e = absurd (true≢false (sym e))
 cover_alone w (Step.Accepted id) e = absurd (true≢false (sym e))
 cover_alone w (Step.Refused id why) e = absurd (true≢false (sym e))
 cover_alone w Step.Connected e = absurd (true≢false (sym e))
@@ -211,6 +213,7 @@ changes_have_no_entries w (Step.Write seat action) e = absurd (true≢false (sym
 changes_have_no_entries w (Step.OnDisconnect seat ending) e = absurd (true≢false (sym e))
 changes_have_no_entries w (Step.Data tag path tree) e = absurd (true≢false (sym e))
 changes_have_no_entries w (Step.DataMerge tag entries) e = absurd (true≢false (sym e))
+changes_have_no_entries w (Step.Push parts) e = absurd (true≢false (sym e))
 changes_have_no_entries w (Step.Accepted id) e = absurd (true≢false (sym e))
 changes_have_no_entries w (Step.Refused id why) e = absurd (true≢false (sym e))
 changes_have_no_entries w Step.Connected e = absurd (true≢false (sym e))
@@ -220,10 +223,10 @@ pub stays_same : (w : World) (s : Step) → IsSound w → IsCalled w.brought →
     → renewed (brought_after w s) (pending (requests_after w s)) l ≡ l
 stays_same w s h called c l old new =
     let a = cover_alone w s c in
-    let b = recover (forms_after w s) (forms_kept (kept_after w s)) w.brought in
+    let b = recover (listening_after w s) (forms_kept (kept_after w s)) w.brought in
     let ws = pending w.requests in
     let looks = recover_same w s l.query h (form_stays (listeners_after w s) l new) ws w.brought called in
-    (λ i. renewed (recover (forms_after w s) (forms_kept (kept_after w s)) (a.taken i)) (a.writes i) l)
+    (λ i. renewed (recover (listening_after w s) (forms_kept (kept_after w s)) (a.taken i)) (a.writes i) l)
     ∙ renewed_same w b ws l h old (same_view ws l.query (base b l.query) (base w.brought l.query) looks) (ap (λ k. k || sets_whole ws l.query.path) looks.known)
 
 -- ---- after a step

@@ -166,6 +166,7 @@ writes_alike w (Step.Listen seat query) c sound h = refl
 writes_alike w (Step.Unlisten seat listener) c sound h = refl
 writes_alike w (Step.Data tag path tree) c sound h = refl
 writes_alike w (Step.DataMerge tag entries) c sound h = refl
+writes_alike w (Step.Push parts) c sound h = refl
 writes_alike w (Step.Revoked tag why) c sound h = refl
 writes_alike w Step.Connected c sound h = refl
 writes_alike w Step.Disconnected c sound h = refl

@@ -74,6 +74,7 @@ written_step w (Step.Write seat action) None false = pending-write w.requests w.
 written_step w (Step.OnDisconnect seat ending) None false = pending-more w.requests (record { id = w.next_request; seat = Some seat; asked = AtDisconnect ending }) ∙ append-nil (pending w.requests)
 written_step w (Step.Data tag path tree) None false = refl
 written_step w (Step.DataMerge tag entries) None false = refl
+written_step w (Step.Push parts) None false = refl
 written_step w (Step.Accepted id) None false = pending-without id w.requests
 written_step w (Step.Refused id why) None false = pending-without id w.requests
 written_step w (Step.Revoked tag why) None false = refl

@@ -70,6 +70,7 @@ impl From<ServerMessage> for Step {
         match message {
             ServerMessage::Data { tag, path, tree } => Step::Data { tag, path, tree },
             ServerMessage::DataMerge { tag, entries } => Step::DataMerge { tag, entries },
+            ServerMessage::Push { parts } => Step::Push { parts },
             ServerMessage::Accepted { id } => Step::Accepted { id },
             ServerMessage::Refused { id, why } => Step::Refused { id, why },
             ServerMessage::Revoked { tag, why } => Step::Revoked { tag, why },

@@ -12,6 +12,7 @@ ghost use Rattle.rt_world.specs.laws.Examples.{ThreeSetsTwoRefused, MovedInPlace
 ghost use Rattle.rt_world.specs.laws.Examples.{ReconnectResends, RevokedPlainListen, LeafAndChild};
 ghost use Rattle.rt_world.specs.laws.Examples.{RootListen, WholeWindow, WritePrimes, DisconnectActions};
 ghost use Rattle.rt_world.specs.laws.Examples.{MergePush, RefusalUnderLeaf, PlainCover, Refusals};
+ghost use Rattle.rt_world.specs.laws.Examples.{PartsInOneStep, PartsPassedOver};
 
 /// A listen that is pushed null is empty, and is known.
 pub fn push_of_null()
@@ -96,6 +97,16 @@ pub fn disconnect_actions()
 /// A push of several entries is one step.
 pub fn merge_push()
     ensures { MergePush }
+{}
+
+/// A push of several parts is one step.
+pub fn parts_in_one_step()
+    ensures { PartsInOneStep }
+{}
+
+/// Parts that change nothing are passed over, and a listener is told once.
+pub fn parts_passed_over()
+    ensures { PartsPassedOver }
 {}
 
 /// A refused write over a leaf shows the leaf again.

@@ -10,6 +10,7 @@ ghost use Rattle.rt_world.specs.laws.False.{RefusedStillShows, RunDoesNothing, R
 ghost use Rattle.rt_world.specs.laws.False.{RunRegistersNobody, WriteBeginsListen, ListenGetsAnyTag};
 ghost use Rattle.rt_world.specs.laws.False.{PushRestartsListen, WriteChangesTag, UnlistenSwapsTags};
 ghost use Rattle.rt_world.specs.laws.False.{NextTagLags, EndPassesLastTag, WritePassesLastTag};
+ghost use Rattle.rt_world.specs.laws.False.{VersionIsNotTold, VersionIsToldLate, VersionIsToldOnce};
 
 /// A listen that leaves nothing, comes too late, is refused, is not sent or not kept; another seat
 /// that is told of an end.
@@ -61,4 +62,12 @@ pub fn false_tags()
     ensures next { NextTagLags }
     ensures last { EndPassesLastTag }
     ensures lost { WritePassesLastTag }
+{}
+
+/// A connection that does not tell the version, tells it behind the listens, or tells it the first time
+/// alone.
+pub fn false_greetings()
+    ensures never { VersionIsNotTold }
+    ensures late { VersionIsToldLate }
+    ensures once { VersionIsToldOnce }
 {}

@@ -13,6 +13,7 @@ ghost use Rattle.rt_world.specs.laws.Steps.{NotRefusedIsAllowed};
 ghost use Rattle.rt_world.specs.laws.Steps.{ListenersStay, ChangesHaveNoEntries};
 ghost use Rattle.rt_world.specs.laws.Steps.{ListensStay, UnmetStays, RenewedIsOne};
 ghost use Rattle.rt_world.specs.laws.Steps.{StaysReached, PushIsBrought, ListenBringsNothing};
+ghost use Rattle.rt_world.specs.laws.Steps.{KeptMayBePut};
 ghost use Rattle.rt_world.specs.laws.Steps.{WriteIsPending, EndingIsNotPending};
 ghost use Rattle.rt_world.specs.laws.Steps.{SettledIsNotPending, UnseatedIsPending};
 ghost use Rattle.rt_world.specs.laws.Steps.{SettledOnceTold, BatchesAreNotes, StillIsQuiet};
@@ -103,13 +104,15 @@ pub fn stay_law()
     ensures renewed { RenewedIsOne }
 {}
 
-/// After a step a kept plain listen reaches each region that is brought, and each window is of a
-/// registered form. Where that is so, a step that ends no listener changes what is brought by its push
-/// alone.
+/// After a step what is brought has the forms of the listeners, in order; a kept plain listen reaches
+/// each region, and each window is of a registered form. Where that is so, a step that ends no
+/// listener changes what is brought by its push alone, and by the form of a new listener; and a push
+/// may be put on each kept listen.
 pub fn brought_law()
     ensures next { StaysReached }
     ensures pushed { PushIsBrought }
     ensures listen { ListenBringsNothing }
+    ensures kept { KeptMayBePut }
 {}
 
 /// The pending writes of changed requests.

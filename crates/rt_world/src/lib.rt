@@ -33,5 +33,5 @@ pub use made::{
 };
 pub use report::{Body, Note, Notes, Outcome, Report};
 pub use request::Request;
-pub use rt_wire::{Action, Asked, ClientMessage, Ending, Reason};
+pub use rt_wire::{Action, Asked, ClientMessage, Ending, Part, Parts, Reason};
 pub use step::Step;

@@ -1,7 +1,6 @@
 // What each kind of step leaves, for whoever makes it.
 ghost use Rattle.rt_world.specs.laws.Made.{StillLeavesListens, AcceptedIsMade, RefusedIsMade};
-ghost use Rattle.rt_world.specs.laws.Made.{DataIsMade, MergeIsMade, DataMayPush, MergeMayPush};
-ghost use Rattle.rt_world.specs.laws.Made.{DataIsStale, MergeIsStale, WriteIsMade, EndingIsMade};
+ghost use Rattle.rt_world.specs.laws.Made.{PushIsMade, PushMayPush, WriteIsMade, EndingIsMade};
 ghost use Rattle.rt_world.specs.laws.Made.{ConnectedIsMade, DisconnectedIsMade};
 ghost use Rattle.rt_world.specs.laws.Made.{WritesAreShallow, NextIsAbovePending};
 ghost use Rattle.rt_world.specs.laws.Listened.{ListenIsMade, UnlistenIsMade, CloseSeatIsMade};
@@ -27,20 +26,16 @@ pub fn settled_law()
     ensures refused { RefusedIsMade }
 {}
 
-/// A push on a listen that is kept goes into what is brought, and into the views that its entries
-/// meet.
+/// A push goes into what is brought, part by part, and into the views that its entries meet: each
+/// listener is told once.
 pub fn push_law()
-    ensures one { DataIsMade }
-    ensures merge { MergeIsMade }
+    ensures { PushIsMade }
 {}
 
-/// Each entry of a push that is not refused is at or under its listen's path, and no deeper than trees
-/// are. A push is stale where its tag is not kept, or all its entries want a window.
+/// Each entry of a push that is not refused is at or under its part's listen's path, where that is
+/// kept, and no deeper than trees are.
 pub fn pushed_law()
-    ensures one { DataMayPush }
-    ensures merge { MergeMayPush }
-    ensures one_stale { DataIsStale }
-    ensures merge_stale { MergeIsStale }
+    ensures { PushMayPush }
 {}
 
 /// A request is the last, under the next number, and sent while there is a connection; a write shows
@@ -53,7 +48,7 @@ pub fn asked_law()
     ensures above { NextIsAbovePending }
 {}
 
-/// A connection that opens sends all that is kept and unsettled; one that ends drops what is to be
+/// A connection that opens sends the version and all that is kept and unsettled; one that ends drops what is to be
 /// sent.
 pub fn connection_law()
     ensures connected { ConnectedIsMade }

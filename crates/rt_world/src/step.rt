@@ -1,7 +1,7 @@
 // One event of the core.
 use rt_query::Query;
 use rt_tree::{Path, Tree};
-use rt_wire::{Action, Ending, Reason};
+use rt_wire::{Action, Ending, Parts, Reason};
 use rt_writes::Entries;
 
 /// One event of the core: a seat's call, a message of the server, or a change of the connection.
@@ -19,6 +19,8 @@ pub enum Step {
     Data { tag: u64, path: Path, tree: Tree },
     /// The server pushes several trees, each at its path, on the listen with that tag.
     DataMerge { tag: u64, entries: Entries },
+    /// The server pushes several parts, each on the listen with its tag: they show together.
+    Push { parts: Parts },
     /// The server accepts a request.
     Accepted { id: u64 },
     /// The server refuses a request.

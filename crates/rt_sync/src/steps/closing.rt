@@ -74,7 +74,14 @@ impl State {
         let numbers = state.listeners.numbers_of(alloc, seat)?;
         let ended = forms_of(alloc, &state.cover, &numbers)?;
         let delta = uncover(&mut state.cover, &numbers)?;
-        lose(&mut state.brought, &state.cover, ended)?;
+        lose(
+            &mut state.brought,
+            &state.listeners,
+            &state.cover,
+            &numbers,
+            ended,
+            &delta,
+        )?;
         state.listeners.close(seat);
         state.requests.close(seat);
         send_change(&mut state.outgoing, state.is_connected, delta)?;

@@ -4,7 +4,7 @@ ghost use Rattle.rt_cover.specs.State.{shown};
 ghost use Rattle.rt_world.specs.declared.error.CoreError.TheVariants as CoreError;
 ghost use Rattle.rt_world.specs.laws.Refused.{first_of};
 
-use crate::sending::{send_listens, send_requests};
+use crate::sending::{greeted, send_listens, send_requests};
 use crate::state::State;
 use crate::told::Told;
 use rt_cover::{Cover, Kept};
@@ -55,7 +55,8 @@ impl State {
         self.offline_refusal()
     }
 
-    // A connection is opened: all kept listens are to be sent, and then all unsettled requests.
+    // A connection is opened: the version is to be told, then all kept listens, and then all unsettled
+    // requests.
     pub(crate) fn connect(self) -> Result<(State, Told), AllocError>
         requires due { IsDue self.world Step.Connected }
         requires viewed { AreViewed self }
@@ -66,7 +67,7 @@ impl State {
         connection_law();
         let alloc = self.alloc();
         let mut state = self;
-        let mut outgoing = VecDeque::new(alloc);
+        let mut outgoing = greeted(alloc)?;
         send_listens(&mut outgoing, kept_listens(&state.cover)?)?;
         send_requests(alloc, &mut outgoing, &state.requests)?;
         state.outgoing = outgoing;

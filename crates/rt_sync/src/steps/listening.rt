@@ -1,6 +1,7 @@
 // Listeners begin and end.
 ghost use Rattle.std.specs.Prelude.{◌≡◌, ◌||◌, ℕ, false, length, nat_le, nat_lt};
 ghost use Rattle.std.specs.Prelude.{None, IfOk, OnOk};
+ghost use Rattle.rt_query.specs.Supply.{form};
 ghost use Rattle.rt_cover.specs.State.{added, add_fault, difference, is_registered, remove_fault};
 ghost use Rattle.rt_cover.specs.State.{removed};
 
@@ -92,6 +93,7 @@ impl State {
         let mut state = self;
         let number = state.given_listeners + 1;
         let covered = query.copy()?;
+        state.brought.register(&query)?;
         let delta = cover_new(&mut state.cover, number, covered)?;
         let mut notes = Vec::new(alloc);
         let pending = state.requests.pending();
@@ -147,7 +149,14 @@ impl State {
         let mut state = self;
         let ended = forms_of(alloc, &state.cover, &[listener])?;
         let delta = uncover(&mut state.cover, &[listener])?;
-        lose(&mut state.brought, &state.cover, ended)?;
+        lose(
+            &mut state.brought,
+            &state.listeners,
+            &state.cover,
+            &[listener],
+            ended,
+            &delta,
+        )?;
         state.listeners.remove(listener);
         send_change(&mut state.outgoing, state.is_connected, delta)?;
         let notes = Vec::new(alloc);

@@ -1,14 +1,13 @@
 // What was brought is lost where listeners end.
-ghost use Rattle.std.specs.Prelude.{◌≡◌, ◌&&◌, not, map, is_some, IfOk, OnOk};
-ghost use Rattle.std.specs.List.{list_any};
-ghost use Rattle.rt_query.specs.Queries.{is_filtered};
+ghost use Rattle.std.specs.Prelude.{◌≡◌, map, IfOk, OnOk};
 ghost use Rattle.rt_cache.specs.Recover.{recover};
-ghost use Rattle.rt_cover.specs.Cover.{forms};
-ghost use Rattle.rt_cover.specs.State.{Cover, supplier};
-ghost use Rattle.rt_sync.specs.inside.Losing.{forms_at, HasLost};
+ghost use Rattle.rt_cover.specs.State.{Cover};
+ghost use Rattle.rt_world.specs.World.{listening};
+ghost use Rattle.rt_sync.specs.inside.Losing.{forms_at, places_at, is_ended, HasLost};
 
 use rt_cache::Brought;
-use rt_cover::Cover;
+use rt_cover::{Cover, Delta, Kept, apart_law};
+use rt_parts::Listeners;
 use rt_query::Query;
 use std::alloc::{AllocError, Global};
 
@@ -29,42 +28,62 @@ pub(crate) fn forms_of(
     Ok(forms)
 }
 
-// Whether no kept listen supplies a plain one of these forms any more.
-fn lacks_plain(cover: &Cover, ended: &[Query]) -> bool
-    ensures { result ≡ list_any (λ f. not (is_filtered f) && not (is_some (supplier cover.now f)))
-        ended.now }
+// Where these listeners stand among all.
+fn places_of(
+    alloc: Global,
+    listeners: &Listeners,
+    numbers: &[u64],
+) -> Result<Vec<usize>, AllocError>
+    ensures { IfOk result (λ places. places.items
+        ≡ places_at listeners.now.listeners numbers.now) }
 {
-    ended.iter().any(|form| !form.is_filtered() && cover.supplier(form).is_none())
+    let mut places = Vec::new(alloc);
+    for number in numbers {
+        if let Some(place) = listeners.place_of(*number) {
+            places.push(place)?;
+        }
+    }
+    Ok(places)
 }
 
-// What stays of all that was brought, once all listens are looked at.
-fn recover_all(brought: &mut Brought, cover: &Cover) -> Result<(), AllocError>
-    ensures { OnOk result (brought.new
-        ≡ recover (forms cover.now.listeners) (map (λ k. k.form) cover.now.kept) brought.old) }
+// The forms of these listens.
+fn forms_kept(alloc: Global, listens: &[Kept]) -> Result<Vec<Query>, AllocError>
+    ensures { IfOk result (λ forms. forms.items ≡ map (λ k. k.query) listens.now) }
 {
-    let Ok(registered) = cover.forms() else {
-        return Err(AllocError);
-    };
-    let Ok(kept) = cover.kept_forms() else {
-        return Err(AllocError);
-    };
-    brought.recover(&registered, &kept)
+    let mut forms = Vec::new(alloc);
+    for listen in listens {
+        forms.push(listen.query.copy()?)?;
+    }
+    Ok(forms)
 }
 
-// What no kept listen reaches any more is lost, where listeners of these forms ended. Where no plain
-// listen ended, just the windows of those forms are that are registered no more.
+// Whether the form ends: no listener has it, and no kept listen supplies it, if it is plain.
+fn is_ended(cover: &Cover, form: &Query) -> bool
+    ensures { result ≡ is_ended cover.now form.now }
+{
+    !cover.has_form(form) && (form.is_filtered() || cover.supplier(form).is_none())
+}
+
+// What no kept listen reaches any more is lost, where the listeners of these numbers end, whose forms
+// are among the ended ones. The listeners stand as before, and the cover is the one without them.
 pub(crate) fn lose(
     brought: &mut Brought,
+    listeners: &Listeners,
     cover: &Cover,
+    numbers: &[u64],
     mut ended: Vec<Query>,
+    delta: &Delta,
 ) -> Result<(), AllocError>
-    ensures { (was : Cover) → HasLost was cover.now ended.items brought.old → OnOk result (brought.new
-        ≡ recover (forms cover.now.listeners) (map (λ k. k.form) cover.now.kept) brought.old) }
+    requires { (was : Cover) × HasLost was cover.now numbers.now listeners.now.listeners ended.items
+        delta.now brought.old }
+    ensures { OnOk result (brought.new
+        ≡ recover (listening cover.now.listeners) (map (λ k. k.form) cover.now.kept) brought.old) }
 {
-    ended.retain(|form| !cover.has_form(form));
-    if lacks_plain(cover, &ended) {
-        return recover_all(brought, cover);
-    }
-    brought.forget(&ended);
-    Ok(())
+    // For the prover: of the plain listens kept none is at or above another.
+    apart_law();
+    let alloc = *ended.allocator();
+    ended.retain(|form| is_ended(cover, form));
+    let places = places_of(alloc, listeners, numbers)?;
+    let begun = forms_kept(alloc, delta.started.as_slice())?;
+    brought.unregister(&places, &ended, &begun)
 }

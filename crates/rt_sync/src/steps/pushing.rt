@@ -1,14 +1,18 @@
 // The server pushes on a kept listen.
-ghost use Rattle.std.specs.Prelude.{◌≡◌, ◌∷◌, [], not, true, Some, IfOk, OnOk};
-ghost use Rattle.std.specs.List.{All, fold, list_all};
+ghost use Rattle.std.specs.Prelude.{◌≡◌, ◌↔◌, ◌==◌, ◌∷◌, [], not, true, Some, IfOk, IsTrue, OnOk, map};
+ghost use Rattle.std.specs.List.{All, IsDistinct, fold, list_all, list_any};
+ghost use Rattle.std.specs.List.Sorted.{IsNonDecreasing, IsPermutation};
 ghost use Rattle.std.specs.Option.{option_copied, option_map, option_map_or};
 ghost use Rattle.rt_tree.specs.PathTree.{PathTree};
 ghost use Rattle.rt_tree.specs.Assignments.{is_at_or_above};
 ghost use Rattle.rt_query.specs.Queries.{Query};
-ghost use Rattle.rt_cache.specs.Brought.{is_without_window, push};
+ghost use Rattle.rt_cache.specs.Brought.{is_without_window, may_put, push};
 ghost use Rattle.rt_cover.specs.State.{listen_at};
 ghost use Rattle.rt_world.specs.World.{listen_of};
-ghost use Rattle.rt_world.specs.steps.Pushing.{is_no_merge, is_within_listen};
+ghost use Rattle.rt_world.specs.Touched.{entries_pushed};
+ghost use Rattle.rt_world.specs.steps.Kind.{stands_too_deep};
+ghost use Rattle.rt_world.specs.steps.Pushing.{has_tag_twice, is_bad_part, is_idle, is_no_merge};
+ghost use Rattle.rt_world.specs.steps.Pushing.{is_no_push, is_within_listen};
 ghost use Rattle.rt_world.specs.laws.Made.{IsPushOn};
 
 use crate::state::State;
@@ -17,10 +21,13 @@ use rt_cache::Brought;
 use rt_cover::Cover;
 use rt_query::Query;
 use rt_tree::{Path, Tree};
-use rt_wire::{some_stands_too_deep, stands_too_deep};
+use rt_wire::{Part, Parts, some_stands_too_deep, stands_too_deep};
 use rt_world::{CoreError, brought_law, push_law, pushed_law, stay_law, touch_law};
 use rt_writes::Entries;
 use std::alloc::{AllocError, Global};
+
+// Of more parts than these the tags are sorted, so that no push takes quadratic time.
+const MAX_UNSORTED: usize = 64;
 
 // Whether all these entries sit at or under the path.
 fn are_under(entries: &[(Path, Tree)], path: &Path) -> bool
@@ -57,8 +64,10 @@ fn lack_window(brought: &Brought, query: &Query, entries: &[(Path, Tree)]) -> bo
 
 // Takes in these entries, which are pushed on the listen of the query.
 fn put_all(brought: &mut Brought, query: &Query, entries: &[(Path, Tree)]) -> Result<(), AllocError>
-    requires { All (IsPushOn query.now) entries.now }
-    ensures { OnOk result (brought.new ≡ fold (push query.now) brought.old entries.now) }
+    requires on { All (IsPushOn query.now) entries.now }
+    requires kept { may_put brought.old query.now ≡ true }
+    ensures pushed { OnOk result (brought.new ≡ fold (push query.now) brought.old entries.now) }
+    ensures registered { OnOk result (brought.new.registered ≡ brought.old.registered) }
 {
     for entry in entries {
         let _is_taken = brought.put(query, &entry.0, &entry.1)?;
@@ -73,11 +82,14 @@ fn put_on(
     tag: u64,
     entries: &[(Path, Tree)],
 ) -> Result<(), AllocError>
-    requires { (q : Query) → option_map (λ k. k.form) (listen_at cover.now tag) ≡ Some q
+    requires on { (q : Query) → option_map (λ k. k.form) (listen_at cover.now tag) ≡ Some q
         → All (IsPushOn q) entries.now }
-    ensures { OnOk result (brought.new ≡ option_map_or
+    requires kept { (q : Query) → option_map (λ k. k.form) (listen_at cover.now tag) ≡ Some q
+        → may_put brought.old q ≡ true }
+    ensures pushed { OnOk result (brought.new ≡ option_map_or
         (λ q. fold (push q) brought.old entries.now)
         (option_map (λ k. k.form) (listen_at cover.now tag)) brought.old) }
+    ensures registered { OnOk result (brought.new.registered ≡ brought.old.registered) }
 {
     match cover.form_at(tag) {
         Some(query) => put_all(brought, query, entries),
@@ -85,13 +97,123 @@ fn put_on(
     }
 }
 
+// Takes each part in on the listen with its tag, if that is kept.
+fn put_parts(brought: &mut Brought, cover: &Cover, parts: &[Part]) -> Result<(), AllocError>
+    requires on { All (λ p. (q : Query)
+        → option_map (λ k. k.form) (listen_at cover.now p.0) ≡ Some q
+        → All (IsPushOn q) p.1) parts.now }
+    requires kept { All (λ p. (q : Query)
+        → option_map (λ k. k.form) (listen_at cover.now p.0) ≡ Some q
+        → may_put brought.old q ≡ true) parts.now }
+    ensures { OnOk result (brought.new ≡ fold (λ b p. option_map_or
+        (λ q. fold (push q) b p.1)
+        (option_map (λ k. k.form) (listen_at cover.now p.0)) b) brought.old parts.now) }
+{
+    for part in parts {
+        put_on(brought, cover, part.tag(), part.entries().as_slice())?;
+    }
+    Ok(())
+}
+
+// The entries of all parts, in order.
+fn entries_pushed(alloc: Global, parts: Parts) -> Result<Vec<(Path, Tree)>, AllocError>
+    ensures { IfOk result (λ entries. entries.items ≡ entries_pushed parts) }
+{
+    let mut entries = Vec::new(alloc);
+    for part in parts.into_vec() {
+        let mut more = part.into_entries().into_vec();
+        entries.append(&mut more)?;
+    }
+    Ok(entries)
+}
+
+// Whether two parts have one tag. Compares each with each.
+fn has_equal_tags(parts: &[Part]) -> bool
+    ensures { result ≡ has_tag_twice parts.now }
+{
+    let mut rest = parts;
+    while let Some((first, others)) = rest.split_first() {
+        if others.iter().any(|other| other.tag() == first.tag()) {
+            return true;
+        }
+        rest = others;
+    }
+    false
+}
+
+// The tags of the parts, in order.
+fn sorted_tags(alloc: Global, parts: &[Part]) -> Result<Vec<u64>, AllocError>
+    ensures sorted { IfOk result (λ tags. IsNonDecreasing tags.items) }
+    ensures same { IfOk result (λ tags. IsPermutation (map (λ p. p.0) parts.now) tags.items) }
+{
+    let mut tags = Vec::with_capacity(alloc, parts.len())?;
+    for part in parts {
+        tags.push(part.tag())?;
+    }
+    tags.sort_unstable();
+    Ok(tags)
+}
+
+// Whether no two of the tags are equal, which are in order.
+fn are_distinct(tags: &[u64]) -> bool
+    requires { IsNonDecreasing tags.now }
+    ensures { IsTrue result ↔ IsDistinct (λ m n. m == n) tags.now }
+{
+    for later in 1..tags.len() {
+        if tags[later - 1] == tags[later] {
+            return false;
+        }
+    }
+    true
+}
+
+// Whether two parts have one tag. The tags of many are sorted, where there is memory for a list of them.
+fn has_tag_twice(alloc: Global, parts: &[Part]) -> bool
+    ensures { result ≡ has_tag_twice parts.now }
+{
+    if parts.len() > MAX_UNSORTED {
+        if let Ok(tags) = sorted_tags(alloc, parts) {
+            return !are_distinct(&tags);
+        }
+    }
+    has_equal_tags(parts)
+}
+
+// Whether there are no parts, or two of one tag.
+fn is_no_push(alloc: Global, parts: &[Part]) -> bool
+    ensures { result ≡ is_no_push parts.now }
+{
+    match parts {
+        [] => true,
+        [_, ..] => has_tag_twice(alloc, parts),
+    }
+}
+
+// Whether a leaf of one of these parts would stand too deep.
+fn are_too_deep(parts: &[Part]) -> bool
+    ensures { result ≡ list_any (λ p. list_any stands_too_deep p.1) parts.now }
+{
+    parts
+        .iter()
+        .any(|part| some_stands_too_deep(part.entries()))
+}
+
 // A list of one entry.
-fn one_entry(alloc: Global, path: Path, tree: Tree) -> Result<Vec<(Path, Tree)>, AllocError>
-    ensures { IfOk result (λ v. v.items ≡ (path, tree) ∷ []) }
+fn one_entry(alloc: Global, path: Path, tree: Tree) -> Result<Entries, AllocError>
+    ensures { IfOk result (λ entries. entries ≡ (path, tree) ∷ []) }
 {
     let mut entries = Vec::new(alloc);
     entries.push((path, tree))?;
-    Ok(entries)
+    Ok(Entries::of(entries))
+}
+
+// A list of one part.
+fn one_part(alloc: Global, tag: u64, entries: Entries) -> Result<Parts, AllocError>
+    ensures { IfOk result (λ parts. parts ≡ (tag, entries) ∷ []) }
+{
+    let mut parts = Vec::new(alloc);
+    parts.push(Part::new(tag, entries))?;
+    Ok(Parts::of(parts))
 }
 
 impl State {
@@ -140,6 +262,13 @@ impl State {
         self.offline_refusal()
     }
 
+    // Whether the entries are none that the listen with that tag can bring.
+    fn is_bad_part(&self, tag: u64, entries: &Entries) -> bool
+        ensures { result ≡ is_bad_part self.now.world (tag, entries.now) }
+    {
+        self.is_outside_listen(tag, entries.as_slice()) || is_no_merge(entries)
+    }
+
     // Why a push of several trees is refused.
     pub(crate) fn merge_refusal(&self, tag: u64, entries: &Entries) -> Option<CoreError>
         ensures { result ≡ refusal self.now.world (Step.DataMerge tag entries.now) }
@@ -147,7 +276,30 @@ impl State {
         if some_stands_too_deep(entries) {
             return Some(CoreError::TooDeep);
         }
-        if self.is_outside_listen(tag, entries.as_slice()) || is_no_merge(entries) {
+        if self.is_bad_part(tag, entries) {
+            return Some(CoreError::BadPush);
+        }
+        self.offline_refusal()
+    }
+
+    // Whether one of the parts is bad.
+    fn has_bad_part(&self, parts: &[Part]) -> bool
+        ensures { result ≡ list_any (is_bad_part self.now.world) parts.now }
+    {
+        parts
+            .iter()
+            .any(|part| self.is_bad_part(part.tag(), part.entries()))
+    }
+
+    // Why a push of parts is refused.
+    pub(crate) fn push_refusal(&self, parts: &Parts) -> Option<CoreError>
+        ensures { result ≡ refusal self.now.world (Step.Push parts.now) }
+    {
+        if are_too_deep(parts.as_slice()) {
+            return Some(CoreError::TooDeep);
+        }
+        let alloc = self.alloc();
+        if is_no_push(alloc, parts.as_slice()) || self.has_bad_part(parts.as_slice()) {
             return Some(CoreError::BadPush);
         }
         self.offline_refusal()
@@ -158,18 +310,15 @@ impl State {
     pub(crate) fn data_is_stale(&self, tag: u64, path: &Path) -> bool
         ensures { (tree : PathTree) → result ≡ is_stale self.now.world (Step.Data tag path.now tree) }
     {
-        // For the prover: when a push is stale.
-        pushed_law();
         match self.listen_of(tag) {
             Some(query) => self.brought.lacks_window(query, path),
             None => true,
         }
     }
 
-    // Whether trees that are pushed together change nothing: no listen with the tag is kept, or each
-    // wants a window.
-    pub(crate) fn merge_is_stale(&self, tag: u64, entries: &Entries) -> bool
-        ensures { result ≡ is_stale self.now.world (Step.DataMerge tag entries.now) }
+    // Whether a part changes nothing: no listen with the tag is kept, or each entry wants a window.
+    fn is_idle(&self, tag: u64, entries: &Entries) -> bool
+        ensures { result ≡ is_idle self.now.world (tag, entries.now) }
     {
         match self.listen_of(tag) {
             Some(query) => lack_window(&self.brought, query, entries.as_slice()),
@@ -177,18 +326,30 @@ impl State {
         }
     }
 
-    // Several trees are pushed, each at its path: they show together.
-    pub(crate) fn take_merge(
-        self,
-        tag: u64,
-        entries: Vec<(Path, Tree)>,
-    ) -> Result<(State, Told), AllocError>
-        requires due { IsDue self.world (Step.DataMerge tag entries.items) }
+    // Whether trees that are pushed together on one listen change nothing.
+    pub(crate) fn merge_is_stale(&self, tag: u64, entries: &Entries) -> bool
+        ensures { result ≡ is_stale self.now.world (Step.DataMerge tag entries.now) }
+    {
+        self.is_idle(tag, entries)
+    }
+
+    // Whether parts that are pushed together change nothing, one as the other.
+    pub(crate) fn push_is_stale(&self, parts: &Parts) -> bool
+        ensures { result ≡ is_stale self.now.world (Step.Push parts.now) }
+    {
+        parts
+            .as_slice()
+            .iter()
+            .all(|part| self.is_idle(part.tag(), part.entries()))
+    }
+
+    // Parts are pushed, each on the listen with its tag: they show together.
+    pub(crate) fn take_push(self, parts: Parts) -> Result<(State, Told), AllocError>
+        requires due { IsDue self.world (Step.Push parts) }
         requires viewed { AreViewed self }
         ensures made { IfOk result (λ made.
-            IsNext self.world (Step.DataMerge tag entries.items) (made.0.world, made.1)) }
-        ensures views { IfOk result (λ made.
-            HasViews self (Step.DataMerge tag entries.items) made.0) }
+            IsNext self.world (Step.Push parts) (made.0.world, made.1)) }
+        ensures views { IfOk result (λ made. HasViews self (Step.Push parts) made.0) }
     {
         // For the prover: what such a step leaves, and what may be pushed.
         push_law();
@@ -198,13 +359,27 @@ impl State {
         touch_law();
         let alloc = self.alloc();
         let mut state = self;
-        put_on(&mut state.brought, &state.cover, tag, &entries)?;
+        put_parts(&mut state.brought, &state.cover, parts.as_slice())?;
+        let entries = entries_pushed(alloc, parts)?;
         let mut notes = Vec::new(alloc);
         let pending = state.requests.pending();
         state
             .listeners
             .refresh(&entries, &state.brought, pending, &mut notes)?;
         Ok((state, Told { given: None, notes }))
+    }
+
+    // Several trees are pushed on one listen, as a part alone.
+    pub(crate) fn take_merge(self, tag: u64, entries: Entries) -> Result<(State, Told), AllocError>
+        requires due { IsDue self.world (Step.DataMerge tag entries) }
+        requires viewed { AreViewed self }
+        ensures made { IfOk result (λ made.
+            IsNext self.world (Step.DataMerge tag entries) (made.0.world, made.1)) }
+        ensures views { IfOk result (λ made.
+            HasViews self (Step.DataMerge tag entries) made.0) }
+    {
+        let parts = one_part(self.alloc(), tag, entries)?;
+        self.take_push(parts)
     }
 
     // A tree is pushed at a path, as a merge of one.

@@ -1,27 +1,29 @@
 // The server ends a listen.
 ghost use Rattle.std.specs.Prelude.{◌≡◌, Some, None, IfOk, OnOk};
 ghost use Rattle.std.specs.Option.{option_map};
-ghost use Rattle.rt_cover.specs.State.{difference, listen_at, revoke_fault, revoked, without_tag};
+ghost use Rattle.rt_cover.specs.State.{difference, ended_by, listen_at, revoke_fault, revoked};
+ghost use Rattle.rt_cover.specs.State.{without_tag};
 
 use crate::sending::send_change;
 use crate::state::State;
 use crate::steps::losing::lose;
 use crate::told::Told;
-use rt_cover::{Cover, Delta};
+use rt_cover::{Cover, Delta, Numbers};
 use rt_query::Query;
 use rt_world::{
     CoreError, Reason, covered_law, following_law, listened_law, sound_law, stay_law, tag_law,
 };
 use std::alloc::AllocError;
 
-// The listeners whose form is that of the listen with the tag are covered no more: that form, and
-// what becomes of the other listens. Only memory can refuse.
-fn uncover_revoked(cover: &mut Cover, tag: u64) -> Result<(Query, Delta), AllocError>
+// The listeners whose form is that of the listen with the tag are covered no more: that form, their
+// numbers, and what becomes of the other listens. Only memory can refuse.
+fn uncover_revoked(cover: &mut Cover, tag: u64) -> Result<(Query, Numbers, Delta), AllocError>
     requires { revoke_fault cover.old tag ≡ None }
     ensures cover { OnOk result (cover.new ≡ revoked cover.old tag) }
     ensures form { IfOk result (λ r.
         option_map (λ k. k.form) (listen_at cover.old tag) ≡ Some r.0) }
-    ensures delta { IfOk result (λ r. r.1
+    ensures ended { IfOk result (λ r. r.1 ≡ ended_by cover.old tag) }
+    ensures delta { IfOk result (λ r. r.2
         ≡ without_tag tag (difference cover.old (revoked cover.old tag))) }
 {
     let Some(form) = cover.form_at(tag) else {
@@ -29,7 +31,7 @@ fn uncover_revoked(cover: &mut Cover, tag: u64) -> Result<(Query, Delta), AllocE
     };
     let form = form.copy()?;
     match cover.revoke(tag) {
-        Ok(done) => Ok((form, done.delta)),
+        Ok(done) => Ok((form, done.ended, done.delta)),
         Err(_) => Err(AllocError),
     }
 }
@@ -89,10 +91,17 @@ impl State {
         sound_law();
         let alloc = self.alloc();
         let mut state = self;
-        let (form, delta) = uncover_revoked(&mut state.cover, tag)?;
+        let (form, numbers, delta) = uncover_revoked(&mut state.cover, tag)?;
         let mut ended = Vec::new(alloc);
         ended.push(form.copy()?)?;
-        lose(&mut state.brought, &state.cover, ended)?;
+        lose(
+            &mut state.brought,
+            &state.listeners,
+            &state.cover,
+            numbers.as_slice(),
+            ended,
+            &delta,
+        )?;
         let mut notes = Vec::new(alloc);
         state.listeners.cancel(&form, &why, &mut notes)?;
         send_change(&mut state.outgoing, state.is_connected, delta)?;

@@ -5,4 +5,4 @@ use Rattle.rt_lines.proofs.examples.forms_come_first.Goals as goal
 
 pub returns : goal.returns
 unfolding serde_json_on_literals null of_leaf leaf_at
-returns c = (refl, refl, refl, refl, refl, refl, refl, refl)
+returns c = (refl, refl, refl, refl, refl, refl, refl, refl, refl)

@@ -7,4 +7,4 @@ use Rattle.rt_lines.proofs.examples.lines_are_read.Goals as goal
 
 pub returns : goal.returns
 unfolding serde_json_on_literals digits null of_leaf is_null leaf_at sub put levels children_of data_of
-returns c = (refl, refl, refl, refl, refl, refl, refl, refl, refl, refl)
+returns c = (refl, refl, refl, refl, refl, refl, refl, refl, refl, refl, refl, refl)

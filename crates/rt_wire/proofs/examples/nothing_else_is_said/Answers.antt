@@ -3,10 +3,10 @@ use Rattle.std.specs.Prelude.{codes}
 use Rattle.serde_json.proofs.OnLiterals.{serde_json_on_literals}
 use Rattle.rt_tree.specs.Path.{path_keys}
 use Rattle.rt_query.specs.Queries.{plain}
-use Rattle.rt_wire.specs.declared.server.ServerMessage.TheVariants.{DataMerge, Accepted, Refused}
-use Rattle.rt_wire.specs.declared.client.ClientMessage.TheVariants.{Listen}
-use Rattle.rt_wire.specs.laws.Examples.{ok_one, two_entries, entry_at, listen_first}
-use Rattle.rt_wire.proofs.Others.{server_number, server_kind, is_filtered_by}
+use Rattle.rt_wire.specs.declared.server.ServerMessage.TheVariants.{DataMerge, Push, Accepted, Refused}
+use Rattle.rt_wire.specs.declared.client.ClientMessage.TheVariants.{Hello, Listen}
+use Rattle.rt_wire.specs.laws.Examples.{ok_one, two_entries, entry_at, push_two, listen_first}
+use Rattle.rt_wire.proofs.Others.{server_number, server_kind, client_number, is_filtered_by}
 use Rattle.rt_wire.proofs.ServerSaid.{server_read}
 use Rattle.rt_wire.proofs.ClientSaid.{client_read}
 use Rattle.rt_wire.proofs.examples.nothing_else_is_said.Goals as goal
@@ -20,6 +20,10 @@ returns c = (
       in omega arith),
   (λ h. let e : 2 ≡ 1 = ap server_number
       (server_read two_entries (DataMerge 1 (entry_at (codes "a") 1 ∷ [])) h) in omega arith),
+  (λ h. let e : 2 ≡ 1 = ap server_number
+      (server_read push_two (Push ((1, entry_at (codes "/a/x") 1 ∷ []) ∷ [])) h) in omega arith),
+  (λ h. let e : 2 ≡ 1 = ap client_number
+      (client_read (codes "{\"k\":\"hello\",\"version\":2}") (Hello 1) h) in omega arith),
   (λ h. let e : true ≡ false = ap is_filtered_by (client_read listen_first
       (Listen 1 (plain (path_keys (codes "/a")))) h) in cc),
 )

@@ -22,13 +22,13 @@ first : List Tagged → ℕ
 first [] = 0
 first (k ∷ ks) = k.tag
 
--- three messages are not one
+-- four messages are not two
 pub returns-clause-listen : goal.returns-clause-listen
 unfolding null of_leaf is_null leaf_at sub put with_children children_alone levels children_of tree_eq
 returns-clause-listen c = λ answer h.
     let m : Moves connected set_a answer noisy = one_step connected set_a answer noisy h in
     let sends : Sends connected set_a noisy = m.sends refl in
-    let same : ◌≡◌ {A = ℕ} 3 1 = ap length sends.outgoing in
+    let same : ◌≡◌ {A = ℕ} 4 2 = ap length sends.outgoing in
     absurd (omega (arith, same))
 
 -- 77 is not 1

@@ -9,6 +9,8 @@ invariant-loop-action l =
           record l.self { tree = tree_after l.self.tree (drop l.action-index l.actions) }
           ≡ record l.initial.self { tree = tree_after l.initial.self.tree l.actions };
       sent :
-          l.sent.items ++ pushes_after l.self.listens l.self.tree (drop l.action-index l.actions)
-          ≡ l.initial.sent.items ++ pushes_after l.initial.self.listens l.initial.self.tree l.actions;
+          l.sent.items
+          ++ pushes_after l.self.newer l.self.listens l.self.tree (drop l.action-index l.actions)
+          ≡ l.initial.sent.items
+          ++ pushes_after l.initial.self.newer l.initial.self.listens l.initial.self.tree l.actions;
     }

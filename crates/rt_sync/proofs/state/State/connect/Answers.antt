@@ -1,5 +1,7 @@
-use Rattle.std.proofs.Common.{◌≡◌, ◌++◌, map, refl, rules, ap}
+use Rattle.std.proofs.Common.{◌≡◌, ◌∷◌, ◌++◌, map, refl, rules, ap}
 use Rattle.rt_cover.specs.State.{shown}
+use Rattle.rt_wire.specs.declared.client.ClientMessage.{ClientMessage}
+use Rattle.rt_wire.specs.declared.limits.TheConstants.{VERSION}
 use Rattle.rt_world.specs.declared.step.Step.{Step}
 use Rattle.rt_world.specs.Messages.{request_message}
 use Rattle.rt_sync.specs.Core.{Held}
@@ -11,7 +13,7 @@ use Rattle.rt_sync.proofs.state.State.connect.Goals as goal
 pub returns-clause-made : goal.returns-clause-made
 returns-clause-made c =
     let state = c.state.inside in
-    let sent : c.send_requests.new.outgoing.items ≡ listens_shown (shown state.cover) ++ map request_message state.requests = search rules in
+    let sent : c.send_requests.new.outgoing.items ≡ ClientMessage.Hello VERSION ∷ (listens_shown (shown state.cover) ++ map request_message state.requests) = search rules in
     along state.limits state.listeners.listeners state.requests state.brought state.cover state.is_connected state.outgoing.items state.given_listeners state.given_requests
     (c.args.self).world (ap (λ (h : Held). h.world) c.state.view_is) Step.Connected _ (λ d. connect_made state.limits state.listeners.listeners state.requests state.brought state.cover state.is_connected state.outgoing.items state.given_listeners state.given_requests c.connection_law.ensures.connected d c.send_requests.new.outgoing.items sent _ refl c.new-notes.ensures.items) c.requires.due
 

@@ -26,10 +26,11 @@ returns-clause-made c =
     listen_made state.limits state.listeners.listeners state.requests state.brought state.cover state.is_connected state.outgoing.items state.given_listeners state.given_requests
     c.listened_law.ensures.listen c.state.invariant c.args.seat c.args.query d
     c.cover_new.new.cover covers
-    c.add.new.self.listeners (c.in_ok-add.ensures.listeners ∙ ap (λ ws. state.listeners.listeners ++ renewed state.brought ws (new_listener (state.given_listeners + 1) c.args.seat c.args.query) ∷ []) pend)
+    c.register.new.self c.in_ok-register.ensures.ok
+    c.add.new.self.listeners (c.in_ok-add.ensures.listeners ∙ ap (λ ws. state.listeners.listeners ++ renewed c.register.new.self ws (new_listener (state.given_listeners + 1) c.args.seat c.args.query) ∷ []) pend)
     c.in_ok-delta.delta delta
     c.send_change.new.outgoing.items c.in_ok-send_change.ensures _ refl
-    (c.in_ok-add.ensures.notes ∙ (λ i. c.new-notes.ensures.items i ++ option_to_list (told state.brought (pend i) (new_listener (state.given_listeners + 1) c.args.seat c.args.query))))) c.requires
+    (c.in_ok-add.ensures.notes ∙ (λ i. c.new-notes.ensures.items i ++ option_to_list (told c.register.new.self (pend i) (new_listener (state.given_listeners + 1) c.args.seat c.args.query))))) c.requires
 
 pub invariant_of-state : goal.invariant_of-state
 invariant_of-state c =
@@ -42,14 +43,15 @@ invariant_of-state c =
     let covers : c.cover_new.new.cover ≡ added state.cover (state.given_listeners + 1) c.args.query = c.in_ok-delta.ensures.cover ∙ ap (added state.cover (state.given_listeners + 1)) same in
     let delta : c.in_ok-delta.delta ≡ difference state.cover (added state.cover (state.given_listeners + 1) c.args.query) = c.in_ok-delta.ensures.delta ∙ ap (λ q. difference state.cover (added state.cover (state.given_listeners + 1) q)) same in
     let said : Told = record { given = Some (state.given_listeners + 1); notes = c.add.new.notes } in
-    let made : IsNext old s (world_of state.limits c.add.new.self.listeners state.requests state.brought c.cover_new.new.cover state.is_connected c.send_change.new.outgoing.items (state.given_listeners + 1) state.given_requests, said) =
+    let made : IsNext old s (world_of state.limits c.add.new.self.listeners state.requests c.register.new.self c.cover_new.new.cover state.is_connected c.send_change.new.outgoing.items (state.given_listeners + 1) state.given_requests, said) =
     listen_made state.limits state.listeners.listeners state.requests state.brought state.cover state.is_connected state.outgoing.items state.given_listeners state.given_requests
     c.listened_law.ensures.listen c.state.invariant c.args.seat c.args.query d
     c.cover_new.new.cover covers
-    c.add.new.self.listeners (c.in_ok-add.ensures.listeners ∙ ap (λ ws. state.listeners.listeners ++ renewed state.brought ws (new_listener (state.given_listeners + 1) c.args.seat c.args.query) ∷ []) pend)
+    c.register.new.self c.in_ok-register.ensures.ok
+    c.add.new.self.listeners (c.in_ok-add.ensures.listeners ∙ ap (λ ws. state.listeners.listeners ++ renewed c.register.new.self ws (new_listener (state.given_listeners + 1) c.args.seat c.args.query) ∷ []) pend)
     c.in_ok-delta.delta delta
     c.send_change.new.outgoing.items c.in_ok-send_change.ensures said refl
-    (c.in_ok-add.ensures.notes ∙ (λ i. c.new-notes.ensures.items i ++ option_to_list (told state.brought (pend i) (new_listener (state.given_listeners + 1) c.args.seat c.args.query)))) in
+    (c.in_ok-add.ensures.notes ∙ (λ i. c.new-notes.ensures.items i ++ option_to_list (told c.register.new.self (pend i) (new_listener (state.given_listeners + 1) c.args.seat c.args.query)))) in
     tied_next c.following_law.ensures.cover old s d.good.sound c.cover_new.new.cover _
     (covers ∙ added_is state.limits state.listeners.listeners state.requests state.brought state.cover state.is_connected state.outgoing.items state.given_listeners state.given_requests c.state.invariant c.args.seat c.args.query)
     made.world
@@ -62,9 +64,9 @@ returns-clause-views c =
       seat = c.args.seat;
       more = refl;
       adds = record {
-        listeners = c.in_ok-add.ensures.listeners ∙ ap (λ ws. state.listeners.listeners ++ renewed state.brought ws (new_listener (state.given_listeners + 1) c.args.seat c.args.query) ∷ []) pend
-            ∙ (λ i. ((c.state.view_is i).world).listeners ++ renewed state.brought (pending state.requests) (new_listener ((c.state.view_is i).world).next_listener c.args.seat c.args.query) ∷ []);
-        views = c.in_ok-add.ensures.views ∙ ap (λ ws. state.listeners.views ++ first_view_of state.brought ws c.args.query ∷ []) pend
-            ∙ (λ i. (c.state.view_is i).views ++ first_view_of state.brought (pending state.requests) c.args.query ∷ []);
+        listeners = c.in_ok-add.ensures.listeners ∙ ap (λ ws. state.listeners.listeners ++ renewed c.register.new.self ws (new_listener (state.given_listeners + 1) c.args.seat c.args.query) ∷ []) pend
+            ∙ (λ i. ((c.state.view_is i).world).listeners ++ renewed c.register.new.self (pending state.requests) (new_listener ((c.state.view_is i).world).next_listener c.args.seat c.args.query) ∷ []);
+        views = c.in_ok-add.ensures.views ∙ ap (λ ws. state.listeners.views ++ first_view_of c.register.new.self ws c.args.query ∷ []) pend
+            ∙ (λ i. (c.state.view_is i).views ++ first_view_of c.register.new.self (pending state.requests) c.args.query ∷ []);
       };
     }

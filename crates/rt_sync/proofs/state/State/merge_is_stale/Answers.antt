@@ -1,13 +1,10 @@
-use Rattle.std.proofs.Common.{true, sym, ap, ◌∙◌, Option}
-use Rattle.std.specs.List.{list_all}
-use Rattle.std.specs.Option.{option_copied, option_map_or}
-use Rattle.rt_query.specs.Queries.{Query}
-use Rattle.rt_cache.specs.Brought.{is_without_window}
+use Rattle.std.proofs.Common.{◌≡◌, Bool, true, false, ◌&&◌, refl, sym, ◌∙◌}
+use Rattle.rt_world.specs.steps.Pushing.{is_idle}
 use Rattle.rt_sync.proofs.state.State.merge_is_stale.Goals as goal
 
-pub returns-in-Some : goal.returns-in-Some
-returns-in-Some c =
-    let q : Query = c.in-Some.query.now in
-    c.lack_window.ensures
-    ∙ (λ i. list_all (is_without_window ((c.self.view_is i).world).brought q) (c.as_slice.ensures i))
-    ∙ ap (λ (o : Option Query). option_map_or (λ x. list_all (is_without_window ((c.args.self.now).world).brought x) c.args.entries.now) o true) (sym (ap option_copied c.in-Some.is) ∙ c.listen_of.ensures)
+and_true : (b : Bool) → (b && true) ≡ b
+and_true true = refl
+and_true false = refl
+
+pub returns : goal.returns
+returns c = c.is_idle.ensures ∙ sym (and_true (is_idle (c.args.self.now).world (c.args.tag, c.args.entries.now)))

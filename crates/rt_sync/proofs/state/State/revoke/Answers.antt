@@ -26,22 +26,31 @@ uncover_revoked-requires c =
     ap (λ (v : Cover). revoke_fault v c.args.tag) cover
     ∙ c.covered_law.ensures.revoked (c.args.self).world c.args.tag c.args.why c.requires.not_refused c.requires.not_stale
 
+-- what is brought belongs to the cover that the listen is taken out of
+pub lose-requires : goal.lose-requires
+lose-requires c =
+    let state = c.state.inside in
+    let old : World = world_of state.limits state.listeners.listeners state.requests state.brought state.cover state.is_connected state.outgoing.items state.given_listeners state.given_requests in
+    let s : Step = Step.Revoked c.args.tag c.args.why in
+    let d : IsDue old s = subst (λ (v : Held). IsDue v.world s) (sym c.state.view_is) c.requires in (
+      state.cover,
+      lost_listen state.limits state.listeners.listeners state.requests state.brought state.cover state.is_connected state.outgoing.items state.given_listeners state.given_requests
+          c.sound_law.ensures.next c.following_law.ensures.cover c.state.invariant s d c.uncover_revoked.new.cover
+          (c.in_ok-form.ensures.cover ∙ revoked_is state.limits state.listeners.listeners state.requests state.brought state.cover state.is_connected state.outgoing.items state.given_listeners state.given_requests c.state.invariant c.args.tag c.args.why)
+          c.args.tag c.in_ok-form.ensures.cover c.in_ok-form.form c.in_ok-form.ensures.form c.as_slice.result.now (c.as_slice.ensures ∙ c.in_ok-form.ensures.ended)
+          c.push.new.self.items (c.in_ok-push.ensures.items ∙ (λ i. c.new-ended.ensures.items i ++ c.in_ok-copy.ensures i ∷ [])) c.in_ok-form.delta c.in_ok-form.ensures.delta,
+    )
+
 pub returns-clause-made : goal.returns-clause-made
 returns-clause-made c =
     let state = c.state.inside in
     let ended = map (cancelled_note c.args.why) (filter (λ (l : Listener). query_eq (form l.query) c.in_ok-form.form) state.listeners.listeners) in
-    let lost = λ (d : IsDue (world_of state.limits state.listeners.listeners state.requests state.brought state.cover state.is_connected state.outgoing.items state.given_listeners state.given_requests) (Step.Revoked c.args.tag c.args.why)).
-    lost_listen state.limits state.listeners.listeners state.requests state.brought state.cover state.is_connected state.outgoing.items state.given_listeners state.given_requests
-    c.sound_law.ensures.next c.following_law.ensures.cover c.state.invariant (Step.Revoked c.args.tag c.args.why) d c.uncover_revoked.new.cover
-    (c.in_ok-form.ensures.cover ∙ revoked_is state.limits state.listeners.listeners state.requests state.brought state.cover state.is_connected state.outgoing.items state.given_listeners state.given_requests c.state.invariant c.args.tag c.args.why)
-    c.args.tag c.in_ok-form.ensures.cover c.in_ok-form.form c.in_ok-form.ensures.form c.push.new.self.items
-    (c.in_ok-push.ensures.items ∙ (λ i. c.new-ended.ensures.items i ++ c.in_ok-copy.ensures i ∷ [])) in
     along state.limits state.listeners.listeners state.requests state.brought state.cover state.is_connected state.outgoing.items state.given_listeners state.given_requests
     (c.args.self).world (ap (λ (h : Held). h.world) c.state.view_is) (Step.Revoked c.args.tag c.args.why) _ (λ d.
     revoke_made state.limits state.listeners.listeners state.requests state.brought state.cover state.is_connected state.outgoing.items state.given_listeners state.given_requests
     c.listened_law.ensures.revoked c.state.invariant c.args.tag c.args.why d
     c.in_ok-form.form c.in_ok-form.ensures.form
-    c.uncover_revoked.new.cover c.in_ok-form.ensures.cover c.cancel.new.self.listeners c.in_ok-cancel.ensures.listeners c.lose.new.brought (c.in_ok-lose.ensures state.cover (lost d))
+    c.uncover_revoked.new.cover c.in_ok-form.ensures.cover c.cancel.new.self.listeners c.in_ok-cancel.ensures.listeners c.lose.new.brought c.in_ok-lose.ensures
     c.in_ok-form.delta c.in_ok-form.ensures.delta c.send_change.new.outgoing.items c.in_ok-send_change.ensures _ refl
     (c.in_ok-cancel.ensures.notes ∙ ap (λ ns. ns ++ ended) c.new-notes.ensures.items)) c.requires
 
@@ -49,12 +58,6 @@ pub invariant_of-state : goal.invariant_of-state
 invariant_of-state c =
     let state = c.state.inside in
     let ended = map (cancelled_note c.args.why) (filter (λ (l : Listener). query_eq (form l.query) c.in_ok-form.form) state.listeners.listeners) in
-    let lost = λ (d : IsDue (world_of state.limits state.listeners.listeners state.requests state.brought state.cover state.is_connected state.outgoing.items state.given_listeners state.given_requests) (Step.Revoked c.args.tag c.args.why)).
-    lost_listen state.limits state.listeners.listeners state.requests state.brought state.cover state.is_connected state.outgoing.items state.given_listeners state.given_requests
-    c.sound_law.ensures.next c.following_law.ensures.cover c.state.invariant (Step.Revoked c.args.tag c.args.why) d c.uncover_revoked.new.cover
-    (c.in_ok-form.ensures.cover ∙ revoked_is state.limits state.listeners.listeners state.requests state.brought state.cover state.is_connected state.outgoing.items state.given_listeners state.given_requests c.state.invariant c.args.tag c.args.why)
-    c.args.tag c.in_ok-form.ensures.cover c.in_ok-form.form c.in_ok-form.ensures.form c.push.new.self.items
-    (c.in_ok-push.ensures.items ∙ (λ i. c.new-ended.ensures.items i ++ c.in_ok-copy.ensures i ∷ [])) in
     let old : World = world_of state.limits state.listeners.listeners state.requests state.brought state.cover state.is_connected state.outgoing.items state.given_listeners state.given_requests in
     let s : Step = Step.Revoked c.args.tag c.args.why in
     let d : IsDue old s = subst (λ (v : Held). IsDue v.world s) (sym c.state.view_is) c.requires in
@@ -63,7 +66,7 @@ invariant_of-state c =
     revoke_made state.limits state.listeners.listeners state.requests state.brought state.cover state.is_connected state.outgoing.items state.given_listeners state.given_requests
     c.listened_law.ensures.revoked c.state.invariant c.args.tag c.args.why d
     c.in_ok-form.form c.in_ok-form.ensures.form
-    c.uncover_revoked.new.cover c.in_ok-form.ensures.cover c.cancel.new.self.listeners c.in_ok-cancel.ensures.listeners c.lose.new.brought (c.in_ok-lose.ensures state.cover (lost d))
+    c.uncover_revoked.new.cover c.in_ok-form.ensures.cover c.cancel.new.self.listeners c.in_ok-cancel.ensures.listeners c.lose.new.brought c.in_ok-lose.ensures
     c.in_ok-form.delta c.in_ok-form.ensures.delta c.send_change.new.outgoing.items c.in_ok-send_change.ensures said refl
     (c.in_ok-cancel.ensures.notes ∙ ap (λ ns. ns ++ ended) c.new-notes.ensures.items) in
     tied_next c.following_law.ensures.cover old s d.good.sound c.uncover_revoked.new.cover _

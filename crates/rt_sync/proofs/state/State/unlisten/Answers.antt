@@ -8,32 +8,38 @@ use Rattle.rt_sync.specs.declared.told.Told.{Told}
 use Rattle.rt_sync.specs.inside.Due.{IsDue, IsNext}
 use Rattle.rt_sync.specs.inside.StateView.{world_of}
 use Rattle.rt_sync.proofs.Listened.{removed_is, unlisten_made, tied_next}
-use Rattle.rt_sync.proofs.LostForms.{lost_numbers}
+use Rattle.rt_sync.proofs.LostForms.{lost_numbers, one_rises}
 use Rattle.rt_sync.proofs.NextWorlds.{along}
 use Rattle.std.specs.Prelude.{◌==◌}
 use Rattle.rt_sync.proofs.state.State.unlisten.Goals as goal
 
+-- what is brought belongs to the cover that the listener is taken out of
+pub lose-requires : goal.lose-requires
+lose-requires c =
+    let state = c.state.inside in
+    let old : World = world_of state.limits state.listeners.listeners state.requests state.brought state.cover state.is_connected state.outgoing.items state.given_listeners state.given_requests in
+    let s : Step = Step.Unlisten c.args.seat c.args.listener in
+    let d : IsDue old s = subst (λ (v : Held). IsDue v.world s) (sym c.state.view_is) c.requires in (
+      state.cover,
+      lost_numbers state.limits state.listeners.listeners state.requests state.brought state.cover state.is_connected state.outgoing.items state.given_listeners state.given_requests
+          c.sound_law.ensures.next c.following_law.ensures.cover c.state.invariant s d c.uncover.new.cover
+          (c.in_ok-delta.ensures.cover ∙ removed_is state.limits state.listeners.listeners state.requests state.brought state.cover state.is_connected state.outgoing.items state.given_listeners state.given_requests c.state.invariant c.args.seat c.args.listener)
+          (c.args.listener ∷ []) (one_rises c.args.listener) c.in_ok-delta.ensures.cover c.in_ok-ended.ended.items c.in_ok-ended.ensures c.in_ok-delta.delta c.in_ok-delta.ensures.delta,
+    )
+
 pub returns-clause-made : goal.returns-clause-made
 returns-clause-made c =
     let state = c.state.inside in
-    let lost = λ (d : IsDue (world_of state.limits state.listeners.listeners state.requests state.brought state.cover state.is_connected state.outgoing.items state.given_listeners state.given_requests) (Step.Unlisten c.args.seat c.args.listener)).
-    lost_numbers state.limits state.listeners.listeners state.requests state.brought state.cover state.is_connected state.outgoing.items state.given_listeners state.given_requests
-    c.sound_law.ensures.next c.following_law.ensures.cover c.state.invariant (Step.Unlisten c.args.seat c.args.listener) d c.uncover.new.cover
-    (c.in_ok-delta.ensures.cover ∙ removed_is state.limits state.listeners.listeners state.requests state.brought state.cover state.is_connected state.outgoing.items state.given_listeners state.given_requests c.state.invariant c.args.seat c.args.listener) (c.args.listener ∷ []) c.in_ok-delta.ensures.cover c.in_ok-ended.ended.items c.in_ok-ended.ensures in
     along state.limits state.listeners.listeners state.requests state.brought state.cover state.is_connected state.outgoing.items state.given_listeners state.given_requests
     (c.args.self).world (ap (λ (h : Held). h.world) c.state.view_is) (Step.Unlisten c.args.seat c.args.listener) _ (λ d.
     unlisten_made state.limits state.listeners.listeners state.requests state.brought state.cover state.is_connected state.outgoing.items state.given_listeners state.given_requests
     c.listened_law.ensures.unlisten c.state.invariant c.args.seat c.args.listener d
-    c.uncover.new.cover c.in_ok-delta.ensures.cover c.remove.new.self.listeners c.remove.ensures.listeners c.lose.new.brought (c.in_ok-lose.ensures state.cover (lost d))
+    c.uncover.new.cover c.in_ok-delta.ensures.cover c.remove.new.self.listeners c.remove.ensures.listeners c.lose.new.brought c.in_ok-lose.ensures
     c.in_ok-delta.delta c.in_ok-delta.ensures.delta c.send_change.new.outgoing.items c.in_ok-send_change.ensures _ refl c.new-notes.ensures.items) c.requires
 
 pub invariant_of-state : goal.invariant_of-state
 invariant_of-state c =
     let state = c.state.inside in
-    let lost = λ (d : IsDue (world_of state.limits state.listeners.listeners state.requests state.brought state.cover state.is_connected state.outgoing.items state.given_listeners state.given_requests) (Step.Unlisten c.args.seat c.args.listener)).
-    lost_numbers state.limits state.listeners.listeners state.requests state.brought state.cover state.is_connected state.outgoing.items state.given_listeners state.given_requests
-    c.sound_law.ensures.next c.following_law.ensures.cover c.state.invariant (Step.Unlisten c.args.seat c.args.listener) d c.uncover.new.cover
-    (c.in_ok-delta.ensures.cover ∙ removed_is state.limits state.listeners.listeners state.requests state.brought state.cover state.is_connected state.outgoing.items state.given_listeners state.given_requests c.state.invariant c.args.seat c.args.listener) (c.args.listener ∷ []) c.in_ok-delta.ensures.cover c.in_ok-ended.ended.items c.in_ok-ended.ensures in
     let old : World = world_of state.limits state.listeners.listeners state.requests state.brought state.cover state.is_connected state.outgoing.items state.given_listeners state.given_requests in
     let s : Step = Step.Unlisten c.args.seat c.args.listener in
     let d : IsDue old s = subst (λ (v : Held). IsDue v.world s) (sym c.state.view_is) c.requires in
@@ -41,7 +47,7 @@ invariant_of-state c =
     let made : IsNext old s (world_of state.limits c.remove.new.self.listeners state.requests c.lose.new.brought c.uncover.new.cover state.is_connected c.send_change.new.outgoing.items state.given_listeners state.given_requests, said) =
     unlisten_made state.limits state.listeners.listeners state.requests state.brought state.cover state.is_connected state.outgoing.items state.given_listeners state.given_requests
     c.listened_law.ensures.unlisten c.state.invariant c.args.seat c.args.listener d
-    c.uncover.new.cover c.in_ok-delta.ensures.cover c.remove.new.self.listeners c.remove.ensures.listeners c.lose.new.brought (c.in_ok-lose.ensures state.cover (lost d))
+    c.uncover.new.cover c.in_ok-delta.ensures.cover c.remove.new.self.listeners c.remove.ensures.listeners c.lose.new.brought c.in_ok-lose.ensures
     c.in_ok-delta.delta c.in_ok-delta.ensures.delta c.send_change.new.outgoing.items c.in_ok-send_change.ensures said refl c.new-notes.ensures.items in
     tied_next c.following_law.ensures.cover old s d.good.sound c.uncover.new.cover _
     (c.in_ok-delta.ensures.cover ∙ removed_is state.limits state.listeners.listeners state.requests state.brought state.cover state.is_connected state.outgoing.items state.given_listeners state.given_requests c.state.invariant c.args.seat c.args.listener)

@@ -10,6 +10,6 @@ drop_all (suc i) [] h = refl
 drop_all zero (x ∷ xs) h = absurd (omega arith)
 drop_all (suc i) (x ∷ xs) h = drop_all i xs (omega arith)
 
-pub returns : goal.returns
-returns c =
-    sym (ap (fold (push c.args.query.now) c.loop-entry.brought) (drop_all c.loop-entry.entry-index c.args.entries.now c.loop-entry-test.false)) ∙ c.loop-entry.invariant
+pub returns-clause-pushed : goal.returns-clause-pushed
+returns-clause-pushed c =
+    sym (ap (fold (push c.args.query.now) c.loop-entry.brought) (drop_all c.loop-entry.entry-index c.args.entries.now c.loop-entry-test.false)) ∙ c.loop-entry.invariant.0

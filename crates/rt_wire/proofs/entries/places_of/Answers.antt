@@ -5,7 +5,7 @@ use Rattle.rt_wire.specs.EntryFields.{places_of}
 use Rattle.rt_wire.specs.Fields.{path_of_text}
 use Rattle.rt_wire.specs.inside.Places.{places}
 use Rattle.rt_wire.proofs.Places.{places-more}
-use Rattle.rt_wire.proofs.entries.places.Goals as goal
+use Rattle.rt_wire.proofs.entries.places_of.Goals as goal
 
 pub loop-name-preserved : goal.loop-name-preserved
 loop-name-preserved c =
