@@ -41,6 +41,3 @@ pub use linked::{Bell, Linked};
 pub use lost::Lost;
 pub use taking::{Passed, take_all, take_batch};
 pub use wire::{Flushed, Heard, Said, Wire};
-
-#[cfg(test)]
-mod tests;

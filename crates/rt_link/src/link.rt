@@ -1,6 +1,7 @@
 // What runs a client's connections, one after another.
 ghost use Rattle.std.specs.Prelude.{◌≡◌, ◌≤◌, IfOk, OnOk};
 ghost use Rattle.rt_link.specs.Carrying.{IsLeft, begun, Gone};
+ghost use Rattle.rt_link.specs.inside.Counts.{counted};
 ghost use Rattle.rt_link.specs.Turning.{next};
 
 use crate::connection::{Connection, Turn};
@@ -141,9 +142,10 @@ impl Link {
         Ok(())
     }
 
-    // So many more messages were passed over.
+    // So many more messages were passed over, as far as the count goes.
     fn note(&mut self, passed: usize)
-        ensures { self.old ≤ self.new }
+        ensures counted { self.new ≡ counted self.old passed }
+        ensures grown { self.old ≤ self.new }
     {
         self.passed_over = self.passed_over.saturating_add(passed as u64);
     }

@@ -1,7 +1,7 @@
-// What no clause says: that a wire which has memory is read, and takes texts.
+// What no clause of a wire says: that with memory it is read, and takes texts.
 ghost use Rattle.std.specs.Prelude.{None, Some, map, string_bytes};
 
-use crate::{Flushed, Heard, Lost, Pause, Said, Wire, hear_all, say_all};
+use rt_link::{Flushed, Heard, Lost, Pause, Said, Wire, hear_all, say_all};
 use rt_wire::{ClientMessage, WireError};
 use std::alloc::{AllocError, Global};
 use std::collections::VecDeque;
