@@ -7,7 +7,7 @@ import time
 
 import websockets
 from common import (
-    MIB, MOST, SECONDS, Wrong, data, listen, merge, must, no, ok, padded, parts, put, revoke, shown, texts_of,
+    MIB, MOST, SECONDS, Wrong, data, hello, listen, merge, must, no, ok, padded, parts, push, put, revoke, shown, texts_of,
 )
 
 HEAD = 14  # how many bytes a client's long frame has before its text
@@ -202,6 +202,19 @@ async def merges(served):
         await it.ask(merge(4, '{"/a/v":1,"/a/v/u":2}'), no(4, "bad"))
         await it.ask(merge(5, '{"/a/v":1,"a/v/":1}'), no(5, "bad"))
         await it.ask(listen("/", 2), data("/", 2, '{"a":{"v":0}}'))
+
+
+@case("a client that says version 2 is sent what a write brings to two listens as one push")
+async def versions(served):
+    async with Speaker(served) as it:
+        await it.ask(hello(2))
+        await it.nothing_more()
+        await it.ask(listen("/a", 1), data("/a", 1, "null"))
+        await it.ask(listen("/b", 2), data("/b", 2, "null"))
+        await it.ask(merge(1, '{"/a/x":1,"/b/y":2}'), push((1, '{"/a/x":1}'), (2, '{"/b/y":2}')), ok(1))
+        await it.ask(put(2, "/a/x", 3), data("/a/x", 1, 3), ok(2))
+        await it.ask(hello(1))
+        await it.ask(merge(3, '{"/a/x":4,"/b/y":5}'), data("/a/x", 1, 4), data("/b/y", 2, 5), ok(3))
 
 
 SCORES = '{"s":{"ann":{"n":9},"bob":{"n":7},"cid":{"n":5}}}'

@@ -19,6 +19,13 @@ def must(what, got, wanted):
         raise Wrong(f"{what} is {shown(got)}, not {shown(wanted)}")
 
 
+def hello(version):
+    return f'{{"k":"hello","version":{version}}}'
+
+
+HELLO = hello(2)  # what kaltewi begins a connection with
+
+
 def listen(path, tag, query=""):
     return f'{{"k":"listen","path":"{path}",{query}"tag":{tag}}}'
 
@@ -33,6 +40,12 @@ def merge(number, entries, kind="merge"):
 
 def data(path, tag, value):
     return f'{{"k":"data","path":"{path}","tag":{tag},"value":{value}}}'
+
+
+def push(*parts):
+    """A push of parts, each a tag and its entries."""
+    texts = (f'{{"entries":{entries},"tag":{tag}}}' for tag, entries in parts)
+    return f'{{"k":"push","parts":[{",".join(texts)}]}}'
 
 
 def ok(number):

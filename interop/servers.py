@@ -4,7 +4,7 @@ import os
 import shutil
 import subprocess
 
-from common import MIB, MOST, SECONDS, Wrong, data, listen, must, no, ok, parts, put, revoke, texts_of
+from common import HELLO, MIB, MOST, SECONDS, Wrong, data, listen, must, no, ok, parts, push, put, revoke, texts_of
 
 HERE = os.path.dirname(os.path.realpath(__file__))
 HEAD = 10  # how many bytes a server's long frame has before its text
@@ -18,10 +18,10 @@ CASES = []
 
 class Case:
     """A case with its name, the library of its server, the lines of `connect` and what it prints, and the
-    steps of the server, which interop/server.py explains."""
+    steps of the server behind the client's first message, which interop/server.py explains."""
 
     def __init__(self, name, library, lines, out, steps):
-        self.name, self.library, self.steps = f"connect, {library}: {name}", library, steps
+        self.name, self.library, self.steps = f"connect, {library}: {name}", library, [hear(HELLO), *steps]
         self.lines, self.out = "".join(f"{it}\n" for it in lines), "".join(f"{it}\n" for it in out)
 
     def why_wrong(self, program):
@@ -111,6 +111,18 @@ case(
     send(ok(1)),
     send(no(2, "denied")),
     send(revoke(1)),
+    CLOSED,
+)
+
+case(
+    "a push on two listens is one step",
+    [LISTEN, '["listen",2,"/b",[]]', read(3)],
+    ["done 1", "done 2", *IS_ONE, "done", "L2 value null", "done", "L1 value 2", 'L2 added "y" 3 after none', 'L2 value {"y":3}'],
+    HEAR,
+    hear(listen("/b", 2)),
+    send(ONE),
+    send(data("/b", 2, "null")),
+    send(push((1, '{"/a":2}'), (2, '{"/b/y":3}'))),
     CLOSED,
 )
 

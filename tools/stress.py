@@ -22,7 +22,7 @@ STEPS, CHANGES = 20_000, 1_000  # the least steps in it, and the least changes f
 SECONDS = 600  # the longest that a run may take
 SERVER = 0  # the place of the thread that is the server
 BETWEEN = '["view",0]'  # asks for the view of no listener, which is refused
-KINDS = "set update remove listen unlisten onDisconnect close data merge ok no revoke connected disconnected".split()
+KINDS = "set update remove listen unlisten onDisconnect close data merge parts ok no revoke connected disconnected".split()
 
 
 class Thread:

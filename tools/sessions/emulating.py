@@ -14,7 +14,7 @@ from cutting import Saying, Wrong, begun, ended, must
 from frames import BINARY, CLOSE, CLOSED, FIRST_PART, PART, PING, PONG, SECONDS, TEXT, Client, compact, free_port
 from leaving import closes, half_closes, resets
 from lines import ROW, ROW_OUT
-from serving import BROKEN
+from serving import BROKEN, hello, merge, push, told_apart
 from session import stop
 
 LISTEN = {"k": "listen", "path": "/a", "tag": 1}
@@ -154,6 +154,24 @@ def strays_are_told(program, _room):
         must("how it ends", it.end(), (0, b""))
         for part in ("passed over: 1 NotJson", "a binary message is passed over", "passed over: 4 BadTree", '"k":"no"', '"k":"revoke"'):
             it.tells("connection 1", part, seconds=1)
+
+
+def versions_are_kept_apart(program, _room):
+    """What a write brings to two listens is one push for a client of version 2, and comes apart for one of version 1, also at an end."""
+    with Emulator(program) as it:
+        two, one, other = (Client(it.port) for _ in range(3))
+        must("what answers a version", two.ask(hello(2), 0), [])
+        for client in (two, one):
+            must("a listen", client.ask(LISTEN, 1), [data("/a", None)])
+            must("another listen", client.ask({**LISTEN, "path": "/b", "tag": 2}, 1), [data("/b", None, 2)])
+        must("a write on both", other.ask(merge(1, 1, 2), 1), [ok(1)])
+        must("what version 2 is sent", two.text(), push((1, {"/a/x": 1}), (2, {"/b": 2})))
+        must("what version 1 is sent", [one.text(), one.text()], told_apart(1, 2))
+        must("what is asked for the end", other.ask({**merge(2, 3, 4), "k": "od-merge"}, 1), [ok(2)])
+        resets(other)
+        must("what version 2 is sent of the end", two.text(), push((1, {"/a/x": 3}), (2, {"/b": 4})))
+        must("what version 1 is sent of the end", [one.text(), one.text()], told_apart(3, 4))
+        must("how it ends", it.end(), (0, b""))
 
 
 def broken_ones_are_told_why(program, _room):
@@ -446,6 +464,7 @@ def thousand_clients(program, _room, count=1_000):
 SESSIONS = [
     clients_see_each_other,
     strays_are_told,
+    versions_are_kept_apart,
     broken_ones_are_told_why,
     origins_are_asked_for,
     writers_that_go_are_heard,

@@ -93,7 +93,7 @@ class Server:
         self.listener = socket.create_server(("127.0.0.1", 0))
         self.listener.settimeout(SECONDS)
         self.port = self.listener.getsockname()[1]
-        self.socket, self.masks = None, []
+        self.socket, self.masks, self.is_greeted = None, [], False
 
     def close(self):
         self.listener.close()

@@ -2,7 +2,7 @@
 import base64
 
 from frames import BINARY, frame, text
-from session import data, hears, leaves, listen, no, ok, put, sent, session, unlisten
+from session import data, hears, leaves, listen, no, ok, push, put, sent, session, unlisten
 
 NO_SEAT = "refused client 2 WrongSeat\n"
 
@@ -30,7 +30,7 @@ def a_write(server):
     yield hears(server, put(1, "/a/x", 5))
     server.send(data("/a/x", 1, 5), ok(1))
     yield from leaves(server)
-    yield "how many masks differ", len(set(server.masks)), 3
+    yield "how many masks differ", len(set(server.masks)), 4
 
 
 EACH_LINE = r"""["listen",1,"/a",[]]
@@ -159,6 +159,36 @@ def several_seats(server):
     yield from leaves(server)
 
 
+BOTH_LINES = """["listen",1,"/a",[]]
+["listen",2,"/b",[]]
+["read",2]
+["read",3]
+"""
+BOTH_OUT = """done 1
+done 2
+done
+L1 value null
+done
+L2 value null
+done
+L1 added "x" 1 after none
+L1 value {"x":1}
+L2 value 2
+stale
+refused core 8 BadPush
+"""
+
+
+@session(BOTH_LINES, BOTH_OUT)
+def push_on_two_listens(server):
+    """A push on two listens is one step; one on no kept listen comes too late, and one outside its listen is refused."""
+    server.welcome()
+    yield hears(server, listen("/a", 1), listen("/b", 2))
+    server.send(data("/a", 1, None), data("/b", 2, None), push((1, {"/a/x": 1}), (2, {"/b": 2})))
+    server.send(push((7, {"/a/x": 3})), push((1, {"/a/x": 3}), (2, {"/c": 4})))
+    yield from leaves(server)
+
+
 NINE = "18446744073709551615"
 SEATS = "".join(f'["listen",{seat},"/s",[]]\n' for seat in [*range(1, 10), NINE])
 SEATS += f"""["set",9,"/s",1]
@@ -224,6 +254,7 @@ BAD_LINES = [
     '["disconnected"]',
     '["data",1,"/a",1]',
     '["merge",1,{"/a":1}]',
+    '["parts",[[1,{"/a":1}]]]',
     '["ok",1]',
     '["no",1,"denied"]',
     '["revoke",1,"denied"]',

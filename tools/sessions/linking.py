@@ -7,7 +7,7 @@ import subprocess
 from cutting import Wrong, must
 from frames import Server
 from rows import builds_of
-from session import data, listen, ok, sent, stop
+from session import HELLO, data, listen, ok, sent, stop
 from talking import Talker
 
 EMPTY, PLAYED, ANSWERED = "... ... ...  x plays", "... .x. ...  o plays", "o.. .x. ...  x plays"
@@ -20,9 +20,9 @@ def move(number, square):
 
 
 def come(server, game):
-    """The client comes, asks for the game, and is told it."""
+    """The client comes, says its version, asks for the game, and is told it."""
     server.welcome()
-    must("what is listened to", server.hear(), listen("/game", 1))
+    must("what the client begins with", server.hear_all(2), [HELLO, listen("/game", 1)])
     server.send(data("/game", 1, game))
 
 

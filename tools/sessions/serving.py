@@ -58,6 +58,48 @@ def strays(port):
     client.socket.close()
 
 
+def hello(version):
+    return {"k": "hello", "version": version}
+
+
+def push(*parts):
+    """A push of parts, each a tag and its entries."""
+    return (TEXT, {"k": "push", "parts": [{"entries": entries, "tag": tag} for tag, entries in parts]})
+
+
+def merge(number, first, second):
+    """A write of two values at the paths of two listens."""
+    return {"entries": {"/a/x": first, "/b": second}, "id": number, "k": "merge"}
+
+
+def ok(number):
+    return (TEXT, {"id": number, "k": "ok"})
+
+
+def told_apart(first, second):
+    """What two listens are sent, each by itself."""
+    return [(TEXT, {"k": "data", "path": path, "tag": tag, "value": it}) for path, tag, it in (("/a/x", 1, first), ("/b", 2, second))]
+
+
+def versions(port):
+    """What a write brings to two listens comes as one push to a client that says version 2, and apart where it says 1 last, or none."""
+    client = Client(port)
+    yield "the version, and a listen", (client.ask(hello(2), 0), client.ask(LISTEN, 1)), ([], [data(None)])
+    yield "another listen", client.ask({**LISTEN, "path": "/b", "tag": 2}, 1), [(TEXT, {"k": "data", "path": "/b", "tag": 2, "value": None})]
+    yield "a write on both", client.ask(merge(1, 1, 2), 2), [push((1, {"/a/x": 1}), (2, {"/b": 2})), ok(1)]
+    yield "a write on one", client.ask({**PUT, "id": 2}, 2), [data(5), ok(2)]
+    client.ask(hello(1), 0)
+    yield "a write once version 1 is said", client.ask(merge(3, 3, 4), 3), [*told_apart(3, 4), ok(3)]
+    client.ask(hello(9_007_199_254_740_991), 0)
+    yield "a write once a later version is said", client.ask(merge(4, 5, 6), 2), [push((1, {"/a/x": 5}), (2, {"/b": 6})), ok(4)]
+    yield "a close", client.close(), CLOSED
+    client = Client(port)
+    yield "a listen that is all", client.ask({**LISTEN, "path": "/b", "tag": 2}, 1), [(TEXT, {"k": "data", "path": "/b", "tag": 2, "value": 6})]
+    yield "the other listen", client.ask(LISTEN, 1), [data({"x": 5})]
+    yield "a write where no version is said", client.ask(merge(1, 7, 8), 3), [*told_apart(7, 8), ok(1)]
+    yield "the second close", client.close(), CLOSED
+
+
 # Frames that break the protocol, and the code of the close that they are answered by (RFC 6455, section 7.4.1).
 NO_MASK, MASK = b"", bytes(4)
 BROKEN = {
@@ -93,6 +135,7 @@ TOLD = {
         "connection 1: a binary message is passed over: 1 NotJson",
         "connection 1 ends: the client closed it with 4000",
     ],
+    versions: [BEGINS, CLOSED_IT, BEGINS, CLOSED_IT],
     breaks: [line for _, code in BROKEN.values() for line in (BEGINS, f"connection 1 ends: ..; it is closed with {code}")],
 }
 
@@ -138,6 +181,7 @@ def wrong_of(programs):
         wrong.append(session(program, 1, ["--tree", '{"a":{"b":1}}', "--deny", "/s"], denied_client))
         wrong.append(session(program, 2, [], no_handshake))
         wrong.append(session(program, 1, [], strays))
+        wrong.append(session(program, 2, [], versions))
         wrong.append(session(program, len(BROKEN), [], breaks))
         wrong.append(taken_port(program))
-    return [it for it in wrong if it], (8 + len(BROKEN)) * len(programs)
+    return [it for it in wrong if it], (10 + len(BROKEN)) * len(programs)

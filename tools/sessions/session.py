@@ -99,6 +99,9 @@ def sent(message):
     return TEXT, compact(message).encode()
 
 
+HELLO = sent({"k": "hello", "version": 2})
+
+
 def listen(path, tag, **query):
     return sent({"k": "listen", "path": path, "tag": tag, **query})
 
@@ -115,6 +118,11 @@ def data(path, tag, value):
     return text({"k": "data", "path": path, "tag": tag, "value": value})
 
 
+def push(*parts):
+    """A push of parts, each a tag and its entries."""
+    return text({"k": "push", "parts": [{"entries": entries, "tag": tag} for tag, entries in parts]})
+
+
 def ok(number):
     return text({"id": number, "k": "ok"})
 
@@ -124,7 +132,10 @@ def no(number, why):
 
 
 def hears(server, *frames):
-    return "what the client sends", server.hear_all(len(frames)), list(frames)
+    """What the client sends; before anything else of a connection, its version."""
+    wanted = list(frames) if server.is_greeted else [HELLO, *frames]
+    server.is_greeted = True
+    return "what the client sends", server.hear_all(len(wanted)), wanted
 
 
 def leaves(server):
@@ -151,6 +162,7 @@ def goes(server, *sent):
     heard = []
     while (it := server.hear()) not in (None, GOODBYE):
         heard.append(it)
-    yield "what comes of one who ends by a fault", heard, list(sent)[: len(heard)]
+    wanted = list(sent) if server.is_greeted else [HELLO, *sent]
+    yield "what comes of one who ends by a fault", heard, wanted[: len(heard)]
     server.send(CLOSED)
     yield "what comes behind its close", server.hear(), None

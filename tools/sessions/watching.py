@@ -13,7 +13,7 @@ from connecting import READ_FAULT, WRITE_FAULT
 from cutting import Wrong, must
 from emulating import Emulator, asked, ok, put, shown
 from frames import BINARY, CLOSE, PING, SECONDS, Client, Server, frame, free_port, text
-from session import broken, listen, stop
+from session import HELLO, broken, listen, stop
 from session import data as pushed
 from session import ok as accepted
 from session import put as wrote
@@ -243,7 +243,7 @@ def a_server_is_heard(program):
     with Watch(program, server.port, "-v", lines=LISTENS) as one:
         try:
             server.welcome()
-            must("what the client sends", server.hear(), listen("/a", 1))
+            must("what the client sends", server.hear_all(2), [HELLO, listen("/a", 1)])
             server.send(text("{}"), frame(BINARY, "x"), accepted(7), pushed("/a", 1, {"x": 1}), frame(PING, "hi"))
             must("what answers a ping", server.hear()[1], b"hi")
             one.prints("a listen", "done 1\n")
@@ -305,7 +305,7 @@ def serve_listen(server):
     """Serves a client that listens, as far as it comes."""
     try:
         server.welcome()
-        if server.hear():
+        if server.hear_all(2)[1]:  # its version, and its listen
             server.send(pushed("/a", 1, {"x": 5}), frame(CLOSE, b"\x03\xe8"))
             server.hear()
     except (OSError, ValueError, TypeError, struct.error):
