@@ -48,8 +48,8 @@ pub fn asked_law()
     ensures above { NextIsAbovePending }
 {}
 
-/// A connection that opens sends the version and all that is kept and unsettled; one that ends drops what is to be
-/// sent.
+/// A connection that opens sends the version and all that is kept and unsettled; one that ends drops
+/// what is to be sent.
 pub fn connection_law()
     ensures connected { ConnectedIsMade }
     ensures disconnected { DisconnectedIsMade }

@@ -26,7 +26,7 @@ use rt_world::{CoreError, brought_law, push_law, pushed_law, stay_law, touch_law
 use rt_writes::Entries;
 use std::alloc::{AllocError, Global};
 
-// Of more parts than these the tags are sorted, so that no push takes quadratic time.
+// Of more parts than these the tags are sorted, where there is memory for a list of them.
 const MAX_UNSORTED: usize = 64;
 
 // Whether all these entries sit at or under the path.
