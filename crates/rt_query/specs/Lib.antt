@@ -1,8 +1,8 @@
 -- What a reader must believe, in reading order: Queries (what a query is), Drafts (a query that is
 -- being made), Bounds (what a bound sets), Calls (the calls on a draft, and when they are refused),
 -- Errors (their numbers and names), Select (what a query shows of a tree), Rows (rows and their
--- keys), Supply (which listen supplies which query), Needed (the fewest that supply all), Apart (that
--- plain ones stand apart), Ranges (which ranges take in others) and QueryEq (when queries and views
+-- keys), Ranges (which ranges take in others), Supply (which listen supplies which query), Needed (the
+-- fewest that supply all), Apart (that plain ones stand apart) and QueryEq (when queries and views
 -- are equal). laws/ has laws that are stated for callers, the lemmas that crates above cite, and
 -- outside examples; inside/ what only the representation needs.
 pub mod Apart

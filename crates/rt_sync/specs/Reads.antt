@@ -1,10 +1,11 @@
 -- How many children of its views a step takes anew.
-use Rattle.std.specs.Prelude.{◌≡◌, ◌≤◌, ◌==◌, ℕ, ◌+◌, ◌%◌, ◌^◌, ◌⊎◌, if◌then◌else◌, length}
+use Rattle.std.specs.Prelude.{◌≡◌, ◌≤◌, ◌==◌, ◌||◌, ℕ, ◌+◌, ◌%◌, ◌^◌, ◌⊎◌, if◌then◌else◌, length}
 use Rattle.std.specs.Prelude.{Option, Some, None}
 use Rattle.std.specs.List.{All, find, zip}
 use Rattle.std.specs.Option.{option_and_then, option_map}
 use Rattle.rt_tree.specs.Children.{children_of}
 use Rattle.rt_query.specs.Queries.{Query}
+use Rattle.rt_cache.specs.Recover.{is_moved}
 use Rattle.rt_view.specs.Views.{View, shown_of}
 use Rattle.rt_world.specs.declared.step.Step.{Step}
 use Rattle.rt_world.specs.World.{Listener, World}
@@ -17,11 +18,11 @@ view_held h number =
     option_and_then (λ p. p.1) (find (λ p. p.0.number == number) (zip h.world.listeners h.views))
 
 -- how many children a step may take anew that leads from one world to another: where an entry of it
--- sits at or above the query's path, all that were seen and all that are seen; else those that its
--- entries name
+-- sits at or above the query's path, or the query is moved, all that were seen and all that are seen;
+-- else those that its entries name
 abbrev pub most_read : World → Step → World → Query → ℕ
 most_read w s v q =
-    if is_covered q.path (entries_by w s)
+    if is_covered q.path (entries_by w s) || is_moved w.brought v.brought q
     then length (children_of (seen w q)) + length (children_of (seen v q))
     else length (children_named q.path (entries_by w s))
 

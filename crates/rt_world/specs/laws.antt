@@ -6,6 +6,7 @@ pub mod Holds
 pub mod Listened
 pub mod Made
 pub mod Makes
+pub mod Ranges
 pub mod Refused
 pub mod Script
 pub mod Steps

@@ -4,10 +4,12 @@ use Rattle.rt_tree.specs.Leaf.{number}
 use Rattle.rt_tree.specs.Path.{path_keys}
 use Rattle.rt_tree.specs.PathTree.{Path, PathTree, null, of_leaf, object}
 use Rattle.rt_query.specs.declared.limit.Limit.TheVariants.{First}
+use Rattle.rt_query.specs.Drafts.{finished}
 use Rattle.rt_query.specs.Queries.{Query, plain}
+use Rattle.rt_query.specs.laws.Examples.{between}
 use Rattle.rt_cache.specs.Brought.{Brought, nothing_brought, base, base_child, knows, push}
-use Rattle.rt_cache.specs.Brought.{is_without_window}
-use Rattle.rt_cache.specs.Recover.{recover}
+use Rattle.rt_cache.specs.Brought.{with_form, is_without_window}
+use Rattle.rt_cache.specs.Recover.{recover, is_moved, without_places}
 use Rattle.rt_cache.specs.Runs.{after_all, taken_all}
 use Rattle.rt_cache.specs.declared.run.Call.{Call}
 use Rattle.rt_cache.specs.declared.run.Call.TheVariants.{Put, Recover}
@@ -109,7 +111,8 @@ ListedAlike = windows_pushed (first_at 1 (codes "/a")) (first_at 2 (codes "/a"))
 
 -- a leaf leaves a window without children
 abbrev pub leaf_pushed : Brought
-leaf_pushed = push (first_at 2 (codes "/a")) nothing_brought (at (codes "/a"), num 7)
+leaf_pushed = push (first_at 2 (codes "/a")) (with_form (first_at 2 (codes "/a")) nothing_brought)
+    (at (codes "/a"), num 7)
 
 abbrev pub LeafShowsNothing : Type 0
 LeafShowsNothing = base leaf_pushed (first_at 2 (codes "/a"))
@@ -218,3 +221,86 @@ StaleLeavesNothing =
         },
       ) ∷ [];
     }
+
+-- ---- ranges, by value at the root
+
+-- startAt(1) endAt(9), startAt(3) endAt(20), and startAt(4) endAt(8), which both take in
+abbrev pub first_range : Query
+first_range = finished (between 1 9)
+
+abbrev pub second_range : Query
+second_range = finished (between 3 20)
+
+abbrev pub narrow_range : Query
+narrow_range = finished (between 4 8)
+
+abbrev pub one : PathTree
+one = object ((codes "p", num 5) ∷ [])
+
+-- the first is pushed, and then the second
+abbrev pub first_brought : Brought
+first_brought = push first_range (recover (first_range ∷ second_range ∷ narrow_range ∷ [])
+    (first_range ∷ second_range ∷ []) nothing_brought) ([], one)
+
+abbrev pub both_brought : Brought
+both_brought = push second_range first_brought ([], two (codes "p") 5 (codes "r") 6)
+
+-- the narrow one has what the first brought
+abbrev pub NarrowHasFirst : Type 0
+NarrowHasFirst = (base first_brought narrow_range ≡ Some (record { tree = one; whole = false }))
+    × (base both_brought narrow_range ≡ Some (record { tree = one; whole = false }))
+
+-- and once that goes what the second brought: it is moved
+abbrev pub second_left : Brought
+second_left = recover (second_range ∷ narrow_range ∷ []) (second_range ∷ []) both_brought
+
+abbrev pub NarrowIsMoved : Type 0
+NarrowIsMoved =
+    (base second_left narrow_range
+    ≡ Some (record { tree = two (codes "p") 5 (codes "r") 6; whole = false }))
+    × (is_moved both_brought second_left narrow_range ≡ true)
+
+-- so it is too where the first stays, but one of its listeners, before all of the second's, goes
+abbrev pub first_twice : Brought
+first_twice = with_form first_range both_brought
+
+abbrev pub NarrowIsMovedThough : Type 0
+NarrowIsMovedThough =
+    let least_gone = recover (without_places (0 ∷ []) first_twice.registered)
+    (first_range ∷ second_range ∷ []) first_twice in
+    (least_gone.windows ≡ first_twice.windows)
+    × (base first_twice narrow_range ≡ Some (record { tree = one; whole = false }))
+    × (base least_gone narrow_range
+    ≡ Some (record { tree = two (codes "p") 5 (codes "r") 6; whole = false }))
+    × (is_moved first_twice least_gone narrow_range ≡ true)
+
+-- where there is no other it gets the window of the first, which is not whole: it is not moved
+abbrev pub narrow_left : Brought
+narrow_left = recover (narrow_range ∷ []) (narrow_range ∷ []) first_brought
+
+abbrev pub NarrowInherits : Type 0
+NarrowInherits =
+    (narrow_left.windows ≡ (narrow_range, record { children = one; is_whole = false }) ∷ [])
+    × (is_moved first_brought narrow_left narrow_range ≡ false)
+
+-- a region that is lost leaves a whole window to the wider one alone, which the narrow one has too
+abbrev pub region_lost : Brought
+region_lost = recover (narrow_range ∷ first_range ∷ []) (first_range ∷ [])
+    (push (plain []) (recover (plain [] ∷ narrow_range ∷ first_range ∷ []) (plain [] ∷ []) nothing_brought)
+    ([], one))
+
+abbrev pub WiderInherits : Type 0
+WiderInherits =
+    (region_lost.windows ≡ (first_range, record { children = one; is_whole = true }) ∷ [])
+    × (base region_lost narrow_range ≡ Some (record { tree = one; whole = true }))
+
+-- a window of the narrow one goes with the push of one that takes it in
+abbrev pub narrow_first : Brought
+narrow_first = push narrow_range (recover (narrow_range ∷ []) (narrow_range ∷ []) nothing_brought)
+    ([], two (codes "p") 5 (codes "r") 6)
+
+abbrev pub OldWindowGoes : Type 0
+OldWindowGoes =
+    (push first_range (recover (narrow_range ∷ first_range ∷ []) (first_range ∷ []) narrow_first)
+    ([], one)).windows
+    ≡ (first_range, record { children = one; is_whole = false }) ∷ []

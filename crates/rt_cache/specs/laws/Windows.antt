@@ -1,6 +1,6 @@
 -- What any pushes and changes of cover leave for a filtered query, told by the calls alone: no word of
 -- windows.
-use Rattle.std.specs.Prelude.{◌≡◌, ◌↔◌, Bool, true, false, not, ◌&&◌, if◌then◌else◌, List, ◌∷◌, ◌++◌}
+use Rattle.std.specs.Prelude.{⊤, ◌≡◌, ◌↔◌, Bool, true, false, not, ◌&&◌, if◌then◌else◌, List, ◌∷◌, ◌++◌}
 use Rattle.std.specs.Prelude.{Option, Some, None}
 use Rattle.std.specs.List.{All, fold, list_any}
 use Rattle.std.specs.Option.{option_map_or}
@@ -8,9 +8,10 @@ use Rattle.rt_tree.specs.PathTree.{PathTree, path_eq, strip, sub, put, children_
 use Rattle.rt_tree.specs.Assignments.{is_at_or_above}
 use Rattle.rt_query.specs.Queries.{Query, is_filtered}
 use Rattle.rt_query.specs.QueryEq.{query_eq}
-use Rattle.rt_cache.specs.Brought.{Base, nothing_brought, base}
+use Rattle.rt_query.specs.Ranges.{takes_in}
+use Rattle.rt_cache.specs.Brought.{Base, nothing_brought, source, base}
 use Rattle.rt_cache.specs.Recover.{reaches}
-use Rattle.rt_cache.specs.Runs.{IsAllowed, after_all}
+use Rattle.rt_cache.specs.Runs.{AreAllowed, after_all}
 use Rattle.rt_cache.specs.laws.Runs.{pushed, is_known}
 use Rattle.rt_cache.specs.declared.run.Call.{Call}
 use Rattle.rt_cache.specs.declared.run.Call.TheVariants.{Put, Recover}
@@ -67,7 +68,22 @@ pub record Tells (calls : List Call) (q : Query) (seen : Option Base) : Type 0 w
       → lets_be q later ≡ true → begun q before c ≡ None)
       → seen ≡ None
 
--- after any calls the base of a filtered query is what they tell of it, and nothing else is
+-- no other range that takes in q's is registered by the call
+abbrev pub IsAlone : Query → Call → Type 0
+IsAlone q (Put r p t) = ⊤
+IsAlone q (Recover registered kept) = All (λ r. takes_in r q ≡ true → r ≡ q) registered
+
+-- after any calls by which none is, the base of a filtered query is what they tell of it, and nothing
+-- else is
 abbrev pub FilteredBaseIsTold : Type 0
-FilteredBaseIsTold = (calls : List Call) (q : Query) → All IsAllowed calls → is_filtered q ≡ true
+FilteredBaseIsTold =
+    (calls : List Call) (q : Query) → AreAllowed nothing_brought calls → All (IsAlone q) calls
+    → is_filtered q ≡ true
     → (seen : Option Base) → Tells calls q seen ↔ (seen ≡ base (after_all nothing_brought calls) q)
+
+-- after any calls a query that has another form's window has just what that form has
+abbrev pub SuppliedHasTheSame : Type 0
+SuppliedHasTheSame =
+    (calls : List Call) (q f : Query) → AreAllowed nothing_brought calls
+    → let b = after_all nothing_brought calls in
+    source b q ≡ Some f → base b q ≡ base b f

@@ -229,6 +229,15 @@ NotSupplied =
     ∷ []
     ≡ false ∷ false ∷ false ∷ []
 
+-- startAt(3) supplies startAt(5) endAt(9) limitToFirst(1), and this none; both are supplied by the
+-- first alone
+abbrev pub RangeSupplies : Type 0
+RangeSupplies =
+    let wide = finished (from 3) in
+    let narrow = finished (limited_to (First 1) (between 5 9)) in
+    (does_supply wide narrow ∷ does_supply narrow wide ∷ [] ≡ true ∷ false ∷ [])
+    × (needed (narrow ∷ wide ∷ []) ≡ wide ∷ [])
+
 -- of all of a/b, the first of a, all of a and the first two of b the last two are needed
 abbrev pub LastTwoNeeded : Type 0
 LastTwoNeeded =

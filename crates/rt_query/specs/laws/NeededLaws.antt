@@ -1,5 +1,5 @@
 -- The needed forms are the fewest that supply all.
-use Rattle.std.proofs.Common.{◌≡◌, ℕ, zero, suc, ◌<◌, ◌≤◌, Bool, true, false, cond, not, ◌&&◌, ◌||◌}
+use Rattle.std.proofs.Common.{◌≡◌, ℕ, zero, suc, ◌<◌, ◌≤◌, Bool, true, false, cond, not, ◌&&◌}
 use Rattle.std.proofs.Common.{◌⊎◌, inl, inr, List, [], ◌∷◌, ◌++◌, length, refl, sym, ap, subst, ◌∙◌}
 use Rattle.std.proofs.Common.{slice_index_or, arith, length-append, append-nil}
 use mathlib.Core.Bool.{true≢false}
@@ -17,6 +17,9 @@ use Rattle.rt_tree.specs.TreeEq.{both_first, both_second, both}
 use Rattle.rt_query.specs.laws.QueryEq.{query_eq_tells}
 use Rattle.rt_tree.specs.PathTree.{strip-some}
 use Rattle.rt_query.specs.laws.Paths.{rest_of_above, is_at_or_above-trans}
+use Rattle.rt_query.specs.laws.RangeLaws.{taken_in, takes_in-trans, takes_in-antisymm}
+use Rattle.rt_query.specs.laws.SupplyLaws.{form_filtered, form_unfiltered, supplies_cases}
+use Rattle.rt_query.specs.laws.SupplyLaws.{supplies_as_form, supplies_as_plain, supplies_as_range}
 
 -- ---- lists
 
@@ -58,54 +61,44 @@ not_true false e = refl
 abbrev pub IsForm : Query → Type 0
 IsForm f = form f ≡ f
 
--- what it takes to supply: to be the form, or unfiltered and at or above its path
-supplies_cases : (q r : Query) → Supplies q r → (q ≡ form r)
-    ⊎ ((is_filtered q ≡ false) × (is_at_or_above q.path r.path ≡ true))
-supplies_cases q r h =
-    elim (query_eq q (form r)) as (λ b. query_eq q (form r) ≡ b
-    → (b || not (is_filtered q) && is_at_or_above q.path r.path) ≡ true → (q ≡ form r)
-    ⊎ ((is_filtered q ≡ false) × (is_at_or_above q.path r.path ≡ true))) [
-      | true ↦ λ t _. inl ((query_eq_tells q (form r)).0 t)
-      | false ↦ λ _ u. inr (not_true _ (both_first _ _ u), both_second (not (is_filtered q)) _ u)
-    ] refl h
-
-or_left : (a b : Bool) → a ≡ true → (a || b) ≡ true
-or_left true b e = refl
-or_left false b e = absurd (true≢false (sym e))
-
-or_right : (a b : Bool) → b ≡ true → (a || b) ≡ true
-or_right true b e = refl
-or_right false b e = e
-
-supplies_as_form : (q r : Query) → q ≡ form r → Supplies q r
-supplies_as_form q r e = or_left _ _ ((query_eq_tells q (form r)).1 e)
-
-supplies_as_plain : (q r : Query) → is_filtered q ≡ false → is_at_or_above q.path r.path ≡ true
-    → Supplies q r
-supplies_as_plain q r e a = or_right (query_eq q (form r)) _ (both _ _ (ap not e) a)
-
 pub supplies_itself : (f : Query) → IsForm f → Supplies f f
 supplies_itself f is = supplies_as_form f f (sym is)
 
--- the form has the query's path
-form_path : (q : Query) → (form q).path ≡ q.path
-form_path q = elim (is_filtered q) as (λ b. (cond b q (plain q.path)).path ≡ q.path) [
-  | true ↦ refl
-  | false ↦ refl
-]
+-- what supplies the form of a query supplies the query
+supplies-form : (s r : Query) → Supplies s (form r) → Supplies s r
+supplies-form s r a = of (is_filtered r) refl
+  where
+    of_plain : Supplies s (plain r.path) → is_filtered r ≡ false → Supplies s r
+    of_plain h e = elim (supplies_cases s (plain r.path) h) [
+      | inl f ↦ supplies_as_form s r (f ∙ sym (form_unfiltered r e))
+      | inr x ↦ elim x [
+        | inl f ↦ supplies_as_plain s r f.0 f.1
+        | inr t ↦ absurd (true≢false (sym (taken_in s (plain r.path) t).inner))
+      ]
+    ]
 
--- what supplies a form that supplies another supplies that
+    of : (b : Bool) → is_filtered r ≡ b → Supplies s r
+    of true e = subst (Supplies s) (form_filtered r e) a
+    of false e = of_plain (subst (Supplies s) (form_unfiltered r e) a) e
+
+-- what supplies a form that supplies another query supplies that
 pub supplies_trans : (s g r : Query) → IsForm g → Supplies s g → Supplies g r → Supplies s r
 supplies_trans s g r is a b =
     elim (supplies_cases g r b) [
-      | inl e ↦ elim (supplies_cases s g a) [
-        | inl f ↦ supplies_as_form s r (f ∙ is ∙ e)
-        | inr f ↦ supplies_as_plain s r f.0 (subst (λ p. is_at_or_above s.path p ≡ true)
-            (ap (λ q. q.path) e ∙ form_path r) f.1)
-      ]
-      | inr e ↦ elim (supplies_cases s g a) [
+      | inl e ↦ supplies-form s r (subst (Supplies s) e a)
+      | inr x ↦ elim (supplies_cases s g a) [
         | inl f ↦ subst (λ q. Supplies q r) (sym (f ∙ is)) b
-        | inr f ↦ supplies_as_plain s r f.0 (is_at_or_above-trans s.path g.path r.path f.1 e.1)
+        | inr y ↦ elim x [
+          | inl e ↦ elim y [
+            | inl f ↦ supplies_as_plain s r f.0 (is_at_or_above-trans s.path g.path r.path f.1 e.1)
+            | inr t ↦ absurd (true≢false (sym (taken_in s g t).inner ∙ e.0))
+          ]
+          | inr t ↦ elim y [
+            | inl f ↦ supplies_as_plain s r f.0
+                (subst (λ p. is_at_or_above s.path p ≡ true) (taken_in g r t).paths f.1)
+            | inr u ↦ supplies_as_range s r (takes_in-trans s g r u t)
+          ]
+        ]
       ]
     ]
 
@@ -139,10 +132,19 @@ pub supplies_antisymm : (g r : Query) → IsForm g → IsForm r → Supplies g r
 supplies_antisymm g r own is a b =
     elim (supplies_cases g r a) [
       | inl e ↦ e ∙ is
-      | inr e ↦ elim (supplies_cases r g b) [
+      | inr x ↦ elim (supplies_cases r g b) [
         | inl f ↦ sym (f ∙ own)
-        | inr f ↦ plain_form g e.0 own ∙ ap plain (above_antisymm g.path r.path e.1 f.1)
-            ∙ sym (plain_form r f.0 is)
+        | inr y ↦ elim x [
+          | inl e ↦ elim y [
+            | inl f ↦ plain_form g e.0 own ∙ ap plain (above_antisymm g.path r.path e.1 f.1)
+                ∙ sym (plain_form r f.0 is)
+            | inr u ↦ absurd (true≢false (sym (taken_in r g u).inner ∙ e.0))
+          ]
+          | inr t ↦ elim y [
+            | inl f ↦ absurd (true≢false (sym (taken_in g r t).inner ∙ f.0))
+            | inr u ↦ takes_in-antisymm g r t u
+          ]
+        ]
       ]
     ]
 

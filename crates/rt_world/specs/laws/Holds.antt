@@ -41,7 +41,7 @@ WorldsAreSteady =
 -- what is brought is what calls of a cache leave
 abbrev pub StaysCalled : Type 0
 StaysCalled =
-    (w : World) (s : Step) → IsSound w → IsCalled w.brought → refusal w s ≡ None
+    (w : World) (s : Step) → IsSound w → IsCalled w.brought → IsReached w → refusal w s ≡ None
     → IsCalled (next w s).brought
 
 -- no limit is passed

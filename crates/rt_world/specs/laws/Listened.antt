@@ -1,17 +1,18 @@
 -- What a step leaves and tells that registers or ends listeners, in the words of rt_cover's changes.
 use Rattle.std.specs.Prelude.{◌≡◌, ℕ, ◌+◌, Bool, false, not, if◌then◌else◌, List, [], ◌∷◌, ◌++◌}
-use Rattle.std.specs.Prelude.{map, ◌==◌, None}
-use Rattle.std.specs.List.{filter}
+use Rattle.std.specs.Prelude.{map, ◌==◌, Option, None}
+use Rattle.std.specs.List.{filter, filter_map}
 use Rattle.std.specs.Option.{option_to_list}
 use Rattle.rt_query.specs.Queries.{Query}
 use Rattle.rt_query.specs.Supply.{form}
-use Rattle.rt_cache.specs.Brought.{with_form}
-use Rattle.rt_cache.specs.Recover.{recover}
+use Rattle.rt_cache.specs.Brought.{Brought, with_form}
+use Rattle.rt_cache.specs.Recover.{recover, is_moved}
 use Rattle.rt_cover.specs.declared.delta.Delta.{Delta}
 use Rattle.rt_cover.specs.State.{Cover, is_registered, difference, added}
 use Rattle.rt_cover.specs.State.{removed, revoked, without_tag, add_fault, remove_fault, revoke_fault}
 use Rattle.rt_wire.specs.declared.client.ClientMessage.{ClientMessage}
 use Rattle.rt_world.specs.declared.report.Body.TheVariants.{Cancelled}
+use Rattle.rt_world.specs.declared.report.Note.{Note}
 use Rattle.rt_world.specs.declared.step.Step.{Step}
 use Rattle.rt_world.specs.World.{Reason, Listener, World, registered}
 use Rattle.rt_world.specs.World.{listening, pending}
@@ -80,13 +81,35 @@ ListenMayAdd =
 
 -- ---- listeners that end
 
--- the world with the listeners that stay, as they were, over the cover without the others; what no
--- listen reaches any more is lost
+-- what is brought over the cover without them: what no listen reaches any more is lost
+abbrev pub left_brought : World → Cover → Brought
+left_brought w c = recover (listening c.listeners) (map (λ k. k.form) c.kept) w.brought
+
+-- a listener that is moved by that is renewed, and another stays as it was
+abbrev pub renewed_moved : World → Cover → Listener → Listener
+renewed_moved w c l =
+    if is_moved w.brought (left_brought w c) l.query
+    then renewed (left_brought w c) (pending w.requests) l
+    else l
+
+-- what a listener is told that is moved
+abbrev pub told_moved : World → Cover → Listener → Option Note
+told_moved w c l =
+    if is_moved w.brought (left_brought w c) l.query
+    then told (left_brought w c) (pending w.requests) l
+    else None
+
+-- the notes of those that stay and are moved, by number
+abbrev pub all_moved : World → (Listener → Bool) → Cover → List Note
+all_moved w stays c = filter_map (told_moved w c) (filter stays w.listeners)
+
+-- the world with the listeners that stay, over the cover without the others; those that are moved are
+-- renewed
 abbrev pub left_world : World → (Listener → Bool) → Cover → Delta → World
 left_world w stays c delta =
     record w {
-      listeners = filter stays w.listeners;
-      brought = recover (listening c.listeners) (map (λ k. k.form) c.kept) w.brought;
+      listeners = map (renewed_moved w c) (filter stays w.listeners);
+      brought = left_brought w c;
       kept = c.kept;
       outgoing = w.outgoing ++ changing w.is_connected delta;
       next_tag = c.next_tag;
@@ -96,30 +119,33 @@ left_world w stays c delta =
 abbrev pub UnlistenIsMade : Type 0
 UnlistenIsMade =
     (w : World) (seat listener : ℕ) → let s = Step.Unlisten seat listener in
-    IsMade w s
+    IsMade w s → IsReached w
     → let c = removed (cover_in w) (listener ∷ []) in
-    Leaves w s (left_world w (λ l. not (l.number == listener)) c (difference (cover_in w) c)) []
+    let stays : Listener → Bool = λ l. not (l.number == listener) in
+    Leaves w s (left_world w stays c (difference (cover_in w) c)) (all_moved w stays c)
 
 -- those of a seat do, and its requests stay, without a seat
 abbrev pub CloseSeatIsMade : Type 0
 CloseSeatIsMade =
     (w : World) (seat : ℕ) → let s = Step.CloseSeat seat in
-    IsMade w s
+    IsMade w s → IsReached w
     → let c = removed (cover_in w) (numbers_of w seat) in
-    Leaves w s (record (left_world w (λ l. not (l.seat == seat)) c (difference (cover_in w) c)) {
+    let stays : Listener → Bool = λ l. not (l.seat == seat) in
+    Leaves w s (record (left_world w stays c (difference (cover_in w) c)) {
       requests = map (unseated seat) w.requests;
-    }) []
+    }) (all_moved w stays c)
 
--- those of a listen do, and are told
+-- those of a listen do, and are told, before those that are moved
 abbrev pub RevokedIsMade : Type 0
 RevokedIsMade =
     (w : World) (tag : ℕ) (why : Reason) → let s = Step.Revoked tag why in
-    IsMade w s
+    IsMade w s → IsReached w
     → let c = revoked (cover_in w) tag in
     let delta = without_tag tag (difference (cover_in w) c) in
-    Leaves w s (left_world w (λ l. not (is_cancelled w tag l)) c delta)
+    let stays : Listener → Bool = λ l. not (is_cancelled w tag l) in
+    Leaves w s (left_world w stays c delta)
     (map (λ l. record { seat = l.seat; body = Cancelled l.number why })
-    (filter (is_cancelled w tag) w.listeners))
+    (filter (is_cancelled w tag) w.listeners) ++ all_moved w stays c)
 
 -- where the end of listeners is not refused, rt_cover refuses it neither
 abbrev pub UnlistenMayRemove : Type 0

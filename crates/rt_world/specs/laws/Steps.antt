@@ -8,6 +8,7 @@ use Rattle.rt_query.specs.Queries.{Query}
 use Rattle.rt_writes.specs.Writes.{Write, without}
 use Rattle.rt_query.specs.Supply.{form}
 use Rattle.rt_cache.specs.Brought.{Brought, with_form, may_put}
+use Rattle.rt_cache.specs.Recover.{is_moved}
 use Rattle.rt_wire.specs.declared.request.Action.{Action}
 use Rattle.rt_wire.specs.declared.request.Asked.TheVariants.{Now, AtDisconnect}
 use Rattle.rt_wire.specs.declared.request.Ending.{Ending}
@@ -74,12 +75,13 @@ abbrev pub ListensStay : Type 0
 ListensStay =
     (w : World) (s : Step) → IsSound w → listeners_after w s ≡ w.listeners → KeepsListens w s
 
--- a listener whose path no entry of the step overlaps, renewed after the step
+-- a listener that is not moved and whose path no entry of the step overlaps, renewed after the step
 abbrev pub UnmetStays : Type 0
 UnmetStays =
-    (w : World) (s : Step) → IsSound w → IsCalled w.brought → refusal w s ≡ None
+    (w : World) (s : Step) → IsSound w → IsCalled w.brought → IsReached w → refusal w s ≡ None
     → (l : Listener) → Contains w.listeners l → Contains (listeners_after w s) l
     → list_any (λ a. do_overlap a.0 l.query.path) (entries_by w s) ≡ false
+    → is_moved w.brought (brought_after w s) l.query ≡ false
     → renewed (brought_after w s) (pending (requests_after w s)) l ≡ l
 
 -- a listener that is renewed is one of that number, seat and query

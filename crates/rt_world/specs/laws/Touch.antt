@@ -4,6 +4,7 @@ use Rattle.std.specs.List.{Contains}
 use Rattle.rt_tree.specs.PathTree.{Key, PathTree, child}
 use Rattle.rt_tree.specs.Children.{children_of}
 use Rattle.rt_query.specs.Queries.{Query}
+use Rattle.rt_cache.specs.Recover.{is_moved}
 use Rattle.rt_view.specs.Views.{stays_object, with_named}
 use Rattle.rt_world.specs.declared.step.Step.{Step}
 use Rattle.rt_world.specs.World.{Listener, World}
@@ -13,14 +14,17 @@ use Rattle.rt_world.specs.Refusals.{refusal}
 use Rattle.rt_world.specs.Touched.{entries_by, is_covered, is_named, children_named, children_at, seen}
 use Rattle.rt_world.specs.Met.{do_meet}
 use Rattle.rt_world.specs.Called.{IsCalled}
+use Rattle.rt_world.specs.Reached.{IsReached}
 use Rattle.rt_world.specs.Sound.{IsSound}
 
 -- a listener stays in a step that is not refused
 pub record Stays (w : World) (s : Step) (l : Listener) : Type 0 where
   pub sound : IsSound w
   pub called : IsCalled w.brought
+  pub reached : IsReached w
   pub not_refused : refusal w s ≡ None
   pub there : Contains (listeners_after w s) l
+  pub unmoved : is_moved w.brought (next w s).brought l.query ≡ false
 
 -- a tree has the children that are seen
 abbrev pub HasSeen : World → Query → PathTree → Type 0

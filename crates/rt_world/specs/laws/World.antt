@@ -1,12 +1,13 @@
--- Laws of the world. Those of worlds between steps ask for what holds there (IsSound, IsCalled), or for
+-- Laws of the world. Those of worlds between steps ask for what holds there (IsSound, IsSteady), or for
 -- a part of it: so each holds also where messages were taken out.
-use Rattle.std.specs.Prelude.{◌≡◌, ◌<◌, ◌≤◌, ◌+◌, ◌⊎◌, Bool, true, false, List, ◌++◌, map, length}
+use Rattle.std.specs.Prelude.{◌≡◌, ◌<◌, ◌≤◌, ◌+◌, ◌⊎◌, Bool, true, false, List, ◌++◌, length}
 use Rattle.std.specs.Prelude.{None, is_some}
 use Rattle.std.specs.List.{list_any, All, AllPairs}
 use Rattle.rt_tree.specs.PathTree.{Key, null, leaf_of, child}
 use Rattle.rt_tree.specs.Children.{children_of}
 use Rattle.rt_tree.specs.Assignments.{do_overlap}
 use Rattle.rt_query.specs.Queries.{is_filtered}
+use Rattle.rt_cache.specs.Recover.{is_moved}
 use Rattle.rt_cover.specs.Cover.{Tagged}
 use Rattle.rt_view.specs.Views.{with_named}
 use Rattle.rt_world.specs.declared.limits.Limits.{Limits}
@@ -19,7 +20,6 @@ use Rattle.rt_world.specs.Messages.{greeting}
 use Rattle.rt_world.specs.Refusals.{refusal}
 use Rattle.rt_world.specs.Answers.{step, answers, world_after}
 use Rattle.rt_world.specs.Runs.{made, heard, left_to_send}
-use Rattle.rt_world.specs.Called.{IsCalled}
 use Rattle.rt_world.specs.Limited.{IsWithin}
 use Rattle.rt_world.specs.Headline.{Headline}
 use Rattle.rt_world.specs.Sound.{IsSound}
@@ -40,72 +40,81 @@ HeadlineHolds =
 abbrev pub changes_listeners : Step → Bool
 changes_listeners s = is_some (kind s).change
 
--- the listeners that were there and stay are as they were, with their views and primed marks
-abbrev pub StayAsTheyWere : World → World → Type 0
-StayAsTheyWere old new = (l m : Listener) → IsInBoth old new l m → m ≡ l
+-- the listeners that were there and stay are as they were, with their views and primed marks, but for
+-- those who had another form's window and now have one that does not come from it
+abbrev pub StayUnlessMoved : World → World → Type 0
+StayUnlessMoved old new = (l m : Listener) → IsInBoth old new l m
+    → is_moved old.brought new.brought l.query ≡ false → m ≡ l
+
+-- these stay primed
+abbrev pub MovedStayPrimed : World → World → Type 0
+MovedStayPrimed old new = (l m : Listener) → IsInBoth old new l m
+    → is_moved old.brought new.brought l.query ≡ true → (l.is_primed ≡ true) × (m.is_primed ≡ true)
 
 -- so they are after such a step, which changes the listens kept and what they brought
-abbrev pub CoverChangesNoView : Type 0
-CoverChangesNoView = (w : World) (s : Step) → IsSound w → IsCalled w.brought
-    → changes_listeners s ≡ true → StayAsTheyWere w (step w s).0
+abbrev pub CoverChangesFewViews : Type 0
+CoverChangesFewViews = (w : World) (s : Step) → IsSteady w → changes_listeners s ≡ true
+    → StayUnlessMoved w (step w s).0 × MovedStayPrimed w (step w s).0
 
 -- ---- children
 
--- where no entry of the step sits at or above a listener's path, a child that none names is seen as
--- before
+-- where no entry of the step sits at or above a listener's path, and it is not moved, a child that no
+-- entry names is seen as before
 abbrev pub OnlyNamedChange : Type 0
-OnlyNamedChange = (w : World) (s : Step) → IsSound w → IsCalled w.brought
+OnlyNamedChange = (w : World) (s : Step) → IsSteady w
     → let v = (step w s).0 in
     (l m : Listener) → IsInBoth w v l m
     → let p = l.query.path in
     let entries = entries_by w s in
-    is_covered p entries ≡ false
+    is_covered p entries ≡ false → is_moved w.brought v.brought l.query ≡ false
     → (k : Key) → is_named p entries k ≡ false
     → child (seen v l.query) k ≡ child (seen w l.query) k
 
--- so where a leaf stands at the path before or after, all children that are seen before or after are
+-- there where a leaf stands at the path before or after, all children that are seen before or after are
 -- named
 abbrev pub LeafNamesAll : Type 0
-LeafNamesAll = (w : World) (s : Step) → IsSound w → IsCalled w.brought
+LeafNamesAll = (w : World) (s : Step) → IsSteady w
     → let v = (step w s).0 in
     (l m : Listener) → IsInBoth w v l m
     → let p = l.query.path in
     let entries = entries_by w s in
-    is_covered p entries ≡ false
+    is_covered p entries ≡ false → is_moved w.brought v.brought l.query ≡ false
     → is_some (leaf_of (seen w l.query)) ≡ true ⊎ is_some (leaf_of (seen v l.query)) ≡ true
     → (k : Key) → is_named p entries k ≡ false
     → (child (seen w l.query) k ≡ null) × (child (seen v l.query) k ≡ null)
 
 -- and a view that takes all its children anew there reads no more of them than are named
 abbrev pub LeafReadsNamed : Type 0
-LeafReadsNamed = (w : World) (s : Step) → IsSound w → IsCalled w.brought
+LeafReadsNamed = (w : World) (s : Step) → IsSteady w
     → let v = (step w s).0 in
     (l m : Listener) → IsInBoth w v l m
     → let p = l.query.path in
     let entries = entries_by w s in
-    is_covered p entries ≡ false
+    is_covered p entries ≡ false → is_moved w.brought v.brought l.query ≡ false
     → is_some (leaf_of (seen w l.query)) ≡ true ⊎ is_some (leaf_of (seen v l.query)) ≡ true
     → length (children_of (seen w l.query)) + length (children_of (seen v l.query))
     ≤ length (children_named p entries)
 
--- where the leaf at the path stays, or there is none before and after, what is seen is what was
+-- there where the leaf at the path stays, or there is none before and after, what is seen is what was
 -- seen with the named children put into it, as a view is touched
 abbrev pub TouchedIsSeen : Type 0
-TouchedIsSeen = (w : World) (s : Step) → IsSound w → IsCalled w.brought
+TouchedIsSeen = (w : World) (s : Step) → IsSteady w
     → let v = (step w s).0 in
     (l m : Listener) → IsInBoth w v l m
     → let p = l.query.path in
     let entries = entries_by w s in
-    is_covered p entries ≡ false
+    is_covered p entries ≡ false → is_moved w.brought v.brought l.query ≡ false
     → leaf_of (seen w l.query) ≡ leaf_of (seen v l.query)
     → with_named (seen w l.query) (children_at (seen v l.query) (children_named p entries))
     ≡ seen v l.query
 
--- a listener is as it was where no entry of the step sits at, above or below its path
+-- a listener that is not moved is as it was where no entry of the step sits at, above or below its
+-- path
 abbrev pub OthersKeepViews : Type 0
-OthersKeepViews = (w : World) (s : Step) → IsSound w → IsCalled w.brought
+OthersKeepViews = (w : World) (s : Step) → IsSteady w
     → (l m : Listener) → IsInBoth w (step w s).0 l m
     → list_any (λ a. do_overlap a.0 l.query.path) (entries_by w s) ≡ false
+    → is_moved w.brought (step w s).0.brought l.query ≡ false
     → m ≡ l
 
 -- ---- messages

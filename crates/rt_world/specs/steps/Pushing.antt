@@ -1,6 +1,6 @@
 -- The server pushes: a tree at a path, several trees on one listen, or several parts, each on its own
 -- listen. All of these are parts in one step.
-use Rattle.std.specs.Prelude.{ℕ, Bool, true, false, ◌==◌, ◌||◌, not, List, [], ◌∷◌}
+use Rattle.std.specs.Prelude.{Bool, true, false, ◌==◌, ◌||◌, not, List, [], ◌∷◌}
 use Rattle.std.specs.List.{list_all, list_any}
 use Rattle.std.specs.Option.{option_map_or}
 use Rattle.rt_tree.specs.Assignments.{Assignment, is_at_or_above, have_overlap}
