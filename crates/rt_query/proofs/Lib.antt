@@ -1,6 +1,5 @@
 pub mod BoundLaws
 pub mod ObjectLaws
-pub mod RangeLaws
 pub mod Refusals
 pub mod RowLaws
 pub mod ShownLaws

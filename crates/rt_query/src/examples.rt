@@ -6,7 +6,7 @@ ghost use Rattle.rt_query.specs.laws.Examples.{StartsAtKey, StartsAfterKey, Ends
 ghost use Rattle.rt_query.specs.laws.Examples.{EndsBeforeKey, EqualsKey, LastTwo, FirstTwo};
 ghost use Rattle.rt_query.specs.laws.Examples.{StartsAtText, GivenTwice, BoundTwice, BadlyNamed};
 ghost use Rattle.rt_query.specs.laws.Examples.{TakenIn, NotTakenIn};
-ghost use Rattle.rt_query.specs.laws.Examples.{Supplied, NotSupplied, LastTwoNeeded};
+ghost use Rattle.rt_query.specs.laws.Examples.{Supplied, NotSupplied, RangeSupplies, LastTwoNeeded};
 
 /// By a child: null, false, true, numbers, texts, objects.
 pub fn order_examples()
@@ -44,5 +44,6 @@ pub fn range_examples()
 pub fn supply_examples()
     ensures supplied { Supplied }
     ensures not_supplied { NotSupplied }
+    ensures ranges { RangeSupplies }
     ensures needed { LastTwoNeeded }
 {}

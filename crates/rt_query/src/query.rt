@@ -127,12 +127,13 @@ impl Query {
     }
 
     /// Whether listening to this query brings what the other one needs: it is the other's listening
-    /// form, or it is unfiltered and its path is at or above the other's. Takes no memory.
+    /// form, or it is unfiltered and its path is at or above the other's, or it is a range that takes
+    /// in the other's. Takes no memory.
     pub fn supplies(&self, other: &Query) -> bool
         ensures { result ≡ does_supply self.now other.now }
     {
         if self.is_filtered() {
-            self == other
+            self == other || self.takes_in(other)
         } else {
             self.path.is_prefix_of(&other.path)
         }

@@ -1,5 +1,5 @@
 use Rattle.rt_query.proofs.laws.range_laws.Goals as goal
-use Rattle.rt_query.proofs.RangeLaws.{wider_has_all, takes_in-trans, takes_in-antisymm}
+use Rattle.rt_query.specs.laws.RangeLaws.{wider_has_all, takes_in-trans, takes_in-antisymm}
 
 pub returns : goal.returns
 returns c = record { wider = wider_has_all; onward = takes_in-trans; one_way = takes_in-antisymm }
