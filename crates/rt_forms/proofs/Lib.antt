@@ -1,5 +1,6 @@
 pub mod AddLaws
 pub mod EndLaws
+pub mod FilteredLaws
 pub mod FormLaws
 pub mod GatherLaws
 pub mod LeaveLaws

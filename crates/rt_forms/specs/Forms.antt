@@ -1,9 +1,9 @@
 -- What a contract sees of a tree of forms.
-use Rattle.std.specs.Prelude.{◌≡◌, ℕ, Bool, true, List, Option}
-use Rattle.std.specs.List.{list_any}
+use Rattle.std.specs.Prelude.{◌≡◌, ◌⊎◌, ℕ, Bool, true, List, [], Option}
+use Rattle.std.specs.List.{list_any, All, Contains}
 use Rattle.rt_tree.specs.PathTree.{Path}
 use Rattle.rt_tree.specs.Assignments.{is_at_or_above}
-use Rattle.rt_query.specs.Queries.{Query}
+use Rattle.rt_query.specs.Queries.{Query, is_filtered}
 use Rattle.rt_query.specs.QueryEq.{query_eq}
 use Rattle.rt_query.specs.Supply.{form}
 use Rattle.rt_links.specs.Forest.{row_at}
@@ -39,3 +39,10 @@ pub record IsHeardUnder (forms : Forms) (path : Path) (test : ℕ → Bool) : Ty
   pub is_form : form query ≡ query
   pub under : is_at_or_above path query.path ≡ true
   pub heard : list_any test (numbers forms query) ≡ true
+
+-- these are the filtered forms of a path that have listeners, each with the numbers of its own
+pub record AreFilteredAt (forms : Forms) (path : Path) (entries : List (Query × List ℕ)) : Type 0 where
+  pub each : (q : Query) → is_filtered q ≡ true → q.path ≡ path
+      → (numbers forms q ≡ []) ⊎ Contains entries (q, numbers forms q)
+  pub only : All (λ (e : Query × List ℕ). (is_filtered e.0 ≡ true) × ((e.0).path ≡ path)
+      × (numbers forms e.0 ≡ e.1)) entries

@@ -1,6 +1,6 @@
 // The tree of forms.
 ghost use Rattle.std.specs.Prelude.{◌≡◌, ◌<◌, ◌+◌, ◌^◌, ◌==◌, [], ℕ, Bool, true, false, length, if◌then◌else◌};
-ghost use Rattle.std.specs.Prelude.{◌++◌, OnOk, OnErr, IfOk};
+ghost use Rattle.std.specs.Prelude.{◌++◌, OnOk, OnErr, IfOk, IfSome};
 ghost use Rattle.std.specs.List.{list_any};
 ghost use Rattle.std.specs.Option.{option_copied, option_map_or};
 ghost use Rattle.rt_query.specs.Queries.{Query as QueryValue, plain};
@@ -8,13 +8,14 @@ ghost use Rattle.rt_links.specs.Forest.{row_at};
 ghost use Rattle.rt_forms.specs.Numbers.{with_number, without_number};
 ghost use Rattle.rt_tree.specs.Assignments.{is_at_or_above};
 ghost use Rattle.rt_forms.specs.Forms.{numbers, count, share_form, IsAsBefore, IsHeardUnder};
+ghost use Rattle.rt_forms.specs.Forms.{AreFilteredAt};
 ghost use Rattle.rt_forms.specs.inside.FormsView.{all_under};
-ghost use Rattle.rt_forms.specs.inside.Trees.{own, seen};
+ghost use Rattle.rt_forms.specs.inside.Trees.{own, seen, AreAt};
 
 use crate::adding::add_row;
 use crate::gathering::gather_at;
 use crate::removing::remove_row;
-use crate::standing::Standing;
+use crate::standing::{Filtered, Standing};
 use rt_links::{Linked, Siblings};
 use rt_query::Query;
 use rt_tree::Key;
@@ -80,8 +81,9 @@ impl Forms {
 
     // What is registered at a path.
     fn standing(&self, path: &[Key]) -> Option<&Standing>
-        ensures { (query : QueryValue) → option_map_or (own query) (option_copied result) []
+        ensures numbers { (query : QueryValue) → option_map_or (own query) (option_copied result) []
             ≡ seen query path.now self.now.top (row_at self.now.nodes self.now.first) }
+        ensures at { IfSome result (λ standing. AreAt path.now standing.now.filtered) }
     {
         let Some((key, rest)) = path.split_first() else {
             return Some(&self.top);
@@ -121,6 +123,19 @@ impl Forms {
     {
         match self.standing(path) {
             Some(standing) => standing.plain_numbers(),
+            None => &[],
+        }
+    }
+
+    /// The filtered forms of a path that have listeners, with the numbers of theirs: whoever looks
+    /// for what takes in a query, or for what it takes in, looks at these alone.
+    ///
+    /// Costs by the path, and the logarithm of the number of siblings at each of its keys.
+    pub fn filtered_at(&self, path: &[Key]) -> &[Filtered]
+        ensures { AreFilteredAt self.now path.now result.now }
+    {
+        match self.standing(path) {
+            Some(standing) => standing.filtered(),
             None => &[],
         }
     }

@@ -14,3 +14,4 @@ mod removing;
 mod standing;
 
 pub use forms::Forms;
+pub use standing::Filtered;

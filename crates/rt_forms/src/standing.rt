@@ -14,9 +14,9 @@ use rt_query::Query;
 use std::alloc::{AllocError, Global};
 use std::marker::Model;
 
-// A filtered form, and the numbers of its listeners.
+/// A filtered form, and the numbers of its listeners.
 #[derive(Debug)]
-struct Filtered {
+pub struct Filtered {
     form: Query,
     numbers: Numbers,
 }
@@ -37,6 +37,22 @@ impl Model for Filtered {
     ghost Value = { Query × List ℕ };
 
     ghost view = { λ a. (a.form, a.numbers) };
+}
+
+impl Filtered {
+    /// The form.
+    pub fn form(&self) -> &Query
+        ensures { result.now ≡ self.now.0 }
+    {
+        &self.form
+    }
+
+    /// The numbers of its listeners, in rising order.
+    pub fn numbers(&self) -> &[u64]
+        ensures { result.now ≡ self.now.1 }
+    {
+        self.numbers.as_slice()
+    }
 }
 
 // The numbers of the plain form's listeners, the filtered forms with those of theirs, and how many
@@ -252,6 +268,13 @@ impl Standing {
         ensures { result.now ≡ self.now.plain }
     {
         self.plain.as_slice()
+    }
+
+    // The filtered forms, with the numbers of their listeners.
+    pub(crate) fn filtered(&self) -> &[Filtered]
+        ensures { result.now ≡ self.now.filtered }
+    {
+        self.filtered.as_slice()
     }
 
     // Adds the numbers of all listeners at the path.

@@ -10,7 +10,7 @@ returns-in-Some c =
     let a = c.args.self.now in
     let keys : c.keys.result.now ≡ q.path = c.keys.ensures.keys ∙ c.path.ensures in
     c.numbers.ensures ∙ sym (ap (λ o. option_map_or (own q) (option_copied o) []) c.in-Some.is)
-    ∙ c.standing.ensures q ∙ ap (λ p. seen q p a.top (row_at a.nodes a.first)) keys
+    ∙ c.standing.ensures.numbers q ∙ ap (λ p. seen q p a.top (row_at a.nodes a.first)) keys
 
 pub returns-in-None : goal.returns-in-None
 returns-in-None c =
@@ -18,4 +18,4 @@ returns-in-None c =
     let a = c.args.self.now in
     let keys : c.keys.result.now ≡ q.path = c.keys.ensures.keys ∙ c.path.ensures in
     sym (ap (λ o. option_map_or (own q) (option_copied o) []) c.in-None.is)
-    ∙ c.standing.ensures q ∙ ap (λ p. seen q p a.top (row_at a.nodes a.first)) keys
+    ∙ c.standing.ensures.numbers q ∙ ap (λ p. seen q p a.top (row_at a.nodes a.first)) keys
