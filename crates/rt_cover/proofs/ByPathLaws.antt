@@ -1,31 +1,29 @@
 -- Whoever asks after the paths above one finds what supplies it.
-use Rattle.std.proofs.Common.{◌≡◌, ℕ, zero, suc, ◌+◌, ◌<◌, ◌≤◌, ◌==◌, nat_lt, Bool, true, false, cond, not, ◌&&◌, ◌||◌, List, [], ◌∷◌, ◌++◌, length, take, drop, get_or, refl, sym, ap, subst, ◌∙◌, arith, ltb-true, ltb-false, Some, None, is_some, map, append_assoc, append-nil, eqb-true}
+use Rattle.std.proofs.Common.{◌≡◌, ℕ, zero, suc, ◌+◌, ◌<◌, ◌≤◌, ◌==◌, nat_lt, Bool, true, false, cond, not, ◌&&◌, ◌||◌, List, [], ◌∷◌, ◌++◌, length, take, drop, get_or, refl, sym, ap, subst, ◌∙◌, arith, ltb-true, ltb-false, None, is_some, map, append_assoc, append-nil, eqb-true}
 use mathlib.Core.Bool.{true≢false}
-use Rattle.std.specs.Cmp.{IsStrictWeakOrder}
-use Rattle.std.specs.List.{filter, find, list_any, All, AllPairs, Contains}
-use Rattle.std.specs.Option.{option_map_or}
+use Rattle.std.specs.List.{filter, list_any, All, AllPairs, Contains}
 use Rattle.std.proofs.lemmas.List.{drop_more}
-use Rattle.std.specs.List.Sorted.{ties}
-use Rattle.std.specs.Ordering.{is_lt, is_eq, ordering_then, ordering_reverse}
-use Rattle.std.specs.declared.cmp.Ordering.{Ordering}
+use Rattle.std.specs.Ordering.{is_eq, ordering_then}
 use Rattle.std.specs.declared.cmp.Ordering.TheVariants.{Less, Equal, Greater}
 use Rattle.std.proofs.lemmas.Bool.Decides.{nat_tests}
 use Rattle.std.proofs.lemmas.List.Elements.{All-contains}
 use Rattle.std.proofs.lemmas.List.Folds.{list_any_none}
-use Rattle.std.proofs.lemmas.List.Sorted.{ranks_by}
 use Rattle.rt_tree.specs.PathTree.{Path, path_cmp, path_eq, key_cmp, strip}
 use Rattle.rt_tree.specs.Assignments.{is_at_or_above}
-use Rattle.rt_tree.specs.laws.Prefixes.{paths_total, path_eq-is, path_eq-same, length-strip, strip-some}
+use Rattle.rt_tree.specs.TreeEq.{both_second}
+use Rattle.rt_tree.specs.laws.Prefixes.{path_eq-is, path_eq-same, length-strip, strip-some}
 use Rattle.rt_query.specs.Queries.{Query, plain, is_filtered}
 use Rattle.rt_query.specs.QueryEq.{query_eq}
+use Rattle.rt_query.specs.Ranges.{takes_in}
 use Rattle.rt_query.specs.Supply.{form, does_supply}
 use Rattle.rt_query.specs.laws.QueryEq.{query_eq_tells}
-use Rattle.rt_cover.specs.Cover.{Registered, Tagged, forms, first_listener}
+use Rattle.rt_query.specs.laws.RangeLaws.{taken_in}
+use Rattle.rt_cover.specs.Cover.{Registered, Tagged, forms}
 use Rattle.rt_cover.specs.State.{shown_with}
 use Rattle.rt_cover.specs.declared.kept.Kept.{Kept}
 use Rattle.rt_cover.specs.inside.Endings.{left}
 use Rattle.rt_cover.specs.laws.FormLaws.{form_unfiltered, supply_filtered, supply_unfiltered}
-use Rattle.rt_cover.specs.laws.Pairs.{filter_all, All-from_contained, Contains-head, Contains-later, filter_agreeing}
+use Rattle.rt_cover.specs.laws.Pairs.{filter_all, All-from_contained, Contains-head, Contains-later}
 use Rattle.rt_cover.specs.laws.Paths.{rest_of_above, is_at_or_above-same}
 use Rattle.rt_cover.proofs.StartLaws.{list_any_agreeing, list_any_either, list_any_filtered, lt_true, lt_false, is_seen, forms_of_firsts}
 
@@ -169,26 +167,38 @@ pub list_any_agreed : {X : Type 0} (p q : X → Bool) (xs : List X) → ((x : X)
 list_any_agreed p q [] h = refl
 list_any_agreed p q (x ∷ xs) h = λ i. h x (Contains-head x xs) i || list_any_agreed p q xs (λ y m. h y (Contains-later x xs y m)) i
 
--- of two forms: another one that supplies it is plain and above, or plain and there, if this one is
--- filtered
+-- another range, which takes in the form's
+abbrev pub is_wider : Query → Registered → Bool
+is_wider f l = not (query_eq l.1 f) && takes_in l.1 f
+
+-- of two forms: another one that supplies it is plain and above, or plain and there or a wider range, if
+-- this one is filtered
 another_supplies : (m f : Query) → form m ≡ m → form f ≡ f
     → (not (query_eq m f) && does_supply m f)
     ≡ (((is_at_or_above m.path f.path && nat_lt (length m.path) (length f.path)) && not (is_filtered m))
-    || (is_filtered f && (path_eq m.path f.path && not (is_filtered m))))
+    || (is_filtered f && ((path_eq m.path f.path && not (is_filtered m)) || (not (query_eq m f) && takes_in m f))))
 another_supplies m f own_m own_f =
-    elim (is_filtered m) as (λ b. is_filtered m ≡ b → (not (query_eq m f) && does_supply m f) ≡ told b) [
-      | true ↦ λ e. ap (λ b. not (query_eq m f) && b) (supply_filtered m f e) ∙ never (query_eq m f)
-          ∙ sym ((λ i. and_no (is_at_or_above m.path f.path && nat_lt (length m.path) (length f.path)) i || (is_filtered f && and_no (path_eq m.path f.path) i)) ∙ and_no (is_filtered f))
+    elim (is_filtered m) as (λ b. is_filtered m ≡ b → (not (query_eq m f) && does_supply m f) ≡ told b (not (query_eq m f) && takes_in m f)) [
+      | true ↦ λ e. ap (λ b. not (query_eq m f) && b) (supply_filtered m f e) ∙ other (query_eq m f) (takes_in m f)
+          ∙ sym ((λ i. and_no (is_at_or_above m.path f.path && nat_lt (length m.path) (length f.path)) i
+          || (is_filtered f && (and_no (path_eq m.path f.path) i || (not (query_eq m f) && takes_in m f))))
+          ∙ beside (is_filtered f) (not (query_eq m f) && takes_in m f)
+          (λ t. (taken_in m f (both_second (not (query_eq m f)) (takes_in m f) t)).inner))
       | false ↦ λ e. ap (λ b. not (query_eq m f) && b) (supply_unfiltered m f e) ∙ plain_one e
+          ∙ ap (told false) (sym (ap (λ b. not (query_eq m f) && b) (fails (takes_in m f) (λ t. true≢false (sym (taken_in m f t).outer ∙ e))) ∙ and_no (not (query_eq m f))))
     ] refl
   where
-    told : Bool → Bool
-    told b = ((is_at_or_above m.path f.path && nat_lt (length m.path) (length f.path)) && not b)
-        || (is_filtered f && (path_eq m.path f.path && not b))
+    told : Bool → Bool → Bool
+    told b w = ((is_at_or_above m.path f.path && nat_lt (length m.path) (length f.path)) && not b)
+        || (is_filtered f && ((path_eq m.path f.path && not b) || w))
 
-    never : (b : Bool) → (not b && b) ≡ false
-    never true = refl
-    never false = refl
+    other : (b t : Bool) → (not b && (b || t)) ≡ (not b && t)
+    other true t = refl
+    other false t = refl
+
+    beside : (a w : Bool) → (w ≡ true → a ≡ true) → (a && w) ≡ w
+    beside a true h = ap (λ b. b && true) (h refl)
+    beside a false h = and_no a
 
     and_yes : (b : Bool) → (b && true) ≡ b
     and_yes true = refl
@@ -202,20 +212,20 @@ another_supplies m f own_m own_f =
     ] refl
 
     further : (m.path ≡ f.path → ⊥) → (not (query_eq m f) && is_at_or_above m.path f.path)
-        ≡ (((is_at_or_above m.path f.path && true) && true) || (is_filtered f && (path_eq m.path f.path && true)))
+        ≡ (((is_at_or_above m.path f.path && true) && true) || (is_filtered f && ((path_eq m.path f.path && true) || false)))
     further apart = (λ i. not (fails (query_eq m f) (λ t. apart (ap (λ q. q.path) ((query_eq_tells m f).0 t))) i) && is_at_or_above m.path f.path)
-        ∙ sym ((λ i. and_yes (and_yes (is_at_or_above m.path f.path) i) i || (is_filtered f && (fails (path_eq m.path f.path) (λ t. apart (path_eq-is m.path f.path t)) i && true)))
+        ∙ sym ((λ i. and_yes (and_yes (is_at_or_above m.path f.path) i) i || (is_filtered f && ((fails (path_eq m.path f.path) (λ t. apart (path_eq-is m.path f.path t)) i && true) || false)))
         ∙ (λ i. is_at_or_above m.path f.path || and_no (is_filtered f) i) ∙ or_no (is_at_or_above m.path f.path))
 
-    plain_one : is_filtered m ≡ false → (not (query_eq m f) && is_at_or_above m.path f.path) ≡ told false
+    plain_one : is_filtered m ≡ false → (not (query_eq m f) && is_at_or_above m.path f.path) ≡ told false false
     plain_one flat = elim (nat_lt (length m.path) (length f.path)) as (λ b. nat_lt (length m.path) (length f.path) ≡ b
-        → (not (query_eq m f) && is_at_or_above m.path f.path) ≡ (((is_at_or_above m.path f.path && b) && true) || (is_filtered f && (path_eq m.path f.path && true)))) [
+        → (not (query_eq m f) && is_at_or_above m.path f.path) ≡ (((is_at_or_above m.path f.path && b) && true) || (is_filtered f && ((path_eq m.path f.path && true) || false)))) [
           | true ↦ λ lt. further (λ is. omega (arith, ltb-true (length m.path) (length f.path) lt, ap length is))
           | false ↦ λ le. elim (is_at_or_above m.path f.path) as (λ a. is_at_or_above m.path f.path ≡ a
-              → (not (query_eq m f) && a) ≡ (((a && false) && true) || (is_filtered f && (path_eq m.path f.path && true)))) [
+              → (not (query_eq m f) && a) ≡ (((a && false) && true) || (is_filtered f && ((path_eq m.path f.path && true) || false)))) [
                 | true ↦ λ a. let is : m.path ≡ f.path = no_rest m.path f.path a (ltb-false (length m.path) (length f.path) le) in
-                    and_yes (not (query_eq m f)) ∙ here flat is ∙ sym (ap (λ b. is_filtered f && (b && true)) (subst (λ p. path_eq m.path p ≡ true) is (path_eq-same m.path)) ∙ and_yes (is_filtered f))
-                | false ↦ λ a. and_no (not (query_eq m f)) ∙ sym (ap (λ b. is_filtered f && (b && true)) (fails (path_eq m.path f.path) (λ t.
+                    and_yes (not (query_eq m f)) ∙ here flat is ∙ sym (ap (λ b. is_filtered f && ((b && true) || false)) (subst (λ p. path_eq m.path p ≡ true) is (path_eq-same m.path)) ∙ and_yes (is_filtered f))
+                | false ↦ λ a. and_no (not (query_eq m f)) ∙ sym (ap (λ b. is_filtered f && ((b && true) || false)) (fails (path_eq m.path f.path) (λ t.
                     true≢false (sym (subst (λ p. is_at_or_above m.path p ≡ true) (path_eq-is m.path f.path t) (is_at_or_above-same m.path)) ∙ a))) ∙ and_no (is_filtered f))
               ] refl
         ] refl
@@ -223,16 +233,18 @@ another_supplies m f own_m own_f =
 -- all of those by path
 pub supplied_by_paths : (f : Query) (ls : List Registered) → All (λ (l : Registered). form l.1 ≡ l.1) ls → form f ≡ f
     → list_any (λ (l : Registered). not (query_eq l.1 f) && does_supply l.1 f) ls
-    ≡ (list_any (is_plain_above (λ (x : Registered). x.1) f.path (length f.path)) ls || (is_filtered f && list_any (is_plain_at (λ (x : Registered). x.1) f.path) ls))
+    ≡ (list_any (is_plain_above (λ (x : Registered). x.1) f.path (length f.path)) ls
+    || (is_filtered f && (list_any (is_plain_at (λ (x : Registered). x.1) f.path) ls || list_any (is_wider f) ls)))
 supplied_by_paths f ls own own_f =
     list_any_agreed (λ (l : Registered). not (query_eq l.1 f) && does_supply l.1 f)
-    (λ l. is_plain_above (λ (x : Registered). x.1) f.path (length f.path) l || (is_filtered f && is_plain_at (λ (x : Registered). x.1) f.path l)) ls
+    (λ l. is_plain_above (λ (x : Registered). x.1) f.path (length f.path) l || (is_filtered f && (is_plain_at (λ (x : Registered). x.1) f.path l || is_wider f l))) ls
     (λ l m. another_supplies l.1 f (All-contains (λ (x : Registered). form x.1 ≡ x.1) ls l own m) own_f)
-    ∙ list_any_either (is_plain_above (λ (x : Registered). x.1) f.path (length f.path)) (λ l. is_filtered f && is_plain_at (λ (x : Registered). x.1) f.path l) ls
+    ∙ list_any_either (is_plain_above (λ (x : Registered). x.1) f.path (length f.path)) (λ l. is_filtered f && (is_plain_at (λ (x : Registered). x.1) f.path l || is_wider f l)) ls
     ∙ ap (λ b. list_any (is_plain_above (λ (x : Registered). x.1) f.path (length f.path)) ls || b) (once (is_filtered f))
   where
-    once : (b : Bool) → list_any (λ l. b && is_plain_at (λ (x : Registered). x.1) f.path l) ls ≡ (b && list_any (is_plain_at (λ (x : Registered). x.1) f.path) ls)
-    once true = refl
+    once : (b : Bool) → list_any (λ l. b && (is_plain_at (λ (x : Registered). x.1) f.path l || is_wider f l)) ls
+        ≡ (b && (list_any (is_plain_at (λ (x : Registered). x.1) f.path) ls || list_any (is_wider f) ls))
+    once true = list_any_either (is_plain_at (λ (x : Registered). x.1) f.path) (is_wider f) ls
     once false = list_any_none (λ (l : Registered). false) ls (λ k d lt. refl)
 
 -- ---- forms, one listener after another

@@ -1,30 +1,29 @@
 -- What the end of some listeners loses and starts, as the code finds it: by the numbers of those that
 -- end, and by the paths of the listens that are lost.
-use Rattle.std.proofs.Common.{◌≡◌, ◌≢◌, ℕ, ◌<◌, ◌≤◌, ◌==◌, nat_lt, Bool, true, false, cond, not, ◌&&◌, ◌||◌, inl, inr, List, [], ◌∷◌, ◌++◌, map, refl, sym, ap, subst, ◌∙◌, arith, ltb-true, eqb-true, eq-eqb, Option, Some, None, IfSome, IfNone}
+use Rattle.std.proofs.Common.{◌≡◌, ◌≢◌, ℕ, ◌<◌, ◌≤◌, ◌==◌, nat_lt, Bool, true, false, cond, not, ◌&&◌, ◌||◌, inl, inr, List, [], ◌∷◌, map, refl, sym, ap, subst, ◌∙◌, arith, ltb-true, eqb-true, eq-eqb, Option, Some, None, IfSome, IfNone}
 use mathlib.Core.Bool.{true≢false}
-use Rattle.std.specs.List.{filter, find, list_any, All, AllPairs, Contains}
+use Rattle.std.specs.List.{filter, find, list_any, AllPairs, Contains}
 use Rattle.std.specs.Option.{option_map, option_map_or}
 use Rattle.std.proofs.lemmas.Bool.Decides.{nat_tests}
 use Rattle.std.proofs.lemmas.List.Elements.{All-contains}
-use Rattle.std.proofs.lemmas.List.Folds.{Any-from_list_any, list_any_none, list_any-append}
+use Rattle.std.proofs.lemmas.List.Folds.{Any-from_list_any, list_any_none}
 use Rattle.std.proofs.lemmas.List.Kept.{AllPairs-filter}
-use Rattle.rt_tree.specs.Assignments.{is_at_or_above}
 use Rattle.rt_tree.specs.TreeEq.{both, both_first, both_second}
-use Rattle.rt_query.specs.Queries.{Query, is_filtered}
+use Rattle.rt_query.specs.Queries.{Query}
 use Rattle.rt_query.specs.QueryEq.{query_eq}
 use Rattle.rt_query.specs.Supply.{form, does_supply}
 use Rattle.rt_query.specs.laws.QueryEq.{query_eq_tells}
 use Rattle.rt_cover.specs.Cover.{Registered, Tagged, forms, first_listener}
-use Rattle.rt_cover.specs.State.{Cover, numbers_of}
-use Rattle.rt_cover.specs.inside.Endings.{comes_before, is_replaced, starts, is_left_form, is_first, is_lost_by, lost, beginners, begins_under}
+use Rattle.rt_cover.specs.State.{Cover}
+use Rattle.rt_cover.specs.inside.Endings.{is_replaced, starts, is_left_form, is_first, is_lost_by, lost, beginners, begins_after}
 use Rattle.rt_cover.specs.inside.Picked.{picked}
 use Rattle.rt_cover.specs.inside.Sound.{IsSound}
-use Rattle.rt_cover.specs.laws.CoverLaws.{Contains-filter, Contains-from_filter, passes-from_filter}
-use Rattle.rt_cover.specs.laws.FormLaws.{same_tests, supply_filtered, supply_unfiltered}
+use Rattle.rt_cover.specs.laws.CoverLaws.{Contains-filter, Contains-from_filter}
+use Rattle.rt_cover.specs.laws.FormLaws.{same_tests}
 use Rattle.rt_cover.specs.laws.Pairs.{Contains-head, Contains-later, AllPairs-map, AllPairs-three, All-from_contained}
 use Rattle.rt_cover.specs.laws.ShownLaws.{found, first_least, form_in}
 use Rattle.rt_cover.proofs.StartLaws.{list_any_with, list_any_agreeing, list_any_either, list_any_filtered}
-use Rattle.rt_cover.proofs.EndLaws.{starts_first, starts_as, lost_by_ended}
+use Rattle.rt_cover.proofs.EndLaws.{starts_as, lost_by_ended}
 use Rattle.rt_cover.proofs.NewLaws.{kept_registered}
 use Rattle.rt_cover.proofs.PickLaws.{rising_any, picked_same}
 use Rattle.rt_cover.proofs.ByPathLaws.{list_any_agreed}
@@ -327,39 +326,17 @@ lost_of_form c s f t e = lost_tags c s ends (t ∷ []) (λ i j d lt within. absu
 
 -- ---- the numbers of those for whom a listen starts
 
--- of one lost listen
-supplied_under : (c : Cover) (ends : Registered → Bool) (p : ℕ → Bool) (k : Tagged) → is_left_form ends c.listeners k.form ≡ false
-    → begins_under ends c.listeners p k
-    ≡ list_any (λ (l : Registered). does_supply k.form l.1 && ((not (ends l) && not (is_replaced ends c.listeners l)) && p l.0)) c.listeners
-supplied_under c ends p k out = elim (is_filtered k.form) as (λ b. is_filtered k.form ≡ b
-    → (not b && list_any (λ (l : Registered). (is_at_or_above (k.form).path (l.1).path && q l) && p l.0) c.listeners) ≡ list_any (λ (l : Registered). does_supply k.form l.1 && (q l && p l.0)) c.listeners) [
-      | true ↦ λ e. sym (never (λ (l : Registered). does_supply k.form l.1 && (q l && p l.0)) c.listeners (λ l m.
-          fails (does_supply k.form l.1 && (q l && p l.0)) (λ t.
-          let is : k.form ≡ l.1 = (query_eq_tells k.form l.1).0 (sym (supply_filtered k.form l.1 e) ∙ both_first (does_supply k.form l.1) (q l && p l.0) t) in
-          let stay : not (ends l) ≡ true = both_first (not (ends l)) (not (is_replaced ends c.listeners l)) (both_first (q l) (p l.0) (both_second (does_supply k.form l.1) (q l && p l.0) t)) in
-          true≢false (sym (list_any_with (λ (x : Registered). query_eq x.1 k.form && not (ends x)) c.listeners l m
-          (both (query_eq l.1 k.form) (not (ends l)) ((query_eq_tells l.1 k.form).1 (sym is)) stay)) ∙ out))))
-      | false ↦ λ e. list_any_agreeing (λ (l : Registered). (is_at_or_above (k.form).path (l.1).path && q l) && p l.0) (λ (l : Registered). does_supply k.form l.1 && (q l && p l.0)) c.listeners
-          (λ l. and_assoc (is_at_or_above (k.form).path (l.1).path) (q l) (p l.0) ∙ ap (λ b. b && (q l && p l.0)) (sym (supply_unfiltered k.form l.1 e)))
-    ] refl
-  where
-    q : Registered → Bool
-    q l = not (ends l) && not (is_replaced ends c.listeners l)
-
--- of all
+-- those that a lost listen supplied
 pub begin_by_lost : (c : Cover) → IsSound c → (ends : Registered → Bool) (p : ℕ → Bool)
-    → list_any (begins_under ends c.listeners p) (lost ends c.kept c.listeners)
+    → list_any (begins_after ends c.listeners p) (lost ends c.kept c.listeners)
     ≡ list_any p (map (λ (l : Registered). l.0) (beginners ends c.kept c.listeners))
 begin_by_lost c s ends p =
-    list_any_agreed (begins_under ends c.listeners p) (λ (k : Tagged). list_any (λ (l : Registered). does_supply k.form l.1 && (q l && p l.0)) c.listeners) gone
-    (λ k m. supplied_under c ends p k (is_out k m))
-    ∙ list_any_swapped (λ (k : Tagged) (l : Registered). does_supply k.form l.1 && (q l && p l.0)) gone c.listeners
+    list_any_swapped (λ (k : Tagged) (l : Registered). does_supply k.form l.1 && (q l && p l.0)) gone c.listeners
     ∙ list_any_agreed (λ (l : Registered). list_any (λ (k : Tagged). does_supply k.form l.1 && (q l && p l.0)) gone) (λ (l : Registered). starts ends c.kept c.listeners l && p l.0) c.listeners
     (λ l m. list_any_beside (λ (k : Tagged). does_supply k.form l.1) (q l && p l.0) gone
     ∙ sym (and_assoc (list_any (λ (k : Tagged). does_supply k.form l.1) gone) (q l) (p l.0))
     ∙ ap (λ b. b && p l.0) (sym (starts_as c s ends l m)))
     ∙ list_any_filtered (starts ends c.kept c.listeners) (λ (l : Registered). p l.0) c.listeners
-    ∙ ap (list_any (λ (l : Registered). p l.0)) (starts_first c s ends)
     ∙ sym (list_any_map (λ (l : Registered). l.0) p (beginners ends c.kept c.listeners))
   where
     gone : List Tagged
@@ -368,15 +345,8 @@ begin_by_lost c s ends p =
     q : Registered → Bool
     q l = not (ends l) && not (is_replaced ends c.listeners l)
 
-    is_out : (k : Tagged) → Contains gone k → is_left_form ends c.listeners k.form ≡ false
-    is_out k m = not_true (is_left_form ends c.listeners k.form) (passes_lost k m)
-      where
-        passes_lost : (k : Tagged) → Contains gone k → not (is_left_form ends c.listeners k.form) ≡ true
-        passes_lost k m = passes-from_filter (λ (x : Tagged). not (is_left_form ends c.listeners x.form)) c.kept k m
-
 begin_rises : (c : Cover) → IsSound c → (ends : Registered → Bool) → AllPairs (λ (l m : Registered). l.0 < m.0) (beginners ends c.kept c.listeners)
-begin_rises c s ends = subst (AllPairs (λ (l m : Registered). l.0 < m.0)) (starts_first c s ends)
-    (AllPairs-filter (λ (l m : Registered). l.0 < m.0) (starts ends c.kept c.listeners) c.listeners s.listeners)
+begin_rises c s ends = AllPairs-filter (λ (l m : Registered). l.0 < m.0) (starts ends c.kept c.listeners) c.listeners s.listeners
 
 -- numbers in order are those of whom a listen starts for
 pub begin_numbers : (c : Cover) → IsSound c → (ends : Registered → Bool) (ns : List ℕ) → AllPairs (λ a b. a < b) ns
@@ -390,4 +360,4 @@ pub begin_picked : (c : Cover) → IsSound c → (ends : Registered → Bool)
     → picked (λ (l : Registered). l.0) c.listeners (map (λ (l : Registered). l.0) (beginners ends c.kept c.listeners)) ≡ beginners ends c.kept c.listeners
 begin_picked c s ends = picked_same (λ (l : Registered). l.0) c.listeners (beginners ends c.kept c.listeners) s.listeners
     (All-from_contained (Contains c.listeners) (beginners ends c.kept c.listeners) (λ l m.
-    Contains-from_filter (starts ends c.kept c.listeners) c.listeners l (subst (λ z. Contains z l) (sym (starts_first c s ends)) m)))
+    Contains-from_filter (starts ends c.kept c.listeners) c.listeners l m))

@@ -1,31 +1,27 @@
 -- What the end of some listeners makes of the listens kept: those stop whose form no listener has
--- that is left, and in place of them those forms start that they alone supplied.
-use Rattle.std.proofs.Common.{◌≡◌, ◌≢◌, ℕ, ◌+◌, ◌<◌, ◌≤◌, ◌==◌, nat_lt, Bool, true, false, cond, not, ◌&&◌, ◌⊎◌, inl, inr, List, [], ◌∷◌, ◌++◌, map, length, refl, sym, ap, subst, ◌∙◌, arith, suc, ltb, ltb-true, ltb-false, eqb-true, eq-eqb, Some, None, is_some}
+-- that is left, and in place of them those forms start that nobody else who is left supplies.
+use Rattle.std.proofs.Common.{◌≡◌, ◌≢◌, ℕ, ◌+◌, ◌<◌, ◌≤◌, ◌==◌, nat_lt, Bool, true, false, cond, not, ◌&&◌, inl, inr, List, [], ◌∷◌, ◌++◌, map, length, refl, sym, ap, subst, ◌∙◌, arith, suc, ltb, ltb-true, ltb-false, eqb-true, eq-eqb}
 use mathlib.Core.Bool.{true≢false}
 use Rattle.std.specs.List.{filter, list_any, enumerate_from, AllPairs, Any, Contains}
 use Rattle.std.proofs.lemmas.List.Elements.{All-contains, All-filter}
 use Rattle.std.proofs.lemmas.List.Folds.{Any-from_list_any}
 use Rattle.std.proofs.lemmas.List.Kept.{AllPairs-filter}
-use Rattle.rt_tree.specs.PathTree.{Path, strip, strip-some, strip-crossed}
-use Rattle.rt_tree.specs.Assignments.{is_at_or_above}
 use Rattle.rt_tree.specs.TreeEq.{both, both_first, both_second}
-use Rattle.rt_query.specs.Queries.{Query, is_filtered}
+use Rattle.rt_query.specs.Queries.{Query}
 use Rattle.rt_query.specs.QueryEq.{query_eq}
 use Rattle.rt_query.specs.Supply.{form, does_supply}
 use Rattle.rt_query.specs.laws.QueryEq.{query_eq_tells}
 use Rattle.rt_cover.specs.Cover.{Registered, Supplies, Tagged, forms, first_listener, is_kept}
 use Rattle.rt_cover.specs.State.{Cover, needed_forms, started_for, shown_with, with_listeners, lacks_tag, difference}
 use Rattle.rt_cover.specs.Shown.{IsTold}
-use Rattle.rt_cover.specs.inside.Endings.{left, comes_before, is_replaced, starts, is_left_form, lost, bereft, beginners, tagged_of, told_of}
+use Rattle.rt_cover.specs.inside.Endings.{left, comes_before, is_replaced, starts, is_left_form, lost, beginners, tagged_of, told_of}
 use Rattle.rt_cover.specs.inside.Sound.{IsSound}
-use Rattle.rt_cover.specs.laws.CoverLaws.{is_covered, Contains-filter, Contains-from_filter, passes-from_filter, needed_fewest, supplies_trans, supplies_antisymm}
-use Rattle.rt_cover.specs.laws.FormLaws.{same_tests, supply_filtered, supply_unfiltered}
+use Rattle.rt_cover.specs.laws.CoverLaws.{is_covered, Contains-filter, Contains-from_filter, passes-from_filter, needed_fewest}
+use Rattle.rt_cover.specs.laws.FormLaws.{same_tests}
 use Rattle.rt_cover.specs.laws.KeepLaws.{Contains-from_map, length_of_map, Contains-from_test, test-from_Contains, forms_are}
-use Rattle.rt_cover.specs.laws.Paths.{rest_of_above}
 use Rattle.rt_cover.specs.laws.Pairs.{Contains-head, Contains-later, AllPairs-three, All-from_contained, filter_agreeing}
 use Rattle.rt_cover.specs.laws.ShownLaws.{found, first_least, form_in, needed_alone}
 use Rattle.rt_cover.specs.laws.SoundLaws.{HasForm, new_forms, sound_after, told_exactly, is_told}
-use Rattle.rt_cover.proofs.SeenLaws.{filter_both}
 use Rattle.rt_cover.proofs.StartLaws.{list_any_with, started_by_listeners, lt_true}
 use Rattle.rt_cover.proofs.NewLaws.{kept_needed, kept_registered}
 
@@ -123,34 +119,6 @@ lost_by_ended c s ends = filter_agreeing (λ (k : Tagged). ended k && not (is_le
         ] refl
 
 -- ---- what starts
-
--- of two paths above a third one is above the other
-comparable : (p q r : Path) → is_at_or_above p r ≡ true → is_at_or_above q r ≡ true → (is_at_or_above p q ≡ true) ⊎ (is_at_or_above q p ≡ true)
-comparable p q r a b =
-    let x = rest_of_above p r a in
-    let y = rest_of_above q r b in
-    elim (strip p q) as (λ o. strip p q ≡ o → (is_some o ≡ true) ⊎ (is_at_or_above q p ≡ true)) [
-      | Some z ↦ λ _. inl refl
-      | None ↦ λ e. inr (strip-crossed p q x.0 y.0 e (subst (λ z. strip p z ≡ Some x.0) (strip-some q r y.0 y.1) x.1))
-    ] refl
-
--- a plain one supplies what is at or under its path; another form supplies it not but by being plain
-plain_above : (f q : Query) → does_supply f q ≡ true → f ≢ q → (is_filtered f ≡ false) × (is_at_or_above f.path q.path ≡ true)
-plain_above f q e differ = elim (is_filtered f) as (λ b. is_filtered f ≡ b → (b ≡ false) × (is_at_or_above f.path q.path ≡ true)) [
-  | true ↦ λ t. absurd (differ ((query_eq_tells f q).0 (sym (supply_filtered f q t) ∙ e)))
-  | false ↦ λ t. (refl, sym (supply_unfiltered f q t) ∙ e)
-] refl
-
--- two kept listens that supply one form, which neither is, are of one form
-pub kept_same : (c : Cover) → IsSound c → (j k : Tagged) → Contains c.kept j → Contains c.kept k → (f : Query)
-    → does_supply j.form f ≡ true → does_supply k.form f ≡ true → j.form ≢ f → k.form ≢ f → j.form ≡ k.form
-kept_same c s j k mj mk f a b dj dk =
-    let x = plain_above j.form f a dj in
-    let y = plain_above k.form f b dk in
-    elim (comparable (j.form).path (k.form).path f.path x.1 y.1) [
-      | inl above ↦ needed_alone (forms c.listeners) k.form j.form (kept_needed c s k mk) (kept_registered c s j mj) (supply_unfiltered j.form k.form x.0 ∙ above)
-      | inr above ↦ sym (needed_alone (forms c.listeners) j.form k.form (kept_needed c s j mj) (kept_registered c s k mk) (supply_unfiltered k.form j.form y.0 ∙ above))
-    ]
 
 -- each registered form is supplied by a kept listen
 kept_supplier : (c : Cover) → IsSound c → (f : Query) → Contains (forms c.listeners) f → (k : Tagged) × Contains c.kept k × (does_supply k.form f ≡ true)
@@ -258,73 +226,6 @@ starts_as c s ends l m = same_tests (starts ends c.kept c.listeners l) (was && (
         both (not (ends l)) (not (is_kept c.kept l.1) && not other) stay
         (both (not (is_kept c.kept l.1)) (not other) (ap not (bereft_new c s ends l m (not_true (ends l) stay) sup)) (both_second (not (ends l)) (not other) rest))
 
--- what comes before it was supplied by a lost one too
-before_bereft : (c : Cover) → IsSound c → (ends : Registered → Bool) (l o : Registered) → Contains c.listeners l → Contains c.listeners o → ends l ≡ false → ends o ≡ false
-    → was_supplied c ends l ≡ true → comes_before o l ≡ true → was_supplied c ends o ≡ true
-before_bereft c s ends l o ml mo stay also e before =
-    elim (query_eq o.1 l.1) as (λ b. query_eq o.1 l.1 ≡ b → cond b (nat_lt o.0 l.0) (does_supply o.1 l.1) ≡ true → was_supplied c ends o ≡ true) [
-      | true ↦ λ t _. ap (λ f. list_any (λ (k : Tagged). does_supply k.form f) (gone c ends)) ((query_eq_tells o.1 l.1).0 t) ∙ e
-      | false ↦ λ t sup. other t sup
-    ] refl before
-  where
-    other : query_eq o.1 l.1 ≡ false → does_supply o.1 l.1 ≡ true → was_supplied c ends o ≡ true
-    other t sup =
-        let k = supplier_of c ends l e in
-        let j = kept_supplier c s o.1 (form_in c.listeners o mo) in
-        let onward : does_supply (j.0).form l.1 ≡ true = supplies_trans (j.0).form o.1 l.1 (registered_is_form c s o mo) j.2 sup in
-        let dk : (k.listen).form ≢ l.1 = λ same. true≢false (sym (subst (λ f. is_left_form ends c.listeners f ≡ true) (sym same) (has_left ends c.listeners l ml stay)) ∙ k.is_lost) in
-        let dj : (j.0).form ≢ l.1 = λ same. true≢false (sym ((query_eq_tells o.1 l.1).1
-        (supplies_antisymm o.1 l.1 (registered_is_form c s o mo) (registered_is_form c s l ml) sup (subst (λ f. does_supply f o.1 ≡ true) same j.2))) ∙ t) in
-        let one : (j.0).form ≡ (k.listen).form = kept_same c s j.0 k.listen j.1 k.is_kept l.1 onward k.supplies dj dk in
-        supplied_by c ends o j.0 j.1 (subst (λ f. is_left_form ends c.listeners f ≡ false) (sym one) k.is_lost) j.2
-
--- so a listen starts just for the first of those that were supplied
-pub starts_first : (c : Cover) → IsSound c → (ends : Registered → Bool)
-    → filter (starts ends c.kept c.listeners) c.listeners ≡ beginners ends c.kept c.listeners
-starts_first c s ends =
-    filter_agreeing (starts ends c.kept c.listeners) (λ (l : Registered). cand l && q l) c.listeners
-    (All-from_contained (λ (l : Registered). starts ends c.kept c.listeners l ≡ (cand l && q l)) c.listeners each)
-    ∙ sym (filter_both q cand (λ (l : Registered). cand l && q l) (λ l. refl) c.listeners)
-  where
-    cand : Registered → Bool
-    cand l = was_supplied c ends l && not (ends l)
-
-    q : Registered → Bool
-    q l = not (list_any (λ (m : Registered). comes_before m l) (bereft ends (gone c ends) c.listeners))
-
-    there : (l : Registered) → Contains c.listeners l → starts ends c.kept c.listeners l ≡ true → (cand l && q l) ≡ true
-    there l m e =
-        let stay : ends l ≡ false = not_true (ends l) (both_first (not (ends l)) (not (is_kept c.kept l.1) && not (is_replaced ends c.listeners l)) e) in
-        let rest : (not (is_kept c.kept l.1) && not (is_replaced ends c.listeners l)) ≡ true = both_second (not (ends l)) (not (is_kept c.kept l.1) && not (is_replaced ends c.listeners l)) e in
-        let new : is_kept c.kept l.1 ≡ false = not_true (is_kept c.kept l.1) (both_first (not (is_kept c.kept l.1)) (not (is_replaced ends c.listeners l)) rest) in
-        let first : is_replaced ends c.listeners l ≡ false = not_true (is_replaced ends c.listeners l) (both_second (not (is_kept c.kept l.1)) (not (is_replaced ends c.listeners l)) rest) in
-        both (cand l) (q l) (both (was_supplied c ends l) (not (ends l)) (starts_bereft c s ends l m stay new first) (ap not stay))
-        (ap not (fails (list_any (λ (x : Registered). comes_before x l) (bereft ends (gone c ends) c.listeners)) (λ t.
-        let a = Any-from_list_any (λ (x : Registered). comes_before x l) (bereft ends (gone c ends) c.listeners) t in
-        let ma : Contains (bereft ends (gone c ends) c.listeners) a.1 = (a.0, a.2, a.3) in
-        true≢false (sym (list_any_with (λ (x : Registered). not (ends x) && comes_before x l) c.listeners a.1
-        (Contains-from_filter cand c.listeners a.1 ma)
-        (both (not (ends a.1)) (comes_before a.1 l) (both_second (was_supplied c ends a.1) (not (ends a.1)) (passes-from_filter cand c.listeners a.1 ma)) a.4)) ∙ first))))
-
-    back : (l : Registered) → Contains c.listeners l → (cand l && q l) ≡ true → starts ends c.kept c.listeners l ≡ true
-    back l m e =
-        let ca : cand l ≡ true = both_first (cand l) (q l) e in
-        let out : list_any (λ (x : Registered). comes_before x l) (bereft ends (gone c ends) c.listeners) ≡ false = not_true _ (both_second (cand l) (q l) e) in
-        let sup : was_supplied c ends l ≡ true = both_first (was_supplied c ends l) (not (ends l)) ca in
-        let stay : ends l ≡ false = not_true (ends l) (both_second (was_supplied c ends l) (not (ends l)) ca) in
-        both (not (ends l)) (not (is_kept c.kept l.1) && not (is_replaced ends c.listeners l)) (ap not stay)
-        (both (not (is_kept c.kept l.1)) (not (is_replaced ends c.listeners l)) (ap not (bereft_new c s ends l m stay sup))
-        (ap not (fails (is_replaced ends c.listeners l) (λ t.
-        let a = Any-from_list_any (λ (x : Registered). not (ends x) && comes_before x l) c.listeners t in
-        let also : ends a.1 ≡ false = not_true (ends a.1) (both_first (not (ends a.1)) (comes_before a.1 l) a.4) in
-        let before : comes_before a.1 l ≡ true = both_second (not (ends a.1)) (comes_before a.1 l) a.4 in
-        true≢false (sym (list_any_with (λ (x : Registered). comes_before x l) (bereft ends (gone c ends) c.listeners) a.1
-        (Contains-filter cand c.listeners a.1 (a.0, a.2, a.3)
-        (both (was_supplied c ends a.1) (not (ends a.1)) (before_bereft c s ends l a.1 m (a.0, a.2, a.3) stay also sup before) (ap not also))) before) ∙ out)))))
-
-    each : (l : Registered) → Contains c.listeners l → starts ends c.kept c.listeners l ≡ (cand l && q l)
-    each l m = same_tests (starts ends c.kept c.listeners l) (cand l && q l) (there l m) (back l m)
-
 -- ---- the change
 
 abbrev who : Cover → (Registered → Bool) → List Registered
@@ -332,7 +233,7 @@ who c ends = beginners ends c.kept c.listeners
 
 starting : (c : Cover) → IsSound c → (ends : Registered → Bool)
     → new_forms c.kept (needed_forms (left ends c.listeners)) ≡ map (λ (l : Registered). l.1) (who c ends)
-starting c s ends = started_by_listeners ends c.kept c.listeners s.listeners ∙ ap (map (λ (l : Registered). l.1)) (starts_first c s ends)
+starting c s ends = started_by_listeners ends c.kept c.listeners s.listeners
 
 -- the next tags, one for each
 numbered_by : (n : ℕ) (ls : List Registered)
@@ -349,14 +250,13 @@ length_by : (n : ℕ) (ls : List Registered) → length (map tagged_of (enumerat
 length_by n [] = refl
 length_by n (l ∷ ls) = ap suc (length_by (n + 1) ls)
 
--- the first of those that are supplied is the first of its form
+-- one for whom a listen starts is the first of its form
 is_first : (c : Cover) → IsSound c → (ends : Registered → Bool) (l : Registered) → Contains (who c ends) l → first_listener (left ends c.listeners) l.1 ≡ l.0
 is_first c s ends l m =
     let here : List Registered = left ends c.listeners in
     let rise : AllPairs (λ (x y : Registered). x.0 < y.0) here = AllPairs-filter (λ (x y : Registered). x.0 < y.0) (λ (x : Registered). not (ends x)) c.listeners s.listeners in
-    let started : Contains (filter (starts ends c.kept c.listeners) c.listeners) l = subst (λ z. Contains z l) (sym (starts_first c s ends)) m in
-    let there : Contains c.listeners l = Contains-from_filter (starts ends c.kept c.listeners) c.listeners l started in
-    let passes : starts ends c.kept c.listeners l ≡ true = passes-from_filter (starts ends c.kept c.listeners) c.listeners l started in
+    let there : Contains c.listeners l = Contains-from_filter (starts ends c.kept c.listeners) c.listeners l m in
+    let passes : starts ends c.kept c.listeners l ≡ true = passes-from_filter (starts ends c.kept c.listeners) c.listeners l m in
     let stay : ends l ≡ false = not_true (ends l) (both_first (not (ends l)) (not (is_kept c.kept l.1) && not (is_replaced ends c.listeners l)) passes) in
     let first : is_replaced ends c.listeners l ≡ false = not_true (is_replaced ends c.listeners l) (both_second (not (is_kept c.kept l.1)) (not (is_replaced ends c.listeners l))
     (both_second (not (ends l)) (not (is_kept c.kept l.1) && not (is_replaced ends c.listeners l)) passes)) in

@@ -12,16 +12,18 @@ use Rattle.rt_tree.specs.Assignments.{is_at_or_above}
 use Rattle.rt_tree.specs.TreeEq.{both, both_first, both_second}
 use Rattle.rt_query.specs.Queries.{Query, plain, is_filtered}
 use Rattle.rt_query.specs.QueryEq.{query_eq}
-use Rattle.rt_query.specs.Supply.{form}
+use Rattle.rt_query.specs.Ranges.{takes_in}
+use Rattle.rt_query.specs.Supply.{form, does_supply}
 use Rattle.rt_query.specs.laws.QueryEq.{query_eq_tells}
-use Rattle.rt_forms.specs.Forms.{Forms, numbers, count, share_form, IsHeardUnder}
+use Rattle.rt_query.specs.laws.RangeLaws.{taken_in}
+use Rattle.rt_forms.specs.Forms.{Forms, numbers, count, share_form, IsHeardUnder, AreFilteredAt}
 use Rattle.rt_forms.specs.Numbers.{with_number, without_number}
 use Rattle.rt_cover.specs.Cover.{Registered, Tagged, first_listener}
 use Rattle.rt_cover.specs.State.{Cover, is_registered, with_listener, numbers_of, without_form, listen_at, left_after, ended_by}
-use Rattle.rt_cover.specs.inside.Endings.{left, is_left_form, is_replaced, lost, begins_at, begins_under}
+use Rattle.rt_cover.specs.inside.Endings.{left, is_left_form, is_replaced, lost, begins_at, begins_after}
 use Rattle.rt_cover.specs.inside.Sound.{IsSound}
 use Rattle.rt_cover.specs.inside.Held.{IsHeld}
-use Rattle.rt_cover.specs.laws.FormLaws.{same_tests, form_unfiltered}
+use Rattle.rt_cover.specs.laws.FormLaws.{same_tests, form_filtered, form_unfiltered, supply_unfiltered, supplied_is_filtered, supplied_has_path}
 use Rattle.rt_cover.specs.laws.SoundLaws.{with_listener_rises, with_listener_forms}
 use Rattle.rt_cover.specs.laws.Pairs.{Contains-head, Contains-later, AllPairs-first, AllPairs-rest, AllPairs-nil, AllPairs-map, AllPairs-three, Contains-cases, filter_none, filter_all, filter_agreeing, All-from_contained}
 use Rattle.rt_cover.proofs.ByPathLaws.{left_among, list_any_agreed, list_any_implied}
@@ -172,23 +174,114 @@ under_tells ls forms held own p v each only t = same_tests (list_any t v) (list_
         ∙ list_any_with (λ (x : Registered). query_eq x.1 l.1 && t x.0) ls l m
         (both (query_eq l.1 l.1) (t l.0) ((query_eq_tells l.1 l.1).1 refl) (both_second (is_at_or_above p (l.1).path) (t l.0) a.4)))
 
--- for whom a listen starts under a lost plain one
+-- ---- the filtered forms of a path
+
+pub filtered_tells : (ls : List Registered) (forms : Forms) → IsHeld ls forms → (p : Path) (es : List (Query × List ℕ)) → AreFilteredAt forms p es
+    → (s : Query → Bool) (t : ℕ → Bool)
+    → list_any (λ (e : Query × List ℕ). s e.0 && list_any t e.1) es
+    ≡ list_any (λ (l : Registered). (is_filtered l.1 && path_eq (l.1).path p) && (s l.1 && t l.0)) ls
+filtered_tells ls forms held p es are s t = same_tests (list_any of_entry es) (list_any of_one ls) there back
+  where
+    of_entry : Query × List ℕ → Bool
+    of_entry e = s e.0 && list_any t e.1
+
+    of_one : Registered → Bool
+    of_one l = (is_filtered l.1 && path_eq (l.1).path p) && (s l.1 && t l.0)
+
+    Entry : Query × List ℕ → Type 0
+    Entry e = (is_filtered e.0 ≡ true) × ((e.0).path ≡ p) × (numbers forms e.0 ≡ e.1)
+
+    there : list_any of_entry es ≡ true → list_any of_one ls ≡ true
+    there e =
+        let a = Any-from_list_any of_entry es e in
+        let q : Query = (a.1).0 in
+        let is : Entry a.1 = All-contains Entry es a.1 are.only (a.0, a.2, a.3) in
+        let some : list_any t (numbers_of ls q) ≡ true =
+        ap (list_any t) (sym (ap (numbers_of ls) (form_filtered q is.0)) ∙ sym (held.numbers q) ∙ is.2) ∙ both_second (s q) (list_any t (a.1).1) a.4 in
+        let b = Any-from_list_any (λ (m : Registered). query_eq m.1 q && t m.0) ls (sym (of_numbers q t ls) ∙ some) in
+        let same : (b.1).1 ≡ q = (query_eq_tells (b.1).1 q).0 (both_first (query_eq (b.1).1 q) (t (b.1).0) b.4) in
+        list_any_with of_one ls b.1 (b.0, b.2, b.3)
+        (both (is_filtered (b.1).1 && path_eq ((b.1).1).path p) (s (b.1).1 && t (b.1).0)
+        (both (is_filtered (b.1).1) (path_eq ((b.1).1).path p) (ap is_filtered same ∙ is.0)
+        (subst (λ z. path_eq ((b.1).1).path z ≡ true) (ap (λ (x : Query). x.path) same ∙ is.1) (path_eq-same ((b.1).1).path)))
+        (both (s (b.1).1) (t (b.1).0) (ap s same ∙ both_first (s q) (list_any t (a.1).1) a.4) (both_second (query_eq (b.1).1 q) (t (b.1).0) b.4)))
+
+    back : list_any of_one ls ≡ true → list_any of_entry es ≡ true
+    back e =
+        let a = Any-from_list_any of_one ls e in
+        let l : Registered = a.1 in
+        let first = both_first (is_filtered l.1 && path_eq (l.1).path p) (s l.1 && t l.0) a.4 in
+        let rest = both_second (is_filtered l.1 && path_eq (l.1).path p) (s l.1 && t l.0) a.4 in
+        let own : is_filtered l.1 ≡ true = both_first (is_filtered l.1) (path_eq (l.1).path p) first in
+        let at : (l.1).path ≡ p = path_eq-is (l.1).path p (both_second (is_filtered l.1) (path_eq (l.1).path p) first) in
+        let heard : list_any t (numbers forms l.1) ≡ true =
+        ap (list_any t) (held.numbers l.1 ∙ ap (numbers_of ls) (form_filtered l.1 own)) ∙ of_numbers l.1 t ls
+        ∙ list_any_with (λ (x : Registered). query_eq x.1 l.1 && t x.0) ls l (a.0, a.2, a.3)
+        (both (query_eq l.1 l.1) (t l.0) ((query_eq_tells l.1 l.1).1 refl) (both_second (s l.1) (t l.0) rest)) in
+        elim (are.each l.1 own at) [
+          | inl none ↦ absurd (true≢false (sym heard ∙ ap (list_any t) none))
+          | inr has ↦ list_any_with of_entry es (l.1, numbers forms l.1) has (both (s l.1) (list_any t (numbers forms l.1)) (both_first (s l.1) (t l.0) rest) heard)
+        ]
+
+and_no : (b : Bool) → (b && false) ≡ false
+and_no true = refl
+and_no false = refl
+
+-- a test that another follows from needs no word beside it
+absorbed : (a b c : Bool) → (b ≡ true → a ≡ true) → (a && (b && c)) ≡ (b && c)
+absorbed a true c h = ap (λ x. x && c) (h refl)
+absorbed a false c h = and_no a
+
+-- a wider range, and left
+pub wider_left : (p : Path) (q : Query) (ended : ℕ → Bool) (ls : List Registered) → p ≡ q.path
+    → list_any (λ (l : Registered). (is_filtered l.1 && path_eq (l.1).path p) && ((not (query_eq l.1 q) && takes_in l.1 q) && not (ended l.0))) ls
+    ≡ list_any (λ (l : Registered). not (query_eq l.1 q) && takes_in l.1 q) (left (λ (l : Registered). ended l.0) ls)
+wider_left p q ended ls is =
+    list_any_agreed (λ (l : Registered). (is_filtered l.1 && path_eq (l.1).path p) && (wider l && not (ended l.0))) (λ (l : Registered). not (ended l.0) && wider l) ls
+    (λ l _. absorbed (is_filtered l.1 && path_eq (l.1).path p) (wider l) (not (ended l.0)) (there l) ∙ turned (wider l) (not (ended l.0)))
+    ∙ list_any_filtered (λ (l : Registered). not (ended l.0)) wider ls
+  where
+    wider : Registered → Bool
+    wider l = not (query_eq l.1 q) && takes_in l.1 q
+
+    turned : (a b : Bool) → (a && b) ≡ (b && a)
+    turned true true = refl
+    turned true false = refl
+    turned false true = refl
+    turned false false = refl
+
+    there : (l : Registered) → wider l ≡ true → (is_filtered l.1 && path_eq (l.1).path p) ≡ true
+    there l e =
+        let t = taken_in l.1 q (both_second (not (query_eq l.1 q)) (takes_in l.1 q) e) in
+        both (is_filtered l.1) (path_eq (l.1).path p) t.outer (subst (λ z. path_eq (l.1).path z ≡ true) (t.paths ∙ sym is) (path_eq-same (l.1).path))
+
+-- ---- for whom a listen starts
+
+-- by the number of one that is registered
+begins_one : (ends : Registered → Bool) (ls : List Registered) → Rise ls → (p : ℕ → Bool) (l : Registered) → Contains ls l
+    → begins_at ends ls p l.0 ≡ ((not (ends l) && not (is_replaced ends ls l)) && p l.0)
+begins_one ends ls rise p l m = ap (λ o. option_map_or (λ (x : Registered). (not (ends x) && not (is_replaced ends ls x)) && p l.0) o false) (find_one (λ (x : Registered). x.0) ls l rise m)
+
+-- under a lost plain one
 pub under_begins : (ends : Registered → Bool) (ls : List Registered) → Rise ls → (p : ℕ → Bool) (k : Tagged) → is_filtered k.form ≡ false
-    → list_any (λ (l : Registered). is_at_or_above (k.form).path (l.1).path && begins_at ends ls p l.0) ls ≡ begins_under ends ls p k
+    → list_any (λ (l : Registered). is_at_or_above (k.form).path (l.1).path && begins_at ends ls p l.0) ls ≡ begins_after ends ls p k
 under_begins ends ls rise p k flat =
     list_any_agreed (λ (l : Registered). is_at_or_above (k.form).path (l.1).path && begins_at ends ls p l.0)
-    (λ (l : Registered). (is_at_or_above (k.form).path (l.1).path && q l) && p l.0) ls
-    (λ l m. ap (λ b. is_at_or_above (k.form).path (l.1).path && b)
-    (ap (λ o. option_map_or (λ (x : Registered). q x && p l.0) o false) (find_one (λ (x : Registered). x.0) ls l rise m))
-    ∙ sym (assoc (is_at_or_above (k.form).path (l.1).path) (q l) (p l.0)))
-    ∙ ap (λ b. not b && list_any (λ (l : Registered). (is_at_or_above (k.form).path (l.1).path && q l) && p l.0) ls) (sym flat)
-  where
-    q : Registered → Bool
-    q l = not (ends l) && not (is_replaced ends ls l)
+    (λ (l : Registered). does_supply k.form l.1 && ((not (ends l) && not (is_replaced ends ls l)) && p l.0)) ls
+    (λ l m. (λ i. (sym (supply_unfiltered k.form l.1 flat)) i && begins_one ends ls rise p l m i))
 
-    assoc : (a b c : Bool) → ((a && b) && c) ≡ (a && (b && c))
-    assoc true b c = refl
-    assoc false b c = refl
+-- at the path of another one
+pub filtered_begins : (ends : Registered → Bool) (ls : List Registered) → Rise ls → (p : ℕ → Bool) (k : Tagged) (path : Path) → path ≡ (k.form).path → is_filtered k.form ≡ true
+    → list_any (λ (l : Registered). (is_filtered l.1 && path_eq (l.1).path path) && (does_supply k.form l.1 && begins_at ends ls p l.0)) ls ≡ begins_after ends ls p k
+filtered_begins ends ls rise p k path is own =
+    list_any_agreed (λ (l : Registered). (is_filtered l.1 && path_eq (l.1).path path) && (does_supply k.form l.1 && begins_at ends ls p l.0))
+    (λ (l : Registered). does_supply k.form l.1 && ((not (ends l) && not (is_replaced ends ls l)) && p l.0)) ls
+    (λ l m. absorbed (is_filtered l.1 && path_eq (l.1).path path) (does_supply k.form l.1) (begins_at ends ls p l.0) (there l)
+    ∙ ap (λ b. does_supply k.form l.1 && b) (begins_one ends ls rise p l m))
+  where
+    there : (l : Registered) → does_supply k.form l.1 ≡ true → (is_filtered l.1 && path_eq (l.1).path path) ≡ true
+    there l e = both (is_filtered l.1) (path_eq (l.1).path path) (supplied_is_filtered k.form l.1 own e)
+        (subst (λ z. path_eq (l.1).path z ≡ true) (sym (supplied_has_path k.form l.1 own e) ∙ sym is) (path_eq-same (l.1).path))
 
 -- ---- a listener more
 

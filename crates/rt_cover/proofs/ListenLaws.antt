@@ -1,32 +1,34 @@
 -- The listens by path: who supplies a query, and what a new one takes over.
-use Rattle.std.proofs.Common.{◌≡◌, ◌≢◌, ℕ, ◌+◌, ◌<◌, ◌≤◌, ◌==◌, nat_lt, Bool, true, false, cond, not, ◌&&◌, inl, inr, ◌||◌, List, [], ◌∷◌, map, length, take, refl, sym, ap, subst, ◌∙◌, arith, eqb-true, eq-eqb, Option, Some, None, IfSome, IfNone}
+use Rattle.std.proofs.Common.{◌≡◌, ◌≢◌, ℕ, ◌+◌, ◌<◌, ◌≤◌, ◌==◌, nat_lt, Bool, true, false, cond, not, ◌&&◌, ◌⊎◌, inl, inr, ◌||◌, List, [], ◌∷◌, map, length, take, refl, sym, ap, subst, ◌∙◌, arith, eqb-true, eq-eqb, ltb-true, ltb-false, Option, Some, None, is_some, IfSome, IfNone}
 use mathlib.Core.Bool.{true≢false}
-use Rattle.std.specs.List.{filter, find, list_any, All, AllPairs, Contains}
+use Rattle.std.specs.List.{filter, find, list_any, AllPairs, Contains}
 use Rattle.std.specs.List.Sorted.{IsNonDecreasingBy}
-use Rattle.std.specs.Option.{option_map}
+use Rattle.std.specs.Option.{option_map, option_map_or}
+use Rattle.std.proofs.lemmas.List.Elements.{All-contains}
 use Rattle.std.proofs.lemmas.List.Folds.{Any-from_list_any}
 use Rattle.std.proofs.lemmas.List.Kept.{AllPairs-filter}
-use Rattle.rt_tree.specs.PathTree.{Path, path_eq}
+use Rattle.rt_tree.specs.PathTree.{Path, path_eq, path_eq-same, strip, strip-some, strip-crossed}
 use Rattle.rt_tree.specs.Assignments.{is_at_or_above}
 use Rattle.rt_tree.specs.TreeEq.{both, both_first, both_second}
 use Rattle.rt_tree.specs.laws.Prefixes.{length-strip}
 use Rattle.rt_query.specs.Queries.{Query, is_filtered}
-use Rattle.rt_query.specs.QueryEq.{query_eq}
 use Rattle.rt_query.specs.Supply.{does_supply}
-use Rattle.rt_query.specs.laws.QueryEq.{query_eq_tells}
-use Rattle.rt_cover.specs.Cover.{Tagged, forms}
+use Rattle.rt_cover.specs.Cover.{Tagged, Supplies, forms}
 use Rattle.rt_cover.specs.State.{Cover, supplier}
+use Rattle.rt_cover.specs.Shown.{IsLeastSupplier}
 use Rattle.rt_cover.specs.inside.Index.{form_of, SameCounts}
+use Rattle.rt_cover.specs.inside.Least.{lesser, least_from, IsPlainOrLeast}
 use Rattle.rt_cover.specs.inside.Sound.{IsSound}
-use Rattle.rt_cover.specs.laws.FormLaws.{supply_filtered, supply_unfiltered}
-use Rattle.rt_cover.specs.laws.Pairs.{Contains-head, AllPairs-map, AllPairs-three, All-from_contained, filter_none, filter_all, filter_agreeing}
+use Rattle.rt_cover.specs.laws.FormLaws.{supply_unfiltered, supplied_is_filtered, supplied_has_path}
+use Rattle.rt_cover.specs.laws.Pairs.{Contains-head, AllPairs-map, AllPairs-three, All-from_contained, filter_all, filter_agreeing}
 use Rattle.rt_cover.specs.laws.Paths.{rest_of_above}
 use Rattle.rt_cover.specs.laws.ShownLaws.{needed_alone}
-use Rattle.rt_cover.proofs.ByPathLaws.{is_plain_above, list_any_implied, prefix_at}
+use Rattle.rt_cover.proofs.ByPathLaws.{is_plain_above, list_any_agreed, list_any_implied, prefix_at}
 use Rattle.rt_cover.proofs.CountLaws.{same_filter, same_map, same_trans, rising_same}
-use Rattle.rt_cover.proofs.EndLaws.{kept_same}
 use Rattle.rt_cover.proofs.NewLaws.{kept_needed, kept_registered}
-use Rattle.rt_cover.proofs.StartLaws.{list_any_filtered, list_any_with, lt_true}
+use Rattle.rt_cover.proofs.SeenLaws.{filter_both}
+use Rattle.rt_cover.proofs.StartLaws.{list_any_filtered, list_any_with, lt_true, lt_false}
+use Rattle.rt_cover.proofs.SupplierLaws.{first_is_least}
 
 abbrev pub is_plain : Tagged → Bool
 is_plain k = not (is_filtered k.form)
@@ -100,9 +102,6 @@ above_short p q e = let r = rest_of_above p q e in omega (arith, length-strip p 
 supplies_plain : (f q : Query) → not (is_filtered f) ≡ true → is_at_or_above f.path q.path ≡ true → does_supply f q ≡ true
 supplies_plain f q e above = supply_unfiltered f q (not_true (is_filtered f) e) ∙ above
 
-supplies_equal : (f q : Query) → is_filtered q ≡ true → query_eq f q ≡ true → does_supply f q ≡ true
-supplies_equal f q e same = supply_filtered f q (ap is_filtered ((query_eq_tells f q).0 same) ∙ e) ∙ same
-
 pub some_above : (q : Query) (t : ℕ) (ks : List Tagged) → list_any (λ k. is_at_or_above (k.form).path q.path && (is_plain k && k.tag == t)) ks ≡ true
     → list_any (λ k. does_supply k.form q && k.tag == t) ks ≡ true
 some_above q t ks = list_any_implied (λ k. is_at_or_above (k.form).path q.path && (is_plain k && k.tag == t)) (λ k. does_supply k.form q && k.tag == t)
@@ -111,36 +110,197 @@ some_above q t ks = list_any_implied (λ k. is_at_or_above (k.form).path q.path 
     (supplies_plain k.form q (both_first (is_plain k) (k.tag == t) rest) (both_first (is_at_or_above (k.form).path q.path) (is_plain k && k.tag == t) e))
     (both_second (is_plain k) (k.tag == t) rest)) ks
 
-pub some_equal : (q : Query) (t : ℕ) (ks : List Tagged) → is_filtered q ≡ true → list_any (λ k. query_eq k.form q && k.tag == t) ks ≡ true
-    → list_any (λ k. does_supply k.form q && k.tag == t) ks ≡ true
-some_equal q t ks own = list_any_implied (λ k. query_eq k.form q && k.tag == t) (λ k. does_supply k.form q && k.tag == t)
-    (λ k e. both (does_supply k.form q) (k.tag == t) (supplies_equal k.form q own (both_first (query_eq k.form q) (k.tag == t) e)) (both_second (query_eq k.form q) (k.tag == t) e)) ks
+-- and is plain
+pub plain_supplies : (q : Query) (t : ℕ) (ks : List Tagged) → list_any (λ k. is_at_or_above (k.form).path q.path && (is_plain k && k.tag == t)) ks ≡ true
+    → list_any (λ k. (does_supply k.form q && is_plain k) && k.tag == t) ks ≡ true
+plain_supplies q t ks = list_any_implied (λ k. is_at_or_above (k.form).path q.path && (is_plain k && k.tag == t)) (λ k. (does_supply k.form q && is_plain k) && k.tag == t)
+    (λ k e. let rest = both_second (is_at_or_above (k.form).path q.path) (is_plain k && k.tag == t) e in
+    let flat = both_first (is_plain k) (k.tag == t) rest in
+    both (does_supply k.form q && is_plain k) (k.tag == t)
+    (both (does_supply k.form q) (is_plain k) (supplies_plain k.form q flat (both_first (is_at_or_above (k.form).path q.path) (is_plain k && k.tag == t) e)) flat)
+    (both_second (is_plain k) (k.tag == t) rest)) ks
 
--- one that supplies a query is plain and above it, or is that query
+-- where no plain one stands above a query, what supplies it is filtered
+no_plain : (q : Query) (ks : List Tagged) → list_any (is_plain_above form_of q.path (length q.path + 1)) ks ≡ false
+    → (k : Tagged) → Contains ks k → does_supply k.form q ≡ true → is_filtered k.form ≡ true
+no_plain q ks none k m e = elim (is_filtered k.form) as (λ b. is_filtered k.form ≡ b → b ≡ true) [
+  | true ↦ λ _. refl
+  | false ↦ λ flat.
+      let above : is_at_or_above (k.form).path q.path ≡ true = sym (supply_unfiltered k.form q flat) ∙ e in
+      let le = above_short (k.form).path q.path above in
+      absurd (true≢false (sym (list_any_with (is_plain_above form_of q.path (length q.path + 1)) ks k m
+      (both (is_at_or_above (k.form).path q.path && nat_lt (length (k.form).path) (length q.path + 1)) (is_plain k)
+      (both (is_at_or_above (k.form).path q.path) (nat_lt (length (k.form).path) (length q.path + 1)) above (lt_true (length (k.form).path) (length q.path + 1) (omega (arith, le))))
+      (ap not flat))) ∙ none))
+] refl
+
+-- so none supplies one that isn't
 pub none_supplying : (q : Query) (ks : List Tagged) → list_any (is_plain_above form_of q.path (length q.path + 1)) ks ≡ false
-    → (is_filtered q ≡ true → list_any (λ k. query_eq k.form q) ks ≡ false) → list_any (λ k. does_supply k.form q) ks ≡ false
-none_supplying q ks none other = fails (list_any (λ k. does_supply k.form q) ks) (λ t.
+    → is_filtered q ≡ false → list_any (λ k. does_supply k.form q) ks ≡ false
+none_supplying q ks none flat = fails (list_any (λ k. does_supply k.form q) ks) (λ t.
     let a = Any-from_list_any (λ k. does_supply k.form q) ks t in
-    let k : Tagged = a.1 in
-    let m : Contains ks k = (a.0, a.2, a.3) in
-    elim (is_filtered k.form) as (λ b. is_filtered k.form ≡ b → ⊥) [
-      | true ↦ λ e.
-          let same : query_eq k.form q ≡ true = sym (supply_filtered k.form q e) ∙ a.4 in
-          let own : is_filtered q ≡ true = sym (ap is_filtered ((query_eq_tells k.form q).0 same)) ∙ e in
-          true≢false (sym (list_any_with (λ x. query_eq x.form q) ks k m same) ∙ other own)
-      | false ↦ λ e.
-          let above : is_at_or_above (k.form).path q.path ≡ true = sym (supply_unfiltered k.form q e) ∙ a.4 in
-          let le = above_short (k.form).path q.path above in
-          true≢false (sym (list_any_with (is_plain_above form_of q.path (length q.path + 1)) ks k m
-          (both (is_at_or_above (k.form).path q.path && nat_lt (length (k.form).path) (length q.path + 1)) (is_plain k)
-          (both (is_at_or_above (k.form).path q.path) (nat_lt (length (k.form).path) (length q.path + 1)) above (lt_true (length (k.form).path) (length q.path + 1) (omega (arith, le))))
-          (ap not e))) ∙ none)
-    ] refl)
+    let own = supplied_is_filtered (a.1).form q (no_plain q ks none a.1 (a.0, a.2, a.3) a.4) a.4 in
+    true≢false (sym own ∙ flat))
 
--- of kept listens that supply a query there is one
-one_supplier : (c : Cover) → IsSound c → (q : Query) (j k : Tagged) → Contains c.kept j → Contains c.kept k → does_supply j.form q ≡ true → does_supply k.form q ≡ true → j.tag ≡ k.tag
-one_supplier c s q j k mj mk a b = tags (same (query_eq j.form q) refl (query_eq k.form q) refl)
+-- and what supplies one that is stands at its path
+pub all_there : (q : Query) (ks : List Tagged) → list_any (is_plain_above form_of q.path (length q.path + 1)) ks ≡ false
+    → (t : Tagged → Bool) → ((k : Tagged) → t k ≡ true → does_supply k.form q ≡ true)
+    → list_any t ks ≡ list_any t (filter (λ (k : Tagged). path_eq (k.form).path q.path) ks)
+all_there q ks none t h =
+    list_any_agreed t (λ (k : Tagged). at k && t k) ks each
+    ∙ list_any_filtered at t ks
   where
+    at : Tagged → Bool
+    at k = path_eq (k.form).path q.path
+
+    and_yes : (a : Bool) → (a && true) ≡ a
+    and_yes true = refl
+    and_yes false = refl
+
+    and_no : (a : Bool) → (a && false) ≡ false
+    and_no true = refl
+    and_no false = refl
+
+    each : (k : Tagged) → Contains ks k → t k ≡ (at k && t k)
+    each k m = elim (t k) as (λ b. t k ≡ b → b ≡ (at k && b)) [
+      | true ↦ λ e.
+          let same : (k.form).path ≡ q.path = supplied_has_path k.form q (no_plain q ks none k m (h k e)) (h k e) in
+          sym (and_yes (at k) ∙ subst (λ p. path_eq (k.form).path p ≡ true) same (path_eq-same (k.form).path))
+      | false ↦ λ _. sym (and_no (at k))
+    ] refl
+
+-- ---- the least of some tags
+
+lesser_is : (least : Option ℕ) (n : ℕ) → (least ≡ Some (lesser least n)) ⊎ (lesser least n ≡ n)
+lesser_is None n = inr refl
+lesser_is (Some s) n = elim (nat_lt s n) as (λ b. (Some s ≡ Some (cond b s n)) ⊎ (cond b s n ≡ n)) [ true ↦ inl refl | false ↦ inr refl ]
+
+lesser_le : (least : Option ℕ) (n : ℕ) → lesser least n ≤ n
+lesser_le None n = omega arith
+lesser_le (Some s) n = elim (nat_lt s n) as (λ b. nat_lt s n ≡ b → cond b s n ≤ n) [ true ↦ λ e. omega (arith, ltb-true s n e) | false ↦ λ _. omega arith ] refl
+
+lesser_below : (s n : ℕ) → lesser (Some s) n ≤ s
+lesser_below s n = elim (nat_lt s n) as (λ b. nat_lt s n ≡ b → cond b s n ≤ s) [ true ↦ λ _. omega arith | false ↦ λ e. omega (arith, ltb-false s n e) ] refl
+
+same_tag : (s t : ℕ) → Some s ≡ Some t → s ≡ t
+same_tag s t e = ap (λ o. option_map_or (λ (n : ℕ). n) o s) e
+
+never_none : (p : Tagged → Bool) (s : ℕ) (ks : List Tagged) → least_from p (Some s) ks ≡ None → ⊥
+never_none p s [] e = true≢false (ap is_some e)
+never_none p s (k ∷ ks) e = elim (p k) as (λ b. least_from p (cond b (Some (lesser (Some s) k.tag)) (Some s)) ks ≡ None → ⊥) [
+  | true ↦ never_none p (lesser (Some s) k.tag) ks
+  | false ↦ never_none p s ks
+] e
+
+-- none passes where there is none
+least_none : (p : Tagged → Bool) (ks : List Tagged) → least_from p None ks ≡ None → list_any p ks ≡ false
+least_none p [] e = refl
+least_none p (k ∷ ks) e = elim (p k) as (λ b. least_from p (cond b (Some k.tag) None) ks ≡ None → (b || list_any p ks) ≡ false) [
+  | true ↦ λ f. absurd (never_none p k.tag ks f)
+  | false ↦ least_none p ks
+] e
+
+-- it is the tag of one that passes
+least_is : (p : Tagged → Bool) (least : Option ℕ) (ks : List Tagged) (t : ℕ) → least_from p least ks ≡ Some t
+    → (least ≡ Some t) ⊎ (list_any (λ k. p k && k.tag == t) ks ≡ true)
+least_is p least [] t e = inl e
+least_is p least (k ∷ ks) t e = elim (p k) as (λ b. p k ≡ b → least_from p (cond b (Some (lesser least k.tag)) least) ks ≡ Some t
+    → (least ≡ Some t) ⊎ (list_any (λ x. p x && x.tag == t) (k ∷ ks) ≡ true)) [
+      | true ↦ λ h f. elim (least_is p (Some (lesser least k.tag)) ks t f) [
+        | inl is ↦ of h (same_tag (lesser least k.tag) t is) (lesser_is least k.tag)
+        | inr there ↦ inr (behind there)
+      ]
+      | false ↦ λ h f. elim (least_is p least ks t f) [
+        | inl is ↦ inl is
+        | inr there ↦ inr (behind there)
+      ]
+    ] refl e
+  where
+    or_right : (a b : Bool) → b ≡ true → (a || b) ≡ true
+    or_right true b h = refl
+    or_right false b h = h
+
+    behind : list_any (λ x. p x && x.tag == t) ks ≡ true → list_any (λ x. p x && x.tag == t) (k ∷ ks) ≡ true
+    behind there = or_right (p k && k.tag == t) (list_any (λ x. p x && x.tag == t) ks) there
+
+    of : p k ≡ true → lesser least k.tag ≡ t → (least ≡ Some (lesser least k.tag)) ⊎ (lesser least k.tag ≡ k.tag)
+        → (least ≡ Some t) ⊎ (list_any (λ x. p x && x.tag == t) (k ∷ ks) ≡ true)
+    of h same (inl was) = inl (was ∙ ap Some same)
+    of h same (inr own) = inr (list_any_with (λ x. p x && x.tag == t) (k ∷ ks) k (Contains-head k ks)
+        (both (p k) (k.tag == t) h (eq-eqb k.tag t (sym own ∙ same))))
+
+-- and no other one has a lesser
+least_bound : (p : Tagged → Bool) (s : ℕ) (ks : List Tagged) (t : ℕ) → least_from p (Some s) ks ≡ Some t → t ≤ s
+least_bound p s [] t e = let same = same_tag s t e in omega (arith, same)
+least_bound p s (k ∷ ks) t e = elim (p k) as (λ b. least_from p (cond b (Some (lesser (Some s) k.tag)) (Some s)) ks ≡ Some t → t ≤ s) [
+  | true ↦ λ f. omega (arith, least_bound p (lesser (Some s) k.tag) ks t f, lesser_below s k.tag)
+  | false ↦ least_bound p s ks t
+] e
+
+least_below : (p : Tagged → Bool) (least : Option ℕ) (ks : List Tagged) (t : ℕ) → least_from p least ks ≡ Some t
+    → list_any (λ k. p k && nat_lt k.tag t) ks ≡ false
+least_below p least [] t e = refl
+least_below p least (k ∷ ks) t e = elim (p k) as (λ b. least_from p (cond b (Some (lesser least k.tag)) least) ks ≡ Some t
+    → ((b && nat_lt k.tag t) || list_any (λ x. p x && nat_lt x.tag t) ks) ≡ false) [
+      | true ↦ λ f.
+          let le : t ≤ k.tag = omega (arith, least_bound p (lesser least k.tag) ks t f, lesser_le least k.tag) in
+          (λ i. lt_false k.tag t le i || list_any (λ x. p x && nat_lt x.tag t) ks) ∙ least_below p (Some (lesser least k.tag)) ks t f
+      | false ↦ λ f. least_below p least ks t f
+    ] e
+
+-- what the least tag at the path of a filtered query says of all listens, where no plain one is above it
+module _ (q : Query) (ks : List Tagged) (none : list_any (is_plain_above form_of q.path (length q.path + 1)) ks ≡ false) where
+  abbrev sup : Tagged → Bool
+  sup k = does_supply k.form q
+
+  abbrev here : List Tagged
+  here = filter (λ (k : Tagged). path_eq (k.form).path q.path) ks
+
+  pub least_some : (o : Option ℕ) → o ≡ least_from sup None here → IfSome o (λ t. list_any (λ k. does_supply k.form q && k.tag == t) ks ≡ true)
+  least_some None e = tt
+  least_some (Some t) e = elim (least_is sup None here t (sym e)) [
+    | inl was ↦ absurd (true≢false (sym (ap is_some was)))
+    | inr there ↦ all_there q ks none (λ k. sup k && k.tag == t) (λ k x. both_first (sup k) (k.tag == t) x) ∙ there
+  ]
+
+  pub least_nothing : (o : Option ℕ) → o ≡ least_from sup None here → IfNone o (list_any (λ k. does_supply k.form q) ks ≡ false)
+  least_nothing None e = all_there q ks none sup (λ k x. x) ∙ least_none sup here (sym e)
+  least_nothing (Some t) e = tt
+
+  pub least_least : (o : Option ℕ) → o ≡ least_from sup None here → IfSome o (IsPlainOrLeast ks q)
+  least_least None e = tt
+  least_least (Some t) e = inr (all_there q ks none (λ k. sup k && nat_lt k.tag t) (λ k x. both_first (sup k) (nat_lt k.tag t) x) ∙ least_below sup None here t (sym e))
+
+-- ---- the first that supplies a query
+
+-- of two paths above a third one is above the other
+comparable : (p q r : Path) → is_at_or_above p r ≡ true → is_at_or_above q r ≡ true → (is_at_or_above p q ≡ true) ⊎ (is_at_or_above q p ≡ true)
+comparable p q r a b =
+    let x = rest_of_above p r a in
+    let y = rest_of_above q r b in
+    elim (strip p q) as (λ o. strip p q ≡ o → (is_some o ≡ true) ⊎ (is_at_or_above q p ≡ true)) [
+      | Some z ↦ λ _. inl refl
+      | None ↦ λ e. inr (strip-crossed p q x.0 y.0 e (subst (λ z. strip p z ≡ Some x.0) (strip-some q r y.0 y.1) x.1))
+    ] refl
+
+-- where a kept plain listen supplies a query no other one does
+plain_alone : (c : Cover) → IsSound c → (q : Query) (j k : Tagged) → Contains c.kept j → Contains c.kept k → is_filtered j.form ≡ false
+    → does_supply j.form q ≡ true → does_supply k.form q ≡ true → j.tag ≡ k.tag
+plain_alone c s q j k mj mk flat a b = tags (of (is_filtered k.form) refl)
+  where
+    above : is_at_or_above (j.form).path q.path ≡ true
+    above = sym (supply_unfiltered j.form q flat) ∙ a
+
+    up : is_at_or_above (j.form).path (k.form).path ≡ true → j.form ≡ k.form
+    up e = needed_alone (forms c.listeners) k.form j.form (kept_needed c s k mk) (kept_registered c s j mj) (supply_unfiltered j.form k.form flat ∙ e)
+
+    of : (m : Bool) → is_filtered k.form ≡ m → j.form ≡ k.form
+    of true e = up (subst (λ p. is_at_or_above (j.form).path p ≡ true) (sym (supplied_has_path k.form q e b)) above)
+    of false e = elim (comparable (j.form).path (k.form).path q.path above (sym (supply_unfiltered k.form q e) ∙ b)) [
+      | inl there ↦ up there
+      | inr back ↦ sym (needed_alone (forms c.listeners) j.form k.form (kept_needed c s j mj) (kept_registered c s k mk) (supply_unfiltered k.form j.form e ∙ back))
+    ]
+
     tags : j.form ≡ k.form → j.tag ≡ k.tag
     tags e = elim (AllPairs-three (λ (x y : Tagged). x.form ≢ y.form) c.kept j k s.once mj mk) [
       | inl n ↦ absurd (n e)
@@ -150,61 +310,69 @@ one_supplier c s q j k mj mk a b = tags (same (query_eq j.form q) refl (query_eq
       ]
     ]
 
-    differs : (f : Query) → query_eq f q ≡ false → f ≢ q
-    differs f e is = true≢false (sym ((query_eq_tells f q).1 is) ∙ e)
-
-    same : (m : Bool) → query_eq j.form q ≡ m → (n : Bool) → query_eq k.form q ≡ n → j.form ≡ k.form
-    same true e n f =
-        let is : j.form ≡ q = (query_eq_tells j.form q).0 e in
-        sym (needed_alone (forms c.listeners) j.form k.form (kept_needed c s j mj) (kept_registered c s k mk) (subst (λ z. does_supply k.form z ≡ true) (sym is) b))
-    same false e true f =
-        let is : k.form ≡ q = (query_eq_tells k.form q).0 f in
-        needed_alone (forms c.listeners) k.form j.form (kept_needed c s k mk) (kept_registered c s j mj) (subst (λ z. does_supply j.form z ≡ true) (sym is) a)
-    same false e false f = kept_same c s j k mj mk q a b (differs j.form e) (differs k.form f)
-
--- so whichever is found is the first
+-- so a plain one, and the least of others, is the first
 pub supplier_is : (c : Cover) → IsSound c → (q : Query) (o : Option ℕ) → IfSome o (λ t. list_any (λ k. does_supply k.form q && k.tag == t) c.kept ≡ true)
-    → IfNone o (list_any (λ k. does_supply k.form q) c.kept ≡ false) → o ≡ supplier c q
-supplier_is c s q o some none = both_are o (supplier c q) some none (found_one (λ k. does_supply k.form q) c.kept) (found_none (λ k. does_supply k.form q) c.kept)
+    → IfNone o (list_any (λ k. does_supply k.form q) c.kept ≡ false)
+    → IfSome o (IsPlainOrLeast c.kept q)
+    → o ≡ supplier c q
+supplier_is c s q o some none least = both_are o (supplier c q) some none least (first_is_least c.kept q s.tags) (found_none (λ k. does_supply k.form q) c.kept)
   where
-    of_tag : (t : ℕ) → list_any (λ k. does_supply k.form q && k.tag == t) c.kept ≡ true → (k : Tagged) × Contains c.kept k × (does_supply k.form q ≡ true) × (k.tag ≡ t)
-    of_tag t e =
-        let a = Any-from_list_any (λ k. does_supply k.form q && k.tag == t) c.kept e in
-        (a.1, (a.0, a.2, a.3), both_first (does_supply (a.1).form q) ((a.1).tag == t) a.4, eqb-true (a.1).tag t (both_second (does_supply (a.1).form q) ((a.1).tag == t) a.4))
+    sup : Tagged → Bool
+    sup k = does_supply k.form q
 
     both_are : (x y : Option ℕ) → IfSome x (λ t. list_any (λ k. does_supply k.form q && k.tag == t) c.kept ≡ true) → IfNone x (list_any (λ k. does_supply k.form q) c.kept ≡ false)
-        → IfSome y (λ t. list_any (λ k. does_supply k.form q && k.tag == t) c.kept ≡ true) → IfNone y (list_any (λ k. does_supply k.form q) c.kept ≡ false) → x ≡ y
-    both_are None None a b d e = refl
-    both_are None (Some t) a b d e = let k = of_tag t d in absurd (true≢false (sym (list_any_with (λ x. does_supply x.form q) c.kept k.0 k.1 k.2) ∙ b))
-    both_are (Some t) None a b d e = let k = of_tag t a in absurd (true≢false (sym (list_any_with (λ x. does_supply x.form q) c.kept k.0 k.1 k.2) ∙ e))
-    both_are (Some t) (Some u) a b d e =
-        let j = of_tag t a in
-        let k = of_tag u d in
-        ap Some (sym j.3 ∙ one_supplier c s q j.0 k.0 j.1 k.1 j.2 k.2 ∙ k.3)
-
-pub supplier_none : (c : Cover) (q : Query) → supplier c q ≡ None → list_any (λ k. does_supply k.form q) c.kept ≡ false
-supplier_none c q e = subst (λ o. IfNone o (list_any (λ k. does_supply k.form q) c.kept ≡ false)) e (found_none (λ k. does_supply k.form q) c.kept)
+        → IfSome x (IsPlainOrLeast c.kept q)
+        → IfSome y (IsLeastSupplier c.kept q) → IfNone y (list_any (λ k. does_supply k.form q) c.kept ≡ false) → x ≡ y
+    both_are None None a b l d e = refl
+    both_are None (Some u) a b l d e = absurd (true≢false (sym (list_any_with sup c.kept d.listen d.is_kept d.supplies) ∙ b))
+    both_are (Some t) None a b l d e =
+        let x = Any-from_list_any (λ k. sup k && k.tag == t) c.kept a in
+        absurd (true≢false (sym (list_any_with sup c.kept x.1 (x.0, x.2, x.3) (both_first (sup x.1) ((x.1).tag == t) x.4)) ∙ e))
+    both_are (Some t) (Some u) a b l d e = ap Some (elim l [
+      | inl plain ↦
+          let x = Any-from_list_any (λ k. (sup k && not (is_filtered k.form)) && k.tag == t) c.kept plain in
+          let first = both_first (sup x.1 && not (is_filtered (x.1).form)) ((x.1).tag == t) x.4 in
+          let tag : (x.1).tag ≡ t = eqb-true (x.1).tag t (both_second (sup x.1 && not (is_filtered (x.1).form)) ((x.1).tag == t) x.4) in
+          sym tag
+          ∙ plain_alone c s q x.1 d.listen (x.0, x.2, x.3) d.is_kept (not_true (is_filtered (x.1).form) (both_second (sup x.1) (not (is_filtered (x.1).form)) first))
+          (both_first (sup x.1) (not (is_filtered (x.1).form)) first) d.supplies
+          ∙ d.of_tag
+      | inr below ↦
+          let x = Any-from_list_any (λ k. sup k && k.tag == t) c.kept a in
+          let tag : (x.1).tag ≡ t = eqb-true (x.1).tag t (both_second (sup x.1) ((x.1).tag == t) x.4) in
+          let least : u ≤ (x.1).tag = All-contains (λ (k : Tagged). Supplies k.form q → u ≤ k.tag) c.kept x.1 d.least (x.0, x.2, x.3) (both_first (sup x.1) ((x.1).tag == t) x.4) in
+          let other : nat_lt (d.listen).tag t ≡ false = fails (nat_lt (d.listen).tag t) (λ lt.
+          true≢false (sym (list_any_with (λ k. sup k && nat_lt k.tag t) c.kept d.listen d.is_kept (both (sup d.listen) (nat_lt (d.listen).tag t) d.supplies lt)) ∙ below)) in
+          let le = ltb-false (d.listen).tag t other in
+          omega (arith, le, least, tag, d.of_tag)
+    ])
 
 -- ---- those that a form supplies
 
--- a filtered one supplies none, where none supplies it
-pub supplies_none : (f : Query) (ks : List Tagged) → is_filtered f ≡ true → list_any (λ k. does_supply k.form f) ks ≡ false → All (λ (k : Tagged). does_supply f k.form ≡ false) ks
-supplies_none f ks own none = All-from_contained (λ (k : Tagged). does_supply f k.form ≡ false) ks (λ k m. fails (does_supply f k.form) (λ t.
-    let is : f ≡ k.form = (query_eq_tells f k.form).0 (sym (supply_filtered f k.form own) ∙ t) in
-    true≢false (sym (list_any_with (λ x. does_supply x.form f) ks k m (subst (λ z. does_supply z f ≡ true) is (supply_filtered f f own ∙ (query_eq_tells f f).1 refl))) ∙ none)))
+-- those of a filtered one stand at its path
+pub at_filtered : (f : Query) (ks : List Tagged) → is_filtered f ≡ true
+    → filter (λ (k : Tagged). does_supply f k.form) (filter (λ (k : Tagged). path_eq (k.form).path f.path) ks) ≡ filter (λ (k : Tagged). does_supply f k.form) ks
+at_filtered f ks own =
+    filter_both (λ (k : Tagged). does_supply f k.form) at (λ (k : Tagged). at k && does_supply f k.form) (λ k. refl) ks
+    ∙ filter_agreeing (λ (k : Tagged). at k && does_supply f k.form) (λ (k : Tagged). does_supply f k.form) ks
+    (All-from_contained (λ (k : Tagged). (at k && does_supply f k.form) ≡ does_supply f k.form) ks (λ k _. each k))
+  where
+    at : Tagged → Bool
+    at k = path_eq (k.form).path f.path
 
-pub none_of_filtered : (f : Query) (ks : List Tagged) → is_filtered f ≡ true → list_any (λ k. does_supply k.form f) ks ≡ false → filter (λ (k : Tagged). does_supply f k.form) ks ≡ []
-none_of_filtered f ks own none = filter_none (λ (k : Tagged). does_supply f k.form) ks (supplies_none f ks own none)
+    and_no : (a : Bool) → (a && false) ≡ false
+    and_no true = refl
+    and_no false = refl
 
-pub all_of_filtered : (f : Query) (ks : List Tagged) → is_filtered f ≡ true → list_any (λ k. does_supply k.form f) ks ≡ false → filter (λ (k : Tagged). not (does_supply f k.form)) ks ≡ ks
-all_of_filtered f ks own none = filter_all (λ (k : Tagged). not (does_supply f k.form)) ks (λ i d lt. ap not (supplies_none f ks own none i d lt))
+    each : (k : Tagged) → (at k && does_supply f k.form) ≡ does_supply f k.form
+    each k = elim (does_supply f k.form) as (λ b. does_supply f k.form ≡ b → (at k && b) ≡ b) [
+      | true ↦ λ e. ap (λ b. b && true) (subst (λ p. path_eq (k.form).path p ≡ true) (sym (supplied_has_path f k.form own e)) (path_eq-same (k.form).path))
+      | false ↦ λ _. and_no (at k)
+    ] refl
 
 -- a plain one supplies those at or under its path
 pub under_plain : (f : Query) (ks : List Tagged) → is_filtered f ≡ false → filter (λ (k : Tagged). is_at_or_above f.path (k.form).path) ks ≡ filter (λ (k : Tagged). does_supply f k.form) ks
 under_plain f ks flat = filter_agreeing (λ (k : Tagged). is_at_or_above f.path (k.form).path) (λ (k : Tagged). does_supply f k.form) ks (λ i d lt. sym (supply_unfiltered f _ flat))
-
-pub not_under_plain : (f : Query) (ks : List Tagged) → is_filtered f ≡ false → filter (λ (k : Tagged). not (is_at_or_above f.path (k.form).path)) ks ≡ filter (λ (k : Tagged). not (does_supply f k.form)) ks
-not_under_plain f ks flat = filter_agreeing (λ (k : Tagged). not (is_at_or_above f.path (k.form).path)) (λ (k : Tagged). not (does_supply f k.form)) ks (λ i d lt. ap not (sym (supply_unfiltered f _ flat)))
 
 -- tags sorted
 pub tags_rise : (ts : List ℕ) → IsNonDecreasingBy (λ t. t) ts → AllPairs (λ s t. s ≤ t) ts
@@ -219,12 +387,21 @@ tags_are s tags by_path by_tag same rise counts up = rising_same tags (map (λ (
     (same_map (λ (k : Tagged). k.tag) (filter s by_path) (filter s by_tag) (same_filter s by_path by_tag same)))
 
 -- where none of a list passes, the others are all
-pub none_taken : (s : Tagged → Bool) (ks : List Tagged) → length (map (λ (k : Tagged). k.tag) (filter s ks)) ≡ 0 → filter (λ k. not (s k)) ks ≡ ks
+pub none_taken : (s : Tagged → Bool) (ks : List Tagged) → list_any s ks ≡ false → filter (λ k. not (s k)) ks ≡ ks
 none_taken s [] e = refl
 none_taken s (k ∷ ks) e =
-    elim (s k) as (λ b. length (map (λ (x : Tagged). x.tag) (cond b (k ∷ filter s ks) (filter s ks))) ≡ 0 → cond (not b) (k ∷ filter (λ x. not (s x)) ks) (filter (λ x. not (s x)) ks) ≡ k ∷ ks) [
-      | true ↦ λ f. absurd (omega (arith, f))
+    elim (s k) as (λ b. (b || list_any s ks) ≡ false → cond (not b) (k ∷ filter (λ x. not (s x)) ks) (filter (λ x. not (s x)) ks) ≡ k ∷ ks) [
+      | true ↦ λ f. absurd (true≢false f)
       | false ↦ λ f. ap (λ xs. k ∷ xs) (none_taken s ks f)
+    ] e
+
+-- and no tag is taken
+pub none_stopped : (s : Tagged → Bool) (ks : List Tagged) → length (map (λ (k : Tagged). k.tag) (filter s ks)) ≡ 0 → list_any s ks ≡ false
+none_stopped s [] e = refl
+none_stopped s (k ∷ ks) e =
+    elim (s k) as (λ b. length (map (λ (x : Tagged). x.tag) (cond b (k ∷ filter s ks) (filter s ks))) ≡ 0 → (b || list_any s ks) ≡ false) [
+      | true ↦ λ f. absurd (omega (arith, f))
+      | false ↦ λ f. none_stopped s ks f
     ] e
 
 pub none_lost : (lost ks : List Tagged) → length lost ≡ 0 → filter (λ (k : Tagged). not (list_any (λ (j : Tagged). j.tag == k.tag) lost)) ks ≡ ks

@@ -1,19 +1,17 @@
 -- Lists that stand by the paths of their forms: those at a path stand together, and so do those at or
 -- under it.
-use Rattle.std.proofs.Common.{◌≡◌, ℕ, zero, suc, ◌+◌, ◌-◌, ◌<◌, ◌≤◌, nat_lt, Bool, true, false, cond, not, List, [], ◌∷◌, ◌++◌, length, take, drop, get_or, refl, sym, ap, subst, ◌∙◌, arith, ltb, ltb-true, ltb-false, None, is_some, append-nil, length-append}
+use Rattle.std.proofs.Common.{◌≡◌, ℕ, zero, suc, ◌+◌, ◌-◌, ◌<◌, ◌≤◌, nat_lt, Bool, true, false, cond, List, [], ◌∷◌, ◌++◌, length, take, drop, get_or, refl, sym, ap, subst, ◌∙◌, arith, ltb, ltb-true, ltb-false, None, is_some, append-nil}
 use mathlib.Core.Bool.{true≢false}
 use Rattle.std.specs.Cmp.{IsStrictWeakOrder}
-use Rattle.std.specs.List.{filter, insert, remove_range, All, AllPairs, AllWithin}
+use Rattle.std.specs.List.{filter, insert, All, AllPairs, AllWithin}
 use Rattle.std.specs.List.Sorted.{IsSorted, IsPartitionedBy, IsPartitionPoint, IsNonDecreasingBy}
-use Rattle.std.specs.Prelude.{slice_range}
 use Rattle.std.specs.Ordering.{is_lt, is_le, is_eq, ordering_index, ordering_then, ordering_reverse}
 use Rattle.std.specs.declared.cmp.Ordering.{Ordering}
 use Rattle.std.specs.declared.cmp.Ordering.TheVariants.{Less, Equal, Greater}
-use Rattle.std.proofs.lemmas.List.{get_or-take, get_or-drop, get_or-append_right, length-take-le, length-drop, take-append-drop}
+use Rattle.std.proofs.lemmas.List.{get_or-take, get_or-drop, length-take-le, length-drop, take-append-drop}
 use Rattle.std.proofs.lemmas.List.Elements.{filter-append, All-append, All-cons, All-take, All-drop}
 use Rattle.std.proofs.lemmas.List.Kept.{AllPairs-cons, AllPairs-filter}
 use Rattle.std.proofs.lemmas.List.Sorted.{searchable_from_sorted, IsPartitionedBy-ltb, IsNonDecreasingBy-drop, ranks_by, sorted_far}
-use Rattle.std.proofs.Math.ListN.{get_or-append}
 use Rattle.std.proofs.Math.Seq.{take-length}
 use Rattle.rt_tree.specs.PathTree.{Path, path_cmp, path_eq, paths_total, exact_paths, key_cmp, key_eq, key_eq-is, key_eq-symm, strip}
 use Rattle.rt_tree.specs.Assignments.{is_at_or_above}
@@ -210,35 +208,20 @@ under_first {X = X} q p ls rest first is inside s a = subst (IsPartitionedBy (λ
               subst (λ k. is_at_or_above p (q (get_or (drop first ls) k d)).path ≡ true) same e
         ] refl
 
--- so they are those of a span
-pub record IsSpan {X : Type 0} (q : X → Query) (p : Path) (ls : List X) (first count : ℕ) : Type 0 where
-  pub within : first + count ≤ length ls
-  pub exact : slice_range ls first (first + count) ≡ filter (λ x. is_at_or_above p (q x).path) ls
-  pub others : remove_range ls first (first + count) ≡ filter (λ x. not (is_at_or_above p (q x).path)) ls
-
-pub is_span : {X : Type 0} (q : X → Query) (p : Path) (ls rest : List X) (first count : ℕ) → rest ≡ drop first ls → first ≤ length ls → count ≤ length rest
+-- so they are so many, from the first on
+pub span_of_rest : {X : Type 0} (q : X → Query) (p : Path) (ls rest : List X) (first count : ℕ) → rest ≡ drop first ls → first ≤ length ls → count ≤ length rest
     → IsPartitionPoint (λ (x : X). is_lt (path_cmp (q x).path p) ≡ true) (λ (x : X). is_lt (path_cmp (q x).path p) ≡ false) ls first
     → IsPartitionPoint (λ (x : X). is_at_or_above p (q x).path ≡ true) (λ (x : X). is_at_or_above p (q x).path ≡ false) rest count
-    → IsSpan q p ls first count
-is_span {X = X} q p ls rest first count is inside enough a b = record {
-  within = omega (arith, enough, ap length is, length-drop first ls, inside);
-  exact = (λ i. take (size i) (drop first ls)) ∙ sym (parts under ∙ (λ i. filter_none under (take first ls) before i ++ (halves under ∙ (λ j. filter_all under (take count behind) at j ++ filter_none under (drop count behind) after j)) i) ∙ append-nil (take count behind));
-  others = sym (parts other ∙ (λ i. filter_all other (take first ls) (all_not (take first ls) before) i
-      ++ (halves other ∙ (λ j. filter_none other (take count behind) (all_no (take count behind) at) j ++ filter_all other (drop count behind) (all_not (drop count behind) after) j)) i)
-      ∙ ap (λ z. take first ls ++ z) (drop_drop first count ls));
-}
+    → take count rest ≡ filter (λ x. is_at_or_above p (q x).path) ls
+span_of_rest {X = X} q p ls rest first count is inside enough a b =
+    ap (take count) is
+    ∙ sym (parts ∙ (λ i. filter_none under (take first ls) before i ++ (halves ∙ (λ j. filter_all under (take count behind) at j ++ filter_none under (drop count behind) after j)) i) ∙ append-nil (take count behind))
   where
     under : X → Bool
     under x = is_at_or_above p (q x).path
 
-    other : X → Bool
-    other x = not (under x)
-
     behind : List X
     behind = drop first ls
-
-    size : (first + count) - first ≡ count
-    size = omega arith
 
     fits : count ≤ length behind
     fits = subst (λ z. count ≤ length z) is enough
@@ -246,33 +229,15 @@ is_span {X = X} q p ls rest first count is inside enough a b = record {
     there : IsPartitionPoint (λ (x : X). is_at_or_above p (q x).path ≡ true) (λ (x : X). is_at_or_above p (q x).path ≡ false) behind count
     there = subst (λ z. IsPartitionPoint (λ (x : X). is_at_or_above p (q x).path ≡ true) (λ (x : X). is_at_or_above p (q x).path ≡ false) z count) is b
 
-    no_more : (n : ℕ) → n ≡ 0 + n
-    no_more n = omega arith
+    parts : filter under ls ≡ filter under (take first ls) ++ filter under behind
+    parts = ap (filter under) (sym (take-append-drop first ls)) ∙ filter-append under (take first ls) behind
 
-    next : (m n : ℕ) → suc (m + n) ≡ suc m + n
-    next m n = omega arith
-
-    drop_drop : (m n : ℕ) (xs : List X) → drop n (drop m xs) ≡ drop (m + n) xs
-    drop_drop zero n xs = ap (λ m. drop m xs) (no_more n)
-    drop_drop (suc m) zero [] = ap (λ k. drop k []) (next m zero)
-    drop_drop (suc m) (suc n) [] = ap (λ k. drop k []) (next m (suc n))
-    drop_drop (suc m) n (x ∷ xs) = drop_drop m n xs ∙ ap (λ k. drop k (x ∷ xs)) (next m n)
-
-    parts : (t : X → Bool) → filter t ls ≡ filter t (take first ls) ++ filter t behind
-    parts t = ap (filter t) (sym (take-append-drop first ls)) ∙ filter-append t (take first ls) behind
-
-    halves : (t : X → Bool) → filter t behind ≡ filter t (take count behind) ++ filter t (drop count behind)
-    halves t = ap (filter t) (sym (take-append-drop count behind)) ∙ filter-append t (take count behind) (drop count behind)
+    halves : filter under behind ≡ filter under (take count behind) ++ filter under (drop count behind)
+    halves = ap (filter under) (sym (take-append-drop count behind)) ∙ filter-append under (take count behind) (drop count behind)
 
     never : (b : Bool) → (b ≡ true → ⊥) → b ≡ false
     never true h = absurd (h refl)
     never false h = refl
-
-    all_not : (xs : List X) → All (λ x. under x ≡ false) xs → All (λ x. other x ≡ true) xs
-    all_not xs h k d lt = ap not (h k d lt)
-
-    all_no : (xs : List X) → All (λ x. under x ≡ true) xs → All (λ x. other x ≡ false) xs
-    all_no xs h k d lt = ap not (h k d lt)
 
     before : All (λ x. under x ≡ false) (take first ls)
     before k d lt =
@@ -303,11 +268,6 @@ not_le Less e = absurd (true≢false e)
 not_le Equal e = refl
 not_le Greater e = refl
 
-lt_le : (o : Ordering) → is_lt o ≡ true → is_le o ≡ true
-lt_le Less e = refl
-lt_le Equal e = absurd (true≢false (sym e))
-lt_le Greater e = absurd (true≢false (sym e))
-
 sorted_between : {X : Type 0} (q : X → Query) (xs : List X) (i : ℕ) (y : X) → IsSorted (by_form q) xs
     → AllWithin (λ (x : X). is_le (path_cmp (q x).path (q y).path) ≡ true) xs 0 i
     → AllWithin (λ (x : X). is_lt (path_cmp (q x).path (q y).path) ≡ false) xs i (length xs)
@@ -337,32 +297,3 @@ pub sorted_insert : {X : Type 0} (q : X → Query) (xs : List X) (i : ℕ) (y : 
     → IsPartitionPoint (λ (x : X). is_le (path_cmp (q x).path (q y).path) ≡ true) (λ (x : X). is_le (path_cmp (q x).path (q y).path) ≡ false) xs i
     → IsSorted (by_form q) (insert xs i y)
 sorted_insert {X = X} q xs i y s at = sorted_between q xs i y s at.0 (λ k d low lt. not_le (path_cmp (q (get_or xs k d)).path (q y).path) (at.1 k d low lt))
-
--- or in front of them
-pub sorted_first : {X : Type 0} (q : X → Query) (xs : List X) (i : ℕ) (y : X) → IsSorted (by_form q) xs
-    → IsPartitionPoint (λ (x : X). is_lt (path_cmp (q x).path (q y).path) ≡ true) (λ (x : X). is_lt (path_cmp (q x).path (q y).path) ≡ false) xs i
-    → IsSorted (by_form q) (insert xs i y)
-sorted_first {X = X} q xs i y s at = sorted_between q xs i y s (λ k d low lt. lt_le (path_cmp (q (get_or xs k d)).path (q y).path) (at.0 k d low lt)) at.1
-
--- a place is one of those that are left, too
-pub point_without : {X : Type 0} (P Q : X → Type 0) (xs : List X) (i n : ℕ) → i + n ≤ length xs → IsPartitionPoint P Q xs i
-    → IsPartitionPoint P Q (remove_range xs i (i + n)) i
-point_without {X = X} P Q xs i n fits at = (first, others)
-  where
-    size : length (take i xs) ≡ i
-    size = length-take-le i xs (omega (arith, fits))
-
-    rest : length (remove_range xs i (i + n)) ≡ i + (length xs - (i + n))
-    rest = length-append (take i xs) (drop (i + n) xs) ∙ (λ j. size j + length-drop (i + n) xs j)
-
-    first : AllWithin P (remove_range xs i (i + n)) 0 i
-    first k d low lt = subst P (sym (get_or-append (take i xs) (drop (i + n) xs) d k (omega (arith, lt, size)) ∙ get_or-take i xs k d lt)) (at.0 k d low lt)
-
-    others : AllWithin Q (remove_range xs i (i + n)) i (length (remove_range xs i (i + n)))
-    others k d low lt = subst Q (sym (get_or-append_right (take i xs) (drop (i + n) xs) i k d size low ∙ get_or-drop (i + n) xs (k - i) d))
-        (at.1 (i + n + (k - i)) d (omega arith) (omega (arith, lt, rest, low, fits)))
-
-pub first_within : {X : Type 0} (xs : List X) (i n : ℕ) → i + n ≤ length xs → i ≤ length (remove_range xs i (i + n))
-first_within {X = X} xs i n fits =
-    let size : length (take i xs) ≡ i = length-take-le i xs (omega (arith, fits)) in
-    omega (arith, size, length-append (take i xs) (drop (i + n) xs))

@@ -1,11 +1,12 @@
 // What comes before a listener, of those that are left, and who supplies a query: looked for at its path and
 // at those above.
-ghost use Rattle.std.specs.Prelude.{◌≡◌, ◌<◌, ◌&&◌, true, false, not, nat_lt, length};
+ghost use Rattle.std.specs.Prelude.{◌≡◌, ◌<◌, ◌&&◌, ◌||◌, true, false, not, nat_lt, length};
 ghost use Rattle.std.specs.List.{list_any, All, AllPairs};
 ghost use Rattle.rt_tree.specs.PathTree.{path_eq};
 ghost use Rattle.rt_tree.specs.Assignments.{is_at_or_above};
 ghost use Rattle.rt_query.specs.Queries.{Query, is_filtered};
 ghost use Rattle.rt_query.specs.QueryEq.{query_eq};
+ghost use Rattle.rt_query.specs.Ranges.{takes_in};
 ghost use Rattle.rt_query.specs.Supply.{form, does_supply};
 ghost use Rattle.rt_query.specs.Supply as Supply;
 ghost use Rattle.rt_cover.specs.inside.Endings.{by_number, left, is_first, is_left_form, is_replaced};
@@ -14,6 +15,7 @@ use crate::by_path::HasForm;
 use crate::ending::{Ending, OfNumbers};
 use crate::listener::Listener;
 use crate::listeners::Listeners;
+use rt_forms::Filtered;
 use rt_query::Query;
 use rt_tree::Key;
 
@@ -96,6 +98,52 @@ fn has_plain_above<E: Ending>(listeners: &Listeners, ending: &E, path: &[Key]) -
     false
 }
 
+// Whether it is another range, which takes in the query's.
+fn is_wider(form: &Query, query: &Query) -> bool
+    ensures { result ≡ (not (query_eq form.now query.now) && takes_in form.now query.now) }
+{
+    form != query && form.takes_in(query)
+}
+
+// Whether the form is another range, which takes in the query's, and a listener of it is left.
+fn is_wider_left<E: Ending>(entry: &Filtered, ending: &E, query: &Query) -> bool
+    ensures { result ≡ ((not (query_eq entry.now.0 query.now) && takes_in entry.now.0 query.now)
+        && list_any (λ m. not (E.ended ending.now m)) entry.now.1) }
+{
+    is_wider(entry.form(), query) && has_left(entry.numbers(), ending)
+}
+
+// Whether that holds of one of these.
+fn has_wider_among<E: Ending>(entries: &[Filtered], ending: &E, query: &Query) -> bool
+    ensures { result
+        ≡ list_any (λ e. (not (query_eq e.0 query.now) && takes_in e.0 query.now)
+        && list_any (λ m. not (E.ended ending.now m)) e.1) entries.now }
+{
+    entries
+        .iter()
+        .any(|entry| is_wider_left(entry, ending, query))
+}
+
+// Whether one has another range of the path, which takes in the query's, and is left.
+fn has_wider<E: Ending>(listeners: &Listeners, ending: &E, query: &Query) -> bool
+    ensures { result ≡ list_any (λ l. not (query_eq l.1 query.now) && takes_in l.1 query.now)
+        (left (by_number (E.ended ending.now)) listeners.now) }
+{
+    has_wider_among(listeners.filtered_at(query.path().keys()), ending, query)
+}
+
+// Whether one has another form at the query's path, which supplies it, and is left.
+fn is_supplied_there<E: Ending>(listeners: &Listeners, ending: &E, query: &Query) -> bool
+    requires { All (λ l. form l.1 ≡ l.1) listeners.now }
+    ensures { result
+        ≡ (list_any (λ l. path_eq (l.1).path query.now.path && not (is_filtered l.1))
+        (left (by_number (E.ended ending.now)) listeners.now)
+        || list_any (λ l. not (query_eq l.1 query.now) && takes_in l.1 query.now)
+        (left (by_number (E.ended ending.now)) listeners.now)) }
+{
+    has_plain(listeners, ending, query.path().keys()) || has_wider(listeners, ending, query)
+}
+
 // Whether one has another form, which supplies this one, and is left.
 fn is_supplied<E: Ending>(listeners: &Listeners, ending: &E, query: &Query) -> bool
     requires forms { All (λ l. form l.1 ≡ l.1) listeners.now }
@@ -103,9 +151,8 @@ fn is_supplied<E: Ending>(listeners: &Listeners, ending: &E, query: &Query) -> b
     ensures { result ≡ list_any (λ l. not (query_eq l.1 query.now) && does_supply l.1 query.now)
         (left (by_number (E.ended ending.now)) listeners.now) }
 {
-    let path = query.path().keys();
-    has_plain_above(listeners, ending, path)
-        || query.is_filtered() && has_plain(listeners, ending, path)
+    has_plain_above(listeners, ending, query.path().keys())
+        || query.is_filtered() && is_supplied_there(listeners, ending, query)
 }
 
 // Whether one that is left comes before the listener.

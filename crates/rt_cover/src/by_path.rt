@@ -1,7 +1,6 @@
 // Listens by path: those of one path stand together, and are found by halving.
-ghost use Rattle.std.specs.Prelude.{◌≡◌, ◌+◌, ◌≤◌, ◌&&◌, true, false, not, nat_lt, length, IfOk};
-ghost use Rattle.std.specs.Prelude.{slice_range};
-ghost use Rattle.std.specs.List.{filter, list_any, remove_range, All};
+ghost use Rattle.std.specs.Prelude.{◌≡◌, ◌≤◌, true, false, length};
+ghost use Rattle.std.specs.List.{filter};
 ghost use Rattle.std.specs.List.Sorted.{IsPartitionPoint, IsSorted};
 ghost use Rattle.std.specs.Ordering.{is_lt, is_le};
 ghost use Rattle.rt_tree.specs.PathTree.{path_cmp, path_eq};
@@ -73,19 +72,13 @@ fn is_under<T: HasForm>(item: &T, path: &Path) -> bool
     path.is_prefix_of(item.form().path())
 }
 
-// Where those stand that are at or under a path: so many, from the first on.
-pub(crate) fn span_under<T: HasForm>(by_path: &[T], path: &Path) -> (usize, usize)
+// Those at or under a path.
+pub(crate) fn under<'a, T: HasForm>(by_path: &'a [T], path: &Path) -> &'a [T]
     requires { IsSorted (by_form T.form_of) by_path.now }
-    ensures within { result.0 + result.1 ≤ length by_path.now }
-    ensures exact { slice_range by_path.now result.0 (result.0 + result.1)
-        ≡ filter (λ x. is_at_or_above path.now (T.form_of x).path) by_path.now }
-    ensures others { remove_range by_path.now result.0 (result.0 + result.1)
-        ≡ filter (λ x. not (is_at_or_above path.now (T.form_of x).path)) by_path.now }
-    ensures point { IsPartitionPoint (λ x. is_lt (path_cmp (T.form_of x).path path.now) ≡ true)
-        (λ x. is_lt (path_cmp (T.form_of x).path path.now) ≡ false) by_path.now result.0 }
+    ensures { result.now ≡ filter (λ x. is_at_or_above path.now (T.form_of x).path) by_path.now }
 {
     let first = first_from(by_path, path.keys());
     let rest = &by_path[first..];
     let count = rest.partition_point(|item| is_under(item, path));
-    (first, count)
+    &rest[..count]
 }

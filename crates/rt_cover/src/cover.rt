@@ -234,7 +234,8 @@ impl Cover {
 
     /// The least tag of a kept listen that supplies the query.
     ///
-    /// Looks at the listens of the query's path and of the paths above it, found by halving.
+    /// Looks at the listens of the query's path and of the paths above it, found by halving. More than
+    /// one supplies it only where they are ranges.
     pub fn supplier(&self, query: &Query) -> Option<u64>
         ensures exact { result ≡ supplier self.now query.now }
         ensures least { IfSome result (λ tag. IsLeastSupplier self.now.kept query.now tag) }
@@ -516,8 +517,8 @@ impl Cover {
 
     /// Registers a listener, under a number that no registered one has.
     ///
-    /// Costs by the path, and by the listens that stop: where none does, no other listen is looked at
-    /// but by halving, and the words of those behind it are moved.
+    /// Costs by the path, the filtered forms at it, and the listens that stop: where none does, no
+    /// other listen is looked at but by halving, and the words of those behind it are moved.
     ///
     /// # Errors
     ///

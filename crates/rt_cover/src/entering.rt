@@ -1,6 +1,6 @@
 // A new listener with its listen.
 ghost use Rattle.std.specs.Prelude.{◌≡◌, ◌<◌, ◌++◌, ◌∷◌, [], not, false, map, IfOk, OnOk, OnErr};
-ghost use Rattle.std.specs.List.{filter, list_any, All, AllPairs};
+ghost use Rattle.std.specs.List.{filter, All, AllPairs};
 ghost use Rattle.rt_query.specs.Supply.{form, does_supply};
 ghost use Rattle.rt_cover.specs.State.{is_registered, with_listener};
 
@@ -11,8 +11,8 @@ use crate::listeners::Listeners;
 use crate::listens::Listens;
 use std::alloc::AllocError;
 
-// Registers a listener, and keeps its listen, which none supplies, in place of those that it supplies:
-// both or neither. The tags of those.
+// Registers a listener, and keeps its listen in place of those that it supplies: both or neither. The tags
+// of those.
 pub(crate) fn enter(
     listeners: &mut Listeners,
     kept: &mut Listens,
@@ -24,7 +24,6 @@ pub(crate) fn enter(
     requires free { is_registered listeners.old listener.0 ≡ false }
     requires own { form listener.1 ≡ listener.1 }
     requires by_tag { AllPairs (λ j k. j.tag < k.tag) kept.old }
-    requires unsupplied { list_any (λ k. does_supply k.form listen.form) kept.old ≡ false }
     ensures items { OnOk result
         (listeners.new ≡ with_listener listeners.old listener.0 listener.1) }
     ensures kept { OnOk result (kept.new

@@ -39,7 +39,7 @@ pub use choice::Choice;
 pub use cover::Cover;
 pub use delta::{Delta, Revoked};
 pub use error::CoverError;
-pub use examples::change_examples;
+pub use examples::{change_examples, range_examples};
 pub use kept::{Kept, KeptList};
 pub use laws::{apart_law, kept_law, needed_law, run_law, supply_law};
 pub use numbers::Numbers;

@@ -3,8 +3,9 @@ ghost use Rattle.std.specs.Prelude.{◌≡◌, ◌<◌, ◌+◌, ◌^◌, [], �
 ghost use Rattle.std.specs.Prelude.{length, vec_len, vec_capacity, IfOk, OnOk, OnErr};
 ghost use Rattle.std.specs.List.{find, list_any, All, AllPairs};
 ghost use Rattle.std.specs.Option.{option_copied};
+ghost use Rattle.rt_tree.specs.PathTree.{path_eq};
 ghost use Rattle.rt_tree.specs.Assignments.{is_at_or_above};
-ghost use Rattle.rt_query.specs.Queries.{plain};
+ghost use Rattle.rt_query.specs.Queries.{Query as QueryValue, plain, is_filtered};
 ghost use Rattle.rt_query.specs.QueryEq.{query_eq};
 ghost use Rattle.rt_query.specs.Supply.{form};
 ghost use Rattle.rt_query.specs.Supply as Supply;
@@ -18,7 +19,7 @@ use crate::by_path::HasForm;
 use crate::ending::Ending;
 use crate::leaving::{retain_left, take_one};
 use crate::listener::Listener;
-use rt_forms::Forms;
+use rt_forms::{Filtered, Forms};
 use rt_query::Query;
 use rt_tree::Key;
 use std::alloc::{AllocError, Global};
@@ -144,6 +145,17 @@ impl Listeners {
         // For the prover: what the tree keeps.
         let _by_number = &self.by_number;
         self.forms.plain_numbers(path)
+    }
+
+    // The filtered forms of a path that listeners have, with the numbers of theirs. Costs by the path.
+    pub(crate) fn filtered_at(&self, path: &[Key]) -> &[Filtered]
+        ensures { (s : QueryValue → Bool) (t : ℕ → Bool)
+            → list_any (λ e. s e.0 && list_any t e.1) result.now
+            ≡ list_any (λ l. (is_filtered l.1 && path_eq (l.1).path path.now) && (s l.1 && t l.0)) self.now }
+    {
+        // For the prover: what the tree keeps.
+        let _by_number = &self.by_number;
+        self.forms.filtered_at(path)
     }
 
     // The numbers of those whose forms are at or under a path, in no order. Costs by the path and by them.

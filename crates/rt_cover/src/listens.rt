@@ -1,19 +1,19 @@
 // The listens kept, by tag and by path.
 ghost use Rattle.std.specs.Prelude.{◌≡◌, ◌<◌, ◌≤◌, ◌==◌, ◌+◌, ◌++◌, ◌∷◌, [], ◌&&◌, true, false, not};
-ghost use Rattle.std.specs.Prelude.{map, length, nat_lt, slice_range, vec_len, vec_capacity};
-ghost use Rattle.std.specs.Prelude.{IfOk, IfSome, IfNone, OnOk, OnErr};
-ghost use Rattle.std.specs.List.{filter, find, insert, list_any, remove_range, AllPairs};
-ghost use Rattle.std.specs.List.Sorted.{IsPartitionPoint, IsSorted};
-ghost use Rattle.std.specs.Ordering.{is_lt};
+ghost use Rattle.std.specs.Prelude.{map, length, nat_lt, vec_len, vec_capacity};
+ghost use Rattle.std.specs.Prelude.{None, IfOk, IfSome, IfNone, OnOk, OnErr};
+ghost use Rattle.std.specs.List.{filter, find, list_any, AllPairs};
+ghost use Rattle.std.specs.List.Sorted.{IsSorted};
 ghost use Rattle.std.specs.Option.{option_map};
-ghost use Rattle.rt_tree.specs.PathTree.{path_cmp, path_eq};
+ghost use Rattle.rt_tree.specs.PathTree.{path_eq};
 ghost use Rattle.rt_tree.specs.Assignments.{is_at_or_above};
 ghost use Rattle.rt_query.specs.Queries.{is_filtered};
 ghost use Rattle.rt_query.specs.QueryEq.{query_eq};
 ghost use Rattle.rt_query.specs.Supply.{does_supply};
 ghost use Rattle.rt_cover.specs.inside.Index.{by_form, form_of, SameCounts};
+ghost use Rattle.rt_cover.specs.inside.Least.{lesser, least_from, IsPlainOrLeast};
 
-use crate::by_path::{HasForm, at_path, first_from, span_under};
+use crate::by_path::{HasForm, at_path, under};
 use crate::listen::{Listen, copies, have_tag, tags_of};
 use crate::placing::place;
 use rt_query::Query;
@@ -111,92 +111,108 @@ fn equal_at(by_path: &[Listen], form: &Query) -> Option<u64>
     equal_among(at_path(by_path, form.path().keys()), form)
 }
 
-// The tag of one that supplies the query.
+// The lesser of two tags, of which the first may be none.
+fn lesser(least: Option<u64>, tag: u64) -> u64
+    ensures { result ≡ lesser least tag }
+{
+    match least {
+        Some(other) if other < tag => other,
+        Some(_) => tag,
+        None => tag,
+    }
+}
+
+// The least tag of those that supply the query.
+fn least_among(listens: &[Listen], query: &Query) -> Option<u64>
+    ensures { result ≡ least_from (λ k. does_supply k.form query.now) None listens.now }
+{
+    let mut least = None;
+    for listen in listens {
+        if listen.form().supplies(query) {
+            least = Some(lesser(least, listen.tag()));
+        }
+    }
+    least
+}
+
+// The least tag of those at the query's path that supply it.
+fn least_at(by_path: &[Listen], query: &Query) -> Option<u64>
+    requires { IsSorted (by_form form_of) by_path.now }
+    ensures { result ≡ least_from (λ k. does_supply k.form query.now) None
+        (filter (λ k. path_eq k.form.path query.now.path) by_path.now) }
+{
+    least_among(at_path(by_path, query.path().keys()), query)
+}
+
+// The tag of one that supplies the query: of a plain one, or of all that do the least.
 fn supplier(by_path: &[Listen], query: &Query) -> Option<u64>
     requires { IsSorted (by_form form_of) by_path.now }
     ensures some { IfSome result (λ tag.
         list_any (λ k. does_supply k.form query.now && k.tag == tag) by_path.now ≡ true) }
     ensures none { IfNone result
         (list_any (λ k. does_supply k.form query.now) by_path.now ≡ false) }
+    ensures least { IfSome result (IsPlainOrLeast by_path.now query.now) }
 {
     match plain_above(by_path, query.path().keys()) {
         Some(tag) => Some(tag),
-        None if query.is_filtered() => equal_at(by_path, query),
+        None if query.is_filtered() => least_at(by_path, query),
         None => None,
     }
 }
 
-// Where those stand that the form supplies, where none supplies it: so many, from the first on. Without them
-// its own place is there.
-fn span_supplied(by_path: &[Listen], form: &Query) -> (usize, usize)
-    requires sorted { IsSorted (by_form form_of) by_path.now }
-    requires unsupplied { list_any (λ k. does_supply k.form form.now) by_path.now ≡ false }
-    ensures within { result.0 + result.1 ≤ length by_path.now }
-    ensures exact { slice_range by_path.now result.0 (result.0 + result.1)
-        ≡ filter (λ k. does_supply form.now k.form) by_path.now }
-    ensures others { remove_range by_path.now result.0 (result.0 + result.1)
-        ≡ filter (λ k. not (does_supply form.now k.form)) by_path.now }
-    ensures point { IsPartitionPoint (λ k. is_lt (path_cmp k.form.path form.now.path) ≡ true)
-        (λ k. is_lt (path_cmp k.form.path form.now.path) ≡ false) by_path.now result.0 }
+// The tags of those that the form supplies.
+fn tags_among(alloc: Global, listens: &[Listen], form: &Query) -> Result<Vec<u64>, AllocError>
+    ensures { IfOk result (λ tags. tags.items
+        ≡ map (λ k. k.tag) (filter (λ k. does_supply form.now k.form) listens.now)) }
 {
-    let path = form.path();
-    if form.is_filtered() {
-        return (first_from(by_path, path.keys()), 0);
+    let mut tags = Vec::new(alloc);
+    for listen in listens {
+        if form.supplies(listen.form()) {
+            tags.push(listen.tag())?;
+        }
     }
-    span_under(by_path, path)
+    Ok(tags)
 }
 
-// The tags of so many, from the first on, in order.
-fn tags_of_span(
-    alloc: Global,
-    by_path: &[Listen],
-    first: usize,
-    count: usize,
-) -> Result<Vec<u64>, AllocError>
-    requires { first + count ≤ length by_path.now }
+// The tags of those that the form supplies: of a filtered one they stand at its path, of a plain one at or
+// under it.
+fn tags_by_path(alloc: Global, by_path: &[Listen], form: &Query) -> Result<Vec<u64>, AllocError>
+    requires { IsSorted (by_form form_of) by_path.now }
+    ensures { IfOk result (λ tags. tags.items
+        ≡ map (λ k. k.tag) (filter (λ k. does_supply form.now k.form) by_path.now)) }
+{
+    if form.is_filtered() {
+        tags_among(alloc, at_path(by_path, form.path().keys()), form)
+    } else {
+        tags_of(alloc, under(by_path, form.path()))
+    }
+}
+
+// The same in order.
+fn tags_supplied(alloc: Global, by_path: &[Listen], form: &Query) -> Result<Vec<u64>, AllocError>
+    requires { IsSorted (by_form form_of) by_path.now }
     ensures same { IfOk result (λ tags. SameCounts tags.items
-        (map (λ k. k.tag) (slice_range by_path.now first (first + count)))) }
+        (map (λ k. k.tag) (filter (λ k. does_supply form.now k.form) by_path.now))) }
     ensures rise { IfOk result (λ tags. AllPairs (λ s t. s ≤ t) tags.items) }
 {
-    let mut tags = tags_of(alloc, &by_path[first..first + count])?;
+    let mut tags = tags_by_path(alloc, by_path, form)?;
     tags.sort_unstable_by_key(|tag| *tag);
     Ok(tags)
 }
 
-// Takes out those that the form supplies, whose tags these are.
-fn take_stopped(by_tag: &mut Vec<Listen>, form: &Query, stopped: &[u64])
-    requires { stopped.now
-        ≡ map (λ k. k.tag) (filter (λ k. does_supply form.now k.form) by_tag.old.items) }
-    ensures left { by_tag.new.items
-        ≡ filter (λ k. not (does_supply form.now k.form)) by_tag.old.items }
-    ensures len { vec_len by_tag.new ≤ vec_len by_tag.old }
-    ensures room { vec_capacity by_tag.new ≡ vec_capacity by_tag.old }
+// Takes out those that the form supplies: none, where there is no tag.
+fn take_stopped(listens: &mut Vec<Listen>, form: &Query, stopped: &[u64])
+    requires { length stopped.now ≡ 0
+        → list_any (λ k. does_supply form.now k.form) listens.old.items ≡ false }
+    ensures left { listens.new.items
+        ≡ filter (λ k. not (does_supply form.now k.form)) listens.old.items }
+    ensures len { vec_len listens.new ≤ vec_len listens.old }
+    ensures room { vec_capacity listens.new ≡ vec_capacity listens.old }
 {
     if stopped.is_empty() {
         return;
     }
-    by_tag.retain(|listen| !form.supplies(listen.form()));
-}
-
-// Takes out so many, from the first on.
-fn take_span(listens: &mut Vec<Listen>, first: usize, count: usize)
-    requires { first + count ≤ length listens.old.items }
-    ensures left { listens.new.items ≡ remove_range listens.old.items first (first + count) }
-    ensures len { vec_len listens.new ≤ vec_len listens.old }
-    ensures room { vec_capacity listens.new ≡ vec_capacity listens.old }
-{
-    drop(listens.drain(first..first + count));
-}
-
-// Puts a listen in the place of so many, from the first on; there is room for one more.
-fn replace_span(listens: &mut Vec<Listen>, first: usize, count: usize, listen: Listen)
-    requires within { first + count ≤ length listens.old.items }
-    requires room { vec_len listens.old < vec_capacity listens.old }
-    ensures { listens.new.items
-        ≡ insert (remove_range listens.old.items first (first + count)) first listen }
-{
-    take_span(listens, first, count);
-    let _in_reserved_room = listens.insert(first, listen);
+    listens.retain(|listen| !form.supplies(listen.form()));
 }
 
 // From so many on, new listens are put behind the others and all are sorted: the words that each of them
@@ -288,11 +304,13 @@ impl Listens {
         self.by_tag.as_slice()
     }
 
-    // The tag of one that supplies the query. Looks at those of the paths at and above it.
+    // The tag of one that supplies the query: of a plain one, or of all that do the least. Looks at those
+    // of the paths at and above it.
     pub(crate) fn supplier(&self, query: &Query) -> Option<u64>
         ensures some { IfSome result (λ tag.
             list_any (λ k. does_supply k.form query.now && k.tag == tag) self.now ≡ true) }
         ensures none { IfNone result (list_any (λ k. does_supply k.form query.now) self.now ≡ false) }
+        ensures least { IfSome result (IsPlainOrLeast self.now query.now) }
     {
         supplier(&self.by_path, query)
     }
@@ -306,10 +324,9 @@ impl Listens {
         equal_at(&self.by_path, form)
     }
 
-    // Keeps a listen that none supplies, in place of those that it supplies; their tags.
+    // Keeps a listen in place of those that it supplies; their tags.
     pub(crate) fn start(&mut self, listen: Listen) -> Result<Vec<u64>, AllocError>
-        requires rise { AllPairs (λ j k. j.tag < k.tag) self.old }
-        requires unsupplied { list_any (λ k. does_supply k.form listen.form) self.old ≡ false }
+        requires { AllPairs (λ j k. j.tag < k.tag) self.old }
         ensures kept { OnOk result (self.new
             ≡ filter (λ k. not (does_supply listen.form k.form)) self.old ++ listen ∷ []) }
         ensures stopped { IfOk result (λ tags. tags.items ≡ map (λ k. k.tag)
@@ -317,12 +334,12 @@ impl Listens {
         ensures unchanged { OnErr result (self.new ≡ self.old) }
     {
         let alloc = *self.by_tag.allocator();
-        let (first, count) = span_supplied(&self.by_path, listen.form());
-        let stopped = tags_of_span(alloc, &self.by_path, first, count)?;
+        let stopped = tags_supplied(alloc, &self.by_path, listen.form())?;
         let copy = listen.copy()?;
         self.by_tag.reserve(1)?;
         self.by_path.reserve(1)?;
-        replace_span(&mut self.by_path, first, count, copy);
+        take_stopped(&mut self.by_path, listen.form(), &stopped);
+        place(&mut self.by_path, copy);
         take_stopped(&mut self.by_tag, listen.form(), &stopped);
         self.by_tag.push_reserved(listen);
         Ok(stopped)

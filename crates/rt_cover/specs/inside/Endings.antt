@@ -2,8 +2,7 @@
 use Rattle.std.specs.Prelude.{ℕ, Bool, false, ◌&&◌, ◌==◌, not, nat_lt, if◌then◌else◌, List}
 use Rattle.std.specs.List.{filter, find, list_any}
 use Rattle.std.specs.Option.{option_map_or}
-use Rattle.rt_tree.specs.Assignments.{is_at_or_above}
-use Rattle.rt_query.specs.Queries.{Query, is_filtered}
+use Rattle.rt_query.specs.Queries.{Query}
 use Rattle.rt_query.specs.QueryEq.{query_eq}
 use Rattle.rt_query.specs.Supply.{does_supply}
 use Rattle.rt_cover.specs.declared.kept.Kept.{Kept}
@@ -51,26 +50,14 @@ is_lost_by ends listeners p n k =
     list_any (λ l. n == l.0 && (query_eq l.1 k.form && is_first listeners l)) listeners
     && (not (is_left_form ends listeners k.form) && p k.tag)
 
--- the listeners that are left, and that one of these listens supplied
-abbrev pub bereft : (Registered → Bool) → List Tagged → List Registered → List Registered
-bereft ends gone listeners =
-    filter (λ l. list_any (λ k. does_supply k.form l.1) gone && not (ends l)) listeners
-
--- those of some listeners that none of all comes before
-abbrev pub first_among : List Registered → List Registered → List Registered
-first_among all listeners = filter (λ l. not (list_any (λ m. comes_before m l) all)) listeners
-
--- for whom listens start: the first of those that a lost listen supplied
+-- for whom listens start
 abbrev pub beginners : (Registered → Bool) → List Tagged → List Registered → List Registered
-beginners ends kept listeners =
-    first_among (bereft ends (lost ends kept listeners) listeners)
-    (bereft ends (lost ends kept listeners) listeners)
+beginners ends kept listeners = filter (starts ends kept listeners) listeners
 
--- whether a listen starts for one whose number passes a test, at or under the path of a lost plain listen
-abbrev pub begins_under : (Registered → Bool) → List Registered → (ℕ → Bool) → Tagged → Bool
-begins_under ends listeners p k = not (is_filtered k.form) && list_any (λ l.
-    (is_at_or_above (k.form).path (l.1).path
-    && (not (ends l) && not (is_replaced ends listeners l))) && p l.0) listeners
+-- whether a listen starts for one whose number passes a test, and which a lost listen supplied
+abbrev pub begins_after : (Registered → Bool) → List Registered → (ℕ → Bool) → Tagged → Bool
+begins_after ends listeners p k = list_any (λ l. does_supply k.form l.1
+    && ((not (ends l) && not (is_replaced ends listeners l)) && p l.0)) listeners
 
 -- whether one of that number is registered, for whom a listen starts, and the number passes a test
 abbrev pub begins_at : (Registered → Bool) → List Registered → (ℕ → Bool) → ℕ → Bool

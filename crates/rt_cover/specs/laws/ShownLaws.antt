@@ -13,8 +13,10 @@ use Rattle.rt_tree.specs.Assignments.{is_at_or_above}
 use Rattle.rt_tree.specs.TreeEq.{both}
 use Rattle.rt_query.specs.Queries.{Query, plain, is_filtered}
 use Rattle.rt_query.specs.QueryEq.{query_eq}
+use Rattle.rt_query.specs.Ranges.{takes_in}
 use Rattle.rt_query.specs.Supply.{form, does_supply}
 use Rattle.rt_query.specs.laws.QueryEq.{query_eq_tells}
+use Rattle.rt_query.specs.laws.RangeLaws.{taken_in}
 use Rattle.rt_cover.specs.declared.kept.Kept.{Kept}
 use Rattle.rt_cover.specs.Cover.{Registered, Supplies, IsFewest, forms, first_listener, needed, Tagged}
 use Rattle.rt_cover.specs.State.{Cover, needed_forms, shown_with, shown}
@@ -22,6 +24,7 @@ use Rattle.rt_cover.specs.Shown.{AreFewest, IsCertified}
 use Rattle.rt_cover.specs.inside.Sound.{IsSound}
 use Rattle.rt_cover.specs.laws.CoverLaws.{Contains-filter, Contains-from_filter, passes-from_filter}
 use Rattle.rt_cover.specs.laws.CoverLaws.{is_covered}
+use Rattle.rt_cover.specs.laws.FormLaws.{form_filtered, form_unfiltered}
 use Rattle.rt_cover.specs.laws.KeepLaws.{form_is_form, forms_are, fewest_kept}
 use Rattle.rt_cover.specs.laws.Pairs.{Contains-head, Contains-later, Contains-cases, Any-from_map}
 use Rattle.rt_cover.specs.laws.Pairs.{All-from_contained, AllPairs-first, AllPairs-rest}
@@ -136,15 +139,24 @@ form_in (k ∷ ls) l m =
 
 -- what supplies a query's form supplies the query
 pub supplies_form : (s q : Query) → does_supply s (form q) ≡ does_supply s q
-supplies_form s q = ap (λ f. query_eq s f || not (is_filtered s)
-    && is_at_or_above s.path (form q).path) (form_is_form q)
-    ∙ ap (λ p. query_eq s (form q) || not (is_filtered s) && is_at_or_above s.path p) path
+supplies_form s q = λ i. query_eq s (form_is_form q i)
+    || not (is_filtered s) && is_at_or_above s.path (path i) || ranges (is_filtered q) refl i
   where
     path : (form q).path ≡ q.path
     path = elim (is_filtered q) as (λ b. (cond b q (plain q.path)).path ≡ q.path) [
       | true ↦ refl
       | false ↦ refl
     ]
+
+    no_range : (r : Query) → is_filtered r ≡ false → (b : Bool) → takes_in s r ≡ b → b ≡ false
+    no_range r flat true t = absurd (true≢false (sym (taken_in s r t).inner ∙ flat))
+    no_range r flat false t = refl
+
+    ranges : (b : Bool) → is_filtered q ≡ b → takes_in s (form q) ≡ takes_in s q
+    ranges true e = ap (takes_in s) (form_filtered q e)
+    ranges false e =
+        no_range (form q) (ap is_filtered (form_unfiltered q e)) (takes_in s (form q)) refl
+        ∙ sym (no_range q e (takes_in s q) refl)
 
 -- ---- what is shown
 

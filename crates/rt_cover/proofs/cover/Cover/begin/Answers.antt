@@ -1,11 +1,10 @@
 use Rattle.std.proofs.Common.{◌≡◌, ◌+◌, ◌<◌, ◌≤◌, ◌∷◌, ◌++◌, [], not, map, sym, subst, ◌∙◌, arith}
-use Rattle.std.specs.List.{filter, list_any, All, AllPairs}
+use Rattle.std.specs.List.{filter, All, AllPairs}
 use Rattle.rt_query.specs.Supply.{form, does_supply}
 use Rattle.rt_cover.specs.Cover.{Registered, Tagged}
 use Rattle.rt_cover.specs.State.{Cover, with_listener, with_listeners, difference}
 use Rattle.rt_cover.specs.Shown.{IsTold}
 use Rattle.rt_cover.specs.inside.Sound.{IsSound}
-use Rattle.rt_cover.proofs.ListenLaws.{supplier_none}
 use Rattle.rt_cover.proofs.NewLaws.{is_started, tag_left, sound_with, told_with}
 use Rattle.rt_cover.proofs.cover.Cover.begin.Goals as goal
 
@@ -34,13 +33,6 @@ pub enter-requires-clause-by_tag : goal.enter-requires-clause-by_tag
 enter-requires-clause-by_tag c =
     let sound : IsSound c.args.self.now = subst IsSound c.self.view_is c.self.invariant in
     subst (λ (z : Cover). AllPairs (λ (j k : Tagged). j.tag < k.tag) z.kept) (sym c.self.view_is) sound.tags
-
-pub enter-requires-clause-unsupplied : goal.enter-requires-clause-unsupplied
-enter-requires-clause-unsupplied c =
-    let old : Cover = c.args.self.now in
-    let f = c.args.form in
-    let form_is : (c.in_ok-listen.listen).form ≡ f = (λ i. (c.in_ok-listen.ensures i).form) ∙ (λ i. (c.in_ok-registered.ensures i).1) in
-    (λ i. list_any (λ (k : Tagged). does_supply k.form (form_is i)) (c.self.view_is i).kept) ∙ supplier_none old f c.requires.unsupplied
 
 pub invariant_of-self-2 : goal.invariant_of-self-2
 invariant_of-self-2 c =

@@ -3,7 +3,7 @@ use Rattle.std.specs.List.{list_any, All, AllPairs}
 use Rattle.rt_query.specs.Supply.{form}
 use Rattle.rt_cover.specs.Cover.{Registered}
 use Rattle.rt_cover.specs.State.{Cover}
-use Rattle.rt_cover.specs.inside.Endings.{by_number, begins_under}
+use Rattle.rt_cover.specs.inside.Endings.{by_number, begins_after}
 use Rattle.rt_cover.specs.inside.Sound.{IsSound}
 use Rattle.rt_cover.proofs.ChangeLaws.{begin_by_lost, begin_numbers}
 use Rattle.rt_cover.proofs.cover.Cover.begun.Goals as goal
@@ -26,5 +26,5 @@ returns g c =
     let ends : Registered → Bool = by_number (g.E.Ending.ended c.args.ending.now) in
     begin_numbers old sound ends c.sort_once.new.numbers.items c.sort_once.ensures.rise
     (λ p. c.sort_once.ensures.same p ∙ c.in_ok-numbers.ensures p
-    ∙ (λ i. list_any (begins_under ends (c.self.view_is i).listeners p) (c.requires i))
+    ∙ (λ i. list_any (begins_after ends (c.self.view_is i).listeners p) (c.requires i))
     ∙ begin_by_lost old sound ends p)

@@ -1,7 +1,9 @@
-use Rattle.std.proofs.Common.{◌≡◌, ◌==◌, ◌&&◌, true, false, sym, subst, ◌∙◌}
+use Rattle.std.proofs.Common.{◌≡◌, inl, inr, ◌==◌, ◌&&◌, Bool, not, nat_lt, true, false, sym, ap, subst, ◌∙◌}
 use Rattle.std.specs.List.{list_any}
+use Rattle.rt_query.specs.Queries.{is_filtered}
 use Rattle.rt_query.specs.Supply.{does_supply}
 use Rattle.rt_cover.specs.Cover.{Tagged}
+use Rattle.rt_cover.specs.inside.Least.{IsPlainOrLeast}
 use Rattle.rt_cover.proofs.CountLaws.{same_any}
 use Rattle.rt_cover.proofs.ListenLaws.{if_some, if_none}
 use Rattle.rt_cover.proofs.listens.Listens.supplier.Goals as goal
@@ -25,3 +27,17 @@ returns-clause-none c =
     (λ h. subst (λ xs. list_any (λ (k : Tagged). does_supply k.form q) xs ≡ false) c.self.view_is
     (sym (same_any (λ (k : Tagged). does_supply k.form q) old ks c.self.invariant.same) ∙ subst (λ xs. list_any (λ (k : Tagged). does_supply k.form q) xs ≡ false) c.deref.ensures.value h))
     c.supplier.ensures.none
+
+pub returns-clause-least : goal.returns-clause-least
+returns-clause-least c =
+    let q = c.args.query.now in
+    let old = c.self.inside.by_path.items in
+    let ks = c.self.inside.by_tag.items in
+    let are : (t : Tagged → Bool) → list_any t c.deref.result.now ≡ list_any t c.args.self.now =
+    λ t. ap (list_any t) c.deref.ensures.value ∙ same_any t old ks c.self.invariant.same ∙ ap (list_any t) c.self.view_is in
+    if_some (IsPlainOrLeast c.deref.result.now q) (IsPlainOrLeast c.args.self.now q) c.supplier.result
+    (λ t h. elim h [
+      | inl e ↦ inl (sym (are (λ (k : Tagged). (does_supply k.form q && not (is_filtered k.form)) && k.tag == t)) ∙ e)
+      | inr e ↦ inr (sym (are (λ (k : Tagged). does_supply k.form q && nat_lt k.tag t)) ∙ e)
+    ])
+    c.supplier.ensures.least

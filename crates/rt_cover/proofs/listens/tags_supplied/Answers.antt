@@ -1,16 +1,17 @@
-use Rattle.std.proofs.Common.{◌≡◌, ◌+◌, rules, map, subst}
-use Rattle.std.specs.Prelude.{slice_range}
+use Rattle.std.proofs.Common.{◌≡◌, rules, map, subst}
+use Rattle.std.specs.List.{filter}
 use Rattle.std.proofs.lemmas.List.Sorted.{IsNonDecreasingBy-from_sort_by_key}
+use Rattle.rt_query.specs.Supply.{does_supply}
 use Rattle.rt_cover.specs.Cover.{Tagged}
 use Rattle.rt_cover.specs.inside.Index.{SameCounts}
 use Rattle.rt_cover.proofs.CountLaws.{same_permuted}
 use Rattle.rt_cover.proofs.ListenLaws.{tags_rise}
-use Rattle.rt_cover.proofs.listens.tags_of_span.Goals as goal
+use Rattle.rt_cover.proofs.listens.tags_supplied.Goals as goal
 
 pub returns-clause-same : goal.returns-clause-same
 returns-clause-same c =
-    let part : c.in_ok-tags.tags.items ≡ map (λ (k : Tagged). k.tag) (slice_range c.args.by_path.now c.args.first (c.args.first + c.args.count)) = search rules in
-    subst (SameCounts c.sort_unstable_by_key.new.self.items) part
+    let those : c.in_ok-tags.tags.items ≡ map (λ (k : Tagged). k.tag) (filter (λ (k : Tagged). does_supply c.args.form.now k.form) c.args.by_path.now) = search rules in
+    subst (SameCounts c.sort_unstable_by_key.new.self.items) those
     (same_permuted c.in_ok-tags.tags.items c.sort_unstable_by_key.new.self.items c.sort_unstable_by_key.ensures.permutation)
 
 pub returns-clause-rise : goal.returns-clause-rise
