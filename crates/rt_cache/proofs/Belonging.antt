@@ -5,37 +5,46 @@ use mathlib.Core.Bool.{true≢false}
 use Rattle.std.specs.Prelude.{IfSome}
 use Rattle.std.specs.declared.result.Result.{Result}
 use Rattle.std.specs.declared.result.Result.TheVariants.{Ok, Err}
-use Rattle.std.specs.List.{filter, list_any, All, Contains}
-use Rattle.std.specs.Option.{option_map, option_map_or, option_or}
-use Rattle.std.specs.Ordering.{eq_by_cmp}
-use Rattle.std.specs.Cmp.{Equal-is}
+use Rattle.std.specs.List.{filter, list_any, All, AllPairs, Contains}
+use Rattle.std.specs.Option.{option_map_or}
+use Rattle.std.specs.Ordering.{is_lt}
+use Rattle.std.specs.Cmp.{tied_itself}
+use lib.Dec.{T}
 use Rattle.std.specs.FinMap as map_of
-use Rattle.std.proofs.lemmas.List.Elements.{All-head, All-tail, All-contains, All-filter, filter_passes}
+use Rattle.std.specs.FinMap.Entries.{below_all}
+use Rattle.std.proofs.lemmas.List.Elements.{All-cons, All-append, All-contains, All-filter, filter_passes, Contains-get_or}
+use Rattle.std.proofs.lemmas.List.Kept.{AllPairs-cons, AllPairs-filter}
 use Rattle.std.proofs.lemmas.List.Folds.{Any-from_list_any, list_any_at}
-use Rattle.rt_tree.specs.PathTree.{Path, PathTree, path_cmp, strip}
-use Rattle.rt_tree.specs.TreeEq.{both_first, both_second}
+use Rattle.rt_tree.specs.PathTree.{Path, PathTree, path_cmp, strip, children_alone}
+use Rattle.rt_tree.specs.TreeEq.{both_first, both_second, both}
 use Rattle.rt_tree.specs.Assignments.{is_at_or_above, Assignment}
 use Rattle.rt_query.specs.Queries.{Query, is_filtered}
 use Rattle.rt_query.specs.QueryEq.{query_eq}
 use Rattle.rt_query.specs.Supply.{does_supply}
 use Rattle.rt_query.specs.laws.Paths.{is_at_or_above-trans}
 use Rattle.rt_query.specs.laws.QueryEq.{query_eq_tells}
-use Rattle.rt_query.specs.laws.SupplyLaws.{supply_unfiltered}
+use Rattle.rt_query.specs.laws.NeededLaws.{Contains-filter, Contains-from_filter, supplies_trans}
+use Rattle.rt_query.specs.laws.SupplyLaws.{form_filtered, supplied_has_path, supply_unfiltered}
 use Rattle.rt_cache.specs.QueryOrder.{query_cmp}
-use Rattle.rt_cache.specs.Brought.{Window, Brought, nothing_brought, with_form, may_put, region_part, region_put, window_of, window_pushed, windows_pushed, push_plain, push}
+use Rattle.rt_cache.specs.Brought.{Window, Brought, nothing_brought, with_form, is_supplied, may_put, region_part, region_put, window_of, window_pushed, windows_pushed, knows, push_plain, push}
 use Rattle.rt_cache.specs.Canonical.{IsCanonical, FitsLevels, Belongs}
-use Rattle.rt_cache.specs.Recover.{reaches, regions_kept, window_kept, in_query_order, recover}
+use Rattle.rt_cache.specs.Recover.{reaches, regions_kept, in_query_order, is_among, cut, is_lost, heirs, handed_on, recover}
 use Rattle.rt_cache.specs.declared.run.Call.TheVariants.{Put, Recover}
 use Rattle.rt_cache.specs.declared.region.Region.{Region}
 use Rattle.rt_cache.specs.declared.window.Window as inside
-use Rattle.rt_cache.specs.inside.Held.{for_each, held, entries_of, pairs_of, pushed_windows}
+use Rattle.rt_cache.specs.inside.Held.{held, entries_of, pairs_of, pushed_windows}
+use Rattle.rt_cache.specs.inside.Sources.{HaveForms}
+use Rattle.rt_cache.proofs.Among.{any_with}
 use Rattle.rt_cache.proofs.Cuts.{any_above, part_any}
-use Rattle.rt_cache.proofs.Parts.{none_goes}
+use Rattle.rt_cache.proofs.Heirs.{IsHeir, left_forms, handed_heirs}
+use Rattle.rt_cache.proofs.Listing.{listed_sorted}
+use Rattle.rt_cache.proofs.Places.{or_left, or_right}
 use Rattle.rt_cache.proofs.Pushes.{push_of_plain, push_of_filtered}
-use Rattle.rt_cache.proofs.QueryOrders.{exact_queries}
-use Rattle.rt_cache.proofs.RecoverLaws.{All-filter_map, left_reached, left_registered, pushed_reached, pushed_registered, pushed_windows_all, listed_all}
+use Rattle.rt_cache.proofs.QueryOrders.{queries_total}
+use Rattle.rt_cache.proofs.RecoverLaws.{left_reached, left_registered, pushed_reached, pushed_registered, pushed_windows_all, listed_all}
 use Rattle.rt_cache.proofs.RunLaws.{never, any_under, step_known}
-use Rattle.rt_cache.proofs.Stays.{Windows}
+use Rattle.rt_cache.proofs.Sources.{AreApart, found_there, there_found, apart_at, apart_found, knows_by, knew_by}
+use Rattle.rt_cache.proofs.Stays.{Windows, push_stays}
 
 not_so : (b : Bool) → not b ≡ true → b ≡ false
 not_so true e = absurd (true≢false (sym e))
@@ -95,6 +104,10 @@ put_clear b q h e filtered = never (any_above q.path b.regions) found
         (ap (λ (f : Query). not (query_eq f q) && does_supply f q) (g.1).2 ∙ (λ i. not (other g.0 g.2 i) && supplies i)) in
         sym (ap not covered) ∙ free
 
+-- the windows are of registered filtered forms that are apart
+pub have_forms : (b : Brought) → IsCanonical b → Belongs b → HaveForms b.registered b.windows
+have_forms b c h = record { registered = h.windows; filtered = c.filtered; apart = h.apart }
+
 -- ---- nothing, and one form more
 
 pub nothing_belongs : Belongs nothing_brought
@@ -102,6 +115,7 @@ nothing_belongs = record {
   regions = λ k d lt. absurd (omega arith);
   windows = λ k d lt. absurd (omega arith);
   beside = λ k d lt. absurd (omega arith);
+  apart = λ i j d lt within. absurd (omega (arith, within));
 }
 
 Contains-front : {X : Type 0} (xs ys : List X) (x : X) → Contains xs x → Contains (xs ++ ys) x
@@ -127,7 +141,50 @@ with_form_belongs f b h = record {
   regions = λ k d lt. reaches_more (b.registered ++ f ∷ []) b.registered (slice_index_or b.regions k d).0 (All-itself b.registered (f ∷ [])) (h.regions k d lt);
   windows = λ k d lt. Contains-front b.registered (f ∷ []) (slice_index_or b.windows k d).0 (h.windows k d lt);
   beside = h.beside;
+  apart = h.apart;
 }
+
+-- ---- apart
+
+-- of two keys in order neither is the other
+less : (q r : Query) → T (is_lt (query_cmp q r)) → q ≡ r → ⊥
+less q r h same = subst (λ o. T (is_lt o)) (tied_itself queries_total q) (subst (λ x. T (is_lt (query_cmp q x))) (sym same) h)
+
+t_both : (a b : Bool) → T (a && b) → T a × T b
+t_both true true h = (tt, tt)
+t_both true false h = absurd h
+t_both false b h = absurd h
+
+below_differs : (q : Query) (w : Window) (ws : Windows) → T (below_all query_cmp q ws) → All (λ (v : Query × Window). q ≡ v.0 → ⊥) ws
+below_differs q w [] h = λ k d lt. absurd (omega (arith, lt))
+below_differs q w (v ∷ vs) h =
+    let both = t_both (is_lt (query_cmp q v.0)) (below_all query_cmp q vs) h in
+    All-cons (λ (x : Query × Window). q ≡ x.0 → ⊥) v vs (less q v.0 both.0) (below_differs q w vs both.1)
+
+-- no two windows that are listed are of one query
+pub listed_differ : (ws : Windows) → T (map_of.is_sorted query_cmp ws) → AllPairs (λ (v w : Query × Window). v.0 ≡ w.0 → ⊥) ws
+listed_differ [] h = λ i j d lt within. absurd (omega (arith, within))
+listed_differ (w ∷ ws) h =
+    let both = t_both (below_all query_cmp w.0 ws) (map_of.is_sorted query_cmp ws) h in
+    AllPairs-cons (λ (v x : Query × Window). v.0 ≡ x.0 → ⊥) w ws (below_differs w.0 w.1 ws both.0) (listed_differ ws both.1)
+
+-- two queries supply each other where they are one
+abbrev pub StandApart : Query → Query → Type 0
+StandApart f g = (f ≡ g → ⊥) → does_supply f g ≡ false
+
+-- windows in order of which each stands apart from each are apart
+pub apart_from : (ws : Windows) → T (map_of.is_sorted query_cmp ws) → All (λ (v : Query × Window). All (λ (w : Query × Window). StandApart v.0 w.0) ws) ws → AllPairs AreApart ws
+apart_from ws sorted h i j d lt within =
+    let differ : (slice_index_or ws i d).0 ≡ (slice_index_or ws j d).0 → ⊥ = listed_differ ws sorted i j d lt within in (
+      h i d (omega (arith, lt, within)) j d within differ,
+      h j d within i d (omega (arith, lt, within)) (λ same. differ (sym same)),
+    )
+
+-- so they are once they are listed
+pub listed_apart : (ws : Windows) → All (λ (v : Query × Window). All (λ (w : Query × Window). StandApart v.0 w.0) ws) ws → AllPairs AreApart (in_query_order ws)
+listed_apart ws h = apart_from (in_query_order ws) (listed_sorted ws)
+    (listed_all (λ (x : Query × Window). All (λ (y : Query × Window). StandApart x.0 y.0) (in_query_order ws)) ws
+    (λ k c l. listed_all (λ (y : Query × Window). StandApart (slice_index_or ws k c).0 y.0) ws (h k c l)))
 
 -- ---- a push
 
@@ -160,14 +217,78 @@ IsBeside rs w = any_above (w.0).path rs ≡ false
 or_no : (a b : Bool) → a ≡ false → b ≡ false → (a || b) ≡ false
 or_no a b e f = λ i. e i || f i
 
-pub push_belongs : (q : Query) (b : Brought) (a : Assignment) → may_put b q ≡ true → is_at_or_above q.path a.0 ≡ true
+-- of two windows neither supplies the other
+push_apart : (q : Query) (b : Brought) (a : Assignment) → IsCanonical b → may_put b q ≡ true → Belongs b → AllPairs AreApart (push q b a).windows
+push_apart q b a c may h = at (is_filtered q) refl
+  where
+    new : Windows
+    new = (push q b a).windows
+
+    plainly : AllPairs AreApart (push_plain b a).windows
+    plainly =
+        elim (is_some (region_part b.regions a.0)) as (λ t. AllPairs AreApart (cond t (record b { regions = map (region_put a) b.regions }) (record b { regions = map_of.put path_cmp a.0 a.1 (filter (λ r. not (is_at_or_above a.0 r.0)) b.regions); windows = filter (λ w. not (is_at_or_above a.0 (w.0).path)) b.windows })).windows) [
+          | true ↦ h.apart
+          | false ↦ AllPairs-filter AreApart (λ (w : Query × Window). not (is_at_or_above a.0 (w.0).path)) b.windows h.apart
+        ]
+
+    -- no other registered form supplies it
+    unsupplied : (v : Query × Window) → Contains b.windows v → StandApart v.0 q
+    unsupplied v m differ = never (does_supply v.0 q) (λ t.
+        sym (not_so (is_supplied b.registered q) (both_second (list_any (λ (f : Query). query_eq f q) b.registered) _ may))
+        ∙ any_with (λ (f : Query). not (query_eq f q) && does_supply f q) b.registered v.0 (All-contains (λ (w : Query × Window). Contains b.registered w.0) b.windows v h.windows m)
+        (both (not (query_eq v.0 q)) (does_supply v.0 q) (ap not (never (query_eq v.0 q) (λ e. absurd (differ ((query_eq_tells v.0 q).0 e))))) t))
+
+    any : (P : Query → Type 0) (o : Option Window) → P q → IfSome o (λ w. P q)
+    any P None p = tt
+    any P (Some w) p = p
+
+    old : All (λ (v : Query × Window). All (λ (w : Query × Window). StandApart v.0 w.0) new) b.windows
+    old k d lt =
+        let v : Query × Window = slice_index_or b.windows k d in
+        let m : Contains b.windows v = Contains-get_or b.windows k d lt in
+        pushed_windows_all (λ (w : Query × Window). StandApart v.0 w.0) q b a
+        (λ rest e. any (λ x. StandApart v.0 x) (window_pushed rest a.1 (window_of b.windows q)) (unsupplied v m))
+        (λ n x l. apart_at b.windows h.apart v (slice_index_or b.windows n x) m (Contains-get_or b.windows n x l))
+
+    at : (f : Bool) → is_filtered q ≡ f → AllPairs AreApart new
+    at false f = subst (λ (x : Brought). AllPairs AreApart x.windows) (push_of_plain q b a f) plainly
+    at true f = apart_from new (push_stays q b a c).windows
+        (pushed_windows_all (λ (v : Query × Window). All (λ (w : Query × Window). StandApart v.0 w.0) new) q b a (λ rest e. own rest (window_of b.windows q) refl e) old)
+      where
+        -- at its path those that it supplies go
+        replaced : strip q.path a.0 ≡ Some [] → All (λ (w : Query × Window). StandApart q w.0) new
+        replaced e =
+            let left : Windows = map_of.put query_cmp q (record { children = children_alone a.1; is_whole = false }) b.windows in
+            let passing : Query × Window → Bool = λ w. query_eq w.0 q || not (does_supply q w.0) in
+            let is : filter passing left ≡ new =
+            sym (ap (λ o. option_map_or (λ rest. windows_pushed q rest a.1 b.windows) o b.windows) e) ∙ ap (λ (x : Brought). x.windows) (push_of_filtered q b a f) in
+            subst (All (λ (w : Query × Window). StandApart q w.0)) is (λ k d lt differ. stands (slice_index_or (filter passing left) k d).0 (filter_passes passing left k d lt) differ)
+          where
+            stands : (x : Query) → (query_eq x q || not (does_supply q x)) ≡ true → StandApart q x
+            stands x e differ = not_so (does_supply q x) (sym (ap (λ t. t || not (does_supply q x)) (never (query_eq x q) (λ t. absurd (differ (sym ((query_eq_tells x q).0 t)))))) ∙ e)
+
+        -- below it, it had a window
+        had : is_some (window_of b.windows q) ≡ true → All (λ (w : Query × Window). StandApart q w.0) new
+        had s =
+            let v = found_there q b.windows s in
+            pushed_windows_all (λ (w : Query × Window). StandApart q w.0) q b a (λ rest e. any (λ x. StandApart q x) (window_pushed rest a.1 (window_of b.windows q)) (λ differ. absurd (differ refl)))
+            (λ n x l. subst (λ y. StandApart y (slice_index_or b.windows n x).0) v.2 (apart_at b.windows h.apart v.0 (slice_index_or b.windows n x) v.1 (Contains-get_or b.windows n x l)))
+
+        own : (rest : Path) (o : Option Window) → window_of b.windows q ≡ o → strip q.path a.0 ≡ Some rest
+            → IfSome (window_pushed rest a.1 o) (λ w. All (λ (x : Query × Window). StandApart q x.0) new)
+        own [] o s e = replaced e
+        own (k ∷ rest) None s e = tt
+        own (k ∷ rest) (Some w) s e = had (ap is_some s)
+
+pub push_belongs : (q : Query) (b : Brought) (a : Assignment) → IsCanonical b → may_put b q ≡ true → is_at_or_above q.path a.0 ≡ true
     → Belongs b → Belongs (push q b a)
-push_belongs q b a may under h = record {
+push_belongs q b a canonical may under h = record {
   regions = subst (λ fs. All (λ (r : Path × PathTree). reaches fs r.0 ≡ true) (push q b a).regions) (sym (push_registered q b a))
       (pushed_reached b.registered q b a (put_registered b q may) under h.regions);
   windows = subst (λ fs. All (λ (w : Query × Window). Contains fs w.0) (push q b a).windows) (sym (push_registered q b a))
       (pushed_registered b.registered q b a (put_registered b q may) h.windows);
   beside = at (is_filtered q) refl;
+  apart = push_apart q b a canonical may h;
 }
   where
     step : (p : Path) → any_above p (push q b a).regions ≡ cond (is_filtered q) (any_above p b.regions) (any_above p b.regions || is_at_or_above a.0 p)
@@ -211,46 +332,83 @@ push_belongs q b a may under h = record {
 
 -- ---- a change of cover
 
--- what all windows' queries have, that of a window which is found has
-found_all : (P : Query → Type 0) (q : Query) (ws : Windows) → All (λ (w : Query × Window). P w.0) ws → is_some (window_of ws q) ≡ true → P q
-found_all P q [] h e = absurd (true≢false (sym e))
-found_all P q (w ∷ ws) h e =
-    elim (eq_by_cmp query_cmp q w.0) as (λ b. eq_by_cmp query_cmp q w.0 ≡ b → is_some (cond b (Some w.1) (map_of.find query_cmp q ws)) ≡ true → P q) [
-      | true ↦ λ t f. subst P (sym (exact_queries q w.0 ((Equal-is (query_cmp q w.0)).0 t))) (All-head (λ (x : Query × Window). P x.0) w ws h)
-      | false ↦ λ t f. found_all P q ws (All-tail (λ (x : Query × Window). P x.0) w ws h) f
-    ] refl e
-
 pub recover_belongs : (registered kept : List Query) (b : Brought) → All (Contains registered) kept → Belongs b
     → Belongs (recover registered kept b)
 recover_belongs registered kept b all h = record {
   regions = λ k d lt. reaches_more registered kept (slice_index_or new k d).0 all (left_reached registered kept b k d lt);
   windows = left_registered registered kept b;
-  beside = listed_all (IsBeside new) (for_each known registered)
-      (All-filter_map (IsBeside new) (λ q. option_map (λ w. (q, w)) (known q)) registered
-      (λ k d lt. each (slice_index_or registered k d) (known (slice_index_or registered k d)) refl));
+  beside = listed_all (IsBeside new) (handed ++ left.windows) (All-append (IsBeside new) handed left.windows
+      (handed_heirs (λ q. any_above q.path new ≡ false) registered b left (λ q heir. clear q heir))
+      (λ k d lt. still (slice_index_or left.windows k d).0 (All-filter (λ (w : Query × Window). is_among registered w.0) (IsBeside b.regions) b.windows h.beside k d lt)));
+  apart = listed_apart (handed ++ left.windows) (All-append (λ v. All (λ w. StandApart v.0 w.0) (handed ++ left.windows)) handed left.windows
+      (handed_heirs (λ f. All (λ (w : Query × Window). StandApart f w.0) (handed ++ left.windows)) registered b left (λ f heir.
+      All-append (λ (w : Query × Window). StandApart f w.0) handed left.windows
+      (handed_heirs (λ g. StandApart f g) registered b left (λ g other. heirs_apart f g heir other))
+      (λ k d lt. heir_apart f heir (slice_index_or left.windows k d) (Contains-get_or left.windows k d lt))))
+      (λ k d lt. All-append (λ (w : Query × Window). StandApart (slice_index_or left.windows k d).0 w.0) handed left.windows
+      (handed_heirs (λ g. StandApart (slice_index_or left.windows k d).0 g) registered b left (λ g heir. kept_apart (slice_index_or left.windows k d) g (Contains-get_or left.windows k d lt) heir))
+      (λ n c l. stay_apart (slice_index_or left.windows k d) (slice_index_or left.windows n c) (Contains-get_or left.windows k d lt) (Contains-get_or left.windows n c l))));
 }
   where
     new : List (Path × PathTree)
     new = regions_kept kept b.regions
 
-    known : Query → Option Window
-    known = window_kept b.regions new b.windows
+    left : Brought
+    left = cut registered kept b
+
+    handed : Windows
+    handed = handed_on b (heirs registered b left)
+
+    Heir : Query → Type 0
+    Heir q = IsHeir registered b left q
 
     -- where no region was, none is
     still : (q : Query) → any_above q.path b.regions ≡ false → any_above q.path new ≡ false
     still q e = step_known q.path b (Recover registered kept) ∙ ap (λ t. t && reaches kept q.path) e
 
-    -- its window is one that it had
-    had : (q : Query) → is_some (region_part new q.path) ≡ true → known q ≡ window_of b.windows q
-    had q e = ap (λ o. option_or o (window_of b.windows q)) (none_goes b.regions new q e)
+    tells : (q : Query) → knows left q ≡ (is_some (region_part new q.path) || list_any (λ (w : Query × Window). does_supply w.0 q) left.windows)
+    tells q = knows_by left q (left_forms registered kept b)
 
-    clear : (q : Query) (t : Bool) → is_some (region_part new q.path) ≡ t → is_some (known q) ≡ true → any_above q.path new ≡ false
-    clear q true e s = still q (found_all (λ x. any_above x.path b.regions ≡ false) q b.windows h.beside (ap is_some (sym (had q e)) ∙ s))
-    clear q false e s = sym (part_any q.path new) ∙ e
+    -- no region holds an heir's path, nor does a window's form supply it
+    clear : (q : Query) → Heir q → any_above q.path new ≡ false
+    clear q heir = sym (part_any q.path new) ∙ or_left (is_some (region_part new q.path)) (list_any (λ (w : Query × Window). does_supply w.0 q) left.windows) (sym (tells q) ∙ heir.unknown)
 
-    each : (q : Query) (o : Option Window) → known q ≡ o → IfSome (option_map (λ w. (q, w)) o) (IsBeside new)
-    each q None e = tt
-    each q (Some w) e = clear q (is_some (region_part new q.path)) refl (ap is_some e)
+    unsupplied : (q : Query) → Heir q → (w : Query × Window) → Contains left.windows w → does_supply w.0 q ≡ false
+    unsupplied q heir w m = never (does_supply w.0 q) (λ t.
+        sym (or_right (is_some (region_part new q.path)) _ (sym (tells q) ∙ heir.unknown)) ∙ any_with (λ (x : Query × Window). does_supply x.0 q) left.windows w m t)
+
+    -- a window that stays was one
+    was : (w : Query × Window) → Contains left.windows w → Contains b.windows w
+    was w m = Contains-from_filter (λ (x : Query × Window). is_among registered x.0) b.windows w m
+
+    heirs_apart : (f g : Query) → Heir f → Heir g → StandApart f g
+    heirs_apart f g one other differ = never (does_supply f g) (λ t.
+        sym other.alone ∙ any_with (λ x. not (query_eq x g) && does_supply x g) (filter (is_lost b left) registered) f
+        (Contains-filter (is_lost b left) registered f one.registered (λ i. one.filtered i && one.knew i && not (one.unknown i)))
+        (both (not (query_eq f g)) (does_supply f g) (ap not (never (query_eq f g) (λ e. absurd (differ ((query_eq_tells f g).0 e))))) t))
+
+    kept_apart : (w : Query × Window) (g : Query) → Contains left.windows w → Heir g → StandApart w.0 g
+    kept_apart w g m heir differ = unsupplied g heir w m
+
+    stay_apart : (v w : Query × Window) → Contains left.windows v → Contains left.windows w → StandApart v.0 w.0
+    stay_apart v w m n = apart_at b.windows h.apart v w (was v m) (was w n)
+
+    -- what an heir had is not of a window that stays
+    heir_apart : (f : Query) → Heir f → (w : Query × Window) → Contains left.windows w → StandApart f w.0
+    heir_apart f heir w m differ = never (does_supply f w.0) (λ t. at t (is_some (region_part b.regions f.path)) refl)
+      where
+        at : does_supply f w.0 ≡ true → (r : Bool) → is_some (region_part b.regions f.path) ≡ r → false ≡ true
+        at t true e =
+            sym (All-contains (IsBeside b.regions) b.windows w h.beside (was w m))
+            ∙ ap (λ p. any_above p b.regions) (sym (supplied_has_path f w.0 heir.filtered t)) ∙ sym (part_any f.path b.regions) ∙ e
+        at t false e =
+            let any : list_any (λ (x : Query × Window). does_supply x.0 f) b.windows ≡ true = sym (ap (λ c. c || list_any (λ (x : Query × Window). does_supply x.0 f) b.windows) e) ∙ knew_by b f heir.knew in
+            let a = Any-from_list_any (λ (x : Query × Window). does_supply x.0 f) b.windows any in
+            let v : Query × Window = a.1 in
+            let there : Contains b.windows v = (a.0, a.2, a.3) in
+            let onward : does_supply v.0 w.0 ≡ true = supplies_trans v.0 f w.0 (form_filtered f heir.filtered) a.4 t in
+            let same : v.0 ≡ w.0 = apart_found b.windows h.apart v.0 w.0 (there_found v b.windows there) (there_found w b.windows (was w m)) onward in
+            sym (unsupplied f heir w m) ∙ ap (λ x. does_supply x f) (sym same) ∙ a.4
 
 -- ---- what is held
 
@@ -258,17 +416,17 @@ recover_belongs registered kept b all h = record {
 pub filtered_belongs : {A E : Type 0} (r : Result A E) (fs : List Query) (rs : List Region) (ws xs : List inside.Window) (q : Query) (a : Assignment)
     → is_filtered q ≡ true → may_put (held fs rs ws) q ≡ true → is_at_or_above q.path a.0 ≡ true
     → OnOk r (in_query_order (entries_of xs) ≡ pushed_windows q a (in_query_order (entries_of ws))) → OnErr r (in_query_order (entries_of xs) ≡ in_query_order (entries_of ws))
-    → Belongs (held fs rs ws) → Belongs (held fs rs xs)
-filtered_belongs (Ok x) fs rs ws xs q a f may under ok err h =
+    → IsCanonical (held fs rs ws) → Belongs (held fs rs ws) → Belongs (held fs rs xs)
+filtered_belongs (Ok x) fs rs ws xs q a f may under ok err c h =
     let pushed : held fs rs xs ≡ push q (held fs rs ws) a = (λ i. record { registered = fs; regions = pairs_of rs; windows = ok i }) ∙ push_of_filtered q (held fs rs ws) a f in
-    subst Belongs (sym pushed) (push_belongs q (held fs rs ws) a may under h)
-filtered_belongs (Err e) fs rs ws xs q a f may under ok err h = subst (λ es. Belongs (record { registered = fs; regions = pairs_of rs; windows = es })) (sym err) h
+    subst Belongs (sym pushed) (push_belongs q (held fs rs ws) a c may under h)
+filtered_belongs (Err e) fs rs ws xs q a f may under ok err c h = subst (λ es. Belongs (record { registered = fs; regions = pairs_of rs; windows = es })) (sym err) h
 
 pub plain_belongs : {A E : Type 0} (r : Result A E) (new old : Brought) (q : Query) (a : Assignment) → is_filtered q ≡ false
     → may_put old q ≡ true → is_at_or_above q.path a.0 ≡ true → OnOk r (new ≡ push_plain old a) → OnErr r (new ≡ old)
-    → Belongs old → Belongs new
-plain_belongs (Ok x) new old q a f may under ok err h = subst Belongs (sym (ok ∙ push_of_plain q old a f)) (push_belongs q old a may under h)
-plain_belongs (Err e) new old q a f may under ok err h = subst Belongs (sym err) h
+    → IsCanonical old → Belongs old → Belongs new
+plain_belongs (Ok x) new old q a f may under ok err c h = subst Belongs (sym (ok ∙ push_of_plain q old a f)) (push_belongs q old a c may under h)
+plain_belongs (Err e) new old q a f may under ok err c h = subst Belongs (sym err) h
 
 -- after a change of cover, or a refusal of it
 pub changed_belongs : {A E : Type 0} (r : Result A E) (registered kept : List Query) (old new : Brought)

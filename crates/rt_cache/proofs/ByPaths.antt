@@ -38,7 +38,7 @@ query_ranks {X = X} q = ranks_by paths_total (λ (x : X). (q x).path)
 
 -- ---- what is found of a query
 
-not_itself : (p r : Path) → is_lt (path_cmp r p) ≡ true → r ≡ p → ⊥
+pub not_itself : (p r : Path) → is_lt (path_cmp r p) ≡ true → r ≡ p → ⊥
 not_itself p r e s = true≢false (sym e ∙ ap (λ x. is_lt (path_cmp x p)) s ∙ ap is_lt (tied_itself paths_total p))
 
 -- what stands before a path has no query of it
@@ -66,6 +66,23 @@ pub before_more : {X : Type 0} (test : X → Bool) (xs : List X) (n : ℕ) (x : 
 before_more test xs n x lt here before k d h =
     below_more (λ j. test (get_or xs j d) ≡ false) n (λ j g. before j d g) (ap test (get_or_default xs n d x lt) ∙ here) k h
 
+pub neither_before : (p r : Path) → is_lt (path_cmp p r) ≡ false → is_lt (path_cmp r p) ≡ false → path_eq p r ≡ true
+neither_before p r a b = elim (path_cmp p r) as (λ o. path_cmp p r ≡ o → path_eq p r ≡ true) [
+  | Less ↦ λ o. absurd (true≢false (sym (ap is_lt o) ∙ a))
+  | Equal ↦ λ o. cc
+  | Greater ↦ λ o. absurd (true≢false (sym (ap is_lt (paths_total.antisymm r p ∙ ap ordering_reverse o)) ∙ b))
+] refl
+
+-- where one is of a path behind, so is none after it of the path
+pub path_behind : {X : Type 0} (q : X → Query) (p : Path) (xs : List X) (n : ℕ) → AreByPath q xs → n < length xs
+    → ((d : X) → is_lt (path_cmp (q (get_or xs n d)).path p) ≡ false)
+    → ((d : X) → is_lt (path_cmp (q (get_or xs n d)).path p) ≡ false → is_lt (path_cmp p (q (get_or xs n d)).path) ≡ false → ⊥)
+    → (k : ℕ) (d : X) → n ≤ k → k < length xs → (q (get_or xs k d)).path ≡ p → ⊥
+path_behind {X = X} q p xs n up within not_before other k d le lt same =
+    let up_to : is_lt (path_cmp p (q (get_or xs n d)).path) ≡ false =
+    ap (λ r. is_lt (path_cmp r (q (get_or xs n d)).path)) (sym same) ∙ sorted_far (λ (x y : X). is_lt (by_query q x y)) (query_ranks q) xs up n k d le lt in
+    other d (not_before d) up_to
+
 -- where none so far is of the query, and the next is of a path behind, none is
 pub none_behind : {X : Type 0} (q : X → Query) (of : Query) (xs : List X) (n : ℕ) → AreByPath q xs → n < length xs
     → ((k : ℕ) (d : X) → k < n → query_eq (q (get_or xs k d)) of ≡ false)
@@ -83,19 +100,8 @@ none_behind {X = X} q of xs n up within before not_before other = none_of (λ x.
         behind : (k : ℕ) (d : X) → n ≤ k → k < length xs → query_eq (q (get_or xs k d)) of ≡ false
         behind k d le lt = elim (query_eq (q (get_or xs k d)) of) as (λ b. query_eq (q (get_or xs k d)) of ≡ b → b ≡ false) [
           | false ↦ λ f. refl
-          | true ↦ λ f.
-              let same : (q (get_or xs k d)).path ≡ of.path = ap (λ (x : Query). x.path) ((query_eq_tells (q (get_or xs k d)) of).0 f) in
-              let up_to : is_lt (path_cmp of.path (q (get_or xs n d)).path) ≡ false =
-              ap (λ p. is_lt (path_cmp p (q (get_or xs n d)).path)) (sym same) ∙ sorted_far (λ (x y : X). is_lt (by_query q x y)) (query_ranks q) xs up n k d le lt in
-              absurd (true≢false (sym (neither (q (get_or xs n d)).path of.path (not_before d) up_to) ∙ other d))
+          | true ↦ λ f. absurd (path_behind q of.path xs n up within not_before (λ x a b. true≢false (sym (neither_before (q (get_or xs n x)).path of.path a b) ∙ other x)) k d le lt (ap (λ (x : Query). x.path) ((query_eq_tells (q (get_or xs k d)) of).0 f)))
         ] refl
-          where
-            neither : (p r : Path) → is_lt (path_cmp p r) ≡ false → is_lt (path_cmp r p) ≡ false → path_eq p r ≡ true
-            neither p r a b = elim (path_cmp p r) as (λ o. path_cmp p r ≡ o → path_eq p r ≡ true) [
-              | Less ↦ λ o. absurd (true≢false (sym (ap is_lt o) ∙ a))
-              | Equal ↦ λ o. cc
-              | Greater ↦ λ o. absurd (true≢false (sym (ap is_lt (paths_total.antisymm r p ∙ ap ordering_reverse o)) ∙ b))
-            ] refl
 
 -- whether one passes by what it gives
 pub any_map : {X Y : Type 0} (f : X → Y) (p : Y → Bool) (xs : List X) → list_any (λ x. p (f x)) xs ≡ list_any p (map f xs)

@@ -4,23 +4,25 @@ use lib.Dec.{T}
 use Rattle.std.specs.declared.result.Result.{Result}
 use Rattle.std.specs.declared.result.Result.TheVariants.{Ok, Err}
 use Rattle.std.specs.List.{filter, flat_map}
+use Rattle.std.proofs.lemmas.List.Elements.{All-append, All-filter}
 use Rattle.std.proofs.lemmas.List.Elements.{filter_agree}
 use Rattle.std.specs.FinMap as map_of
 use Rattle.std.specs.FinMap.Entries.{is_sorted-put, is_sorted-where_key}
 use Rattle.rt_tree.specs.PathTree.{path_cmp, paths_total}
 use Rattle.rt_tree.specs.Assignments.{have_overlap}
-use Rattle.rt_query.specs.Queries.{Query}
-use Rattle.rt_cache.specs.Brought.{Brought}
+use Rattle.rt_query.specs.Queries.{Query, is_filtered}
+use Rattle.rt_cache.specs.Brought.{Window, Brought}
 use Rattle.rt_cache.specs.Canonical.{IsCanonical}
-use Rattle.rt_cache.specs.Recover.{reaches, parts_of, with_regions, regions_kept, window_kept, do_plains_overlap, recover}
+use Rattle.rt_cache.specs.Recover.{reaches, parts_of, with_regions, regions_kept, do_plains_overlap, is_among, cut, heirs, handed_on, recover}
 use Rattle.rt_cache.specs.declared.region.Region.{Region}
 use Rattle.rt_cache.specs.declared.spans.Span.{Span}
-use Rattle.rt_cache.specs.inside.Held.{for_each, pairs_of}
+use Rattle.rt_cache.specs.inside.Held.{pairs_of}
 use Rattle.rt_cache.specs.inside.Spans.{without, AreLost}
 use Rattle.rt_cache.proofs.Cuts.{moved_overlap, left_apart}
 use Rattle.rt_cache.proofs.InPlace.{pairs_of-filter_by}
 use Rattle.rt_cache.proofs.InSpans.{staying}
-use Rattle.rt_cache.proofs.Keeping.{kept_filtered}
+use Rattle.rt_cache.proofs.Heirs.{handed_heirs}
+use Rattle.rt_cache.proofs.Keeping.{listed_filtered}
 use Rattle.rt_cache.proofs.Listing.{listed_sorted}
 use Rattle.rt_cache.proofs.Stays.{Regions}
 
@@ -40,9 +42,17 @@ recover_stays registered kept b e h =
     record {
       regions = with_sorted stay parts (is_sorted-where_key path_cmp (λ p. reaches kept p) b.regions h.regions);
       apart = with_apart stay parts (left_apart kept b.regions e h.apart);
-      windows = listed_sorted (for_each (window_kept b.regions (regions_kept kept b.regions) b.windows) registered);
-      filtered = kept_filtered b.regions (regions_kept kept b.regions) registered b.windows h.filtered;
+      windows = listed_sorted (handed ++ left.windows);
+      filtered = listed_filtered (handed ++ left.windows) (All-append (λ (w : Query × Window). is_filtered w.0 ≡ true) handed left.windows
+          (handed_heirs (λ q. is_filtered q ≡ true) registered b left (λ q heir. heir.filtered))
+          (All-filter (λ (w : Query × Window). is_among registered w.0) (λ (w : Query × Window). is_filtered w.0 ≡ true) b.windows h.filtered));
     }
+  where
+    left : Brought
+    left = cut registered kept b
+
+    handed : List (Query × Window)
+    handed = handed_on b (heirs registered b left)
 
 pub changed_stays : {A E : Type 0} (r : Result A E) (registered kept : List Query) (old new : Brought) → do_plains_overlap kept ≡ false
     → OnOk r (new ≡ recover registered kept old) → OnErr r (new ≡ old) → IsCanonical old → IsCanonical new

@@ -1,25 +1,21 @@
 -- The windows of the registered forms.
 use Rattle.std.proofs.Common.{◌≡◌, ℕ, zero, suc, ◌<◌, length, get_or, drop, append_assoc, append-nil, Bool, true, false, cond, not, ◌&&◌, ◌||◌, List, [], ◌∷◌, ◌++◌, refl, sym, ap, ◌∙◌, Option, Some, None, is_some, arith}
-use mathlib.Core.Bool.{true≢false}
-use Rattle.std.specs.declared.cmp.Ordering.TheVariants.{Equal}
 use Rattle.std.specs.Ordering.{eq_by_cmp}
 use Rattle.std.specs.Option.{option_map, option_or, option_to_list}
-use Rattle.std.specs.List.{filter, cons_option}
+use Rattle.std.specs.List.{cons_option}
 use Rattle.std.specs.Cmp.{Equal-is, eq_by_cmp_equiv}
 use Rattle.std.specs.FinMap as map_of
-use Rattle.std.specs.FinMap.Entries.{find-where_key}
 use Rattle.std.proofs.lemmas.List.Elements.{All-cons, All-head, All-tail}
-use Rattle.rt_tree.specs.PathTree.{PathTree, children_alone}
 use Rattle.rt_query.specs.Queries.{Query, is_filtered}
 use Rattle.rt_query.specs.QueryEq.{query_eq}
 use Rattle.rt_cache.specs.QueryOrder.{query_cmp}
-use Rattle.rt_cache.specs.Brought.{Window, region_part, window_of}
-use Rattle.rt_cache.specs.Recover.{in_query_order, is_among, window_left, window_kept, windows_kept}
+use Rattle.rt_cache.specs.Brought.{Window}
+use Rattle.rt_cache.specs.Recover.{in_query_order, is_among}
 use Rattle.rt_cache.specs.declared.window.Window as inside
 use Rattle.rt_cache.specs.inside.Held.{seen_window, entry_of, entries_of, for_each}
-use Rattle.rt_cache.proofs.Listing.{Listed, listed_is, listed_sorted, find-listed, entries_of-filter}
+use Rattle.rt_cache.proofs.Listing.{Listed}
 use Rattle.rt_cache.proofs.QueryOrders.{queries_total, exact_queries, tie_is_eq}
-use Rattle.rt_cache.proofs.Stays.{Regions, Windows, AreFiltered, filtered-put}
+use Rattle.rt_cache.proofs.Stays.{AreFiltered, filtered-put}
 
 -- what is found of the queries' windows
 module _ (h : Query → Option Window) (x q : Query) (queries : List Query) (rest : map_of.find query_cmp x (for_each h queries) ≡ cond (is_among queries x) (h x) None) where
@@ -66,11 +62,6 @@ pub one_more_left : (left : List inside.Window) (o : Option inside.Window) (rest
 one_more_left left None rest whole e = ap (λ ws. entries_of ws ++ rest) (append-nil left) ∙ e
 one_more_left left (Some w) rest whole e = ap (λ es. es ++ rest) (entries_of-append left (w ∷ [])) ∙ append_assoc (entries_of left) (entry_of w ∷ []) rest ∙ e
 
--- a whole window
-pub left_whole : (old new : Regions) (q : Query) (t : PathTree) → is_filtered q ≡ true → is_some (region_part new q.path) ≡ false → region_part old q.path ≡ Some t
-    → window_left old new q ≡ Some (record { children = children_alone t; is_whole = true })
-left_whole old new q t f u s = λ i. cond (f i && not (u i)) (option_map (λ x. record { children = children_alone x; is_whole = true }) (s i)) None
-
 -- the first list, and behind it the second
 pub find-both : (x : Query) (es fs : Listed) → map_of.find query_cmp x (es ++ fs) ≡ option_or (map_of.find query_cmp x es) (map_of.find query_cmp x fs)
 find-both x [] fs = refl
@@ -80,62 +71,18 @@ find-both x (e ∷ es) fs =
       | false ↦ find-both x es fs
     ]
 
--- those that regions left, in front of the others that are registered
-pub kept_listed : (old new : Regions) (registered : List Query) (left ws : List inside.Window) → entries_of left ≡ for_each (window_left old new) registered
-    → in_query_order (entries_of left ++ entries_of (filter (λ w. is_among registered w.query) ws)) ≡ windows_kept registered old new (in_query_order (entries_of ws))
-kept_listed old new registered left ws e =
-    ap (λ es. in_query_order (entries_of left ++ es)) (entries_of-filter (is_among registered) ws)
-    ∙ listed_is (entries_of left ++ filter (λ w. is_among registered w.0) (entries_of ws)) _ (listed_sorted kept)
-    (λ x. find-both x (entries_of left) _
-    ∙ (λ i. option_or ((ap (map_of.find query_cmp x) e ∙ find-for_each (window_left old new) x registered) i)
-    (find-where_key query_cmp (is_among registered) x (alike x) (entries_of ws) i))
-    ∙ either (is_among registered x) (window_left old new x) (map_of.find query_cmp x (entries_of ws))
-    ∙ ap (λ o. cond (is_among registered x) (option_or (window_left old new x) o) None) (sym (find-listed x (entries_of ws)))
-    ∙ sym (find-listed x kept ∙ find-for_each (window_kept old new (in_query_order (entries_of ws))) x registered))
-  where
-    kept : Listed
-    kept = for_each (window_kept old new (in_query_order (entries_of ws))) registered
-
-    alike : (x y : Query) → query_cmp x y ≡ Equal → is_among registered y ≡ is_among registered x
-    alike x y t = ap (is_among registered) (sym (exact_queries x y t))
-
-    either : (b : Bool) (l o : Option Window) → option_or (cond b l None) (cond b o None) ≡ cond b (option_or l o) None
-    either true l o = refl
-    either false l o = refl
-
 -- ---- they are filtered
 
-listed_filtered : (es : Listed) → AreFiltered es → AreFiltered (in_query_order es)
+pub listed_filtered : (es : Listed) → AreFiltered es → AreFiltered (in_query_order es)
 listed_filtered [] h = h
 listed_filtered (e ∷ es) h =
     let P : Query × Window → Type 0 = λ x. is_filtered x.0 ≡ true in
     filtered-put e.0 e.1 (in_query_order es) (All-head P e es h) (listed_filtered es (All-tail P e es h))
 
-each_filtered : (h : Query → Option Window) (queries : List Query) → ((q : Query) → is_some (h q) ≡ true → is_filtered q ≡ true) → AreFiltered (for_each h queries)
+pub each_filtered : (h : Query → Option Window) (queries : List Query) → ((q : Query) → is_some (h q) ≡ true → is_filtered q ≡ true) → AreFiltered (for_each h queries)
 each_filtered h [] f = λ k d lt. absurd (omega arith)
 each_filtered h (q ∷ queries) f =
     elim (h q) as (λ o. (is_some o ≡ true → is_filtered q ≡ true) → AreFiltered (cons_option (option_map (λ w. (q, w)) o) (for_each h queries))) [
       | None ↦ λ g. each_filtered h queries f
       | Some w ↦ λ g. All-cons (λ (x : Query × Window). is_filtered x.0 ≡ true) (q, w) (for_each h queries) (g refl) (each_filtered h queries f)
     ] (f q)
-
-found_filtered : (q : Query) (ws : Windows) → AreFiltered ws → is_some (window_of ws q) ≡ true → is_filtered q ≡ true
-found_filtered q [] h e = absurd (true≢false (sym e))
-found_filtered q (w ∷ ws) h e =
-    elim (eq_by_cmp query_cmp q w.0) as (λ b. eq_by_cmp query_cmp q w.0 ≡ b → is_some (cond b (Some w.1) (map_of.find query_cmp q ws)) ≡ true → is_filtered q ≡ true) [
-      | true ↦ λ t f. ap is_filtered (exact_queries q w.0 ((Equal-is (query_cmp q w.0)).0 t)) ∙ All-head (λ (x : Query × Window). is_filtered x.0 ≡ true) w ws h
-      | false ↦ λ t f. found_filtered q ws (All-tail (λ (x : Query × Window). is_filtered x.0 ≡ true) w ws h) f
-    ] refl e
-
-pub kept_filtered : (old new : Regions) (registered : List Query) (ws : Windows) → AreFiltered ws → AreFiltered (windows_kept registered old new ws)
-kept_filtered old new registered ws h = listed_filtered (for_each (window_kept old new ws) registered) (each_filtered (window_kept old new ws) registered one)
-  where
-    unleft : (q : Query) → is_filtered q ≡ false → window_kept old new ws q ≡ window_of ws q
-    unleft q f = ap (λ b. option_or (cond (b && not (is_some (region_part new q.path))) (option_map (λ t. record { children = children_alone t; is_whole = true }) (region_part old q.path)) None) (window_of ws q)) f
-
-    one_by : (q : Query) (b : Bool) → is_filtered q ≡ b → is_some (window_kept old new ws q) ≡ true → is_filtered q ≡ true
-    one_by q true e s = e
-    one_by q false e s = found_filtered q ws h (ap is_some (sym (unleft q e)) ∙ s)
-
-    one : (q : Query) → is_some (window_kept old new ws q) ≡ true → is_filtered q ≡ true
-    one q s = one_by q (is_filtered q) refl s

@@ -8,10 +8,10 @@ use Rattle.std.specs.declared.result.Result.TheVariants.{Ok, Err}
 use Rattle.std.specs.Ordering.{eq_by_cmp}
 use Rattle.std.specs.Cmp.{Equal-is}
 use Rattle.std.specs.List.{filter, flat_map, All}
-use Rattle.std.specs.Option.{option_map, option_map_or, option_or}
+use Rattle.std.specs.Option.{option_map, option_map_or, option_or, option_and_then}
 use Rattle.std.proofs.lemmas.List.{get_or_default, drop_more}
 use Rattle.std.proofs.lemmas.List.Folds.{list_any-append}
-use Rattle.std.proofs.lemmas.List.Elements.{All-head, All-tail, All-filter, All-weaker}
+use Rattle.std.proofs.lemmas.List.Elements.{All-head, All-tail, All-filter, All-weaker, All-append, All-contains}
 use Rattle.rt_tree.specs.declared.limits.TheConstants.{MAX_LEVELS, MAX_KEYS}
 use Rattle.rt_tree.specs.Leaf.{LeafValue}
 use Rattle.rt_tree.specs.Path.{IsPath}
@@ -20,25 +20,30 @@ use Rattle.rt_tree.specs.PathTree.{leaf_at-sub, leaf_at-put, leaf_at-children_al
 use Rattle.rt_tree.specs.PathTree.{leaf_of-children_alone, after_put, is_null, sub, put, children_alone}
 use Rattle.rt_tree.specs.PathTree.{levels, levels_le, length_lt_levels}
 use Rattle.rt_tree.specs.Assignments.{Assignment, is_at_or_above}
-use Rattle.rt_query.specs.Queries.{Query, plain, is_filtered}
-use Rattle.rt_query.specs.Supply.{form}
+use Rattle.rt_tree.specs.TreeEq.{both_first, both_second}
+use Rattle.rt_query.specs.Queries.{Query, is_filtered}
+use Rattle.rt_query.specs.Supply.{does_supply}
+use Rattle.rt_query.specs.laws.SupplyLaws.{supplied_has_path}
 use Rattle.rt_cache.specs.QueryOrder.{query_cmp}
 use Rattle.rt_cache.specs.Brought.{Window, Brought, Base, region_part, region_put, window_of}
 use Rattle.rt_cache.specs.Brought.{window_pushed, windows_pushed, push_plain, push, base, base_child}
 use Rattle.rt_cache.specs.Brought.{child_base}
 use Rattle.rt_cache.specs.Canonical.{FitsLevels}
-use Rattle.rt_cache.specs.Recover.{reaches, part_for, parts_of, regions_kept, window_left, window_kept}
-use Rattle.rt_cache.specs.Recover.{in_query_order, recover}
+use Rattle.rt_cache.specs.Recover.{reaches, part_for, parts_of, is_among, window_left}
+use Rattle.rt_cache.specs.Recover.{in_query_order, cut, heirs, handed_on, recover}
 use Rattle.rt_cache.specs.declared.region.Region.{Region}
 use Rattle.rt_cache.specs.declared.window.Window as inside
-use Rattle.rt_cache.specs.inside.Held.{for_each, held, pairs_of, entries_of, pushed_windows, AreShort}
+use Rattle.rt_cache.specs.inside.Held.{held, pairs_of, entries_of, pushed_windows, AreShort}
+use Rattle.rt_cache.specs.inside.Sources.{source_among}
 use Rattle.rt_cache.specs.declared.spans.Span.{Span}
 use Rattle.rt_cache.specs.inside.Spans.{has_place, have_place}
+use Rattle.rt_cache.proofs.Heirs.{heir_is, handed_all}
 use Rattle.rt_cache.proofs.Pushes.{push_of_filtered, push_of_plain}
 use Rattle.rt_cache.proofs.QueryOrders.{exact_queries}
 use Rattle.rt_cache.proofs.RecoverLaws.{All-filter_map, All-flat_map, with_all, listed_all}
 use Rattle.rt_cache.proofs.RecoverLaws.{pushed_all, pushed_windows_all}
-use Rattle.rt_cache.proofs.Stays.{Regions, Windows}
+use Rattle.rt_cache.proofs.Sources.{found_all, find_passes, has_it, of_window, region_base, window_base}
+use Rattle.rt_cache.proofs.Stays.{Regions, Windows, AreFiltered}
 
 -- no leaf of a tree at the path stands under more than 32 keys
 abbrev pub Fits : Path → PathTree → Type 0
@@ -164,46 +169,42 @@ window_fits (w ∷ ws) q h =
     found : Bool → Option Window
     found b = cond b (Some w.1) (window_of ws q)
 
-either_fits : {X : Type 0} (P : X → Type 0) (o n : Option X) → IfSome o P → IfSome n P
-    → IfSome (option_or o n) P
-either_fits P None n h g = g
-either_fits P (Some x) n h g = h
-
 -- what is brought for a query
-pub base_fits : (b : Brought) (q : Query) → length q.path ≤ MAX_KEYS → FitsLevels b
+pub base_fits : (b : Brought) (q : Query) → length q.path ≤ MAX_KEYS → AreFiltered b.windows → FitsLevels b
     → IfSome (base b q) (λ x. length q.path + levels x.tree ≤ MAX_LEVELS)
-base_fits b q short h =
-    either_fits (λ (x : Base). Fits q.path x.tree) (of_region (region_part b.regions q.path))
-    (of_window (window_of b.windows (form q)))
-    (region (region_part b.regions q.path) (region_part_fits b.regions q.path (omega arith) h.regions))
-    (window (window_of b.windows (form q)) (elim (is_filtered q) as (λ f.
-    IfSome (window_of b.windows (cond f q (plain q.path))) (λ w. Fits q.path w.children)) [
-      | true ↦ window_fits b.windows q h.windows
-      | false ↦ window_fits b.windows (plain q.path) h.windows
-    ]))
+base_fits b q short filtered h =
+    at (region_part b.regions q.path) refl (region_part_fits b.regions q.path (omega arith) h.regions)
   where
-    of_region : Option PathTree → Option Base
-    of_region o = option_map (λ t. record { tree = t; whole = true }) o
-
-    of_window : Option Window → Option Base
-    of_window o = option_map (λ (w : Window). record { tree = w.children; whole = w.is_whole }) o
-
-    region : (o : Option PathTree) → IfSome o (Fits q.path)
-        → IfSome (of_region o) (λ x. Fits q.path x.tree)
-    region None e = e
-    region (Some t) e = e
-
     window : (o : Option Window) → IfSome o (λ w. Fits q.path w.children)
-        → IfSome (of_window o) (λ x. Fits q.path x.tree)
+        → IfSome (option_map of_window o) (λ x. Fits q.path x.tree)
     window None e = e
     window (Some w) e = e
+
+    -- the source has the query's path
+    of_source : (o : Option Query) → IfSome o (λ f. has_it b.windows q f ≡ true)
+        → IfSome (option_and_then (window_of b.windows) o) (λ w. Fits q.path w.children)
+    of_source None e = tt
+    of_source (Some f) e =
+        let there : is_some (window_of b.windows f) ≡ true = both_second (does_supply f q) _ e in
+        let path : f.path ≡ q.path = supplied_has_path f q (found_all (λ x. is_filtered x ≡ true) f b.windows filtered there)
+        (both_first (does_supply f q) _ e) in
+        subst (λ p. IfSome (window_of b.windows f) (λ w. Fits p w.children)) path
+        (window_fits b.windows f h.windows)
+
+    at : (o : Option PathTree) → region_part b.regions q.path ≡ o → IfSome (region_part b.regions q.path) (Fits q.path)
+        → IfSome (base b q) (λ x. Fits q.path x.tree)
+    at (Some t) e r = subst (λ o. IfSome o (λ x. Fits q.path x.tree)) (sym (region_base b q t e))
+        (subst (λ o. IfSome o (Fits q.path)) e r)
+    at None e r = subst (λ o. IfSome o (λ x. Fits q.path x.tree)) (sym (window_base b q e))
+        (window (option_and_then (window_of b.windows) (source_among b.windows b.registered q))
+        (of_source (source_among b.windows b.registered q) (find_passes (has_it b.windows q) b.registered)))
 
 -- ---- pushes
 
 -- the base with one child alone is no deeper
-pub base_child_fits : (b : Brought) (q : Query) (k : Key) → length q.path ≤ MAX_KEYS → FitsLevels b
+pub base_child_fits : (b : Brought) (q : Query) (k : Key) → length q.path ≤ MAX_KEYS → AreFiltered b.windows → FitsLevels b
     → IfSome (base_child b q k) (λ x. length (q.path ++ k ∷ []) + levels x.tree ≤ MAX_LEVELS)
-base_child_fits b q k short h = at (base b q) (base_fits b q short h)
+base_child_fits b q k short filtered h = at (base b q) (base_fits b q short filtered h)
   where
     at : (o : Option Base) → IfSome o (λ x. length q.path + levels x.tree ≤ MAX_LEVELS)
         → IfSome (option_map (child_base k) o) (λ x. length (q.path ++ k ∷ []) + levels x.tree ≤ MAX_LEVELS)
@@ -265,21 +266,9 @@ cut_fits r k short h =
           ] refl
     ]
 
--- the window that a lost region leaves, by whether it is filtered and what the regions have now
-abbrev left_in : Bool → Option PathTree → Option PathTree → Option Window
-left_in f n o = cond (f && not (is_some n))
-    (option_map (λ t. record { children = children_alone t; is_whole = true }) o) None
-
-left_fits : (p : Path) (f : Bool) (n o : Option PathTree) → IfSome o (Fits p)
-    → IfSome (left_in f n o) (λ w. Fits p w.children)
-left_fits p true None None h = h
-left_fits p true None (Some t) h = children_fit p t h
-left_fits p true (Some u) o h = tt
-left_fits p false n o h = tt
-
 pub recover_fits : (registered kept : List Query) (b : Brought) → AreShort registered → AreShort kept
-    → FitsLevels b → FitsLevels (recover registered kept b)
-recover_fits registered kept b forms listens h = record {
+    → AreFiltered b.windows → FitsLevels b → FitsLevels (recover registered kept b)
+recover_fits registered kept b forms listens filtered h = record {
   regions =
       with_all RegionFits (filter (λ r. reaches kept r.0) b.regions) (flat_map (parts_of kept) lost)
       (All-filter (λ (r : Path × PathTree). reaches kept r.0) RegionFits b.regions h.regions)
@@ -287,10 +276,12 @@ recover_fits registered kept b forms listens h = record {
       (λ r. All RegionFits (parts_of kept r)) parts lost
       (All-filter (λ (r : Path × PathTree). not (reaches kept r.0)) RegionFits b.regions h.regions)));
   windows =
-      listed_all WindowFits (for_each known registered)
-      (All-filter_map WindowFits (λ q. option_map (λ w. (q, w)) (known q)) registered
-      (All-weaker (λ (q : Query). length q.path ≤ MAX_KEYS)
-      (λ q. IfSome (option_map (λ w. (q, w)) (known q)) WindowFits) each registered forms));
+      listed_all WindowFits (handed_on b (heirs registered b left) ++ left.windows)
+      (All-append WindowFits (handed_on b (heirs registered b left)) left.windows
+      (handed_all WindowFits b (heirs registered b left) (λ q m.
+      each q (All-contains (λ (x : Query). length x.path ≤ MAX_KEYS) registered q forms
+      (heir_is registered b left q m).registered)))
+      (All-filter (λ (w : Query × Window). is_among registered w.0) WindowFits b.windows h.windows));
 }
   where
     lost : Regions
@@ -301,25 +292,16 @@ recover_fits registered kept b forms listens h = record {
         (All-weaker (λ (k : Query). length k.path ≤ MAX_KEYS) (λ k. IfSome (part_for r k) RegionFits)
         (λ k short. cut_fits r k short e) kept listens)
 
-    new : Regions
-    new = regions_kept kept b.regions
-
-    known : Query → Option Window
-    known = window_kept b.regions new b.windows
-
-    seen : (q : Query) (o : Option Window) → IfSome o (λ w. Fits q.path w.children)
-        → IfSome (option_map (λ w. (q, w)) o) WindowFits
-    seen q None e = e
-    seen q (Some w) e = e
+    left : Brought
+    left = cut registered kept b
 
     each : (q : Query) → length q.path ≤ MAX_KEYS
-        → IfSome (option_map (λ w. (q, w)) (known q)) WindowFits
-    each q short =
-        seen q (known q) (either_fits (λ (w : Window). Fits q.path w.children)
-        (window_left b.regions new q) (window_of b.windows q)
-        (left_fits q.path (is_filtered q) (region_part new q.path) (region_part b.regions q.path)
-        (region_part_fits b.regions q.path (omega arith) h.regions))
-        (window_fits b.windows q h.windows))
+        → IfSome (window_left (base b q)) (λ w. WindowFits (q, w))
+    each q short = at (base b q) (base_fits b q short filtered h)
+      where
+        at : (o : Option Base) → IfSome o (λ x. Fits q.path x.tree) → IfSome (window_left o) (λ w. WindowFits (q, w))
+        at None f = tt
+        at (Some x) f = children_fit q.path x.tree f
 
 -- ---- what is held
 
@@ -346,7 +328,7 @@ plain_fits (Err e) new old q a f fits ok err h = subst FitsLevels (sym err) h
 -- after a change of cover, or a refusal of it
 pub changed_fits : {A E : Type 0} (r : Result A E) (registered kept : List Query) (old new : Brought)
     → OnOk r (new ≡ recover registered kept old) → OnOk r (AreShort registered)
-    → OnOk r (AreShort kept) → OnErr r (new ≡ old) → FitsLevels old → FitsLevels new
-changed_fits (Ok x) registered kept old new ok forms listens err h =
-    subst FitsLevels (sym ok) (recover_fits registered kept old forms listens h)
-changed_fits (Err e) registered kept old new ok forms listens err h = subst FitsLevels (sym err) h
+    → OnOk r (AreShort kept) → OnErr r (new ≡ old) → AreFiltered old.windows → FitsLevels old → FitsLevels new
+changed_fits (Ok x) registered kept old new ok forms listens err filtered h =
+    subst FitsLevels (sym ok) (recover_fits registered kept old forms listens filtered h)
+changed_fits (Err e) registered kept old new ok forms listens err filtered h = subst FitsLevels (sym err) h

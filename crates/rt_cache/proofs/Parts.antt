@@ -14,7 +14,7 @@ use Rattle.rt_tree.specs.PathTree.{Path, PathTree, path_cmp, paths_total, exact_
 use Rattle.rt_tree.specs.Assignments.{is_at_or_above, do_overlap, have_overlap}
 use Rattle.rt_query.specs.Queries.{Query, is_filtered}
 use Rattle.rt_cache.specs.Brought.{Window, region_part}
-use Rattle.rt_cache.specs.Recover.{reaches, parts_of, plain_spots, with_regions, regions_kept, window_left}
+use Rattle.rt_cache.specs.Recover.{reaches, parts_of, plain_spots, with_regions, regions_kept}
 use Rattle.rt_cache.specs.declared.region.Region.{Region}
 use Rattle.rt_cache.specs.inside.Cuts.{parts_left}
 use Rattle.rt_cache.specs.inside.Held.{pairs_of}
@@ -134,14 +134,3 @@ all_dropped (suc n) (x ∷ xs) le = all_dropped n xs (omega (arith, le))
 pub if_ok : {A E : Type 0} (r : Result A E) (P Q : A → Type 0) → IfOk r P → ((x : A) → P x → Q x) → IfOk r Q
 if_ok (Ok x) P Q p f = f x p
 if_ok (Err e) P Q p f = tt
-
--- no window where the path is held still
-abbrev left_by : Bool → Bool → Option PathTree → Option Window
-left_by filtered held o = cond (filtered && not held) (option_map (λ t. record { children = children_alone t; is_whole = true }) o) None
-
-held : (filtered : Bool) (o : Option PathTree) → left_by filtered true o ≡ None
-held true o = refl
-held false o = refl
-
-pub none_goes : (old new : Regions) (q : Query) → is_some (region_part new q.path) ≡ true → window_left old new q ≡ None
-none_goes old new q e = ap (λ b. left_by (is_filtered q) b (region_part old q.path)) e ∙ held (is_filtered q) (region_part old q.path)

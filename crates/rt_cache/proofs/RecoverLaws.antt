@@ -1,5 +1,6 @@
 -- What a change of cover and a push leave of what was brought: nothing is lost that listens reach.
-use Rattle.std.proofs.Common.{◌≡◌, Bool, true, false, cond, not, ◌&&◌, List, [], ◌∷◌, map, refl}
+use Rattle.std.proofs.Common.{◌≡◌, Bool, true, false, cond, not, ◌&&◌, ◌||◌, List, [], ◌∷◌, ◌++◌, map, refl}
+use mathlib.Core.Bool.{true≢false}
 use Rattle.std.proofs.Common.{sym, ap, subst, ◌∙◌, Option, Some, None, is_some, append-nil}
 use lib.Dec.{T}
 use Rattle.std.specs.declared.cmp.Ordering.{Ordering}
@@ -8,34 +9,35 @@ use Rattle.std.specs.Ordering.{eq_by_cmp}
 use Rattle.std.specs.Cmp.{Equal-is}
 use Rattle.std.specs.Prelude.{IfSome, slice_index_or}
 use Rattle.std.proofs.lemmas.List.Elements.{All-weaker}
-use Rattle.std.specs.List.{filter, filter_map, flat_map, cons_option, All, Contains}
-use Rattle.std.specs.Option.{option_map, option_map_or, option_or}
+use Rattle.std.specs.List.{filter, filter_map, flat_map, cons_option, list_any, All, Contains}
+use Rattle.std.specs.Option.{option_map, option_map_or}
 use Rattle.std.specs.FinMap as map_of
 use Rattle.std.specs.FinMap.Entries.{by_order}
 use Rattle.std.proofs.lemmas.List.Elements.{All-nil, All-cons, All-head, All-tail, All-append}
 use Rattle.std.proofs.lemmas.List.Elements.{All-map, All-filter, All-contains_itself, filter_passes}
 use Rattle.std.proofs.lemmas.List.Folds.{list_any_at}
 use Rattle.rt_tree.specs.PathTree.{Path, PathTree, path_cmp, exact_paths, strip, strip-append, sub}
-use Rattle.rt_tree.specs.PathTree.{children_alone}
 use Rattle.rt_tree.specs.Assignments.{is_at_or_above, Assignment}
 use Rattle.rt_query.specs.Queries.{Query, is_filtered}
-use Rattle.rt_query.specs.QueryEq.{query_eq}
-use Rattle.rt_query.specs.laws.QueryEq.{query_eq_tells}
+use Rattle.rt_query.specs.Needed.{needed}
+use Rattle.rt_query.specs.Supply.{does_supply}
+use Rattle.rt_tree.specs.TreeEq.{both_first, both_second}
 use Rattle.rt_cache.specs.QueryOrder.{query_cmp}
 use Rattle.rt_cache.specs.Brought.{Window, Brought, nothing_brought, region_part, region_put}
-use Rattle.rt_cache.specs.Brought.{window_of, window_pushed, windows_pushed, push_plain, push}
+use Rattle.rt_cache.specs.Brought.{window_of, window_pushed, windows_beside, windows_pushed, push_plain, push, knows}
 use Rattle.rt_cache.specs.Canonical.{IsCanonical}
 use Rattle.rt_cache.specs.Recover.{reaches, part_for, parts_of, with_regions, regions_kept}
-use Rattle.rt_cache.specs.Recover.{is_among, window_kept, in_query_order, windows_kept, recover}
+use Rattle.rt_cache.specs.Recover.{is_among, in_query_order, cut, is_lost, heirs, handed_on, recover}
 use Rattle.rt_cache.specs.Runs.{IsAllowed, after, after_all}
 use Rattle.rt_cache.specs.declared.run.Call.{Call}
 use Rattle.rt_cache.specs.declared.run.Call.TheVariants.{Put, Recover}
-use Rattle.rt_cache.specs.inside.Held.{for_each}
+use Rattle.rt_cache.proofs.Among.{among}
 use Rattle.rt_cache.proofs.Changes.{recover_stays}
-use Rattle.rt_cache.proofs.Keeping.{find-for_each}
+use Rattle.rt_cache.proofs.Heirs.{left_forms, handed_heirs}
 use Rattle.rt_cache.proofs.Listing.{listed_is}
 use Rattle.rt_cache.proofs.QueryOrders.{exact_queries}
-use Rattle.rt_cache.proofs.Stays.{push_stays}
+use Rattle.rt_cache.proofs.Sources.{knows_by, knew_by}
+use Rattle.rt_cache.proofs.Stays.{beside_all, push_stays}
 
 abbrev Regions : Type 0
 Regions = List (Path × PathTree)
@@ -101,7 +103,7 @@ All-put order exact P k x (e ∷ es) new h =
 -- ---- regions
 
 -- where all regions are reached they stay as they are
-regions_stay : (kept : List Query) (rs : Regions) → All (IsReached kept) rs → regions_kept kept rs ≡ rs
+pub regions_stay : (kept : List Query) (rs : Regions) → All (IsReached kept) rs → regions_kept kept rs ≡ rs
 regions_stay kept rs h =
     λ i. with_regions (filter_all (λ (r : Path × PathTree). reaches kept r.0) rs h i)
     (flat_map (parts_of kept) (filter_none (λ (r : Path × PathTree). not (reaches kept r.0)) rs
@@ -207,19 +209,13 @@ listed_all P (w ∷ ws) h =
 pub left_registered : (registered kept : List Query) (b : Brought)
     → All (λ (w : Query × Window). Contains registered w.0) (recover registered kept b).windows
 left_registered registered kept b =
-    listed_all (IsRegistered registered) (for_each known registered)
-    (All-filter_map (IsRegistered registered) (λ q. option_map (λ w. (q, w)) (known q)) registered
-    (All-weaker (Contains registered) (λ q.
-    IfSome (option_map (λ w. (q, w)) (known q)) (IsRegistered registered))
-    (λ q m. own q m (known q)) registered (All-contains_itself registered)))
+    listed_all (IsRegistered registered) (handed_on b (heirs registered b left) ++ left.windows)
+    (All-append (IsRegistered registered) (handed_on b (heirs registered b left)) left.windows
+    (handed_heirs (Contains registered) registered b left (λ q heir. heir.registered))
+    (left_forms registered kept b))
   where
-    known : Query → Option Window
-    known = window_kept b.regions (regions_kept kept b.regions) b.windows
-
-    own : (q : Query) → Contains registered q → (o : Option Window)
-        → IfSome (option_map (λ w. (q, w)) o) (IsRegistered registered)
-    own q m None = tt
-    own q m (Some w) = m
+    left : Brought
+    left = cut registered kept b
 
 -- what all windows have and the query's own new one, all have after a push
 pub pushed_windows_all : (P : Query × Window → Type 0) (q : Query) (b : Brought) (a : Assignment)
@@ -246,15 +242,16 @@ pushed_windows_all P q b a new h =
               b.windows h
         ]
 
-    replaced : (o : Option Window) → IfSome o (λ w. P (q, w)) → All P
-        (option_map_or (λ w. map_of.put query_cmp q w b.windows) o b.windows)
-    replaced None e = h
-    replaced (Some w) e = All-put query_cmp exact_queries P q w b.windows e h
+    replaced : (rest : Path) (o : Option Window) → IfSome o (λ w. P (q, w)) → All P
+        (windows_beside q rest (option_map_or (λ w. map_of.put query_cmp q w b.windows) o b.windows))
+    replaced rest None e = beside_all P q rest b.windows h
+    replaced rest (Some w) e = beside_all P q rest (map_of.put query_cmp q w b.windows)
+        (All-put query_cmp exact_queries P q w b.windows e h)
 
     windowed : (o : Option Path) → strip q.path a.0 ≡ o → All P (option_map_or (λ rest.
         record b { windows = windows_pushed q rest a.1 b.windows }) o b).windows
     windowed None e = h
-    windowed (Some rest) e = replaced (window_pushed rest a.1 (window_of b.windows q)) (new rest e)
+    windowed (Some rest) e = replaced rest (window_pushed rest a.1 (window_of b.windows q)) (new rest e)
 
 -- a push on a registered form keeps it so; its own window may be new
 pub pushed_registered : (registered : List Query) (q : Query) (b : Brought) (a : Assignment)
@@ -268,54 +265,6 @@ pushed_registered registered q b a m h =
     own None = tt
     own (Some w) = m
 
--- where no region is lost, none leaves a window
-abbrev left_by : Bool → Option PathTree → Option Window
-left_by filtered o = cond (filtered && not (is_some o))
-    (option_map (λ t. record { children = children_alone t; is_whole = true }) o) None
-
-left_none : (filtered : Bool) (o : Option PathTree) → left_by filtered o ≡ None
-left_none true None = refl
-left_none true (Some t) = refl
-left_none false o = refl
-
-pub among : (registered : List Query) (q : Query) → Contains registered q → is_among registered q ≡ true
-among registered q m = list_any_at (λ x. query_eq x q) registered m.0 q m.1
-    (ap (λ x. query_eq x q) m.2 ∙ (query_eq_tells q q).1 refl)
-
--- among the registered forms all windows are found
-abbrev where_known : Bool → Option Window → Option Window
-where_known b o = cond b o None
-
-known_none : (b : Bool) → where_known b None ≡ None
-known_none true = refl
-known_none false = refl
-
-found_registered : (registered : List Query) (ws : Windows) (q : Query)
-    → All (IsRegistered registered) ws
-    → where_known (is_among registered q) (window_of ws q) ≡ window_of ws q
-found_registered registered [] q h = known_none (is_among registered q)
-found_registered registered (w ∷ ws) q h =
-    elim (eq_by_cmp query_cmp q w.0) as (λ b. eq_by_cmp query_cmp q w.0 ≡ b
-    → where_known (is_among registered q) (either b) ≡ either b) [
-      | true ↦ λ e. ap (λ c. where_known c (Some w.1)) (among registered q
-          (subst (Contains registered) (sym (exact_queries q w.0 ((Equal-is (query_cmp q w.0)).0 e)))
-          (All-head (IsRegistered registered) w ws h)))
-      | false ↦ λ e. found_registered registered ws q (All-tail (IsRegistered registered) w ws h)
-    ] refl
-  where
-    either : Bool → Option Window
-    either b = cond b (Some w.1) (window_of ws q)
-
-windows_stay : (registered : List Query) (rs : Regions) (ws : Windows)
-    → T (map_of.is_sorted query_cmp ws) → All (IsRegistered registered) ws
-    → windows_kept registered rs rs ws ≡ ws
-windows_stay registered rs ws sorted h =
-    listed_is (for_each (window_kept rs rs ws) registered) ws sorted (λ q.
-    find-for_each (window_kept rs rs ws) q registered
-    ∙ ap (λ o. where_known (is_among registered q) (option_or o (window_of ws q)))
-    (left_none (is_filtered q) (region_part rs q.path))
-    ∙ found_registered registered ws q h)
-
 -- where a plain listen that is kept reaches each region, and each window is of a registered form, a
 -- change of cover changes nothing but the registered forms
 pub nothing_lost : (registered kept : List Query) (b : Brought) → IsCanonical b
@@ -323,11 +272,42 @@ pub nothing_lost : (registered kept : List Query) (b : Brought) → IsCanonical 
     → All (λ (w : Query × Window). Contains registered w.0) b.windows
     → recover registered kept b ≡ record b { registered = registered }
 nothing_lost registered kept b h reached known =
-    let same = regions_stay kept b.regions reached in
-    let windows : windows_kept registered b.regions (regions_kept kept b.regions) b.windows ≡ b.windows =
-    ap (λ rs. windows_kept registered b.regions rs b.windows) same
-    ∙ windows_stay registered b.regions b.windows h.windows known in
-    λ i. record { registered = registered; regions = same i; windows = windows i }
+    (λ i. record { registered = registered; regions = same i; windows = in_query_order (handed_on b (none i) ++ windows i) })
+    ∙ (λ i. record { registered = registered; regions = b.regions; windows = listed i })
+  where
+    same : regions_kept kept b.regions ≡ b.regions
+    same = regions_stay kept b.regions reached
+
+    windows : filter (λ w. is_among registered w.0) b.windows ≡ b.windows
+    windows = filter_all (λ (w : Query × Window). is_among registered w.0) b.windows (λ k d lt. among registered (slice_index_or b.windows k d).0 (known k d lt))
+
+    listed : in_query_order b.windows ≡ b.windows
+    listed = listed_is b.windows b.windows h.windows (λ x. refl)
+
+    left : Brought
+    left = cut registered kept b
+
+    supply : Query → List (Query × Window) → Bool
+    supply q ws = list_any (λ (w : Query × Window). does_supply w.0 q) ws
+
+    still : (q : Query) → knows left q ≡ (is_some (region_part b.regions q.path) || supply q b.windows)
+    still q = knows_by left q (left_forms registered kept b) ∙ (λ i. is_some (region_part (same i) q.path) || supply q (windows i))
+
+    kept_all : (q : Query) → is_lost b left q ≡ false
+    kept_all q = at (is_lost b left q) refl
+      where
+        at : (t : Bool) → is_lost b left q ≡ t → is_lost b left q ≡ false
+        at false e = e
+        at true e =
+            let knew : knows b q ≡ true = both_second (is_filtered q) (knows b q) (both_first (is_filtered q && knows b q) (not (knows left q)) e) in
+            let lost : not (knows left q) ≡ true = both_second (is_filtered q && knows b q) (not (knows left q)) e in
+            absurd (true≢false (sym lost ∙ ap not (still q ∙ knew_by b q knew)))
+
+    nothing : List Query
+    nothing = []
+
+    none : heirs registered b left ≡ nothing
+    none = ap needed (filter_none (is_lost b left) registered (λ k d lt. kept_all (slice_index_or registered k d)))
 
 -- ---- runs of calls
 

@@ -13,16 +13,17 @@ use Rattle.rt_tree.specs.PathTree.{Path, PathTree, path_cmp, path_eq-is, strip, 
 use Rattle.rt_tree.specs.Parts.{sub_root, sub-sub, sub-put_under, sub-put_above, sub-put_other}
 use Rattle.rt_tree.specs.Assignments.{Assignment, is_at_or_above, do_overlap, have_overlap}
 use Rattle.rt_query.specs.Queries.{Query, plain, is_filtered}
-use Rattle.rt_cache.specs.Brought.{Window, Brought, nothing_brought, region_part, region_put, windows_pushed, window_of, push_plain}
+use Rattle.rt_cache.specs.Brought.{Window, Brought, nothing_brought, region_part, region_put, windows_pushed, push_plain}
 use Rattle.rt_cache.specs.Canonical.{IsCanonical}
 use Rattle.rt_cache.specs.Recover.{reaches, parts_of, with_regions}
 use Rattle.rt_cache.specs.Runs.{IsAllowed, after, after_all}
 use Rattle.rt_cache.specs.laws.Runs.{with_push, pushed, known_after, is_known, PlainBaseIsWhatWasPushed}
 use Rattle.rt_cache.specs.declared.run.Call.{Call}
 use Rattle.rt_cache.specs.declared.run.Call.TheVariants.{Put, Recover}
-use Rattle.rt_cache.proofs.Bases.{no_window, found}
+use Rattle.rt_cache.proofs.Bases.{plain_found}
 use Rattle.rt_cache.proofs.Changes.{recover_stays}
 use Rattle.rt_cache.proofs.Cuts.{any_above, any_put, any_with, above-trans, part_any}
+use Rattle.rt_cache.proofs.Sources.{of_part}
 use Rattle.rt_cache.proofs.Places.{or_left, or_right, or_false, or_true, comparable}
 use Rattle.rt_cache.proofs.Stays.{Regions, overlaps, push_stays}
 
@@ -329,7 +330,7 @@ pub run_known : (p : Path) (calls : List Call) (b : Brought)
 run_known p [] b = refl
 run_known p (c ∷ cs) b = run_known p cs (after b c) ∙ ap (λ k. fold (known_after p) k cs) (step_known p b c)
 
-nothing_canonical : IsCanonical nothing_brought
+pub nothing_canonical : IsCanonical nothing_brought
 nothing_canonical = record { regions = tt; apart = refl; windows = tt; filtered = All-nil (λ (w : Query × Window). is_filtered w.0 ≡ true) }
 
 -- a region's part is that of what was pushed, where that is known
@@ -346,9 +347,8 @@ plain_base calls p ok =
     let b : Brought = after_all nothing_brought calls in
     let ran = run_true calls nothing_brought null ok nothing_canonical tt in
     let part : region_part b.regions p ≡ cond (is_known calls p) (Some (sub (pushed calls) p)) None = held_part calls p ok in
-    let window : window_of b.windows (plain p) ≡ None = no_window (plain p) b.windows (ran.0).filtered refl in
-    (λ i. found (part i) (window i)) ∙ told (is_known calls p) (sub (pushed calls) p)
+    plain_found b (plain p) (ran.0).filtered refl ∙ ap (option_map of_part) part ∙ told (is_known calls p) (sub (pushed calls) p)
   where
-    told : (k : Bool) (t : PathTree) → found (cond k (Some t) None) None ≡ cond k (Some (record { tree = t; whole = true })) None
+    told : (k : Bool) (t : PathTree) → option_map of_part (cond k (Some t) None) ≡ cond k (Some (record { tree = t; whole = true })) None
     told true t = refl
     told false t = refl

@@ -13,7 +13,9 @@ use Rattle.rt_tree.specs.PathTree.{Path, PathTree, path_cmp, paths_total, strip,
 use Rattle.rt_tree.specs.Assignments.{Assignment, is_at_or_above, do_overlap, have_overlap}
 use Rattle.rt_query.specs.Queries.{Query, is_filtered}
 use Rattle.rt_cache.specs.QueryOrder.{query_cmp}
-use Rattle.rt_cache.specs.Brought.{Window, Brought, region_part, region_put, window_of, window_pushed, windows_pushed, push_plain, push}
+use Rattle.rt_query.specs.QueryEq.{query_eq}
+use Rattle.rt_query.specs.Supply.{does_supply}
+use Rattle.rt_cache.specs.Brought.{Window, Brought, region_part, region_put, window_of, window_pushed, windows_beside, windows_pushed, push_plain, push}
 use Rattle.rt_cache.specs.Canonical.{IsCanonical}
 use Rattle.rt_cache.proofs.Places.{or_left, or_right, or_false}
 use Rattle.rt_cache.proofs.QueryOrders.{queries_total}
@@ -156,18 +158,30 @@ plain_stays b a h = at (is_some (region_part b.regions a.0)) refl
           filtered = All-filter (λ (w : Query × Window). not (is_at_or_above a.0 (w.0).path)) (λ (w : Query × Window). is_filtered w.0 ≡ true) b.windows h.filtered;
         })
 
+-- those that a push leaves beside its query are in order, and have what all have
+beside_sorted : (q : Query) (rest : Path) (ws : Windows) → T (map_of.is_sorted query_cmp ws) → T (map_of.is_sorted query_cmp (windows_beside q rest ws))
+beside_sorted q [] ws h = is_sorted-where_key query_cmp (λ x. query_eq x q || not (does_supply q x)) ws h
+beside_sorted q (k ∷ rest) ws h = h
+
+pub beside_all : (P : Query × Window → Type 0) (q : Query) (rest : Path) (ws : Windows) → All P ws → All P (windows_beside q rest ws)
+beside_all P q [] ws h = All-filter (λ (w : Query × Window). query_eq w.0 q || not (does_supply q w.0)) P ws h
+beside_all P q (k ∷ rest) ws h = h
+
 -- what is put for a filtered query
 pushed_stays : (q : Query) (b : Brought) (rest : Path) (u : PathTree) → is_filtered q ≡ true → IsCanonical b → IsCanonical (record b { windows = windows_pushed q rest u b.windows })
 pushed_stays q b rest u f h =
-    elim (window_pushed rest u (window_of b.windows q)) as (λ o. IsCanonical (record b { windows = option_map_or (λ w. map_of.put query_cmp q w b.windows) o b.windows })) [
-      | None ↦ h
-      | Some w ↦ record {
-        regions = h.regions;
-        apart = h.apart;
-        windows = is_sorted-put query_cmp queries_total q w b.windows h.windows;
-        filtered = filtered-put q w b.windows f h.filtered;
-      }
+    elim (window_pushed rest u (window_of b.windows q)) as (λ o. IsCanonical (record b { windows = windows_beside q rest (option_map_or (λ w. map_of.put query_cmp q w b.windows) o b.windows) })) [
+      | None ↦ left b.windows h.windows h.filtered
+      | Some w ↦ left (map_of.put query_cmp q w b.windows) (is_sorted-put query_cmp queries_total q w b.windows h.windows) (filtered-put q w b.windows f h.filtered)
     ]
+  where
+    left : (ws : Windows) → T (map_of.is_sorted query_cmp ws) → AreFiltered ws → IsCanonical (record b { windows = windows_beside q rest ws })
+    left ws sorted filtered = record {
+      regions = h.regions;
+      apart = h.apart;
+      windows = beside_sorted q rest ws sorted;
+      filtered = beside_all (λ (w : Query × Window). is_filtered w.0 ≡ true) q rest ws filtered;
+    }
 
 pub push_stays : (q : Query) (b : Brought) (a : Assignment) → IsCanonical b → IsCanonical (push q b a)
 push_stays q b a h = at (is_filtered q) refl

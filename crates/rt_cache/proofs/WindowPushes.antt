@@ -1,6 +1,7 @@
 -- Pushes on filtered queries.
-use Rattle.std.proofs.Common.{◌≡◌, ℕ, zero, suc, ◌<◌, arith, length, set, get_or, Bool, true, false, ◌||◌, List, [], ◌∷◌, append-nil, refl, sym, ap, ◌∙◌, Option, Some, None, is_some, OnErr}
+use Rattle.std.proofs.Common.{◌≡◌, ℕ, zero, suc, ◌<◌, arith, length, set, get_or, Bool, true, false, not, ◌||◌, List, [], ◌∷◌, append-nil, refl, sym, ap, ◌∙◌, Option, Some, None, is_some, OnErr}
 use mathlib.Core.Bool.{true≢false}
+use Rattle.std.specs.List.{filter}
 use Rattle.std.specs.Option.{option_map_or}
 use Rattle.std.specs.declared.result.Result.{Result}
 use Rattle.std.specs.declared.result.Result.TheVariants.{Ok, Err}
@@ -9,6 +10,7 @@ use Rattle.rt_tree.specs.PathTree.{Path, PathTree, path_eq, path_eq-is, path_eq-
 use Rattle.rt_tree.specs.Assignments.{is_at_or_above}
 use Rattle.rt_query.specs.Queries.{Query}
 use Rattle.rt_query.specs.QueryEq.{query_eq}
+use Rattle.rt_query.specs.Supply.{does_supply}
 use Rattle.rt_cache.specs.QueryOrder.{query_cmp}
 use Rattle.rt_cache.specs.Brought.{Window, window_of, window_pushed, windows_pushed}
 use Rattle.rt_cache.specs.Recover.{in_query_order}
@@ -29,7 +31,7 @@ own_path : (q : Query) (p : Path) → path_eq p q.path ≡ true → strip q.path
 own_path q p e = ap (strip q.path) (path_eq-is p q.path e) ∙ strip-same q.path
 
 pub pushed_own : (q : Query) (p : Path) (u : PathTree) (ws : Listed) → path_eq p q.path ≡ true
-    → pushed_windows q (p, u) ws ≡ map_of.put query_cmp q (record { children = children_alone u; is_whole = false }) ws
+    → pushed_windows q (p, u) ws ≡ filter (λ w. query_eq w.0 q || not (does_supply q w.0)) (map_of.put query_cmp q (record { children = children_alone u; is_whole = false }) ws)
 pushed_own q p u ws e = ap (λ o. option_map_or (λ rest. windows_pushed q rest u ws) o ws) (own_path q p e)
 
 pub taken_own : (q : Query) (p : Path) (ws : Listed) → path_eq p q.path ≡ true → true ≡ is_taken q p ws

@@ -2,6 +2,7 @@
 ghost use Rattle.std.specs.Prelude.{◌≡◌, ◌+◌, ◌<◌, ◌≤◌, T, true, false, not, length, IfOk, IfSome};
 ghost use Rattle.std.specs.Prelude.{◌++◌, ◌∷◌, [], List, None, IsOk, OnOk, OnErr};
 ghost use Rattle.std.specs.List.{All, AllPairs, Contains};
+ghost use Rattle.std.specs.Option.{option_copied};
 ghost use Rattle.std.specs.FinMap as map_of;
 ghost use Rattle.rt_tree.specs.PathTree.{PathTree, path_cmp, levels};
 ghost use Rattle.rt_tree.specs.Assignments.{is_at_or_above, have_overlap};
@@ -12,12 +13,13 @@ ghost use Rattle.rt_cache.specs.Recover.{do_plains_overlap, recover, without_pla
 ghost use Rattle.rt_cache.specs.inside.ByPath.{AreByPath, query_of};
 ghost use Rattle.rt_cache.specs.inside.Held.{pairs_of, held};
 ghost use Rattle.rt_cache.specs.Brought.{nothing_brought, base, base_child, knows, push_plain};
-ghost use Rattle.rt_cache.specs.Brought.{with_form, may_put, push, is_without_window};
+ghost use Rattle.rt_cache.specs.Brought.{with_form, may_put, push, is_without_window, source, may_move};
 
 use crate::base::Base;
-use crate::region::Region;
-use crate::registered::{copies, is_among, is_supplied, remove_places};
-use crate::window::Window;
+use crate::by_path::{has_another_at, has_supplier};
+use crate::region::BoxedRegion;
+use crate::registered::Forms;
+use crate::window::BoxedWindow;
 use crate::{recover, regions, windows};
 use rt_query::Query;
 use rt_tree::{Key, MAX_LEVELS, Path, Tree};
@@ -31,11 +33,12 @@ use std::marker::Model;
 /// or above a path is found by halving. Windows stand in the order of their queries' paths, so that
 /// those of a path are found by halving too. Each tree is a store of its own, so that a tree that a call
 /// doesn't touch is neither copied nor walked, and has an equal tree beside it, of which all parts
-/// that are handed out are shared copies.
+/// that are handed out are shared copies. Each form, region and window stands in memory of its own, so that
+/// a list moves a pointer to it and no more.
 pub struct Brought {
-    registered: Vec<Query>,
-    regions: Vec<Region>,
-    windows: Vec<Window>,
+    registered: Forms,
+    regions: Vec<BoxedRegion>,
+    windows: Vec<BoxedWindow>,
 }
 
 impl Drop for Brought {
@@ -57,20 +60,20 @@ impl Model for Brought {
     ghost use Rattle.rt_cache.specs.inside.ByPath.{AreByPath, query_of};
     ghost use Rattle.rt_cache.specs.inside.Held.{held, AreShort};
 
-    ghost view = { λ a. held a.registered.items a.regions.items a.windows.items };
+    ghost view = { λ a. held a.registered a.regions.items a.windows.items };
 
-    ghost invariant = { λ a. IsCanonical (held a.registered.items a.regions.items a.windows.items)
-        × FitsLevels (held a.registered.items a.regions.items a.windows.items)
+    ghost invariant = { λ a. IsCanonical (held a.registered a.regions.items a.windows.items)
+        × FitsLevels (held a.registered a.regions.items a.windows.items)
         × AreByPath query_of a.windows.items
-        × Belongs (held a.registered.items a.regions.items a.windows.items)
-        × AreShort a.registered.items };
+        × Belongs (held a.registered a.regions.items a.windows.items)
+        × AreShort a.registered };
 }
 
 // The tree put into the region at or above the path, or else begun as a region.
 fn put_plain(
     alloc: Global,
-    regions: &mut Vec<Region>,
-    windows: &mut Vec<Window>,
+    regions: &mut Vec<BoxedRegion>,
+    windows: &mut Vec<BoxedWindow>,
     path: &Path,
     tree: &Tree,
 ) -> Result<(), AllocError>
@@ -104,14 +107,15 @@ impl Brought {
         ensures { result ≡ nothing_brought }
     {
         Brought {
-            registered: Vec::new(alloc),
+            registered: Forms::new(alloc),
             regions: Vec::new(alloc),
             windows: Vec::new(alloc),
         }
     }
 
     /// Registers a listener of the query, behind those that are registered, by its listening form.
-    /// Nothing is brought for it. It costs a copy of the form.
+    /// Nothing is brought for it. It costs a copy of the form. Of a filtered one it costs two: the other is
+    /// put in its place by halving, and moves a pointer of each of those behind it.
     ///
     /// An `Err` is want of memory, and changes nothing.
     pub fn register(&mut self, query: &Query) -> Result<(), AllocError>
@@ -121,7 +125,8 @@ impl Brought {
         let form = query.listening_form()?;
         // For the prover: so long are paths at most.
         let _ = form.path().keys();
-        self.registered.push(form)?;
+        let alloc = self.allocator();
+        self.registered.push(alloc, form)?;
         Ok(())
     }
 
@@ -133,7 +138,7 @@ impl Brought {
         ensures answer { result ≡ may_put self.now query.now }
         ensures belongs { Belongs self.now }
     {
-        is_among(&self.registered, query) && !is_supplied(&self.registered, query)
+        self.registered.contains(query) && !self.registered.supplies(query)
     }
 
     /// Takes in a tree that was pushed on the listen of this query, at the query's path or under it.
@@ -146,10 +151,10 @@ impl Brought {
     ///
     /// Finds the region by halving, where keys that the path shares with all regions that are left
     /// are not compared again, or the window by halving, where it goes over those of its path alone,
-    /// and then costs by the path and the tree that is put. A new window moves the words of those
+    /// and then costs by the path and the tree that is put. A new window moves a pointer of each of those
     /// behind it. A push that begins a region finds those that it takes in by
-    /// halving, drops them, moves the words of the regions behind it, and passes the queries of all
-    /// windows. No other tree is walked.
+    /// halving, drops them, and moves a pointer of each of the regions and windows behind it. No other
+    /// tree is walked.
     ///
     /// An `Err` is want of memory, and changes nothing. A stale push takes none.
     pub fn put(&mut self, query: &Query, path: &Path, tree: &Tree) -> Result<bool, AllocError>
@@ -170,7 +175,8 @@ impl Brought {
         Ok(true)
     }
 
-    /// Whether something is brought for the query: a region at or above its path, or its window.
+    /// Whether something is brought for the query: a region at or above its path, or a window whose
+    /// form supplies it.
     ///
     /// Finds the region by halving, and where there is none the window, of those of its path. Builds no
     /// tree, and takes no memory.
@@ -179,7 +185,7 @@ impl Brought {
         ensures canonical { IsCanonical self.now }
     {
         regions::place_above(&self.regions, query.path()).is_some()
-            || windows::place_of_window(&self.windows, query).is_some()
+            || has_supplier(&self.windows, query)
     }
 
     /// Whether a push on the listen of this query at the path would be stale, for want of a window:
@@ -195,10 +201,12 @@ impl Brought {
             && windows::place_of_window(&self.windows, query).is_none()
     }
 
-    /// What is brought for the query: the part of the region at or above its path, which is whole,
-    /// or its window; `None` where there is neither.
+    /// What is brought for the query: the part of the region at or above its path, which is whole, or
+    /// the window of the first registered form that supplies it and has one; `None` where there is
+    /// neither.
     ///
-    /// Finds it as [`Brought::knows`] does, and then costs by the path: the tree shares its parts with
+    /// Finds it as [`Brought::knows`] does, and where several windows supply it by going over the
+    /// registered forms, and then costs by the path: the tree shares its parts with
     /// what is brought, and with what else was handed out of it. It is no deeper than a tree at the
     /// query's path may be. After a push that lacked memory the tree is made anew, each time, until
     /// one at the path of the region or of the window replaces it.
@@ -217,10 +225,10 @@ impl Brought {
             let tree = regions::part_at(alloc, &self.regions[place], query.path())?;
             return Ok(Some(Base { tree, whole: true }));
         }
-        let Some(place) = windows::place_of_window(&self.windows, query) else {
+        let Some(place) = windows::place_of_source(&self.windows, &self.registered, query) else {
             return Ok(None);
         };
-        let window = &self.windows[place];
+        let window = self.windows[place].window();
         let tree = window.children.get(alloc, &Path::root(alloc))?;
         Ok(Some(Base {
             tree,
@@ -244,10 +252,10 @@ impl Brought {
             let tree = regions::child_at(alloc, &self.regions[place], query.path(), key)?;
             return Ok(Some(Base { tree, whole: true }));
         }
-        let Some(place) = windows::place_of_window(&self.windows, query) else {
+        let Some(place) = windows::place_of_source(&self.windows, &self.registered, query) else {
             return Ok(None);
         };
-        let window = &self.windows[place];
+        let window = self.windows[place].window();
         let tree = window.children.child(alloc, &Path::root(alloc), key)?;
         Ok(Some(Base {
             tree,
@@ -255,19 +263,55 @@ impl Brought {
         }))
     }
 
+    /// The form whose window is brought for the query: the first registered one that supplies it and has a
+    /// window; `None` where there is none, or a region is at or above the query's path.
+    ///
+    /// Finds it as [`Brought::base`] does, and takes no memory.
+    pub fn source(&self, query: &Query) -> Option<&Query>
+        ensures { option_copied result ≡ source self.now query.now }
+    {
+        if regions::place_above(&self.regions, query.path()).is_some() {
+            return None;
+        }
+        let Some(place) = windows::place_of_source(&self.windows, &self.registered, query) else {
+            return None;
+        };
+        let window = self.windows[place].window();
+        Some(&window.query)
+    }
+
+    /// Whether the end of a listener of the form may leave another query another window than it had:
+    /// the form has a window and no limit, and another window stands at its path. Where no form of a
+    /// listener that ends may, no query gets another form's window instead of one that it had.
+    ///
+    /// Finds the windows of the path by halving, and goes over these alone. Takes no memory.
+    pub fn may_move(&self, form: &Query) -> bool
+        ensures { result ≡ may_move self.now form.now }
+    {
+        if form.limit().is_some() {
+            return false;
+        }
+        if windows::place_of_window(&self.windows, form).is_none() {
+            return false;
+        }
+        has_another_at(&self.windows, form)
+    }
+
     /// Takes in a change of the registered forms and of the listens kept, which are registered forms,
     /// and of which no plain one is at or above another. A region at or under a
     /// plain listen that is kept stays as it is; of any other the parts at the plain listens under
-    /// it stay. A registered filtered form whose path a region held, and none holds now, gets the
-    /// children there as a window that is whole. Windows of other forms go.
+    /// it stay. Windows of other forms go. Of the registered filtered forms that lose what was brought
+    /// for them, those that no other of them supplies get it as their window: whole where it was a
+    /// region's, and as whole as the window was else.
     ///
     /// Finds the regions that stay by halving, once for each plain listen kept: of these it reads the
     /// paths that halving meets, and no tree. For each plain listen kept it finds by halving the region
-    /// above it and whether that is lost, and for each registered filtered form the part above it that
-    /// stays too. It sorts the registered forms by path, without copying one, and looks for the form of
-    /// each window by halving. It copies only the parts and the windows that lost regions leave. For each
-    /// row of lost regions, and for each part or window, the words of those behind are moved; where none
-    /// is lost, no region is touched.
+    /// above it and whether that is lost. It sorts the registered forms by path, without copying one,
+    /// and looks for the form of each window by halving. For each registered filtered form it finds by
+    /// halving the region above it, and goes over the windows and the losing forms of its path. It
+    /// copies only the parts and the windows that are handed on. For each row of lost regions, and for
+    /// each part or window, a pointer of each of those behind is moved; where none is lost, no region is
+    /// touched.
     ///
     /// An `Err` is want of memory, and changes nothing: all that is made is made before the first
     /// change.
@@ -277,8 +321,14 @@ impl Brought {
         ensures ok { OnOk result (self.new ≡ recover registered.now kept.now self.old) }
         ensures err { OnErr result (self.new ≡ self.old) }
     {
-        let forms = copies(self.allocator(), registered)?;
-        recover::change_cover(&mut self.regions, &mut self.windows, registered, kept)?;
+        let forms = Forms::copies(self.allocator(), registered)?;
+        recover::change_cover(
+            &mut self.regions,
+            &mut self.windows,
+            &self.registered,
+            registered,
+            kept,
+        )?;
         self.registered = forms;
         Ok(())
     }
@@ -290,8 +340,10 @@ impl Brought {
     /// registered then and the listens that are kept then.
     ///
     /// Finds what these forms and listens name by halving: the regions at and under each plain one, the
-    /// region above each listen that begins, the window of each form that ends. It copies only the
-    /// parts and the windows that lost regions leave, and moves the words of what stands behind.
+    /// region above each listen that begins, the window of each form that ends. Where a filtered form is
+    /// at or under a region that is lost, or a form without limit that ends has a window, it goes once over
+    /// the windows and over the filtered ones of the registered forms, as [`Brought::recover`] does, and sorts none. It copies only the parts
+    /// and the windows that are handed on, and moves pointers to what stands behind.
     ///
     /// An `Err` is want of memory, and changes nothing.
     pub fn unregister(
@@ -302,16 +354,22 @@ impl Brought {
     ) -> Result<(), AllocError>
         requires rising { AllPairs (λ p q. p < q) places.now }
         requires within { All (λ p. p < length self.old.registered) places.now }
-        requires ends { (kept : List Query) × EndsForms ended.now begun.now
-            (without_places places.now self.old.registered) kept self.old.regions self.old.windows }
-        ensures ok { (kept : List Query) → EndsForms ended.now begun.now
-            (without_places places.now self.old.registered) kept self.old.regions self.old.windows
+        requires ends { (kept : List Query) × EndsForms ended.now begun.now self.old.registered
+            (without_places places.now self.old.registered) kept self.old.regions }
+        ensures ok { (kept : List Query) → EndsForms ended.now begun.now self.old.registered
+            (without_places places.now self.old.registered) kept self.old.regions
             → OnOk result (self.new
             ≡ recover (without_places places.now self.old.registered) kept self.old) }
         ensures err { OnErr result (self.new ≡ self.old) }
     {
-        recover::end_forms(&mut self.regions, &mut self.windows, ended, begun)?;
-        remove_places(&mut self.registered, places);
+        recover::end_forms(
+            &mut self.regions,
+            &mut self.windows,
+            &self.registered,
+            ended,
+            begun,
+        )?;
+        self.registered.remove_places(places);
         Ok(())
     }
 }

@@ -7,6 +7,8 @@ ghost use Rattle.rt_cache.specs.laws.Examples.{ListedAlike, LeafShowsNothing, Ta
 ghost use Rattle.rt_cache.specs.laws.Examples.{StaleBelow, StaysWhole, WholeNoMore, TakenIn};
 ghost use Rattle.rt_cache.specs.laws.Examples.{RowRuns, RowDoesSomething, NoRegionBeside};
 ghost use Rattle.rt_cache.specs.laws.Examples.{EndedWindowGoes, StaleOnce, StaleLeavesNothing};
+ghost use Rattle.rt_cache.specs.laws.Examples.{NarrowHasFirst, NarrowIsMoved, NarrowInherits};
+ghost use Rattle.rt_cache.specs.laws.Examples.{NarrowIsMovedThough, WiderInherits, OldWindowGoes};
 ghost use Rattle.rt_cache.specs.laws.False.{NothingShown, PushDropped, PushReplaces, WholeAtOnce};
 ghost use Rattle.rt_cache.specs.laws.False.{RegionForgotten, NotWhole, RegionDropped, StillWhole};
 ghost use Rattle.rt_cache.specs.laws.False.{StillThere, StaysAfterEnd, HidesRegion};
@@ -25,6 +27,16 @@ pub fn region_examples()
 pub fn order_examples()
     ensures regions { CutInOrder }
     ensures windows { ListedAlike }
+{}
+
+/// What ranges have of one another's windows, and what they leave to one another.
+pub fn range_examples()
+    ensures first { NarrowHasFirst }
+    ensures moved { NarrowIsMoved }
+    ensures moved_though { NarrowIsMovedThough }
+    ensures inherits { NarrowInherits }
+    ensures wider { WiderInherits }
+    ensures old { OldWindowGoes }
 {}
 
 /// A window of a leaf, a window that a region leaves, and what a push makes of them.

@@ -13,6 +13,7 @@ mod base;
 mod brought;
 mod by_path;
 mod examples;
+mod handing;
 mod laws;
 mod paths;
 mod recover;
@@ -27,6 +28,8 @@ mod windows;
 
 pub use base::Base;
 pub use brought::Brought;
-pub use examples::{false_windows, order_examples, region_examples, run_examples, window_examples};
+pub use examples::{
+    false_windows, order_examples, range_examples, region_examples, run_examples, window_examples,
+};
 pub use laws::{run_law, window_law};
 pub use run::{Call, QueryList};

@@ -2,35 +2,41 @@
 ghost use Rattle.std.specs.Prelude.{◌≡◌, ℕ, ◌+◌, ◌<◌, ◌≤◌, ◌++◌, ◌||◌, T, vec_len, vec_capacity};
 ghost use Rattle.std.specs.Prelude.{[], List, true, false, not, length, slice_index_or, IfOk};
 ghost use Rattle.std.specs.Prelude.{OnOk, OnErr};
-ghost use Rattle.std.specs.List.{filter, filter_map, list_any, All};
+ghost use Rattle.std.specs.List.{filter, filter_map, list_any, All, Contains};
 ghost use Rattle.std.specs.Option.{option_map};
 ghost use Rattle.std.specs.FinMap as map_of;
 ghost use Rattle.rt_tree.specs.PathTree.{path_cmp};
 ghost use Rattle.rt_tree.specs.Assignments.{have_overlap};
-ghost use Rattle.rt_query.specs.Queries.{Query, is_filtered};
+ghost use Rattle.rt_query.specs.Queries.{Query};
 ghost use Rattle.rt_query.specs.QueryEq.{query_eq};
-ghost use Rattle.rt_cache.specs.Recover.{reaches, with_regions, regions_kept};
-ghost use Rattle.rt_cache.specs.Recover.{window_left, do_plains_overlap, in_query_order, recover};
+ghost use Rattle.rt_cache.specs.Recover.{reaches, with_regions};
+ghost use Rattle.rt_cache.specs.Recover.{do_plains_overlap, in_query_order, recover};
 ghost use Rattle.rt_cache.specs.Recover.{EndsForms};
 ghost use Rattle.rt_cache.specs.inside.ByPath.{AreByPath, query_of};
-ghost use Rattle.rt_cache.specs.inside.Held.{pair_of, pairs_of, entry_of, entries_of, for_each, held};
+ghost use Rattle.rt_cache.specs.inside.Held.{pair_of, pairs_of, entries_of, held};
 ghost use Rattle.rt_cache.specs.inside.Held.{AreShort};
+ghost use Rattle.rt_cache.specs.inside.Sources.{HaveForms, AreBeside};
 ghost use Rattle.rt_cache.specs.inside.Cuts.{part_below, IsCut};
 ghost use Rattle.rt_cache.specs.inside.Spans.{have_place, AreInOrder, without, AreLost};
 ghost use Rattle.rt_cache.specs.declared.region.Region.{Region};
 
-use crate::by_path::{Lent, in_path_order, place_of};
-use crate::region::Region;
+use crate::by_path::{HasQuery, Lent, in_path_order, place_of};
+use crate::handing::{windows_handed, windows_of_ended};
+use crate::region::BoxedRegion;
 use crate::regions::{insert, part_at, place_above, region_of, remove_span, span_under};
+use crate::registered::Forms;
 use crate::spans::{Span, is_within, places_between};
-use crate::stored_tree::StoredTree;
-use crate::window::Window;
+use crate::window::BoxedWindow;
 use crate::windows::{put_windows, remove_queries};
 use rt_query::Query;
 use std::alloc::{AllocError, Global};
 
 // Where the regions stand that the plain listens reach, by the listens.
-fn spans_kept(alloc: Global, regions: &[Region], kept: &[Query]) -> Result<Vec<Span>, AllocError>
+fn spans_kept(
+    alloc: Global,
+    regions: &[BoxedRegion],
+    kept: &[Query],
+) -> Result<Vec<Span>, AllocError>
     requires sorted { T (map_of.is_sorted path_cmp (pairs_of regions.now)) }
     ensures within { IfOk result (λ spans. All (λ s. (s.start ≤ s.end)
         × (s.end ≤ length regions.now)) spans.items) }
@@ -53,7 +59,7 @@ fn spans_kept(alloc: Global, regions: &[Region], kept: &[Query]) -> Result<Vec<S
 // Where those regions stand that are in none of the spans.
 fn spans_between(
     alloc: Global,
-    regions: &[Region],
+    regions: &[BoxedRegion],
     mut spans: Vec<Span>,
 ) -> Result<Vec<Span>, AllocError>
     requires within { All (λ s. (s.start ≤ s.end) × (s.end ≤ length regions.now)) spans.items }
@@ -66,7 +72,11 @@ fn spans_between(
 }
 
 // Where the regions stand that are lost: between those that the plain listens reach.
-fn spans_lost(alloc: Global, regions: &[Region], kept: &[Query]) -> Result<Vec<Span>, AllocError>
+fn spans_lost(
+    alloc: Global,
+    regions: &[BoxedRegion],
+    kept: &[Query],
+) -> Result<Vec<Span>, AllocError>
     requires sorted { T (map_of.is_sorted path_cmp (pairs_of regions.now)) }
     ensures lost { IfOk result (λ spans. AreLost kept.now regions.now spans.items) }
     ensures short { OnOk result (AreShort kept.now) }
@@ -78,7 +88,7 @@ fn spans_lost(alloc: Global, regions: &[Region], kept: &[Query]) -> Result<Vec<S
 // Where the regions stand that plain forms reached which end, and none of those that begin.
 fn spans_ended(
     alloc: Global,
-    regions: &[Region],
+    regions: &[BoxedRegion],
     ended: &[Query],
     begun: &[Query],
 ) -> Result<Vec<Span>, AllocError>
@@ -99,10 +109,10 @@ fn spans_ended(
 // The part that a lost region leaves to the query, where that is a plain listen under it.
 fn part_left(
     alloc: Global,
-    regions: &[Region],
+    regions: &[BoxedRegion],
     lost: &[Span],
     query: &Query,
-) -> Result<Option<Region>, AllocError>
+) -> Result<Option<BoxedRegion>, AllocError>
     requires sorted { T (map_of.is_sorted path_cmp (pairs_of regions.now)) }
     requires apart { have_overlap (pairs_of regions.now) ≡ false }
     ensures { (kept : List Query) → AreLost kept regions.now lost.now
@@ -125,10 +135,10 @@ fn part_left(
 // The parts of the regions that are lost at the plain listens, in the order of their paths.
 pub(crate) fn parts_left(
     alloc: Global,
-    regions: &[Region],
+    regions: &[BoxedRegion],
     lost: &[Span],
     listens: &[Query],
-) -> Result<Vec<Region>, AllocError>
+) -> Result<Vec<BoxedRegion>, AllocError>
     requires lost { (kept : List Query) × AreLost kept regions.now lost.now }
     requires order { T (map_of.is_sorted path_cmp (pairs_of regions.now)) }
     requires apart { have_overlap (pairs_of regions.now) ≡ false }
@@ -149,7 +159,7 @@ pub(crate) fn parts_left(
 }
 
 // The regions without those of the spans, of which the last are taken out first.
-fn remove_spans(regions: &mut Vec<Region>, mut spans: Vec<Span>)
+fn remove_spans(regions: &mut Vec<BoxedRegion>, mut spans: Vec<Span>)
     requires order { AreInOrder 0 spans.items (length regions.old.items) }
     ensures left { regions.new.items ≡ without spans.items regions.old.items }
     ensures len { vec_len regions.new ≤ vec_len regions.old }
@@ -161,7 +171,7 @@ fn remove_spans(regions: &mut Vec<Region>, mut spans: Vec<Span>)
 }
 
 // Regions, each in its place, for which there is room.
-fn insert_all(regions: &mut Vec<Region>, more: Vec<Region>)
+fn insert_all(regions: &mut Vec<BoxedRegion>, more: Vec<BoxedRegion>)
     requires room { vec_len regions.old + vec_len more ≤ vec_capacity regions.old }
     requires sorted { T (map_of.is_sorted path_cmp (pairs_of regions.old.items)) }
     requires apart { have_overlap (pairs_of regions.old.items ++ pairs_of more.items) ≡ false }
@@ -174,7 +184,7 @@ fn insert_all(regions: &mut Vec<Region>, more: Vec<Region>)
 }
 
 // The regions in the order of their paths.
-fn in_order(alloc: Global, regions: Vec<Region>) -> Result<Vec<Region>, AllocError>
+fn in_order(alloc: Global, regions: Vec<BoxedRegion>) -> Result<Vec<BoxedRegion>, AllocError>
     requires apart { have_overlap (pairs_of regions.items) ≡ false }
     ensures { IfOk result (λ sorted. pairs_of sorted.items
         ≡ with_regions [] (pairs_of regions.items)) }
@@ -185,72 +195,8 @@ fn in_order(alloc: Global, regions: Vec<Region>) -> Result<Vec<Region>, AllocErr
     Ok(sorted)
 }
 
-// The whole window that a lost region leaves to a filtered query. A region that stays holds the
-// query's path still, and so does a part.
-fn window_left(
-    alloc: Global,
-    regions: &[Region],
-    lost: &[Span],
-    parts: &[Region],
-    query: &Query,
-) -> Result<Option<Window>, AllocError>
-    requires sorted { T (map_of.is_sorted path_cmp (pairs_of regions.now)) }
-    requires apart { have_overlap (pairs_of regions.now) ≡ false }
-    requires parts_sorted { T (map_of.is_sorted path_cmp (pairs_of parts.now)) }
-    requires parts_apart { have_overlap (pairs_of parts.now) ≡ false }
-    ensures { (kept : List Query) → IsCut kept regions.now lost.now parts.now
-        → IfOk result (λ left. option_map entry_of left
-        ≡ option_map (λ w. (query.now, w)) (window_left (pairs_of regions.now)
-        (regions_kept kept (pairs_of regions.now)) query.now)) }
-{
-    if !query.is_filtered() {
-        return Ok(None);
-    }
-    let Some(place) = place_above(regions, query.path()) else {
-        return Ok(None);
-    };
-    if !is_within(lost, place) || place_above(parts, query.path()).is_some() {
-        return Ok(None);
-    }
-    let part = part_at(alloc, &regions[place], query.path())?;
-    Ok(Some(Window {
-        query: query.copy()?,
-        children: StoredTree::of_children(alloc, &part)?,
-        is_whole: true,
-    }))
-}
-
-// The windows that lost regions leave to the registered forms.
-pub(crate) fn windows_left(
-    alloc: Global,
-    regions: &[Region],
-    lost: &[Span],
-    parts: &[Region],
-    registered: &[Query],
-) -> Result<Vec<Window>, AllocError>
-    requires sorted { T (map_of.is_sorted path_cmp (pairs_of regions.now)) }
-    requires apart { have_overlap (pairs_of regions.now) ≡ false }
-    requires parts_sorted { T (map_of.is_sorted path_cmp (pairs_of parts.now)) }
-    requires parts_apart { have_overlap (pairs_of parts.now) ≡ false }
-    ensures left { (kept : List Query) → IsCut kept regions.now lost.now parts.now
-        → IfOk result (λ left. entries_of left.items
-        ≡ for_each (window_left (pairs_of regions.now) (regions_kept kept (pairs_of regions.now)))
-        registered.now) }
-    ensures short { OnOk result (AreShort registered.now) }
-{
-    let mut left = Vec::new(alloc);
-    for query in registered {
-        // For the prover: so long are paths at most.
-        let _ = query.path().keys();
-        if let Some(window) = window_left(alloc, regions, lost, parts, query)? {
-            left.push(window)?;
-        }
-    }
-    Ok(left)
-}
-
 // The windows of these queries, which stand by their paths.
-fn retain_registered(windows: &mut Vec<Window>, registered: &[Lent<'_>])
+fn retain_registered(windows: &mut Vec<BoxedWindow>, registered: &[Lent<'_>])
     requires order { AreByPath query_of windows.old.items }
     requires registered { AreByPath (λ l. l.query.now) registered.now }
     ensures order { AreByPath query_of windows.new.items }
@@ -259,14 +205,15 @@ fn retain_registered(windows: &mut Vec<Window>, registered: &[Lent<'_>])
     ensures len { vec_len windows.new ≤ vec_len windows.old }
     ensures room { vec_capacity windows.new ≡ vec_capacity windows.old }
 {
-    windows.retain(|window| place_of(registered, &window.query).is_some());
+    windows.retain(|window| place_of(registered, window.query()).is_some());
 }
 
 // What is brought after a change of the registered forms and of the listens kept. All that can be
 // refused comes first.
 pub(crate) fn change_cover(
-    regions: &mut Vec<Region>,
-    windows: &mut Vec<Window>,
+    regions: &mut Vec<BoxedRegion>,
+    windows: &mut Vec<BoxedWindow>,
+    were: &Forms,
     registered: &[Query],
     kept: &[Query],
 ) -> Result<(), AllocError>
@@ -274,10 +221,12 @@ pub(crate) fn change_cover(
     requires apart { have_overlap (pairs_of regions.old.items) ≡ false }
     requires kept { do_plains_overlap kept.now ≡ false }
     requires windows { AreByPath query_of windows.old.items }
+    requires forms { HaveForms were.now (in_query_order (entries_of windows.old.items)) }
+    requires beside { AreBeside (pairs_of regions.old.items)
+        (in_query_order (entries_of windows.old.items)) }
     ensures order { AreByPath query_of windows.new.items }
-    ensures ok { (fs : List Query) → OnOk result (held registered.now regions.new.items windows.new.items
-        ≡ recover registered.now kept.now (held fs regions.old.items windows.old.items)) }
-    ensures forms { OnOk result (AreShort registered.now) }
+    ensures ok { OnOk result (held registered.now regions.new.items windows.new.items
+        ≡ recover registered.now kept.now (held were.now regions.old.items windows.old.items)) }
     ensures listens { OnOk result (AreShort kept.now) }
     ensures err { (fs : List Query) → OnErr result (held fs regions.new.items windows.new.items
         ≡ held fs regions.old.items windows.old.items) }
@@ -285,49 +234,53 @@ pub(crate) fn change_cover(
     let alloc = *regions.allocator();
     let lost = spans_lost(alloc, regions, kept)?;
     let parts = parts_left(alloc, regions, &lost, kept)?;
-    let left = windows_left(alloc, regions, &lost, &parts, registered)?;
     let forms = in_path_order(alloc, registered)?;
-    windows.reserve(left.len())?;
+    let handed = windows_handed(
+        alloc, regions, &lost, &parts, windows, were, &forms, &forms, true,
+    )?;
+    windows.reserve(handed.len())?;
     regions.reserve(parts.len())?;
     remove_spans(regions, lost);
     insert_all(regions, parts);
     retain_registered(windows, &forms);
-    put_windows(windows, left);
+    put_windows(windows, handed);
     Ok(())
 }
 
 // What is brought after these forms ended and these listens began. All that can be refused comes
 // first.
 pub(crate) fn end_forms(
-    regions: &mut Vec<Region>,
-    windows: &mut Vec<Window>,
+    regions: &mut Vec<BoxedRegion>,
+    windows: &mut Vec<BoxedWindow>,
+    were: &Forms,
     ended: &[Query],
     begun: &[Query],
 ) -> Result<(), AllocError>
     requires sorted { T (map_of.is_sorted path_cmp (pairs_of regions.old.items)) }
     requires apart { have_overlap (pairs_of regions.old.items) ≡ false }
     requires windows { AreByPath query_of windows.old.items }
-    requires filtered { All (λ w. is_filtered w.0 ≡ true)
+    requires forms { HaveForms were.now (in_query_order (entries_of windows.old.items)) }
+    requires beside { AreBeside (pairs_of regions.old.items)
         (in_query_order (entries_of windows.old.items)) }
-    requires ends { (registered kept : List Query) × EndsForms ended.now begun.now registered kept
-        (pairs_of regions.old.items) (in_query_order (entries_of windows.old.items)) }
+    requires ends { (registered kept : List Query) × All (Contains were.now) registered
+        × EndsForms ended.now begun.now were.now registered kept (pairs_of regions.old.items) }
     ensures order { AreByPath query_of windows.new.items }
-    ensures ok { (registered kept fs : List Query) → EndsForms ended.now begun.now registered kept
-        (pairs_of regions.old.items) (in_query_order (entries_of windows.old.items))
+    ensures ok { (registered kept : List Query) → All (Contains were.now) registered
+        → EndsForms ended.now begun.now were.now registered kept (pairs_of regions.old.items)
         → OnOk result (held registered regions.new.items windows.new.items
-        ≡ recover registered kept (held fs regions.old.items windows.old.items)) }
+        ≡ recover registered kept (held were.now regions.old.items windows.old.items)) }
     ensures err { (fs : List Query) → OnErr result (held fs regions.new.items windows.new.items
         ≡ held fs regions.old.items windows.old.items) }
 {
     let alloc = *regions.allocator();
     let lost = spans_ended(alloc, regions, ended, begun)?;
     let parts = parts_left(alloc, regions, &lost, begun)?;
-    let left = windows_left(alloc, regions, &lost, &parts, begun)?;
-    windows.reserve(left.len())?;
+    let handed = windows_of_ended(alloc, regions, &lost, &parts, windows, were, ended)?;
+    windows.reserve(handed.len())?;
     regions.reserve(parts.len())?;
     remove_spans(regions, lost);
     insert_all(regions, parts);
     remove_queries(windows, ended);
-    put_windows(windows, left);
+    put_windows(windows, handed);
     Ok(())
 }

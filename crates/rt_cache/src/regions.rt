@@ -15,7 +15,7 @@ ghost use Rattle.rt_cache.specs.inside.Spans.{has_place};
 ghost use Rattle.rt_cache.specs.declared.region.Region.{Region};
 
 use crate::paths::{meet, rest_of};
-use crate::region::Region;
+use crate::region::{BoxedRegion, Region};
 use crate::spans::Span;
 use crate::stored_tree::StoredTree;
 use rt_tree::{Key, MAX_LEVELS, Path, Tree};
@@ -24,7 +24,7 @@ use std::alloc::{AllocError, Global};
 // How many regions stand at the path or in front of it, by halving: the path comes before the one at
 // this place, and not before the one in front. The keys that the path shares with both ends of what
 // is left all paths between them share, so these are not compared again.
-fn place_of(regions: &[Region], path: &Path) -> usize
+fn place_of(regions: &[BoxedRegion], path: &Path) -> usize
     requires sorted { T (map_of.is_sorted path_cmp (pairs_of regions.now)) }
     ensures within { result ≤ length regions.now }
     ensures front { (k : ℕ) (d : Region) → suc k ≡ result
@@ -39,7 +39,7 @@ fn place_of(regions: &[Region], path: &Path) -> usize
     while low < high {
         let middle = low + (high - low) / 2;
         let known = shared_below.min(shared_above);
-        let (shared, is_before) = meet(path, &regions[middle].path, known);
+        let (shared, is_before) = meet(path, regions[middle].path(), known);
         if is_before {
             high = middle;
             shared_above = shared;
@@ -52,7 +52,7 @@ fn place_of(regions: &[Region], path: &Path) -> usize
 }
 
 // Where the region at or above the path stands: it can only be the last that is not behind the path.
-pub(crate) fn place_above(regions: &[Region], path: &Path) -> Option<usize>
+pub(crate) fn place_above(regions: &[BoxedRegion], path: &Path) -> Option<usize>
     requires sorted { T (map_of.is_sorted path_cmp (pairs_of regions.now)) }
     requires apart { have_overlap (pairs_of regions.now) ≡ false }
     ensures known { is_some result ≡ is_some (region_part (pairs_of regions.now) path.now) }
@@ -66,7 +66,7 @@ pub(crate) fn place_above(regions: &[Region], path: &Path) -> Option<usize>
         return None;
     }
     let place = count - 1;
-    if regions[place].path.is_prefix_of(path) {
+    if regions[place].path().is_prefix_of(path) {
         Some(place)
     } else {
         None
@@ -74,13 +74,13 @@ pub(crate) fn place_above(regions: &[Region], path: &Path) -> Option<usize>
 }
 
 // The part at the path of a region at or above it.
-pub(crate) fn part_at(alloc: Global, region: &Region, path: &Path) -> Result<Tree, AllocError>
+pub(crate) fn part_at(alloc: Global, region: &BoxedRegion, path: &Path) -> Result<Tree, AllocError>
     requires { is_at_or_above region.now.path path.now ≡ true }
     ensures { IfOk result (λ part. Some part
         ≡ option_map (sub region.now.tree) (strip region.now.path path.now)) }
 {
-    match rest_of(alloc, &region.path, path)? {
-        Some(rest) => region.tree.get(alloc, &rest),
+    match rest_of(alloc, region.path(), path)? {
+        Some(rest) => region.region().tree.get(alloc, &rest),
         None => Ok(Tree::null()),
     }
 }
@@ -88,7 +88,7 @@ pub(crate) fn part_at(alloc: Global, region: &Region, path: &Path) -> Result<Tre
 // The child of that part.
 pub(crate) fn child_at(
     alloc: Global,
-    region: &Region,
+    region: &BoxedRegion,
     path: &Path,
     key: &Key,
 ) -> Result<Tree, AllocError>
@@ -97,8 +97,8 @@ pub(crate) fn child_at(
         ≡ option_map (λ rest. child (sub region.now.tree rest) key.now)
         (strip region.now.path path.now)) }
 {
-    match rest_of(alloc, &region.path, path)? {
-        Some(rest) => region.tree.child(alloc, &rest, key),
+    match rest_of(alloc, region.path(), path)? {
+        Some(rest) => region.region().tree.child(alloc, &rest, key),
         None => Ok(Tree::null()),
     }
 }
@@ -106,7 +106,7 @@ pub(crate) fn child_at(
 // The tree put into the region, which is at or above the path.
 pub(crate) fn put_into(
     alloc: Global,
-    region: &mut Region,
+    region: &mut BoxedRegion,
     path: &Path,
     tree: &Tree,
 ) -> Result<(), AllocError>
@@ -115,14 +115,14 @@ pub(crate) fn put_into(
         ≡ region_put (path.now, tree.now) (pair_of region.old)) }
     ensures err { OnErr result (pair_of region.new ≡ pair_of region.old) }
 {
-    match rest_of(alloc, &region.path, path)? {
-        Some(rest) => region.tree.set(alloc, &rest, tree),
+    match rest_of(alloc, region.path(), path)? {
+        Some(rest) => region.set(alloc, &rest, tree),
         None => Ok(()),
     }
 }
 
 // The region in its place, for which there is room.
-pub(crate) fn insert(regions: &mut Vec<Region>, region: Region)
+pub(crate) fn insert(regions: &mut Vec<BoxedRegion>, region: BoxedRegion)
     requires room { vec_len regions.old < vec_capacity regions.old }
     requires sorted { T (map_of.is_sorted path_cmp (pairs_of regions.old.items)) }
     requires absent { list_any (λ r. path_eq region.path r.path) regions.old.items ≡ false }
@@ -131,12 +131,12 @@ pub(crate) fn insert(regions: &mut Vec<Region>, region: Region)
     ensures len { vec_len regions.new ≡ vec_len regions.old + 1 }
     ensures room { vec_capacity regions.old ≤ vec_capacity regions.new }
 {
-    let place = place_of(regions, &region.path);
+    let place = place_of(regions, region.path());
     let _in_reserved_room = regions.insert(place, region);
 }
 
 // Where the first region stands that is not in front of the path.
-fn first_under(regions: &[Region], path: &Path) -> usize
+fn first_under(regions: &[BoxedRegion], path: &Path) -> usize
     requires sorted { T (map_of.is_sorted path_cmp (pairs_of regions.now)) }
     ensures within { result ≤ length regions.now }
     ensures front { (k : ℕ) (d : Region) → k < result
@@ -149,7 +149,7 @@ fn first_under(regions: &[Region], path: &Path) -> usize
         return 0;
     }
     let last = count - 1;
-    if path.is_prefix_of(&regions[last].path) {
+    if path.is_prefix_of(regions[last].path()) {
         last
     } else {
         count
@@ -158,7 +158,7 @@ fn first_under(regions: &[Region], path: &Path) -> usize
 
 // Where the regions at or under the path stand, by halving: one behind another, from the first that
 // is not in front of the path.
-pub(crate) fn span_under(regions: &[Region], path: &Path) -> Span
+pub(crate) fn span_under(regions: &[BoxedRegion], path: &Path) -> Span
     requires sorted { T (map_of.is_sorted path_cmp (pairs_of regions.now)) }
     ensures ordered { result.start ≤ result.end }
     ensures within { result.end ≤ length regions.now }
@@ -167,7 +167,7 @@ pub(crate) fn span_under(regions: &[Region], path: &Path) -> Span
 {
     let start = first_under(regions, path);
     let (_, behind) = regions.split_at(start);
-    let count = behind.partition_point(|region| path.is_prefix_of(&region.path));
+    let count = behind.partition_point(|region| path.is_prefix_of(region.path()));
     Span {
         start,
         end: start + count,
@@ -175,7 +175,7 @@ pub(crate) fn span_under(regions: &[Region], path: &Path) -> Span
 }
 
 // The regions that are not in the span.
-pub(crate) fn remove_span(regions: &mut Vec<Region>, span: Span)
+pub(crate) fn remove_span(regions: &mut Vec<BoxedRegion>, span: Span)
     requires ordered { span.start ≤ span.end }
     requires within { span.end ≤ length regions.old.items }
     ensures left { regions.new.items ≡ remove_range regions.old.items span.start span.end }
@@ -186,7 +186,7 @@ pub(crate) fn remove_span(regions: &mut Vec<Region>, span: Span)
 }
 
 // The regions that are not at or under the path.
-fn remove_under(regions: &mut Vec<Region>, path: &Path)
+fn remove_under(regions: &mut Vec<BoxedRegion>, path: &Path)
     requires sorted { T (map_of.is_sorted path_cmp (pairs_of regions.old.items)) }
     ensures left { regions.new.items
         ≡ filter (λ r. not (is_at_or_above path.now r.path)) regions.old.items }
@@ -198,19 +198,20 @@ fn remove_under(regions: &mut Vec<Region>, path: &Path)
 }
 
 // A region of a copy of the tree.
-pub(crate) fn region_of(alloc: Global, path: &Path, tree: &Tree) -> Result<Region, AllocError>
+pub(crate) fn region_of(alloc: Global, path: &Path, tree: &Tree) -> Result<BoxedRegion, AllocError>
     ensures { IfOk result (λ region. pair_of region ≡ (path.now, tree.now)) }
 {
-    Ok(Region {
+    let region = Region {
         path: path.copy()?,
         tree: StoredTree::of(alloc, tree)?,
-    })
+    };
+    BoxedRegion::new(alloc, region)
 }
 
 // A new region, in the place of those at or under the path.
 pub(crate) fn begin(
     alloc: Global,
-    regions: &mut Vec<Region>,
+    regions: &mut Vec<BoxedRegion>,
     path: &Path,
     tree: &Tree,
 ) -> Result<(), AllocError>

@@ -1,7 +1,13 @@
 // A window.
+ghost use Rattle.std.specs.Prelude.{◌≡◌, false, IfOk, OnOk, OnErr};
+ghost use Rattle.rt_tree.specs.PathTree.{put};
+
 use crate::by_path::HasQuery;
 use crate::stored_tree::StoredTree;
 use rt_query::Query;
+use rt_tree::{Path, Tree};
+use std::alloc::{AllocError, Global};
+use std::marker::Model;
 
 // The known children of a filtered query; whole where they are all that its path has.
 pub(crate) struct Window {
@@ -20,10 +26,68 @@ impl Drop for Window {
     }
 }
 
-impl HasQuery for Window {
+// A window in memory of its own, so that a list of windows moves a pointer of each.
+pub(crate) struct BoxedWindow {
+    window: Box<Window>,
+}
+
+impl Drop for BoxedWindow {
+    fn drop(self) {
+        let BoxedWindow { window: _ } = self;
+    }
+}
+
+impl Model for BoxedWindow {
+    ghost use Rattle.rt_cache.specs.declared.window.Window.{Window};
+
+    ghost Value = { Window };
+
+    ghost view = { λ a. a.window.value };
+}
+
+impl HasQuery for BoxedWindow {
     ghost query_of = { λ w. w.query };
 
     fn query(&self) -> &Query {
-        &self.query
+        &self.window.query
+    }
+}
+
+impl BoxedWindow {
+    // The window, in memory of its own.
+    pub(crate) fn new(alloc: Global, window: Window) -> Result<BoxedWindow, AllocError>
+        ensures { IfOk result (λ boxed. boxed ≡ window) }
+    {
+        Ok(BoxedWindow {
+            window: Box::new(alloc, window)?,
+        })
+    }
+
+    // The window.
+    pub(crate) fn window(&self) -> &Window
+        ensures { result.now ≡ self.now }
+    {
+        &self.window
+    }
+
+    // Other children, which need not be all that the path has.
+    pub(crate) fn refill(&mut self, children: StoredTree)
+        ensures { self.new
+            ≡ record { query = self.old.query; children = children; is_whole = false } }
+    {
+        self.window.children = children;
+        self.window.is_whole = false;
+    }
+
+    // The tree put into the children, at a path from theirs on.
+    pub(crate) fn set(&mut self, alloc: Global, path: &Path, tree: &Tree) -> Result<(), AllocError>
+        ensures ok { OnOk result (self.new ≡ record {
+          query = self.old.query;
+          children = put self.old.children path.now tree.now;
+          is_whole = self.old.is_whole;
+        }) }
+        ensures err { OnErr result (self.new ≡ self.old) }
+    {
+        self.window.children.set(alloc, path, tree)
     }
 }

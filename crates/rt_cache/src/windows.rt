@@ -1,30 +1,37 @@
 // Windows of filtered queries, in the order of the paths.
 ghost use Rattle.std.specs.Prelude.{◌≡◌, ℕ, ◌+◌, ◌<◌, ◌≤◌, ◌++◌, length, IfOk, IfSome, IfNone, OnOk};
 ghost use Rattle.std.specs.Prelude.{vec_len, vec_capacity, if◌then◌else◌};
-ghost use Rattle.std.specs.Prelude.{IsOk, OnErr, None, is_some, not, true, false, slice_index_or};
-ghost use Rattle.std.specs.List.{filter};
+ghost use Rattle.std.specs.Prelude.{IsOk, OnErr, Some, None, is_some, not, true, false, slice_index_or};
+ghost use Rattle.std.specs.Prelude.{◌&&◌, ◌||◌};
+ghost use Rattle.std.specs.List.{filter, list_any, remove_range};
 ghost use Rattle.std.specs.Option.{option_map_or};
 ghost use Rattle.std.specs.FinMap as map_of;
 ghost use Rattle.rt_tree.specs.PathTree.{levels, strip, children_alone, put};
 ghost use Rattle.rt_tree.specs.Assignments.{is_at_or_above};
 ghost use Rattle.rt_query.specs.QueryEq.{query_eq};
 ghost use Rattle.rt_cache.specs.QueryOrder.{query_cmp};
-ghost use Rattle.rt_query.specs.Queries.{Query};
+ghost use Rattle.rt_query.specs.Queries.{Query, is_filtered};
+ghost use Rattle.rt_query.specs.Supply.{does_supply};
 ghost use Rattle.rt_cache.specs.Recover.{in_query_order, is_among};
-ghost use Rattle.rt_cache.specs.inside.ByPath.{AreByPath, query_of};
+ghost use Rattle.rt_cache.specs.inside.ByPath.{AreByPath, query_of, is_other_supplier};
 ghost use Rattle.rt_cache.specs.inside.Held.{seen_window, entries_of, pushed_windows, is_taken};
+ghost use Rattle.rt_cache.specs.inside.Sources.{source_among, HaveForms};
 ghost use Rattle.rt_cache.specs.declared.window.Window.{Window};
 
-use crate::by_path::{first_from, place_of};
+use crate::by_path::{
+    HasQuery, first_from, is_other_supplier, other_supplier_from, place_of, span_under,
+};
 use crate::paths::rest_of;
+use crate::registered::{BoxedQuery, Forms};
+use crate::spans::Span;
 use crate::stored_tree::StoredTree;
-use crate::window::Window;
+use crate::window::{BoxedWindow, Window};
 use rt_query::Query;
 use rt_tree::{MAX_LEVELS, Path, Tree};
 use std::alloc::{AllocError, Global};
 
 // Where the window of the query stands, by halving. Goes over the windows of its path alone.
-pub(crate) fn place_of_window(windows: &[Window], query: &Query) -> Option<usize>
+pub(crate) fn place_of_window(windows: &[BoxedWindow], query: &Query) -> Option<usize>
     requires { AreByPath query_of windows.now }
     ensures known { is_some result
         ≡ is_some (map_of.find query_cmp query.now (entries_of windows.now)) }
@@ -39,7 +46,7 @@ pub(crate) fn place_of_window(windows: &[Window], query: &Query) -> Option<usize
 }
 
 // The window in its place, in front of the others of its path. There is room for it.
-fn insert_window(windows: &mut Vec<Window>, window: Window)
+fn insert_window(windows: &mut Vec<BoxedWindow>, window: BoxedWindow)
     requires order { AreByPath query_of windows.old.items }
     requires room { vec_len windows.old < vec_capacity windows.old }
     ensures order { AreByPath query_of windows.new.items }
@@ -49,12 +56,12 @@ fn insert_window(windows: &mut Vec<Window>, window: Window)
     ensures len { vec_len windows.new ≤ vec_len windows.old + 1 }
     ensures room { vec_capacity windows.old ≤ vec_capacity windows.new }
 {
-    let place = first_from(windows, window.query.path());
+    let place = first_from(windows, window.query().path());
     let _in_reserved_room = windows.insert(place, window);
 }
 
 // The window in place of the one of its query, if there is one. There is room for it.
-fn put_window(windows: &mut Vec<Window>, window: Window)
+fn put_window(windows: &mut Vec<BoxedWindow>, window: BoxedWindow)
     requires order { AreByPath query_of windows.old.items }
     requires room { vec_len windows.old < vec_capacity windows.old }
     ensures order { AreByPath query_of windows.new.items }
@@ -64,14 +71,14 @@ fn put_window(windows: &mut Vec<Window>, window: Window)
     ensures len { vec_len windows.new ≤ vec_len windows.old + 1 }
     ensures room { vec_capacity windows.old ≤ vec_capacity windows.new }
 {
-    match place_of_window(windows, &window.query) {
+    match place_of_window(windows, window.query()) {
         Some(place) => windows[place] = window,
         None => insert_window(windows, window),
     }
 }
 
 // Each of the windows in its place, for which there is room. Of two of one query the first stays.
-pub(crate) fn put_windows(windows: &mut Vec<Window>, mut more: Vec<Window>)
+pub(crate) fn put_windows(windows: &mut Vec<BoxedWindow>, mut more: Vec<BoxedWindow>)
     requires order { AreByPath query_of windows.old.items }
     requires room { vec_len windows.old + vec_len more ≤ vec_capacity windows.old }
     ensures order { AreByPath query_of windows.new.items }
@@ -86,7 +93,7 @@ pub(crate) fn put_windows(windows: &mut Vec<Window>, mut more: Vec<Window>)
 // The window of the query replaced by the children of the tree.
 pub(crate) fn replace(
     alloc: Global,
-    windows: &mut Vec<Window>,
+    windows: &mut Vec<BoxedWindow>,
     query: &Query,
     tree: &Tree,
 ) -> Result<(), AllocError>
@@ -102,20 +109,19 @@ pub(crate) fn replace(
     match place_of_window(windows, query) {
         Some(place) => {
             let window = &mut windows[place];
-            window.children = children;
-            window.is_whole = false;
+            window.refill(children);
         }
         None => {
-            let query = query.copy()?;
-            windows.reserve(1)?;
-            insert_window(
-                windows,
+            let window = BoxedWindow::new(
+                alloc,
                 Window {
-                    query,
+                    query: query.copy()?,
                     children,
                     is_whole: false,
                 },
-            );
+            )?;
+            windows.reserve(1)?;
+            insert_window(windows, window);
         }
     }
     Ok(())
@@ -124,7 +130,7 @@ pub(crate) fn replace(
 // The tree put into a window, whose query's path is above the path.
 fn put_into_window(
     alloc: Global,
-    window: &mut Window,
+    window: &mut BoxedWindow,
     path: &Path,
     tree: &Tree,
 ) -> Result<(), AllocError>
@@ -136,25 +142,35 @@ fn put_into_window(
         (strip window.old.query.path path.now) window.old.children) }
     ensures err { OnErr result (window.new.children ≡ window.old.children) }
 {
-    match rest_of(alloc, window.query.path(), path)? {
-        Some(rest) => window.children.set(alloc, &rest, tree),
+    match rest_of(alloc, window.query().path(), path)? {
+        Some(rest) => window.set(alloc, &rest, tree),
         None => Ok(()),
     }
 }
 
-// The windows that are not at or under the path.
-pub(crate) fn remove_under(windows: &mut Vec<Window>, path: &Path)
+// The windows that are not in the span.
+fn remove_span(windows: &mut Vec<BoxedWindow>, span: Span)
+    requires ordered { span.start ≤ span.end }
+    requires within { span.end ≤ length windows.old.items }
+    ensures { windows.new.items ≡ remove_range windows.old.items span.start span.end }
+{
+    drop(windows.drain(span.start..span.end));
+}
+
+// The windows that are not at or under the path, which are found by halving.
+pub(crate) fn remove_under(windows: &mut Vec<BoxedWindow>, path: &Path)
     requires { AreByPath query_of windows.old.items }
     ensures order { AreByPath query_of windows.new.items }
     ensures left { in_query_order (entries_of windows.new.items)
         ≡ filter (λ w. not (is_at_or_above path.now w.0.path)) (in_query_order
         (entries_of windows.old.items)) }
 {
-    windows.retain(|window| !path.is_prefix_of(window.query.path()));
+    let span = span_under(windows, path);
+    remove_span(windows, span);
 }
 
 // The windows but for that of the query.
-fn remove_query(windows: &mut Vec<Window>, query: &Query)
+fn remove_query(windows: &mut Vec<BoxedWindow>, query: &Query)
     requires { AreByPath query_of windows.old.items }
     ensures order { AreByPath query_of windows.new.items }
     ensures left { (x : Query) → map_of.find query_cmp x (entries_of windows.new.items)
@@ -169,7 +185,7 @@ fn remove_query(windows: &mut Vec<Window>, query: &Query)
 }
 
 // The windows but for those of these queries.
-pub(crate) fn remove_queries(windows: &mut Vec<Window>, queries: &[Query])
+pub(crate) fn remove_queries(windows: &mut Vec<BoxedWindow>, queries: &[Query])
     requires { AreByPath query_of windows.old.items }
     ensures order { AreByPath query_of windows.new.items }
     ensures left { in_query_order (entries_of windows.new.items)
@@ -183,11 +199,116 @@ pub(crate) fn remove_queries(windows: &mut Vec<Window>, queries: &[Query])
     }
 }
 
+// Whether the query supplies another one that has a window. Goes over those of its path alone: what is
+// filtered supplies no other path.
+fn supplies_another(windows: &[BoxedWindow], query: &Query) -> bool
+    requires order { AreByPath query_of windows.now }
+    requires filtered { is_filtered query.now ≡ true }
+    ensures { result ≡ list_any (λ w. is_other_supplier query.now w.query) windows.now }
+{
+    let mut place = first_from(windows, query.path());
+    while place < windows.len() {
+        let other = windows[place].query();
+        if other.path() != query.path() {
+            return false;
+        }
+        if is_other_supplier(query, other) {
+            return true;
+        }
+        place += 1;
+    }
+    false
+}
+
+// The windows but for those of other queries that this one supplies.
+fn remove_supplied(windows: &mut Vec<BoxedWindow>, query: &Query)
+    requires order { AreByPath query_of windows.old.items }
+    requires filtered { is_filtered query.now ≡ true }
+    ensures order { AreByPath query_of windows.new.items }
+    ensures left { in_query_order (entries_of windows.new.items)
+        ≡ filter (λ w. query_eq w.0 query.now || not (does_supply query.now w.0)) (in_query_order
+        (entries_of windows.old.items)) }
+{
+    if !supplies_another(windows, query) {
+        return;
+    }
+    windows.retain(|window| window.query() == query || !query.supplies(window.query()));
+}
+
+// Where the window of the form stands, if it supplies the query.
+fn place_supplying(windows: &[BoxedWindow], form: &Query, query: &Query) -> Option<usize>
+    requires { AreByPath query_of windows.now }
+    ensures known { is_some result ≡ (does_supply form.now query.now
+        && is_some (map_of.find query_cmp form.now (entries_of windows.now))) }
+    ensures within { IfSome result (λ n. n < length windows.now) }
+    ensures own { IfSome result (λ n. (d : Window)
+        → query_eq (slice_index_or windows.now n d).query form.now ≡ true) }
+    ensures first { IfSome result (λ n. (k : ℕ) (d : Window) → k < n
+        → query_eq (slice_index_or windows.now k d).query form.now ≡ false) }
+{
+    if !form.supplies(query) {
+        return None;
+    }
+    place_of_window(windows, form)
+}
+
+// Where the window stands that is brought for the query, by going over the registered forms.
+fn place_of_first(
+    windows: &[BoxedWindow],
+    registered: &[BoxedQuery],
+    query: &Query,
+) -> Option<usize>
+    requires { AreByPath query_of windows.now }
+    ensures within { IfSome result (λ n. n < length windows.now) }
+    ensures source { IfSome result (λ n. (d : Window) → source_among (entries_of windows.now) registered.now
+        query.now ≡ Some (slice_index_or windows.now n d).query) }
+    ensures none { IfNone result (source_among (entries_of windows.now) registered.now query.now ≡ None) }
+    ensures first { IfSome result (λ n. (k : ℕ) (d : Window) → k < n
+        → query_eq (slice_index_or windows.now k d).query (slice_index_or windows.now n d).query ≡ false) }
+{
+    for form in registered {
+        if let Some(place) = place_supplying(windows, form.query(), query) {
+            return Some(place);
+        }
+    }
+    None
+}
+
+// Where the window stands that is brought for the query: that of the first registered form that
+// supplies it and has one. Its own is the only one where it has one. Goes over the windows of its path,
+// and where several of them supply it over the registered forms.
+pub(crate) fn place_of_source(
+    windows: &[BoxedWindow],
+    registered: &Forms,
+    query: &Query,
+) -> Option<usize>
+    requires order { AreByPath query_of windows.now }
+    requires belongs { HaveForms registered.now (in_query_order (entries_of windows.now)) }
+    ensures within { IfSome result (λ n. n < length windows.now) }
+    ensures source { IfSome result (λ n. (d : Window) → source_among (entries_of windows.now) registered.now
+        query.now ≡ Some (slice_index_or windows.now n d).query) }
+    ensures none { IfNone result (source_among (entries_of windows.now) registered.now query.now ≡ None) }
+    ensures first { IfSome result (λ n. (k : ℕ) (d : Window) → k < n
+        → query_eq (slice_index_or windows.now k d).query (slice_index_or windows.now n d).query ≡ false) }
+{
+    if let Some(place) = place_of_window(windows, query) {
+        return Some(place);
+    }
+    let from = first_from(windows, query.path());
+    let Some(first) = other_supplier_from(windows, from, query) else {
+        return None;
+    };
+    if other_supplier_from(windows, first + 1, query).is_none() {
+        return Some(first);
+    }
+    place_of_first(windows, registered.as_slice(), query)
+}
+
 // The tree pushed on the query at the path; whether it was taken: below the query's path a window
 // has to be there.
 pub(crate) fn push(
     alloc: Global,
-    windows: &mut Vec<Window>,
+    windows: &mut Vec<BoxedWindow>,
     query: &Query,
     path: &Path,
     tree: &Tree,
@@ -195,6 +316,7 @@ pub(crate) fn push(
     requires under { is_at_or_above query.now.path path.now ≡ true }
     requires levels { length path.now + levels tree.now ≤ MAX_LEVELS }
     requires order { AreByPath query_of windows.old.items }
+    requires filtered { is_filtered query.now ≡ true }
     ensures order { AreByPath query_of windows.new.items }
     ensures ok { OnOk result (in_query_order (entries_of windows.new.items)
         ≡ pushed_windows query.now (path.now, tree.now) (in_query_order
@@ -208,6 +330,7 @@ pub(crate) fn push(
 {
     if path == query.path() {
         replace(alloc, windows, query, tree)?;
+        remove_supplied(windows, query);
         return Ok(true);
     }
     let Some(place) = place_of_window(windows, query) else {

@@ -1,9 +1,11 @@
 -- What has a query, in the order of the paths.
-use Rattle.std.specs.Prelude.{List}
+use Rattle.std.specs.Prelude.{Bool, ◌&&◌, not, List}
 use Rattle.std.specs.declared.cmp.Ordering.{Ordering}
 use Rattle.std.specs.List.Sorted.{IsSorted}
 use Rattle.rt_tree.specs.PathTree.{path_cmp}
 use Rattle.rt_query.specs.Queries.{Query}
+use Rattle.rt_query.specs.QueryEq.{query_eq}
+use Rattle.rt_query.specs.Supply.{does_supply}
 use Rattle.rt_cache.specs.declared.window.Window.{Window}
 
 -- two elements by the paths of their queries
@@ -13,6 +15,10 @@ by_query query x y = path_cmp (query x).path (query y).path
 -- none stands before one in front of it
 abbrev pub AreByPath : {X : Type 0} → (X → Query) → List X → Type 0
 AreByPath query xs = IsSorted (by_query query) xs
+
+-- whether a query is another one, and supplies this one
+abbrev pub is_other_supplier : Query → Query → Bool
+is_other_supplier f q = not (query_eq f q) && does_supply f q
 
 -- the query of a window
 abbrev pub query_of : Window → Query

@@ -17,7 +17,7 @@ loop-count-preserved c =
     let lt : n < length ps = omega (arith, c.loop-count.invariant.0) in
     let at : p ≡ get_or ps n p = get_or_default ps n 0 p lt in
     let within : p < length fs = c.loop-count.invariant.2 n 0 (omega arith) in
-    let left : c.remove.new.self.items ≡ remove fs p = search rules in (
+    let left : c.remove_form.new.forms.items ≡ remove fs p = search rules in (
       omega (arith, c.loop-count.invariant.0),
       ap (without_places (take n ps)) left
           ∙ sym (without-remove ps n p fs lt at within c.requires.rising)
@@ -27,10 +27,11 @@ loop-count-preserved c =
           let last : get_or ps n d ≡ p = get_or_default ps n d 0 lt in
           let less : get_or ps k d < get_or ps n d = c.requires.rising k n d l lt in
           omega (arith, less, last, within, ap length left, length-remove fs p within),
+      c.remove_form.ensures.listed,
     )
 
-pub returns : goal.returns
-returns c =
+pub returns-clause-left : goal.returns-clause-left
+returns-clause-left c =
     let none : c.loop-count.count ≡ 0 = omega arith in
     sym (without_none c.loop-count.forms.items)
     ∙ ap (λ m. without_places (take m c.args.places.now) c.loop-count.forms.items) (sym none)

@@ -3,6 +3,7 @@ use Rattle.std.specs.List.{insert}
 use Rattle.std.specs.List.Sorted.{IsPartitionPoint}
 use Rattle.std.specs.Ordering.{is_lt}
 use Rattle.rt_tree.specs.PathTree.{Path, path_cmp}
+use Rattle.rt_query.specs.Queries.{Query}
 use Rattle.rt_cache.specs.Recover.{in_query_order}
 use Rattle.rt_cache.specs.declared.window.Window.{Window}
 use Rattle.rt_cache.specs.inside.ByPath.{AreByPath, query_of}
@@ -21,7 +22,7 @@ returns-clause-order c =
     let place : ℕ = c.first_from-place.result in
     let items : c.insert-in_reserved_room.new.self.items ≡ insert old place c.args.window = search rules in
     let point : StandsAt old (c.args.window.query).path place =
-    subst (λ (p : Path). StandsAt old p place) c.path.ensures (subst (λ (ws : List Window). StandsAt ws c.path.result.now place) c.deref.ensures.value c.first_from-place.ensures.point) in
+    subst (λ (p : Path). StandsAt old p place) (c.path.ensures ∙ ap (λ (q : Query). q.path) c.query.ensures) (subst (λ (ws : List Window). StandsAt ws c.path.result.now place) c.deref.ensures.value c.first_from-place.ensures.point) in
     subst (λ (ws : List Window). AreByPath query_of ws) (sym items) (by_path-insert query_of old place c.args.window c.requires.order point)
 
 pub returns-clause-listed : goal.returns-clause-listed
@@ -30,7 +31,7 @@ returns-clause-listed c =
     let place : ℕ = c.first_from-place.result in
     let items : c.insert-in_reserved_room.new.self.items ≡ insert old place c.args.window = search rules in
     let point : StandsAt old (c.args.window.query).path place =
-    subst (λ (p : Path). StandsAt old p place) c.path.ensures (subst (λ (ws : List Window). StandsAt ws c.path.result.now place) c.deref.ensures.value c.first_from-place.ensures.point) in
+    subst (λ (p : Path). StandsAt old p place) (c.path.ensures ∙ ap (λ (q : Query). q.path) c.query.ensures) (subst (λ (ws : List Window). StandsAt ws c.path.result.now place) c.deref.ensures.value c.first_from-place.ensures.point) in
     let within : place ≤ length old = subst (λ (ws : List Window). place ≤ length ws) c.deref.ensures.value c.first_from-place.ensures.within in
     ap (λ ws. in_query_order (entries_of ws)) items
     ∙ listed-insert old place c.args.window within (λ k d lt. before_other _ c.args.window.query (point.0 k d (omega arith) lt))

@@ -1,4 +1,6 @@
-use Rattle.std.proofs.Common.{rules, ◌≡◌, ◌∙◌, ◌<◌, ℕ, ap, sym, length, get_or, true, false, Some, None}
+use Rattle.std.proofs.Common.{rules, ◌≡◌, ◌∙◌, ◌||◌, ◌<◌, ℕ, ap, sym, length, get_or, not, true, false, Some, None}
+use Rattle.std.specs.List.{filter}
+use Rattle.rt_query.specs.Supply.{does_supply}
 use mathlib.Core.Bool.{true≢false}
 use Rattle.std.specs.Option.{option_map_or}
 use Rattle.std.specs.FinMap as map_of
@@ -18,7 +20,9 @@ pub returns-then-eq-clause-ok : goal.returns-then-eq-clause-ok
 returns-then-eq-clause-ok c =
     let own : path_eq c.args.path.now (c.args.query.now).path ≡ true = search rules in
     let put : in_query_order (entries_of c.replace.new.windows.items) ≡ map_of.put query_cmp c.args.query.now _ (in_query_order (entries_of c.args.windows.now.items)) = c.in_ok-replace.ensures.ok in
-    put ∙ sym (pushed_own c.args.query.now c.args.path.now c.args.tree.now (in_query_order (entries_of c.args.windows.now.items)) own)
+    c.remove_supplied.ensures.left
+    ∙ ap (filter (λ w. query_eq w.0 c.args.query.now || not (does_supply c.args.query.now w.0))) put
+    ∙ sym (pushed_own c.args.query.now c.args.path.now c.args.tree.now (in_query_order (entries_of c.args.windows.now.items)) own)
 
 pub returns-then-eq-clause-taken : goal.returns-then-eq-clause-taken
 returns-then-eq-clause-taken c =

@@ -1,4 +1,4 @@
-use Rattle.std.proofs.Common.{rules, ◌≡◌, ◌+◌, ◌≤◌, subst, ◌∙◌, ◌<◌, ℕ, ap, sym, length, get_or, refl, true, false, Some, None, is_some}
+use Rattle.std.proofs.Common.{rules, ◌≡◌, ◌+◌, ◌≤◌, subst, ◌∙◌, ◌<◌, ℕ, ap, sym, length, get_or, refl, true, false, Some, None, is_some, List}
 use mathlib.Core.Bool.{true≢false}
 use Rattle.std.specs.Prelude.{IfSome}
 use Rattle.std.specs.FinMap as map_of
@@ -7,17 +7,24 @@ use Rattle.rt_tree.specs.PathTree.{strip, sub, levels}
 use Rattle.rt_tree.specs.declared.limits.TheConstants.{MAX_KEYS, MAX_LEVELS}
 use Rattle.rt_tree.specs.Parts.{sub_root}
 use Rattle.rt_tree.specs.Assignments.{is_at_or_above}
+use Rattle.rt_query.specs.Queries.{Query}
 use Rattle.rt_query.specs.QueryEq.{query_eq}
 use Rattle.rt_cache.specs.QueryOrder.{query_cmp}
-use Rattle.rt_cache.specs.Brought.{region_part, base}
+use Rattle.rt_cache.specs.Brought.{Brought, region_part, base}
 use Rattle.rt_cache.specs.declared.region.Region.{Region}
 use Rattle.rt_cache.specs.declared.window.Window.{Window}
-use Rattle.rt_cache.specs.inside.Held.{seen_window, pairs_of, entries_of}
+use Rattle.rt_cache.specs.inside.Held.{seen_window, pairs_of, entries_of, held}
 use Rattle.rt_cache.specs.Canonical.{FitsLevels}
 use Rattle.rt_cache.proofs.Levels.{short_path, base_fits}
-use Rattle.rt_cache.proofs.Bases.{base_found, knows_found}
+use Rattle.rt_query.specs.laws.QueryEq.{query_eq_tells}
+use Rattle.rt_cache.specs.Recover.{in_query_order}
+use Rattle.rt_cache.specs.inside.Sources.{source_among, HaveForms}
+use Rattle.rt_cache.proofs.Bases.{part_found, window_found, source_some}
+use Rattle.rt_cache.proofs.Belonging.{have_forms}
+use Rattle.rt_cache.proofs.Sources.{of_window}
+use Rattle.rt_cache.proofs.Stays.{AreFiltered}
 use Rattle.rt_cache.proofs.Listing.{find-at}
-use Rattle.rt_cache.proofs.Places.{or_true, part_is}
+use Rattle.rt_cache.proofs.Places.{part_is}
 use Rattle.rt_cache.proofs.brought.Brought.base.Goals as goal
 
 pub returns-in-Some-clause-found : goal.returns-in-Some-clause-found
@@ -30,47 +37,53 @@ returns-in-Some-clause-found c =
     let seen : region_part (pairs_of c.self.inside.regions.items) (c.args.query.now).path ≡ Some c.in_ok-tree.tree =
     part_is (c.args.query.now).path c.self.inside.regions.items c.in-Some.place region c.self.invariant.0.apart within above
     ∙ ap (λ (r : Region). option_map (sub r.tree) (strip r.path (c.args.query.now).path)) (sym at) ∙ sym part in
-    sym (base_found c.self.inside.registered.items c.self.inside.regions.items c.self.inside.windows.items c.args.query.now (Some c.in_ok-tree.tree) _ c.self.invariant.0.filtered seen refl)
+    sym (part_found c.self.inside.registered c.self.inside.regions.items c.self.inside.windows.items c.args.query.now (Some c.in_ok-tree.tree) seen refl)
     ∙ ap (λ b. base b c.args.query.now) c.self.view_is
 
-pub returns-in_default-place_of_window-clause-found : goal.returns-in_default-place_of_window-clause-found
-returns-in_default-place_of_window-clause-found c =
+pub place_of_source-requires-clause-belongs : goal.place_of_source-requires-clause-belongs
+place_of_source-requires-clause-belongs c =
+    subst (λ (ws : List Window). HaveForms c.self.inside.registered (in_query_order (entries_of ws))) (sym c.deref-2.ensures.value)
+    (have_forms (held c.self.inside.registered c.self.inside.regions.items c.self.inside.windows.items) c.self.invariant.0 c.self.invariant.3)
+
+pub returns-in_default-place_of_source-clause-found : goal.returns-in_default-place_of_source-clause-found
+returns-in_default-place_of_source-clause-found c =
     let none : region_part (pairs_of c.self.inside.regions.items) (c.args.query.now).path ≡ None = search rules in
-    let window : map_of.find query_cmp c.args.query.now (entries_of c.self.inside.windows.items) ≡ None = search rules in
-    sym (base_found c.self.inside.registered.items c.self.inside.regions.items c.self.inside.windows.items c.args.query.now None None c.self.invariant.0.filtered none window)
+    let source : source_among (entries_of c.self.inside.windows.items) c.self.inside.registered c.args.query.now ≡ None = search rules in
+    sym (window_found c.self.inside.registered c.self.inside.regions.items c.self.inside.windows.items c.args.query.now None none source)
     ∙ ap (λ b. base b c.args.query.now) c.self.view_is
 
 pub returns-clause-found : goal.returns-clause-found
 returns-clause-found c =
     let none : region_part (pairs_of c.self.inside.regions.items) (c.args.query.now).path ≡ None = search rules in
-    let window : Window = c.index-window.result.now in
-    let within : c.in-Some-place_of_window.place < length c.self.inside.windows.items = search rules in
-    let at : window ≡ get_or c.self.inside.windows.items c.in-Some-place_of_window.place window = search rules in
-    let own : query_eq (get_or c.self.inside.windows.items c.in-Some-place_of_window.place window).query c.args.query.now ≡ true = search rules in
-    let first : (k : ℕ) → k < c.in-Some-place_of_window.place → query_eq (get_or c.self.inside.windows.items k window).query c.args.query.now ≡ false = search rules in
+    let window : Window = c.window-window.result.now in
+    let within : c.in-Some-place_of_source.place < length c.self.inside.windows.items = search rules in
+    let at : window ≡ get_or c.self.inside.windows.items c.in-Some-place_of_source.place window = search rules in
+    let source : source_among (entries_of c.self.inside.windows.items) c.self.inside.registered c.args.query.now ≡ Some (get_or c.self.inside.windows.items c.in-Some-place_of_source.place window).query = search rules in
+    let first : (k : ℕ) → k < c.in-Some-place_of_source.place → query_eq (get_or c.self.inside.windows.items k window).query (get_or c.self.inside.windows.items c.in-Some-place_of_source.place window).query ≡ false = search rules in
     let tree : c.in_ok-tree-2.tree ≡ sub window.children c.root.result = search rules in
-    let found : map_of.find query_cmp c.args.query.now (entries_of c.self.inside.windows.items) ≡ Some (seen_window window) =
-    find-at c.args.query.now c.self.inside.windows.items c.in-Some-place_of_window.place window within first own ∙ ap (λ (w : Window). Some (seen_window w)) (sym at) in
+    let found : map_of.find query_cmp (get_or c.self.inside.windows.items c.in-Some-place_of_source.place window).query (entries_of c.self.inside.windows.items) ≡ Some (seen_window window) =
+    find-at (get_or c.self.inside.windows.items c.in-Some-place_of_source.place window).query c.self.inside.windows.items c.in-Some-place_of_source.place window within first ((query_eq_tells (get_or c.self.inside.windows.items c.in-Some-place_of_source.place window).query (get_or c.self.inside.windows.items c.in-Some-place_of_source.place window).query).1 refl) ∙ ap (λ (w : Window). Some (seen_window w)) (sym at) in
     (λ i. Some (record { tree = (tree ∙ ap (sub window.children) c.root.ensures ∙ sub_root window.children) i; whole = window.is_whole }))
-    ∙ sym (base_found c.self.inside.registered.items c.self.inside.regions.items c.self.inside.windows.items c.args.query.now None (Some (seen_window window)) c.self.invariant.0.filtered none found)
+    ∙ sym (window_found c.self.inside.registered c.self.inside.regions.items c.self.inside.windows.items c.args.query.now _ none source ∙ ap (option_map of_window) found)
     ∙ ap (λ b. base b c.args.query.now) c.self.view_is
 
 pub returns-in-Some-clause-shallow : goal.returns-in-Some-clause-shallow
 returns-in-Some-clause-shallow c =
     let short : length (c.args.query.now).path ≤ MAX_KEYS = short_path c.args.query.now c.path.result.now c.path.ensures c.keys.ensures.valid in
     let fits : FitsLevels c.args.self.now = subst FitsLevels c.self.view_is c.self.invariant.1 in
-    subst (λ o. IfSome o (λ b. length (c.args.query.now).path + levels b.tree ≤ MAX_LEVELS)) (sym (returns-in-Some-clause-found c)) (base_fits c.args.self.now c.args.query.now short fits)
+    subst (λ o. IfSome o (λ b. length (c.args.query.now).path + levels b.tree ≤ MAX_LEVELS)) (sym (returns-in-Some-clause-found c)) (base_fits c.args.self.now c.args.query.now short (subst (λ (x : Brought). AreFiltered x.windows) c.self.view_is c.self.invariant.0.filtered) fits)
 
 pub returns-clause-shallow : goal.returns-clause-shallow
 returns-clause-shallow c =
     let short : length (c.args.query.now).path ≤ MAX_KEYS = short_path c.args.query.now c.path.result.now c.path.ensures c.keys.ensures.valid in
     let fits : FitsLevels c.args.self.now = subst FitsLevels c.self.view_is c.self.invariant.1 in
-    subst (λ o. IfSome o (λ b. length (c.args.query.now).path + levels b.tree ≤ MAX_LEVELS)) (sym (returns-clause-found c)) (base_fits c.args.self.now c.args.query.now short fits)
+    subst (λ o. IfSome o (λ b. length (c.args.query.now).path + levels b.tree ≤ MAX_LEVELS)) (sym (returns-clause-found c)) (base_fits c.args.self.now c.args.query.now short (subst (λ (x : Brought). AreFiltered x.windows) c.self.view_is c.self.invariant.0.filtered) fits)
 
 -- where memory lacks there is a window
 pub returns-in_err-tree-2-clause-absent : goal.returns-in_err-tree-2-clause-absent
 returns-in_err-tree-2-clause-absent c e =
-    let window : is_some (map_of.find query_cmp c.args.query.now (entries_of c.self.inside.windows.items)) ≡ true = search rules in
-    absurd (true≢false (sym (or_true _ _ window)
-    ∙ sym (knows_found c.self.inside.registered.items c.self.inside.regions.items c.self.inside.windows.items c.args.query.now c.self.invariant.0.filtered)
+    let none : region_part (pairs_of c.self.inside.regions.items) (c.args.query.now).path ≡ None = search rules in
+    let window : Window = c.window-window.result.now in
+    let source : source_among (entries_of c.self.inside.windows.items) c.self.inside.registered c.args.query.now ≡ Some (get_or c.self.inside.windows.items c.in-Some-place_of_source.place window).query = search rules in
+    absurd (true≢false (sym (source_some c.self.inside.registered c.self.inside.regions.items c.self.inside.windows.items c.args.query.now _ none source)
     ∙ ap is_some (ap (λ b. base b c.args.query.now) c.self.view_is ∙ e)))

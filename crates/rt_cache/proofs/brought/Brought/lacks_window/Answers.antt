@@ -18,5 +18,5 @@ returns-then-ne c = λ u.
     ] in
     let found : c.is_none.result ≡ not (is_some (map_of.find query_cmp c.args.query.now (entries_of c.self.inside.windows.items))) = search rules in
     found
-    ∙ lacks_found c.self.inside.registered.items c.self.inside.regions.items c.self.inside.windows.items c.args.query.now c.args.path.now u both.0 both.1
+    ∙ lacks_found c.self.inside.registered c.self.inside.regions.items c.self.inside.windows.items c.args.query.now c.args.path.now u both.0 both.1
     ∙ ap (λ b. is_without_window b c.args.query.now (c.args.path.now, u)) c.self.view_is

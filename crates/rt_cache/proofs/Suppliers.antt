@@ -1,0 +1,271 @@
+-- Queries that stand by their paths, and those of them that supply another one.
+use Rattle.std.proofs.Common.{◌≡◌, ℕ, zero, suc, ◌+◌, ◌<◌, ◌≤◌, below_more, nat_lt, Bool, true, false, not, ◌&&◌, ◌||◌, List, [], ◌∷◌, length, get_or, refl, sym, ap, ◌∙◌, arith, ltb-true, ltb-false}
+use Rattle.std.proofs.Common.{Option, Some, None, is_some, cond}
+use mathlib.Core.Bool.{true≢false}
+use Rattle.std.specs.Prelude.{IfSome, IfNone}
+use Rattle.std.specs.List.{filter, find, list_any, All, AllWithin}
+use Rattle.std.specs.Ordering.{is_lt}
+use Rattle.std.specs.FinMap as map_of
+use Rattle.std.proofs.lemmas.List.{get_or_default}
+use Rattle.std.proofs.lemmas.List.Elements.{All-head, All-tail}
+use Rattle.std.proofs.lemmas.List.Folds.{Any-from_list_any}
+use Rattle.rt_tree.specs.PathTree.{path_cmp, path_eq, path_eq-is}
+use Rattle.rt_tree.specs.TreeEq.{both_second, both}
+use Rattle.rt_query.specs.Queries.{Query, is_filtered}
+use Rattle.rt_query.specs.QueryEq.{query_eq}
+use Rattle.rt_query.specs.Supply.{does_supply}
+use Rattle.rt_query.specs.laws.NeededLaws.{supplies_itself}
+use Rattle.rt_query.specs.laws.QueryEq.{query_eq_tells}
+use Rattle.rt_query.specs.laws.SupplyLaws.{same_tests, form_filtered, supplied_has_path}
+use Rattle.rt_cache.specs.QueryOrder.{query_cmp}
+use Rattle.rt_cache.specs.Brought.{Window, is_another_at}
+use Rattle.rt_cache.specs.Recover.{in_query_order}
+use Rattle.rt_cache.specs.declared.window.Window as inside
+use Rattle.rt_cache.specs.inside.ByPath.{AreByPath, is_other_supplier}
+use Rattle.rt_cache.specs.inside.Held.{entries_of}
+use Rattle.rt_cache.specs.inside.Sources.{source_among, HaveForms}
+use Rattle.rt_cache.proofs.ByPaths.{not_itself, neither_before, path_behind, any_at, none_of}
+use Rattle.rt_cache.proofs.Listing.{find-listed}
+use Rattle.rt_cache.proofs.Sources.{any_found, any_kept, all_kept, has_it, source_kept, only_source, no_source}
+
+and_no : (b : Bool) → (b && false) ≡ false
+and_no true = refl
+and_no false = refl
+
+-- what supplies nothing is no other supplier
+no_other : (f q : Query) → (does_supply f q ≡ true → ⊥) → is_other_supplier f q ≡ false
+no_other f q h = at (does_supply f q) refl
+  where
+    at : (b : Bool) → does_supply f q ≡ b → is_other_supplier f q ≡ false
+    at false e = ap (λ b. not (query_eq f q) && b) e ∙ and_no (not (query_eq f q))
+    at true e = absurd (h e)
+
+-- a filtered query supplies none of a path in front, and is supplied by none of one
+pub none_in_front : (f q : Query) → is_filtered f ≡ true → is_lt (path_cmp f.path q.path) ≡ true → is_other_supplier f q ≡ false
+none_in_front f q filtered before = no_other f q (λ e. not_itself q.path f.path before (supplied_has_path f q filtered e))
+
+pub supplies_none_in_front : (f q : Query) → is_filtered f ≡ true → is_lt (path_cmp q.path f.path) ≡ true → is_other_supplier f q ≡ false
+supplies_none_in_front f q filtered before = no_other f q (λ e. not_itself f.path q.path before (sym (supplied_has_path f q filtered e)))
+
+-- none so far passes a test, nor the next
+pub none_more : {X : Type 0} (test : X → Bool) (xs : List X) (from n : ℕ) (x : X) → n < length xs → test (get_or xs n x) ≡ false
+    → ((k : ℕ) (d : X) → from ≤ k → k < n → test (get_or xs k d) ≡ false) → (k : ℕ) (d : X) → from ≤ k → k < n + 1 → test (get_or xs k d) ≡ false
+none_more test xs from n x lt here before k d le h =
+    below_more (λ j. from ≤ j → test (get_or xs j d) ≡ false) n (λ j g l. before j d l g) (λ l. ap test (get_or_default xs n d x lt) ∙ here) k h le
+
+-- where one stands of a path behind, no other supplier is left
+pub none_left : {X : Type 0} (q : X → Query) (of : Query) (xs : List X) (from n : ℕ) → AreByPath q xs → All (λ x. is_filtered (q x) ≡ true) xs → n < length xs
+    → ((d : X) → is_lt (path_cmp (q (get_or xs n d)).path of.path) ≡ false)
+    → ((d : X) → path_eq of.path (q (get_or xs n d)).path ≡ false)
+    → ((k : ℕ) (d : X) → from ≤ k → k < n → is_other_supplier (q (get_or xs k d)) of ≡ false)
+    → (k : ℕ) (d : X) → from ≤ k → k < length xs → is_other_supplier (q (get_or xs k d)) of ≡ false
+none_left {X = X} q of xs from n up filtered within not_before other before k d le lt = at (nat_lt k n) refl
+  where
+    at : (b : Bool) → nat_lt k n ≡ b → is_other_supplier (q (get_or xs k d)) of ≡ false
+    at true e = before k d le (ltb-true k n e)
+    at false e = no_other (q (get_or xs k d)) of (λ s.
+        path_behind q of.path xs n up within not_before (λ x a b. true≢false (sym (neither_before of.path (q (get_or xs n x)).path b a) ∙ other x))
+        k d (ltb-false k n e) lt (supplied_has_path (q (get_or xs k d)) of (filtered k d lt) s))
+
+-- nor is one left that the query supplies
+pub supplies_none_left : {X : Type 0} (q : X → Query) (of : Query) (xs : List X) (n : ℕ) → AreByPath q xs → is_filtered of ≡ true → n < length xs
+    → ((d : X) → is_lt (path_cmp (q (get_or xs n d)).path of.path) ≡ false)
+    → ((d : X) → path_eq (q (get_or xs n d)).path of.path ≡ false)
+    → ((k : ℕ) (d : X) → k < n → is_other_supplier of (q (get_or xs k d)) ≡ false)
+    → list_any (λ x. is_other_supplier of (q x)) xs ≡ false
+supplies_none_left {X = X} q of xs n up filtered within not_before other before = none_of (λ x. is_other_supplier of (q x)) xs none
+  where
+    none : (k : ℕ) (d : X) → k < length xs → is_other_supplier of (q (get_or xs k d)) ≡ false
+    none k d lt = at (nat_lt k n) refl
+      where
+        at : (b : Bool) → nat_lt k n ≡ b → is_other_supplier of (q (get_or xs k d)) ≡ false
+        at true e = before k d (ltb-true k n e)
+        at false e = no_other of (q (get_or xs k d)) (λ s.
+            path_behind q of.path xs n up within not_before (λ x a b. true≢false (sym (neither_before (q (get_or xs n x)).path of.path a b) ∙ other x))
+            k d (ltb-false k n e) lt (sym (supplied_has_path of (q (get_or xs k d)) filtered s)))
+
+-- what stands at another path is no other query of this one's
+pub other_path : (q f : Query) → (f.path ≡ q.path → ⊥) → is_another_at q f ≡ false
+other_path q f h = at (path_eq f.path q.path) refl
+  where
+    at : (b : Bool) → path_eq f.path q.path ≡ b → is_another_at q f ≡ false
+    at false e = ap (λ b. not (query_eq f q) && b) e ∙ and_no (not (query_eq f q))
+    at true e = absurd (h (path_eq-is f.path q.path e))
+
+pub in_front : (q f : Query) → is_lt (path_cmp f.path q.path) ≡ true → is_another_at q f ≡ false
+in_front q f before = other_path q f (λ e. not_itself q.path f.path before e)
+
+-- where one stands of a path behind, no other query of the path is left
+pub another_left : {X : Type 0} (q : X → Query) (of : Query) (xs : List X) (n : ℕ) → AreByPath q xs → n < length xs
+    → ((d : X) → is_lt (path_cmp (q (get_or xs n d)).path of.path) ≡ false)
+    → ((d : X) → path_eq (q (get_or xs n d)).path of.path ≡ false)
+    → ((k : ℕ) (d : X) → k < n → is_another_at of (q (get_or xs k d)) ≡ false)
+    → list_any (λ x. is_another_at of (q x)) xs ≡ false
+another_left {X = X} q of xs n up within not_before other before = none_of (λ x. is_another_at of (q x)) xs none
+  where
+    none : (k : ℕ) (d : X) → k < length xs → is_another_at of (q (get_or xs k d)) ≡ false
+    none k d lt = at (nat_lt k n) refl
+      where
+        at : (b : Bool) → nat_lt k n ≡ b → is_another_at of (q (get_or xs k d)) ≡ false
+        at true e = before k d (ltb-true k n e)
+        at false e = other_path of (q (get_or xs k d)) (λ s.
+            path_behind q of.path xs n up within not_before (λ x a b. true≢false (sym (neither_before (q (get_or xs n x)).path of.path a b) ∙ other x))
+            k d (ltb-false k n e) lt s)
+
+-- one is found from where the path stands, or there is none
+pub other_found : {X : Type 0} (q : X → Query) (of : Query) (xs : List X) (from : ℕ) (o : Option ℕ) → All (λ x. is_filtered (q x) ≡ true) xs → from ≤ length xs
+    → AllWithin (λ (x : X). is_lt (path_cmp (q x).path of.path) ≡ true) xs 0 from
+    → IfSome o (λ n. (from ≤ n) × (n < length xs))
+    → IfSome o (λ n. (d : X) → is_other_supplier (q (get_or xs n d)) of ≡ true)
+    → IfNone o ((k : ℕ) (d : X) → from ≤ k → k < length xs → is_other_supplier (q (get_or xs k d)) of ≡ false)
+    → is_some o ≡ list_any (λ x. is_other_supplier (q x) of) xs
+other_found {X = X} q of xs from None filtered up_to front within own none = sym (none_of (λ x. is_other_supplier (q x) of) xs all)
+  where
+    all : (k : ℕ) (d : X) → k < length xs → is_other_supplier (q (get_or xs k d)) of ≡ false
+    all k d lt = at (nat_lt k from) refl
+      where
+        at : (b : Bool) → nat_lt k from ≡ b → is_other_supplier (q (get_or xs k d)) of ≡ false
+        at true e = none_in_front (q (get_or xs k d)) of (filtered k d lt) (front k d (omega arith) (ltb-true k from e))
+        at false e = none k d (ltb-false k from e) lt
+other_found {X = X} q of xs from (Some n) filtered up_to front within own none = sym (one xs within.1 own)
+  where
+    one : (ys : List X) → n < length ys → ((d : X) → is_other_supplier (q (get_or ys n d)) of ≡ true) → list_any (λ x. is_other_supplier (q x) of) ys ≡ true
+    one [] lt h = absurd (omega (arith, lt))
+    one (y ∷ ys) lt h = any_at (λ x. is_other_supplier (q x) of) (y ∷ ys) n y lt (h y)
+
+-- what is the query, or another one that supplies it, is what supplies it
+pub supplier_is : {X : Type 0} (q : X → Query) (of : Query) (xs : List X) → All (λ x. is_filtered (q x) ≡ true) xs
+    → (list_any (λ x. query_eq (q x) of) xs || list_any (λ x. is_other_supplier (q x) of) xs) ≡ list_any (λ x. does_supply (q x) of) xs
+supplier_is q of [] filtered = refl
+supplier_is {X = X} q of (x ∷ xs) filtered =
+    turned (query_eq (q x) of) (list_any (λ y. query_eq (q y) of) xs) (is_other_supplier (q x) of) (list_any (λ y. is_other_supplier (q y) of) xs)
+    ∙ (λ i. one (query_eq (q x) of) (does_supply (q x) of) own i || supplier_is q of xs (All-tail (λ (y : X). is_filtered (q y) ≡ true) x xs filtered) i)
+  where
+    turned : (a b c d : Bool) → ((a || b) || (c || d)) ≡ ((a || c) || (b || d))
+    turned true b c d = refl
+    turned false true true d = refl
+    turned false true false d = refl
+    turned false false c d = refl
+
+    one : (a s : Bool) → (a ≡ true → s ≡ true) → (a || (not a && s)) ≡ s
+    one true s h = sym (h refl)
+    one false s h = refl
+
+    own : query_eq (q x) of ≡ true → does_supply (q x) of ≡ true
+    own e = ap (does_supply (q x)) (sym ((query_eq_tells (q x) of).0 e)) ∙ supplies_itself (q x) (form_filtered (q x) (All-head (λ (y : X). is_filtered (q y) ≡ true) x xs filtered))
+
+-- ---- windows of what a query supplies
+
+filter_none_of : {X : Type 0} (p s : X → Bool) (xs : List X) → ((x : X) → s x ≡ not (p x)) → list_any p xs ≡ false → filter s xs ≡ xs
+filter_none_of p s [] h e = refl
+filter_none_of {X = X} p s (x ∷ xs) h e = at (p x) refl e (λ u. filter_none_of p s xs h u)
+  where
+    at : (b : Bool) → p x ≡ b → (b || list_any p xs) ≡ false → (list_any p xs ≡ false → filter s xs ≡ xs) → filter s (x ∷ xs) ≡ x ∷ xs
+    at true t u rest = absurd (true≢false u)
+    at false t u rest = ap (λ b. cond b (x ∷ filter s xs) (filter s xs)) (h x ∙ ap not t) ∙ ap (λ ys. x ∷ ys) (rest u)
+
+-- a window stays beside a query that is not another one and supplies it
+beside_is : (q f : Query) → (query_eq f q || not (does_supply q f)) ≡ not (is_other_supplier q f)
+beside_is q f = (λ i. turned i || not (does_supply q f)) ∙ at (query_eq q f) (does_supply q f)
+  where
+    turned : query_eq f q ≡ query_eq q f
+    turned = same_tests (query_eq f q) (query_eq q f) (λ e. (query_eq_tells q f).1 (sym ((query_eq_tells f q).0 e))) (λ e. (query_eq_tells f q).1 (sym ((query_eq_tells q f).0 e)))
+
+    at : (a s : Bool) → (a || not s) ≡ not (not a && s)
+    at true s = refl
+    at false s = refl
+
+-- where the query supplies no other, all windows stay beside it
+pub all_beside : (q : Query) (ws : List inside.Window) → list_any (λ (w : inside.Window). is_other_supplier q w.query) ws ≡ false
+    → in_query_order (entries_of ws) ≡ filter (λ (w : Query × Window). query_eq w.0 q || not (does_supply q w.0)) (in_query_order (entries_of ws))
+all_beside q ws e =
+    sym (filter_none_of (λ (w : Query × Window). is_other_supplier q w.0) (λ (w : Query × Window). query_eq w.0 q || not (does_supply q w.0)) (in_query_order (entries_of ws))
+    (λ w. beside_is q w.0) (any_kept (λ f. is_other_supplier q f) ws ∙ e))
+
+-- ---- whose window is brought
+
+-- what is found first is the first that passes
+pub find_at_first : {X : Type 0} (p : X → Bool) (xs : List X) (n : ℕ) (d : X) → n < length xs → ((k : ℕ) (c : X) → k < n → p (get_or xs k c) ≡ false)
+    → p (get_or xs n d) ≡ true → find p xs ≡ Some (get_or xs n d)
+find_at_first p [] n d lt h e = absurd (omega (arith, lt))
+find_at_first p (x ∷ xs) zero d lt h e = ap (λ b. cond b (Some x) (find p xs)) e
+find_at_first p (x ∷ xs) (suc n) d lt h e =
+    ap (λ b. cond b (Some x) (find p xs)) (h 0 x (omega arith)) ∙ find_at_first p xs n d (omega (arith, lt)) (λ k c l. h (suc k) c (omega (arith, l))) e
+
+pub before_none : (q : Query) (ws : List inside.Window) (from n : ℕ) → All (λ (w : inside.Window). is_filtered w.query ≡ true) ws → n ≤ length ws
+    → AllWithin (λ (w : inside.Window). is_lt (path_cmp (w.query).path q.path) ≡ true) ws 0 from
+    → ((k : ℕ) (d : inside.Window) → from ≤ k → k < n → is_other_supplier (get_or ws k d).query q ≡ false)
+    → (k : ℕ) (d : inside.Window) → k < n → is_other_supplier (get_or ws k d).query q ≡ false
+before_none q ws from n filtered up_to front before k d lt = at (nat_lt k from) refl
+  where
+    at : (b : Bool) → nat_lt k from ≡ b → is_other_supplier (get_or ws k d).query q ≡ false
+    at true e = none_in_front (get_or ws k d).query q (filtered k d (omega (arith, lt, up_to))) (front k d (omega arith) (ltb-true k from e))
+    at false e = before k d (ltb-false k from e) lt
+
+module _ (registered : List Query) (ws : List inside.Window) (q : Query) (n : ℕ) (h : HaveForms registered (in_query_order (entries_of ws)))
+    (none : map_of.find query_cmp q (entries_of ws) ≡ None) (within : n < length ws)
+    (own : (d : inside.Window) → is_other_supplier (get_or ws n d).query q ≡ true)
+    (before : (k : ℕ) (d : inside.Window) → k < n → is_other_supplier (get_or ws k d).query q ≡ false) where
+  -- the first of the windows whose forms supply the query is of no form of one before it
+  pub first_alone : (k : ℕ) (d : inside.Window) → k < n → query_eq (get_or ws k d).query (get_or ws n d).query ≡ false
+  first_alone k d lt = at (query_eq (get_or ws k d).query (get_or ws n d).query) refl
+    where
+      at : (b : Bool) → query_eq (get_or ws k d).query (get_or ws n d).query ≡ b → b ≡ false
+      at false e = refl
+      at true e = absurd (true≢false (sym (own d) ∙ ap (λ x. is_other_supplier x q) (sym ((query_eq_tells (get_or ws k d).query (get_or ws n d).query).0 e)) ∙ before k d lt))
+
+  -- where it is the only one, its form is the source
+  pub one_source : ((k : ℕ) (d : inside.Window) → n + 1 ≤ k → k < length ws → is_other_supplier (get_or ws k d).query q ≡ false)
+      → (d : inside.Window) → source_among (entries_of ws) registered q ≡ Some (get_or ws n d).query
+  one_source behind d =
+      source_kept ws registered q
+      ∙ only_source registered (in_query_order (entries_of ws)) q f h.registered
+      (any_found f (in_query_order (entries_of ws)) ∙ any_kept (λ x. query_eq x f) ws ∙ any_at (λ (w : inside.Window). query_eq w.query f) ws n d within ((query_eq_tells f f).1 refl))
+      (both_second (not (query_eq f q)) (does_supply f q) (own d)) only
+    where
+      f : Query
+      f = (get_or ws n d).query
+
+      only : (g : Query) → is_some (map_of.find query_cmp g (in_query_order (entries_of ws))) ≡ true → does_supply g q ≡ true → g ≡ f
+      only g s t =
+          let a = Any-from_list_any (λ (w : inside.Window). query_eq w.query g) ws (sym (any_kept (λ x. query_eq x g) ws) ∙ sym (any_found g (in_query_order (entries_of ws))) ∙ s) in
+          let k : ℕ = a.0 in
+          let w : inside.Window = a.1 in
+          let here : get_or ws k w ≡ w = a.3 in
+          let same : w.query ≡ g = (query_eq_tells w.query g).0 a.4 in
+          let other : is_other_supplier (get_or ws k w).query q ≡ true = ap (λ (x : inside.Window). is_other_supplier x.query q) here ∙ ap (λ x. is_other_supplier x q) same ∙ both (not (query_eq g q)) (does_supply g q) (differs g s (query_eq g q) refl) t in
+          stands k w a.2 other (nat_lt k n) refl (nat_lt n k) refl here same
+        where
+          differs : (g : Query) → is_some (map_of.find query_cmp g (in_query_order (entries_of ws))) ≡ true → (b : Bool) → query_eq g q ≡ b → not (query_eq g q) ≡ true
+          differs g s false e = ap not e
+          differs g s true e =
+              absurd (true≢false (sym s ∙ ap is_some (ap (λ x. map_of.find query_cmp x (in_query_order (entries_of ws))) ((query_eq_tells g q).0 e) ∙ find-listed q (entries_of ws) ∙ none)))
+
+          stands : (k : ℕ) (w : inside.Window) → k < length ws → is_other_supplier (get_or ws k w).query q ≡ true → (a : Bool) → nat_lt k n ≡ a → (b : Bool) → nat_lt n k ≡ b
+              → get_or ws k w ≡ w → w.query ≡ g → g ≡ f
+          stands k w lt other true e b i here same = absurd (true≢false (sym other ∙ before k w (ltb-true k n e)))
+          stands k w lt other false e true i here same = absurd (true≢false (sym other ∙ behind k w (omega (arith, ltb-true n k i)) lt))
+          stands k w lt other false e false i here same =
+              let is : k ≡ n = omega (arith, ltb-false k n e, ltb-false n k i) in
+              sym same ∙ ap (λ (x : inside.Window). x.query) (sym here ∙ ap (λ j. get_or ws j w) is ∙ get_or_default ws n w d within)
+
+-- where neither the query has a window, nor another form that supplies it, it has no source
+pub without_source : (registered : List Query) (ws : List inside.Window) (q : Query) → HaveForms registered (in_query_order (entries_of ws))
+    → map_of.find query_cmp q (entries_of ws) ≡ None → list_any (λ (w : inside.Window). is_other_supplier w.query q) ws ≡ false
+    → source_among (entries_of ws) registered q ≡ None
+without_source registered ws q h none other =
+    source_kept ws registered q
+    ∙ no_source registered (in_query_order (entries_of ws)) q h.registered
+    (any_kept (λ f. does_supply f q) ws
+    ∙ sym (supplier_is (λ (w : inside.Window). w.query) q ws (all_kept (λ x. is_filtered x ≡ true) ws h.filtered))
+    ∙ (λ i. own i || other i))
+  where
+    own : list_any (λ (w : inside.Window). query_eq w.query q) ws ≡ false
+    own = sym (any_kept (λ x. query_eq x q) ws) ∙ sym (any_found q (in_query_order (entries_of ws))) ∙ ap is_some (find-listed q (entries_of ws) ∙ none)
+
+-- the first registered form that supplies the query and has a window is the source
+pub first_source : (registered : List Query) (ws : List inside.Window) (q : Query) (n : ℕ) (f : Query) → n < length registered → f ≡ get_or registered n f
+    → ((k : ℕ) (d : Query) → k < n → has_it (entries_of ws) q (get_or registered k d) ≡ false) → has_it (entries_of ws) q f ≡ true
+    → source_among (entries_of ws) registered q ≡ Some f
+first_source registered ws q n f lt at before passes =
+    find_at_first (has_it (entries_of ws) q) registered n f lt before (ap (has_it (entries_of ws) q) (sym at) ∙ passes) ∙ ap (λ x. Some x) (sym at)
