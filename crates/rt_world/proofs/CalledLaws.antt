@@ -1,9 +1,9 @@
 -- What is brought is what calls of a cache leave: each push that is not refused is one, and the change of cover behind it.
-use Rattle.std.proofs.Common.{◌≡◌, ℕ, Bool, true, false, cond, not, ◌&&◌, ◌||◌, List, [], ◌∷◌, ◌++◌, map, refl, sym, ap, subst, ◌∙◌, arith, Option, Some, None, slice_index_or}
+use Rattle.std.proofs.Common.{◌≡◌, Bool, true, false, cond, not, ◌&&◌, ◌||◌, List, [], ◌∷◌, ◌++◌, map, refl, sym, ap, subst, ◌∙◌, arith, Option, Some, None, slice_index_or}
 use mathlib.Core.Bool.{true≢false}
 use Rattle.std.specs.List.{cons_option, fold, list_any, All, AllPairs, Contains}
 use Rattle.std.specs.Option.{option_map_or}
-use Rattle.std.proofs.lemmas.List.Elements.{All-nil, All-cons, All-head, All-tail}
+use Rattle.std.proofs.lemmas.List.Elements.{All-head, All-tail}
 use Rattle.std.proofs.lemmas.List.Folds.{list_any_at}
 use Rattle.rt_tree.specs.PathTree.{Path, PathTree, null}
 use Rattle.rt_tree.specs.Assignments.{is_at_or_above, do_overlap, have_overlap, Assignment}
@@ -11,30 +11,31 @@ use Rattle.rt_query.specs.Queries.{Query, is_filtered}
 use Rattle.rt_query.specs.QueryEq.{query_eq}
 use Rattle.rt_query.specs.Supply.{does_supply}
 use Rattle.rt_query.specs.laws.QueryEq.{query_eq_tells}
-use Rattle.rt_cache.specs.Brought.{Brought, nothing_brought, push}
+use Rattle.rt_cache.specs.Brought.{Brought, nothing_brought, may_put, push}
 use Rattle.rt_cache.specs.Recover.{plain_spots, do_plains_overlap}
-use Rattle.rt_cache.specs.Runs.{IsAllowed, after, after_all}
+use Rattle.rt_cache.specs.Runs.{AreAllowed, after, after_all}
 use Rattle.rt_cache.specs.declared.run.Call.{Call}
 use Rattle.rt_cache.specs.declared.run.Call.TheVariants.{Put, Recover}
-use Rattle.rt_cover.specs.Cover.{Tagged, forms, needed}
+use Rattle.rt_cache.proofs.Belonging.{may_put-push}
+use Rattle.rt_cover.specs.Cover.{Registered, Tagged, forms, needed}
 use Rattle.rt_cover.specs.laws.CoverLaws.{Contains-from_filter, passes-from_filter, is_covered}
 use Rattle.rt_cover.specs.laws.FormLaws.{supply_unfiltered}
 use Rattle.rt_cover.specs.laws.Pairs.{AllPairs-first, AllPairs-rest, AllPairs-map}
-use Rattle.rt_world.specs.declared.limits.Limits.{Limits}
-use Rattle.rt_world.specs.declared.error.CoreError.{CoreError}
 use Rattle.rt_world.specs.declared.step.Step.{Step}
-use Rattle.rt_world.specs.World.{World, empty_world, listen_of, registered}
-use Rattle.rt_world.specs.After.{listening_after, kept_after, part_pushed, pushed}
+use Rattle.rt_world.specs.World.{World, listen_of, registered, pending}
+use Rattle.rt_world.specs.After.{listeners_after, requests_after, forms_after, listening_after, kept_after, part_pushed, pushed, brought_after}
 use Rattle.rt_world.specs.Messages.{next}
 use Rattle.rt_world.specs.steps.Kind.{Part}
-use Rattle.rt_world.specs.Refusals.{refusal, is_stale}
-use Rattle.rt_world.specs.Answers.{step, step_by, world_after}
+use Rattle.rt_world.specs.Refusals.{refusal}
 use Rattle.rt_world.specs.Called.{IsCalled}
+use Rattle.rt_world.specs.Reached.{IsReached}
 use Rattle.rt_world.specs.Sound.{IsSound}
 use Rattle.rt_world.specs.laws.Made.{IsPushOn, IsPartOn}
 use Rattle.rt_world.proofs.PartLaws.{push_may_push}
-use Rattle.rt_world.proofs.Reaching.{forms_kept}
-use Rattle.rt_world.proofs.SoundLaws.{sound_empty, sound_next, sound_step}
+use Rattle.rt_world.proofs.Listeners.{registered-renewed}
+use Rattle.rt_world.proofs.Putting.{parts_registered, kept_may_be_put, may_put_same}
+use Rattle.rt_world.proofs.Reaching.{forms_kept, listening_of}
+use Rattle.rt_world.proofs.SoundLaws.{sound_next}
 
 -- ---- of the plain listens kept none is at or above another
 
@@ -101,15 +102,16 @@ run_append : (cs ds : List Call) (b : Brought) → after_all b (cs ++ ds) ≡ af
 run_append [] ds b = refl
 run_append (c ∷ cs) ds b = run_append cs ds (after b c)
 
-All-both : {X : Type 0} (P : X → Type 0) (xs ys : List X) → All P xs → All P ys → All P (xs ++ ys)
-All-both P [] ys h g = g
-All-both P (x ∷ xs) ys h g = All-cons P x (xs ++ ys) (All-head P x xs h) (All-both P xs ys (All-tail P x xs h) g)
+-- calls that are allowed one after another
+allowed_append : (b : Brought) (cs ds : List Call) → AreAllowed b cs → AreAllowed (after_all b cs) ds → AreAllowed b (cs ++ ds)
+allowed_append b [] ds h g = g
+allowed_append b (c ∷ cs) ds h g = (h.0, h.1, allowed_append (after b c) cs ds h.2 g)
 
 -- more calls
-pub called_more : (b : Brought) (cs : List Call) → IsCalled b → All IsAllowed cs → IsCalled (after_all b cs)
+pub called_more : (b : Brought) (cs : List Call) → IsCalled b → AreAllowed b cs → IsCalled (after_all b cs)
 called_more b cs h ok = record {
   calls = h.calls ++ cs;
-  allowed = All-both IsAllowed h.calls cs h.allowed ok;
+  allowed = allowed_append nothing_brought h.calls cs h.allowed (subst (λ x. AreAllowed x cs) (sym h.left) ok);
   left = run_append h.calls cs nothing_brought ∙ ap (λ x. after_all x cs) h.left;
 }
 
@@ -121,62 +123,65 @@ puts_push : (q : Query) (entries : List Assignment) (b : Brought) → after_all 
 puts_push q [] b = refl
 puts_push q (a ∷ entries) b = puts_push q entries (push q b a)
 
-puts_allowed : (q : Query) (entries : List Assignment) → All (IsPushOn q) entries → All IsAllowed (puts q entries)
-puts_allowed q [] h = All-nil IsAllowed
-puts_allowed q (a ∷ entries) h =
-    let on = All-head (IsPushOn q) a entries h in
-    All-cons IsAllowed (Put q a.0 a.1) (puts q entries) (on.under, on.shallow) (puts_allowed q entries (All-tail (IsPushOn q) a entries h))
+puts_allowed : (q : Query) (entries : List Assignment) (b : Brought) → may_put b q ≡ true → All (IsPushOn q) entries → AreAllowed b (puts q entries)
+puts_allowed q [] b may h = tt
+puts_allowed q (a ∷ entries) b may h =
+    let on = All-head (IsPushOn q) a entries h in (
+      (on.under, on.shallow),
+      may,
+      puts_allowed q entries (push q b a) (may_put-push q q b a ∙ may) (All-tail (IsPushOn q) a entries h),
+    )
 
 -- ---- a step
 
--- a part, and parts one after another
-called_part : (w : World) (b : Brought) (p : Part) → IsCalled b → IsPartOn w p → IsCalled (part_pushed w b p)
-called_part w b p h on = at (listen_of w p.0) refl
-  where
-    at : (o : Option Query) → listen_of w p.0 ≡ o → IsCalled (option_map_or (λ q. fold (push q) b p.1) o b)
-    at None e = h
-    at (Some q) e = subst IsCalled (puts_push q p.1 b) (called_more b (puts q p.1) h (puts_allowed q p.1 (on q e)))
+module _ (w : World) (sound : IsSound w) (reached : IsReached w) where
+  -- a part, and parts one after another
+  called_part : (b : Brought) (p : Part) → b.registered ≡ w.brought.registered → IsCalled b → IsPartOn w p → IsCalled (part_pushed w b p)
+  called_part b p same h on = at (listen_of w p.0) refl
+    where
+      at : (o : Option Query) → listen_of w p.0 ≡ o → IsCalled (option_map_or (λ q. fold (push q) b p.1) o b)
+      at None e = h
+      at (Some q) e = subst IsCalled (puts_push q p.1 b) (called_more b (puts q p.1) h
+          (puts_allowed q p.1 b (may_put_same b w.brought q same (kept_may_be_put w p.0 q sound reached e)) (on q e)))
 
-called_parts : (w : World) (parts : List Part) (b : Brought) → IsCalled b → All (IsPartOn w) parts → IsCalled (fold (part_pushed w) b parts)
-called_parts w [] b h on = h
-called_parts w (p ∷ parts) b h on =
-    called_parts w parts (part_pushed w b p) (called_part w b p h (All-head (IsPartOn w) p parts on)) (All-tail (IsPartOn w) p parts on)
+  called_parts : (parts : List Part) (b : Brought) → b.registered ≡ w.brought.registered → IsCalled b → All (IsPartOn w) parts → IsCalled (fold (part_pushed w) b parts)
+  called_parts [] b same h on = h
+  called_parts (p ∷ parts) b same h on =
+      called_parts parts (part_pushed w b p) (parts_registered w b (p ∷ []) ∙ same) (called_part b p same h (All-head (IsPartOn w) p parts on)) (All-tail (IsPartOn w) p parts on)
 
--- what is brought once the step's push is taken
-pub called_pushed : (w : World) (s : Step) → IsCalled w.brought → refusal w s ≡ None → IsCalled (pushed w s)
-called_pushed w (Step.Data tag path tree) h free =
-    let parts : List Part = (tag, (path, tree) ∷ []) ∷ [] in
-    called_parts w parts w.brought h (push_may_push w (Step.Data tag path tree) parts refl free)
-called_pushed w (Step.DataMerge tag entries) h free =
-    let parts : List Part = (tag, entries) ∷ [] in
-    called_parts w parts w.brought h (push_may_push w (Step.DataMerge tag entries) parts refl free)
-called_pushed w (Step.Push parts) h free =
-    called_parts w parts w.brought h (push_may_push w (Step.Push parts) parts refl free)
-called_pushed w (Step.Listen seat query) h free = h
-called_pushed w (Step.Unlisten seat listener) h free = h
-called_pushed w (Step.Write seat action) h free = h
-called_pushed w (Step.OnDisconnect seat ending) h free = h
-called_pushed w (Step.Accepted id) h free = h
-called_pushed w (Step.Refused id why) h free = h
-called_pushed w (Step.Revoked tag why) h free = h
-called_pushed w Step.Connected h free = h
-called_pushed w Step.Disconnected h free = h
-called_pushed w (Step.CloseSeat seat) h free = h
+  -- what is brought once the step's push is taken
+  pub called_pushed : (s : Step) → IsCalled w.brought → refusal w s ≡ None → IsCalled (pushed w s)
+  called_pushed (Step.Data tag path tree) h free =
+      let parts : List Part = (tag, (path, tree) ∷ []) ∷ [] in
+      called_parts parts w.brought refl h (push_may_push w (Step.Data tag path tree) parts refl free)
+  called_pushed (Step.DataMerge tag entries) h free =
+      let parts : List Part = (tag, entries) ∷ [] in
+      called_parts parts w.brought refl h (push_may_push w (Step.DataMerge tag entries) parts refl free)
+  called_pushed (Step.Push parts) h free =
+      called_parts parts w.brought refl h (push_may_push w (Step.Push parts) parts refl free)
+  called_pushed (Step.Listen seat query) h free = h
+  called_pushed (Step.Unlisten seat listener) h free = h
+  called_pushed (Step.Write seat action) h free = h
+  called_pushed (Step.OnDisconnect seat ending) h free = h
+  called_pushed (Step.Accepted id) h free = h
+  called_pushed (Step.Refused id why) h free = h
+  called_pushed (Step.Revoked tag why) h free = h
+  called_pushed Step.Connected h free = h
+  called_pushed Step.Disconnected h free = h
+  called_pushed (Step.CloseSeat seat) h free = h
 
-pub called_next : (w : World) (s : Step) → IsSound w → IsCalled w.brought → refusal w s ≡ None → IsCalled (next w s).brought
-called_next w s sound h free =
-    called_more (pushed w s) (Recover (listening_after w s) (forms_kept (kept_after w s)) ∷ []) (called_pushed w s h free)
-    (All-cons IsAllowed (Recover (listening_after w s) (forms_kept (kept_after w s))) [] (kept_apart w s sound) (All-nil IsAllowed))
+  kept_needed : (s : Step) → All (Contains (needed (forms_after w s))) (forms_kept (kept_after w s))
+  kept_needed s = subst (λ (rs : List Registered). All (Contains (needed (forms rs))) (forms_kept (kept_after w s)))
+      (registered-renewed (brought_after w s) (pending (requests_after w s)) (listeners_after w s)) ((sound_next w s sound).listens).only
 
-called_step : (w : World) (s : Step) (o : Option CoreError) (b : Bool) → refusal w s ≡ o → IsSound w → IsCalled w.brought → IsCalled (step_by o b w s).0.brought
-called_step w s (Some e) b f sound h = h
-called_step w s None true f sound h = h
-called_step w s None false f sound h = called_next w s sound h f
+  -- the listens kept then are registered
+  listens_registered : (s : Step) → All (Contains (listening_after w s)) (forms_kept (kept_after w s))
+  listens_registered s k d lt =
+      let fs = forms_after w s in
+      let q : Query = slice_index_or (forms_kept (kept_after w s)) k d in
+      listening_of (registered (listeners_after w s)) q (Contains-from_filter (λ f. not (is_covered fs f)) fs q (kept_needed s k d lt))
 
-called_run : (steps : List Step) (w : World) → IsSound w → IsCalled w.brought → IsCalled (world_after w steps).brought
-called_run [] w sound h = h
-called_run (s ∷ rest) w sound h = called_run rest (step w s).0 (sound_step w s (refusal w s) (is_stale w s) sound) (called_step w s (refusal w s) (is_stale w s) refl sound h)
-
-pub called_world : (limits : Limits) (steps : List Step) → IsCalled (world_after (empty_world limits) steps).brought
-called_world limits steps =
-    called_run steps (empty_world limits) (sound_empty limits) (record { calls = []; allowed = All-nil IsAllowed; left = refl })
+  pub called_next : (s : Step) → IsCalled w.brought → refusal w s ≡ None → IsCalled (next w s).brought
+  called_next s h free =
+      called_more (pushed w s) (Recover (listening_after w s) (forms_kept (kept_after w s)) ∷ []) (called_pushed s h free)
+      (kept_apart w s sound, listens_registered s, tt)

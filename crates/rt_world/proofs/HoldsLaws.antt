@@ -7,8 +7,9 @@ use Rattle.rt_world.specs.World.{World, empty_world}
 use Rattle.rt_world.specs.Refusals.{refusal, is_stale}
 use Rattle.rt_world.specs.Answers.{step, step_by, world_after}
 use Rattle.rt_world.specs.Headline.{view_by}
-use Rattle.rt_world.specs.laws.Holds.{sending, TakenIsSound, TakenIsSteady, IsSteady, EmptyIsSteady, StaysSteady, WorldsAreSteady, EmptyIsWithin, StaysWithin}
-use Rattle.rt_world.proofs.CalledLaws.{called_world, called_next}
+use Rattle.rt_world.specs.laws.Holds.{sending, TakenIsSound, TakenIsSteady, IsSteady, EmptyIsSteady, StaysSteady, WorldsAreSteady, EmptyIsWithin, StaysWithin, StaysCalled}
+use Rattle.rt_world.specs.laws.Steps.{WorldsAreCalled}
+use Rattle.rt_world.proofs.CalledLaws.{called_next}
 use Rattle.rt_world.proofs.LimitLaws.{allowed, counts, within_next}
 use Rattle.rt_world.proofs.ReachedLaws.{stays_reached}
 use Rattle.rt_world.proofs.SoundLaws.{sound_empty, sound_next}
@@ -18,12 +19,12 @@ use Rattle.rt_world.proofs.SoundLaws.{sound_empty, sound_next}
 pub empty_is_steady : EmptyIsSteady
 empty_is_steady limits = record {
   sound = sound_empty limits;
-  called = called_world limits [];
+  called = record { calls = []; allowed = tt; left = refl };
   reached = record { forms = refl; regions = λ k d lt. absurd (omega arith); windows = λ k d lt. absurd (omega arith) };
 }
 
 pub stays_steady : StaysSteady
-stays_steady w s h free = record { sound = sound_next w s h.sound; called = called_next w s h.sound h.called free; reached = stays_reached w s }
+stays_steady w s h free = record { sound = sound_next w s h.sound; called = called_next w h.sound h.reached s h.called free; reached = stays_reached w s }
 
 pub steady_step : (w : World) (s : Step) → IsSteady w → IsSteady (step w s).0
 steady_step w s h = at (refusal w s) (is_stale w s) refl
@@ -39,6 +40,12 @@ steady_run (s ∷ rest) w h = steady_run rest (step w s).0 (steady_step w s h)
 
 pub worlds_are_steady : WorldsAreSteady
 worlds_are_steady limits steps = steady_run steps (empty_world limits) (empty_is_steady limits)
+
+pub called_world : WorldsAreCalled
+called_world limits steps = (worlds_are_steady limits steps).called
+
+pub stays_called : StaysCalled
+stays_called w s sound called reached free = called_next w sound reached s called free
 
 pub empty_is_within : EmptyIsWithin
 empty_is_within limits = record { listeners = omega arith; requests = omega arith; next_listener = omega arith; next_request = omega arith; next_tag = omega arith }

@@ -20,6 +20,7 @@ pub mod Numbers
 pub mod PartLaws
 pub mod PlainLaws
 pub mod PushLaws
+pub mod Putting
 pub mod ReachedLaws
 pub mod Reaching
 pub mod RecoverLaws

@@ -6,15 +6,19 @@ use Rattle.std.specs.Option.{option_and_then, option_map_or}
 use Rattle.std.proofs.lemmas.List.Folds.{list_any-append}
 use Rattle.rt_tree.specs.PathTree.{Key, Path, PathTree, of_leaf, leaf_at-null, leaf_at-of_leaf, put, key_eq, key_eq-is, key_eq-symm, first_key, leaf_at, leaf_at-sub, leaf_at-put, same_tree, null, is_null, is_null-null, leaf_of, leaf_of_root, strip, strip-some, strip-append, strip-both, child, with_children}
 use Rattle.rt_tree.specs.Leaf.{LeafValue}
-use Rattle.rt_tree.specs.Parts.{sub_root, child-put, child-put_other, child-with_children}
+use Rattle.rt_tree.specs.Parts.{sub_root, child-put, child-put_other}
 use Rattle.rt_tree.specs.Children.{children_of}
 use Rattle.rt_tree.specs.Assignments.{Assignment, is_at_or_above, do_overlap}
 use Rattle.rt_query.specs.Queries.{Query, is_filtered}
 use Rattle.rt_query.specs.Select.{select}
 use Rattle.rt_query.specs.Supply.{form}
-use Rattle.rt_writes.specs.Writes.{Write, assignments, overlay, sets_whole}
-use Rattle.rt_writes.specs.laws.OverlayLaws.{fold-overlaid_part}
-use Rattle.rt_cache.specs.Brought.{Brought, base, push}
+use Rattle.rt_writes.specs.Writes.{Write, overlay}
+use Rattle.rt_cache.specs.Brought.{Brought, source, base, push}
+use Rattle.rt_cache.specs.Canonical.{IsCanonical, Belongs}
+use Rattle.rt_cache.specs.Recover.{is_moved}
+use Rattle.rt_cache.proofs.Changing.{is_brought}
+use Rattle.rt_cache.proofs.FilteredRuns.{calls_hold}
+use Rattle.rt_cache.proofs.Moves.{unmoved_same}
 use Rattle.rt_cache.specs.declared.base.Base.{Base}
 use Rattle.rt_cover.specs.Cover.{distinct}
 use Rattle.rt_view.specs.Views.{with_named}
@@ -29,15 +33,18 @@ use Rattle.rt_world.specs.Refusals.{refusal, is_stale}
 use Rattle.rt_world.specs.Answers.{step, step_by}
 use Rattle.rt_world.specs.Touched.{entries_by, named_by, children_named, is_named, is_covered, seen, children_at, IsInBoth}
 use Rattle.rt_world.specs.Called.{IsCalled}
+use Rattle.rt_world.specs.Reached.{IsReached}
 use Rattle.rt_world.specs.Sound.{IsSound}
+use Rattle.rt_world.specs.laws.Holds.{IsSteady}
 use Rattle.rt_world.specs.laws.Steps.{UnmetStays}
-use Rattle.rt_world.specs.laws.World.{OnlyNamedChange, LeafNamesAll, LeafReadsNamed, TouchedIsSeen, OthersKeepViews}
+use Rattle.rt_world.specs.laws.World.{changes_listeners, OnlyNamedChange, LeafNamesAll, LeafReadsNamed, TouchedIsSeen, OthersKeepViews}
 use Rattle.rt_world.proofs.CalledLaws.{called_pushed}
 use Rattle.rt_world.proofs.CountLaws.{no_more_children}
 use Rattle.rt_world.proofs.Listeners.{or_false_left, or_false_right}
 use Rattle.rt_world.proofs.Reaching.{form_stays}
-use Rattle.rt_world.proofs.PushLaws.{AreApart, apart_of, apart_below, AlikeAt, alike_same, alike_trans, pushes_alike}
-use Rattle.rt_world.proofs.StayLaws.{LooksSame, same_select, recover_same, renewed_same, same_world, has_stayed}
+use Rattle.rt_world.proofs.PushLaws.{AreApart, apart_of, apart_below, AlikeAt, alike_same, alike_trans, pushes_alike, pushes_source, pushes_canonical}
+use Rattle.rt_world.proofs.ReachedLaws.{canonical, push_is_brought}
+use Rattle.rt_world.proofs.StayLaws.{LooksSame, alike, child_by, child_seen, same_select, recover_same, cover_alone, renewed_same, same_world, has_stayed}
 use Rattle.rt_world.proofs.TouchingLaws.{misses, SameAt, writes_same}
 
 -- ---- keys, each once
@@ -111,19 +118,6 @@ misses_unnamed p k entries c n = misses_named p k entries c (sym (any_once k (fi
 
 -- ---- a child that is seen
 
--- a child at c with t brought: where not all is brought, it counts only if there is something or a pending entry sets it
-abbrev child_by : Bool → PathTree → Path → List Write → PathTree
-child_by partial t c ws = cond partial (cond (not (is_null t) || sets_whole ws c) (overlay c t ws) null) (overlay c t ws)
-
-child_seen : (q : Query) (o : Option Base) (ws : List Write) (k : Key) → child (seen_over o ws q) k ≡ child_by (is_filtered q && not (is_base_whole o)) (child (base_tree o) k) (q.path ++ k ∷ []) ws
-child_seen q o ws k =
-    elim (is_filtered q && not (is_base_whole o)) as (λ b. child (cond b (with_children (is_child_known (base_tree o) ws q.path) (overlay q.path (base_tree o) ws)) (overlay q.path (base_tree o) ws)) k
-    ≡ child_by b (child (base_tree o) k) (q.path ++ k ∷ []) ws) [
-      | true ↦ child-with_children (is_child_known (base_tree o) ws q.path) (overlay q.path (base_tree o) ws) k
-          ∙ ap (λ u. cond (is_child_known (base_tree o) ws q.path k) u null) (fold-overlaid_part q.path (k ∷ []) (assignments ws) (base_tree o))
-      | false ↦ fold-overlaid_part q.path (k ∷ []) (assignments ws) (base_tree o)
-    ]
-
 child_alike : (q : Query) (k : Key) (new old : Option Base) (ws vs : List Write) → AlikeAt (k ∷ []) new old → SameAt (q.path ++ k ∷ []) ws vs → child (seen_over new ws q) k ≡ child (seen_over old vs q) k
 child_alike q k new old ws vs h g =
     let c = q.path ++ k ∷ [] in
@@ -135,41 +129,73 @@ child_alike q k new old ws vs h g =
 
 -- ---- a step
 
-parts_alike : (w : World) (parts : List Part) (b : Brought) (q : Query) (d : Path) → misses (q.path ++ d) (flat_map (λ (p : Part). p.1) parts)
-    → AlikeAt d (base (fold (part_pushed w) b parts) q) (base b q)
-parts_alike w [] b q d h = alike_same d _ _ refl
-parts_alike w (p ∷ parts) b q d h =
+-- what parts leave of the base, and of the source
+record LeavesOf (w : World) (d : Path) (q : Query) (c b : Brought) : Type 0 where
+  alike : AlikeAt d (base c q) (base b q)
+  same : source c q ≡ source b q
+
+parts_leave : (w : World) (parts : List Part) (b : Brought) (q : Query) (d : Path) → IsCanonical b → misses (q.path ++ d) (flat_map (λ (p : Part). p.1) parts)
+    → LeavesOf w d q (fold (part_pushed w) b parts) b
+parts_leave w [] b q d c h = record { alike = alike_same d _ _ refl; same = refl }
+parts_leave w (p ∷ parts) b q d c h =
     let split = sym (list_any-append (λ (a : Assignment). do_overlap a.0 (q.path ++ d)) p.1 (flat_map (λ (p : Part). p.1) parts)) ∙ h in
-    alike_trans d (base (fold (part_pushed w) (part_pushed w b p) parts) q) (base (part_pushed w b p) q) (base b q)
-    (parts_alike w parts (part_pushed w b p) q d (or_false_right (list_any (λ (a : Assignment). do_overlap a.0 (q.path ++ d)) p.1) _ split))
-    (one (listen_of w p.0) (or_false_left (list_any (λ (a : Assignment). do_overlap a.0 (q.path ++ d)) p.1) (list_any (λ (a : Assignment). do_overlap a.0 (q.path ++ d)) (flat_map (λ (p : Part). p.1) parts)) split))
+    let here = or_false_left (list_any (λ (a : Assignment). do_overlap a.0 (q.path ++ d)) p.1) (list_any (λ (a : Assignment). do_overlap a.0 (q.path ++ d)) (flat_map (λ (p : Part). p.1) parts)) split in
+    let rest = parts_leave w parts (part_pushed w b p) q d (kept (listen_of w p.0)) (or_false_right (list_any (λ (a : Assignment). do_overlap a.0 (q.path ++ d)) p.1) _ split) in
+    record {
+      alike = alike_trans d (base (fold (part_pushed w) (part_pushed w b p) parts) q) (base (part_pushed w b p) q) (base b q) rest.alike (one (listen_of w p.0) here);
+      same = rest.same ∙ source_one (listen_of w p.0) here;
+    }
   where
-    one : (o : Option Query) → misses (q.path ++ d) p.1 → AlikeAt d (base (option_map_or (λ f. fold (push f) b p.1) o b) q) (base b q)
+    pushed_by : Option Query → Brought
+    pushed_by o = option_map_or (λ f. fold (push f) b p.1) o b
+
+    kept : (o : Option Query) → IsCanonical (pushed_by o)
+    kept None = c
+    kept (Some f) = pushes_canonical f p.1 b c
+
+    one : (o : Option Query) → misses (q.path ++ d) p.1 → AlikeAt d (base (pushed_by o) q) (base b q)
     one None m = alike_same d _ _ refl
-    one (Some f) m = pushes_alike f p.1 b q d m
+    one (Some f) m = pushes_alike f q d p.1 b c m
+
+    source_one : (o : Option Query) → misses (q.path ++ d) p.1 → source (pushed_by o) q ≡ source b q
+    source_one None m = refl
+    source_one (Some f) m = pushes_source f q d p.1 b c m
 
 -- all entries, part by part
 entries_flat : (xs : List Assignment) (parts : List Part) → fold (λ (entries : List Assignment) (p : Part). entries ++ p.1) xs parts ≡ xs ++ flat_map (λ (p : Part). p.1) parts
 entries_flat xs [] = sym (append-nil xs)
 entries_flat xs (p ∷ parts) = entries_flat (xs ++ p.1) parts ∙ append_assoc xs p.1 (flat_map (λ (r : Part). r.1) parts)
 
-pushed_alike : (w : World) (s : Step) (q : Query) (d : Path) → misses (q.path ++ d) (entries_by w s) → AlikeAt d (base (pushed w s) q) (base w.brought q)
-pushed_alike w (Step.Data tag path tree) q d h = parts_alike w (kind (Step.Data tag path tree)).parts w.brought q d h
-pushed_alike w (Step.DataMerge tag entries) q d h = parts_alike w (kind (Step.DataMerge tag entries)).parts w.brought q d (subst (misses (q.path ++ d)) (sym (append-nil entries)) h)
-pushed_alike w (Step.Push parts) q d h = parts_alike w parts w.brought q d (subst (misses (q.path ++ d)) (entries_flat [] parts) h)
-pushed_alike w (Step.Listen seat query) q d h = alike_same d _ _ refl
-pushed_alike w (Step.Unlisten seat listener) q d h = alike_same d _ _ refl
-pushed_alike w (Step.Write seat action) q d h = alike_same d _ _ refl
-pushed_alike w (Step.OnDisconnect seat ending) q d h = alike_same d _ _ refl
-pushed_alike w (Step.Accepted id) q d h = alike_same d _ _ refl
-pushed_alike w (Step.Refused id why) q d h = alike_same d _ _ refl
-pushed_alike w (Step.Revoked tag why) q d h = alike_same d _ _ refl
-pushed_alike w Step.Connected q d h = alike_same d _ _ refl
-pushed_alike w Step.Disconnected q d h = alike_same d _ _ refl
-pushed_alike w (Step.CloseSeat seat) q d h = alike_same d _ _ refl
+leaves_same : (w : World) (d : Path) (q : Query) (b : Brought) → LeavesOf w d q b b
+leaves_same w d q b = record { alike = alike_same d _ _ refl; same = refl }
+
+pushed_leaves : (w : World) (s : Step) (q : Query) (d : Path) → IsCanonical w.brought → misses (q.path ++ d) (entries_by w s) → LeavesOf w d q (pushed w s) w.brought
+pushed_leaves w (Step.Data tag path tree) q d c h = parts_leave w (kind (Step.Data tag path tree)).parts w.brought q d c h
+pushed_leaves w (Step.DataMerge tag entries) q d c h = parts_leave w (kind (Step.DataMerge tag entries)).parts w.brought q d c (subst (misses (q.path ++ d)) (sym (append-nil entries)) h)
+pushed_leaves w (Step.Push parts) q d c h = parts_leave w parts w.brought q d c (subst (misses (q.path ++ d)) (entries_flat [] parts) h)
+pushed_leaves w (Step.Listen seat query) q d c h = leaves_same w d q w.brought
+pushed_leaves w (Step.Unlisten seat listener) q d c h = leaves_same w d q w.brought
+pushed_leaves w (Step.Write seat action) q d c h = leaves_same w d q w.brought
+pushed_leaves w (Step.OnDisconnect seat ending) q d c h = leaves_same w d q w.brought
+pushed_leaves w (Step.Accepted id) q d c h = leaves_same w d q w.brought
+pushed_leaves w (Step.Refused id why) q d c h = leaves_same w d q w.brought
+pushed_leaves w (Step.Revoked tag why) q d c h = leaves_same w d q w.brought
+pushed_leaves w Step.Connected q d c h = leaves_same w d q w.brought
+pushed_leaves w Step.Disconnected q d c h = leaves_same w d q w.brought
+pushed_leaves w (Step.CloseSeat seat) q d c h = leaves_same w d q w.brought
+
+-- a step that registers and ends no listener moves none whose path its entries miss
+pub still_unmoved : (w : World) (s : Step) (q : Query) → IsSound w → IsCalled w.brought → IsReached w → refusal w s ≡ None → changes_listeners s ≡ false
+    → misses q.path (entries_by w s) → is_moved w.brought (brought_after w s) q ≡ false
+still_unmoved w s q sound called reached free still h =
+    let x = calls_hold called.calls called.allowed in
+    let c = subst IsCanonical called.left x.0 in
+    let same = (pushed_leaves w s q [] c (subst (λ p. misses p (entries_by w s)) (sym (append-nil q.path)) h)).same in
+    unmoved_same w.brought (brought_after w s) q (is_brought w.brought c (subst Belongs called.left x.1)) (ap (λ (b : Brought). source b q) (push_is_brought w s sound called reached free still) ∙ same)
 
 -- a step that is not refused, and a query whose form is registered after it
-module _ (w : World) (s : Step) (q : Query) (sound : IsSound w) (called : IsCalled w.brought) (free : refusal w s ≡ None) (m : Contains (forms_after w s) (form q)) where
+module _ (w : World) (s : Step) (q : Query) (sound : IsSound w) (called : IsCalled w.brought) (reached : IsReached w) (free : refusal w s ≡ None) (m : Contains (forms_after w s) (form q))
+    (unmoved : is_moved w.brought (brought_after w s) q ≡ false) where
   abbrev ws : List Write
   ws = pending (requests_after w s)
 
@@ -181,17 +207,23 @@ module _ (w : World) (s : Step) (q : Query) (sound : IsSound w) (called : IsCall
 
   -- what is left of what is brought looks as it did before the change of cover
   looks : LooksSame ws q (base (brought_after w s) q) new
-  looks = recover_same w s q sound m ws (pushed w s) (called_pushed w s called free)
+  looks = at (changes_listeners s) refl
+    where
+      at : (c : Bool) → changes_listeners s ≡ c → LooksSame ws q (base (brought_after w s) q) new
+      at false e = alike ws q (base (brought_after w s) q) new (ap (λ (b : Brought). base b q) (push_is_brought w s sound called reached free e))
+      at true e =
+          let taken : pushed w s ≡ w.brought = (cover_alone w s e).taken in
+          recover_same w s q sound m ws (pushed w s) (called_pushed w sound reached s called free) (ap (λ b. is_moved b (brought_after w s) q) taken ∙ unmoved)
 
   pub child_next : (k : Key) → misses (q.path ++ k ∷ []) (entries_by w s) → child (seen (next w s) q) k ≡ child (seen w q) k
   child_next k h =
       looks.children k
-      ∙ child_alike q k new old ws (pending w.requests) (pushed_alike w s q (k ∷ []) h) (writes_same w s (q.path ++ k ∷ []) sound h)
+      ∙ child_alike q k new old ws (pending w.requests) (pushed_leaves w s q (k ∷ []) (canonical w.brought called) h).alike (writes_same w s (q.path ++ k ∷ []) sound h)
 
   -- a path that all entries miss
   module _ (h : misses q.path (entries_by w s)) where
     at_root : AlikeAt [] new old
-    at_root = pushed_alike w s q [] (subst (λ p. misses p (entries_by w s)) (sym (append-nil q.path)) h)
+    at_root = (pushed_leaves w s q [] (canonical w.brought called) (subst (λ p. misses p (entries_by w s)) (sym (append-nil q.path)) h)).alike
 
     pub known_next : is_known (brought_after w s) ws q ≡ is_known w.brought (pending w.requests) q
     known_next = λ i. (looks.known ∙ at_root.there) i || (writes_same w s q.path sound h).whole i
@@ -215,16 +247,17 @@ module _ (w : World) (s : Step) (q : Query) (sound : IsSound w) (called : IsCall
 
 -- ---- after a step
 
-child_by_step : (w : World) (s : Step) (o : Option CoreError) (b : Bool) → refusal w s ≡ o → IsSound w → IsCalled w.brought → (l m : Listener) → IsInBoth w (step_by o b w s).0 l m
-    → is_covered l.query.path (entries_by w s) ≡ false → (k : Key) → is_named l.query.path (entries_by w s) k ≡ false → child (seen (step_by o b w s).0 l.query) k ≡ child (seen w l.query) k
-child_by_step w s (Some e) b f h g l m both c k u = refl
-child_by_step w s None true f h g l m both c k u = refl
-child_by_step w s None false f h g l m both c k u =
-    let x = has_stayed w s h l m both in
-    child_next w s l.query h g f (form_stays (listeners_after w s) l x.stayed) k (misses_unnamed l.query.path k (entries_by w s) c u)
+child_by_step : (w : World) (s : Step) (o : Option CoreError) (b : Bool) → refusal w s ≡ o → IsSteady w → (l m : Listener) → IsInBoth w (step_by o b w s).0 l m
+    → is_covered l.query.path (entries_by w s) ≡ false → is_moved w.brought (step_by o b w s).0.brought l.query ≡ false
+    → (k : Key) → is_named l.query.path (entries_by w s) k ≡ false → child (seen (step_by o b w s).0 l.query) k ≡ child (seen w l.query) k
+child_by_step w s (Some e) b f h l m both c unmoved k u = refl
+child_by_step w s None true f h l m both c unmoved k u = refl
+child_by_step w s None false f h l m both c unmoved k u =
+    let x = has_stayed w s h.sound l m both in
+    child_next w s l.query h.sound h.called h.reached f (form_stays (listeners_after w s) l x.stayed) unmoved k (misses_unnamed l.query.path k (entries_by w s) c u)
 
 pub only_named_change : OnlyNamedChange
-only_named_change w s h called = child_by_step w s (refusal w s) (is_stale w s) refl h called
+only_named_change w s h = child_by_step w s (refusal w s) (is_stale w s) refl h
 
 -- a leaf has no children
 pub under_leaf : (t : PathTree) (k : Key) → is_some (leaf_of t) ≡ true → child t k ≡ null
@@ -238,8 +271,8 @@ under_leaf t k e = at (leaf_of t) refl
     at (Some l) f = ap (λ u. child u k) (leaf_of_root t l f) ∙ below l
 
 pub leaf_names_all : LeafNamesAll
-leaf_names_all w s h called l m both c leaf k u =
-    let same = only_named_change w s h called l m both c k u in
+leaf_names_all w s h l m both c unmoved leaf k u =
+    let same = only_named_change w s h l m both c unmoved k u in
     elim leaf [
       | inl old ↦ let gone = under_leaf (seen w l.query) k old in (gone, same ∙ gone)
       | inr new ↦ let gone = under_leaf (seen (step w s).0 l.query) k new in (sym same ∙ gone, gone)
@@ -247,11 +280,11 @@ leaf_names_all w s h called l m both c leaf k u =
 
 -- so all children of the one that has some are named
 pub leaf_reads_named : LeafReadsNamed
-leaf_reads_named w s h called l m both c leaf =
+leaf_reads_named w s h l m both c unmoved leaf =
     let old = seen w l.query in
     let new = seen (step w s).0 l.query in
     let names = children_named l.query.path (entries_by w s) in
-    let named = leaf_names_all w s h called l m both c leaf in
+    let named = leaf_names_all w s h l m both c unmoved leaf in
     let earlier = no_more_children old names (λ k u. (named k u).0) in
     let later = no_more_children new names (λ k u. (named k u).1) in
     elim leaf [
@@ -314,25 +347,26 @@ touched_same old new keys leaf same =
     ] refl)
 
 pub touched_is_seen : TouchedIsSeen
-touched_is_seen w s h called l m both c leaf =
-    touched_same (seen w l.query) (seen (step w s).0 l.query) (children_named l.query.path (entries_by w s)) leaf (only_named_change w s h called l m both c)
+touched_is_seen w s h l m both c unmoved leaf =
+    touched_same (seen w l.query) (seen (step w s).0 l.query) (children_named l.query.path (entries_by w s)) leaf (only_named_change w s h l m both c unmoved)
 
 -- ---- a listener elsewhere
 
-view_by_step : (w : World) (s : Step) (o : Option CoreError) (b : Bool) → refusal w s ≡ o → IsSound w → IsCalled w.brought → (l m : Listener) → IsInBoth w (step_by o b w s).0 l m
-    → misses l.query.path (entries_by w s) → m ≡ l
-view_by_step w s (Some e) b f h g l m both u = same_world w h l m both
-view_by_step w s None true f h g l m both u = same_world w h l m both
-view_by_step w s None false f h g l m both u =
-    let x = has_stayed w s h l m both in
+view_by_step : (w : World) (s : Step) (o : Option CoreError) (b : Bool) → refusal w s ≡ o → IsSteady w → (l m : Listener) → IsInBoth w (step_by o b w s).0 l m
+    → misses l.query.path (entries_by w s) → is_moved w.brought (step_by o b w s).0.brought l.query ≡ false → m ≡ l
+view_by_step w s (Some e) b f h l m both u unmoved = same_world w h.sound l m both
+view_by_step w s None true f h l m both u unmoved = same_world w h.sound l m both
+view_by_step w s None false f h l m both u unmoved =
+    let x = has_stayed w s h.sound l m both in
     let r = form_stays (listeners_after w s) l x.stayed in
-    x.renewed ∙ renewed_same w (brought_after w s) (pending (requests_after w s)) l h both.before (view_next w s l.query h g f r u) (known_next w s l.query h g f r u)
+    x.renewed ∙ renewed_same w (brought_after w s) (pending (requests_after w s)) l h.sound both.before
+    (view_next w s l.query h.sound h.called h.reached f r unmoved u) (known_next w s l.query h.sound h.called h.reached f r unmoved u)
 
 pub others_keep_views : OthersKeepViews
-others_keep_views w s h called = view_by_step w s (refusal w s) (is_stale w s) refl h called
+others_keep_views w s h = view_by_step w s (refusal w s) (is_stale w s) refl h
 
 -- it is renewed to itself
 pub unmet_stays : UnmetStays
-unmet_stays w s h g f l old new u =
+unmet_stays w s h g reached f l old new u unmoved =
     let r = form_stays (listeners_after w s) l new in
-    renewed_same w (brought_after w s) (pending (requests_after w s)) l h old (view_next w s l.query h g f r u) (known_next w s l.query h g f r u)
+    renewed_same w (brought_after w s) (pending (requests_after w s)) l h old (view_next w s l.query h g reached f r unmoved u) (known_next w s l.query h g reached f r unmoved u)

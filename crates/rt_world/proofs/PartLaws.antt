@@ -1,13 +1,11 @@
 -- The parts of a push that is not refused.
-use Rattle.std.proofs.Common.{◌≡◌, ◌||◌, false, List, [], ◌∷◌, sym, ap, ◌∙◌, arith, None}
+use Rattle.std.proofs.Common.{◌≡◌, false, List, [], ◌∷◌, sym, ap, ◌∙◌, arith}
 use Rattle.std.specs.List.{list_any, All}
 use Rattle.std.proofs.lemmas.List.Elements.{All-cons}
-use Rattle.rt_world.specs.declared.step.Step.{Step}
 use Rattle.rt_world.specs.World.{World}
 use Rattle.rt_world.specs.steps.Kind.{Kind, Part, stands_too_deep}
 use Rattle.rt_world.specs.steps.Pushing.{is_bad_part, is_no_push}
-use Rattle.rt_world.specs.Refusals.{refusal}
-use Rattle.rt_world.specs.laws.Made.{IsPartOn, Pushes, PushMayPush}
+use Rattle.rt_world.specs.laws.Made.{IsPartOn, PushMayPush}
 use Rattle.rt_world.proofs.LimitLaws.{allowed}
 use Rattle.rt_world.proofs.Listeners.{or_false_left, or_false_right}
 use Rattle.rt_world.proofs.Reaching.{pushes_on}

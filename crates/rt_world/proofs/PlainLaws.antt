@@ -1,10 +1,10 @@
 -- What plain listens brought is said by the pushes and the answers.
-use Rattle.std.proofs.Common.{◌≡◌, ◌≤◌, ℕ, Bool, true, false, ◌&&◌, cond, arith, length, List, [], ◌∷◌, refl, sym, ap, ◌∙◌, slice_index_or, Option, Some, None, Ok, Err, is_some}
+use Rattle.std.proofs.Common.{◌≡◌, ◌≤◌, ℕ, Bool, true, false, ◌&&◌, cond, arith, length, List, [], ◌∷◌, refl, sym, ap, ◌∙◌, slice_index_or, Option, Some, None, is_some}
 use mathlib.Core.Bool.{true≢false}
 use Rattle.std.specs.List.{fold, list_all, All, Contains}
 use Rattle.std.specs.Option.{option_map_or}
 use Rattle.std.proofs.lemmas.List.Elements.{All-contains, All-map, All-push}
-use Rattle.rt_tree.specs.PathTree.{Path, PathTree, strip}
+use Rattle.rt_tree.specs.PathTree.{strip}
 use Rattle.rt_tree.specs.Assignments.{Assignment}
 use Rattle.rt_query.specs.Queries.{Query, is_filtered}
 use Rattle.rt_cache.specs.Brought.{Brought, push_plain, push, windows_pushed, is_without_window}
@@ -14,10 +14,10 @@ use Rattle.rt_world.specs.declared.step.Step.{Step}
 use Rattle.rt_world.specs.World.{World, Listener, pending, listen_of}
 use Rattle.rt_world.specs.steps.Kind.{Part}
 use Rattle.rt_world.specs.steps.Pushing.{is_idle}
-use Rattle.rt_world.specs.After.{kind, listeners_after, part_pushed, pushed, brought_after, requests_after, renewed}
+use Rattle.rt_world.specs.After.{listeners_after, part_pushed, brought_after, requests_after, renewed}
 use Rattle.rt_world.specs.Messages.{next}
 use Rattle.rt_world.specs.Refusals.{refusal, is_stale}
-use Rattle.rt_world.specs.Answers.{Answer, step, step_by, stale_report}
+use Rattle.rt_world.specs.Answers.{step, step_by}
 use Rattle.rt_world.specs.Plain.{IsPlainStep, taken_in, brought_by}
 use Rattle.rt_world.specs.Sound.{IsSound}
 use Rattle.rt_world.specs.laws.Holds.{IsSteady}

@@ -1,24 +1,19 @@
 -- What is brought is reached, and stays so: a change of cover that ends no listener leaves it as it is.
-use Rattle.std.proofs.Common.{◌≡◌, ℕ, Bool, true, false, not, ◌&&◌, ◌||◌, List, [], ◌∷◌, ◌++◌, map, refl, sym, ap, subst, ◌∙◌, slice_index_or, Option, Some, None}
+use Rattle.std.proofs.Common.{◌≡◌, true, false, List, [], ◌∷◌, ◌++◌, map, refl, sym, ap, subst, ◌∙◌, slice_index_or, Option, Some, None}
 use mathlib.Core.Bool.{true≢false}
-use Rattle.std.specs.List.{fold, list_any, All, Contains}
+use Rattle.std.specs.List.{fold, All, Contains}
 use Rattle.std.specs.Option.{option_map_or}
-use Rattle.std.proofs.lemmas.List.Elements.{All-head, All-tail, All-contains}
-use Rattle.std.proofs.lemmas.List.Folds.{Any-from_list_any, list_any_at}
+use Rattle.std.proofs.lemmas.List.Elements.{All-head, All-tail}
 use Rattle.rt_tree.specs.PathTree.{Path, PathTree}
 use Rattle.rt_tree.specs.Assignments.{Assignment}
-use Rattle.rt_tree.specs.TreeEq.{both}
 use Rattle.rt_query.specs.Queries.{Query}
-use Rattle.rt_query.specs.QueryEq.{query_eq}
-use Rattle.rt_query.specs.Supply.{form, does_supply}
-use Rattle.rt_query.specs.laws.QueryEq.{query_eq_tells}
-use Rattle.rt_cache.specs.Brought.{Window, Brought, with_form, may_put, push}
+use Rattle.rt_query.specs.Supply.{form}
+use Rattle.rt_cache.specs.Brought.{Window, Brought, push}
 use Rattle.rt_cache.specs.Canonical.{IsCanonical}
 use Rattle.rt_cache.specs.Recover.{reaches}
-use Rattle.rt_cache.proofs.Belonging.{push_registered}
-use Rattle.rt_cache.proofs.RecoverLaws.{nothing_lost, left_reached, left_registered, pushed_reached, pushed_registered, calls_canonical}
-use Rattle.rt_cover.specs.Cover.{Registered, forms, needed}
-use Rattle.rt_cover.specs.laws.CoverLaws.{Contains-from_filter, passes-from_filter, is_covered}
+use Rattle.rt_cache.proofs.FilteredRuns.{calls_hold}
+use Rattle.rt_cache.proofs.RecoverLaws.{nothing_lost, left_reached, left_registered, pushed_reached, pushed_registered}
+use Rattle.rt_cover.specs.Cover.{Registered}
 use Rattle.rt_world.specs.declared.step.Step.{Step}
 use Rattle.rt_world.specs.World.{World, Listener, registered, listening, pending, listen_of}
 use Rattle.rt_world.specs.After.{listeners_after, requests_after, listening_after, kept_after, part_pushed, pushed, brought_after, kind}
@@ -28,18 +23,19 @@ use Rattle.rt_world.specs.Called.{IsCalled}
 use Rattle.rt_world.specs.Reached.{IsReached}
 use Rattle.rt_world.specs.Sound.{IsSound}
 use Rattle.rt_world.specs.laws.World.{changes_listeners}
-use Rattle.rt_world.specs.laws.Steps.{StaysReached, PushIsBrought, ListenBringsNothing, KeptMayBePut}
+use Rattle.rt_world.specs.laws.Steps.{StaysReached, PushIsBrought, ListenBringsNothing}
 use Rattle.rt_world.specs.laws.Made.{IsPushOn, IsPartOn}
 use Rattle.rt_world.proofs.CalledLaws.{called_pushed}
 use Rattle.rt_world.proofs.HeardLaws.{kept-same}
 use Rattle.rt_world.proofs.Listeners.{registered-renewed}
-use Rattle.rt_world.proofs.Reaching.{forms_kept, kept_of, kept_registered, listening_of, form_listened, listening_still, reached_still, Contains-more}
+use Rattle.rt_world.proofs.Reaching.{forms_kept, kept_of, kept_registered, listening_of, listening_still, reached_still, Contains-more}
 use Rattle.rt_world.proofs.PartLaws.{push_may_push}
+use Rattle.rt_world.proofs.Putting.{parts_registered}
 use Rattle.rt_world.proofs.ShowLaws.{first_seen}
 
 -- what calls leave is in order
-canonical : (b : Brought) → IsCalled b → IsCanonical b
-canonical b h = subst IsCanonical h.left (calls_canonical h.calls h.allowed)
+pub canonical : (b : Brought) → IsCalled b → IsCanonical b
+canonical b h = subst IsCanonical h.left (calls_hold h.calls h.allowed).0
 
 -- a kept plain listen reaches each region, and each window is of a registered form
 record AreReached (fs kept : List Query) (b : Brought) : Type 0 where
@@ -111,19 +107,6 @@ pushed_still w s h r free = at s free
 brings : (w : World) (s : Step) → IsCalled (pushed w s) → AreReachedAfter w s (pushed w s) → brought_after w s ≡ record (pushed w s) { registered = listening_after w s }
 brings w s c r = nothing_lost (listening_after w s) (forms_kept (kept_after w s)) (pushed w s) (canonical (pushed w s) c) r.regions r.windows
 
--- pushes leave these
-entries_registered : (q : Query) (b : Brought) (entries : List Assignment) → (fold (push q) b entries).registered ≡ b.registered
-entries_registered q b [] = refl
-entries_registered q b (a ∷ entries) = entries_registered q (push q b a) entries ∙ push_registered q b a
-
-parts_registered : (w : World) (b : Brought) (parts : List Part) → (fold (part_pushed w) b parts).registered ≡ b.registered
-parts_registered w b [] = refl
-parts_registered w b (p ∷ parts) = parts_registered w (part_pushed w b p) parts
-    ∙ elim (listen_of w p.0) as (λ o. (option_map_or (λ q. fold (push q) b p.1) o b).registered ≡ b.registered) [
-      | None ↦ refl
-      | Some q ↦ entries_registered q b p.1
-    ]
-
 pub still_listeners : (w : World) (s : Step) → changes_listeners s ≡ false → listeners_after w s ≡ w.listeners
 still_listeners w (Step.Write seat action) e = refl
 still_listeners w (Step.OnDisconnect seat ending) e = refl
@@ -146,7 +129,7 @@ push_is_brought w s h c r free e =
     subst (λ ks. AreReached (listening (registered w.listeners)) (forms_kept ks) (pushed w s)) (sym (kept-same w s h same)) (pushed_still w s h r free) in
     let fs : listening_after w s ≡ (pushed w s).registered =
     ap (λ (ls : List Listener). listening (registered ls)) same ∙ sym r.forms ∙ sym (parts_registered w w.brought (kind s).parts) in
-    brings w s (called_pushed w s c free) (subst (λ (ls : List Listener). AreReached (listening (registered ls)) (forms_kept (kept_after w s)) (pushed w s)) (sym same) kept)
+    brings w s (called_pushed w h r s c free) (subst (λ (ls : List Listener). AreReached (listening (registered ls)) (forms_kept (kept_after w s)) (pushed w s)) (sym same) kept)
     ∙ (λ i. record (pushed w s) { registered = fs i })
 
 -- ---- a form more
@@ -166,25 +149,7 @@ listen_brings_nothing w seat query h c r =
     })
     ∙ (λ i. record w.brought { registered = fs i })
 
--- ---- listens that are kept
-
-pub kept_may_be_put : KeptMayBePut
-kept_may_be_put w tag q h r e =
-    let rs : List Registered = registered w.listeners in
-    let m : Contains (needed (forms rs)) q = All-contains (Contains (needed (forms rs))) (forms_kept w.kept) q (h.listens).only (kept_of w.kept tag q e) in
-    let there : Contains (listening rs) q = listening_of rs q (Contains-from_filter (λ f. not (is_covered (forms rs) f)) (forms rs) q m) in
-    let one : list_any (λ f. query_eq f q) (listening rs) ≡ true = list_any_at (λ f. query_eq f q) (listening rs) there.0 q there.1 (ap (λ f. query_eq f q) there.2 ∙ (query_eq_tells q q).1 refl) in
-    let free : not (is_covered (forms rs) q) ≡ true = passes-from_filter (λ f. not (is_covered (forms rs) f)) (forms rs) q m in
-    subst (λ gs. (list_any (λ f. query_eq f q) gs && not (list_any (λ f. not (query_eq f q) && does_supply f q) gs)) ≡ true) (sym r.forms) (both _ _ one (uncovered rs (is_covered (listening rs) q) refl free))
-  where
-    -- what supplies it is one of the forms
-    uncovered : (rs : List Registered) (b : Bool) → is_covered (listening rs) q ≡ b → not (is_covered (forms rs) q) ≡ true → not (is_covered (listening rs) q) ≡ true
-    uncovered rs false t free = ap not t
-    uncovered rs true t free =
-        let a = Any-from_list_any (λ (f : Query). not (query_eq f q) && does_supply f q) (listening rs) t in
-        let m = form_listened rs a.1 (a.0, a.2, a.3) in
-        let covered : is_covered (forms rs) q ≡ true = list_any_at (λ (f : Query). not (query_eq f q) && does_supply f q) (forms rs) m.0 a.1 m.1 (ap (λ (f : Query). not (query_eq f q) && does_supply f q) m.2 ∙ a.4) in
-        absurd (true≢false (sym free ∙ ap not covered))
+-- ---- after a step
 
 pub stays_reached : StaysReached
 stays_reached w s =

@@ -9,12 +9,11 @@ use Rattle.rt_tree.specs.PathTree.{Path, levels}
 use Rattle.rt_tree.specs.Assignments.{is_at_or_above, Assignment}
 use Rattle.rt_query.specs.Queries.{Query, is_filtered}
 use Rattle.rt_query.specs.Supply.{form, does_supply}
-use Rattle.rt_query.specs.laws.QueryEq.{query_eq_tells}
 use Rattle.rt_writes.specs.Writes.{IsShallow}
 use Rattle.rt_cache.specs.Recover.{reaches}
 use Rattle.rt_cover.specs.Cover.{Tagged, Registered, Supplies, forms, needed}
 use Rattle.rt_cover.specs.laws.CoverLaws.{Contains-from_filter, needed_fewest}
-use Rattle.rt_cover.specs.laws.FormLaws.{supply_filtered, supply_unfiltered}
+use Rattle.rt_query.specs.laws.SupplyLaws.{supplied_is_filtered, supply_unfiltered}
 use Rattle.rt_cover.specs.laws.KeepLaws.{Contains-map, Contains-from_map, length_of_map, forms_are, form_is_form, needed_kept_for}
 use Rattle.rt_cover.specs.laws.Paths.{is_at_or_above-trans}
 use Rattle.rt_cover.specs.laws.ShownLaws.{found, form_in}
@@ -84,7 +83,7 @@ module _ (w : World) (s : Step) where
       at : (g : Query) → Contains (needed (forms_after w s)) g → does_supply g f ≡ true → reaches (forms_kept (kept_after w s)) p ≡ true
       at g mg supplies =
           elim (is_filtered g) as (λ b. is_filtered g ≡ b → reaches (forms_kept (kept_after w s)) p ≡ true) [
-            | true ↦ λ t. absurd (true≢false (sym t ∙ ap is_filtered ((query_eq_tells g f).0 (sym (supply_filtered g f t) ∙ supplies)) ∙ e))
+            | true ↦ λ t. absurd (true≢false (sym (supplied_is_filtered g f t supplies) ∙ e))
             | false ↦ λ t.
                 let there = All-contains (Contains (forms_kept (kept_after w s))) (needed (forms_after w s)) g (needed_kept_for w.next_tag w.kept (needed (forms_after w s))) mg in
                 reached_by (forms_kept (kept_after w s)) g p there t (is_at_or_above-trans g.path f.path p (sym (supply_unfiltered g f t) ∙ supplies) under)

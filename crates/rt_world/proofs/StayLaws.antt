@@ -2,10 +2,10 @@
 use Rattle.std.proofs.Common.{◌≡◌, ℕ, zero, suc, ◌<◌, Bool, true, false, cond, not, ◌&&◌, ◌||◌, inl, inr, List, [], ◌∷◌, ◌++◌, refl, sym, ap, subst, ◌∙◌, arith, slice_index_or, Option, Some, None, is_some}
 use mathlib.Core.Bool.{true≢false}
 use Rattle.std.specs.List.{Contains}
-use Rattle.std.specs.Option.{option_map, option_or}
+use Rattle.std.specs.Option.{option_map, option_map_or, option_eq}
 use Rattle.std.proofs.lemmas.List.Elements.{All-contains, Contains-append_cases}
-use Rattle.rt_tree.specs.PathTree.{Key, Path, PathTree, leaf_of, non_null, child, children_alone}
-use Rattle.rt_tree.specs.Parts.{child-children_alone}
+use Rattle.rt_tree.specs.PathTree.{Key, Path, PathTree, null, is_null, leaf_of, non_null, child, with_children}
+use Rattle.rt_tree.specs.Parts.{child-with_children}
 use Rattle.rt_tree.specs.Children.{children_of, children_sorted, child_of-children_of, children_of-unique}
 use Rattle.rt_tree.specs.Assignments.{is_at_or_above}
 use Rattle.rt_query.specs.Queries.{Query, plain, is_filtered}
@@ -13,16 +13,24 @@ use Rattle.rt_query.specs.Select.{Shown, rows_of, select}
 use Rattle.rt_query.specs.Supply.{form}
 use Rattle.rt_writes.specs.Writes.{Write, assignments, overlay, sets_whole}
 use Rattle.rt_writes.specs.laws.OverlayLaws.{fold-overlaid_part}
-use Rattle.rt_cache.specs.Brought.{Window, Brought, base, region_part, window_of}
+use Rattle.rt_query.specs.QueryEq.{query_eq}
+use Rattle.rt_cache.specs.Brought.{Brought, source, base, knows, region_part}
+use Rattle.rt_cache.specs.Canonical.{IsCanonical, Belongs}
 use Rattle.rt_cache.specs.declared.base.Base.{Base}
-use Rattle.rt_cache.specs.Recover.{reaches, regions_kept, recover}
+use Rattle.rt_cache.specs.Recover.{reaches, regions_kept, cut, heirs, recover, is_moved}
+use Rattle.rt_cache.proofs.Bases.{plain_found}
+use Rattle.rt_cache.proofs.Changes.{recover_stays}
+use Rattle.rt_cache.proofs.Changing.{is_brought, is_change}
+use Rattle.rt_cache.proofs.FilteredRuns.{calls_hold}
+use Rattle.rt_cache.proofs.Moves.{Alike, unmoved_alike, unmoved_same, source_knows}
+use Rattle.rt_cache.proofs.Sources.{of_part}
 use Rattle.rt_cover.specs.laws.CoverLaws.{Contains-from_filter}
 use Rattle.rt_cover.specs.laws.FormLaws.{form_filtered, form_unfiltered}
 use Rattle.rt_cover.specs.laws.KeepLaws.{Contains-from_map, length_of_map, form_is_form}
 use Rattle.rt_cover.specs.laws.Paths.{is_at_or_above-same}
 use Rattle.rt_world.specs.declared.error.CoreError.{CoreError}
 use Rattle.rt_world.specs.declared.step.Step.{Step}
-use Rattle.rt_world.specs.Views.{is_known, seen_over, view_of}
+use Rattle.rt_world.specs.Views.{is_known, base_tree, is_base_whole, is_child_known, seen_over, view_of}
 use Rattle.rt_world.specs.World.{World, Listener, registered, pending}
 use Rattle.rt_world.specs.After.{listeners_after, requests_after, forms_after, listening_after, kept_after, pushed, brought_after, renewed, renewed_after}
 use Rattle.rt_world.specs.Messages.{next}
@@ -33,12 +41,13 @@ use Rattle.rt_world.specs.Touched.{IsInBoth}
 use Rattle.rt_world.specs.Called.{IsCalled}
 use Rattle.rt_world.specs.Sound.{IsSound}
 use Rattle.rt_world.specs.laws.Steps.{ChangesHaveNoEntries}
-use Rattle.rt_world.specs.laws.World.{changes_listeners, StayAsTheyWere, CoverChangesNoView}
+use Rattle.rt_world.specs.laws.Holds.{IsSteady}
+use Rattle.rt_world.specs.laws.World.{changes_listeners, StayUnlessMoved, MovedStayPrimed, CoverChangesFewViews}
 use Rattle.rt_world.proofs.CalledLaws.{kept_apart}
 use Rattle.rt_world.proofs.Listeners.{number-renewed, primed_view}
 use Rattle.rt_world.proofs.Numbers.{one_number}
 use Rattle.rt_world.proofs.Reaching.{forms_kept, form_stays, listening_of, reached_form}
-use Rattle.rt_world.proofs.RecoverLaws.{whole, region_after, window_after}
+use Rattle.rt_world.proofs.RecoverLaws.{region_after}
 use Rattle.rt_world.proofs.ShowLaws.{left_or_more, first_seen}
 use Rattle.rt_world.proofs.WrittenLaws.{pending-unseated}
 
@@ -53,49 +62,27 @@ same_select q t u e h =
     let leaves = ap (λ b. cond b None (leaf_of t)) e ∙ sym (ap (λ b. cond b None (leaf_of u)) e) in
     λ i. record { leaf = leaves i; rows = rows_of q (same_children t u h i) }
 
--- an overlay has the children of the overlaid children
-cut_child : (p : Path) (t : PathTree) (writes : List Write) (k : Key) → child (overlay p (children_alone t) writes) k ≡ child (overlay p t writes) k
-cut_child p t writes k =
-    fold-overlaid_part p (k ∷ []) (assignments writes) (children_alone t)
-    ∙ ap (λ u. overlay (p ++ k ∷ []) u writes) (child-children_alone t k)
-    ∙ sym (fold-overlaid_part p (k ∷ []) (assignments writes) t)
-
 -- the view over a base
 abbrev view_over : Option Base → List Write → Query → Shown
 view_over o writes q = select q (seen_over o writes q)
-
-seen_whole : (q : Query) (t : PathTree) (writes : List Write) → seen_over (Some (whole t)) writes q ≡ overlay q.path t writes
-seen_whole q t writes = off (is_filtered q) _ _
-  where
-    off : (b : Bool) (x y : PathTree) → cond (b && false) x y ≡ y
-    off true x y = refl
-    off false x y = refl
 
 -- ---- the base after a change of cover
 
 pub path_of_form : (q : Query) → (form q).path ≡ q.path
 path_of_form q = elim (is_filtered q) as (λ b. (cond b q (plain q.path)).path ≡ q.path) [ true ↦ refl | false ↦ refl ]
 
--- the window that is left of a region's part, where none is now
-abbrev left_by : Bool → Option PathTree → Option PathTree → Option Window
-left_by filtered old new = cond (filtered && not (is_some new)) (option_map (λ t. record { children = children_alone t; is_whole = true }) old) None
+-- a child at c with t brought: where not all is brought, it counts only if there is something or a pending entry sets it
+abbrev pub child_by : Bool → PathTree → Path → List Write → PathTree
+child_by partial t c ws = cond partial (cond (not (is_null t) || sets_whole ws c) (overlay c t ws) null) (overlay c t ws)
 
--- the base, by the region's part and the window
-abbrev pub base_by : Option PathTree → Option Window → Option Base
-base_by part window = option_or (option_map whole part) (option_map (λ w. record { tree = w.children; whole = w.is_whole }) window)
-
-base_after : (registered kept : List Query) (b : Brought) (q : Query) → Contains registered (form q)
-    → ((p : Path) → region_part (regions_kept kept b.regions) p ≡ cond (reaches kept p) (region_part b.regions p) None)
-    → base (recover registered kept b) q
-    ≡ (let part = cond (reaches kept q.path) (region_part b.regions q.path) None in
-    base_by part (option_or (left_by (is_filtered (form q)) (region_part b.regions q.path) part) (window_of b.windows (form q))))
-base_after registered kept b q m regions =
-    (λ i. base_by (regions q.path i) (window_after registered b.regions (regions_kept kept b.regions) b.windows (form q) m i))
-    ∙ (λ i. base_by (now q.path) (option_or (left_by (is_filtered (form q)) (region_part b.regions (path_of_form q i)) (region_part (regions_kept kept b.regions) (path_of_form q i))) (window_of b.windows (form q))))
-    ∙ (λ i. base_by (now q.path) (option_or (left_by (is_filtered (form q)) (region_part b.regions q.path) (regions q.path i)) (window_of b.windows (form q))))
-  where
-    now : Path → Option PathTree
-    now p = cond (reaches kept p) (region_part b.regions p) None
+pub child_seen : (q : Query) (o : Option Base) (ws : List Write) (k : Key) → child (seen_over o ws q) k ≡ child_by (is_filtered q && not (is_base_whole o)) (child (base_tree o) k) (q.path ++ k ∷ []) ws
+child_seen q o ws k =
+    elim (is_filtered q && not (is_base_whole o)) as (λ b. child (cond b (with_children (is_child_known (base_tree o) ws q.path) (overlay q.path (base_tree o) ws)) (overlay q.path (base_tree o) ws)) k
+    ≡ child_by b (child (base_tree o) k) (q.path ++ k ∷ []) ws) [
+      | true ↦ child-with_children (is_child_known (base_tree o) ws q.path) (overlay q.path (base_tree o) ws) k
+          ∙ ap (λ u. cond (is_child_known (base_tree o) ws q.path k) u null) (fold-overlaid_part q.path (k ∷ []) (assignments ws) (base_tree o))
+      | false ↦ fold-overlaid_part q.path (k ∷ []) (assignments ws) (base_tree o)
+    ]
 
 -- two bases that look the same: a filtered query sees the same children, and another has the same base
 pub record LooksSame (writes : List Write) (q : Query) (new old : Option Base) : Type 0 where
@@ -103,7 +90,7 @@ pub record LooksSame (writes : List Write) (q : Query) (new old : Option Base) :
   pub known : is_some new ≡ is_some old
   pub unfiltered : is_filtered q ≡ false → new ≡ old
 
-alike : (writes : List Write) (q : Query) (new old : Option Base) → new ≡ old → LooksSame writes q new old
+pub alike : (writes : List Write) (q : Query) (new old : Option Base) → new ≡ old → LooksSame writes q new old
 alike writes q new old e = record { children = λ k. ap (λ o. child (seen_over o writes q) k) e; known = ap is_some e; unfiltered = λ _. e }
 
 -- so they have the same view
@@ -114,48 +101,52 @@ same_view writes q new old l = at (is_filtered q) refl
     at true e = same_select q (seen_over new writes q) (seen_over old writes q) e l.children
     at false e = ap (λ o. view_over o writes q) (l.unfiltered e)
 
--- a plain listen reaches an unfiltered query's path: what is cut away is under filtered queries alone, which see the same
-looks_same : (writes : List Write) (q : Query) (reached : Bool) (part : Option PathTree) (window : Option Window) → (is_filtered q ≡ false → reached ≡ true)
-    → LooksSame writes q (let new = cond reached part None in base_by new (option_or (left_by (is_filtered (form q)) part new) window)) (base_by part window)
-looks_same writes q true (Some t) window h = alike writes q _ _ refl
-looks_same writes q true None window h = alike writes q _ _ (off (is_filtered (form q)))
-  where
-    off : (b : Bool) → base_by None (option_or (left_by b None None) window) ≡ base_by None window
-    off true = refl
-    off false = refl
-looks_same writes q false None window h = alike writes q _ _ (off (is_filtered (form q)))
-  where
-    off : (b : Bool) → base_by None (option_or (left_by b None None) window) ≡ base_by None window
-    off true = refl
-    off false = refl
-looks_same writes q false (Some t) window h = at (is_filtered q) refl
-  where
-    at : (b : Bool) → is_filtered q ≡ b → LooksSame writes q (base_by None (option_or (left_by (is_filtered (form q)) (Some t) None) window)) (base_by (Some t) window)
-    at false e = absurd (true≢false (sym (h e)))
-    at true e =
-        let own : is_filtered (form q) ≡ true = ap is_filtered (form_filtered q e) ∙ e in
-        subst (λ b. LooksSame writes q (base_by None (option_or (left_by b (Some t) None) window)) (base_by (Some t) window)) (sym own)
-        (record {
-          children = λ k. ap (λ u. child u k) (seen_whole q (children_alone t) writes) ∙ cut_child q.path t writes k ∙ sym (ap (λ u. child u k) (seen_whole q t writes));
-          known = refl;
-          unfiltered = λ f. absurd (true≢false (sym e ∙ f));
-        })
+-- bases with the same children and mark look the same to a filtered query
+alike_looks : (writes : List Write) (q : Query) (new old : Option Base) → is_filtered q ≡ true → Alike new old → LooksSame writes q new old
+alike_looks writes q None None f h = alike writes q None None refl
+alike_looks writes q None (Some y) f h = absurd h
+alike_looks writes q (Some x) None f h = absurd h
+alike_looks writes q (Some x) (Some y) f h = record {
+  children = λ k. child_seen q (Some x) writes k ∙ (λ i. child_by (is_filtered q && not (h.1 i)) (h.0 k i) (q.path ++ k ∷ []) writes) ∙ sym (child_seen q (Some y) writes k);
+  known = refl;
+  unfiltered = λ e. absurd (true≢false (sym f ∙ e));
+}
 
--- what a change of cover leaves looks as before, to a query whose form is registered
+-- what a change of cover leaves looks as before, to a query whose form is registered and that is not moved
 module _ (w : World) (s : Step) (q : Query) (sound : IsSound w) (m : Contains (forms_after w s) (form q)) where
+  abbrev fs : List Query
+  fs = listening_after w s
+
+  abbrev ks : List Query
+  ks = forms_kept (kept_after w s)
+
   -- a plain listen that is kept reaches an unfiltered one
-  reached : is_filtered q ≡ false → reaches (forms_kept (kept_after w s)) q.path ≡ true
+  reached : is_filtered q ≡ false → reaches ks q.path ≡ true
   reached e =
       let low : is_filtered (form q) ≡ false = ap is_filtered (form_unfiltered q e) in
       reached_form w s (form q) m (form_is_form q) low q.path (subst (λ p. is_at_or_above p q.path ≡ true) (sym (path_of_form q)) (is_at_or_above-same q.path))
 
-  pub recover_same : (writes : List Write) (b : Brought) → IsCalled b → LooksSame writes q (base (recover (listening_after w s) (forms_kept (kept_after w s)) b) q) (base b q)
-  recover_same writes b h =
-      let there : Contains (listening_after w s) (form q) = listening_of (registered (listeners_after w s)) (form q) m in
-      let kept = forms_kept (kept_after w s) in
-      subst (λ o. LooksSame writes q o (base b q))
-      (sym (base_after (listening_after w s) kept b q there (λ p. region_after (listening_after w s) kept b p h (kept_apart w s sound))))
-      (looks_same writes q (reaches kept q.path) (region_part b.regions q.path) (window_of b.windows (form q)) reached)
+  pub recover_same : (writes : List Write) (b : Brought) → IsCalled b → is_moved b (recover fs ks b) q ≡ false → LooksSame writes q (base (recover fs ks b) q) (base b q)
+  recover_same writes b h unmoved = at (is_filtered q) refl
+    where
+      new : Brought
+      new = recover fs ks b
+
+      holds : IsCanonical b × Belongs b
+      holds = let x = calls_hold h.calls h.allowed in (subst IsCanonical h.left x.0, subst Belongs h.left x.1)
+
+      regions : (p : Path) → region_part (regions_kept ks b.regions) p ≡ cond (reaches ks p) (region_part b.regions p) None
+      regions p = region_after fs ks b p h (kept_apart w s sound)
+
+      at : (f : Bool) → is_filtered q ≡ f → LooksSame writes q (base new q) (base b q)
+      at true e =
+          let there : Contains fs q = subst (Contains fs) (form_filtered q e) (listening_of (registered (listeners_after w s)) (form q) m) in
+          alike_looks writes q (base new q) (base b q) e
+          (unmoved_alike b (cut fs ks b) new (reaches ks) (heirs fs b (cut fs ks b)) (is_brought b holds.0 holds.1) (is_change fs ks b regions) q e there unmoved)
+      at false e =
+          let stays = recover_stays fs ks b (kept_apart w s sound) holds.0 in
+          let same : region_part (regions_kept ks b.regions) q.path ≡ region_part b.regions q.path = regions q.path ∙ ap (λ t. cond t (region_part b.regions q.path) None) (reached e) in
+          alike writes q (base new q) (base b q) (plain_found new q stays.filtered e ∙ ap (option_map of_part) same ∙ sym (plain_found b q (holds.0).filtered e))
 
 -- ---- a listener that stays
 
@@ -184,11 +175,11 @@ renewed_same w b ws l h m same known = at l.is_primed refl
         unknown true f = absurd (true≢false (sym (primed f) ∙ e))
 
 -- such a step pushes nothing and settles nothing
-record ChangesCoverAlone (w : World) (s : Step) : Type 0 where
-  taken : pushed w s ≡ w.brought
-  writes : pending (requests_after w s) ≡ pending w.requests
+pub record ChangesCoverAlone (w : World) (s : Step) : Type 0 where
+  pub taken : pushed w s ≡ w.brought
+  pub writes : pending (requests_after w s) ≡ pending w.requests
 
-cover_alone : (w : World) (s : Step) → changes_listeners s ≡ true → ChangesCoverAlone w s
+pub cover_alone : (w : World) (s : Step) → changes_listeners s ≡ true → ChangesCoverAlone w s
 cover_alone w (Step.Listen seat query) e = record { taken = refl; writes = refl }
 cover_alone w (Step.Unlisten seat listener) e = record { taken = refl; writes = refl }
 cover_alone w (Step.Revoked tag why) e = record { taken = refl; writes = refl }
@@ -220,14 +211,32 @@ changes_have_no_entries w Step.Connected e = absurd (true≢false (sym e))
 changes_have_no_entries w Step.Disconnected e = absurd (true≢false (sym e))
 
 pub stays_same : (w : World) (s : Step) → IsSound w → IsCalled w.brought → changes_listeners s ≡ true → (l : Listener) → Contains w.listeners l → Contains (listeners_after w s) l
-    → renewed (brought_after w s) (pending (requests_after w s)) l ≡ l
-stays_same w s h called c l old new =
+    → is_moved w.brought (brought_after w s) l.query ≡ false → renewed (brought_after w s) (pending (requests_after w s)) l ≡ l
+stays_same w s h called c l old new unmoved =
     let a = cover_alone w s c in
     let b = recover (listening_after w s) (forms_kept (kept_after w s)) w.brought in
     let ws = pending w.requests in
-    let looks = recover_same w s l.query h (form_stays (listeners_after w s) l new) ws w.brought called in
+    let still : is_moved w.brought b l.query ≡ false = sym (ap (λ x. is_moved w.brought (recover (listening_after w s) (forms_kept (kept_after w s)) x) l.query) a.taken) ∙ unmoved in
+    let looks = recover_same w s l.query h (form_stays (listeners_after w s) l new) ws w.brought called still in
     (λ i. renewed (recover (listening_after w s) (forms_kept (kept_after w s)) (a.taken i)) (a.writes i) l)
     ∙ renewed_same w b ws l h old (same_view ws l.query (base b l.query) (base w.brought l.query) looks) (ap (λ k. k || sets_whole ws l.query.path) looks.known)
+
+-- one that is moved was primed, and stays so
+moved_primed : (w : World) (b : Brought) (ws : List Write) (l : Listener) → IsSound w → IsCalled w.brought → Contains w.listeners l → is_moved w.brought b l.query ≡ true
+    → (l.is_primed ≡ true) × ((renewed b ws l).is_primed ≡ true)
+moved_primed w b ws l h called m moved = (primed, ap (λ p. (cond (p || is_known b ws l.query) (primed_view b ws l) l).is_primed) primed)
+  where
+    had : (o : Option Query) → source w.brought l.query ≡ o → is_some (source w.brought l.query) ≡ true
+    had (Some f) e = ap is_some e
+    had None e = absurd (true≢false (sym moved ∙ ap (λ o. option_map_or (λ f. not (query_eq f l.query)
+        && option_map_or (λ g. not (option_eq query_eq (source w.brought g) (Some f))) (source b l.query) false) o false) e))
+
+    knew : knows w.brought l.query ≡ true
+    knew = source_knows w.brought l.query (had (source w.brought l.query) refl)
+
+    primed : l.is_primed ≡ true
+    primed = All-contains (λ (x : Listener). is_known w.brought (pending w.requests) x.query ≡ true → x.is_primed ≡ true) w.listeners l h.primed m
+        (ap (λ k. k || sets_whole (pending w.requests) l.query.path) knew)
 
 -- ---- after a step
 
@@ -263,12 +272,30 @@ has_stayed w s h l m both =
 pub same_world : (w : World) → IsSound w → (l m : Listener) → IsInBoth w w l m → m ≡ l
 same_world w h l m both = one_number w.listeners l m h.rises both.before both.after both.number
 
-step_same : (w : World) (s : Step) (o : Option CoreError) (b : Bool) → IsSound w → IsCalled w.brought → changes_listeners s ≡ true → StayAsTheyWere w (step_by o b w s).0
-step_same w s (Some e) b h called c l m both = same_world w h l m both
-step_same w s None true h called c l m both = same_world w h l m both
-step_same w s None false h called c l m both =
-    let x = has_stayed w s h l m both in
-    x.renewed ∙ stays_same w s h called c l both.before x.stayed
+-- what is as it was is not moved
+same_unmoved : (b : Brought) (q : Query) → IsCanonical b → Belongs b → is_moved b b q ≡ false
+same_unmoved b q c h = unmoved_same b b q (is_brought b c h) refl
 
-pub cover_changes_no_view : CoverChangesNoView
-cover_changes_no_view w s h called c = step_same w s (refusal w s) (is_stale w s) h called c
+few_in_same : (w : World) → IsSteady w → StayUnlessMoved w w × MovedStayPrimed w w
+few_in_same w h = (
+  λ l m both unmoved. same_world w h.sound l m both,
+  λ l m both moved.
+      let x = calls_hold (h.called).calls (h.called).allowed in
+      absurd (true≢false (sym moved ∙ same_unmoved w.brought l.query (subst IsCanonical (h.called).left x.0) (subst Belongs (h.called).left x.1))),
+)
+
+few_after : (w : World) (s : Step) (o : Option CoreError) (b : Bool) → IsSteady w → changes_listeners s ≡ true → StayUnlessMoved w (step_by o b w s).0 × MovedStayPrimed w (step_by o b w s).0
+few_after w s (Some e) b h c = few_in_same w h
+few_after w s None true h c = few_in_same w h
+few_after w s None false h c = (
+  λ l m both unmoved.
+      let x = has_stayed w s h.sound l m both in
+      x.renewed ∙ stays_same w s h.sound h.called c l both.before x.stayed unmoved,
+  λ l m both moved.
+      let x = has_stayed w s h.sound l m both in
+      let y = moved_primed w (brought_after w s) (pending (requests_after w s)) l h.sound h.called both.before moved in
+      (y.0, ap (λ (z : Listener). z.is_primed) x.renewed ∙ y.1),
+)
+
+pub cover_changes_few_views : CoverChangesFewViews
+cover_changes_few_views w s h c = few_after w s (refusal w s) (is_stale w s) h c

@@ -11,10 +11,12 @@ use Rattle.rt_world.specs.Messages.{listens, unlistens, request_sent, messages_o
 use Rattle.rt_world.specs.Answers.{batch_from, batch_note, batch_notes}
 use Rattle.rt_world.specs.Touched.{entries_by}
 use Rattle.rt_world.specs.Met.{told, do_meet, renewed_met, told_met, all_told}
+use Rattle.rt_world.specs.Reached.{IsReached}
+use Rattle.rt_world.specs.laws.World.{changes_listeners}
 use Rattle.rt_world.specs.laws.Steps.{note_of}
 use Rattle.rt_world.specs.laws.Made.{IsMade, LeavesListens, StillLeavesListens}
 use Rattle.rt_world.proofs.KeptLaws.{listens_stay}
-use Rattle.rt_world.proofs.NamedLaws.{unmet_stays}
+use Rattle.rt_world.proofs.NamedLaws.{unmet_stays, still_unmoved}
 use Rattle.rt_world.proofs.NoteLaws.{batches_are_notes, still_is_quiet}
 use Rattle.rt_world.proofs.ReachedLaws.{still_listeners, push_is_brought}
 
@@ -36,10 +38,11 @@ gather_same f g (x ∷ xs) h =
 
 -- ---- steps
 
-module _ (w : World) (s : Step) (d : IsMade w s) (e : listeners_after w s ≡ w.listeners) where
+module _ (w : World) (s : Step) (d : IsMade w s) (reached : IsReached w) (still : changes_listeners s ≡ false) (e : listeners_after w s ≡ w.listeners) where
   -- a listener whose path no entry meets stays as it is
   stays : (l : Listener) → Contains w.listeners l → do_meet (entries_by w s) l.query.path ≡ false → renewed (brought_after w s) (pending (requests_after w s)) l ≡ l
-  stays l m f = unmet_stays w s d.sound d.called d.not_refused l m (subst (λ (ls : List Listener). Contains ls l) (sym e) m) f
+  stays l m f = unmet_stays w s d.sound d.called reached d.not_refused l m (subst (λ (ls : List Listener). Contains ls l) (sym e) m) f
+      (still_unmoved w s l.query d.sound d.called reached d.not_refused still f)
 
   -- and is told nothing
   quiet : (l : Listener) → Contains w.listeners l → do_meet (entries_by w s) l.query.path ≡ false → note_of w s l ≡ None
@@ -81,7 +84,7 @@ module _ (w : World) (s : Step) (d : IsMade w s) (e : listeners_after w s ≡ w.
 
 pub still_leaves_listens : StillLeavesListens
 still_leaves_listens w s d p e =
-    leaves_listens w s d (still_listeners w s e) (push_is_brought w s d.sound d.called p d.not_refused e)
+    leaves_listens w s d p e (still_listeners w s e) (push_is_brought w s d.sound d.called p d.not_refused e)
 
 -- ---- the world and the notes, said by what is brought, pending and sent
 

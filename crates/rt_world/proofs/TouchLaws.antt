@@ -160,12 +160,12 @@ seen_are_children w q t has = same_children t (seen w q) has
 
 pub unnamed_are_seen : UnnamedAreSeen
 unnamed_are_seen w s l h low k u =
-    child_next w s l.query h.sound h.called h.not_refused (form_stays (listeners_after w s) l h.there) k (misses_unnamed l.query.path k (entries_by w s) low u)
+    child_next w s l.query h.sound h.called h.reached h.not_refused (form_stays (listeners_after w s) l h.there) h.unmoved k (misses_unnamed l.query.path k (entries_by w s) low u)
 
 pub unmet_are_seen : UnmetAreSeen
 unmet_are_seen w s l h apart t has k =
     has k
-    ∙ sym (child_next w s l.query h.sound h.called h.not_refused (form_stays (listeners_after w s) l h.there) k (misses_below l.query.path (k ∷ []) (entries_by w s) apart))
+    ∙ sym (child_next w s l.query h.sound h.called h.reached h.not_refused (form_stays (listeners_after w s) l h.there) h.unmoved k (misses_below l.query.path (k ∷ []) (entries_by w s) apart))
 
 pub touch_is_enough : TouchIsEnough
 touch_is_enough w s l h low t has =

@@ -13,6 +13,9 @@ ghost use Rattle.rt_world.specs.laws.Examples.{ReconnectResends, RevokedPlainLis
 ghost use Rattle.rt_world.specs.laws.Examples.{RootListen, WholeWindow, WritePrimes, DisconnectActions};
 ghost use Rattle.rt_world.specs.laws.Examples.{MergePush, RefusalUnderLeaf, PlainCover, Refusals};
 ghost use Rattle.rt_world.specs.laws.Examples.{PartsInOneStep, PartsPassedOver};
+ghost use Rattle.rt_world.specs.laws.Ranges.{RangeSuppliesNarrower, RangeWindows};
+ghost use Rattle.rt_world.specs.laws.Ranges.{FirstSupplierChanges, LostRegionToWider};
+ghost use Rattle.rt_world.specs.laws.Ranges.{RevokedRangeHandsOn};
 
 /// A listen that is pushed null is empty, and is known.
 pub fn push_of_null()
@@ -158,6 +161,31 @@ pub fn steps_are_due()
     ensures servers { ServersAreDue }
     ensures connections { ConnectionsAreDue }
     ensures filtered { FilteredAreDue }
+{}
+
+/// A range supplies a narrower one, and leaves it its window.
+pub fn range_supplies_narrower()
+    ensures { RangeSuppliesNarrower }
+{}
+
+/// A listener sees by the window of the first range that takes in its own.
+pub fn range_windows()
+    ensures { RangeWindows }
+{}
+
+/// Which range is the first changes where its least-numbered listener goes, though its form stays.
+pub fn first_supplier_changes()
+    ensures { FirstSupplierChanges }
+{}
+
+/// Of two ranges that lose a region the wider gets the window, and the narrower sees by it.
+pub fn lost_region_to_wider()
+    ensures { LostRegionToWider }
+{}
+
+/// A window that is handed on keeps its mark.
+pub fn revoked_range_hands_on()
+    ensures { RevokedRangeHandsOn }
 {}
 
 /// What no listen reaches is lost in any step.

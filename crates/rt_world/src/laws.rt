@@ -1,5 +1,5 @@
 // The laws of the world.
-ghost use Rattle.rt_world.specs.laws.World.{HeadlineHolds, CoverChangesNoView};
+ghost use Rattle.rt_world.specs.laws.World.{HeadlineHolds, CoverChangesFewViews};
 ghost use Rattle.rt_world.specs.laws.World.{OnlyNamedChange, LeafNamesAll};
 ghost use Rattle.rt_world.specs.laws.World.{LeafReadsNamed, TouchedIsSeen, OthersKeepViews};
 ghost use Rattle.rt_world.specs.laws.World.{MessagesAreHeard, ConnectedSendsAll, NumbersStayWithin};
@@ -26,19 +26,19 @@ pub fn headline_law()
     ensures steps { StepTells }
 {}
 
-/// In a sound world a step that registers or ends listeners changes the cover as rt_cover says, starts
-/// and stops the listens that this tells, and changes the view and the primed mark of no listener that
-/// stays.
+/// In a sound world a step that registers or ends listeners changes the cover as rt_cover says, and
+/// starts and stops the listens that this tells. Of a listener that stays it changes the view only where
+/// that one had another form's window and now has one that does not come from it; it stays primed.
 pub fn cover_law()
     ensures changes { CoverFollows }
     ensures told { DeltaFollows }
-    ensures views { CoverChangesNoView }
+    ensures views { CoverChangesFewViews }
 {}
 
-/// Between steps: of what a listener sees a step changes the children that its entries name, unless
-/// one of them sits at or above the listener's path. A view that is touched with these is the view
-/// from scratch, and where a leaf comes or goes, one that takes all its children anew reads no more. A
-/// listener whose path no entry overlaps stays as it was.
+/// Between steps: of what a listener sees that is not moved to another form's window, a step changes
+/// the children that its entries name, unless one of them sits at or above the listener's path. A view
+/// that is touched with these is the view from scratch, and where a leaf comes or goes, one that takes
+/// all its children anew reads no more. Such a listener stays as it was where no entry overlaps its path.
 pub fn named_law()
     ensures named { OnlyNamedChange }
     ensures leaf { LeafNamesAll }
@@ -47,9 +47,10 @@ pub fn named_law()
     ensures others { OthersKeepViews }
 {}
 
-/// What holds of one step, for whoever holds views, each over a tree with the children that are seen:
-/// where an object stays, a view that is touched with the named children is what is seen then, and
-/// elsewhere its children and those that are seen then are no more than these.
+/// What holds of one step, for whoever holds views of listeners that are not moved, each over a tree
+/// with the children that are seen: where an object stays, a view that is touched with the named
+/// children is what is seen then, and elsewhere its children and those that are seen then are no more
+/// than these.
 pub fn touch_law()
     ensures children { SeenAreChildren }
     ensures unmet { UnmetAreSeen }
@@ -94,8 +95,8 @@ pub fn refusal_law()
 {}
 
 /// What a step leaves as it is: the listeners where it registers and ends none, the listens where the
-/// listeners stay, a listener whose path no entry of the step overlaps, and of each other its number,
-/// seat and query. A step that registers or ends listeners has no entries.
+/// listeners stay, a listener that is not moved and whose path no entry of the step overlaps, and of each
+/// other its number, seat and query. A step that registers or ends listeners has no entries.
 pub fn stay_law()
     ensures listeners { ListenersStay }
     ensures entries { ChangesHaveNoEntries }

@@ -1,4 +1,4 @@
-use Rattle.std.proofs.Common.{◌≡◌, ℕ, Bool, true, false, true≢false, List, [], ◌∷◌, length, refl, sym, ap, subst, arith}
+use Rattle.std.proofs.Common.{Bool, true, false, true≢false, List, [], ◌∷◌, refl, sym, ap, subst}
 use Rattle.rt_tree.specs.PathTree.{null, of_leaf, is_null, leaf_at, sub, put, with_children, children_alone, levels}
 use Rattle.rt_tree.specs.Children.{children_of}
 use Rattle.rt_tree.specs.TreeEq.{tree_eq}

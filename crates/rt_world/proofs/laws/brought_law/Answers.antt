@@ -1,4 +1,5 @@
-use Rattle.rt_world.proofs.ReachedLaws.{push_is_brought, listen_brings_nothing, stays_reached, kept_may_be_put}
+use Rattle.rt_world.proofs.Putting.{kept_may_be_put}
+use Rattle.rt_world.proofs.ReachedLaws.{push_is_brought, listen_brings_nothing, stays_reached}
 use Rattle.rt_world.proofs.laws.brought_law.Goals as goal
 
 pub returns : goal.returns

@@ -1,5 +1,5 @@
 use Rattle.rt_world.specs.World.{empty_world}
-use Rattle.rt_world.proofs.CalledLaws.{called_world}
+use Rattle.rt_world.proofs.HoldsLaws.{called_world}
 use Rattle.rt_world.proofs.SoundLaws.{sound_empty, sound_next, sound_run}
 use Rattle.rt_world.proofs.laws.sound_law.Goals as goal
 
