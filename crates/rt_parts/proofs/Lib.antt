@@ -8,6 +8,7 @@ pub mod PathLaws
 pub mod PlaceLaws
 pub mod PushLaws
 pub mod RefreshLaws
+pub mod RenewLaws
 pub mod Rises
 pub mod SameLaws
 pub mod SeenLaws

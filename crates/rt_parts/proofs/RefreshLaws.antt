@@ -30,6 +30,23 @@ Pair = Listener × Option View
 abbrev pub number_of : Pair → ℕ
 number_of p = p.0.number
 
+-- ---- numbers that are left
+
+pub drop_is : (numbers : List ℕ) (i n : ℕ) → i < length numbers → n ≡ get_or numbers i n → drop i numbers ≡ n ∷ drop (i + 1) numbers
+drop_is numbers i n within at = drop_more numbers i n within ∙ ap (λ m. m ∷ drop (i + 1) numbers) (sym at)
+
+pub later : (numbers : List ℕ) (i n : ℕ) → i < length numbers → n ≡ get_or numbers i n → AllPairs (λ k m. k < m) numbers → All (λ m. n < m) (drop (i + 1) numbers)
+later numbers i n within at rise k d lt =
+    let there : (i + 1) + k < length numbers = omega (arith, lt, within, length-drop (i + 1) numbers) in
+    let low : get_or numbers i d < get_or numbers ((i + 1) + k) d = rise i ((i + 1) + k) d (omega arith) there in
+    let here : n ≡ get_or numbers i d = at ∙ any_default numbers i n d within in
+    omega (arith, low, here, get_or-drop (i + 1) numbers k d)
+  where
+    any_default : (xs : List ℕ) (i : ℕ) (a c : ℕ) → i < length xs → get_or xs i a ≡ get_or xs i c
+    any_default [] i a c l = absurd (omega arith)
+    any_default (x ∷ xs) zero a c l = refl
+    any_default (x ∷ xs) (suc i) a c l = any_default xs i a c (omega arith)
+
 module _ (entries : List Assignment) (b : Brought) (writes : List Write) where
   abbrev pub told_of : Pair → Option Note
   told_of p = told_met entries b writes p.0
@@ -53,21 +70,6 @@ module _ (entries : List Assignment) (b : Brought) (writes : List Write) where
     where
       kept : (l : Listener) → (renewed b writes l).number ≡ l.number
       kept l = elim (l.is_primed || is_known b writes l.query) as (λ z. (cond z (record l { is_primed = true; view = Some (view_of b writes l.query) }) l).number ≡ l.number) [ true ↦ refl | false ↦ refl ]
-
-  drop_is : (numbers : List ℕ) (i n : ℕ) → i < length numbers → n ≡ get_or numbers i n → drop i numbers ≡ n ∷ drop (i + 1) numbers
-  drop_is numbers i n within at = drop_more numbers i n within ∙ ap (λ m. m ∷ drop (i + 1) numbers) (sym at)
-
-  later : (numbers : List ℕ) (i n : ℕ) → i < length numbers → n ≡ get_or numbers i n → AllPairs (λ k m. k < m) numbers → All (λ m. n < m) (drop (i + 1) numbers)
-  later numbers i n within at rise k d lt =
-      let there : (i + 1) + k < length numbers = omega (arith, lt, within, length-drop (i + 1) numbers) in
-      let low : get_or numbers i d < get_or numbers ((i + 1) + k) d = rise i ((i + 1) + k) d (omega arith) there in
-      let here : n ≡ get_or numbers i d = at ∙ any_default numbers i n d within in
-      omega (arith, low, here, get_or-drop (i + 1) numbers k d)
-    where
-      any_default : (xs : List ℕ) (i : ℕ) (a c : ℕ) → i < length xs → get_or xs i a ≡ get_or xs i c
-      any_default [] i a c l = absurd (omega arith)
-      any_default (x ∷ xs) zero a c l = refl
-      any_default (x ∷ xs) (suc i) a c l = any_default xs i a c (omega arith)
 
   -- one number more is done
   pub left_more : (numbers : List ℕ) (i n : ℕ) (ps new all : List Pair) → i < length numbers → n ≡ get_or numbers i n → AllPairs (λ k m. k < m) numbers

@@ -25,6 +25,7 @@ mod named;
 mod numbers;
 mod places;
 mod reading;
+mod renewing;
 mod requests;
 mod seeing;
 mod views;

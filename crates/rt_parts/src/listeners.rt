@@ -1,23 +1,27 @@
 // The registered listeners.
 ghost use Rattle.std.specs.Prelude.{◌≡◌, ◌≢◌, ◌==◌, ◌↔◌, ◌&&◌, ◌<◌, ◌++◌, ◌∷◌, [], not, map};
-ghost use Rattle.std.specs.Prelude.{length, IsTrue, IfOk, OnOk, OnErr, None, Err};
+ghost use Rattle.std.specs.Prelude.{length, IsTrue, IsOk, IfOk, OnOk, OnErr, None, Err};
 ghost use Rattle.std.specs.List.{All, filter, find, list_any, position, zip};
 ghost use Rattle.std.specs.Option.{option_to_list};
+ghost use Rattle.rt_query.specs.Queries.{Query};
 ghost use Rattle.rt_query.specs.QueryEq.{query_eq};
 ghost use Rattle.rt_query.specs.Supply.{form};
+ghost use Rattle.rt_cache.specs.Recover.{is_among};
 ghost use Rattle.rt_world.specs.Answers.{view_before};
 ghost use Rattle.rt_world.specs.Met.{all_told, renewed_met, told};
 ghost use Rattle.rt_world.specs.After.{renewed};
 ghost use Rattle.rt_parts.specs.Listeners.{cancelled_note, first_view_of, new_listener};
 ghost use Rattle.rt_parts.specs.Listeners.{no_listeners, views_left};
 ghost use Rattle.rt_parts.specs.Refreshed.{FollowNamed, view_met};
+ghost use Rattle.rt_parts.specs.Renewed.{all_told_of, is_listened_at, renewed_of, view_of};
 
 use crate::adding::first;
 use crate::ending::{end_form, end_number, end_seat, tell_ends};
 use crate::error::ShownError;
 use crate::held::{Held, is_seats, place_of};
-use crate::places::{Place, insert_place, numbers_met};
+use crate::places::{Place, insert_place, numbers_met, push_at};
 use crate::reading::{numbers_of, shown};
+use crate::renewing::{numbers_at, queries_of, renew_all};
 use crate::views::refresh;
 use rt_cache::Brought;
 use rt_query::{Query, Shown};
@@ -139,6 +143,52 @@ impl Listeners {
         Ok(())
     }
 
+    /// Takes the views of the listeners of these queries from scratch, and tells the seats what changes; a
+    /// listener without a view gets its first, where something is known for it. No other listener is
+    /// renewed: those at the paths of the queries are found by halving, and are alone looked at. Where
+    /// there is no query it takes no memory.
+    ///
+    /// # Errors
+    ///
+    /// Want of memory. The listeners are gone then, and some seats may be told.
+    pub fn renew(
+        &mut self,
+        queries: &[Query],
+        brought: &Brought,
+        pending: &Pending,
+        notes: &mut Vec<Note>,
+    ) -> Result<(), AllocError>
+        ensures listeners { OnOk result (self.new.listeners
+            ≡ map (renewed_of queries.now brought.now pending.now) self.old.listeners) }
+        ensures views { OnOk result (self.new.views
+            ≡ map (view_of queries.now brought.now pending.now)
+            (zip self.old.listeners self.old.views)) }
+        ensures notes { OnOk result (notes.new.items ≡ notes.old.items
+            ++ all_told_of queries.now brought.now pending.now self.old.listeners) }
+        ensures gives_up { OnErr result (self.new ≡ no_listeners) }
+        ensures none { queries.now ≡ [] → IsOk result }
+    {
+        let alloc = *self.held.allocator();
+        if queries.is_empty() {
+            return Ok(());
+        }
+        let mut held = replace(&mut self.held, Vec::new(alloc));
+        let places = replace(&mut self.places, Vec::new(alloc));
+        let numbers = numbers_at(alloc, &places, queries)?;
+        renew_all(
+            alloc,
+            held.as_mut_slice(),
+            &numbers,
+            queries,
+            brought,
+            pending,
+            notes,
+        )?;
+        self.held = held;
+        self.places = places;
+        Ok(())
+    }
+
     /// Adds a listener. It gets its first view where something is known for its query, and its seat
     /// is told.
     ///
@@ -224,6 +274,17 @@ impl Listeners {
             ≡ map (λ l. l.number) (filter (λ l. l.seat == seat) self.now.listeners)) }
     {
         numbers_of(alloc, &self.held, seat)
+    }
+
+    /// The filtered queries of the path that have listeners, each once. The listeners of the path are
+    /// found by halving, and are alone looked at. An `Err` is want of memory.
+    pub fn queries_at(&self, alloc: Global, path: &Path) -> Result<Vec<Query>, AllocError>
+        ensures { IfOk result (λ queries. (q : Query) → is_among queries.items q
+            ≡ is_listened_at self.now.listeners path.now q) }
+    {
+        let mut numbers = Vec::new(alloc);
+        push_at(&mut numbers, &self.places, path.keys())?;
+        queries_of(alloc, &self.held, &numbers, path)
     }
 
     /// What the view of the listener of that number shows; `None` where it has none yet. The trees

@@ -72,7 +72,11 @@ fn push_numbers(numbers: &mut Vec<u64>, places: &[Place]) -> Result<(), AllocErr
 }
 
 // Adds the numbers of those of a path.
-fn push_at(numbers: &mut Vec<u64>, places: &[Place], path: &[Key]) -> Result<(), AllocError>
+pub(crate) fn push_at(
+    numbers: &mut Vec<u64>,
+    places: &[Place],
+    path: &[Key],
+) -> Result<(), AllocError>
     requires { AreInOrder places.now }
     ensures kept { OnOk result (Keeps numbers.old.items numbers.new.items) }
     ensures all { OnOk result (HaveNumbers (λ x. path_eq x.path path.now)
@@ -130,7 +134,7 @@ fn push_met(numbers: &mut Vec<u64>, places: &[Place], path: &Path) -> Result<(),
 }
 
 // Sorts the numbers, each once.
-fn sort_once(numbers: &mut Vec<u64>)
+pub(crate) fn sort_once(numbers: &mut Vec<u64>)
     ensures rise { AllPairs (λ m n. m < n) numbers.new.items }
     ensures same { (p : ℕ → Bool) → list_any p numbers.new.items ≡ list_any p numbers.old.items }
 {

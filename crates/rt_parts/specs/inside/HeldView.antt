@@ -10,15 +10,15 @@ use Rattle.rt_query.specs.QueryEq.{query_eq}
 use Rattle.rt_query.specs.Select.{Shown}
 use Rattle.rt_query.specs.Supply.{form}
 use Rattle.rt_writes.specs.Writes.{Write}
-use Rattle.rt_cache.specs.Brought.{Brought, base}
+use Rattle.rt_cache.specs.Brought.{Brought}
 use Rattle.rt_view.specs.Views.{View, first_view, renewed, shown_of}
 use Rattle.rt_world.specs.declared.report.Note.{Note}
 use Rattle.rt_world.specs.Met.{renewed_met, told_met}
-use Rattle.rt_world.specs.Views.{seen_over}
 use Rattle.rt_world.specs.World.{Listener, Reason}
 use Rattle.rt_parts.specs.declared.held.Held.{Held}
-use Rattle.rt_parts.specs.Listeners.{cancelled_note, first_view_of, Listeners}
+use Rattle.rt_parts.specs.Listeners.{cancelled_note, Listeners}
 use Rattle.rt_parts.specs.Refreshed.{view_met}
+use Rattle.rt_parts.specs.Renewed.{renewed_of, told_of, view_of}
 
 -- what a view shows
 abbrev pub shown_in : Option View → Option Shown
@@ -67,15 +67,27 @@ abbrev pub told_at : ℕ → List Assignment → Brought → List Write
 told_at number entries b writes p =
     if p.0.number == number then told_met entries b writes p.0 else None
 
+-- both renewed for these queries
+abbrev pub renewed_pair : List Query → Brought → List Write
+    → Listener × Option View → Listener × Option View
+renewed_pair queries b writes p = (renewed_of queries b writes p.0, view_of queries b writes p)
+
+-- the same of the listener of that number alone
+abbrev pub renewed_at : ℕ → List Query → Brought → List Write
+    → Listener × Option View → Listener × Option View
+renewed_at number queries b writes p =
+    if p.0.number == number then renewed_pair queries b writes p else p
+
+-- what its seat is told
+abbrev pub renewal_told_at : ℕ → List Query → Brought → List Write
+    → Listener × Option View → Option Note
+renewal_told_at number queries b writes p =
+    if p.0.number == number then told_of queries b writes p.0 else None
+
 -- what a view becomes that sees that tree; the first where there is none
 abbrev pub view_over : Query → PathTree → Option View → View
 view_over q t None = first_view q t
 view_over q t (Some v) = renewed v t
-
--- and where it is due
-abbrev pub view_anew : Brought → List Write → Query → Option View → Option View
-view_anew b writes q None = first_view_of b writes q
-view_anew b writes q (Some v) = Some (renewed v (seen_over (base b q) writes q))
 
 -- a listener's number with its view, if it passes
 abbrev pub own_view : (Listener → Bool) → Held → Option (ℕ × Option View)

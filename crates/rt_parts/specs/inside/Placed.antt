@@ -5,7 +5,8 @@ use Rattle.std.specs.declared.cmp.Ordering.TheVariants.{Less}
 use Rattle.std.specs.List.{All, AllPairs, list_any}
 use Rattle.std.specs.Ordering.{nat_cmp, ordering_then}
 use Rattle.std.specs.Prelude.{◌==◌}
-use Rattle.rt_tree.specs.PathTree.{Path, path_cmp}
+use Rattle.rt_tree.specs.PathTree.{Path, path_cmp, path_eq}
+use Rattle.rt_query.specs.Queries.{Query}
 use Rattle.rt_parts.specs.declared.held.Held.{Held}
 use Rattle.rt_parts.specs.declared.places.Place.{Place}
 
@@ -38,3 +39,8 @@ Keeps old new = (p : ℕ → Bool) → list_any p old ≡ true → list_any p ne
 abbrev pub HaveNumbers : (Place → Bool) → List ℕ → List Place → Type 0
 HaveNumbers test numbers places =
     All (λ x. test x ≡ true → list_any (λ n. x.number == n) numbers ≡ true) places
+
+-- the numbers of those at the paths of these queries are among these
+abbrev pub HaveAt : List Query → List ℕ → List Place → Type 0
+HaveAt queries numbers places =
+    HaveNumbers (λ x. list_any (λ q. path_eq q.path x.path) queries) numbers places

@@ -1,0 +1,82 @@
+use Rattle.std.proofs.Common.{◌≡◌, ◌==◌, ◌++◌, true, [], List, length, map, sym, ap, subst, ◌∙◌, rules, append-nil}
+use Rattle.std.specs.List.{All, list_any, zip}
+use Rattle.std.proofs.lemmas.List.{with_items_is}
+use Rattle.rt_tree.specs.PathTree.{path_eq}
+use Rattle.rt_query.specs.Queries.{Query}
+use Rattle.rt_cache.specs.Recover.{is_among}
+use Rattle.rt_world.specs.declared.report.Note.{Note}
+use Rattle.rt_parts.specs.declared.held.Held.{Held}
+use Rattle.rt_parts.specs.declared.places.Place.{Place}
+use Rattle.rt_parts.specs.inside.Placed.{HaveNumbers, IsIndex}
+use Rattle.rt_parts.specs.Listeners.{Listeners}
+use Rattle.rt_parts.specs.Renewed.{all_told_of, renewed_of, view_of}
+use Rattle.rt_parts.specs.inside.HeldView.{AreHeld, listeners_of, pair_of, renewed_pair, views_of}
+use Rattle.rt_parts.proofs.IndexLaws.{have_due, index_read}
+use Rattle.rt_parts.proofs.RenewLaws.{all_listeners, all_views, no_items, none_noted, none_renewed, none_viewed, path_of_among, placed_same}
+use Rattle.rt_parts.proofs.listeners.Listeners.renew.Goals as goal
+
+-- for no query nothing is done
+pub returns-then-is_empty-clause-listeners : goal.returns-then-is_empty-clause-listeners
+returns-then-is_empty-clause-listeners c =
+    let none : c.args.queries.now ≡ [] = no_items c.args.queries.now (sym c.is_empty.ensures ∙ c.if-is_empty.true) in
+    none_renewed c.args.brought.now c.args.pending.now (c.args.self.now).listeners
+    ∙ ap (λ (qs : List Query). map (renewed_of qs c.args.brought.now c.args.pending.now) (c.args.self.now).listeners) (sym none)
+
+pub returns-then-is_empty-clause-views : goal.returns-then-is_empty-clause-views
+returns-then-is_empty-clause-views c =
+    let none : c.args.queries.now ≡ [] = no_items c.args.queries.now (sym c.is_empty.ensures ∙ c.if-is_empty.true) in
+    let held : (c.args.self.now).views ≡ map (view_of [] c.args.brought.now c.args.pending.now) (zip (c.args.self.now).listeners (c.args.self.now).views) =
+    subst (λ (all : Listeners). all.views ≡ map (view_of [] c.args.brought.now c.args.pending.now) (zip all.listeners all.views)) c.self.view_is (none_viewed c.args.brought.now c.args.pending.now c.self.inside.held.items) in
+    held ∙ ap (λ (qs : List Query). map (view_of qs c.args.brought.now c.args.pending.now) (zip (c.args.self.now).listeners (c.args.self.now).views)) (sym none)
+
+pub returns-then-is_empty-clause-notes : goal.returns-then-is_empty-clause-notes
+returns-then-is_empty-clause-notes c =
+    let none : c.args.queries.now ≡ [] = no_items c.args.queries.now (sym c.is_empty.ensures ∙ c.if-is_empty.true) in
+    sym (ap (λ (qs : List Query). c.args.notes.now.items ++ all_told_of qs c.args.brought.now c.args.pending.now (c.args.self.now).listeners) none
+    ∙ ap (λ (ns : List Note). c.args.notes.now.items ++ ns) (none_noted c.args.brought.now c.args.pending.now (c.args.self.now).listeners) ∙ append-nil c.args.notes.now.items)
+
+pub renew_all-requires-clause-numbers : goal.renew_all-requires-clause-numbers
+renew_all-requires-clause-numbers c =
+    let old : c.as_mut_slice.result.now ≡ c.self.inside.held.items = search rules in
+    let numbers : c.deref-2.result.now ≡ c.in_ok-numbers.numbers.items = c.deref-2.ensures.value in
+    let places : c.deref.result.now ≡ c.self.inside.places.items = search rules in
+    let test : Place → _ = λ (x : Place). list_any (λ (q : Query). path_eq q.path x.path) c.args.queries.now in
+    let all : HaveNumbers test c.in_ok-numbers.numbers.items c.self.inside.places.items =
+    subst (HaveNumbers test c.in_ok-numbers.numbers.items) places c.in_ok-numbers.ensures.all in
+    let due = have_due test c.in_ok-numbers.numbers.items c.self.inside.held.items c.self.inside.places.items c.self.invariant.1 all in
+    subst (λ hs. All (λ (l : Held). is_among c.args.queries.now l.query ≡ true → list_any (λ n. l.number == n) c.deref-2.result.now ≡ true) hs) (sym old)
+    (subst (λ ns. All (λ (l : Held). is_among c.args.queries.now l.query ≡ true → list_any (λ n. l.number == n) ns ≡ true) c.self.inside.held.items) (sym numbers)
+    (λ k d lt e. due k d lt (path_of_among c.args.queries.now _ e)))
+
+pub invariant_of-self-2 : goal.invariant_of-self-2
+invariant_of-self-2 c =
+    let long : length c.renew_all.new.listeners ≡ c.replace-held.result.len = search rules in
+    let old : c.as_mut_slice.result.now ≡ c.self.inside.held.items = search rules in
+    let places : c.replace-places.result.items ≡ c.self.inside.places.items = search rules in
+    let items = with_items_is c.replace-held.result c.renew_all.new.listeners long in (
+      subst AreHeld (sym items) c.in_ok-renew_all.ensures.held,
+      subst (λ hs. IsIndex hs c.replace-places.result.items) (sym items)
+          (subst (IsIndex c.renew_all.new.listeners) (sym places)
+          (index_read c.self.inside.held.items c.renew_all.new.listeners c.self.inside.places.items
+          (placed_same c.args.queries.now c.args.brought.now c.args.pending.now c.self.inside.held.items c.renew_all.new.listeners
+          (c.in_ok-renew_all.ensures.pairs ∙ ap (λ hs. map (renewed_pair c.args.queries.now c.args.brought.now c.args.pending.now) (map pair_of hs)) old))
+          c.self.invariant.1)),
+    )
+
+pub returns-clause-listeners : goal.returns-clause-listeners
+returns-clause-listeners c =
+    let long : length c.renew_all.new.listeners ≡ c.replace-held.result.len = search rules in
+    let old : c.as_mut_slice.result.now ≡ c.self.inside.held.items = search rules in
+    ap listeners_of (with_items_is c.replace-held.result c.renew_all.new.listeners long)
+    ∙ all_listeners c.args.queries.now c.args.brought.now c.args.pending.now c.self.inside.held.items c.renew_all.new.listeners
+    (c.in_ok-renew_all.ensures.pairs ∙ ap (λ hs. map (renewed_pair c.args.queries.now c.args.brought.now c.args.pending.now) (map pair_of hs)) old)
+    ∙ ap (λ (all : Listeners). map (renewed_of c.args.queries.now c.args.brought.now c.args.pending.now) all.listeners) c.self.view_is
+
+pub returns-clause-views : goal.returns-clause-views
+returns-clause-views c =
+    let long : length c.renew_all.new.listeners ≡ c.replace-held.result.len = search rules in
+    let old : c.as_mut_slice.result.now ≡ c.self.inside.held.items = search rules in
+    ap views_of (with_items_is c.replace-held.result c.renew_all.new.listeners long)
+    ∙ all_views c.args.queries.now c.args.brought.now c.args.pending.now c.self.inside.held.items c.renew_all.new.listeners
+    (c.in_ok-renew_all.ensures.pairs ∙ ap (λ hs. map (renewed_pair c.args.queries.now c.args.brought.now c.args.pending.now) (map pair_of hs)) old)
+    ∙ ap (λ (all : Listeners). map (view_of c.args.queries.now c.args.brought.now c.args.pending.now) (zip all.listeners all.views)) c.self.view_is
