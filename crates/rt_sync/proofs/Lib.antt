@@ -2,12 +2,16 @@ pub mod AppliedAll
 pub mod GoodWorlds
 pub mod LentEntries
 pub mod Listened
+pub mod Lists
 pub mod Losing
 pub mod LostForms
+pub mod Moved
+pub mod MovingLaws
 pub mod NextWorlds
 pub mod PlacesLeft
 pub mod PushedTags
 pub mod RefusalLaws
 pub mod TagLaws
+pub mod Uncovered
 pub mod Viewed
 pub mod ViewLaws

@@ -13,15 +13,16 @@ use Rattle.rt_query.specs.Queries.{Query, is_filtered}
 use Rattle.rt_query.specs.QueryEq.{query_eq}
 use Rattle.rt_query.specs.Supply.{form, does_supply}
 use Rattle.rt_query.specs.laws.QueryEq.{query_eq_tells}
-use Rattle.rt_cache.specs.Brought.{Brought, Window}
-use Rattle.rt_cache.specs.Recover.{reaches, is_among, is_under_lost, loses_region, EndsForms}
+use Rattle.rt_query.specs.laws.SupplyLaws.{supplied_is_filtered}
+use Rattle.rt_cache.specs.Brought.{Brought}
+use Rattle.rt_cache.specs.Recover.{reaches, is_among, is_under_lost, EndsForms}
 use Rattle.rt_cache.proofs.Places.{comparable}
 use Rattle.rt_cover.specs.declared.delta.Delta.{Delta}
 use Rattle.rt_cover.specs.Cover.{Registered, Tagged, Supplies, forms, is_kept, needed}
 use Rattle.rt_cover.specs.State.{Cover, needed_forms, supplier}
 use Rattle.rt_cover.specs.laws.Apart.{PlainsStandApart}
 use Rattle.rt_cover.specs.laws.CoverLaws.{Contains-filter, Contains-from_filter, is_covered, IsForm}
-use Rattle.rt_cover.specs.laws.FormLaws.{same_tests, supply_filtered, supply_unfiltered}
+use Rattle.rt_cover.specs.laws.FormLaws.{same_tests, supply_unfiltered}
 use Rattle.rt_cover.specs.laws.KeepLaws.{Contains-from_map, Contains-map, length_of_map, forms_are, fewest_kept}
 use Rattle.rt_cover.specs.laws.Pairs.{AllPairs-map}
 use Rattle.rt_cover.specs.laws.Paths.{is_at_or_above-trans}
@@ -136,7 +137,7 @@ still_reaches : (q s : Query) (p : Path) → is_filtered q ≡ false → is_at_o
     → (not (is_filtered s) && is_at_or_above s.path p) ≡ true
 still_reaches q s p flat above e =
     elim (is_filtered s) as (λ b. is_filtered s ≡ b → (not b && is_at_or_above s.path p) ≡ true) [
-      | true ↦ λ f. absurd (true≢false (sym f ∙ ap is_filtered ((query_eq_tells s q).0 (sym (supply_filtered s q f) ∙ e)) ∙ flat))
+      | true ↦ λ f. absurd (true≢false (sym (supplied_is_filtered s q f e) ∙ flat))
       | false ↦ λ f. is_at_or_above-trans s.path q.path p (sym (supply_unfiltered s q f) ∙ e) above
     ] refl
 
@@ -324,47 +325,10 @@ module _ (was is : Cover) (numbers : List ℕ) (ls : List Listener) (ended : Lis
           let same : g.0 ≡ k = needed_alone (forms was.listeners) k g.0 (was_needed k (kept_form was.kept k s)) (was_registered g.0 g.1) (supply_unfiltered g.0 k g.2 ∙ above) in
           sym (reached_of kept_is k (a.1).0 m plain (subst (λ (q : Query). is_at_or_above q.path (a.1).0 ≡ true) same g.3)) ∙ lost
 
-  leaves : (f : Query) → Contains (listening is.listeners) f → loses_region kept_is b.regions f ≡ true → Contains begun f
-  leaves f m e = begins f (Contains-filter (λ g. not (is_covered (forms is.listeners) g)) (forms is.listeners) f there (ap not (no (is_covered (forms is.listeners) f) (λ s. absurd (true≢false (covered s))))))
-      (no (is_kept was.kept f) (λ s. absurd (true≢false (old s))))
-    where
-      there : Contains (forms is.listeners) f
-      there = form_listened is.listeners f m
+  -- ---- filtered forms
 
-      both_e : (is_filtered f && list_any (λ (r : Path × PathTree). is_at_or_above r.0 f.path) b.regions) ≡ true
-      both_e = both_first (is_filtered f && list_any (λ (r : Path × PathTree). is_at_or_above r.0 f.path) b.regions) (not (reaches kept_is f.path)) e
-
-      filtered : is_filtered f ≡ true
-      filtered = both_first (is_filtered f) (list_any (λ (r : Path × PathTree). is_at_or_above r.0 f.path) b.regions) both_e
-
-      a : Any (λ (r : Path × PathTree). is_at_or_above r.0 f.path ≡ true) b.regions
-      a = Any-from_list_any (λ (r : Path × PathTree). is_at_or_above r.0 f.path) b.regions (both_second (is_filtered f) _ both_e)
-
-      unreached : reaches kept_is f.path ≡ false
-      unreached = fails (reaches kept_is f.path) (both_second (is_filtered f && list_any (λ (r : Path × PathTree). is_at_or_above r.0 f.path) b.regions) (not (reaches kept_is f.path)) e)
-
-      -- what else supplies it is plain, and reaches it
-      covered : is_covered (forms is.listeners) f ≡ true → true ≡ false
-      covered s =
-          let x = Any-from_list_any (λ (g : Query). not (query_eq g f) && does_supply g f) (forms is.listeners) s in
-          let other : query_eq x.1 f ≡ false = fails (query_eq x.1 f) (both_first (not (query_eq x.1 f)) (does_supply x.1 f) x.4) in
-          let supplies : does_supply x.1 f ≡ true = both_second (not (query_eq x.1 f)) (does_supply x.1 f) x.4 in
-          elim (is_filtered x.1) as (λ c. is_filtered x.1 ≡ c → true ≡ false) [
-            | true ↦ λ t. sym (sym (supply_filtered x.1 f t) ∙ supplies) ∙ other
-            | false ↦ λ t. sym (reached_supplied x.1 f.path (supplied x.1 (x.0, x.2, x.3)) t (sym (supply_unfiltered x.1 f t) ∙ supplies)) ∙ unreached
-          ] refl
-
-      old : is_kept was.kept f ≡ true → true ≡ false
-      old s =
-          let g = reacher kept_was (a.1).0 (reached_before a.1 (a.0, a.2, a.3)) in
-          let above : is_at_or_above (g.0).path f.path ≡ true = is_at_or_above-trans (g.0).path (a.1).0 f.path g.3 a.4 in
-          let same : g.0 ≡ f = needed_alone (forms was.listeners) f g.0 (was_needed f (kept_form was.kept f s)) (was_registered g.0 g.1) (supply_unfiltered g.0 f g.2 ∙ above) in
-          sym filtered ∙ ap is_filtered (sym same) ∙ g.2
-
-  -- ---- windows
-
-  window : (x : Query) → Contains (listening was.listeners) x → is_filtered x ≡ true → is_among (listening is.listeners) x ≡ not (is_among gone x)
-  window x m filtered =
+  form_ends : (x : Query) → Contains (listening was.listeners) x → is_filtered x ≡ true → is_among (listening is.listeners) x ≡ not (is_among gone x)
+  form_ends x m filtered =
       any_listener x is.listeners
       ∙ told (is_among ended x) (has x) (either x m)
       ∙ ap not (sym (any_passing (is_ended is) x ended ∙ ap (λ c. c && is_among ended x) (ends x m (λ i. filtered i || not (is_some (supplier is x))))))
@@ -375,7 +339,7 @@ module _ (was is : Cover) (numbers : List ℕ) (ls : List Listener) (ended : Lis
       told false true k = refl
       told false false k = absurd (true≢false (sym k))
 
-  pub ends_forms : PlainsStandApart → EndsForms gone begun (listening is.listeners) kept_is b.regions b.windows
+  pub ends_forms : PlainsStandApart → EndsForms gone begun (listening was.listeners) (listening is.listeners) kept_is b.regions
   ends_forms law = record {
     registered = λ k d lt. listening_of is.listeners (slice_index_or kept_is k d) (kept_registered (slice_index_or kept_is k d) (Contains-get_or kept_is k d lt));
     apart = law (forms is.listeners) kept_is (h.is_sound).only (AllPairs-map (λ (k : Tagged). k.form) (λ f g. f ≢ g) is.kept (h.is_sound).once);
@@ -388,12 +352,12 @@ module _ (was is : Cover) (numbers : List ℕ) (ls : List Listener) (ended : Lis
         (distinct_apart (map (λ (l : Registered). l.1) is.listeners)))));
     regions = regions;
     parts = λ k d lt. part (slice_index_or kept_is k d) (Contains-get_or kept_is k d lt);
-    left = λ k d lt. leaves (slice_index_or (listening is.listeners) k d) (Contains-get_or (listening is.listeners) k d lt);
-    windows = λ k d lt. window (slice_index_or b.windows k d).0 (h.windows k d lt);
+    filtered = λ k d lt. form_ends (slice_index_or (listening was.listeners) k d) (Contains-get_or (listening was.listeners) k d lt);
   }
 
 -- told of what is as these are
-pub told_by : (gone begun forms xs ys zs kept : List Query) (rs : List (Path × PathTree)) (ws : List (Query × Window)) → xs ≡ gone → ys ≡ begun → zs ≡ forms
-    → EndsForms gone begun forms kept rs ws → EndsForms xs ys zs kept rs ws
-told_by gone begun forms xs ys zs kept rs ws e f g h =
-    subst (λ fs. EndsForms fs ys zs kept rs ws) (sym e) (subst (λ fs. EndsForms gone fs zs kept rs ws) (sym f) (subst (λ fs. EndsForms gone begun fs kept rs ws) (sym g) h))
+pub told_by : (gone begun were forms xs ys vs zs kept : List Query) (rs : List (Path × PathTree)) → xs ≡ gone → ys ≡ begun → vs ≡ were → zs ≡ forms
+    → EndsForms gone begun were forms kept rs → EndsForms xs ys vs zs kept rs
+told_by gone begun were forms xs ys vs zs kept rs e f v g h =
+    subst (λ fs. EndsForms fs ys vs zs kept rs) (sym e) (subst (λ fs. EndsForms gone fs vs zs kept rs) (sym f)
+    (subst (λ fs. EndsForms gone begun fs zs kept rs) (sym v) (subst (λ fs. EndsForms gone begun were fs kept rs) (sym g) h)))

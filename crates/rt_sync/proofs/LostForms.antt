@@ -150,34 +150,35 @@ forms_listened rs (n ∷ ns) = at (forms_listened rs ns) (find (λ (l : Register
 some_is : (x y : Registered) → Some x ≡ Some y → x ≡ y
 some_is x y e = cc
 
--- the listeners without those of a form are those without its numbers
-form_numbers : (rs : List Registered) → AllPairs (λ (x y : Registered). x.0 < y.0) rs → (g : Query) → without_form rs g ≡ without_listeners rs (numbers_of rs g)
-form_numbers rs up g =
-    filter_agreeing (λ (l : Registered). not (query_eq l.1 g)) (λ (l : Registered). not (list_any (λ n. n == l.0) (numbers_of rs g))) rs
-    (λ k d lt. ap not (one (slice_index_or rs k d) (Contains-get_or rs k d lt)))
+-- the numbers of a form are those of its listeners
+pub of_form_numbers : (rs : List Registered) → AllPairs (λ (x y : Registered). x.0 < y.0) rs → (g : Query) (l : Registered) → Contains rs l → query_eq l.1 g ≡ list_any (λ n. n == l.0) (numbers_of rs g)
+of_form_numbers rs up g l m = same_tests (query_eq l.1 g) (list_any (λ n. n == l.0) (numbers_of rs g)) there back
   where
     of_form : Registered → Bool
     of_form l = query_eq l.1 g
 
-    one : (l : Registered) → Contains rs l → query_eq l.1 g ≡ list_any (λ n. n == l.0) (numbers_of rs g)
-    one l m = same_tests (query_eq l.1 g) (list_any (λ n. n == l.0) (numbers_of rs g)) there back
-      where
-        there : query_eq l.1 g ≡ true → list_any (λ n. n == l.0) (numbers_of rs g) ≡ true
-        there e =
-            let k = Contains-filter of_form rs l m e in
-            let n = Contains-map (λ (x : Registered). x.0) (filter of_form rs) k.0 l k.1 k.2 in
-            list_any_at (λ j. j == l.0) (numbers_of rs g) n.0 l.0 n.1 (ap (λ j. j == l.0) n.2 ∙ eq-eqb l.0 l.0 refl)
+    there : query_eq l.1 g ≡ true → list_any (λ n. n == l.0) (numbers_of rs g) ≡ true
+    there e =
+        let k = Contains-filter of_form rs l m e in
+        let n = Contains-map (λ (x : Registered). x.0) (filter of_form rs) k.0 l k.1 k.2 in
+        list_any_at (λ j. j == l.0) (numbers_of rs g) n.0 l.0 n.1 (ap (λ j. j == l.0) n.2 ∙ eq-eqb l.0 l.0 refl)
 
-        back : list_any (λ n. n == l.0) (numbers_of rs g) ≡ true → query_eq l.1 g ≡ true
-        back e =
-            let a = Any-from_list_any (λ n. n == l.0) (numbers_of rs g) e in
-            let x = Contains-from_map (λ (y : Registered). y.0) (filter of_form rs) a.0 a.1 (subst (λ n. a.0 < n) (length_of_map (λ (y : Registered). y.0) (filter of_form rs)) a.2) a.3 in
-            let y : Registered = x.0 in
-            let my : Contains rs y = Contains-from_filter of_form rs y x.1 in
-            let number : y.0 ≡ l.0 = x.2 ∙ eqb-true a.1 l.0 a.4 in
-            let both : Some y ≡ Some l = sym (find_own rs y up my) ∙ ap (λ n. find (λ (z : Registered). z.0 == n) rs) number ∙ find_own rs l up m in
-            let same : y ≡ l = some_is y l both in
-            ap (λ (z : Registered). query_eq z.1 g) (sym same) ∙ passes-from_filter of_form rs y x.1
+    back : list_any (λ n. n == l.0) (numbers_of rs g) ≡ true → query_eq l.1 g ≡ true
+    back e =
+        let a = Any-from_list_any (λ n. n == l.0) (numbers_of rs g) e in
+        let x = Contains-from_map (λ (y : Registered). y.0) (filter of_form rs) a.0 a.1 (subst (λ n. a.0 < n) (length_of_map (λ (y : Registered). y.0) (filter of_form rs)) a.2) a.3 in
+        let y : Registered = x.0 in
+        let my : Contains rs y = Contains-from_filter of_form rs y x.1 in
+        let number : y.0 ≡ l.0 = x.2 ∙ eqb-true a.1 l.0 a.4 in
+        let both : Some y ≡ Some l = sym (find_own rs y up my) ∙ ap (λ n. find (λ (z : Registered). z.0 == n) rs) number ∙ find_own rs l up m in
+        let same : y ≡ l = some_is y l both in
+        ap (λ (z : Registered). query_eq z.1 g) (sym same) ∙ passes-from_filter of_form rs y x.1
+
+-- the listeners without those of a form are those without its numbers
+form_numbers : (rs : List Registered) → AllPairs (λ (x y : Registered). x.0 < y.0) rs → (g : Query) → without_form rs g ≡ without_listeners rs (numbers_of rs g)
+form_numbers rs up g =
+    filter_agreeing (λ (l : Registered). not (query_eq l.1 g)) (λ (l : Registered). not (list_any (λ n. n == l.0) (numbers_of rs g))) rs
+    (λ k d lt. ap not (of_form_numbers rs up g (slice_index_or rs k d) (Contains-get_or rs k d lt)))
 
 -- numbers rise as listeners do
 pub numbers_rise : (rs : List Registered) → AllPairs (λ (x y : Registered). x.0 < y.0) rs → (g : Query) → AllPairs (λ (m n : ℕ). m < n) (numbers_of rs g)
@@ -235,8 +236,9 @@ module _ (limits : Limits) (ls : List Listener) (requests : List Request) (b : B
       → (numbers : List ℕ) → AllPairs (λ (m n : ℕ). m < n) numbers → is.listeners ≡ without_listeners cover.listeners numbers
       → (ended : List Query) → All (Contains (listening cover.listeners)) ended
       → ((f : Query) → has_listener cover.listeners f ≡ true → (is_among ended f || has_listener is.listeners f) ≡ true)
+      → ((l : Registered) → Contains cover.listeners l → list_any (λ n. n == l.0) numbers ≡ true → is_among ended l.1 ≡ true)
       → (delta : Delta) → delta.started ≡ (difference cover (with_listeners cover is.listeners)).started → HasLost cover is numbers ls ended delta b
-  lost_after sound follows t s d is e numbers rising left ended were told delta begun = record {
+  lost_after sound follows t s d is e numbers rising left ended were told given delta begun = record {
     was_sound = subst KeepsNeeded (sym (cover_tied cover w t refl refl)) (keeps w d.good.sound);
     is_sound = subst KeepsNeeded (follows w s d.good.sound ∙ sym e) (keeps (next w s) (sound w s d.good.sound));
     listened = t.listened;
@@ -245,7 +247,9 @@ module _ (limits : Limits) (ls : List Listener) (requests : List Request) (b : B
     left = left;
     were = were;
     ending = told;
+    given = given;
     begun = begun_told t d.good.sound is.listeners delta begun;
+    called = d.good.called;
     registered = d.good.reached.forms ∙ ap listening (sym t.listened);
     regions = d.good.reached.regions;
     windows = subst (λ (rs : List Registered). All (λ (x : Query × Window). Contains (listening rs) x.0) b.windows) (sym t.listened) d.good.reached.windows;
@@ -259,6 +263,7 @@ module _ (limits : Limits) (ls : List Listener) (requests : List Request) (b : B
       lost_after sound follows t s d is e numbers rising (ap (λ (x : Cover). x.listeners) left)
       ended (subst (λ fs. All (Contains (listening cover.listeners)) fs) (sym forms_are) (forms_listened cover.listeners numbers))
       (λ f here. (λ i. is_among (forms_are i) f || has_listener (left i).listeners f) ∙ numbers_end cover.listeners numbers (covered_rise t d.good.sound) f here)
+      (λ l m e. ap (λ fs. is_among fs l.1) forms_are ∙ among_ended cover.listeners l l.1 (covered_rise t d.good.sound) m ((query_eq_tells l.1 l.1).1 refl) numbers e)
       delta (ap (λ (x : Delta). x.started) de ∙ ap (λ (x : Cover). (difference cover (with_listeners cover x.listeners)).started) (sym left))
 
   -- those of a listen
@@ -273,6 +278,7 @@ module _ (limits : Limits) (ls : List Listener) (requests : List Request) (b : B
       (rs ∙ form_numbers cover.listeners up g ∙ ap (without_listeners cover.listeners) (sym ns))
       ended (subst (λ fs. All (Contains (listening cover.listeners)) fs) (sym one) (All-cons (Contains (listening cover.listeners)) g [] (kept_listened t d.good.sound) (All-nil (Contains (listening cover.listeners)))))
       (λ f here. (λ i. is_among (one i) f || has_listener ((rs) i) f) ∙ form_ends cover.listeners g f here)
+      (λ l m h. ap (λ fs. is_among fs l.1) one ∙ true_or (query_eq g l.1) false ((query_eq_tells g l.1).1 (sym ((query_eq_tells l.1 g).0 (of_form_numbers cover.listeners up g l m ∙ ap (list_any (λ n. n == l.0)) (sym ns) ∙ h)))))
       delta (ap (λ (x : Delta). x.started) de ∙ ap (λ (x : Cover). (difference cover (with_listeners cover x.listeners)).started) (sym left))
     where
       ends_of : (o : Option Tagged) → option_map (λ (k : Tagged). k.form) o ≡ Some g → option_map_or (λ (k : Tagged). numbers_of cover.listeners k.form) o [] ≡ numbers_of cover.listeners g

@@ -13,15 +13,17 @@ use Rattle.rt_query.specs.Queries.{Query}
 use Rattle.rt_query.specs.Select.{Shown, select}
 use Rattle.rt_writes.specs.Writes.{Write}
 use Rattle.rt_cache.specs.Brought.{Brought}
+use Rattle.rt_cache.specs.Recover.{is_among, is_moved}
 use Rattle.rt_cover.specs.Runs.{Change, Add, Remove, Revoke}
 use Rattle.rt_view.specs.Views.{View, shown_of, first_view, stays_object, touched, with_named}
 use Rattle.rt_view.specs.Views.{renewed as taken}
 use Rattle.rt_parts.specs.Listeners.{first_view_of, new_listener, views_left, views_where}
 use Rattle.rt_parts.specs.Refreshed.{FollowNamed, is_touched, named_children, view_after, view_met}
+use Rattle.rt_parts.specs.Renewed.{renewed_of, view_anew, view_of}
 use Rattle.rt_world.specs.declared.step.Step.{Step}
 use Rattle.rt_world.specs.declared.request.Request.{Request}
 use Rattle.rt_world.specs.World.{World, Listener, pending, Reason}
-use Rattle.rt_world.specs.Views.{is_known, view_of}
+use Rattle.rt_world.specs.Views.{is_known, view_of as shown_over}
 use Rattle.rt_world.specs.After.{kind, listeners_after, pushed, renewed, requests_after}
 use Rattle.rt_world.specs.Covering.{change_by}
 use Rattle.rt_world.specs.Messages.{next}
@@ -30,6 +32,7 @@ use Rattle.rt_world.specs.Refusals.{refusal}
 use Rattle.rt_world.specs.Headline.{view_by}
 use Rattle.rt_world.specs.Touched.{entries_by, entries_settled, is_covered, is_named, children_named, children_at, seen}
 use Rattle.rt_world.specs.Called.{IsCalled}
+use Rattle.rt_world.specs.Reached.{IsReached}
 use Rattle.rt_world.specs.Sound.{IsSound, Rises}
 use Rattle.rt_world.specs.laws.Steps.{ChangesHaveNoEntries, ListenersStay, PushIsBrought, StaysSound}
 use Rattle.rt_world.specs.laws.World.{changes_listeners}
@@ -39,6 +42,7 @@ use Rattle.rt_sync.specs.Reads.{IsTurn, TurnsOnce, most_read, view_held}
 use Rattle.rt_sync.specs.inside.Due.{IsDue, settling}
 use Rattle.rt_sync.specs.inside.Viewed.{AreViewed, FollowsStep, HasViews, HasViewsBy, IsViewed, LeavesViews, Pairs, RefreshesViews, SameViews, ShowsSeen}
 use Rattle.rt_sync.proofs.TagLaws.{other_number}
+use Rattle.rt_sync.proofs.Uncovered.{uncovered_unmoved, unmet_uncovered}
 
 -- ---- listeners and views at one place
 
@@ -156,28 +160,22 @@ sent_viewed h viewed = pairs_from (IsViewed h.world) (IsViewed (without_first h.
 
 -- ---- listeners that stay, where the step has no entries
 
-module _ (law : UnnamedAreSeen) (h : Held) (s : Step) (k : Held) (sound : IsSound h.world) (called : IsCalled (h.world).brought) (free : refusal h.world s ≡ None) (is : k.world ≡ next h.world s) (rises : Rises (k.world).listeners) (viewed : AreViewed h) (none : entries_by h.world s ≡ []) where
-  stays_viewed : (m : Listener) (n : Option View) → Contains (listeners_after h.world s) m → IsViewed h.world m n → IsViewed (next h.world s) m n
-  stays_viewed m None there v = v
-  stays_viewed m (Some u) there v =
+module _ (law : UnnamedAreSeen) (h : Held) (s : Step) (k : Held) (sound : IsSound h.world) (called : IsCalled (h.world).brought) (reached : IsReached h.world) (free : refusal h.world s ≡ None) (is : k.world ≡ next h.world s) (rises : Rises (k.world).listeners) (viewed : AreViewed h) (none : entries_by h.world s ≡ []) where
+  stays_viewed : (m : Listener) (n : Option View) → Contains (listeners_after h.world s) m → is_moved (h.world).brought (next h.world s).brought m.query ≡ false → IsViewed h.world m n → IsViewed (next h.world s) m n
+  stays_viewed m None there unmoved v = v
+  stays_viewed m (Some u) there unmoved v =
       let low : is_covered m.query.path (entries_by h.world s) ≡ false = ap (is_covered m.query.path) none in
       record {
         query = v.query;
-        children = λ j. v.children j ∙ sym (law h.world s m (record { sound = sound; called = called; not_refused = free; there = there }) low j (ap (λ es. is_named m.query.path es j) none));
+        children = λ j. v.children j ∙ sym (law h.world s m (record { sound = sound; called = called; reached = reached; not_refused = free; there = there; unmoved = unmoved }) low j (ap (λ es. is_named m.query.path es j) none));
         shown = v.shown;
       }
 
-  stays_so : (m : Listener) (n : Option View) → Contains (listeners_after h.world s) m → In m n (h.world).listeners h.views → IsViewed k.world m n × Comes h s k.world m n
-  stays_so m n there i = (
-    subst (λ x. IsViewed x m n) (sym is) (stays_viewed m n there (pairs_at (IsViewed h.world) (h.world).listeners h.views viewed m n i)),
+  stays_so : (m : Listener) (n : Option View) → Contains (listeners_after h.world s) m → is_moved (h.world).brought (k.world).brought m.query ≡ false → In m n (h.world).listeners h.views → IsViewed k.world m n × Comes h s k.world m n
+  stays_so m n there unmoved i = (
+    subst (λ x. IsViewed x m n) (sym is) (stays_viewed m n there (ap (λ (x : World). is_moved (h.world).brought x.brought m.query) (sym is) ∙ unmoved) (pairs_at (IsViewed h.world) (h.world).listeners h.views viewed m n i)),
     (n, found_own (h.world).listeners h.views m n sound.rises i, same_turn (length (children_of (seen k.world m.query))) (most_read h.world s k.world m.query) n),
   )
-
-  -- those that are left
-  pub left_viewed : AreAligned (k.world).listeners k.views → ((m : Listener) (n : Option View) → In m n (k.world).listeners k.views → In m n (h.world).listeners h.views × Contains (listeners_after h.world s) m) → FollowsStep h s k
-  left_viewed aligned from =
-      follows h s k rises (pairs_from (λ l v. Unit {0}) (IsViewed k.world) (k.world).listeners k.views aligned (λ m n i. (stays_so m n (from m n i).1 (from m n i).0).0))
-      (λ m n i. (stays_so m n (from m n i).1 (from m n i).0).1)
 
 -- of those that pass
 left_aligned : (test : Listener → Bool) (P : Listener → Option View → Type 0) (ls : List Listener) (vs : List (Option View)) → Pairs P ls vs → AreAligned (filter test ls) (views_left test (record { listeners = ls; views = vs }))
@@ -205,17 +203,156 @@ left_in test P (l ∷ ls) (v ∷ vs) h m n =
     either (inl x) f = inl x
     either (inr y) f = inr (f y)
 
--- after a step that ends those that do not pass
-pub passed_viewed : UnnamedAreSeen → (h : Held) (s : Step) (k : Held) → IsSound h.world → IsCalled (h.world).brought → refusal h.world s ≡ None → k.world ≡ next h.world s → Rises (k.world).listeners → AreViewed h → entries_by h.world s ≡ []
-    → (test : Listener → Bool) → (k.world).listeners ≡ filter test (h.world).listeners → k.views ≡ views_left test (record { listeners = (h.world).listeners; views = h.views }) → listeners_after h.world s ≡ filter test (h.world).listeners
-    → FollowsStep h s k
-passed_viewed law h s k sound called free is rises viewed none test ls vs after =
-    left_viewed law h s k sound called free is rises viewed none
-    (subst (λ (p : List Listener × List (Option View)). AreAligned p.0 p.1) (λ i. (sym ls i, sym vs i)) (left_aligned test (IsViewed h.world) (h.world).listeners h.views viewed))
-    (λ m n i. (
-      left_in test (IsViewed h.world) (h.world).listeners h.views viewed m n (subst (λ (p : List Listener × List (Option View)). In m n p.0 p.1) (λ j. (ls j, vs j)) i),
-      subst (λ xs. Contains xs m) (ls ∙ sym after) (in_contains (k.world).listeners k.views m n i),
-    ))
+-- of those that are mapped
+mapped_aligned : (f : Listener → Listener) (g : Listener × Option View → Option View) (ls : List Listener) (vs : List (Option View)) → AreAligned ls vs → AreAligned (map f ls) (map g (zip ls vs))
+mapped_aligned f g [] [] p = tt
+mapped_aligned f g [] (n ∷ vs) p = absurd p
+mapped_aligned f g (l ∷ ls) [] p = absurd p
+mapped_aligned f g (l ∷ ls) (n ∷ vs) p = (tt, mapped_aligned f g ls vs p.1)
+
+mapped_in : (f : Listener → Listener) (g : Listener × Option View → Option View) (ls : List Listener) (vs : List (Option View)) (m : Listener) (o : Option View) → In m o (map f ls) (map g (zip ls vs))
+    → (l : Listener) × (n : Option View) × In l n ls vs × (f l ≡ m) × (g (l, n) ≡ o)
+mapped_in f g [] vs m o i = absurd i
+mapped_in f g (l ∷ ls) [] m o i = absurd i
+mapped_in f g (l ∷ ls) (n ∷ vs) m o (inl e) = (l, n, inl (refl, refl), e.0, e.1)
+mapped_in f g (l ∷ ls) (n ∷ vs) m o (inr i) = let r = mapped_in f g ls vs m o i in (r.0, r.1, inr r.2, r.3, r.4)
+
+-- ---- primed listeners
+
+-- a view is there of those that are primed
+primed_by : (w : World) (p : Bool) (l : Listener) → l.view ≡ view_by p w l.query → l.view ≡ None → p ≡ false
+primed_by w true l is e = cc
+primed_by w false l is e = refl
+
+primed_of : (w : World) (p : Bool) (l : Listener) (shown : Shown) → l.view ≡ view_by p w l.query → l.view ≡ Some shown → p ≡ true
+primed_of w true l shown is e = refl
+primed_of w false l shown is e = cc
+
+-- what a listener without a view gets
+module _ (w : World) (l : Listener) where
+  abbrev with_view : Listener
+  with_view = record l { is_primed = true; view = Some (shown_over w.brought (pending w.requests) l.query) }
+
+  abbrev IsFirst : Listener → Option View → Type 0
+  IsFirst m n = IsViewed w m n × IsTurn (length (children_of (seen w l.query))) 0 None n
+
+  first_viewed : l.is_primed ≡ false → l.view ≡ None → IsFirst (renewed w.brought (pending w.requests) l) (first_view_of w.brought (pending w.requests) l.query)
+  first_viewed fresh none = at (is_known w.brought (pending w.requests) l.query)
+    where
+      at : (b : Bool) → IsFirst (cond (l.is_primed || b) with_view l) (cond b (Some (first_view l.query (seen w l.query))) None)
+      at true = subst (λ p. IsFirst (cond (p || true) with_view l) (Some (first_view l.query (seen w l.query)))) (sym fresh) (record { query = refl; children = λ k. refl; shown = refl }, (refl, refl))
+      at false = subst (λ p. IsFirst (cond (p || false) with_view l) None) (sym fresh) (none, tt)
+
+-- a first turn is one whatever may be read elsewhere
+first_turn : (first a b : ℕ) (n : Option View) → IsTurn first a None n → IsTurn first b None n
+first_turn first a b None t = tt
+first_turn first a b (Some v) t = t
+
+-- ---- listeners that are moved
+
+-- what a step that begins and ends no listener needs of the laws
+pub record TouchLaws : Type 0 where
+  pub children : SeenAreChildren
+  pub unmet : UnmetAreSeen
+  pub touched : TouchIsEnough
+  pub few : ElseFewAreSeen
+
+module _ (laws : TouchLaws) (law : UnnamedAreSeen) (h : Held) (s : Step) (k : Held) (sound : IsSound h.world) (called : IsCalled (h.world).brought) (reached : IsReached h.world) (free : refusal h.world s ≡ None) (is : k.world ≡ next h.world s) (rises : Rises (k.world).listeners) (viewed : AreViewed h) (none : entries_by h.world s ≡ []) where
+  abbrev at_new : Brought
+  at_new = (k.world).brought
+
+  abbrev writes_new : List Write
+  writes_new = pending (k.world).requests
+
+  abbrev Both : Listener → Option View → Type 0
+  Both m n = IsViewed k.world m n × Comes h s k.world m n
+
+  -- how many may be read of one that is moved
+  all_read : (q : Query) → is_moved (h.world).brought (k.world).brought q ≡ true → most_read h.world s k.world q ≡ length (children_of (seen h.world q)) + length (children_of (seen k.world q))
+  all_read q e = ap (λ c. cond c (length (children_of (seen h.world q)) + length (children_of (seen k.world q))) (length (children_named q.path (entries_by h.world s)))) (ap (λ c. is_covered q.path (entries_by h.world s) || c) e ∙ or_true (is_covered q.path (entries_by h.world s)))
+    where
+      or_true : (c : Bool) → (c || true) ≡ true
+      or_true true = refl
+      or_true false = refl
+
+  -- one that is renewed keeps number and query
+  number_kept : (l : Listener) → (renewed at_new writes_new l).number ≡ l.number
+  number_kept l = elim (l.is_primed || is_known at_new writes_new l.query) as (λ c. (cond c (with_view k.world l) l).number ≡ l.number) [ true ↦ refl | false ↦ refl ]
+
+  query_kept : (l : Listener) → (renewed at_new writes_new l).query ≡ l.query
+  query_kept l = elim (l.is_primed || is_known at_new writes_new l.query) as (λ c. (cond c (with_view k.world l) l).query ≡ l.query) [ true ↦ refl | false ↦ refl ]
+
+  abbrev Turned : Listener → Option View → Listener → Option View → Type 0
+  Turned l n m o = IsViewed k.world m o × IsTurn (length (children_of (seen k.world l.query))) (most_read h.world s k.world l.query) n o
+
+  anew : (l : Listener) (n : Option View) → is_moved (h.world).brought (k.world).brought l.query ≡ true → IsViewed h.world l n → l.view ≡ view_by l.is_primed h.world l.query
+      → Turned l n (renewed at_new writes_new l) (view_anew at_new writes_new l.query n)
+  anew l None moved has shown =
+      let one = first_viewed k.world l (primed_by h.world l.is_primed l shown has) has in
+      (one.0, first_turn (length (children_of (seen k.world l.query))) 0 (most_read h.world s k.world l.query) (first_view_of at_new writes_new l.query) one.1)
+  anew l (Some u) moved has shown =
+      subst (λ p. Turned l (Some u) (cond (p || is_known at_new writes_new l.query) (with_view k.world l) l) (view_anew at_new writes_new l.query (Some u))) (sym (primed_of h.world l.is_primed l (shown_of u) shown has.shown)) (
+        record { query = has.query; children = λ j. refl; shown = λ i. Some (select (sym has.query i) (seen k.world l.query)) },
+        inr (
+          refl,
+          subst (λ c. length (children_of u.tree) + length (children_of (seen k.world l.query)) ≤ c) (sym (all_read l.query moved))
+              (let same = ap length (laws.children h.world l.query u.tree has.children) in omega (arith, same)),
+        ),
+      )
+
+  -- what became of a listener that stays
+  module _ (moved : List Query) (l : Listener) (n : Option View) (there : Contains (listeners_after h.world s) l) (i : In l n (h.world).listeners h.views)
+      (just : is_among moved l.query ≡ is_moved (h.world).brought (k.world).brought l.query) where
+    has : IsViewed h.world l n
+    has = pairs_at (IsViewed h.world) (h.world).listeners h.views viewed l n i
+
+    shown : l.view ≡ view_by l.is_primed h.world l.query
+    shown = at_listener (λ (x : Listener). x.view ≡ view_by x.is_primed h.world x.query) (h.world).listeners h.views l n i sound.views
+
+    renewed_so : is_moved (h.world).brought (k.world).brought l.query ≡ true → Both (renewed at_new writes_new l) (view_anew at_new writes_new l.query n)
+    renewed_so e =
+        let so = anew l n e has shown in (
+          so.0,
+          (
+            n,
+            ap (λ j. found j (h.world).listeners h.views) (number_kept l) ∙ found_own (h.world).listeners h.views l n sound.rises i,
+            subst (λ q. IsTurn (length (children_of (seen k.world q))) (most_read h.world s k.world q) n (view_anew at_new writes_new l.query n)) (sym (query_kept l)) so.1,
+          ),
+        )
+
+    became : Both (renewed_of moved at_new writes_new l) (view_of moved at_new writes_new (l, n))
+    became = elim (is_among moved l.query) as (λ c. is_among moved l.query ≡ c → Both (cond c (renewed at_new writes_new l) l) (cond c (view_anew at_new writes_new l.query n) n)) [
+      | true ↦ λ e. renewed_so (sym just ∙ e)
+      | false ↦ λ e. stays_so law h s k sound called reached free is rises viewed none l n there (sym just ∙ e) i
+    ] refl
+
+  -- after a step that ends those that do not pass
+  pub passed_viewed : (test : Listener → Bool) → listeners_after h.world s ≡ filter test (h.world).listeners
+      → (moved : List Query) → ((l : Listener) → Contains (filter test (h.world).listeners) l → is_among moved l.query ≡ is_moved (h.world).brought (k.world).brought l.query)
+      → (k.world).listeners ≡ map (renewed_of moved at_new writes_new) (filter test (h.world).listeners)
+      → k.views ≡ map (view_of moved at_new writes_new) (zip (filter test (h.world).listeners) (views_left test (record { listeners = (h.world).listeners; views = h.views })))
+      → FollowsStep h s k
+  passed_viewed test after moved just ls vs =
+      follows h s k rises (pairs_from (λ l v. Unit {0}) (IsViewed k.world) (k.world).listeners k.views aligned (λ m o i. (so m o i).0)) (λ m o i. (so m o i).1)
+    where
+      left_ls : List Listener
+      left_ls = filter test (h.world).listeners
+
+      left_vs : List (Option View)
+      left_vs = views_left test (record { listeners = (h.world).listeners; views = h.views })
+
+      aligned : AreAligned (k.world).listeners k.views
+      aligned =
+          subst (λ (p : List Listener × List (Option View)). AreAligned p.0 p.1) (λ i. (sym ls i, sym vs i))
+          (mapped_aligned (renewed_of moved at_new writes_new) (view_of moved at_new writes_new) left_ls left_vs (left_aligned test (IsViewed h.world) (h.world).listeners h.views viewed))
+
+      so : (m : Listener) (o : Option View) → In m o (k.world).listeners k.views → Both m o
+      so m o i =
+          let r = mapped_in (renewed_of moved at_new writes_new) (view_of moved at_new writes_new) left_ls left_vs m o (subst (λ (p : List Listener × List (Option View)). In m o p.0 p.1) (λ j. (ls j, vs j)) i) in
+          let there : Contains left_ls r.0 = in_contains left_ls left_vs r.0 r.1 r.2 in
+          subst (λ (p : Listener × Option View). Both p.0 p.1) (λ j. (r.3 j, r.4 j))
+          (became moved r.0 r.1 (subst (λ xs. Contains xs r.0) (sym after) there)
+          (left_in test (IsViewed h.world) (h.world).listeners h.views viewed r.0 r.1 r.2) (just r.0 there))
 
 -- ---- a new listener
 
@@ -238,28 +375,8 @@ more_in P (l ∷ ls) (v ∷ vs) x y h m n (inr i) = deeper (more_in P ls vs x y 
     deeper (inl j) = inl (inr j)
     deeper (inr e) = inr e
 
--- what a listener without a view gets
-module _ (w : World) (l : Listener) where
-  abbrev with_view : Listener
-  with_view = record l { is_primed = true; view = Some (view_of w.brought (pending w.requests) l.query) }
-
-  abbrev IsFirst : Listener → Option View → Type 0
-  IsFirst m n = IsViewed w m n × IsTurn (length (children_of (seen w l.query))) 0 None n
-
-  first_viewed : l.is_primed ≡ false → l.view ≡ None → IsFirst (renewed w.brought (pending w.requests) l) (first_view_of w.brought (pending w.requests) l.query)
-  first_viewed fresh none = at (is_known w.brought (pending w.requests) l.query)
-    where
-      at : (b : Bool) → IsFirst (cond (l.is_primed || b) with_view l) (cond b (Some (first_view l.query (seen w l.query))) None)
-      at true = subst (λ p. IsFirst (cond (p || true) with_view l) (Some (first_view l.query (seen w l.query)))) (sym fresh) (record { query = refl; children = λ k. refl; shown = refl }, (refl, refl))
-      at false = subst (λ p. IsFirst (cond (p || false) with_view l) None) (sym fresh) (none, tt)
-
--- a first turn is one whatever may be read elsewhere
-first_turn : (first a b : ℕ) (n : Option View) → IsTurn first a None n → IsTurn first b None n
-first_turn first a b None t = tt
-first_turn first a b (Some v) t = t
-
-module _ (law : UnnamedAreSeen) (h : Held) (s : Step) (seat : ℕ) (query : Query) (k : Held) (sound : IsSound h.world) (called : IsCalled (h.world).brought) (free : refusal h.world s ≡ None) (is : k.world ≡ next h.world s) (rises : Rises (k.world).listeners) (viewed : AreViewed h) (none : entries_by h.world s ≡ [])
-    (more : listeners_after h.world s ≡ (h.world).listeners ++ new_listener (h.world).next_listener seat query ∷ []) where
+module _ (law : UnnamedAreSeen) (h : Held) (s : Step) (seat : ℕ) (query : Query) (k : Held) (sound : IsSound h.world) (called : IsCalled (h.world).brought) (reached : IsReached h.world) (free : refusal h.world s ≡ None) (is : k.world ≡ next h.world s) (rises : Rises (k.world).listeners) (viewed : AreViewed h) (none : entries_by h.world s ≡ [])
+    (more : listeners_after h.world s ≡ (h.world).listeners ++ new_listener (h.world).next_listener seat query ∷ []) (still : (q : Query) → is_moved (h.world).brought (k.world).brought q ≡ false) where
   abbrev new : Listener
   new = new_listener (h.world).next_listener seat query
 
@@ -269,8 +386,8 @@ module _ (law : UnnamedAreSeen) (h : Held) (s : Step) (seat : ℕ) (query : Quer
   abbrev y : Option View
   y = first_view_of (k.world).brought (pending (k.world).requests) query
 
-  abbrev Both : Listener → Option View → Type 0
-  Both m n = IsViewed k.world m n × Comes h s k.world m n
+  abbrev BothNew : Listener → Option View → Type 0
+  BothNew m n = IsViewed k.world m n × Comes h s k.world m n
 
   -- the new one has the new number and the query
   numbered : (b : Bool) → (cond b (with_view k.world new) new).number ≡ (h.world).next_listener
@@ -281,7 +398,7 @@ module _ (law : UnnamedAreSeen) (h : Held) (s : Step) (seat : ℕ) (query : Quer
   asks true = refl
   asks false = refl
 
-  fresh : Both x y
+  fresh : BothNew x y
   fresh =
       let one = first_viewed k.world new refl refl in
       let known : Bool = is_known (k.world).brought (pending (k.world).requests) query in (
@@ -294,15 +411,15 @@ module _ (law : UnnamedAreSeen) (h : Held) (s : Step) (seat : ℕ) (query : Quer
         ),
       )
 
-  either : (m : Listener) (n : Option View) → In m n (h.world).listeners h.views ⊎ ((x ≡ m) × (y ≡ n)) → Both m n
+  either : (m : Listener) (n : Option View) → In m n (h.world).listeners h.views ⊎ ((x ≡ m) × (y ≡ n)) → BothNew m n
   either m n (inl j) =
-      stays_so law h s k sound called free is rises viewed none m n
-      (subst (λ xs. Contains xs m) (sym more) (Contains-append_left (h.world).listeners (new ∷ []) m (in_contains (h.world).listeners h.views m n j))) j
-  either m n (inr e) = subst (λ (p : Listener × Option View). Both p.0 p.1) (λ j. (e.0 j, e.1 j)) fresh
+      stays_so law h s k sound called reached free is rises viewed none m n
+      (subst (λ xs. Contains xs m) (sym more) (Contains-append_left (h.world).listeners (new ∷ []) m (in_contains (h.world).listeners h.views m n j))) (still m.query) j
+  either m n (inr e) = subst (λ (p : Listener × Option View). BothNew p.0 p.1) (λ j. (e.0 j, e.1 j)) fresh
 
   pub listened_viewed : (k.world).listeners ≡ (h.world).listeners ++ x ∷ [] → k.views ≡ h.views ++ y ∷ [] → FollowsStep h s k
   listened_viewed ls vs =
-      let there : (m : Listener) (n : Option View) → In m n (k.world).listeners k.views → Both m n = λ m n i.
+      let there : (m : Listener) (n : Option View) → In m n (k.world).listeners k.views → BothNew m n = λ m n i.
       either m n (more_in (IsViewed h.world) (h.world).listeners h.views x y viewed m n (subst (λ (p : List Listener × List (Option View)). In m n p.0 p.1) (λ j. (ls j, vs j)) i)) in
       follows h s k rises
       (pairs_from (λ l v. Unit {0}) (IsViewed k.world) (k.world).listeners k.views
@@ -312,13 +429,6 @@ module _ (law : UnnamedAreSeen) (h : Held) (s : Step) (seat : ℕ) (query : Quer
 
 -- ---- listeners whose paths entries meet
 
--- what a step that begins and ends no listener needs of the laws
-pub record TouchLaws : Type 0 where
-  pub children : SeenAreChildren
-  pub unmet : UnmetAreSeen
-  pub touched : TouchIsEnough
-  pub few : ElseFewAreSeen
-
 and_true : (a b : Bool) → (not a && b) ≡ true → (a ≡ false) × (b ≡ true)
 and_true true b e = absurd (true≢false (sym e))
 and_true false b e = (refl, e)
@@ -327,7 +437,7 @@ length_at : (t : PathTree) (names : List Key) → length (children_at t names) �
 length_at t [] = refl
 length_at t (k ∷ names) = ap suc (length_at t names)
 
-module _ (laws : TouchLaws) (h : Held) (s : Step) (sound : IsSound h.world) (called : IsCalled (h.world).brought) (free : refusal h.world s ≡ None) (after : listeners_after h.world s ≡ (h.world).listeners) (viewed : AreViewed h) where
+module _ (laws : TouchLaws) (law : PushIsBrought) (h : Held) (s : Step) (sound : IsSound h.world) (called : IsCalled (h.world).brought) (reached : IsReached h.world) (free : refusal h.world s ≡ None) (quiet : changes_listeners s ≡ false) (after : listeners_after h.world s ≡ (h.world).listeners) (viewed : AreViewed h) where
   abbrev v : World
   v = next h.world s
 
@@ -340,14 +450,21 @@ module _ (laws : TouchLaws) (h : Held) (s : Step) (sound : IsSound h.world) (cal
   abbrev ws : List Write
   ws = pending v.requests
 
-  stays : (l : Listener) → Contains (h.world).listeners l → Stays h.world s l
-  stays l there = record { sound = sound; called = called; not_refused = free; there = subst (λ xs. Contains xs l) (sym after) there }
+  stays : (l : Listener) → Contains (h.world).listeners l → is_covered l.query.path es ≡ false → Stays h.world s l
+  stays l there low = record {
+    sound = sound;
+    called = called;
+    reached = reached;
+    not_refused = free;
+    there = subst (λ xs. Contains xs l) (sym after) there;
+    unmoved = uncovered_unmoved law h.world s l.query sound called reached free quiet low;
+  }
 
   -- a view that is touched shows what is seen
   touched_seen : (l : Listener) (u : View) → Contains (h.world).listeners l → ShowsSeen h.world l u → is_touched es b ws l.query u ≡ true → with_named u.tree (named_children es b ws l.query) ≡ seen v l.query
   touched_seen l u there has t =
       let both = and_true (is_covered l.query.path es) (stays_object u.tree (named_children es b ws l.query)) t in
-      laws.touched h.world s l (stays l there) both.0 u.tree has.children both.1
+      laws.touched h.world s l (stays l there both.0) both.0 u.tree has.children both.1
 
   abbrev Follows : Listener × Option View → Type 0
   Follows p = (u : View) → p.1 ≡ Some u → is_touched es b ws p.0.query u ≡ true → with_named u.tree (named_children es b ws p.0.query) ≡ seen v p.0.query
@@ -363,16 +480,7 @@ module _ (laws : TouchLaws) (h : Held) (s : Step) (sound : IsSound h.world) (cal
   -- one that no entry meets stays
   unmet_one : (l : Listener) (n : Option View) → Contains (h.world).listeners l → IsViewed h.world l n → do_meet es l.query.path ≡ false → So l n l n
   unmet_one l None there has apart = (has, tt)
-  unmet_one l (Some u) there has apart = (record { query = has.query; children = laws.unmet h.world s l (stays l there) apart u.tree has.children; shown = has.shown }, inl refl)
-
-  -- a view is there of those that are primed
-  primed_by : (p : Bool) (l : Listener) → l.view ≡ view_by p h.world l.query → l.view ≡ None → p ≡ false
-  primed_by true l is e = cc
-  primed_by false l is e = refl
-
-  primed_of : (p : Bool) (l : Listener) (shown : Shown) → l.view ≡ view_by p h.world l.query → l.view ≡ Some shown → p ≡ true
-  primed_of true l shown is e = refl
-  primed_of false l shown is e = cc
+  unmet_one l (Some u) there has apart = (record { query = has.query; children = laws.unmet h.world s l (stays l there (unmet_uncovered l.query.path es apart)) apart u.tree has.children; shown = has.shown }, inl refl)
 
   -- one with a view, touched or taken from scratch
   pub met_view : (l : Listener) (u : View) → Contains (h.world).listeners l → ShowsSeen h.world l u → So l (Some u) (with_view v l) (view_after es b ws l.query (Some u))
@@ -380,9 +488,11 @@ module _ (laws : TouchLaws) (h : Held) (s : Step) (sound : IsSound h.world) (cal
     where
       -- how many are taken from scratch
       scratch : (c : Bool) → is_covered l.query.path es ≡ c → (not c && stays_object u.tree (named_children es b ws l.query)) ≡ false
-          → length (children_of u.tree) + length (children_of (seen v l.query)) ≤ cond c (length (children_of (seen h.world l.query)) + length (children_of (seen v l.query))) (length (children_named l.query.path es))
+          → length (children_of u.tree) + length (children_of (seen v l.query)) ≤ cond (c || is_moved (h.world).brought v.brought l.query) (length (children_of (seen h.world l.query)) + length (children_of (seen v l.query))) (length (children_named l.query.path es))
       scratch true e t = let same = ap length (laws.children h.world l.query u.tree has.children) in omega (arith, same)
-      scratch false e t = laws.few h.world s l (stays l there) e u.tree has.children t
+      scratch false e t =
+          subst (λ c. length (children_of u.tree) + length (children_of (seen v l.query)) ≤ cond c (length (children_of (seen h.world l.query)) + length (children_of (seen v l.query))) (length (children_named l.query.path es)))
+          (sym (stays l there e).unmoved) (laws.few h.world s l (stays l there e) e u.tree has.children t)
 
       at : (t : Bool) → is_touched es b ws l.query u ≡ t → So l (Some u) (with_view v l) (Some (cond t (touched u (named_children es b ws l.query)) (taken u (seen v l.query))))
       at true e =
@@ -394,7 +504,7 @@ module _ (laws : TouchLaws) (h : Held) (s : Step) (sound : IsSound h.world) (cal
               children = λ k. ap (λ t. child t k) same;
               shown = λ i. Some (select (sym has.query i) (sym same i));
             },
-            inr (refl, subst (λ c. length (named_children es b ws l.query) ≤ cond c (length (children_of (seen h.world l.query)) + length (children_of (seen v l.query))) (length (children_named l.query.path es))) (sym both.0) fits),
+            inr (refl, subst (λ c. length (named_children es b ws l.query) ≤ cond c (length (children_of (seen h.world l.query)) + length (children_of (seen v l.query))) (length (children_named l.query.path es))) (sym (λ i. both.0 i || (stays l there both.0).unmoved i)) fits),
           )
       at false e = (
         record { query = has.query; children = λ k. refl; shown = λ i. Some (select (sym has.query i) (seen v l.query)) },
@@ -404,10 +514,10 @@ module _ (laws : TouchLaws) (h : Held) (s : Step) (sound : IsSound h.world) (cal
   -- one whose path an entry meets
   met_one : (l : Listener) (n : Option View) → Contains (h.world).listeners l → IsViewed h.world l n → l.view ≡ view_by l.is_primed h.world l.query → So l n (renewed b ws l) (view_after es b ws l.query n)
   met_one l None there has is =
-      let one = first_viewed v l (primed_by l.is_primed l is has) has in
+      let one = first_viewed v l (primed_by h.world l.is_primed l is has) has in
       (one.0, first_turn (length (children_of (seen v l.query))) 0 (most_read h.world s v l.query) (first_view_of b ws l.query) one.1)
   met_one l (Some u) there has is =
-      subst (λ p. So l (Some u) (cond (p || is_known b ws l.query) (with_view v l) l) (view_after es b ws l.query (Some u))) (sym (primed_of l.is_primed l (shown_of u) is has.shown))
+      subst (λ p. So l (Some u) (cond (p || is_known b ws l.query) (with_view v l) l) (view_after es b ws l.query (Some u))) (sym (primed_of h.world l.is_primed l (shown_of u) is has.shown))
       (met_view l u there has)
 
   one : (l : Listener) (n : Option View) → Contains (h.world).listeners l → IsViewed h.world l n → l.view ≡ view_by l.is_primed h.world l.query → So l n (renewed_met es b ws l) (view_met es b ws (l, n))
@@ -503,8 +613,8 @@ changes_so : (w : World) (o : Option (World → Change)) → is_some o ≡ is_so
 changes_so w None = refl
 changes_so w (Some c) = refl
 
-pub follow_step : TouchLaws → UnnamedAreSeen → StaysSound → ListenersStay → ChangesHaveNoEntries → (h : Held) (s : Step) (k : Held) → IsDue h.world s → AreViewed h → k.world ≡ next h.world s → HasViews h s k → FollowsStep h s k
-follow_step laws law sounds stay bare h s k d viewed is has = at (change_by h.world s) refl has
+pub follow_step : TouchLaws → UnnamedAreSeen → PushIsBrought → StaysSound → ListenersStay → ChangesHaveNoEntries → (h : Held) (s : Step) (k : Held) → IsDue h.world s → AreViewed h → k.world ≡ next h.world s → HasViews h s k → FollowsStep h s k
+follow_step laws law push sounds stay bare h s k d viewed is has = at (change_by h.world s) refl has
   where
     rises : Rises (k.world).listeners
     rises = subst (λ (x : World). Rises x.listeners) (sym is) (sounds h.world s d.good.sound).rises
@@ -513,15 +623,15 @@ follow_step laws law sounds stay bare h s k d viewed is has = at (change_by h.wo
     changes o e = changes_so h.world (kind s).change ∙ ap is_some e
 
     left : (c : Change) → change_by h.world s ≡ Some c → LeavesViews h s k → FollowsStep h s k
-    left c e has = passed_viewed law h s k d.good.sound d.good.called d.not_refused is rises viewed (bare h.world s (changes (Some c) e)) has.test has.keeps.listeners has.keeps.views has.left
+    left c e has = passed_viewed laws law h s k d.good.sound d.good.called d.good.reached d.not_refused is rises viewed (bare h.world s (changes (Some c) e)) has.test has.left has.moved has.just has.listeners has.views
 
     at : (o : Option Change) → change_by h.world s ≡ o → HasViewsBy o h s k → FollowsStep h s k
     at None e has =
         let entries : List Assignment = entries_by h.world s in
-        met_viewed laws h s d.good.sound d.good.called d.not_refused (stay h.world s (changes None e)) viewed k is rises
+        met_viewed laws push h s d.good.sound d.good.called d.good.reached d.not_refused (changes None e) (stay h.world s (changes None e)) viewed k is rises
         (has.listeners ∙ (λ i. map (renewed_met entries (is i).brought (pending (is i).requests)) (h.world).listeners))
         (has.views ∙ (λ i. map (view_met entries (is i).brought (pending (is i).requests)) (zip (h.world).listeners h.views)))
-    at (Some (Add number query)) e has = listened_viewed law h s has.seat query k d.good.sound d.good.called d.not_refused is rises viewed (bare h.world s (changes (Some (Add number query)) e)) has.more has.adds.listeners has.adds.views
+    at (Some (Add number query)) e has = listened_viewed law h s has.seat query k d.good.sound d.good.called d.good.reached d.not_refused is rises viewed (bare h.world s (changes (Some (Add number query)) e)) has.more has.still has.adds.listeners has.adds.views
     at (Some (Remove numbers)) e has = left (Remove numbers) e has
     at (Some (Revoke tag)) e has = left (Revoke tag) e has
 
@@ -535,7 +645,7 @@ module _ (laws : TouchLaws) (law : PushIsBrought) (h : Held) (viewed : AreViewed
   follows_at s d quiet after entries ee b be writes we =
       let brought : b ≡ (next h.world s).brought = be ∙ sym (law h.world s d.good.sound d.good.called d.good.reached d.not_refused quiet) in
       subst (λ (p : List Assignment × Brought × List Write). FollowNamed p.0 p.1 p.2 (record { listeners = (h.world).listeners; views = h.views })) (λ i. (sym ee i, sym brought i, sym we i))
-      (follow_named laws h s d.good.sound d.good.called d.not_refused after viewed)
+      (follow_named laws law h s d.good.sound d.good.called d.good.reached d.not_refused quiet after viewed)
 
   pub follows_settled : (id : ℕ) (why : Option Reason) → IsDue h.world (settling id why)
       → (entries : List Assignment) → entries ≡ entries_settled h.world id → (rs : List Request) → rs ≡ filter (λ (r : Request). not (r.id == id)) (h.world).requests → (writes : List Write) → writes ≡ pending rs

@@ -1,5 +1,6 @@
 pub mod Due
 pub mod Losing
+pub mod Moving
 pub mod Parts
 pub mod StateView
 pub mod Viewed

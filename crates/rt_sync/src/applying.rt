@@ -6,7 +6,8 @@ ghost use Rattle.rt_world.specs.Answers.{stale_report};
 use crate::state::State;
 use crate::told::Told;
 use rt_world::{
-    CoreError, Notes, Outcome, Report, Step, answer_law, sound_law, stay_law, touch_law,
+    CoreError, Notes, Outcome, Report, Step, answer_law, brought_law, sound_law, stay_law,
+    touch_law,
 };
 use std::alloc::{AllocError, Global};
 
@@ -75,9 +76,10 @@ impl State {
         ensures not_stale { OnErr result (is_stale self.world step ≡ false) }
         ensures not_closing { OnErr result ((kind step).closes ≡ false) }
     {
-        // For the prover: what a step answers that is not refused, which listeners stay, and which children
-        // it changes.
+        // For the prover: what a step answers that is not refused, what it brings, which listeners stay, and
+        // which children it changes.
         answer_law();
+        brought_law();
         sound_law();
         stay_law();
         touch_law();

@@ -4,6 +4,7 @@ mod closing;
 mod connection;
 mod listening;
 mod losing;
+mod moving;
 mod pushing;
 mod revoking;
 mod settling;

@@ -8,11 +8,12 @@ use Rattle.rt_query.specs.Queries.{Query, is_filtered}
 use Rattle.rt_query.specs.QueryEq.{query_eq}
 use Rattle.rt_query.specs.Supply.{form}
 use Rattle.rt_cache.specs.Brought.{Brought, Window}
-use Rattle.rt_cache.specs.Recover.{reaches}
+use Rattle.rt_cache.specs.Recover.{reaches, is_moved}
 use Rattle.rt_cover.specs.declared.delta.Delta.{Delta}
 use Rattle.rt_cover.specs.Cover.{Registered, Tagged, forms, is_kept}
 use Rattle.rt_cover.specs.State.{Cover, needed_forms, supplier, without_listeners}
 use Rattle.rt_world.specs.World.{Listener, registered, listening}
+use Rattle.rt_world.specs.Called.{IsCalled}
 
 -- the forms of the listeners of these numbers
 abbrev pub forms_at : List Registered → List ℕ → List Query
@@ -55,11 +56,20 @@ pub record HasLost (was is : Cover) (numbers : List ℕ) (listeners : List Liste
   pub ending : (f : Query) → list_any (λ (l : Registered). query_eq l.1 f) was.listeners ≡ true
       → (list_any (λ g. query_eq g f) ended
       || list_any (λ (l : Registered). query_eq l.1 f) is.listeners) ≡ true
+  pub given : (l : Registered) → Contains was.listeners l
+      → list_any (λ n. n == l.0) numbers ≡ true → list_any (λ g. query_eq g l.1) ended ≡ true
   pub begun : map (λ k. k.query) delta.started
       ≡ filter (λ f. not (is_kept was.kept f)) (needed_forms is.listeners)
-  -- what is brought belongs to the listens of the cover before
+  -- what is brought is what calls leave, and belongs to the listens of the cover before
+  pub called : IsCalled b
   pub registered : b.registered ≡ listening was.listeners
   pub regions :
       All (λ (r : Path × PathTree). reaches (map (λ (k : Tagged). k.form) was.kept) r.0 ≡ true)
       b.regions
   pub windows : All (λ (w : Query × Window). Contains (listening was.listeners) w.0) b.windows
+
+-- of the queries that are listened to, these are those that a change of what is brought moves
+abbrev pub AreMoved : Cover → Brought → Brought → List Query → Type 0
+AreMoved c old new moved = (q : Query)
+    → list_any (λ (l : Registered). query_eq l.1 (form q)) c.listeners ≡ true
+    → list_any (λ g. query_eq g q) moved ≡ is_moved old new q

@@ -1,9 +1,10 @@
 -- The views that are held, and the world that they show.
-use Rattle.std.specs.Prelude.{◌≡◌, ℕ, Bool, List, [], ◌∷◌, ◌++◌, map}
+use Rattle.std.specs.Prelude.{◌≡◌, ℕ, Bool, false, List, [], ◌∷◌, ◌++◌, map}
 use Rattle.std.specs.Prelude.{Option, Some, None}
-use Rattle.std.specs.List.{filter, zip}
+use Rattle.std.specs.List.{filter, zip, Contains}
 use Rattle.rt_tree.specs.Assignments.{Assignment}
 use Rattle.rt_query.specs.Queries.{Query}
+use Rattle.rt_cache.specs.Recover.{is_among, is_moved}
 use Rattle.rt_cover.specs.Runs.{Change, Add, Remove, Revoke}
 use Rattle.rt_view.specs.Views.{View, shown_of}
 use Rattle.rt_world.specs.declared.step.Step.{Step}
@@ -15,6 +16,7 @@ use Rattle.rt_world.specs.Touched.{entries_by}
 use Rattle.rt_world.specs.laws.Touch.{HasSeen}
 use Rattle.rt_parts.specs.Listeners.{first_view_of, new_listener, views_left}
 use Rattle.rt_parts.specs.Refreshed.{view_met}
+use Rattle.rt_parts.specs.Renewed.{renewed_of, view_of}
 use Rattle.rt_sync.specs.Core.{Held}
 use Rattle.rt_sync.specs.Reads.{ReadsNamed}
 use Rattle.rt_sync.specs.inside.Due.{IsGood}
@@ -53,12 +55,6 @@ pub record SameViews (h k : Held) : Type 0 where
   pub listeners : (k.world).listeners ≡ (h.world).listeners
   pub views : k.views ≡ h.views
 
--- those that pass stay
-pub record KeepsViews (test : Listener → Bool) (h k : Held) : Type 0 where
-  pub listeners : (k.world).listeners ≡ filter test (h.world).listeners
-  pub views :
-      k.views ≡ views_left test (record { listeners = (h.world).listeners; views = h.views })
-
 -- a new one comes last, with its first view where something is known for it
 pub record AddsView (h : Held) (seat : ℕ) (query : Query) (k : Held) : Type 0 where
   pub listeners : (k.world).listeners
@@ -76,17 +72,26 @@ pub record RefreshesViews (h : Held) (entries : List Assignment) (k : Held) : Ty
       ≡ map (view_met entries (k.world).brought (pending (k.world).requests))
       (zip (h.world).listeners h.views)
 
--- those that are left after the step stay
+-- those that are left after the step stay; of them the moved ones are renewed, and no others
 pub record LeavesViews (h : Held) (s : Step) (k : Held) : Type 0 where
   pub test : Listener → Bool
   pub left : listeners_after h.world s ≡ filter test (h.world).listeners
-  pub keeps : KeepsViews test h k
+  pub moved : List Query
+  pub just : (l : Listener) → Contains (filter test (h.world).listeners) l
+      → is_among moved l.query ≡ is_moved (h.world).brought (k.world).brought l.query
+  pub listeners : (k.world).listeners
+      ≡ map (renewed_of moved (k.world).brought (pending (k.world).requests))
+      (filter test (h.world).listeners)
+  pub views : k.views ≡ map (view_of moved (k.world).brought (pending (k.world).requests))
+      (zip (filter test (h.world).listeners)
+      (views_left test (record { listeners = (h.world).listeners; views = h.views })))
 
--- the new one of the step comes last
+-- the new one of the step comes last, and none is moved
 pub record GainsView (h : Held) (s : Step) (query : Query) (k : Held) : Type 0 where
   pub seat : ℕ
   pub more : listeners_after h.world s
       ≡ (h.world).listeners ++ new_listener (h.world).next_listener seat query ∷ []
+  pub still : (q : Query) → is_moved (h.world).brought (k.world).brought q ≡ false
   pub adds : AddsView h seat query k
 
 -- by the change of listeners that a step makes; where it makes none, by its entries

@@ -5,11 +5,13 @@ ghost use Rattle.std.specs.List.{list_any};
 use crate::sending::send_change;
 use crate::state::State;
 use crate::steps::listening::uncover;
-use crate::steps::losing::{forms_of, lose};
+use crate::steps::losing::{forms_of, lose_ended};
 use crate::told::Told;
 use rt_cover::Choice;
 use rt_parts::Listeners;
-use rt_world::{CoreError, covered_law, following_law, listened_law, sound_law, tag_law};
+use rt_world::{
+    CoreError, covered_law, following_law, listened_law, pending_law, sound_law, tag_law,
+};
 use std::alloc::AllocError;
 
 // The listeners of a seat.
@@ -58,23 +60,25 @@ impl State {
         None
     }
 
-    // A seat goes: its listeners end, and nobody is told; its requests stay, without a seat.
+    // A seat goes: its listeners end, and its requests stay, without a seat. Other seats are told where
+    // their listeners' views change since these are moved.
     pub(crate) fn close_seat(self, seat: u64) -> Result<(State, Told), AllocError>
         requires { IsDue self.world (Step.CloseSeat seat) }
         ensures made { IfOk result (λ made. IsNext self.world (Step.CloseSeat seat) (made.0.world, made.1)) }
         ensures views { IfOk result (λ made. HasViews self (Step.CloseSeat seat) made.0) }
     {
-        // For the prover: what such a step leaves, and that the cover takes it.
+        // For the prover: what such a step leaves, that the cover takes it, and that what is pending stays.
         listened_law();
         covered_law();
         following_law();
         sound_law();
+        pending_law();
         let alloc = self.alloc();
         let mut state = self;
         let numbers = state.listeners.numbers_of(alloc, seat)?;
         let ended = forms_of(alloc, &state.cover, &numbers)?;
         let delta = uncover(&mut state.cover, &numbers)?;
-        lose(
+        let moved = lose_ended(
             &mut state.brought,
             &state.listeners,
             &state.cover,
@@ -84,8 +88,12 @@ impl State {
         )?;
         state.listeners.close(seat);
         state.requests.close(seat);
+        let mut notes = Vec::new(alloc);
+        let pending = state.requests.pending();
+        state
+            .listeners
+            .renew(&moved, &state.brought, pending, &mut notes)?;
         send_change(&mut state.outgoing, state.is_connected, delta)?;
-        let notes = Vec::new(alloc);
         Ok((state, Told { given: None, notes }))
     }
 }

@@ -7,7 +7,7 @@ ghost use Rattle.rt_cover.specs.State.{removed};
 
 use crate::sending::send_change;
 use crate::state::State;
-use crate::steps::losing::{forms_of, lose};
+use crate::steps::losing::{forms_of, lose_ended};
 use crate::told::Told;
 use rt_cover::{Cover, Delta};
 use rt_query::Query;
@@ -133,7 +133,7 @@ impl State {
         None
     }
 
-    // A seat ends a listener of its own: nobody is told.
+    // A seat ends a listener of its own: those are told whose views change since they are moved.
     pub(crate) fn unlisten(self, seat: u64, listener: u64) -> Result<(State, Told), AllocError>
         requires { IsDue self.world (Step.Unlisten seat listener) }
         ensures made { IfOk result (λ made.
@@ -149,7 +149,7 @@ impl State {
         let mut state = self;
         let ended = forms_of(alloc, &state.cover, &[listener])?;
         let delta = uncover(&mut state.cover, &[listener])?;
-        lose(
+        let moved = lose_ended(
             &mut state.brought,
             &state.listeners,
             &state.cover,
@@ -158,8 +158,12 @@ impl State {
             &delta,
         )?;
         state.listeners.remove(listener);
+        let mut notes = Vec::new(alloc);
+        let pending = state.requests.pending();
+        state
+            .listeners
+            .renew(&moved, &state.brought, pending, &mut notes)?;
         send_change(&mut state.outgoing, state.is_connected, delta)?;
-        let notes = Vec::new(alloc);
         Ok((state, Told { given: None, notes }))
     }
 }

@@ -3,8 +3,9 @@ ghost use Rattle.std.specs.Prelude.{◌≡◌, map, IfOk, OnOk};
 ghost use Rattle.rt_cache.specs.Recover.{recover};
 ghost use Rattle.rt_cover.specs.State.{Cover};
 ghost use Rattle.rt_world.specs.World.{listening};
-ghost use Rattle.rt_sync.specs.inside.Losing.{forms_at, places_at, is_ended, HasLost};
+ghost use Rattle.rt_sync.specs.inside.Losing.{forms_at, places_at, is_ended, HasLost, AreMoved};
 
+use crate::steps::moving::{had_beside, moved};
 use rt_cache::Brought;
 use rt_cover::{Cover, Delta, Kept, apart_law};
 use rt_parts::Listeners;
@@ -66,7 +67,7 @@ fn is_ended(cover: &Cover, form: &Query) -> bool
 
 // What no kept listen reaches any more is lost, where the listeners of these numbers end, whose forms
 // are among the ended ones. The listeners stand as before, and the cover is the one without them.
-pub(crate) fn lose(
+fn lose(
     brought: &mut Brought,
     listeners: &Listeners,
     cover: &Cover,
@@ -86,4 +87,28 @@ pub(crate) fn lose(
     let places = places_of(alloc, listeners, numbers)?;
     let begun = forms_kept(alloc, delta.started.as_slice())?;
     brought.unregister(&places, &ended, &begun)
+}
+
+// The same, and the queries that are moved by it: those that had another form's window, and have one now
+// that doesn't come from it.
+pub(crate) fn lose_ended(
+    brought: &mut Brought,
+    listeners: &Listeners,
+    cover: &Cover,
+    numbers: &[u64],
+    ended: Vec<Query>,
+    delta: &Delta,
+) -> Result<Vec<Query>, AllocError>
+    requires { (was : Cover) × HasLost was cover.now numbers.now listeners.now.listeners ended.items
+        delta.now brought.old }
+    ensures brought { OnOk result (brought.new
+        ≡ recover (listening cover.now.listeners) (map (λ k. k.form) cover.now.kept) brought.old) }
+    ensures moved { IfOk result (λ moved. AreMoved cover.now brought.old brought.new moved.items) }
+{
+    // For the prover: of the plain listens kept none is at or above another.
+    apart_law();
+    let alloc = *ended.allocator();
+    let had = had_beside(alloc, brought, listeners, &ended)?;
+    lose(brought, listeners, cover, numbers, ended, delta)?;
+    moved(alloc, brought, &had)
 }

@@ -6,7 +6,7 @@ ghost use Rattle.rt_cover.specs.State.{without_tag};
 
 use crate::sending::send_change;
 use crate::state::State;
-use crate::steps::losing::lose;
+use crate::steps::losing::lose_ended;
 use crate::told::Told;
 use rt_cover::{Cover, Delta, Numbers};
 use rt_query::Query;
@@ -78,7 +78,8 @@ impl State {
         }
     }
 
-    // The server ends a listen: the listeners that it is the form of end, and their seats are told.
+    // The server ends a listen: the listeners that it is the form of end, and their seats are told. Then
+    // those are told whose views change since they are moved.
     pub(crate) fn revoke(self, tag: u64, why: Reason) -> Result<(State, Told), AllocError>
         requires { IsDue self.world (Step.Revoked tag why) }
         ensures made { IfOk result (λ made. IsNext self.world (Step.Revoked tag why) (made.0.world, made.1)) }
@@ -94,7 +95,7 @@ impl State {
         let (form, numbers, delta) = uncover_revoked(&mut state.cover, tag)?;
         let mut ended = Vec::new(alloc);
         ended.push(form.copy()?)?;
-        lose(
+        let moved = lose_ended(
             &mut state.brought,
             &state.listeners,
             &state.cover,
@@ -104,6 +105,10 @@ impl State {
         )?;
         let mut notes = Vec::new(alloc);
         state.listeners.cancel(&form, &why, &mut notes)?;
+        let pending = state.requests.pending();
+        state
+            .listeners
+            .renew(&moved, &state.brought, pending, &mut notes)?;
         send_change(&mut state.outgoing, state.is_connected, delta)?;
         Ok((state, Told { given: None, notes }))
     }

@@ -1,17 +1,21 @@
 use Rattle.std.proofs.Common.{◌≡◌, ◌+◌, ◌++◌, ◌∷◌, [], ap, sym, subst, ◌∙◌, refl, Some, rules}
 use Rattle.std.specs.Option.{option_to_list}
+use Rattle.rt_query.specs.Supply.{form}
+use Rattle.rt_cache.specs.Recover.{is_moved}
 use Rattle.rt_cover.specs.State.{added, difference}
 use Rattle.rt_parts.specs.Listeners.{new_listener, first_view_of}
 use Rattle.rt_world.specs.declared.step.Step.{Step}
 use Rattle.rt_world.specs.World.{World, pending}
 use Rattle.rt_world.specs.After.{renewed}
 use Rattle.rt_world.specs.Met.{told}
+use Rattle.rt_world.specs.Called.{IsCalled}
 use Rattle.rt_sync.specs.Core.{Held}
 use Rattle.rt_sync.specs.declared.told.Told.{Told}
 use Rattle.rt_sync.specs.inside.Due.{IsDue, IsNext}
 use Rattle.rt_sync.specs.inside.StateView.{world_of}
 use Rattle.rt_sync.proofs.Listened.{added_is, listen_made, tied_next}
 use Rattle.rt_sync.proofs.NextWorlds.{along}
+use Rattle.rt_sync.proofs.Uncovered.{registered_unmoved}
 use Rattle.rt_sync.proofs.state.State.listen.Goals as goal
 
 pub returns-clause-made : goal.returns-clause-made
@@ -63,6 +67,10 @@ returns-clause-views c =
     record {
       seat = c.args.seat;
       more = refl;
+      still = λ q.
+          ap (λ (h : Held). is_moved (h.world).brought c.register.new.self q) (sym c.state.view_is)
+          ∙ registered_unmoved state.brought (form c.args.query) q
+          (subst (λ (h : Held). IsCalled (h.world).brought) (sym c.state.view_is) c.requires.good.called) c.register.new.self c.in_ok-register.ensures.ok;
       adds = record {
         listeners = c.in_ok-add.ensures.listeners ∙ ap (λ ws. state.listeners.listeners ++ renewed c.register.new.self ws (new_listener (state.given_listeners + 1) c.args.seat c.args.query) ∷ []) pend
             ∙ (λ i. ((c.state.view_is i).world).listeners ++ renewed c.register.new.self (pending state.requests) (new_listener ((c.state.view_is i).world).next_listener c.args.seat c.args.query) ∷ []);

@@ -31,4 +31,4 @@ returns-clause-views c =
       few = c.touch_law.ensures.few;
     } in
     let due : IsDue (c.args.self).world c.args.step = record { good = c.requires.good; not_refused = c.requires.not_refused; not_stale = sym c.is_stale.ensures ∙ c.if-is_stale.false } in
-    follow_step laws c.touch_law.ensures.unnamed c.sound_law.ensures.next c.stay_law.ensures.listeners c.stay_law.ensures.entries c.args.self c.args.step c.in_ok-state.state due c.requires.viewed c.in_ok-state.ensures.made.world c.in_ok-state.ensures.views
+    follow_step laws c.touch_law.ensures.unnamed c.brought_law.ensures.pushed c.sound_law.ensures.next c.stay_law.ensures.listeners c.stay_law.ensures.entries c.args.self c.args.step c.in_ok-state.state due c.requires.viewed c.in_ok-state.ensures.made.world c.in_ok-state.ensures.views

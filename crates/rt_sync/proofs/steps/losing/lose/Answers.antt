@@ -39,7 +39,7 @@ unregister-requires-clause-ends c =
     (λ i. without_places (places i) (h.registered i))
     ∙ places_left c.args.listeners.now.listeners was.listeners h.listened h.rises c.args.numbers.now ∙ ap listening (sym h.left) in (
       map (λ (k : Tagged). k.form) is.kept,
-      told_by _ _ _ c.deref-2.result.now c.deref-3.result.now (without_places c.deref.result.now c.args.brought.now.registered) _ _ _ (ended ∙ left) begun forms
+      told_by _ _ _ _ c.deref-2.result.now c.deref-3.result.now c.args.brought.now.registered (without_places c.deref.result.now c.args.brought.now.registered) _ _ (ended ∙ left) begun h.registered forms
           (ends_forms was is c.args.numbers.now c.args.listeners.now.listeners c.args.ended.items c.args.delta.now c.args.brought.now h c.apart_law.ensures.plains),
     )
 
@@ -58,5 +58,5 @@ returns c =
     let kept : List Query = map (λ (k : Tagged). k.form) is.kept in
     subst (λ (fs : List Query). OnOk c.unregister.result (c.unregister.new.self ≡ recover fs kept c.args.brought.now)) forms
     (c.unregister.ensures.ok kept
-    (told_by _ _ _ c.deref-2.result.now c.deref-3.result.now (without_places c.deref.result.now c.args.brought.now.registered) _ _ _ (ended ∙ left) begun forms
+    (told_by _ _ _ _ c.deref-2.result.now c.deref-3.result.now c.args.brought.now.registered (without_places c.deref.result.now c.args.brought.now.registered) _ _ (ended ∙ left) begun h.registered forms
     (ends_forms was is c.args.numbers.now c.args.listeners.now.listeners c.args.ended.items c.args.delta.now c.args.brought.now h c.apart_law.ensures.plains)))

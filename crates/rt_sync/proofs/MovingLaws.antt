@@ -1,0 +1,158 @@
+-- What is gathered of queries, one after another.
+use Rattle.std.proofs.Common.{◌≡◌, ℕ, ◌+◌, ◌<◌, Bool, true, false, not, ◌&&◌, ◌||◌, List, [], ◌∷◌, ◌++◌, length, get_or, take, refl, sym, ap, subst, ◌∙◌, Option, Some, None}
+use mathlib.Core.Bool.{true≢false}
+use Rattle.std.specs.List.{list_any, All}
+use Rattle.std.specs.Option.{option_map_or}
+use Rattle.std.proofs.lemmas.List.Elements.{All-append, All-cons, All-nil}
+use Rattle.std.proofs.lemmas.List.Folds.{list_any-append, list_any_more}
+use Rattle.rt_tree.specs.PathTree.{Path, path_eq, path_eq-is, path_eq-symm}
+use Rattle.rt_query.specs.Queries.{Query, is_filtered}
+use Rattle.rt_query.specs.QueryEq.{query_eq}
+use Rattle.rt_query.specs.laws.QueryEq.{query_eq_tells}
+use Rattle.rt_cache.specs.Brought.{Brought, source}
+use Rattle.rt_cache.specs.Recover.{is_among}
+use Rattle.rt_parts.specs.Renewed.{is_listened_at}
+use Rattle.rt_world.specs.World.{Listener}
+use Rattle.rt_sync.specs.declared.steps.moving.Had.{Had}
+use Rattle.rt_sync.specs.inside.Moving.{is_of_path, has_others, is_lent, is_had, HaveSources}
+
+-- ---- tests
+
+or_none : (a : Bool) → a ≡ (a || false)
+or_none true = refl
+or_none false = refl
+
+or_same : (a b : Bool) → (b ≡ true → a ≡ true) → a ≡ (a || b)
+or_same true b h = refl
+or_same false true h = h refl
+or_same false false h = refl
+
+and_false : (a : Bool) → (a && false) ≡ false
+and_false true = refl
+and_false false = refl
+
+second : (a b : Bool) → (a && b) ≡ true → b ≡ true
+second true b e = e
+second false b e = absurd (true≢false (sym e))
+
+first : (a b : Bool) → (a && b) ≡ true → a ≡ true
+first true b e = refl
+first false b e = e
+
+-- one more of a list is tested
+pub any_step : {X : Type 0} (test : X → Bool) (xs : List X) (i : ℕ) (x : X) (old new : Bool) → i < length xs → x ≡ get_or xs i x
+    → old ≡ list_any test (take i xs) → new ≡ (old || test x) → new ≡ list_any test (take (i + 1) xs)
+any_step test xs i x old new within at before more =
+    more ∙ (λ j. before j || test (at j)) ∙ sym (list_any_more test xs i x within)
+
+-- ---- forms, one of each path
+
+module _ (old : List Query) (f : Query) (may : Bool) (p : Path) where
+  pub no_mover : may ≡ false → is_of_path old p ≡ (is_of_path old p || (may && path_eq f.path p))
+  no_mover e = or_none (is_of_path old p) ∙ ap (λ b. is_of_path old p || (b && path_eq f.path p)) (sym e)
+
+  pub has_mover : is_of_path old f.path ≡ true → is_of_path old p ≡ (is_of_path old p || (may && path_eq f.path p))
+  has_mover e = or_same (is_of_path old p) (may && path_eq f.path p) (λ t. ap (is_of_path old) (sym (path_eq-is f.path p (second may (path_eq f.path p) t))) ∙ e)
+
+  pub more_mover : may ≡ true → is_of_path (old ++ f ∷ []) p ≡ (is_of_path old p || (may && path_eq f.path p))
+  more_mover e =
+      list_any-append (λ (x : Query). path_eq x.path p) old (f ∷ [])
+      ∙ ap (λ b. is_of_path old p || b) (sym (or_none (path_eq f.path p)) ∙ ap (λ b. b && path_eq f.path p) (sym e))
+
+-- ---- what had another form's window
+
+module _ (b : Brought) (old : List Had) (r q : Query) where
+  pub not_had : has_others b r ≡ false → is_had old q ≡ (is_had old q || (query_eq r q && has_others b q))
+  not_had e = or_same (is_had old q) (query_eq r q && has_others b q) (λ t.
+      absurd (true≢false (sym (second (query_eq r q) (has_others b q) t) ∙ ap (has_others b) (sym ((query_eq_tells r q).0 (first (query_eq r q) (has_others b q) t))) ∙ e)))
+
+  pub more_had : (z : Had) → z.query ≡ r → has_others b r ≡ true → is_had (old ++ z ∷ []) q ≡ (is_had old q || (query_eq r q && has_others b q))
+  more_had z same e =
+      list_any-append (λ (h : Had). query_eq h.query q) old (z ∷ [])
+      ∙ ap (λ c. is_had old q || c) (sym (or_none (query_eq z.query q)) ∙ ap (λ x. query_eq x q) same ∙ at (query_eq r q) refl)
+    where
+      at : (c : Bool) → query_eq r q ≡ c → query_eq r q ≡ (query_eq r q && has_others b q)
+      at true t = t ∙ sym ((λ i. t i && (ap (has_others b) (sym ((query_eq_tells r q).0 t)) ∙ e) i))
+      at false t = t ∙ sym (ap (λ c. c && has_others b q) t)
+
+-- by the source it is told whether that is another form
+pub others_none : (b : Brought) (q : Query) → source b q ≡ None → has_others b q ≡ false
+others_none b q e = ap (λ o. option_map_or (λ f. not (query_eq f q)) o false) e
+
+pub others_by : (b : Brought) (q f : Query) (c : Bool) → source b q ≡ Some f → query_eq f q ≡ c → has_others b q ≡ not c
+others_by b q f c e t = ap (λ o. option_map_or (λ f. not (query_eq f q)) o false) e ∙ ap not t
+
+pub more_sources : (b : Brought) (old : List Had) (z : Had) → source b z.query ≡ Some z.source → HaveSources b old → HaveSources b (old ++ z ∷ [])
+more_sources b old z e h =
+    All-append (λ (x : Had). source b x.query ≡ Some x.source) old (z ∷ []) h
+    (All-cons (λ (x : Had). source b x.query ≡ Some x.source) z [] e (All-nil (λ (x : Had). source b x.query ≡ Some x.source)))
+
+pub no_sources : (b : Brought) → HaveSources b []
+no_sources b = All-nil (λ (x : Had). source b x.query ≡ Some x.source)
+
+-- ---- several queries
+
+pub several : (start : Bool) (xs : List Query) (i : ℕ) (x q : Query) (o old new : Bool) → i < length xs → x ≡ get_or xs i x
+    → old ≡ (start || (is_among (take i xs) q && o)) → new ≡ (old || (query_eq x q && o)) → new ≡ (start || (is_among (take (i + 1) xs) q && o))
+several start xs i x q o old new within at before more =
+    more ∙ ap (λ b. b || (query_eq x q && o)) before
+    ∙ joined start (is_among (take i xs) q) (query_eq x q) o
+    ∙ ap (λ z. start || ((is_among (take i xs) q || query_eq z q) && o)) at
+    ∙ ap (λ b. start || (b && o)) (sym (list_any_more (λ (y : Query). query_eq y q) xs i x within))
+  where
+    joined : (a b c o : Bool) → ((a || (b && o)) || (c && o)) ≡ (a || ((b || c) && o))
+    joined true b c o = refl
+    joined false true c true = refl
+    joined false true true false = refl
+    joined false true false false = refl
+    joined false false c o = refl
+
+pub several_none : (start : Bool) (xs : List Query) (q : Query) (o : Bool) → start ≡ (start || (is_among (take 0 xs) q && o))
+several_none start xs q o = or_none start
+
+-- ---- several paths
+
+module _ (b : Brought) (ls : List Listener) (q : Query) where
+  abbrev heard : Bool
+  heard = list_any (λ (l : Listener). query_eq l.query q) ls
+
+  pub paths_none : (forms : List Query) → false ≡ (is_of_path (take 0 forms) q.path && is_lent b ls q)
+  paths_none forms = refl
+
+  pub paths_more : (forms : List Query) (i : ℕ) (f : Query) (p : Path) (old new : Bool) → i < length forms → f ≡ get_or forms i f → p ≡ f.path
+      → old ≡ (is_of_path (take i forms) q.path && is_lent b ls q) → new ≡ (old || (is_listened_at ls p q && has_others b q))
+      → new ≡ (is_of_path (take (i + 1) forms) q.path && is_lent b ls q)
+  paths_more forms i f p old new within at is before more =
+      more ∙ ap (λ c. c || (is_listened_at ls p q && has_others b q)) before
+      ∙ ap (λ e. (is_of_path (take i forms) q.path && is_lent b ls q) || ((is_filtered q && e && heard) && has_others b q))
+      (path_eq-symm q.path p ∙ ap (λ z. path_eq z q.path) is ∙ ap (λ (z : Query). path_eq z.path q.path) at)
+      ∙ joined (is_of_path (take i forms) q.path) (is_filtered q) (path_eq (get_or forms i f).path q.path) heard (has_others b q)
+      ∙ ap (λ c. c && is_lent b ls q) (sym (list_any_more (λ (z : Query). path_eq z.path q.path) forms i f within))
+    where
+      joined : (a f e l o : Bool) → ((a && (f && l && o)) || ((f && e && l) && o)) ≡ ((a || e) && (f && l && o))
+      joined true true true true true = refl
+      joined true true true true false = refl
+      joined true true true false o = refl
+      joined true true false true true = refl
+      joined true true false true false = refl
+      joined true true false false o = refl
+      joined true false e l o = refl
+      joined false true true l o = refl
+      joined false true false l o = refl
+      joined false false true l o = refl
+      joined false false false l o = refl
+
+-- ---- what is moved
+
+module _ (old : List Query) (r q : Query) (is : Bool) where
+  pub not_moved : is ≡ false → is_among old q ≡ (is_among old q || (query_eq r q && is))
+  not_moved e = or_none (is_among old q) ∙ ap (λ c. is_among old q || c) (sym (ap (λ c. query_eq r q && c) e ∙ and_false (query_eq r q)))
+
+  pub more_moved : is ≡ true → is_among (old ++ r ∷ []) q ≡ (is_among old q || (query_eq r q && is))
+  more_moved e =
+      list_any-append (λ (x : Query). query_eq x q) old (r ∷ [])
+      ∙ ap (λ c. is_among old q || c) (sym (or_none (query_eq r q)) ∙ at (query_eq r q) ∙ ap (λ c. query_eq r q && c) (sym e))
+    where
+      at : (c : Bool) → c ≡ (c && true)
+      at true = refl
+      at false = refl
