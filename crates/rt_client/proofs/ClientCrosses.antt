@@ -7,6 +7,12 @@ use Rattle.rt_mail.specs.contracts.inbox.Inbox as inbox
 use Rattle.rt_mail.specs.contracts.lane.Lane as lane
 use Rattle.rt_snapshots.specs.contracts.snapshot.Snapshot as snapshot
 use Rattle.rt_snapshots.specs.contracts.snapshots.Snapshots as snapshots
+use Rattle.rt_cache.specs.contracts.region.Region as region
+use Rattle.rt_cache.specs.contracts.region.BoxedRegion as boxed_region
+use Rattle.rt_cache.specs.contracts.window.Window as window
+use Rattle.rt_cache.specs.contracts.window.BoxedWindow as boxed_window
+use Rattle.rt_cache.specs.contracts.registered.BoxedQuery as boxed_form
+use Rattle.rt_cache.specs.contracts.registered.Forms as registered
 use Rattle.rt_cache.specs.contracts.brought.Brought as brought
 use Rattle.rt_forms.specs.contracts.numbers.Numbers as numbers
 use Rattle.rt_forms.specs.contracts.standing.Filtered as filtered
@@ -55,8 +61,26 @@ lanes_send : IsSend lanes.the_row
 lanes_send = search (lane_send, all_cross) depth 40 fits 20000
 
 -- what the core holds
+region_send : IsSend region.the_row
+region_send = search calls_cross depth 40 fits 20000
+
+boxed_region_send : IsSend boxed_region.the_row
+boxed_region_send = search (region_send, all_cross) depth 40 fits 20000
+
+window_send : IsSend window.the_row
+window_send = search calls_cross depth 40 fits 20000
+
+boxed_window_send : IsSend boxed_window.the_row
+boxed_window_send = search (window_send, all_cross) depth 40 fits 20000
+
+boxed_form_send : IsSend boxed_form.the_row
+boxed_form_send = search calls_cross depth 40 fits 20000
+
+registered_send : IsSend registered.the_row
+registered_send = search (boxed_form_send, all_cross) depth 40 fits 20000
+
 brought_send : IsSend brought.the_row
-brought_send = search calls_cross depth 80 fits 60000
+brought_send = search (boxed_region_send, boxed_window_send, registered_send, all_cross) depth 40 fits 20000
 
 -- the forms that are listened to, with the numbers of their listeners
 numbers_send : IsSend numbers.the_row

@@ -5,7 +5,7 @@ use Rattle.rt_tree.specs.TreeEq.{both_first, both_second}
 use Rattle.rt_query.specs.Queries.{Query}
 use Rattle.rt_cache.specs.Recover.{is_among}
 use Rattle.rt_cache.specs.Runs.{IsKept}
-use Rattle.rt_cache.proofs.Ending.{of_among}
+use Rattle.rt_cache.proofs.Among.{of_among}
 use Rattle.rt_calls.proofs.cache.admit.Goals as goal
 
 each : (those queries : List Query) → list_all (is_among those) queries ≡ true → All (Contains those) queries
