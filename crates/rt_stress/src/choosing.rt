@@ -3,8 +3,8 @@
 use crate::chance::Chance;
 use std::alloc::{AllocError, Global};
 
-const PATHS: [&str; 9] = [
-    "/g/a", "/g/b", "/g/c", "/g/d/x", "/h", "/h/y", "/g", "/g/10", "/",
+const PATHS: [&str; 10] = [
+    "/g/a", "/g/b", "/g/c", "/g/d/x", "/h", "/h/y", "/g", "/g/10", "/", "/k/a",
 ];
 
 const VALUES: [&str; 8] = [
@@ -18,8 +18,8 @@ const VALUES: [&str; 8] = [
     "7",
 ];
 
-// Queries, with their paths.
-const ASKED: [&str; 8] = [
+// Queries, with their paths; some are ranges that others take in.
+const ASKED: [&str; 13] = [
     "\"/g\",[]",
     "\"/g/a\",[]",
     "\"/g\",[[\"limitToFirst\",2]]",
@@ -28,6 +28,11 @@ const ASKED: [&str; 8] = [
     "\"/\",[]",
     "\"/g/d\",[]",
     "\"/g\",[[\"orderByChild\",\"x\"],[\"startAt\",1]]",
+    "\"/g\",[[\"orderByChild\",\"x\"],[\"startAt\",1],[\"endAt\",9]]",
+    "\"/k\",[[\"orderByValue\"],[\"startAt\",1]]",
+    "\"/k\",[[\"orderByValue\"],[\"endAt\",5]]",
+    "\"/k\",[[\"orderByValue\"],[\"startAt\",1],[\"endAt\",5]]",
+    "\"/k\",[[\"orderByValue\"],[\"startAt\",1],[\"endAt\",2],[\"limitToLast\",1]]",
 ];
 
 const PUSHED: [&str; 7] = [

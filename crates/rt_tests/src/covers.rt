@@ -1,12 +1,30 @@
 // The cover and the list of the tests, side by side: equal after each of many changes.
 use crate::list_cover::{ListCover, Told};
 use rt_cover::{Cover, Delta, Kept};
-use rt_query::Query;
-use rt_tree::Path;
+use rt_order::Mark;
+use rt_query::{Draft, Query};
+use rt_tree::{Leaf, Path};
 use std::alloc::Global;
 use std::test::Fail;
 
 const PATHS: [&str; 5] = ["/", "/a", "/a/b", "/a/b/c", "/d"];
+
+// Of ranges by value: from a number on, up to one, and the last so many, where these are not 0. Some take
+// in others.
+const RANGES: [(i64, i64, u32); 9] = [
+    (1, 0, 0),
+    (3, 20, 0),
+    (1, 9, 0),
+    (4, 8, 0),
+    (4, 8, 2),
+    (0, 9, 0),
+    (10, 11, 1),
+    (9, 3, 0),
+    (4, 0, 3),
+];
+
+// A query has no filter, one of two limits, or one of these ranges.
+const FILTERS: u64 = 12;
 
 // A change, by numbers that say its kind, the query of a new listener, and who ends.
 #[derive(Clone, Copy)]
@@ -17,15 +35,34 @@ struct Step {
     pick: u64,
 }
 
-// The query of a path: plain, or filtered in one of two ways.
+fn number(value: i64) -> Result<Mark, Fail> {
+    Ok(Mark::Leaf(Leaf::number(value)?))
+}
+
+// A range by value.
+fn ranged(draft: &mut Draft, (from, to, last): (i64, i64, u32)) -> Result<(), Fail> {
+    draft.order_by_value()?;
+    if from > 0 {
+        draft.start_at(number(from)?, None)?;
+    }
+    if to > 0 {
+        draft.end_at(number(to)?, None)?;
+    }
+    if last > 0 {
+        draft.limit_to_last(last)?;
+    }
+    Ok(())
+}
+
+// The query of a path: plain, with a limit, or a range.
 fn query(alloc: Global, path: u64, filter: u64) -> Result<Query, Fail> {
     let text = PATHS[(path % 5) as usize];
     let mut draft = Query::at(Path::parse(alloc, text)?);
-    if filter == 1 {
-        draft.limit_to_first(1)?;
-    }
-    if filter == 2 {
-        draft.limit_to_last(2)?;
+    match filter {
+        0 => {}
+        1 => draft.limit_to_first(1)?,
+        2 => draft.limit_to_last(2)?,
+        _ => ranged(&mut draft, RANGES[(filter % 9) as usize])?,
     }
     Ok(draft.done())
 }
@@ -106,7 +143,7 @@ fn stated(place: u64) -> Step {
     Step {
         kind: KINDS[(place % 10) as usize],
         path: place / 3,
-        filter: place % 3,
+        filter: place % FILTERS,
         pick: place.wrapping_mul(11),
     }
 }
@@ -120,7 +157,7 @@ fn by_chance(seed: u64) -> Step {
     Step {
         kind: (seed >> 33) % 7,
         path: (seed >> 37) % 5,
-        filter: (seed >> 41) % 3,
+        filter: (seed >> 41) % FILTERS,
         pick: seed >> 44,
     }
 }

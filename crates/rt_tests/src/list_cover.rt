@@ -1,6 +1,7 @@
 // The cover as a list: each change finds the needed forms anew, each form compared with each. It has
 // no contracts; the cover of the product is compared with it.
 use rt_cover::Kept;
+use rt_order::{Cut, cut_cmp};
 use rt_query::Query;
 use std::alloc::{AllocError, Global};
 
@@ -32,8 +33,39 @@ pub struct ListCover {
     given: u64,
 }
 
+// Whether what is after the one cut has all that is after the other: it is absent, or not the later one.
+fn starts_first(lower: &Option<Cut>, other: &Option<Cut>) -> bool {
+    match (lower, other) {
+        (None, _) => true,
+        (Some(_), None) => false,
+        (Some(lower), Some(other)) => cut_cmp(lower, other).is_le(),
+    }
+}
+
+// Whether what is before the one cut has all that is before the other.
+fn ends_last(upper: &Option<Cut>, other: &Option<Cut>) -> bool {
+    match (upper, other) {
+        (None, _) => true,
+        (Some(_), None) => false,
+        (Some(upper), Some(other)) => cut_cmp(other, upper).is_le(),
+    }
+}
+
+// Whether a filtered listen brings all that a filtered query may show.
+fn has_range_of(listen: &Query, query: &Query) -> bool {
+    listen.limit().is_none()
+        && listen.path() == query.path()
+        && listen.index() == query.index()
+        && starts_first(&listen.range().lower, &query.range().lower)
+        && ends_last(&listen.range().upper, &query.range().upper)
+}
+
 fn supplies(listen: &Query, query: &Query) -> bool {
-    listen == query || !listen.is_filtered() && listen.path().is_prefix_of(query.path())
+    match (listen.is_filtered(), query.is_filtered()) {
+        (false, _) => listen.path().is_prefix_of(query.path()),
+        (true, false) => false,
+        (true, true) => listen == query || has_range_of(listen, query),
+    }
 }
 
 fn is_among(forms: &[Query], form: &Query) -> bool {
