@@ -14,7 +14,7 @@ use Rattle.rt_query.specs.Queries.{Query, is_filtered}
 use Rattle.rt_query.specs.Supply.{does_supply}
 use Rattle.rt_query.specs.laws.SupplyLaws.{supplied_is_filtered}
 use Rattle.rt_cache.specs.QueryOrder.{query_cmp}
-use Rattle.rt_cache.specs.Brought.{Window, Brought, Base, region_part, window_of, source, base, knows, child_base, is_without_window, is_another_at, may_move}
+use Rattle.rt_cache.specs.Brought.{Window, Brought, region_part, window_of, source, base, knows, child_base, is_without_window, is_another_at, may_move}
 use Rattle.rt_cache.specs.Recover.{in_query_order}
 use Rattle.rt_cache.specs.declared.region.Region.{Region}
 use Rattle.rt_cache.specs.declared.window.Window as inside

@@ -13,7 +13,7 @@ use Rattle.rt_tree.specs.Assignments.{have_overlap}
 use Rattle.rt_query.specs.Queries.{Query, is_filtered}
 use Rattle.rt_cache.specs.Brought.{Window, Brought}
 use Rattle.rt_cache.specs.Canonical.{IsCanonical}
-use Rattle.rt_cache.specs.Recover.{reaches, parts_of, with_regions, regions_kept, do_plains_overlap, is_among, cut, heirs, handed_on, recover}
+use Rattle.rt_cache.specs.Recover.{reaches, parts_of, with_regions, do_plains_overlap, is_among, cut, heirs, handed_on, recover}
 use Rattle.rt_cache.specs.declared.region.Region.{Region}
 use Rattle.rt_cache.specs.declared.spans.Span.{Span}
 use Rattle.rt_cache.specs.inside.Held.{pairs_of}

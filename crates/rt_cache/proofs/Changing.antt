@@ -1,9 +1,8 @@
 -- A change of cover is a change in the sense of Moves: what it leaves, and to whom it hands windows on.
-use Rattle.std.proofs.Common.{◌≡◌, Bool, true, false, cond, not, ◌&&◌, ◌||◌, List, [], ◌∷◌, ◌++◌, refl, sym, ap, subst, ◌∙◌, Option, Some, None, is_some}
+use Rattle.std.proofs.Common.{◌≡◌, Bool, true, false, cond, not, ◌&&◌, List, ◌++◌, refl, sym, ap, ◌∙◌, Option, Some, None, is_some}
 use mathlib.Core.Bool.{true≢false}
 use Rattle.std.specs.List.{filter, list_any, All, Any, Contains}
 use Rattle.std.specs.Option.{option_or}
-use Rattle.std.specs.FinMap as map_of
 use Rattle.std.specs.FinMap.Entries.{find-where_key}
 use Rattle.std.proofs.lemmas.List.Elements.{All-contains, Contains-get_or}
 use Rattle.rt_tree.specs.PathTree.{Path, PathTree}
@@ -21,14 +20,14 @@ use Rattle.rt_cache.specs.Canonical.{IsCanonical, Belongs}
 use Rattle.rt_cache.specs.Recover.{reaches, regions_kept, is_among, cut, is_lost, heirs, window_left, handed_on, recover}
 use Rattle.rt_cache.proofs.Among.{any_with, among, of_among}
 use Rattle.rt_cache.proofs.Cuts.{any_above, part_any}
-use Rattle.rt_cache.proofs.Heirs.{IsHeir, heir_is}
+use Rattle.rt_cache.proofs.Heirs.{heir_is}
 use Rattle.rt_cache.proofs.Keeping.{find-both, find-for_each}
 use Rattle.rt_cache.proofs.Listing.{find-listed}
 use Rattle.rt_cache.proofs.Moves.{IsBrought, IsChange}
 use Rattle.rt_cache.proofs.QueryOrders.{exact_queries}
 use Rattle.rt_cache.proofs.RecoverLaws.{left_registered}
 use Rattle.rt_cache.proofs.RunLaws.{never}
-use Rattle.rt_cache.proofs.Sources.{found_all, found_there, apart_found}
+use Rattle.rt_cache.proofs.Sources.{found_all, apart_found}
 
 -- what always holds, by the windows that are found
 pub is_brought : (b : Brought) → IsCanonical b → Belongs b → IsBrought b

@@ -1,8 +1,8 @@
 -- To which forms a change of cover hands windows on, and what all that are handed on have.
-use Rattle.std.proofs.Common.{◌≡◌, ℕ, suc, ◌<◌, length, slice_index_or, Bool, true, false, not, ◌&&◌, List, [], ◌∷◌, refl, sym, Option, Some, None, arith}
+use Rattle.std.proofs.Common.{◌≡◌, suc, slice_index_or, Bool, true, false, not, ◌&&◌, List, [], ◌∷◌, refl, sym, Option, Some, None, arith}
 use mathlib.Core.Bool.{true≢false}
 use Rattle.std.specs.Prelude.{IfSome}
-use Rattle.std.specs.List.{filter, list_any, cons_option, All, Contains}
+use Rattle.std.specs.List.{filter, cons_option, All, Contains}
 use Rattle.std.specs.Option.{option_map}
 use Rattle.std.proofs.lemmas.List.Elements.{All-nil, All-cons, filter_passes}
 use Rattle.rt_tree.specs.TreeEq.{both_first, both_second}

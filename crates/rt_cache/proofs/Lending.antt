@@ -1,6 +1,6 @@
 -- Queries that are lent, and those of them that pass a test; which regions are lost where a place is.
 use Rattle.std.proofs.Common.{◌≡◌, ℕ, suc, ◌+◌, ◌<◌, ◌≤◌, Bool, true, false, cond, not, ◌&&◌, ◌||◌, List, [], ◌∷◌, ◌++◌, length, get_or, drop, map, append-nil, refl, sym, ap, subst, ◌∙◌, arith}
-use Rattle.std.proofs.Common.{is_some, Vec, Global}
+use Rattle.std.proofs.Common.{is_some}
 use mathlib.Core.Bool.{true≢false}
 use Rattle.std.specs.Prelude.{IfOk}
 use Rattle.std.specs.List.{filter, list_any, All}
@@ -8,7 +8,7 @@ use Rattle.std.specs.Ordering.{is_lt}
 use Rattle.std.specs.declared.result.Result.{Result}
 use Rattle.std.specs.declared.result.Result.TheVariants.{Ok}
 use Rattle.std.proofs.lemmas.List.{drop_more, get_or-map}
-use Rattle.std.proofs.lemmas.List.Elements.{All-map, filter_passes, at_read}
+use Rattle.std.proofs.lemmas.List.Elements.{filter_passes, at_read}
 use Rattle.std.proofs.lemmas.List.Folds.{Any-from_list_any}
 use Rattle.rt_tree.specs.PathTree.{Path, PathTree, path_cmp}
 use Rattle.rt_tree.specs.Assignments.{is_at_or_above, have_overlap}

@@ -1,5 +1,5 @@
 -- What a change of cover leaves to a filtered query whose form stays: it looks as before, unless it is moved.
-use Rattle.std.proofs.Common.{◌≡◌, ℕ, zero, suc, ◌<◌, Bool, true, false, cond, not, ◌&&◌, ◌||◌, ◌⊎◌, inl, inr, List, [], ◌∷◌, length, refl, sym, ap, subst, ◌∙◌, Option, Some, None, is_some, slice_index_or, arith}
+use Rattle.std.proofs.Common.{◌≡◌, suc, Bool, true, false, cond, not, ◌&&◌, ◌||◌, ◌⊎◌, inl, inr, List, [], ◌∷◌, refl, sym, ap, subst, ◌∙◌, Option, Some, None, is_some, arith}
 use mathlib.Core.Bool.{true≢false}
 use Rattle.std.specs.List.{find, list_any, Contains}
 use Rattle.std.specs.Option.{option_map, option_map_or, option_or, option_and_then, option_eq}

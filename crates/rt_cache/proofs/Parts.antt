@@ -1,19 +1,19 @@
 -- Parts put in order: nothing is found elsewhere, and none is at or above another.
-use Rattle.std.proofs.Common.{◌≡◌, ℕ, zero, suc, ◌<◌, ◌≤◌, arith, drop, length, get_or, IfOk, Bool, true, false, cond, not, ◌||◌, ◌&&◌, List, [], ◌∷◌, ◌++◌, append-nil, refl, sym, ap, ◌∙◌, Option, Some, None, is_some}
+use Rattle.std.proofs.Common.{◌≡◌, ℕ, zero, suc, ◌<◌, ◌≤◌, arith, drop, length, get_or, IfOk, Bool, true, false, cond, not, ◌||◌, List, [], ◌∷◌, ◌++◌, append-nil, refl, sym, ap, ◌∙◌, Option, Some, None, is_some}
 use mathlib.Core.Bool.{true≢false}
 use lib.Dec.{T}
 use Rattle.std.specs.declared.result.Result.{Result}
 use Rattle.std.specs.declared.result.Result.TheVariants.{Ok, Err}
 use Rattle.std.specs.Ordering.{eq_by_cmp}
 use Rattle.std.specs.Cmp.{Equal-is}
-use Rattle.std.specs.Option.{option_map, option_or}
+use Rattle.std.specs.Option.{option_or}
 use Rattle.std.specs.List.{filter, flat_map}
 use Rattle.std.specs.FinMap as map_of
 use Rattle.std.specs.FinMap.Entries.{find-put, same_entries}
-use Rattle.rt_tree.specs.PathTree.{Path, PathTree, path_cmp, paths_total, exact_paths, strip, strip-append, children_alone}
+use Rattle.rt_tree.specs.PathTree.{Path, path_cmp, paths_total, exact_paths, strip, strip-append}
 use Rattle.rt_tree.specs.Assignments.{is_at_or_above, do_overlap, have_overlap}
-use Rattle.rt_query.specs.Queries.{Query, is_filtered}
-use Rattle.rt_cache.specs.Brought.{Window, region_part}
+use Rattle.rt_query.specs.Queries.{Query}
+use Rattle.rt_cache.specs.Brought.{region_part}
 use Rattle.rt_cache.specs.Recover.{reaches, parts_of, plain_spots, with_regions, regions_kept}
 use Rattle.rt_cache.specs.declared.region.Region.{Region}
 use Rattle.rt_cache.specs.inside.Cuts.{parts_left}

@@ -7,9 +7,9 @@ use Rattle.rt_tree.specs.PathTree.{Path, PathTree, path_eq, path_eq-same}
 use Rattle.rt_tree.specs.TreeEq.{both, both_first, both_second}
 use Rattle.rt_query.specs.Queries.{Query, is_filtered}
 use Rattle.rt_query.specs.QueryEq.{query_eq}
-use Rattle.rt_query.specs.Supply.{form, does_supply}
+use Rattle.rt_query.specs.Supply.{does_supply}
 use Rattle.rt_query.specs.Needed.{Supplies}
-use Rattle.rt_query.specs.laws.NeededLaws.{supplies_itself, supplies_trans, Contains-filter}
+use Rattle.rt_query.specs.laws.NeededLaws.{supplies_itself, Contains-filter}
 use Rattle.rt_query.specs.laws.QueryEq.{query_eq_tells}
 use Rattle.rt_query.specs.laws.RangeLaws.{taken_in}
 use Rattle.rt_query.specs.laws.SupplyLaws.{form_filtered, supplied_is_filtered, supplies_cases}

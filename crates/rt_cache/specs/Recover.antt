@@ -1,6 +1,6 @@
 -- What stays brought when the listens kept change.
 use Rattle.std.specs.Prelude.{◌≡◌, ℕ, ◌==◌, Bool, true, false, not, ◌&&◌, ◌||◌, if◌then◌else◌, List, []}
-use Rattle.std.specs.Prelude.{◌∷◌, ◌++◌, map, Option, Some, None, is_some}
+use Rattle.std.specs.Prelude.{◌∷◌, ◌++◌, map, Option, Some, None}
 use Rattle.std.specs.List.{filter, filter_map, flat_map, fold, list_any, enumerate_from, All, Contains}
 use Rattle.std.specs.Option.{option_map, option_map_or, option_eq}
 use Rattle.std.specs.FinMap as map_of
@@ -10,9 +10,8 @@ use Rattle.rt_query.specs.Queries.{Query, is_filtered}
 use Rattle.rt_query.specs.QueryEq.{query_eq}
 pub use Rattle.rt_query.specs.Apart.{plain_spots, do_plains_overlap}
 use Rattle.rt_query.specs.Needed.{needed}
-use Rattle.rt_query.specs.Supply.{does_supply}
 use Rattle.rt_cache.specs.QueryOrder.{query_cmp}
-use Rattle.rt_cache.specs.Brought.{Window, Brought, Base, is_supplied, source, base, knows}
+use Rattle.rt_cache.specs.Brought.{Window, Brought, Base, source, base, knows}
 
 -- whether a plain listen is at or above p
 abbrev pub reaches : List Query → Path → Bool

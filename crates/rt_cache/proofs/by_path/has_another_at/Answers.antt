@@ -1,13 +1,12 @@
-use Rattle.std.proofs.Common.{rules, ◌≡◌, ◌<◌, ◌≤◌, ◌&&◌, ap, sym, subst, arith, length, get_or, true, false, not, ◌∙◌}
+use Rattle.std.proofs.Common.{rules, ◌≡◌, ◌<◌, ◌≤◌, ◌&&◌, ap, sym, subst, arith, length, get_or, true, false, not}
 use Rattle.std.proofs.lemmas.List.Elements.{at_read}
 use Rattle.std.specs.List.Sorted.{IsPartitionPoint}
 use Rattle.std.specs.Ordering.{is_lt}
 use Rattle.rt_tree.specs.PathTree.{path_cmp, path_eq}
 use Rattle.rt_query.specs.QueryEq.{query_eq}
-use Rattle.rt_query.specs.Queries.{Query}
 use Rattle.rt_cache.specs.Brought.{is_another_at}
 use Rattle.rt_cache.proofs.ByPaths.{before_more, any_at, none_of}
-use Rattle.rt_cache.proofs.Suppliers.{other_path, in_front, another_left}
+use Rattle.rt_cache.proofs.Suppliers.{in_front, another_left}
 use Rattle.rt_cache.proofs.by_path.has_another_at.Goals as goal
 
 pub loop-place-init : goal.loop-place-init

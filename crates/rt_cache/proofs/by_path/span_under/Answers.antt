@@ -1,4 +1,4 @@
-use Rattle.std.proofs.Common.{rules, ◌≡◌, ℕ, sym, subst, drop, true, false, List}
+use Rattle.std.proofs.Common.{rules, ◌≡◌, ℕ, sym, subst, drop, true, false}
 use Rattle.std.proofs.lemmas.List.Sorted.{IsPartitionPoint-from_clause}
 use Rattle.std.specs.List.Sorted.{IsPartitionPoint, IsPartitionedBy}
 use Rattle.rt_tree.specs.Assignments.{is_at_or_above}

@@ -1,4 +1,4 @@
-use Rattle.std.proofs.Common.{rules, ◌≡◌, ◌∙◌, ℕ, ◌+◌, ◌<◌, ◌≤◌, arith, length, get_or, ap, sym, true, false}
+use Rattle.std.proofs.Common.{rules, ◌≡◌, ◌∙◌, ◌<◌, arith, length, get_or, ap, sym, false}
 use mathlib.Core.Bool.{true≢false}
 use Rattle.std.specs.List.{list_any}
 use Rattle.rt_tree.specs.PathTree.{Path}

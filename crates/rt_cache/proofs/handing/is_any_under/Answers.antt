@@ -1,4 +1,3 @@
-use Rattle.std.proofs.Common.{rules, ◌≡◌}
 use Rattle.rt_query.specs.Queries.{Query}
 use Rattle.rt_tree.specs.Assignments.{is_at_or_above}
 use Rattle.rt_cache.proofs.Under.{any_in_span}

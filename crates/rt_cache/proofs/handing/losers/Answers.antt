@@ -1,4 +1,4 @@
-use Rattle.std.proofs.Common.{rules, ◌≡◌, ◌∙◌, ◌<◌, ◌++◌, ◌∷◌, [], ◌&&◌, Bool, List, length, get_or, sym, true, false}
+use Rattle.std.proofs.Common.{rules, ◌≡◌, ◌∙◌, ◌<◌, ◌++◌, ◌∷◌, [], ◌&&◌, Bool, length, get_or, sym, true, false}
 use Rattle.rt_query.specs.Queries.{Query}
 use Rattle.rt_cache.specs.Recover.{is_among}
 use Rattle.rt_cache.specs.declared.by_path.Lent.{Lent}

@@ -1,4 +1,4 @@
-use Rattle.std.proofs.Common.{rules, ◌≡◌, ◌∙◌, ◌<◌, ◌&&◌, ap, sym, length, get_or, not, true, false, is_some, Some, None}
+use Rattle.std.proofs.Common.{rules, ◌≡◌, ◌∙◌, ◌<◌, ◌&&◌, ap, sym, length, get_or, not, true, false, is_some, None}
 use Rattle.rt_tree.specs.Assignments.{is_at_or_above}
 use Rattle.rt_cache.specs.Brought.{region_part}
 use Rattle.rt_cache.specs.Recover.{regions_kept}

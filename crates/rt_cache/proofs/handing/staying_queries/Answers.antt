@@ -1,14 +1,13 @@
-use Rattle.std.proofs.Common.{rules, ◌≡◌, ◌∙◌, Bool, List, ap, sym, subst, true}
+use Rattle.std.proofs.Common.{rules, ◌≡◌, ◌∙◌, Bool, ap, sym, subst, true}
 use Rattle.std.specs.List.{filter, list_any, All}
 use Rattle.std.proofs.lemmas.Fn.{filter_same}
 use Rattle.std.proofs.lemmas.List.Elements.{All-map, All-filter}
 use Rattle.rt_query.specs.Queries.{Query, is_filtered}
 use Rattle.rt_query.specs.QueryEq.{query_eq}
-use Rattle.rt_cache.specs.Recover.{is_among}
 use Rattle.rt_cache.specs.declared.by_path.Lent.{Lent}
 use Rattle.rt_cache.specs.declared.window.Window.{Window}
 use Rattle.rt_cache.specs.inside.ByPath.{AreByPath, query_of}
-use Rattle.rt_cache.specs.inside.Handing.{lent_queries, window_queries, is_alike}
+use Rattle.rt_cache.specs.inside.Handing.{lent_queries, is_alike}
 use Rattle.rt_cache.proofs.ByPaths.{by_path-filter}
 use Rattle.rt_cache.proofs.Lending.{by_path-mapped, by_path-from_mapped, all-from_mapped, passing_mapped, among_lent}
 use Rattle.rt_cache.proofs.handing.staying_queries.Goals as goal

@@ -1,4 +1,4 @@
-use Rattle.std.proofs.Common.{rules, ◌≡◌, ◌∙◌, ◌&&◌, ◌||◌, Bool, List, ap, sym, subst, true}
+use Rattle.std.proofs.Common.{◌≡◌, ◌∙◌, ◌&&◌, ◌||◌, Bool, List, ap, sym, subst, true}
 use Rattle.std.specs.List.{filter, list_any, All}
 use Rattle.std.specs.FinMap as map_of
 use Rattle.std.proofs.lemmas.List.Sorted.{list_any-IsPermutation}

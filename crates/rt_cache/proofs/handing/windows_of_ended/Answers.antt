@@ -1,4 +1,4 @@
-use Rattle.std.proofs.Common.{rules, ◌≡◌, ◌∙◌, ℕ, ◌<◌, ◌&&◌, List, [], ap, sym, subst, length, get_or, not, true, false, is_some}
+use Rattle.std.proofs.Common.{rules, ◌≡◌, ◌∙◌, ◌&&◌, List, [], ap, sym, subst, length, not, true, false, is_some}
 use Rattle.std.specs.FinMap as map_of
 use Rattle.std.specs.List.{list_any}
 use Rattle.rt_query.specs.Queries.{Query, is_filtered}
@@ -6,13 +6,10 @@ use Rattle.rt_query.specs.QueryEq.{query_eq}
 use Rattle.rt_cache.specs.QueryOrder.{query_cmp}
 use Rattle.rt_cache.specs.Recover.{is_among}
 use Rattle.rt_cache.specs.declared.by_path.Lent.{Lent}
-use Rattle.rt_cache.specs.declared.region.Region.{Region}
-use Rattle.rt_cache.specs.declared.spans.Span.{Span}
 use Rattle.rt_cache.specs.declared.window.Window.{Window}
 use Rattle.rt_cache.specs.inside.ByPath.{AreByPath}
 use Rattle.rt_cache.specs.inside.Handing.{lent_queries, window_queries, AreHanded}
 use Rattle.rt_cache.specs.inside.Held.{entries_of, held}
-use Rattle.rt_cache.specs.inside.Spans.{have_place}
 use Rattle.rt_cache.proofs.ByPaths.{any_map}
 use Rattle.rt_cache.proofs.Counting.{among_filtered}
 use Rattle.rt_cache.proofs.HandLaws.{nothing_handed}

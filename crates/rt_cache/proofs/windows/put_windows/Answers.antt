@@ -1,4 +1,4 @@
-use Rattle.std.proofs.Common.{◌≡◌, ◌∙◌, ◌+◌, ◌++◌, ◌∷◌, [], ap, sym, arith, length, List}
+use Rattle.std.proofs.Common.{◌≡◌, ◌∙◌, ◌++◌, ◌∷◌, [], ap, sym, arith, length, List}
 use Rattle.std.proofs.lemmas.List.{length-append}
 use Rattle.rt_cache.specs.Recover.{in_query_order}
 use Rattle.rt_cache.specs.declared.window.Window.{Window}

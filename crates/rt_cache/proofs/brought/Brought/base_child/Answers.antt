@@ -7,7 +7,6 @@ use Rattle.rt_tree.specs.PathTree.{strip, sub, child, levels}
 use Rattle.rt_tree.specs.declared.limits.TheConstants.{MAX_KEYS, MAX_LEVELS}
 use Rattle.rt_tree.specs.Parts.{sub_root}
 use Rattle.rt_tree.specs.Assignments.{is_at_or_above}
-use Rattle.rt_query.specs.Queries.{Query}
 use Rattle.rt_query.specs.QueryEq.{query_eq}
 use Rattle.rt_cache.specs.QueryOrder.{query_cmp}
 use Rattle.rt_cache.specs.Brought.{Brought, region_part, base, child_base, base_child}

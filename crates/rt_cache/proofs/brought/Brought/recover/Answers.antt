@@ -1,10 +1,8 @@
-use Rattle.std.proofs.Common.{◌≡◌, ◌∙◌, List, ap, sym, subst}
-use Rattle.rt_query.specs.Queries.{Query}
+use Rattle.std.proofs.Common.{◌≡◌, ◌∙◌, ap, sym, subst}
 use Rattle.rt_cache.specs.Brought.{Brought}
 use Rattle.rt_cache.specs.Canonical.{IsCanonical, FitsLevels, Belongs}
-use Rattle.rt_cache.specs.Recover.{recover, in_query_order}
-use Rattle.rt_cache.specs.inside.Held.{held, entries_of, AreShort}
-use Rattle.rt_cache.specs.inside.Sources.{HaveForms}
+use Rattle.rt_cache.specs.Recover.{recover}
+use Rattle.rt_cache.specs.inside.Held.{held, AreShort}
 use Rattle.rt_cache.proofs.Belonging.{recover_belongs, have_forms}
 use Rattle.rt_cache.proofs.Changes.{recover_stays}
 use Rattle.rt_cache.proofs.Levels.{recover_fits}

@@ -1,5 +1,4 @@
-use Rattle.std.proofs.Common.{rules, ◌≡◌, ◌∙◌, ap, sym, subst, is_some, true, false, Some, None, List, ℕ, length, get_or, ◌<◌}
-use Rattle.rt_query.specs.Queries.{Query}
+use Rattle.std.proofs.Common.{rules, ◌≡◌, ◌∙◌, ap, sym, subst, is_some, true, false, Some, None, List, get_or}
 use Rattle.rt_cache.specs.Brought.{region_part, source}
 use Rattle.rt_cache.specs.Recover.{in_query_order}
 use Rattle.rt_cache.specs.declared.window.Window.{Window}

@@ -5,9 +5,8 @@ use Rattle.rt_tree.specs.declared.limits.TheConstants.{MAX_KEYS}
 use Rattle.rt_query.specs.Queries.{Query}
 use Rattle.rt_cache.specs.Brought.{Brought}
 use Rattle.rt_cache.specs.Canonical.{IsCanonical, FitsLevels, Belongs}
-use Rattle.rt_cache.specs.Recover.{recover, without_places, in_query_order, EndsForms}
-use Rattle.rt_cache.specs.inside.Held.{held, pairs_of, entries_of, AreShort}
-use Rattle.rt_cache.specs.inside.Sources.{HaveForms}
+use Rattle.rt_cache.specs.Recover.{recover, without_places, EndsForms}
+use Rattle.rt_cache.specs.inside.Held.{held, pairs_of, AreShort}
 use Rattle.rt_cache.proofs.Belonging.{recover_belongs, have_forms}
 use Rattle.rt_cache.proofs.Changes.{recover_stays}
 use Rattle.rt_cache.proofs.Levels.{recover_fits}

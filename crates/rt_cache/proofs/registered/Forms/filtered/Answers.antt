@@ -1,4 +1,4 @@
-use Rattle.std.proofs.Common.{◌≡◌, ◌∙◌, ◌&&◌, ap, sym}
+use Rattle.std.proofs.Common.{◌∙◌, ◌&&◌, ap}
 use Rattle.std.specs.List.{list_any}
 use Rattle.rt_query.specs.Queries.{is_filtered}
 use Rattle.rt_cache.proofs.Counting.{any_filtered}
