@@ -3,13 +3,12 @@ use Rattle.std.proofs.Common.{◌≡◌, ℕ, zero, suc, ◌<◌, Bool, true, fa
 use mathlib.Core.Bool.{true≢false}
 use Rattle.std.specs.Prelude.{◌==◌}
 use Rattle.std.specs.Cmp.{nat_eq_equiv}
-use Rattle.std.specs.List.{All, AllPairs, filter, find, list_any, position}
+use Rattle.std.specs.List.{All, AllPairs, filter, list_any, position}
 use Rattle.std.specs.Ordering.{is_eq, nat_cmp, ordering_then}
 use Rattle.std.specs.declared.cmp.Ordering.{Ordering}
 use Rattle.std.specs.declared.cmp.Ordering.TheVariants.{Less, Equal, Greater}
 use Rattle.std.proofs.lemmas.Bool.{lt-ltb, le-ltb}
 use Rattle.std.proofs.lemmas.List.Kept.{AllPairs-filter}
-use Rattle.std.proofs.lemmas.List.Quantifiers.{position-Some}
 use Rattle.rt_tree.specs.PathTree.{Path, path_cmp, path_eq, path_eq-same}
 use Rattle.rt_query.specs.Queries.{Query, is_filtered, plain}
 use Rattle.rt_query.specs.QueryEq.{query_eq}
@@ -18,7 +17,6 @@ use Rattle.rt_query.specs.laws.QueryEq.{query_eq_tells}
 use Rattle.rt_writes.specs.laws.Places.{any_found, found_at, stands}
 use Rattle.rt_parts.specs.declared.held.Held.{Held}
 use Rattle.rt_parts.specs.declared.places.Place.{Place}
-use Rattle.rt_parts.specs.inside.HeldView.{AreHeld}
 use Rattle.rt_parts.specs.inside.Placed.{AreInOrder, HaveNumbers, IsIndex, placed, stand_cmp, stand_of}
 use Rattle.rt_parts.proofs.Numbered.{only_there}
 use Rattle.rt_parts.proofs.SameLaws.{same_filter, same_known, same_known_back, same_more, same_read}

@@ -1,11 +1,10 @@
 -- Paths at, above and under a path, among those in order.
-use Rattle.std.proofs.Common.{◌≡◌, ℕ, zero, suc, ◌+◌, ◌<◌, Bool, true, false, cond, ◌||◌, ◌&&◌, nat_lt, List, [], ◌∷◌, ◌++◌, length, take, refl, sym, ap, subst, ◌∙◌, arith, Some, None, is_some}
+use Rattle.std.proofs.Common.{◌≡◌, ℕ, ◌<◌, Bool, true, false, cond, ◌||◌, ◌&&◌, nat_lt, List, [], ◌∷◌, ◌++◌, length, take, refl, sym, ap, subst, ◌∙◌, arith, None, is_some}
 use mathlib.Core.Bool.{true≢false}
 use Rattle.std.specs.Ordering.{is_lt, is_eq, ordering_then, ordering_reverse}
-use Rattle.std.specs.declared.cmp.Ordering.{Ordering}
 use Rattle.std.specs.declared.cmp.Ordering.TheVariants.{Less, Equal, Greater}
 use Rattle.std.proofs.lemmas.Bool.{lt-ltb}
-use Rattle.rt_tree.specs.PathTree.{Path, path_cmp, path_eq, paths_total, exact_paths, key_cmp, key_eq, key_eq-is, key_eq-symm, strip, strip-some}
+use Rattle.rt_tree.specs.PathTree.{Path, path_cmp, paths_total, exact_paths, key_cmp, key_eq, key_eq-is, key_eq-symm, strip, strip-some}
 use Rattle.rt_tree.specs.Assignments.{is_at_or_above}
 use Rattle.rt_cover.specs.laws.Paths.{is_at_or_above-same, rest_of_above}
 

@@ -1,10 +1,9 @@
 -- Listeners that are refreshed one after another, by their numbers.
-use Rattle.std.proofs.Common.{◌≡◌, ℕ, zero, suc, ◌+◌, ◌<◌, ◌≤◌, Bool, true, false, cond, ◌||◌, List, [], ◌∷◌, ◌++◌, length, get_or, drop, map, refl, sym, ap, subst, ◌∙◌, arith, append_assoc, append-nil, Option, Some, None}
-use mathlib.Core.Bool.{true≢false}
+use Rattle.std.proofs.Common.{◌≡◌, ℕ, zero, suc, ◌+◌, ◌<◌, ◌≤◌, Bool, true, false, cond, ◌||◌, List, [], ◌∷◌, ◌++◌, length, get_or, drop, map, refl, sym, ap, subst, ◌∙◌, arith, append_assoc, Option, Some, None}
 use Rattle.std.specs.Prelude.{◌==◌}
 use Rattle.std.specs.List.{All, AllPairs, cons_option, filter_map, find, list_any, position}
 use Rattle.std.proofs.lemmas.List.Elements.{All-cons}
-use Rattle.std.proofs.lemmas.List.{drop_more, get_or-drop, get_or-map, length-drop, length-map}
+use Rattle.std.proofs.lemmas.List.{drop_more, get_or-drop, length-drop}
 use Rattle.rt_tree.specs.Assignments.{Assignment}
 use Rattle.rt_writes.specs.Writes.{Write}
 use Rattle.rt_cache.specs.Brought.{Brought}
@@ -12,7 +11,7 @@ use Rattle.rt_view.specs.Views.{View}
 use Rattle.rt_cover.specs.laws.Pairs.{AllPairs-map}
 use Rattle.rt_world.specs.declared.report.Note.{Note}
 use Rattle.rt_world.specs.After.{renewed}
-use Rattle.rt_world.specs.Met.{all_told, do_meet, renewed_met, told, told_met}
+use Rattle.rt_world.specs.Met.{all_told, do_meet, told, told_met}
 use Rattle.rt_world.specs.Views.{is_known, view_of}
 use Rattle.rt_world.specs.World.{Listener}
 use Rattle.rt_writes.specs.laws.Places.{filter_none_found}
@@ -20,7 +19,7 @@ use Rattle.rt_parts.specs.declared.held.Held.{Held}
 use Rattle.rt_parts.specs.inside.HeldView.{listener_of, listeners_of, pair_of, refreshed, refreshed_at, told_at}
 use Rattle.rt_parts.specs.declared.places.Place.{Place}
 use Rattle.rt_parts.specs.inside.Placed.{placed}
-use Rattle.rt_parts.specs.Refreshed.{FollowsNamed, view_after, view_met}
+use Rattle.rt_parts.specs.Refreshed.{FollowsNamed, view_after}
 use Rattle.rt_parts.proofs.Numbered as by
 
 -- a listener with its view

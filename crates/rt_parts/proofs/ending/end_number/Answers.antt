@@ -1,4 +1,4 @@
-use Rattle.std.proofs.Common.{◌≡◌, ◌==◌, ◌<◌, not, length, get_or, List, Some, None, rules, sym, subst, ap, ◌∙◌}
+use Rattle.std.proofs.Common.{◌≡◌, ◌==◌, ◌<◌, not, length, get_or, Some, None, rules, sym, subst, ap, ◌∙◌}
 use Rattle.std.specs.List.{filter, position}
 use Rattle.std.specs.Ordering.{is_eq}
 use Rattle.std.proofs.lemmas.List.Quantifiers.{position-Some}

@@ -1,4 +1,4 @@
-use Rattle.std.proofs.Common.{◌≡◌, ◌≤◌, true, false, ◌&&◌, ◌||◌, not, ◌++◌, ◌∷◌, [], IfOk, sym, ap, subst, ◌∙◌, arith}
+use Rattle.std.proofs.Common.{◌≡◌, ◌≤◌, ◌&&◌, ◌||◌, not, ◌++◌, ◌∷◌, [], IfOk, sym, ap, subst, ◌∙◌, arith}
 use Rattle.rt_tree.specs.PathTree.{child, is_null, levels, levels-null}
 use Rattle.rt_query.specs.Queries.{is_filtered}
 use Rattle.rt_writes.specs.Writes.{overlay, sets_child_whole}

@@ -1,6 +1,3 @@
-use Rattle.std.proofs.Common.{◌≡◌, ◌<◌, ℕ, List, length, take, rules, sym, subst}
-use Rattle.rt_tree.specs.PathTree.{Path, path_eq}
-use Rattle.rt_parts.specs.inside.Placed.{HaveNumbers}
 use Rattle.rt_parts.proofs.PushLaws.{above_more, above_none, keeps_both, keeps_same}
 use Rattle.rt_parts.proofs.places.push_above.Goals as goal
 

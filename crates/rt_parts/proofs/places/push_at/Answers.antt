@@ -1,4 +1,4 @@
-use Rattle.std.proofs.Common.{◌≡◌, ◌<◌, ◌-◌, ℕ, List, true, false, length, take, drop, get_or, rules, ap, sym, subst, ◌∙◌}
+use Rattle.std.proofs.Common.{◌≡◌, ◌-◌, ℕ, List, true, false, length, take, drop, get_or, rules, ap, sym, subst, ◌∙◌}
 use Rattle.std.specs.Prelude.{◌==◌}
 use Rattle.std.specs.List.{list_any}
 use Rattle.std.specs.List.Sorted.{IsPartitionedBy, IsPartitionPoint}
@@ -6,7 +6,7 @@ use Rattle.std.specs.Ordering.{is_le}
 use Rattle.std.proofs.lemmas.List.Sorted.{IsPartitionPoint-from_clause}
 use Rattle.rt_tree.specs.PathTree.{Path, path_cmp, paths_total}
 use Rattle.rt_parts.specs.declared.places.Place.{Place}
-use Rattle.rt_parts.specs.inside.Placed.{AreInOrder, stand_of}
+use Rattle.rt_parts.specs.inside.Placed.{stand_of}
 use Rattle.rt_parts.proofs.PlaceLaws.{at_not_before, found_in, not_behind_same, paths_first, up_drop}
 use Rattle.rt_parts.proofs.PushLaws.{has_found, keeps_append, on_ok, rest_is}
 use Rattle.rt_parts.proofs.places.push_at.Goals as goal

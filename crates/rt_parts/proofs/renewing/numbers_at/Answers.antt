@@ -1,4 +1,4 @@
-use Rattle.std.proofs.Common.{◌≡◌, ◌≤◌, List, length, get_or, rules, ap, ◌∙◌}
+use Rattle.std.proofs.Common.{◌≤◌, List, length, get_or, rules, ap, ◌∙◌}
 use Rattle.std.specs.Prelude.{◌==◌}
 use Rattle.std.specs.List.{list_any}
 use Rattle.rt_tree.specs.PathTree.{path_eq}

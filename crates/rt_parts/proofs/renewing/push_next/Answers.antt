@@ -1,4 +1,4 @@
-use Rattle.std.proofs.Common.{◌≡◌, true, List, get_or, take, rules, ap, sym, ◌∙◌}
+use Rattle.std.proofs.Common.{◌≡◌, true, get_or, take, rules}
 use Rattle.std.specs.List.{list_any}
 use Rattle.rt_tree.specs.PathTree.{path_eq}
 use Rattle.rt_query.specs.Queries.{Query}

@@ -1,5 +1,5 @@
-use Rattle.std.proofs.Common.{◌≡◌, ◌==◌, ◌++◌, ◌∷◌, ◌||◌, ◌&&◌, [], Bool, List, get_or, not, true, false, Some, None, sym, ap, rules, ◌∙◌}
-use Rattle.std.specs.List.{list_any, position}
+use Rattle.std.proofs.Common.{◌≡◌, ◌==◌, ◌++◌, ◌∷◌, ◌||◌, ◌&&◌, [], List, get_or, not, true, false, Some, None, sym, ap, rules, ◌∙◌}
+use Rattle.std.specs.List.{position}
 use Rattle.rt_tree.specs.PathTree.{path_eq}
 use Rattle.rt_query.specs.Queries.{Query, is_filtered}
 use Rattle.rt_query.specs.QueryEq.{query_eq}

@@ -1,6 +1,5 @@
-use Rattle.std.proofs.Common.{◌≡◌, ◌<◌, ◌≤◌, ◌++◌, [], ℕ, List, length, drop, get_or, map, rules, ap, sym, refl, ◌∙◌, append-nil}
+use Rattle.std.proofs.Common.{◌≡◌, ◌<◌, ◌≤◌, ◌++◌, [], ℕ, List, length, drop, map, rules, ap, sym, refl, ◌∙◌, append-nil}
 use Rattle.rt_world.specs.declared.report.Note.{Note}
-use Rattle.rt_parts.specs.declared.held.Held.{Held}
 use Rattle.rt_parts.specs.inside.HeldView.{pair_of}
 use Rattle.rt_parts.proofs.RefreshLaws.{drop_past, Pair, pairs_up}
 use Rattle.rt_parts.proofs.RenewLaws.{left_all, left_more, left_of, none_left, none_told, told_all, told_left, told_more}

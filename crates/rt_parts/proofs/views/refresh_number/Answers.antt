@@ -1,11 +1,11 @@
-use Rattle.std.proofs.Common.{◌≡◌, ◌==◌, ◌<◌, ◌++◌, ℕ, true, false, List, Some, None, length, get_or, set, map, rules, arith, ap, sym, subst, ◌∙◌, append-nil}
-use Rattle.std.specs.List.{All, filter_map, position}
+use Rattle.std.proofs.Common.{◌≡◌, ◌==◌, ◌<◌, ◌++◌, ℕ, List, Some, None, length, get_or, set, map, rules, arith, ap, sym, subst, ◌∙◌, append-nil}
+use Rattle.std.specs.List.{position}
 use Rattle.std.proofs.Math.Seq.{map-set_same}
 use Rattle.std.proofs.lemmas.List.Quantifiers.{position-Some}
 use Rattle.std.proofs.lemmas.List.{get_or-map, length-map}
 use Rattle.rt_world.specs.declared.report.Note.{Note}
 use Rattle.rt_parts.specs.declared.held.Held.{Held}
-use Rattle.rt_parts.specs.inside.HeldView.{AreHeld, IsHeld, pair_of, refreshed, refreshed_at, told_at}
+use Rattle.rt_parts.specs.inside.HeldView.{IsHeld, pair_of, refreshed}
 use Rattle.rt_parts.specs.Refreshed.{FollowsNamed}
 use Rattle.rt_parts.proofs.Loops.{all_set, rising_same}
 use Rattle.rt_parts.proofs.Numbered.{changed_one, only_there, stay_none, told_none, told_one}

@@ -1,12 +1,10 @@
-use Rattle.std.proofs.Common.{◌≡◌, ◌<◌, ◌||◌, false, List, rules, ap, sym, subst, ◌∙◌}
+use Rattle.std.proofs.Common.{◌≡◌, ◌<◌, ◌||◌, false, rules, ap, sym, subst, ◌∙◌}
 use Rattle.std.specs.List.{All, list_any}
 use Rattle.std.specs.Ordering.{is_eq}
-use Rattle.rt_tree.specs.PathTree.{Path}
 use Rattle.rt_world.specs.World.{Listener}
-use Rattle.rt_parts.specs.declared.held.Held.{Held}
 use Rattle.rt_parts.specs.declared.places.Place.{Place}
 use Rattle.rt_parts.specs.Listeners.{new_listener}
-use Rattle.rt_parts.specs.inside.HeldView.{AreHeld, listeners_of}
+use Rattle.rt_parts.specs.inside.HeldView.{AreHeld}
 use Rattle.rt_parts.specs.inside.Placed.{IsIndex, placed, stand_cmp, stand_of}
 use Rattle.rt_parts.proofs.HeldLaws.{all_below, held_more}
 use Rattle.rt_parts.proofs.IndexLaws.{free_above, index_more}

@@ -1,10 +1,7 @@
-use Rattle.std.proofs.Common.{◌≡◌, ◌==◌, ◌&&◌, true, List, sym, ap, subst, ◌∙◌, rules, IfOk, Result, Ok, Err}
-use Rattle.std.specs.List.{All, list_any}
+use Rattle.std.proofs.Common.{◌≡◌, ◌&&◌, ap, subst, ◌∙◌, rules, IfOk, Result, Ok, Err}
+use Rattle.std.specs.List.{list_any}
 use Rattle.rt_tree.specs.PathTree.{path_eq}
-use Rattle.rt_query.specs.Queries.{Query, is_filtered}
-use Rattle.rt_query.specs.QueryEq.{query_eq}
-use Rattle.rt_world.specs.World.{Listener}
-use Rattle.rt_parts.specs.declared.held.Held.{Held}
+use Rattle.rt_query.specs.Queries.{is_filtered}
 use Rattle.rt_parts.specs.declared.places.Place.{Place}
 use Rattle.rt_parts.specs.inside.Placed.{HaveNumbers}
 use Rattle.rt_parts.specs.Listeners.{Listeners}
