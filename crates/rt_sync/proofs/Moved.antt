@@ -1,11 +1,11 @@
 -- The queries that are told to be moved are just those that a change of the cover moves.
-use Rattle.std.proofs.Common.{◌≡◌, ℕ, ◌<◌, Bool, true, false, cond, not, ◌&&◌, ◌||◌, ◌==◌, List, [], ◌∷◌, map, refl, sym, ap, subst, ◌∙◌, slice_index_or, Option, Some, None, is_some}
+use Rattle.std.proofs.Common.{◌≡◌, ℕ, ◌<◌, Bool, true, false, cond, not, ◌&&◌, ◌==◌, List, map, refl, sym, ap, subst, ◌∙◌, Option, Some, None}
 use mathlib.Core.Bool.{true≢false}
-use Rattle.std.specs.List.{filter, list_any, All, Any, Contains}
+use Rattle.std.specs.List.{list_any, Any, Contains}
 use Rattle.std.specs.Option.{option_map_or, option_eq}
 use Rattle.std.proofs.lemmas.List.Elements.{All-contains}
 use Rattle.std.proofs.lemmas.List.Folds.{Any-from_list_any, list_any_at}
-use Rattle.rt_tree.specs.PathTree.{Path, PathTree, path_eq}
+use Rattle.rt_tree.specs.PathTree.{Path, path_eq}
 use Rattle.rt_tree.specs.TreeEq.{both, both_first, both_second}
 use Rattle.rt_query.specs.Queries.{Query, plain, is_filtered}
 use Rattle.rt_query.specs.QueryEq.{query_eq}
@@ -21,7 +21,7 @@ use Rattle.rt_cache.proofs.Moves.{IsBrought, IsChange, IsSource, source_is, brou
 use Rattle.rt_cache.proofs.Unmoved.{ends_move_none, no_region, own_source}
 use Rattle.rt_cover.specs.declared.delta.Delta.{Delta}
 use Rattle.rt_cover.specs.Cover.{Registered, Tagged}
-use Rattle.rt_cover.specs.State.{Cover, without_listeners}
+use Rattle.rt_cover.specs.State.{Cover}
 use Rattle.rt_cover.specs.laws.Apart.{PlainsStandApart}
 use Rattle.rt_cover.specs.laws.CoverLaws.{Contains-from_filter}
 use Rattle.rt_cover.specs.laws.FormLaws.{same_tests}
@@ -30,7 +30,7 @@ use Rattle.rt_world.specs.World.{Listener, registered, listening}
 use Rattle.rt_world.proofs.RecoverLaws.{region_after}
 use Rattle.rt_sync.specs.declared.steps.moving.Had.{Had}
 use Rattle.rt_sync.specs.inside.Losing.{HasLost}
-use Rattle.rt_sync.specs.inside.Moving.{may_move_at, has_others, is_lent, is_had, HaveSources, AreHad, has_come, is_moved_now, is_moved_among}
+use Rattle.rt_sync.specs.inside.Moving.{may_move_at, has_others, is_lent, is_had, AreHad, has_come, is_moved_now, is_moved_among}
 use Rattle.rt_sync.proofs.Losing.{ends_forms}
 
 -- ---- tests

@@ -1,6 +1,5 @@
 -- What the code of a step makes that begins and ends no listener is the next world, and its parts agree.
 use Rattle.std.proofs.Common.{◌≡◌, ℕ, ◌+◌, Bool, true, false, cond, not, ◌||◌, List, [], ◌∷◌, ◌++◌, map, refl, sym, ap, subst, ◌∙◌, Option, Some, None}
-use mathlib.Core.Bool.{true≢false}
 use Rattle.std.specs.Prelude.{◌==◌, is_some}
 use Rattle.rt_parts.specs.declared.requests.Settled.{Settled as Left}
 use Rattle.std.specs.List.{filter, find, fold, list_any}

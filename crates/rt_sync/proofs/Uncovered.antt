@@ -1,5 +1,5 @@
 -- A step that begins and ends no listener moves none at or above whose path no entry of it sits.
-use Rattle.std.proofs.Common.{◌≡◌, ℕ, zero, suc, ◌+◌, ◌<◌, ◌≤◌, Bool, true, false, cond, is_some, ◌||◌, List, [], ◌∷◌, ◌++◌, length, refl, sym, ap, subst, ◌∙◌, arith, append-nil, append_assoc, Option, Some, None}
+use Rattle.std.proofs.Common.{◌≡◌, ℕ, zero, suc, ◌+◌, ◌<◌, Bool, true, false, cond, is_some, ◌||◌, List, [], ◌∷◌, ◌++◌, length, refl, sym, ap, subst, ◌∙◌, arith, append-nil, append_assoc, Option, Some, None}
 use mathlib.Core.Bool.{true≢false}
 use Rattle.std.specs.List.{find, flat_map, fold, list_any, Contains}
 use Rattle.std.specs.Option.{option_map_or}

@@ -1,4 +1,4 @@
-use Rattle.std.proofs.Common.{◌≡◌, ◌++◌, true, List, map, sym, ap, subst, ◌∙◌, refl, rules, slice_index_or, Some}
+use Rattle.std.proofs.Common.{◌≡◌, ◌++◌, true, List, map, sym, ap, subst, ◌∙◌, refl, slice_index_or, Some}
 use Rattle.std.specs.List.{All, fold, zip}
 use Rattle.std.specs.Option.{option_map, option_map_or}
 use Rattle.rt_query.specs.Queries.{Query}

@@ -1,5 +1,4 @@
 use Rattle.std.proofs.Common.{◌≡◌, ◌<◌, ◌≤◌, ◌&&◌, ℕ, List, length, get_or, rules, ap, sym, subst, ◌∙◌}
-use Rattle.rt_tree.specs.PathTree.{Path}
 use Rattle.rt_query.specs.Queries.{Query}
 use Rattle.rt_sync.specs.inside.Moving.{HaveSources, is_had, is_lent, is_of_path}
 use Rattle.rt_sync.proofs.Lists.{taken_all}

@@ -1,6 +1,6 @@
 use Rattle.std.proofs.Common.{◌≡◌, ◌&&◌, List, ap, rules, ◌∙◌, IfOk, Result, Ok, Err}
 use Rattle.rt_query.specs.Queries.{Query}
-use Rattle.rt_sync.specs.inside.Moving.{AreHad, HaveSources, is_had, is_lent, is_of_path, may_move_at}
+use Rattle.rt_sync.specs.inside.Moving.{is_lent, is_of_path}
 use Rattle.rt_sync.proofs.steps.moving.had_beside.Goals as goal
 
 pub returns : goal.returns

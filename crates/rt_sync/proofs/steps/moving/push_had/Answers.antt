@@ -1,7 +1,5 @@
 use Rattle.std.proofs.Common.{◌≡◌, ◌++◌, ◌∷◌, [], true, false, Some, None, sym, ap, subst, rules, ◌∙◌}
-use Rattle.std.specs.Option.{option_copied}
 use Rattle.rt_query.specs.QueryEq.{query_eq}
-use Rattle.rt_query.specs.laws.QueryEq.{query_eq_tells}
 use Rattle.rt_cache.specs.Brought.{source}
 use Rattle.rt_sync.specs.declared.steps.moving.Had.{Had}
 use Rattle.rt_sync.specs.inside.Moving.{HaveSources, is_had}

@@ -1,4 +1,4 @@
-use Rattle.std.proofs.Common.{◌≡◌, ◌&&◌, not, true, ◌∙◌, sym, ap, subst, List, Option, Some}
+use Rattle.std.proofs.Common.{◌≡◌, ◌&&◌, not, true, ◌∙◌, sym, ap, subst, List, Some}
 use Rattle.std.specs.List.{All, list_any}
 use Rattle.std.specs.Option.{option_map}
 use Rattle.rt_query.specs.Queries.{Query}
