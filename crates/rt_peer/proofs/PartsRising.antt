@@ -1,8 +1,7 @@
 -- The tags of the parts of a push that is sent.
-use Rattle.std.proofs.Common.{◌≡◌, ℕ, ◌+◌, ◌<◌, ◌≤◌, ◌==◌, ◌&&◌, ◌||◌, Bool, true, false, not, nat_lt, arith}
-use Rattle.std.proofs.Common.{List, [], ◌∷◌, ◌++◌, map, length, refl, sym, ap, subst, ◌∙◌, codes}
+use Rattle.std.proofs.Common.{◌≡◌, ℕ, ◌<◌, ◌≤◌, ◌==◌, ◌&&◌, ◌||◌, true, false, not, nat_lt, arith}
+use Rattle.std.proofs.Common.{List, [], ◌∷◌, ◌++◌, map, length, refl, sym, subst, ◌∙◌, codes}
 use Rattle.std.proofs.Common.{Option, Some, None, if◌then◌else◌}
-use Rattle.std.specs.Prelude.{⊤}
 use Rattle.std.specs.List.{All, AllPairs, filter, list_any}
 use Rattle.std.proofs.lemmas.Bool.Decides.{nat_tests}
 use Rattle.std.proofs.lemmas.List.Elements.{All-append, All-cons, All-head, All-nil, All-tail}
@@ -22,13 +21,12 @@ use Rattle.rt_peer.specs.declared.sent.Sent.{Sent}
 use Rattle.rt_peer.specs.Peers.{Deferred, Listen, Peer, is_before, is_denied, is_known}
 use Rattle.rt_peer.specs.Pushes.{bundled, go_together, is_changed, joined, parts_below, parts_in, parts_message}
 use Rattle.rt_peer.specs.Pushes.{push_of, pushes, pushes_after, seen, together, written}
-use Rattle.rt_peer.specs.Calls.{Outcome, actions_of, answered, asked, deferred, disconnected, dropped, ended}
+use Rattle.rt_peer.specs.Calls.{Outcome, actions_of, answered, asked, deferred, dropped, ended}
 use Rattle.rt_peer.specs.Calls.{entries_of, kept, one, refusal, unless_refused, wrote}
 use Rattle.rt_peer.specs.laws.Orders.{ListensRise}
 use Rattle.rt_peer.specs.laws.Pushed.{HasRisingParts, PartsRise}
 use Rattle.rt_peer.proofs.BundleLaws.{same_number}
 use Rattle.rt_peer.proofs.Places.{pairs_head, pairs_tail}
-use Rattle.rt_peer.proofs.ToOne.{told}
 
 abbrev IsGood : Sent → Type 0
 IsGood s = HasRisingParts s.message

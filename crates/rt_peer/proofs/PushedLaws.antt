@@ -1,10 +1,10 @@
 -- What each call sends a connection, by the version that it reads.
-use Rattle.std.proofs.Common.{◌≡◌, ℕ, ◌+◌, ◌<◌, ◌≤◌, ◌==◌, ◌&&◌, ◌||◌, Bool, true, false, cond, not, arith}
-use Rattle.std.proofs.Common.{List, [], ◌∷◌, ◌++◌, map, length, refl, sym, ap, ◌∙◌, append-nil, codes}
+use Rattle.std.proofs.Common.{◌≡◌, ℕ, ◌==◌, ◌&&◌, ◌||◌, Bool, true, false, cond, not}
+use Rattle.std.proofs.Common.{List, [], ◌∷◌, ◌++◌, map, refl, sym, ap, ◌∙◌, append-nil, codes}
 use Rattle.std.proofs.Common.{Option, Some, None, if◌then◌else◌}
 use Rattle.std.specs.Prelude.{⊤}
-use Rattle.std.specs.List.{All, AllPairs, filter, flat_map, list_any}
-use Rattle.std.proofs.lemmas.List.Elements.{All-append, All-cons, All-nil, filter-append}
+use Rattle.std.specs.List.{AllPairs, filter, flat_map, list_any}
+use Rattle.std.proofs.lemmas.List.Elements.{filter-append}
 use Rattle.std.proofs.lemmas.List.Kept.{AllPairs-filter}
 use Rattle.rt_tree.specs.PathTree.{PathTree}
 use Rattle.rt_tree.specs.Assignments.{Assignment, is_at_or_above}
@@ -12,7 +12,6 @@ use Rattle.rt_query.specs.Queries.{is_filtered}
 use Rattle.rt_wire.specs.declared.request.Asked.{Asked}
 use Rattle.rt_wire.specs.declared.request.Asked.TheVariants.{Now, AtDisconnect}
 use Rattle.rt_wire.specs.declared.request.Ending.TheVariants.{Run, Cancel}
-use Rattle.rt_wire.specs.declared.client.ClientMessage.{ClientMessage}
 use Rattle.rt_wire.specs.declared.client.ClientMessage.TheVariants.{Hello, Listen as ListenTo, Unlisten, Ask}
 use Rattle.rt_wire.specs.declared.server.ServerMessage.{ServerMessage}
 use Rattle.rt_wire.specs.declared.server.ServerMessage.TheVariants.{Data, Accepted, Refused, Revoked}
@@ -20,7 +19,7 @@ use Rattle.rt_peer.specs.declared.sent.Sent.{Sent}
 use Rattle.rt_peer.specs.Peers.{Deferred, Listen, Peer, is_before, is_denied, is_known}
 use Rattle.rt_peer.specs.Pushes.{bundled, is_changed, joined, parts_below, parts_message, push_of, pushes, pushes_after}
 use Rattle.rt_peer.specs.Pushes.{seen, together, written}
-use Rattle.rt_peer.specs.Calls.{Outcome, actions_of, answered, asked, cancelled, deferred, disconnected, dropped}
+use Rattle.rt_peer.specs.Calls.{Outcome, actions_of, asked, deferred, dropped}
 use Rattle.rt_peer.specs.Calls.{ended, entries_of, kept, one, refusal, unless_refused, wrote}
 use Rattle.rt_peer.specs.laws.Orders.{ListensRise}
 use Rattle.rt_peer.specs.laws.Pushed.{as_newer, as_one, by_version, is_push, messages_to, older, pushes_each}

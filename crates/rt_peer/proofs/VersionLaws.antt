@@ -1,6 +1,6 @@
 -- Which connections read version 2.
 use Rattle.std.proofs.Common.{◌≡◌, ℕ, ◌==◌, ◌||◌, Bool, true, false, cond, not, nat_lt, nat_le, refl, sym, ap, ◌∙◌}
-use Rattle.std.proofs.Common.{List, [], ◌∷◌, ◌++◌, arith, codes, Option, Some, None, if◌then◌else◌}
+use Rattle.std.proofs.Common.{List, [], ◌∷◌, arith, codes, Option, Some, None, if◌then◌else◌}
 use Rattle.std.specs.List.{filter, fold, list_any}
 use Rattle.std.proofs.lemmas.Bool.Decides.{nat_tests}
 use Rattle.std.proofs.lemmas.List.Folds.{list_any-append}
