@@ -1,5 +1,5 @@
 -- What stands by the paths of its queries: where a path stands, what is found of a query, and what keeps the order.
-use Rattle.std.proofs.Common.{◌≡◌, ℕ, zero, suc, ◌+◌, ◌<◌, ◌≤◌, below_more, nat_lt, Bool, true, false, ◌||◌, List, [], ◌∷◌, length, take, drop, set, get_or, map, refl, sym, ap, ◌∙◌, arith, ltb, ltb-true, ltb-false}
+use Rattle.std.proofs.Common.{◌≡◌, ℕ, zero, suc, ◌+◌, ◌<◌, ◌≤◌, below_more, nat_lt, Bool, true, false, not, ◌||◌, List, [], ◌∷◌, length, take, drop, set, get_or, map, refl, sym, ap, ◌∙◌, arith, ltb, ltb-true, ltb-false}
 use mathlib.Core.Bool.{true≢false}
 use Rattle.std.specs.Cmp.{IsStrictWeakOrder, tied_itself}
 use Rattle.std.specs.List.{filter, insert, list_any, All, AllPairs, AllWithin}
@@ -7,11 +7,11 @@ use Rattle.std.specs.List.Sorted.{IsPartitionedBy, IsPartitionPoint, IsNonDecrea
 use Rattle.std.specs.Ordering.{is_lt, ordering_index, ordering_reverse}
 use Rattle.std.specs.declared.cmp.Ordering.{Ordering}
 use Rattle.std.specs.declared.cmp.Ordering.TheVariants.{Less, Equal, Greater}
-use Rattle.std.proofs.lemmas.List.{get_or_default, length-set}
+use Rattle.std.proofs.lemmas.List.{get_or_default, get_or-drop, length-drop, length-set}
 use Rattle.std.proofs.lemmas.List.Elements.{All-append, All-cons, All-take, All-drop}
 use Rattle.std.proofs.lemmas.List.Kept.{AllPairs-cons, IsSortedBy-filter}
 use Rattle.std.proofs.lemmas.List.Sorted.{searchable_from_sorted, IsPartitionedBy-ltb, ranks_by, sorted_far}
-use Rattle.rt_tree.specs.PathTree.{Path, path_cmp, path_eq, paths_total}
+use Rattle.rt_tree.specs.PathTree.{Path, path_cmp, path_eq, path_eq-is, paths_total}
 use Rattle.rt_query.specs.Queries.{Query}
 use Rattle.rt_query.specs.QueryEq.{query_eq}
 use Rattle.rt_query.specs.laws.QueryEq.{query_eq_tells}
@@ -33,6 +33,20 @@ befores_first {X = X} q p xs up i j d le lt e = before_one (path_cmp (q (get_or 
     ∙ IsPartitionedBy-ltb (λ (x : X). ordering_index (path_cmp (q x).path p)) xs 1 (never_fall q p xs up) i j d le lt
     (sym (before_one (path_cmp (q (get_or xs j d)).path p)) ∙ e)
 
+-- what stands up to the path stands first
+up_to_two : (o : Ordering) → not (is_lt (ordering_reverse o)) ≡ ltb (ordering_index o) 2
+up_to_two Less = refl
+up_to_two Equal = refl
+up_to_two Greater = refl
+
+pub up_to_first : {X : Type 0} (q : X → Query) (p : Path) (xs : List X) → AreByPath q xs → IsPartitionedBy (λ (x : X). not (is_lt (path_cmp p (q x).path))) xs
+up_to_first {X = X} q p xs up i j d le lt e = told (get_or xs i d)
+    ∙ IsPartitionedBy-ltb (λ (x : X). ordering_index (path_cmp (q x).path p)) xs 2 (never_fall q p xs up) i j d le lt
+    (sym (told (get_or xs j d)) ∙ e)
+  where
+    told : (x : X) → not (is_lt (path_cmp p (q x).path)) ≡ ltb (ordering_index (path_cmp (q x).path p)) 2
+    told x = ap (λ o. not (is_lt o)) (paths_total.antisymm p (q x).path) ∙ up_to_two (path_cmp (q x).path p)
+
 pub query_ranks : {X : Type 0} (q : X → Query) → IsStrictWeakOrder (λ (x y : X). is_lt (by_query q x y))
 query_ranks {X = X} q = ranks_by paths_total (λ (x : X). (q x).path)
 
@@ -40,6 +54,11 @@ query_ranks {X = X} q = ranks_by paths_total (λ (x : X). (q x).path)
 
 pub not_itself : (p r : Path) → is_lt (path_cmp r p) ≡ true → r ≡ p → ⊥
 not_itself p r e s = true≢false (sym e ∙ ap (λ x. is_lt (path_cmp x p)) s ∙ ap is_lt (tied_itself paths_total p))
+
+-- what only a query of the path passes fails before it
+pub fails_before : (p r : Path) (b : Bool) → is_lt (path_cmp r p) ≡ true → (b ≡ true → r ≡ p) → b ≡ false
+fails_before p r true before of = absurd (not_itself p r before (of refl))
+fails_before p r false before of = refl
 
 -- what stands before a path has no query of it
 pub before_other : (r q : Query) → is_lt (path_cmp r.path q.path) ≡ true → query_eq r q ≡ false
@@ -131,34 +150,90 @@ set_alike q (x ∷ xs) (suc n) d new lt e (suc k) c l = set_alike q xs n d new (
 pub by_path-set : {X : Type 0} (q : X → Query) (xs : List X) (n : ℕ) (d new : X) → n < length xs → q new ≡ q (get_or xs n d) → AreByPath q xs → AreByPath q (set xs n new)
 by_path-set q xs n d new lt e up = alike q xs (set xs n new) (length-set xs n new) (set_alike q xs n d new lt e) up
 
--- one more where its path stands, in front of those of its path
-pub by_path-insert : {X : Type 0} (q : X → Query) (xs : List X) (n : ℕ) (y : X) → AreByPath q xs
-    → IsPartitionPoint (λ (x : X). is_lt (path_cmp (q x).path (q y).path) ≡ true) (λ (x : X). is_lt (path_cmp (q x).path (q y).path) ≡ false) xs n
+turned : (o : Ordering) → is_lt o ≡ true → is_lt (ordering_reverse o) ≡ false
+turned Less e = refl
+turned Equal e = refl
+turned Greater e = absurd (true≢false (sym e))
+
+not_before : (p r : Path) → is_lt (path_cmp r p) ≡ true → is_lt (path_cmp p r) ≡ false
+not_before p r e = ap is_lt (paths_total.antisymm p r) ∙ turned (path_cmp r p) e
+
+-- one more, which stands before none in front of it, and behind none after it
+insert_between : {X : Type 0} (q : X → Query) (xs : List X) (n : ℕ) (y : X) → AreByPath q xs
+    → AllWithin (λ (x : X). is_lt (path_cmp (q y).path (q x).path) ≡ false) xs 0 n
+    → AllWithin (λ (x : X). is_lt (path_cmp (q x).path (q y).path) ≡ false) xs n (length xs)
     → AreByPath q (insert xs n y)
-by_path-insert {X = X} q xs n y up at k d low high =
-    placed xs n (λ i j e lt within. sorted_far (λ (x z : X). is_lt (by_query q x z)) (query_ranks q) xs up i j e (omega (arith, lt)) within) at.0 at.1 k (k + 1) d (omega arith) high
+insert_between {X = X} q xs n y up front behind k d low high =
+    placed xs n (λ i j e lt within. sorted_far (λ (x z : X). is_lt (by_query q x z)) (query_ranks q) xs up i j e (omega (arith, lt)) within) front behind k (k + 1) d (omega arith) high
   where
     R : X → X → Type 0
     R x z = is_lt (path_cmp (q z).path (q x).path) ≡ false
 
-    turned : (o : Ordering) → is_lt o ≡ true → is_lt (ordering_reverse o) ≡ false
-    turned Less e = refl
-    turned Equal e = refl
-    turned Greater e = absurd (true≢false (sym e))
-
-    before : (z : X) → is_lt (path_cmp (q z).path (q y).path) ≡ true → R z y
-    before z e = ap is_lt (paths_total.antisymm (q y).path (q z).path) ∙ turned (path_cmp (q z).path (q y).path) e
-
-    placed : (zs : List X) (n : ℕ) → AllPairs R zs
-        → AllWithin (λ (x : X). is_lt (path_cmp (q x).path (q y).path) ≡ true) zs 0 n
-        → AllWithin (λ (x : X). is_lt (path_cmp (q x).path (q y).path) ≡ false) zs n (length zs)
-        → AllPairs R (insert zs n y)
+    placed : (zs : List X) (n : ℕ) → AllPairs R zs → AllWithin (λ (x : X). R x y) zs 0 n → AllWithin (R y) zs n (length zs) → AllPairs R (insert zs n y)
     placed zs zero up a b = AllPairs-cons R y zs (λ k d lt. b k d (omega arith) lt) up
     placed [] (suc n) up a b = AllPairs-cons R y [] (λ k d lt. absurd (omega (arith, lt))) up
     placed (z ∷ zs) (suc n) up a b =
         let first : All (R z) zs = λ k d lt. up 0 (suc k) d (omega arith) (omega (arith, lt)) in
         AllPairs-cons R z (insert zs n y)
         (All-append (R z) (take n zs) (y ∷ drop n zs) (All-take (R z) n zs first)
-        (All-cons (R z) y (drop n zs) (before z (a 0 z (omega arith) (omega arith))) (All-drop (R z) n zs first)))
+        (All-cons (R z) y (drop n zs) (a 0 z (omega arith) (omega arith)) (All-drop (R z) n zs first)))
         (placed zs n (λ i j d lt within. up (suc i) (suc j) d (omega (arith, lt)) (omega (arith, within)))
         (λ k d low lt. a (suc k) d (omega arith) (omega (arith, lt))) (λ k d low lt. b (suc k) d (omega (arith, low)) (omega (arith, lt))))
+
+-- one more where its path stands, in front of those of its path
+pub by_path-insert : {X : Type 0} (q : X → Query) (xs : List X) (n : ℕ) (y : X) → AreByPath q xs
+    → IsPartitionPoint (λ (x : X). is_lt (path_cmp (q x).path (q y).path) ≡ true) (λ (x : X). is_lt (path_cmp (q x).path (q y).path) ≡ false) xs n
+    → AreByPath q (insert xs n y)
+by_path-insert q xs n y up at =
+    insert_between q xs n y up (λ k d low lt. not_before (q y).path (q (get_or xs k d)).path (at.0 k d low lt)) at.1
+
+-- so many stand up to the path
+abbrev pub StandsBehind : {X : Type 0} → (X → Query) → List X → Path → ℕ → Type 0
+StandsBehind {X} q xs p n =
+    IsPartitionPoint (λ (x : X). not (is_lt (path_cmp p (q x).path)) ≡ true) (λ (x : X). not (is_lt (path_cmp p (q x).path)) ≡ false) xs n
+
+not_true : (b : Bool) → not b ≡ true → b ≡ false
+not_true true e = sym e
+not_true false e = refl
+
+not_false : (b : Bool) → not b ≡ false → b ≡ true
+not_false true e = refl
+not_false false e = sym e
+
+-- one more behind those of its path
+pub by_path-insert_behind : {X : Type 0} (q : X → Query) (xs : List X) (n : ℕ) (y : X) → AreByPath q xs → StandsBehind q xs (q y).path n → AreByPath q (insert xs n y)
+by_path-insert_behind q xs n y up at =
+    insert_between q xs n y up (λ k d low lt. not_true (is_lt (path_cmp (q y).path (q (get_or xs k d)).path)) (at.0 k d low lt))
+    (λ k d low lt. not_before (q (get_or xs k d)).path (q y).path (not_false (is_lt (path_cmp (q y).path (q (get_or xs k d)).path)) (at.1 k d low lt)))
+
+-- what stands behind a path is not of it
+pub none_of_path : {X : Type 0} (q : X → Query) (xs : List X) (p : Path) (n : ℕ) → n ≤ length xs → StandsBehind q xs p n → All (λ (x : X). path_eq (q x).path p ≡ false) (drop n xs)
+none_of_path {X} q xs p n le at k d lt =
+    let within : n + k < length xs = omega (arith, lt, length-drop n xs, le) in
+    ap (λ (x : X). path_eq (q x).path p) (get_or-drop n xs k d)
+    ∙ differs (q (get_or xs (n + k) d)).path (not_false (is_lt (path_cmp p (q (get_or xs (n + k) d)).path)) (at.1 (n + k) d (omega arith) within))
+  where
+    differs : (r : Path) → is_lt (path_cmp p r) ≡ true → path_eq r p ≡ false
+    differs r e = elim (path_eq r p) as (λ b. path_eq r p ≡ b → b ≡ false) [
+      | true ↦ λ s. absurd (not_itself r p e (sym (path_eq-is r p s)))
+      | false ↦ λ s. refl
+    ] refl
+
+-- where one is of a path behind, and none before it passes what only queries of the path pass, none does
+pub none_of_path_left : {X : Type 0} (q : X → Query) (p : Path) (test : X → Bool) (xs : List X) (n : ℕ) → ((x : X) → test x ≡ true → (q x).path ≡ p) → AreByPath q xs → n < length xs
+    → ((k : ℕ) (d : X) → k < n → test (get_or xs k d) ≡ false)
+    → ((d : X) → is_lt (path_cmp (q (get_or xs n d)).path p) ≡ false)
+    → ((d : X) → path_eq (q (get_or xs n d)).path p ≡ false)
+    → (k : ℕ) (d : X) → k < length xs → test (get_or xs k d) ≡ false
+none_of_path_left {X = X} q p test xs n of up within before first other k d lt = at (nat_lt k n) refl
+  where
+    no : (x : X) → ((q x).path ≡ p → ⊥) → test x ≡ false
+    no x h = elim (test x) as (λ b. test x ≡ b → b ≡ false) [
+      | true ↦ λ e. absurd (h (of x e))
+      | false ↦ λ e. refl
+    ] refl
+
+    at : (b : Bool) → nat_lt k n ≡ b → test (get_or xs k d) ≡ false
+    at true e = before k d (ltb-true k n e)
+    at false e = no (get_or xs k d)
+        (path_behind q p xs n up within first (λ x a b. true≢false (sym (neither_before (q (get_or xs n x)).path p a b) ∙ other x)) k d (ltb-false k n e) lt)

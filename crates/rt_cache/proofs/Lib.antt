@@ -5,7 +5,6 @@ pub mod ByListens
 pub mod ByPaths
 pub mod Changes
 pub mod Changing
-pub mod Counting
 pub mod Cuts
 pub mod CutSlices
 pub mod Ending
@@ -30,6 +29,7 @@ pub mod Removing
 pub mod RunLaws
 pub mod Sharing
 pub mod Sources
+pub mod Stamps
 pub mod Stays
 pub mod Strips
 pub mod Suppliers

@@ -1,16 +1,17 @@
 -- Queries that stand by their paths, and those of them that supply another one.
-use Rattle.std.proofs.Common.{◌≡◌, ℕ, zero, suc, ◌+◌, ◌<◌, ◌≤◌, below_more, nat_lt, Bool, true, false, not, ◌&&◌, ◌||◌, List, [], ◌∷◌, length, get_or, refl, sym, ap, ◌∙◌, arith, ltb-true, ltb-false}
+use Rattle.std.proofs.Common.{◌≡◌, ℕ, zero, suc, ◌+◌, ◌<◌, ◌≤◌, below_more, nat_lt, Bool, true, false, not, ◌&&◌, ◌||◌, List, [], ◌∷◌, length, get_or, map, refl, sym, ap, ◌∙◌, arith, ltb-true, ltb-false}
 use Rattle.std.proofs.Common.{Option, Some, None, is_some, cond}
 use mathlib.Core.Bool.{true≢false}
 use Rattle.std.specs.Prelude.{IfSome, IfNone}
 use Rattle.std.specs.List.{filter, find, list_any, All, AllWithin}
 use Rattle.std.specs.Ordering.{is_lt}
 use Rattle.std.specs.FinMap as map_of
+use Rattle.std.specs.Option.{option_map}
 use Rattle.std.proofs.lemmas.List.{get_or_default}
-use Rattle.std.proofs.lemmas.List.Elements.{All-head, All-tail}
+use Rattle.std.proofs.lemmas.List.Elements.{All-head, All-tail, All-contains}
 use Rattle.std.proofs.lemmas.List.Folds.{Any-from_list_any}
 use Rattle.rt_tree.specs.PathTree.{path_cmp, path_eq, path_eq-is}
-use Rattle.rt_tree.specs.TreeEq.{both_second, both}
+use Rattle.rt_tree.specs.TreeEq.{both_first, both_second, both}
 use Rattle.rt_query.specs.Queries.{Query, is_filtered}
 use Rattle.rt_query.specs.QueryEq.{query_eq}
 use Rattle.rt_query.specs.Supply.{does_supply}
@@ -20,13 +21,15 @@ use Rattle.rt_query.specs.laws.SupplyLaws.{same_tests, form_filtered, supplied_h
 use Rattle.rt_cache.specs.QueryOrder.{query_cmp}
 use Rattle.rt_cache.specs.Brought.{Window, is_another_at}
 use Rattle.rt_cache.specs.Recover.{in_query_order}
+use Rattle.rt_cache.specs.declared.registered.Form.{Form}
 use Rattle.rt_cache.specs.declared.window.Window as inside
 use Rattle.rt_cache.specs.inside.ByPath.{AreByPath, is_other_supplier}
-use Rattle.rt_cache.specs.inside.Held.{entries_of}
+use Rattle.rt_cache.specs.inside.Held.{entry_of, entries_of}
+use Rattle.rt_cache.specs.inside.Listed.{form_query, queries_of}
 use Rattle.rt_cache.specs.inside.Sources.{source_among, HaveForms}
-use Rattle.rt_cache.proofs.ByPaths.{not_itself, neither_before, path_behind, any_at, none_of}
+use Rattle.rt_cache.proofs.ByPaths.{not_itself, neither_before, path_behind, any_at, any_map, none_of}
 use Rattle.rt_cache.proofs.Listing.{find-listed}
-use Rattle.rt_cache.proofs.Sources.{any_found, any_kept, all_kept, has_it, source_kept, only_source, no_source}
+use Rattle.rt_cache.proofs.Sources.{any_found, any_kept, all_kept, find_none, has_it, source_kept, only_source, no_source}
 
 and_no : (b : Bool) → (b && false) ≡ false
 and_no true = refl
@@ -192,6 +195,21 @@ find_at_first p (x ∷ xs) zero d lt h e = ap (λ b. cond b (Some x) (find p xs)
 find_at_first p (x ∷ xs) (suc n) d lt h e =
     ap (λ b. cond b (Some x) (find p xs)) (h 0 x (omega arith)) ∙ find_at_first p xs n d (omega (arith, lt)) (λ k c l. h (suc k) c (omega (arith, l))) e
 
+find_mapped : {X Y : Type 0} (f : X → Y) (p : Y → Bool) (xs : List X) → find p (map f xs) ≡ option_map f (find (λ x. p (f x)) xs)
+find_mapped f p [] = refl
+find_mapped f p (x ∷ xs) = elim (p (f x)) as (λ b. cond b (Some (f x)) (find p (map f xs)) ≡ option_map f (cond b (Some x) (find (λ y. p (f y)) xs))) [
+  | true ↦ refl
+  | false ↦ find_mapped f p xs
+]
+
+-- what has one of the windows is filtered
+pub found_filtered_form : (ws : List inside.Window) (f : Query) → All (λ (w : inside.Window). is_filtered w.query ≡ true) ws → is_some (map_of.find query_cmp f (entries_of ws)) ≡ true
+    → is_filtered f ≡ true
+found_filtered_form ws f filtered e =
+    let a = Any-from_list_any (λ (w : inside.Window). query_eq w.query f) ws
+    (any_map entry_of (λ (x : Query × Window). query_eq x.0 f) ws ∙ sym (any_found f (entries_of ws)) ∙ e) in
+    ap is_filtered (sym ((query_eq_tells (a.1).query f).0 a.4)) ∙ All-contains (λ (w : inside.Window). is_filtered w.query ≡ true) ws a.1 filtered (a.0, a.2, a.3)
+
 pub before_none : (q : Query) (ws : List inside.Window) (from n : ℕ) → All (λ (w : inside.Window). is_filtered w.query ≡ true) ws → n ≤ length ws
     → AllWithin (λ (w : inside.Window). is_lt (path_cmp (w.query).path q.path) ≡ true) ws 0 from
     → ((k : ℕ) (d : inside.Window) → from ≤ k → k < n → is_other_supplier (get_or ws k d).query q ≡ false)
@@ -263,9 +281,24 @@ without_source registered ws q h none other =
     own : list_any (λ (w : inside.Window). query_eq w.query q) ws ≡ false
     own = sym (any_kept (λ x. query_eq x q) ws) ∙ sym (any_found q (in_query_order (entries_of ws))) ∙ ap is_some (find-listed q (entries_of ws) ∙ none)
 
--- the first registered form that supplies the query and has a window is the source
-pub first_source : (registered : List Query) (ws : List inside.Window) (q : Query) (n : ℕ) (f : Query) → n < length registered → f ≡ get_or registered n f
-    → ((k : ℕ) (d : Query) → k < n → has_it (entries_of ws) q (get_or registered k d) ≡ false) → has_it (entries_of ws) q f ≡ true
-    → source_among (entries_of ws) registered q ≡ Some f
-first_source registered ws q n f lt at before passes =
-    find_at_first (has_it (entries_of ws) q) registered n f lt before (ap (has_it (entries_of ws) q) (sym at) ∙ passes) ∙ ap (λ x. Some x) (sym at)
+-- a form that supplies the query and has a window is of its path: what has a window is filtered
+pub supplies_of_path : (ws : List inside.Window) (q f : Query) → All (λ (w : inside.Window). is_filtered w.query ≡ true) ws → has_it (entries_of ws) q f ≡ true → f.path ≡ q.path
+supplies_of_path ws q f filtered e =
+    supplied_has_path f q (found_filtered_form ws f filtered (both_second (does_supply f q) (is_some (map_of.find query_cmp f (entries_of ws))) e))
+    (both_first (does_supply f q) (is_some (map_of.find query_cmp f (entries_of ws))) e)
+
+-- the first of the forms that supplies the query and has a window is the source
+pub first_of_path : (forms : List Form) (ws : List inside.Window) (q : Query) (n : ℕ) (f : Form) → n < length forms → f ≡ get_or forms n f
+    → ((k : ℕ) (d : Form) → k < n → has_it (entries_of ws) q (get_or forms k d).query ≡ false) → has_it (entries_of ws) q f.query ≡ true
+    → source_among (entries_of ws) (queries_of forms) q ≡ Some f.query
+first_of_path forms ws q n f lt at before passes =
+    find_mapped form_query (has_it (entries_of ws) q) forms
+    ∙ ap (option_map form_query) (find_at_first (λ (x : Form). has_it (entries_of ws) q x.query) forms n f lt before (ap (λ (x : Form). has_it (entries_of ws) q x.query) (sym at) ∙ passes))
+    ∙ ap (λ (x : Form). Some x.query) (sym at)
+
+-- where none does there is no source
+pub none_of_forms : (forms : List Form) (ws : List inside.Window) (q : Query) → ((k : ℕ) (d : Form) → k < length forms → has_it (entries_of ws) q (get_or forms k d).query ≡ false)
+    → source_among (entries_of ws) (queries_of forms) q ≡ None
+none_of_forms forms ws q h =
+    find_none (has_it (entries_of ws) q) (queries_of forms)
+    (sym (any_map form_query (has_it (entries_of ws) q) forms) ∙ none_of (λ (x : Form). has_it (entries_of ws) q x.query) forms h)

@@ -117,7 +117,8 @@ impl Brought {
     /// Nothing is brought for it. It costs a copy of the form. Of a filtered one it costs two: the other is
     /// put in its place by halving, and moves a pointer of each of those behind it.
     ///
-    /// An `Err` is want of memory, and changes nothing.
+    /// An `Err` is want of memory, or of a stamp that is higher than that of the form in front, which is a
+    /// `u64` from 0 on; it changes nothing.
     pub fn register(&mut self, query: &Query) -> Result<(), AllocError>
         ensures ok { OnOk result (self.new ≡ with_form (form query.now) self.old) }
         ensures err { OnErr result (self.new ≡ self.old) }
@@ -205,8 +206,8 @@ impl Brought {
     /// the window of the first registered form that supplies it and has one; `None` where there is
     /// neither.
     ///
-    /// Finds it as [`Brought::knows`] does, and where several windows supply it by going over the
-    /// registered forms, and then costs by the path: the tree shares its parts with
+    /// Finds it as [`Brought::knows`] does, and where several windows supply it by going over the filtered
+    /// forms of its path, and then costs by the path: the tree shares its parts with
     /// what is brought, and with what else was handed out of it. It is no deeper than a tree at the
     /// query's path may be. After a push that lacked memory the tree is made anew, each time, until
     /// one at the path of the region or of the window replaces it.

@@ -53,6 +53,23 @@ pub(crate) fn first_from<T: HasQuery>(items: &[T], path: &Path) -> usize
     items.partition_point(|item| is_before(item, path))
 }
 
+// Whether its path stands behind this one.
+fn is_behind<T: HasQuery>(item: &T, path: &Path) -> bool
+    ensures { result ≡ is_lt (path_cmp path.now (T.query_of item.now).path) }
+{
+    path.cmp(item.query().path()).is_lt()
+}
+
+// Where the first stands that is behind the path, by halving.
+pub(crate) fn first_behind<T: HasQuery>(items: &[T], path: &Path) -> usize
+    requires { AreByPath T.query_of items.now }
+    ensures within { result ≤ length items.now }
+    ensures point { IsPartitionPoint (λ x. not (is_lt (path_cmp path.now (T.query_of x).path)) ≡ true)
+        (λ x. not (is_lt (path_cmp path.now (T.query_of x).path)) ≡ false) items.now result }
+{
+    items.partition_point(|item| !is_behind(item, path))
+}
+
 // Where those at or under the path stand, by halving: one behind another.
 pub(crate) fn span_under<T: HasQuery>(items: &[T], path: &Path) -> Span
     requires { AreByPath T.query_of items.now }

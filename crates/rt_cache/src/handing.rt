@@ -17,6 +17,7 @@ ghost use Rattle.rt_cache.specs.inside.Cuts.{IsCut};
 ghost use Rattle.rt_cache.specs.inside.Handing.{lent_queries, window_queries, is_region_lost};
 ghost use Rattle.rt_cache.specs.inside.Handing.{is_alike, is_window_lost, is_loser};
 ghost use Rattle.rt_cache.specs.inside.Handing.{AreThose, AreHanded};
+ghost use Rattle.rt_cache.specs.inside.Listed.{form_query};
 ghost use Rattle.rt_cache.specs.inside.Held.{pairs_of, entry_of, entries_of, held};
 ghost use Rattle.rt_cache.specs.inside.Sources.{HaveForms, AreBeside};
 ghost use Rattle.rt_cache.specs.inside.Spans.{have_place};
@@ -27,7 +28,7 @@ use crate::by_path::{
 };
 use crate::region::BoxedRegion;
 use crate::regions::{part_at, place_above};
-use crate::registered::{BoxedQuery, Forms};
+use crate::registered::{BoxedForm, Forms};
 use crate::spans::{Span, is_within};
 use crate::stored_tree::StoredTree;
 use crate::window::{BoxedWindow, Window};
@@ -290,20 +291,20 @@ pub(crate) fn windows_handed(
 }
 
 // Whether one of these forms, which stand by their paths, is at or under the path.
-fn is_any_under(forms: &[BoxedQuery], path: &Path) -> bool
-    requires { AreByPath (λ q. q) forms.now }
-    ensures { result ≡ list_any (λ f. is_at_or_above path.now f.path) forms.now }
+fn is_any_under(forms: &[BoxedForm], path: &Path) -> bool
+    requires { AreByPath form_query forms.now }
+    ensures { result ≡ list_any (λ f. is_at_or_above path.now (f.query).path) forms.now }
 {
     let span = span_under(forms, path);
     span.start < span.end
 }
 
 // Whether one is at or under a region of the span.
-fn is_any_in(regions: &[BoxedRegion], span: &Span, forms: &[BoxedQuery]) -> bool
-    requires order { AreByPath (λ q. q) forms.now }
+fn is_any_in(regions: &[BoxedRegion], span: &Span, forms: &[BoxedForm]) -> bool
+    requires order { AreByPath form_query forms.now }
     requires within { span.now.end ≤ length regions.now }
     ensures { result ≡ false → (k : ℕ) (d : Region) → span.now.start ≤ k → k < span.now.end
-        → list_any (λ f. is_at_or_above (slice_index_or regions.now k d).path f.path) forms.now ≡ false }
+        → list_any (λ f. is_at_or_above (slice_index_or regions.now k d).path (f.query).path) forms.now ≡ false }
 {
     let mut place = span.start;
     while place < span.end {
@@ -316,11 +317,11 @@ fn is_any_in(regions: &[BoxedRegion], span: &Span, forms: &[BoxedQuery]) -> bool
 }
 
 // Whether one is at or under a region that is lost. Looks at these alone.
-fn is_any_lost(regions: &[BoxedRegion], lost: &[Span], forms: &[BoxedQuery]) -> bool
-    requires order { AreByPath (λ q. q) forms.now }
+fn is_any_lost(regions: &[BoxedRegion], lost: &[Span], forms: &[BoxedForm]) -> bool
+    requires order { AreByPath form_query forms.now }
     requires within { All (λ s. (s.start ≤ s.end) × (s.end ≤ length regions.now)) lost.now }
     ensures { result ≡ false → (k : ℕ) (d : Region) → have_place lost.now k ≡ true
-        → list_any (λ f. is_at_or_above (slice_index_or regions.now k d).path f.path) forms.now ≡ false }
+        → list_any (λ f. is_at_or_above (slice_index_or regions.now k d).path (f.query).path) forms.now ≡ false }
 {
     for span in lost {
         if is_any_in(regions, span, forms) {

@@ -1,108 +1,154 @@
 // The forms of registered listeners.
 ghost use Rattle.std.specs.Prelude.{◌≡◌, ℕ, ◌+◌, ◌<◌, ◌≤◌, ◌&&◌, ◌++◌, ◌∷◌, [], Bool, true, not, length};
-ghost use Rattle.std.specs.Prelude.{vec_len, vec_capacity, IfOk, OnOk, OnErr};
-ghost use Rattle.std.specs.List.{list_any, remove, All, AllPairs};
+ghost use Rattle.std.specs.Prelude.{vec_len, vec_capacity, IfOk, IfSome, OnOk, OnErr, is_some, slice_index_or};
+ghost use Rattle.std.specs.List.{filter, find, list_any, remove, All, AllPairs};
+ghost use Rattle.rt_tree.specs.PathTree.{Path, path_eq};
 ghost use Rattle.rt_query.specs.Queries.{Query, is_filtered};
 ghost use Rattle.rt_query.specs.QueryEq.{query_eq};
 ghost use Rattle.rt_query.specs.Supply.{does_supply};
 ghost use Rattle.rt_cache.specs.Recover.{is_among, without_places};
+ghost use Rattle.rt_cache.specs.declared.registered.Form.{Form};
 ghost use Rattle.rt_cache.specs.inside.ByPath.{AreByPath};
 ghost use Rattle.rt_cache.specs.inside.Held.{AreShort};
-ghost use Rattle.rt_cache.specs.inside.Listed.{count_of, AreFilteredOf};
+ghost use Rattle.rt_cache.specs.inside.Listed.{form_query, queries_of, stands_at, is_same_form};
+ghost use Rattle.rt_cache.specs.inside.Listed.{AreFilteredOf};
 
-use crate::by_path::{HasQuery, first_from, place_of};
+use crate::by_path::{HasQuery, first_behind, first_from};
 use rt_query::Query;
 use std::alloc::{AllocError, Global};
 use std::marker::Model;
 
-// A form in memory of its own, so that a list of forms moves a pointer of each.
-pub(crate) struct BoxedQuery {
-    query: Box<Query>,
+// A form, and the stamp by which it is told from its equals: what is registered later has a higher one.
+pub(crate) struct Form {
+    pub(crate) query: Query,
+    pub(crate) stamp: u64,
 }
 
-impl Drop for BoxedQuery {
+impl Drop for Form {
     fn drop(self) {
-        let BoxedQuery { query: _ } = self;
+        let Form { query: _, stamp: _ } = self;
     }
 }
 
-impl Model for BoxedQuery {
-    ghost use Rattle.rt_query.specs.Queries.{Query};
-
-    ghost Value = { Query };
-
-    ghost view = { λ a. a.query.value };
+// A form in memory of its own, so that a list of forms moves a pointer of each.
+pub(crate) struct BoxedForm {
+    form: Box<Form>,
 }
 
-impl HasQuery for BoxedQuery {
-    ghost query_of = { λ q. q };
+impl Drop for BoxedForm {
+    fn drop(self) {
+        let BoxedForm { form: _ } = self;
+    }
+}
+
+impl Model for BoxedForm {
+    ghost use Rattle.rt_cache.specs.declared.registered.Form.{Form};
+
+    ghost Value = { Form };
+
+    ghost view = { λ a. a.form.value };
+}
+
+impl HasQuery for BoxedForm {
+    ghost query_of = { λ f. f.query };
 
     fn query(&self) -> &Query {
-        &self.query
+        &self.form.query
     }
 }
 
-impl BoxedQuery {
-    // The query, in memory of its own.
-    pub(crate) fn new(alloc: Global, query: Query) -> Result<BoxedQuery, AllocError>
-        ensures { IfOk result (λ boxed. boxed ≡ query) }
+impl BoxedForm {
+    // The query with its stamp, in memory of their own.
+    fn new(alloc: Global, query: Query, stamp: u64) -> Result<BoxedForm, AllocError>
+        ensures { IfOk result (λ boxed. boxed ≡ record { query = query; stamp = stamp }) }
     {
-        Ok(BoxedQuery {
-            query: Box::new(alloc, query)?,
+        Ok(BoxedForm {
+            form: Box::new(alloc, Form { query, stamp })?,
         })
     }
+
+    // The stamp.
+    fn stamp(&self) -> u64
+        ensures { result ≡ self.now.stamp }
+    {
+        self.form.stamp
+    }
 }
 
-// The filtered form in its place, in front of the others of its path. There is room for it.
-fn insert_form(filtered: &mut Vec<BoxedQuery>, form: BoxedQuery)
-    requires order { AreByPath (λ q. q) filtered.old.items }
-    requires room { vec_len filtered.old < vec_capacity filtered.old }
-    ensures order { AreByPath (λ q. q) filtered.new.items }
-    ensures more { (p : Query → Bool)
-        → count_of p filtered.new.items ≡ count_of p (form ∷ filtered.old.items) }
+// A stamp above those of all of these, whose stamps rise: the last has the highest.
+fn stamp_above(forms: &[BoxedForm]) -> Result<u64, AllocError>
+    requires rising { AllPairs (λ f g. f.stamp < g.stamp) forms.now }
+    ensures { IfOk result (λ stamp. All (λ f. f.stamp < stamp) forms.now) }
 {
-    let place = first_from(filtered, form.query().path());
+    let Some(last) = forms.last() else {
+        return Ok(0);
+    };
+    let Some(stamp) = last.stamp().checked_add(1) else {
+        return Err(AllocError);
+    };
+    Ok(stamp)
+}
+
+// The filtered form in its place, behind the others of its path. There is room for it.
+fn insert_form(filtered: &mut Vec<BoxedForm>, form: BoxedForm)
+    requires order { AreByPath form_query filtered.old.items }
+    requires room { vec_len filtered.old < vec_capacity filtered.old }
+    ensures order { AreByPath form_query filtered.new.items }
+    ensures behind { (p : Path) → filter (stands_at p) filtered.new.items
+        ≡ filter (stands_at p) (filtered.old.items ++ form ∷ []) }
+{
+    let place = first_behind(filtered, form.query().path());
     let _in_reserved_room = filtered.insert(place, form);
 }
 
 // One more form, behind the others; if it is filtered, in its place among those that are, too.
 fn add_form(
     alloc: Global,
-    forms: &mut Vec<BoxedQuery>,
-    filtered: &mut Vec<BoxedQuery>,
-    form: Query,
+    forms: &mut Vec<BoxedForm>,
+    filtered: &mut Vec<BoxedForm>,
+    query: Query,
 ) -> Result<(), AllocError>
     requires { AreFilteredOf forms.old.items filtered.old.items }
     ensures listed { AreFilteredOf forms.new.items filtered.new.items }
-    ensures ok { OnOk result (forms.new.items ≡ forms.old.items ++ form ∷ []) }
-    ensures err { OnErr result (forms.new.items ≡ forms.old.items) }
+    ensures ok { OnOk result (queries_of forms.new.items ≡ queries_of forms.old.items ++ query ∷ []) }
+    ensures err { OnErr result (queries_of forms.new.items ≡ queries_of forms.old.items) }
 {
-    if !form.is_filtered() {
-        forms.push(BoxedQuery::new(alloc, form)?)?;
+    let stamp = stamp_above(forms)?;
+    if !query.is_filtered() {
+        forms.push(BoxedForm::new(alloc, query, stamp)?)?;
         return Ok(());
     }
-    let own = BoxedQuery::new(alloc, form.copy()?)?;
+    let own = BoxedForm::new(alloc, query.copy()?, stamp)?;
     filtered.reserve(1)?;
-    forms.push(BoxedQuery::new(alloc, form)?)?;
+    forms.push(BoxedForm::new(alloc, query, stamp)?)?;
     insert_form(filtered, own);
     Ok(())
 }
 
-// The filtered forms but for one of this query.
-fn remove_one(filtered: &mut Vec<BoxedQuery>, query: &Query)
-    requires order { AreByPath (λ q. q) filtered.old.items }
-    requires among { list_any (λ f. query_eq f query.now) filtered.old.items ≡ true }
-    ensures order { AreByPath (λ q. q) filtered.new.items }
-    ensures left { (p : Query → Bool)
-        → count_of p filtered.old.items ≡ count_of p (query.now ∷ filtered.new.items) }
+// Where the form of this path and stamp stands. Goes over those of its path alone.
+fn place_of_form(filtered: &[BoxedForm], form: &BoxedForm) -> Option<usize>
+    requires { AreByPath form_query filtered.now }
+    ensures known { is_some result ≡ list_any (is_same_form form.now) filtered.now }
+    ensures within { IfSome result (λ n. n < length filtered.now) }
+    ensures own { IfSome result (λ n. (d : Form)
+        → is_same_form form.now (slice_index_or filtered.now n d) ≡ true) }
 {
-    if let Some(place) = place_of(filtered, query) {
-        drop(filtered.remove(place));
+    let mut place = first_from(filtered, form.query().path());
+    while place < filtered.len() {
+        let other = &filtered[place];
+        if other.query().path() != form.query().path() {
+            return None;
+        }
+        if other.stamp() == form.stamp() {
+            return Some(place);
+        }
+        place += 1;
     }
+    None
 }
 
 // The forms but for that at this place.
-fn remove_form(forms: &mut Vec<BoxedQuery>, filtered: &mut Vec<BoxedQuery>, place: usize)
+fn remove_form(forms: &mut Vec<BoxedForm>, filtered: &mut Vec<BoxedForm>, place: usize)
     requires within { place < length forms.old.items }
     requires listed { AreFilteredOf forms.old.items filtered.old.items }
     ensures left { forms.new.items ≡ remove forms.old.items place }
@@ -112,15 +158,17 @@ fn remove_form(forms: &mut Vec<BoxedQuery>, filtered: &mut Vec<BoxedQuery>, plac
     if !form.query().is_filtered() {
         return;
     }
-    remove_one(filtered, form.query());
+    if let Some(own) = place_of_form(filtered, &form) {
+        drop(filtered.remove(own));
+    }
 }
 
 // The forms but for those at these places, which rise: the last is taken out first.
-fn remove_places(forms: &mut Vec<BoxedQuery>, filtered: &mut Vec<BoxedQuery>, places: &[usize])
+fn remove_places(forms: &mut Vec<BoxedForm>, filtered: &mut Vec<BoxedForm>, places: &[usize])
     requires rising { AllPairs (λ p q. p < q) places.now }
     requires within { All (λ p. p < length forms.old.items) places.now }
     requires listed { AreFilteredOf forms.old.items filtered.old.items }
-    ensures left { forms.new.items ≡ without_places places.now forms.old.items }
+    ensures left { queries_of forms.new.items ≡ without_places places.now (queries_of forms.old.items) }
     ensures listed { AreFilteredOf forms.new.items filtered.new.items }
 {
     let mut count = places.len();
@@ -130,10 +178,11 @@ fn remove_places(forms: &mut Vec<BoxedQuery>, filtered: &mut Vec<BoxedQuery>, pl
     }
 }
 
-// Forms in order, and beside them the filtered ones in the order of their paths.
+// Forms in order, and beside them the filtered ones in the order of their paths, those of one path in the
+// order of all.
 pub(crate) struct Forms {
-    items: Vec<BoxedQuery>,
-    filtered: Vec<BoxedQuery>,
+    items: Vec<BoxedForm>,
+    filtered: Vec<BoxedForm>,
 }
 
 impl Drop for Forms {
@@ -148,11 +197,11 @@ impl Drop for Forms {
 impl Model for Forms {
     ghost use Rattle.std.specs.Prelude.{List};
     ghost use Rattle.rt_query.specs.Queries.{Query};
-    ghost use Rattle.rt_cache.specs.inside.Listed.{AreFilteredOf};
+    ghost use Rattle.rt_cache.specs.inside.Listed.{queries_of, AreFilteredOf};
 
     ghost Value = { List Query };
 
-    ghost view = { λ a. a.items.items };
+    ghost view = { λ a. queries_of a.items.items };
 
     ghost invariant = { λ a. AreFilteredOf a.items.items a.filtered.items };
 }
@@ -183,17 +232,20 @@ impl Forms {
     }
 
     // In order.
-    pub(crate) fn as_slice(&self) -> &[BoxedQuery]
-        ensures { result.now ≡ self.now }
+    pub(crate) fn as_slice(&self) -> &[BoxedForm]
+        ensures { queries_of result.now ≡ self.now }
     {
         self.items.as_slice()
     }
 
-    // The filtered ones, in the order of their paths.
-    pub(crate) fn filtered(&self) -> &[BoxedQuery]
-        ensures order { AreByPath (λ q. q) result.now }
+    // The filtered ones, in the order of their paths, those of one path in the order of all.
+    pub(crate) fn filtered(&self) -> &[BoxedForm]
+        ensures order { AreByPath form_query result.now }
         ensures same { (p : Query → Bool)
-            → list_any p result.now ≡ list_any (λ f. is_filtered f && p f) self.now }
+            → list_any p (queries_of result.now) ≡ list_any (λ f. is_filtered f && p f) self.now }
+        ensures first { (p : Query → Bool) (path : Path)
+            → ((f : Query) → p f ≡ true → (is_filtered f && path_eq f.path path) ≡ true)
+            → find p (queries_of result.now) ≡ find p self.now }
     {
         self.filtered.as_slice()
     }

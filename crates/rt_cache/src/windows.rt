@@ -3,7 +3,7 @@ ghost use Rattle.std.specs.Prelude.{◌≡◌, ℕ, ◌+◌, ◌<◌, ◌≤◌,
 ghost use Rattle.std.specs.Prelude.{vec_len, vec_capacity, if◌then◌else◌};
 ghost use Rattle.std.specs.Prelude.{IsOk, OnErr, Some, None, is_some, not, true, false, slice_index_or};
 ghost use Rattle.std.specs.Prelude.{◌&&◌, ◌||◌};
-ghost use Rattle.std.specs.List.{filter, list_any, remove_range};
+ghost use Rattle.std.specs.List.{filter, list_any, remove_range, All};
 ghost use Rattle.std.specs.Option.{option_map_or};
 ghost use Rattle.std.specs.FinMap as map_of;
 ghost use Rattle.rt_tree.specs.PathTree.{levels, strip, children_alone, put};
@@ -14,6 +14,7 @@ ghost use Rattle.rt_query.specs.Queries.{Query, is_filtered};
 ghost use Rattle.rt_query.specs.Supply.{does_supply};
 ghost use Rattle.rt_cache.specs.Recover.{in_query_order, is_among};
 ghost use Rattle.rt_cache.specs.inside.ByPath.{AreByPath, query_of, is_other_supplier};
+ghost use Rattle.rt_cache.specs.inside.Listed.{form_query, queries_of};
 ghost use Rattle.rt_cache.specs.inside.Held.{seen_window, entries_of, pushed_windows, is_taken};
 ghost use Rattle.rt_cache.specs.inside.Sources.{source_among, HaveForms};
 ghost use Rattle.rt_cache.specs.declared.window.Window.{Window};
@@ -22,7 +23,7 @@ use crate::by_path::{
     HasQuery, first_from, is_other_supplier, other_supplier_from, place_of, span_under,
 };
 use crate::paths::rest_of;
-use crate::registered::{BoxedQuery, Forms};
+use crate::registered::{BoxedForm, Forms};
 use crate::spans::Span;
 use crate::stored_tree::StoredTree;
 use crate::window::{BoxedWindow, Window};
@@ -252,31 +253,37 @@ fn place_supplying(windows: &[BoxedWindow], form: &Query, query: &Query) -> Opti
     place_of_window(windows, form)
 }
 
-// Where the window stands that is brought for the query, by going over the registered forms.
-fn place_of_first(
-    windows: &[BoxedWindow],
-    registered: &[BoxedQuery],
-    query: &Query,
-) -> Option<usize>
-    requires { AreByPath query_of windows.now }
+// Where the window stands that is brought for the query, by going over these filtered forms, of those of
+// its path alone.
+fn place_of_first(windows: &[BoxedWindow], forms: &[BoxedForm], query: &Query) -> Option<usize>
+    requires order { AreByPath query_of windows.now }
+    requires filtered { All (λ w. is_filtered w.query ≡ true) windows.now }
+    requires forms { AreByPath form_query forms.now }
     ensures within { IfSome result (λ n. n < length windows.now) }
-    ensures source { IfSome result (λ n. (d : Window) → source_among (entries_of windows.now) registered.now
-        query.now ≡ Some (slice_index_or windows.now n d).query) }
-    ensures none { IfNone result (source_among (entries_of windows.now) registered.now query.now ≡ None) }
+    ensures source { IfSome result (λ n. (d : Window) → source_among (entries_of windows.now)
+        (queries_of forms.now) query.now ≡ Some (slice_index_or windows.now n d).query) }
+    ensures none { IfNone result (source_among (entries_of windows.now) (queries_of forms.now)
+        query.now ≡ None) }
     ensures first { IfSome result (λ n. (k : ℕ) (d : Window) → k < n
         → query_eq (slice_index_or windows.now k d).query (slice_index_or windows.now n d).query ≡ false) }
 {
-    for form in registered {
-        if let Some(place) = place_supplying(windows, form.query(), query) {
-            return Some(place);
+    let mut place = first_from(forms, query.path());
+    while place < forms.len() {
+        let form = forms[place].query();
+        if form.path() != query.path() {
+            return None;
         }
+        if let Some(own) = place_supplying(windows, form, query) {
+            return Some(own);
+        }
+        place += 1;
     }
     None
 }
 
 // Where the window stands that is brought for the query: that of the first registered form that
 // supplies it and has one. Its own is the only one where it has one. Goes over the windows of its path,
-// and where several of them supply it over the registered forms.
+// and where several of them supply it over the filtered forms of its path.
 pub(crate) fn place_of_source(
     windows: &[BoxedWindow],
     registered: &Forms,
@@ -301,7 +308,7 @@ pub(crate) fn place_of_source(
     if other_supplier_from(windows, first + 1, query).is_none() {
         return Some(first);
     }
-    place_of_first(windows, registered.as_slice(), query)
+    place_of_first(windows, registered.filtered(), query)
 }
 
 // The tree pushed on the query at the path; whether it was taken: below the query's path a window

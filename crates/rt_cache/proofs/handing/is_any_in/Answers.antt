@@ -3,8 +3,8 @@ use mathlib.Core.Bool.{true≢false}
 use Rattle.std.specs.List.{list_any}
 use Rattle.rt_tree.specs.PathTree.{Path}
 use Rattle.rt_tree.specs.Assignments.{is_at_or_above}
-use Rattle.rt_query.specs.Queries.{Query}
 use Rattle.rt_cache.specs.declared.region.Region.{Region}
+use Rattle.rt_cache.specs.declared.registered.Form.{Form}
 use Rattle.rt_cache.proofs.Suppliers.{none_more}
 use Rattle.rt_cache.proofs.handing.is_any_in.Goals as goal
 
@@ -18,10 +18,10 @@ loop-place-preserved c =
     let within : c.loop-place.place < length rs = omega (arith, c.loop-place-test.true, c.requires.within) in
     let at : item ≡ get_or rs c.loop-place.place item = search rules in
     let no : c.is_any_under.result ≡ false = search rules in
-    let other : list_any (λ (f : Query). is_at_or_above (get_or rs c.loop-place.place item).path f.path) c.args.forms.now ≡ false =
-    ap (λ (p : Path). list_any (λ (f : Query). is_at_or_above p f.path) c.args.forms.now) (sym (c.path.ensures ∙ ap (λ (r : Region). r.path) at)) ∙ sym c.is_any_under.ensures ∙ no in (
+    let other : list_any (λ (f : Form). is_at_or_above (get_or rs c.loop-place.place item).path (f.query).path) c.args.forms.now ≡ false =
+    ap (λ (p : Path). list_any (λ (f : Form). is_at_or_above p (f.query).path) c.args.forms.now) (sym (c.path.ensures ∙ ap (λ (r : Region). r.path) at)) ∙ sym c.is_any_under.ensures ∙ no in (
       omega (arith, c.loop-place.invariant.0),
-      none_more (λ (r : Region). list_any (λ (f : Query). is_at_or_above r.path f.path) c.args.forms.now) rs c.args.span.now.start c.loop-place.place item within other c.loop-place.invariant.1,
+      none_more (λ (r : Region). list_any (λ (f : Form). is_at_or_above r.path (f.query).path) c.args.forms.now) rs c.args.span.now.start c.loop-place.place item within other c.loop-place.invariant.1,
     )
 
 pub returns-then-is_any_under : goal.returns-then-is_any_under

@@ -7,8 +7,8 @@ use Rattle.std.proofs.lemmas.List.Elements.{at_read}
 use Rattle.std.proofs.lemmas.List.Folds.{Any-from_list_any}
 use Rattle.rt_tree.specs.TreeEq.{both_first, both_second}
 use Rattle.rt_tree.specs.Assignments.{is_at_or_above}
-use Rattle.rt_query.specs.Queries.{Query}
 use Rattle.rt_cache.specs.declared.region.Region.{Region}
+use Rattle.rt_cache.specs.declared.registered.Form.{Form}
 use Rattle.rt_cache.specs.declared.spans.Span.{Span}
 use Rattle.rt_cache.specs.inside.Spans.{has_place}
 use Rattle.rt_cache.proofs.handing.is_any_lost.Goals as goal
@@ -30,10 +30,10 @@ loop-span-preserved c = λ j e lt.
     let at : s ≡ get_or ss c.loop-span.span-index s = get_or_default ss c.loop-span.span-index none s within in
     let no : c.is_any_in.result ≡ false = search rules in
     let here : (d : Span) → (k : ℕ) (r : Region) → (get_or ss c.loop-span.span-index d).start ≤ k → k < (get_or ss c.loop-span.span-index d).end
-    → list_any (λ (f : Query). is_at_or_above (get_or c.args.regions.now k r).path f.path) c.args.forms.now ≡ false =
-    at_read ss (λ (x : Span). (k : ℕ) (r : Region) → x.start ≤ k → k < x.end → list_any (λ (f : Query). is_at_or_above (get_or c.args.regions.now k r).path f.path) c.args.forms.now ≡ false)
+    → list_any (λ (f : Form). is_at_or_above (get_or c.args.regions.now k r).path (f.query).path) c.args.forms.now ≡ false =
+    at_read ss (λ (x : Span). (k : ℕ) (r : Region) → x.start ≤ k → k < x.end → list_any (λ (f : Form). is_at_or_above (get_or c.args.regions.now k r).path (f.query).path) c.args.forms.now ≡ false)
     c.loop-span.span-index s within at (c.is_any_in.ensures no) in
-    below_more (λ i. (k : ℕ) (r : Region) → (get_or ss i e).start ≤ k → k < (get_or ss i e).end → list_any (λ (f : Query). is_at_or_above (get_or c.args.regions.now k r).path f.path) c.args.forms.now ≡ false)
+    below_more (λ i. (k : ℕ) (r : Region) → (get_or ss i e).start ≤ k → k < (get_or ss i e).end → list_any (λ (f : Form). is_at_or_above (get_or c.args.regions.now k r).path (f.query).path) c.args.forms.now ≡ false)
     c.loop-span.span-index (λ i g. c.loop-span.invariant i e g) (here e) j lt
 
 pub returns-then-is_any_in : goal.returns-then-is_any_in

@@ -1,30 +1,33 @@
-use Rattle.std.proofs.Common.{rules, ◌≡◌, ◌∙◌, ℕ, List, ap, sym, subst, true, false}
-use Rattle.std.specs.List.{insert}
-use Rattle.std.specs.List.Sorted.{IsPartitionPoint}
-use Rattle.std.specs.Ordering.{is_lt}
-use Rattle.rt_tree.specs.PathTree.{Path, path_cmp}
-use Rattle.rt_query.specs.Queries.{Query}
+use Rattle.std.proofs.Common.{rules, ◌≡◌, ◌∙◌, ◌≤◌, ◌++◌, ◌∷◌, [], ℕ, List, ap, sym, subst, length, true, false, drop}
+use Rattle.std.specs.List.{filter, insert, All}
+use Rattle.rt_tree.specs.PathTree.{Path, path_eq, path_eq-is}
+use Rattle.rt_cache.specs.declared.registered.Form.{Form}
 use Rattle.rt_cache.specs.inside.ByPath.{AreByPath}
-use Rattle.rt_cache.specs.inside.Listed.{count_of}
-use Rattle.rt_cache.proofs.ByPaths.{by_path-insert}
-use Rattle.rt_cache.proofs.Counting.{count_more}
+use Rattle.rt_cache.specs.inside.Listed.{form_query, stands_at}
+use Rattle.rt_cache.proofs.ByPaths.{StandsBehind, by_path-insert_behind, none_of_path}
+use Rattle.rt_cache.proofs.Stamps.{filter-insert}
 use Rattle.rt_cache.proofs.registered.insert_form.Goals as goal
-
--- so many stand before the path
-abbrev StandsAt : List Query → Path → ℕ → Type 0
-StandsAt qs p n = IsPartitionPoint (λ (q : Query). is_lt (path_cmp q.path p) ≡ true) (λ (q : Query). is_lt (path_cmp q.path p) ≡ false) qs n
 
 pub returns-clause-order : goal.returns-clause-order
 returns-clause-order c =
-    let old : List Query = c.args.filtered.now.items in
-    let place : ℕ = c.first_from-place.result in
+    let old : List Form = c.args.filtered.now.items in
+    let place : ℕ = c.first_behind-place.result in
     let items : c.insert-in_reserved_room.new.self.items ≡ insert old place c.args.form = search rules in
-    let point : StandsAt old (c.args.form).path place =
-    subst (λ (p : Path). StandsAt old p place) (c.path.ensures ∙ ap (λ (q : Query). q.path) c.query.ensures)
-    (subst (λ (qs : List Query). StandsAt qs c.path.result.now place) c.deref.ensures.value c.first_from-place.ensures.point) in
-    subst (λ (qs : List Query). AreByPath (λ (q : Query). q) qs) (sym items) (by_path-insert (λ (q : Query). q) old place c.args.form c.requires.order point)
+    let point : StandsBehind form_query old ((c.args.form).query).path place =
+    subst (λ (p : Path). StandsBehind form_query old p place) (c.path.ensures ∙ ap (λ q. q.path) c.query.ensures)
+    (subst (λ (fs : List Form). StandsBehind form_query fs c.path.result.now place) c.deref.ensures.value c.first_behind-place.ensures.point) in
+    subst (λ (fs : List Form). AreByPath form_query fs) (sym items) (by_path-insert_behind form_query old place c.args.form c.requires.order point)
 
-pub returns-clause-more : goal.returns-clause-more
-returns-clause-more c = λ p.
-    let items : c.insert-in_reserved_room.new.self.items ≡ insert c.args.filtered.now.items c.first_from-place.result c.args.form = search rules in
-    ap (count_of p) items ∙ count_more p c.args.filtered.now.items c.first_from-place.result c.args.form
+pub returns-clause-behind : goal.returns-clause-behind
+returns-clause-behind c = λ p.
+    let old : List Form = c.args.filtered.now.items in
+    let place : ℕ = c.first_behind-place.result in
+    let items : c.insert-in_reserved_room.new.self.items ≡ insert old place c.args.form = search rules in
+    let within : place ≤ length old = search rules in
+    let point : StandsBehind form_query old ((c.args.form).query).path place =
+    subst (λ (p : Path). StandsBehind form_query old p place) (c.path.ensures ∙ ap (λ q. q.path) c.query.ensures)
+    (subst (λ (fs : List Form). StandsBehind form_query fs c.path.result.now place) c.deref.ensures.value c.first_behind-place.ensures.point) in
+    ap (filter (stands_at p)) items
+    ∙ filter-insert (stands_at p) old place c.args.form
+    (λ e. subst (λ (r : Path). All (λ (f : Form). path_eq (f.query).path r ≡ false) (drop place old)) (path_eq-is ((c.args.form).query).path p e)
+    (none_of_path form_query old ((c.args.form).query).path place within point))

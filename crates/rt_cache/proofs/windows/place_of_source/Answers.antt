@@ -1,19 +1,24 @@
-use Rattle.std.proofs.Common.{rules, ◌≡◌, ◌∙◌, ℕ, ◌+◌, ◌<◌, ◌≤◌, arith, length, get_or, ap, sym, subst, List, Some, None, true, false, is_some}
+use Rattle.std.proofs.Common.{rules, ◌≡◌, ◌∙◌, ℕ, ◌+◌, ◌<◌, ◌≤◌, arith, length, get_or, ap, sym, subst, List, Some, None, true, false, is_some, ◌&&◌, Bool, IfSome, IfNone}
 use Rattle.std.specs.FinMap as map_of
+use Rattle.std.specs.List.{find, All}
 use Rattle.std.specs.List.Sorted.{IsPartitionPoint}
 use Rattle.std.specs.Ordering.{is_lt}
-use Rattle.rt_tree.specs.PathTree.{path_cmp}
+use Rattle.rt_tree.specs.PathTree.{Path, path_cmp, path_eq, path_eq-same}
+use Rattle.rt_tree.specs.TreeEq.{both_second, both}
 use Rattle.rt_query.specs.Queries.{Query, is_filtered}
 use Rattle.rt_query.specs.QueryEq.{query_eq}
+use Rattle.rt_query.specs.Supply.{does_supply}
 use Rattle.rt_query.specs.laws.QueryEq.{query_eq_tells}
 use Rattle.rt_cache.specs.QueryOrder.{query_cmp}
 use Rattle.rt_cache.specs.Recover.{in_query_order}
 use Rattle.rt_cache.specs.declared.window.Window.{Window}
 use Rattle.rt_cache.specs.inside.ByPath.{query_of, is_other_supplier}
 use Rattle.rt_cache.specs.inside.Held.{entries_of}
+use Rattle.rt_cache.specs.inside.Listed.{queries_of}
+use Rattle.rt_cache.specs.inside.Sources.{source_among}
 use Rattle.rt_cache.proofs.Listing.{find-listed}
-use Rattle.rt_cache.proofs.Sources.{all_kept, source_kept, own_source}
-use Rattle.rt_cache.proofs.Suppliers.{other_found, before_none, first_alone, one_source, without_source}
+use Rattle.rt_cache.proofs.Sources.{all_kept, has_it, source_kept, own_source}
+use Rattle.rt_cache.proofs.Suppliers.{other_found, before_none, first_alone, one_source, without_source, found_filtered_form, supplies_of_path}
 use Rattle.rt_cache.proofs.windows.place_of_source.Goals as goal
 
 pub returns-in-Some-clause-source : goal.returns-in-Some-clause-source
@@ -97,3 +102,31 @@ returns-then-is_none-clause-first c =
     let between : (k : ℕ) (d : Window) → c.first_from-from.result ≤ k → k < first → is_other_supplier (get_or ws k d).query q ≡ false = search rules in
     first_alone c.args.registered.now ws q first c.requires.belongs none within own
     (before_none q ws c.first_from-from.result first (all_kept (λ x. is_filtered x ≡ true) ws c.requires.belongs.filtered) (omega (arith, within)) point.0 between)
+
+pub place_of_first-requires-clause-filtered : goal.place_of_first-requires-clause-filtered
+place_of_first-requires-clause-filtered c = all_kept (λ q. is_filtered q ≡ true) c.args.windows.now c.requires.belongs.filtered
+
+-- what supplies the query and has a window is filtered and of its path
+only_of_path : (ws : List Window) (q : Query) → All (λ (w : Window). is_filtered w.query ≡ true) ws → (f : Query) → has_it (entries_of ws) q f ≡ true → (is_filtered f && path_eq f.path q.path) ≡ true
+only_of_path ws q filtered f e =
+    both (is_filtered f) (path_eq f.path q.path) (found_filtered_form ws f filtered (both_second (does_supply f q) (is_some (map_of.find query_cmp f (entries_of ws))) e))
+    (ap (path_eq f.path) (sym (supplies_of_path ws q f filtered e)) ∙ path_eq-same f.path)
+
+same_source : (ws : List Window) (fs gs : List Query) (q : Query) → All (λ (w : Window). is_filtered w.query ≡ true) ws
+    → ((p : Query → Bool) (path : Path) → ((f : Query) → p f ≡ true → (is_filtered f && path_eq f.path path) ≡ true) → find p gs ≡ find p fs)
+    → source_among (entries_of ws) fs q ≡ source_among (entries_of ws) gs q
+same_source ws fs gs q filtered found = sym (found (has_it (entries_of ws) q) q.path (only_of_path ws q filtered))
+
+pub returns-clause-source : goal.returns-clause-source
+returns-clause-source c =
+    let ws : List Window = c.args.windows.now in
+    let same : source_among (entries_of ws) c.args.registered.now c.args.query.now ≡ source_among (entries_of ws) (queries_of c.filtered.result.now) c.args.query.now =
+    same_source ws c.args.registered.now (queries_of c.filtered.result.now) c.args.query.now (all_kept (λ q. is_filtered q ≡ true) ws c.requires.belongs.filtered) c.filtered.ensures.first in
+    subst (λ o. IfSome c.place_of_first.result (λ n. (d : Window) → o ≡ Some (get_or ws n d).query)) (sym same) c.place_of_first.ensures.source
+
+pub returns-clause-none : goal.returns-clause-none
+returns-clause-none c =
+    let ws : List Window = c.args.windows.now in
+    let same : source_among (entries_of ws) c.args.registered.now c.args.query.now ≡ source_among (entries_of ws) (queries_of c.filtered.result.now) c.args.query.now =
+    same_source ws c.args.registered.now (queries_of c.filtered.result.now) c.args.query.now (all_kept (λ q. is_filtered q ≡ true) ws c.requires.belongs.filtered) c.filtered.ensures.first in
+    subst (λ o. IfNone c.place_of_first.result (o ≡ None)) (sym same) c.place_of_first.ensures.none
