@@ -49,7 +49,7 @@ filter-insert {X} t xs n y none =
         ∙ ap (λ b. filter t xs ++ cond b (y ∷ []) []) (sym e)
 
 -- one taken out that doesn't pass
-filter-remove_none : {X : Type 0} (t : X → Bool) (xs : List X) (n : ℕ) (d : X) → n < length xs → t (get_or xs n d) ≡ false
+pub filter-remove_none : {X : Type 0} (t : X → Bool) (xs : List X) (n : ℕ) (d : X) → n < length xs → t (get_or xs n d) ≡ false
     → filter t (remove xs n) ≡ filter t xs
 filter-remove_none t [] n d lt e = absurd (omega (arith, lt))
 filter-remove_none t (x ∷ xs) zero d lt e = sym (ap (λ b. cond b (x ∷ filter t xs) (filter t xs)) e)

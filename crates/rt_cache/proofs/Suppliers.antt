@@ -27,8 +27,10 @@ use Rattle.rt_cache.specs.inside.ByPath.{AreByPath, is_other_supplier}
 use Rattle.rt_cache.specs.inside.Held.{entry_of, entries_of}
 use Rattle.rt_cache.specs.inside.Listed.{form_query, queries_of}
 use Rattle.rt_cache.specs.inside.Sources.{source_among, HaveForms}
+use Rattle.rt_cache.proofs.Among.{filter_agreeing}
 use Rattle.rt_cache.proofs.ByPaths.{not_itself, neither_before, path_behind, any_at, any_map, none_of}
-use Rattle.rt_cache.proofs.Listing.{find-listed}
+use Rattle.rt_cache.proofs.InSpans.{filter_all}
+use Rattle.rt_cache.proofs.Listing.{find-listed, listed-filter}
 use Rattle.rt_cache.proofs.Sources.{any_found, any_kept, all_kept, find_none, has_it, source_kept, only_source, no_source}
 
 and_no : (b : Bool) → (b && false) ≡ false
@@ -69,23 +71,6 @@ none_left {X = X} q of xs from n up filtered within not_before other before k d 
     at false e = no_other (q (get_or xs k d)) of (λ s.
         path_behind q of.path xs n up within not_before (λ x a b. true≢false (sym (neither_before of.path (q (get_or xs n x)).path b a) ∙ other x))
         k d (ltb-false k n e) lt (supplied_has_path (q (get_or xs k d)) of (filtered k d lt) s))
-
--- nor is one left that the query supplies
-pub supplies_none_left : {X : Type 0} (q : X → Query) (of : Query) (xs : List X) (n : ℕ) → AreByPath q xs → is_filtered of ≡ true → n < length xs
-    → ((d : X) → is_lt (path_cmp (q (get_or xs n d)).path of.path) ≡ false)
-    → ((d : X) → path_eq (q (get_or xs n d)).path of.path ≡ false)
-    → ((k : ℕ) (d : X) → k < n → is_other_supplier of (q (get_or xs k d)) ≡ false)
-    → list_any (λ x. is_other_supplier of (q x)) xs ≡ false
-supplies_none_left {X = X} q of xs n up filtered within not_before other before = none_of (λ x. is_other_supplier of (q x)) xs none
-  where
-    none : (k : ℕ) (d : X) → k < length xs → is_other_supplier of (q (get_or xs k d)) ≡ false
-    none k d lt = at (nat_lt k n) refl
-      where
-        at : (b : Bool) → nat_lt k n ≡ b → is_other_supplier of (q (get_or xs k d)) ≡ false
-        at true e = before k d (ltb-true k n e)
-        at false e = no_other of (q (get_or xs k d)) (λ s.
-            path_behind q of.path xs n up within not_before (λ x a b. true≢false (sym (neither_before (q (get_or xs n x)).path of.path a b) ∙ other x))
-            k d (ltb-false k n e) lt (sym (supplied_has_path of (q (get_or xs k d)) filtered s)))
 
 -- what stands at another path is no other query of this one's
 pub other_path : (q f : Query) → (f.path ≡ q.path → ⊥) → is_another_at q f ≡ false
@@ -159,14 +144,6 @@ supplier_is {X = X} q of (x ∷ xs) filtered =
 
 -- ---- windows of what a query supplies
 
-filter_none_of : {X : Type 0} (p s : X → Bool) (xs : List X) → ((x : X) → s x ≡ not (p x)) → list_any p xs ≡ false → filter s xs ≡ xs
-filter_none_of p s [] h e = refl
-filter_none_of {X = X} p s (x ∷ xs) h e = at (p x) refl e (λ u. filter_none_of p s xs h u)
-  where
-    at : (b : Bool) → p x ≡ b → (b || list_any p xs) ≡ false → (list_any p xs ≡ false → filter s xs ≡ xs) → filter s (x ∷ xs) ≡ x ∷ xs
-    at true t u rest = absurd (true≢false u)
-    at false t u rest = ap (λ b. cond b (x ∷ filter s xs) (filter s xs)) (h x ∙ ap not t) ∙ ap (λ ys. x ∷ ys) (rest u)
-
 -- a window stays beside a query that is not another one and supplies it
 beside_is : (q f : Query) → (query_eq f q || not (does_supply q f)) ≡ not (is_other_supplier q f)
 beside_is q f = (λ i. turned i || not (does_supply q f)) ∙ at (query_eq q f) (does_supply q f)
@@ -178,12 +155,19 @@ beside_is q f = (λ i. turned i || not (does_supply q f)) ∙ at (query_eq q f) 
     at true s = refl
     at false s = refl
 
--- where the query supplies no other, all windows stay beside it
-pub all_beside : (q : Query) (ws : List inside.Window) → list_any (λ (w : inside.Window). is_other_supplier q w.query) ws ≡ false
-    → in_query_order (entries_of ws) ≡ filter (λ (w : Query × Window). query_eq w.0 q || not (does_supply q w.0)) (in_query_order (entries_of ws))
-all_beside q ws e =
-    sym (filter_none_of (λ (w : Query × Window). is_other_supplier q w.0) (λ (w : Query × Window). query_eq w.0 q || not (does_supply q w.0)) (in_query_order (entries_of ws))
-    (λ w. beside_is q w.0) (any_kept (λ f. is_other_supplier q f) ws ∙ e))
+-- another query that a filtered one supplies is of its path
+pub supplied_of_path : (q f : Query) → is_filtered q ≡ true → is_other_supplier q f ≡ true → f.path ≡ q.path
+supplied_of_path q f filtered e = sym (supplied_has_path q f filtered (both_second (not (query_eq q f)) (does_supply q f) e))
+
+-- where the query supplies none of the windows, and all that it doesn't are there, those stay beside it
+pub left_beside : (q : Query) (vs ws : List inside.Window) → ((k : ℕ) (d : inside.Window) → k < length ws → is_other_supplier q (get_or ws k d).query ≡ false)
+    → filter (λ (w : inside.Window). not (is_other_supplier q w.query)) ws ≡ filter (λ (w : inside.Window). not (is_other_supplier q w.query)) vs
+    → in_query_order (entries_of ws) ≡ filter (λ (w : Query × Window). query_eq w.0 q || not (does_supply q w.0)) (in_query_order (entries_of vs))
+left_beside q vs ws none same =
+    ap (λ (xs : List inside.Window). in_query_order (entries_of xs)) (sym (filter_all (λ (w : inside.Window). not (is_other_supplier q w.query)) ws (λ k d lt. ap not (none k d lt))) ∙ same)
+    ∙ listed-filter (λ f. not (is_other_supplier q f)) vs
+    ∙ filter_agreeing (λ (w : Query × Window). not (is_other_supplier q w.0)) (λ (w : Query × Window). query_eq w.0 q || not (does_supply q w.0)) (in_query_order (entries_of vs))
+    (λ k d lt. sym (beside_is q (get_or (in_query_order (entries_of vs)) k d).0))
 
 -- ---- whose window is brought
 

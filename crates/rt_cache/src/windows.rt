@@ -200,28 +200,8 @@ pub(crate) fn remove_queries(windows: &mut Vec<BoxedWindow>, queries: &[Query])
     }
 }
 
-// Whether the query supplies another one that has a window. Goes over those of its path alone: what is
-// filtered supplies no other path.
-fn supplies_another(windows: &[BoxedWindow], query: &Query) -> bool
-    requires order { AreByPath query_of windows.now }
-    requires filtered { is_filtered query.now ≡ true }
-    ensures { result ≡ list_any (λ w. is_other_supplier query.now w.query) windows.now }
-{
-    let mut place = first_from(windows, query.path());
-    while place < windows.len() {
-        let other = windows[place].query();
-        if other.path() != query.path() {
-            return false;
-        }
-        if is_other_supplier(query, other) {
-            return true;
-        }
-        place += 1;
-    }
-    false
-}
-
-// The windows but for those of other queries that this one supplies.
+// The windows but for those of other queries that this one supplies. Goes over those of its path alone:
+// what is filtered supplies no other path.
 fn remove_supplied(windows: &mut Vec<BoxedWindow>, query: &Query)
     requires order { AreByPath query_of windows.old.items }
     requires filtered { is_filtered query.now ≡ true }
@@ -230,10 +210,18 @@ fn remove_supplied(windows: &mut Vec<BoxedWindow>, query: &Query)
         ≡ filter (λ w. query_eq w.0 query.now || not (does_supply query.now w.0)) (in_query_order
         (entries_of windows.old.items)) }
 {
-    if !supplies_another(windows, query) {
-        return;
+    let mut place = first_from(windows, query.path());
+    while place < windows.len() {
+        let other = windows[place].query();
+        if other.path() != query.path() {
+            return;
+        }
+        if is_other_supplier(query, other) {
+            drop(windows.remove(place));
+        } else {
+            place += 1;
+        }
     }
-    windows.retain(|window| window.query() == query || !query.supplies(window.query()));
 }
 
 // Where the window of the form stands, if it supplies the query.
