@@ -1,6 +1,6 @@
 -- The filtered ones of registered forms: by their paths, those of a path in the order of their stamps.
-use Rattle.std.proofs.Common.{◌≡◌, ◌∙◌, ℕ, zero, suc, ◌+◌, ◌<◌, ◌==◌, nat_lt, Bool, true, false, cond, ◌&&◌, ◌||◌, List, [], ◌∷◌, ◌++◌, length, get_or, take, drop, map, append-nil, refl, sym, ap, subst, arith, eqb-true, eq-eqb, ltb-true, ltb-false}
-use Rattle.std.proofs.Common.{Option, Some, None}
+use Rattle.std.proofs.Common.{◌≡◌, ◌∙◌, ℕ, zero, suc, ◌+◌, ◌<◌, ◌==◌, nat_lt, Bool, true, false, cond, ◌&&◌, List, [], ◌∷◌, ◌++◌, length, get_or, take, drop, map, append-nil, refl, sym, ap, subst, arith, eqb-true, eq-eqb, ltb-true, ltb-false}
+use Rattle.std.proofs.Common.{Option, Some}
 use mathlib.Core.Bool.{true≢false}
 use Rattle.std.specs.List.{filter, find, list_any, insert, remove, All, AllPairs, Contains}
 use Rattle.std.proofs.lemmas.List.{get_or_default, take-append-drop, map-append}

@@ -2,8 +2,8 @@ use Rattle.std.proofs.Common.{rules, ◌≡◌, ◌∙◌, ◌<◌, ◌++◌, �
 use Rattle.std.specs.List.{filter, All}
 use Rattle.rt_query.specs.Queries.{is_filtered}
 use Rattle.rt_cache.specs.declared.registered.Form.{Form}
-use Rattle.rt_cache.specs.inside.Listed.{queries_of, stands_at, AreFilteredOf}
-use Rattle.rt_cache.proofs.Stamps.{more_plain, more_filtered, queries_more}
+use Rattle.rt_cache.specs.inside.Listed.{stands_at, AreFilteredOf}
+use Rattle.rt_cache.proofs.Stamps.{more_plain, more_filtered}
 use Rattle.rt_cache.proofs.registered.add_form.Goals as goal
 
 pub returns-then-not-is_filtered-clause-listed : goal.returns-then-not-is_filtered-clause-listed

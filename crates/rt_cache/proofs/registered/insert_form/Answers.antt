@@ -1,4 +1,4 @@
-use Rattle.std.proofs.Common.{rules, ◌≡◌, ◌∙◌, ◌≤◌, ◌++◌, ◌∷◌, [], ℕ, List, ap, sym, subst, length, true, false, drop}
+use Rattle.std.proofs.Common.{rules, ◌≡◌, ◌∙◌, ◌≤◌, ℕ, List, ap, sym, subst, length, false, drop}
 use Rattle.std.specs.List.{filter, insert, All}
 use Rattle.rt_tree.specs.PathTree.{Path, path_eq, path_eq-is}
 use Rattle.rt_cache.specs.declared.registered.Form.{Form}

@@ -1,9 +1,9 @@
-use Rattle.std.proofs.Common.{rules, ◌≡◌, ◌∙◌, ◌<◌, ◌≤◌, ◌==◌, ◌&&◌, ℕ, ap, sym, subst, arith, length, get_or, true, false, Bool, List, refl}
+use Rattle.std.proofs.Common.{rules, ◌≡◌, ◌∙◌, ◌<◌, ◌≤◌, ◌==◌, ◌&&◌, ap, sym, subst, arith, length, get_or, true, false, Bool, List, refl}
 use Rattle.std.proofs.lemmas.List.Elements.{at_read}
 use Rattle.std.specs.List.Sorted.{IsPartitionPoint}
 use Rattle.std.specs.Ordering.{is_lt}
-use Rattle.rt_tree.specs.PathTree.{Path, path_cmp, path_eq, path_eq-is}
-use Rattle.rt_tree.specs.TreeEq.{both_first, both}
+use Rattle.rt_tree.specs.PathTree.{path_cmp, path_eq, path_eq-is}
+use Rattle.rt_tree.specs.TreeEq.{both_first}
 use Rattle.rt_cache.specs.declared.registered.Form.{Form}
 use Rattle.rt_cache.specs.inside.Listed.{form_query, stands_at, is_same_form}
 use Rattle.rt_cache.proofs.ByPaths.{before_more, any_at, none_of, none_of_path_left, fails_before}

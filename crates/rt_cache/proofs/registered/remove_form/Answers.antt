@@ -1,4 +1,4 @@
-use Rattle.std.proofs.Common.{rules, ◌≡◌, ◌∙◌, ◌<◌, List, ap, sym, subst, length, get_or, true, false}
+use Rattle.std.proofs.Common.{rules, ◌≡◌, ◌∙◌, ◌<◌, List, sym, subst, length, get_or, true, false}
 use mathlib.Core.Bool.{true≢false}
 use Rattle.std.specs.List.{list_any, remove}
 use Rattle.rt_query.specs.Queries.{is_filtered}

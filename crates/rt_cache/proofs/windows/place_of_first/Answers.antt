@@ -1,15 +1,15 @@
-use Rattle.std.proofs.Common.{rules, ◌≡◌, ◌∙◌, ℕ, ◌<◌, ◌≤◌, arith, length, get_or, ap, sym, subst, Some, None, true, false, is_some, List}
+use Rattle.std.proofs.Common.{rules, ◌≡◌, ◌∙◌, ℕ, ◌<◌, ◌≤◌, arith, length, get_or, ap, sym, subst, Some, true, false, is_some, List}
 use Rattle.std.proofs.lemmas.List.Elements.{at_read}
 use Rattle.std.specs.List.Sorted.{IsPartitionPoint}
 use Rattle.std.specs.Ordering.{is_lt}
-use Rattle.rt_tree.specs.PathTree.{Path, path_cmp, path_eq}
+use Rattle.rt_tree.specs.PathTree.{path_cmp, path_eq}
 use Rattle.rt_query.specs.Queries.{Query}
 use Rattle.rt_query.specs.QueryEq.{query_eq}
 use Rattle.rt_query.specs.laws.QueryEq.{query_eq_tells}
 use Rattle.rt_cache.specs.declared.registered.Form.{Form}
 use Rattle.rt_cache.specs.declared.window.Window.{Window}
 use Rattle.rt_cache.specs.inside.Held.{entries_of}
-use Rattle.rt_cache.specs.inside.Listed.{form_query, queries_of}
+use Rattle.rt_cache.specs.inside.Listed.{form_query}
 use Rattle.rt_cache.proofs.ByPaths.{before_more, none_of_path_left, fails_before}
 use Rattle.rt_cache.proofs.Sources.{has_it}
 use Rattle.rt_cache.proofs.Suppliers.{first_of_path, none_of_forms, supplies_of_path}

@@ -1,4 +1,4 @@
-use Rattle.std.proofs.Common.{◌∙◌, ◌&&◌, ap, sym, List}
+use Rattle.std.proofs.Common.{◌∙◌, ◌&&◌, ap, List}
 use Rattle.std.specs.List.{find, list_any}
 use Rattle.rt_query.specs.Queries.{is_filtered}
 use Rattle.rt_cache.specs.declared.registered.Form.{Form}
