@@ -155,7 +155,7 @@ turned Less e = refl
 turned Equal e = refl
 turned Greater e = absurd (true≢false (sym e))
 
-not_before : (p r : Path) → is_lt (path_cmp r p) ≡ true → is_lt (path_cmp p r) ≡ false
+pub not_before : (p r : Path) → is_lt (path_cmp r p) ≡ true → is_lt (path_cmp p r) ≡ false
 not_before p r e = ap is_lt (paths_total.antisymm p r) ∙ turned (path_cmp r p) e
 
 -- one more, which stands before none in front of it, and behind none after it
@@ -220,20 +220,20 @@ none_of_path {X} q xs p n le at k d lt =
     ] refl
 
 -- where one is of a path behind, and none before it passes what only queries of the path pass, none does
-pub none_of_path_left : {X : Type 0} (q : X → Query) (p : Path) (test : X → Bool) (xs : List X) (n : ℕ) → ((x : X) → test x ≡ true → (q x).path ≡ p) → AreByPath q xs → n < length xs
+pub none_of_path_left : {X : Type 0} (q : X → Query) (p : Path) (test : X → Bool) (xs : List X) (n : ℕ) → ((k : ℕ) (d : X) → k < length xs → test (get_or xs k d) ≡ true → (q (get_or xs k d)).path ≡ p) → AreByPath q xs → n < length xs
     → ((k : ℕ) (d : X) → k < n → test (get_or xs k d) ≡ false)
     → ((d : X) → is_lt (path_cmp (q (get_or xs n d)).path p) ≡ false)
     → ((d : X) → path_eq (q (get_or xs n d)).path p ≡ false)
     → (k : ℕ) (d : X) → k < length xs → test (get_or xs k d) ≡ false
 none_of_path_left {X = X} q p test xs n of up within before first other k d lt = at (nat_lt k n) refl
   where
-    no : (x : X) → ((q x).path ≡ p → ⊥) → test x ≡ false
-    no x h = elim (test x) as (λ b. test x ≡ b → b ≡ false) [
-      | true ↦ λ e. absurd (h (of x e))
+    no : ((q (get_or xs k d)).path ≡ p → ⊥) → test (get_or xs k d) ≡ false
+    no h = elim (test (get_or xs k d)) as (λ b. test (get_or xs k d) ≡ b → b ≡ false) [
+      | true ↦ λ e. absurd (h (of k d lt e))
       | false ↦ λ e. refl
     ] refl
 
     at : (b : Bool) → nat_lt k n ≡ b → test (get_or xs k d) ≡ false
     at true e = before k d (ltb-true k n e)
-    at false e = no (get_or xs k d)
+    at false e = no
         (path_behind q p xs n up within first (λ x a b. true≢false (sym (neither_before (q (get_or xs n x)).path p a b) ∙ other x)) k d (ltb-false k n e) lt)

@@ -11,6 +11,7 @@ pub mod Ending
 pub mod FilteredRuns
 pub mod Forgetting
 pub mod Halves
+pub mod Gathering
 pub mod HandLaws
 pub mod Heirs
 pub mod InPlace

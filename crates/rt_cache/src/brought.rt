@@ -341,9 +341,10 @@ impl Brought {
     /// registered then and the listens that are kept then.
     ///
     /// Finds what these forms and listens name by halving: the regions at and under each plain one, the
-    /// region above each listen that begins, the window of each form that ends. Where a filtered form is
-    /// at or under a region that is lost, or a form without limit that ends has a window, it goes once over
-    /// the windows and over the filtered ones of the registered forms, as [`Brought::recover`] does, and sorts none. It copies only the parts
+    /// region above each listen that begins, the window of each form that ends. Of the filtered forms it
+    /// looks at those at or under a region that is lost, and at those of the path of a form that ends,
+    /// has a window and no limit; of the windows at those of the paths of these. It sorts the forms that
+    /// end, and those that it looks at, by path. It copies only the parts
     /// and the windows that are handed on, and moves pointers to what stands behind.
     ///
     /// An `Err` is want of memory, and changes nothing.

@@ -1,30 +1,32 @@
 // What a change of cover hands on: of the forms that lose what they had, those that no other of them
 // supplies get it as their window.
-ghost use Rattle.std.specs.Prelude.{◌≡◌, ◌&&◌, ◌||◌, T, Bool, List, false, true, not, map, is_some};
-ghost use Rattle.std.specs.Prelude.{ℕ, ◌<◌, ◌≤◌, length, slice_index_or, IfOk};
-ghost use Rattle.std.specs.List.{filter, list_any, All};
+ghost use Rattle.std.specs.Prelude.{◌≡◌, ◌&&◌, ◌||◌, T, Bool, List, [], false, true, not, is_some};
+ghost use Rattle.std.specs.Prelude.{ℕ, ◌<◌, ◌≤◌, length, slice_index_or, IfOk, OnOk};
+ghost use Rattle.std.specs.List.{filter, list_any, slice_range, All};
 ghost use Rattle.std.specs.Option.{option_map};
 ghost use Rattle.std.specs.FinMap as map_of;
-ghost use Rattle.rt_tree.specs.PathTree.{path_cmp};
-ghost use Rattle.rt_tree.specs.Assignments.{is_at_or_above, have_overlap};
+ghost use Rattle.rt_tree.specs.PathTree.{path_cmp, path_eq};
+ghost use Rattle.rt_tree.specs.Assignments.{have_overlap};
 ghost use Rattle.rt_query.specs.Queries.{Query, is_filtered};
 ghost use Rattle.rt_query.specs.Needed.{needed};
-ghost use Rattle.rt_cache.specs.QueryOrder.{query_cmp};
+ghost use Rattle.rt_query.specs.Supply.{does_supply};
 ghost use Rattle.rt_cache.specs.Brought.{base};
-ghost use Rattle.rt_cache.specs.Recover.{in_query_order, is_among, window_left, handed_on};
+ghost use Rattle.rt_cache.specs.Recover.{in_query_order, window_left, handed_on};
+ghost use Rattle.rt_cache.specs.declared.registered.Form.{Form};
 ghost use Rattle.rt_cache.specs.inside.ByPath.{AreByPath, query_of};
 ghost use Rattle.rt_cache.specs.inside.Cuts.{IsCut};
 ghost use Rattle.rt_cache.specs.inside.Handing.{lent_queries, window_queries, is_region_lost};
-ghost use Rattle.rt_cache.specs.inside.Handing.{is_alike, is_window_lost, is_loser};
-ghost use Rattle.rt_cache.specs.inside.Handing.{AreThose, AreHanded};
-ghost use Rattle.rt_cache.specs.inside.Listed.{form_query};
+ghost use Rattle.rt_cache.specs.inside.Handing.{is_alike, is_staying, staying_of, is_window_lost, is_loser};
+ghost use Rattle.rt_cache.specs.inside.Handing.{is_under_one, is_under_lost_one, hands_on, is_beside_one};
+ghost use Rattle.rt_cache.specs.inside.Handing.{AreThose, AreGathered, AreLentOf, AreHanded};
 ghost use Rattle.rt_cache.specs.inside.Held.{pairs_of, entry_of, entries_of, held};
+ghost use Rattle.rt_cache.specs.inside.Listed.{form_query};
 ghost use Rattle.rt_cache.specs.inside.Sources.{HaveForms, AreBeside};
-ghost use Rattle.rt_cache.specs.inside.Spans.{have_place};
-ghost use Rattle.rt_cache.specs.declared.region.Region.{Region};
+ghost use Rattle.rt_cache.specs.inside.Spans.{has_place};
 
 use crate::by_path::{
-    Lent, has_other_supplier, has_supplier, in_path_order, lend, place_of, span_under,
+    HasQuery, Lent, first_behind, first_from, has_other_supplier, has_supplier, in_path_order,
+    place_of, span_under,
 };
 use crate::region::BoxedRegion;
 use crate::regions::{part_at, place_above};
@@ -60,20 +62,6 @@ fn loses_region(
     place_above(parts, query.path()).is_none()
 }
 
-// Whether a window supplies the query, and none of those that stay.
-fn loses_window(windows: &[BoxedWindow], staying: &[Lent<'_>], query: &Query) -> bool
-    requires order { AreByPath query_of windows.now }
-    requires filtered { All (λ w. is_filtered w.query ≡ true) windows.now }
-    requires staying_order { AreByPath (λ l. l.query.now) staying.now }
-    requires staying_filtered { All (λ l. is_filtered l.query.now ≡ true) staying.now }
-    ensures { result ≡ is_window_lost (window_queries windows.now) (lent_queries staying.now) query.now }
-{
-    if !has_supplier(windows, query) {
-        return false;
-    }
-    !has_supplier(staying, query)
-}
-
 // Whether both hold, or neither.
 fn is_alike(one: bool, other: bool) -> bool
     ensures { result ≡ is_alike one other }
@@ -81,24 +69,54 @@ fn is_alike(one: bool, other: bool) -> bool
     if one { other } else { !other }
 }
 
-// The queries of the windows that stay: those among these forms, or those that are not.
-fn staying_queries<'a>(
-    alloc: Global,
-    windows: &'a [BoxedWindow],
-    forms: &[Lent<'_>],
+// Whether a window is of one of those, or of one that is not, and its query supplies this one.
+fn is_staying_supplier(other: &Query, those: &[Lent<'_>], among: bool, query: &Query) -> bool
+    requires those { AreByPath (λ l. l.query.now) those.now }
+    ensures { result ≡ (does_supply other.now query.now && is_staying (lent_queries those.now) among other.now) }
+{
+    other.supplies(query) && is_alike(place_of(those, other).is_some(), among)
+}
+
+// Whether a window that stays supplies the query. Goes over those of its path alone: what is filtered
+// supplies no other path.
+fn has_staying_supplier(
+    windows: &[BoxedWindow],
+    those: &[Lent<'_>],
     among: bool,
-) -> Result<Vec<Lent<'a>>, AllocError>
+    query: &Query,
+) -> bool
     requires order { AreByPath query_of windows.now }
     requires filtered { All (λ w. is_filtered w.query ≡ true) windows.now }
-    requires forms { AreByPath (λ l. l.query.now) forms.now }
-    ensures order { IfOk result (λ lent. AreByPath (λ l. l.query.now) lent.items) }
-    ensures filtered { IfOk result (λ lent. All (λ l. is_filtered l.query.now ≡ true) lent.items) }
-    ensures staying { IfOk result (λ lent. lent_queries lent.items
-        ≡ filter (λ q. is_alike (is_among (lent_queries forms.now) q) among) (window_queries windows.now)) }
+    requires those { AreByPath (λ l. l.query.now) those.now }
+    ensures { result ≡ list_any (λ f. does_supply f query.now)
+        (staying_of (lent_queries those.now) among (window_queries windows.now)) }
 {
-    let mut lent = lend(alloc, windows)?;
-    lent.retain(|window| is_alike(place_of(forms, window.query).is_some(), among));
-    Ok(lent)
+    let mut place = first_from(windows, query.path());
+    while place < windows.len() {
+        let other = windows[place].query();
+        if other.path() != query.path() {
+            return false;
+        }
+        if is_staying_supplier(other, those, among, query) {
+            return true;
+        }
+        place += 1;
+    }
+    false
+}
+
+// Whether a window supplies the query, and none of those that stay.
+fn loses_window(windows: &[BoxedWindow], those: &[Lent<'_>], among: bool, query: &Query) -> bool
+    requires order { AreByPath query_of windows.now }
+    requires filtered { All (λ w. is_filtered w.query ≡ true) windows.now }
+    requires those { AreByPath (λ l. l.query.now) those.now }
+    ensures { result ≡ is_window_lost (window_queries windows.now)
+        (staying_of (lent_queries those.now) among (window_queries windows.now)) query.now }
+{
+    if !has_supplier(windows, query) {
+        return false;
+    }
+    !has_staying_supplier(windows, those, among, query)
 }
 
 // Whether a filtered form, of those or of the others, loses what it had.
@@ -107,7 +125,6 @@ fn loses(
     lost: &[Span],
     parts: &[BoxedRegion],
     windows: &[BoxedWindow],
-    staying: &[Lent<'_>],
     those: &[Lent<'_>],
     among: bool,
     form: &Query,
@@ -118,13 +135,11 @@ fn loses(
     requires parts_apart { have_overlap (pairs_of parts.now) ≡ false }
     requires order { AreByPath query_of windows.now }
     requires filtered { All (λ w. is_filtered w.query ≡ true) windows.now }
-    requires staying_order { AreByPath (λ l. l.query.now) staying.now }
-    requires staying_filtered { All (λ l. is_filtered l.query.now ≡ true) staying.now }
     requires those { AreByPath (λ l. l.query.now) those.now }
     ensures { (kept : List Query) → IsCut kept regions.now lost.now parts.now
-        → result ≡ (is_alike (is_among (lent_queries those.now) form.now) among
+        → result ≡ (is_staying (lent_queries those.now) among form.now
         && is_loser kept (pairs_of regions.now) (window_queries windows.now)
-        (lent_queries staying.now) form.now) }
+        (staying_of (lent_queries those.now) among (window_queries windows.now)) form.now) }
 {
     if !form.is_filtered() {
         return false;
@@ -135,7 +150,7 @@ fn loses(
     if loses_region(regions, lost, parts, form) {
         return true;
     }
-    loses_window(windows, staying, form)
+    loses_window(windows, those, among, form)
 }
 
 // Of these forms, those that lose what they had.
@@ -145,7 +160,6 @@ fn losers<'a>(
     lost: &[Span],
     parts: &[BoxedRegion],
     windows: &[BoxedWindow],
-    staying: &[Lent<'_>],
     forms: &[Lent<'a>],
     those: &[Lent<'_>],
     among: bool,
@@ -156,20 +170,16 @@ fn losers<'a>(
     requires parts_apart { have_overlap (pairs_of parts.now) ≡ false }
     requires order { AreByPath query_of windows.now }
     requires filtered { All (λ w. is_filtered w.query ≡ true) windows.now }
-    requires staying_order { AreByPath (λ l. l.query.now) staying.now }
-    requires staying_filtered { All (λ l. is_filtered l.query.now ≡ true) staying.now }
     requires those { AreByPath (λ l. l.query.now) those.now }
     ensures { (kept : List Query) → IsCut kept regions.now lost.now parts.now
         → IfOk result (λ lent. lent_queries lent.items
-        ≡ filter (λ q. is_alike (is_among (lent_queries those.now) q) among
+        ≡ filter (λ q. is_staying (lent_queries those.now) among q
         && is_loser kept (pairs_of regions.now) (window_queries windows.now)
-        (lent_queries staying.now) q) (lent_queries forms.now)) }
+        (staying_of (lent_queries those.now) among (window_queries windows.now)) q) (lent_queries forms.now)) }
 {
     let mut lent = Vec::new(alloc);
     for form in forms {
-        if loses(
-            regions, lost, parts, windows, staying, those, among, form.query,
-        ) {
+        if loses(regions, lost, parts, windows, those, among, form.query) {
             lent.push(Lent { query: form.query })?;
         }
     }
@@ -252,8 +262,9 @@ fn hand_on(
     Ok(handed)
 }
 
-// The windows that a change of cover hands on, after which there are registered, of these forms, which
-// stand by their paths, the filtered ones among those, or the ones that are not.
+// The windows that a change of cover hands on, after which there are registered, of all forms, the filtered
+// ones among those, or the ones that are not. These forms, which stand by their paths, are the ones of them
+// that lose something, and others, if any.
 pub(crate) fn windows_handed(
     alloc: Global,
     regions: &[BoxedRegion],
@@ -275,73 +286,149 @@ pub(crate) fn windows_handed(
     requires forms { AreByPath (λ l. l.query.now) forms.now }
     requires those { AreByPath (λ l. l.query.now) those.now }
     requires cut { (kept : List Query) × IsCut kept regions.now lost.now parts.now }
-    ensures { (registered kept : List Query) → IsCut kept regions.now lost.now parts.now
-        → AreThose registered (lent_queries forms.now) (lent_queries those.now) among (window_queries windows.now)
+    ensures { (registered kept all : List Query) → IsCut kept regions.now lost.now parts.now
+        → AreThose registered all (lent_queries those.now) among (window_queries windows.now)
+        → AreGathered kept (pairs_of regions.now) all (lent_queries those.now) among
+        (window_queries windows.now) (lent_queries forms.now)
         → IfOk result (λ handed. AreHanded registered kept (held were.now regions.now windows.now)
         (entries_of handed.items)) }
 {
-    let staying = staying_queries(alloc, windows, those, among)?;
-    let losing = losers(
-        alloc, regions, lost, parts, windows, &staying, forms, those, among,
-    )?;
+    let losing = losers(alloc, regions, lost, parts, windows, forms, those, among)?;
     let mut heirs = unsupplied(alloc, &losing)?;
     // Their windows are put in their places from the last on: so each is put behind those before it.
     heirs.reverse();
     hand_on(alloc, regions, windows, were, &heirs)
 }
 
-// Whether one of these forms, which stand by their paths, is at or under the path.
-fn is_any_under(forms: &[BoxedForm], path: &Path) -> bool
-    requires { AreByPath form_query forms.now }
-    ensures { result ≡ list_any (λ f. is_at_or_above path.now (f.query).path) forms.now }
-{
-    let span = span_under(forms, path);
-    span.start < span.end
-}
-
-// Whether one is at or under a region of the span.
-fn is_any_in(regions: &[BoxedRegion], span: &Span, forms: &[BoxedForm]) -> bool
-    requires order { AreByPath form_query forms.now }
-    requires within { span.now.end ≤ length regions.now }
-    ensures { result ≡ false → (k : ℕ) (d : Region) → span.now.start ≤ k → k < span.now.end
-        → list_any (λ f. is_at_or_above (slice_index_or regions.now k d).path (f.query).path) forms.now ≡ false }
+// The forms of the span, besides those that are lent.
+fn lend_span<'a>(
+    lent: &mut Vec<Lent<'a>>,
+    forms: &'a [BoxedForm],
+    span: &Span,
+) -> Result<(), AllocError>
+    requires ordered { span.now.start ≤ span.now.end }
+    requires within { span.now.end ≤ length forms.now }
+    ensures { OnOk result ((test : Query → Bool)
+        → ((k : ℕ) (d : Form) → k < length forms.now → test (slice_index_or forms.now k d).query ≡ has_place k span.now)
+        → AreLentOf test forms.now lent.old.items lent.new.items) }
 {
     let mut place = span.start;
     while place < span.end {
-        if is_any_under(forms, regions[place].path()) {
-            return true;
-        }
+        lent.push(Lent {
+            query: forms[place].query(),
+        })?;
         place += 1;
     }
-    false
+    Ok(())
 }
 
-// Whether one is at or under a region that is lost. Looks at these alone.
-fn is_any_lost(regions: &[BoxedRegion], lost: &[Span], forms: &[BoxedForm]) -> bool
+// The forms at or under a region of the span, besides those that are lent.
+fn lend_under<'a>(
+    lent: &mut Vec<Lent<'a>>,
+    regions: &[BoxedRegion],
+    span: &Span,
+    forms: &'a [BoxedForm],
+) -> Result<(), AllocError>
+    requires order { AreByPath form_query forms.now }
+    requires ordered { span.now.start ≤ span.now.end }
+    requires within { span.now.end ≤ length regions.now }
+    ensures { OnOk result (AreLentOf
+        (is_under_one (slice_range regions.now span.now.start span.now.end)) forms.now lent.old.items
+        lent.new.items) }
+{
+    let mut place = span.start;
+    while place < span.end {
+        lend_span(lent, forms, &span_under(forms, regions[place].path()))?;
+        place += 1;
+    }
+    Ok(())
+}
+
+// The forms at or under a region that is lost, besides those that are lent. Looks at these alone.
+fn lend_lost<'a>(
+    lent: &mut Vec<Lent<'a>>,
+    regions: &[BoxedRegion],
+    lost: &[Span],
+    forms: &'a [BoxedForm],
+) -> Result<(), AllocError>
     requires order { AreByPath form_query forms.now }
     requires within { All (λ s. (s.start ≤ s.end) × (s.end ≤ length regions.now)) lost.now }
-    ensures { result ≡ false → (k : ℕ) (d : Region) → have_place lost.now k ≡ true
-        → list_any (λ f. is_at_or_above (slice_index_or regions.now k d).path (f.query).path) forms.now ≡ false }
+    ensures { OnOk result (AreLentOf (is_under_lost_one regions.now lost.now) forms.now lent.old.items
+        lent.new.items) }
 {
     for span in lost {
-        if is_any_in(regions, span, forms) {
-            return true;
+        lend_under(lent, regions, span, forms)?;
+    }
+    Ok(())
+}
+
+// Whether the window of a form that ends may be that of another: it has one, and no limit.
+fn hands_on(windows: &[BoxedWindow], form: &Query) -> bool
+    requires order { AreByPath query_of windows.now }
+    ensures { result ≡ hands_on windows.now form.now }
+{
+    form.limit().is_none() && place_of_window(windows, form).is_some()
+}
+
+// Whether the last that is lent is of the path.
+fn is_last_at(lent: &[Lent<'_>], path: &Path) -> bool
+    ensures { result ≡ true → list_any (λ q. path_eq q.path path.now) (lent_queries lent.now) ≡ true }
+{
+    match lent.last() {
+        Some(last) => last.query.path() == path,
+        None => false,
+    }
+}
+
+// Whether the window of a form that ends may be that of another, and the last that is lent isn't of its path.
+fn has_new_path(windows: &[BoxedWindow], lent: &[Lent<'_>], form: &Query) -> bool
+    requires { AreByPath query_of windows.now }
+    ensures new { result ≡ true → hands_on windows.now form.now ≡ true }
+    ensures old { result ≡ false → hands_on windows.now form.now ≡ true
+        → list_any (λ q. path_eq q.path form.now.path) (lent_queries lent.now) ≡ true }
+{
+    hands_on(windows, form) && !is_last_at(lent, form.path())
+}
+
+// Where the forms of the path stand, by halving.
+fn span_at(forms: &[BoxedForm], path: &Path) -> Span
+    requires { AreByPath form_query forms.now }
+    ensures ordered { result.start ≤ result.end }
+    ensures within { result.end ≤ length forms.now }
+    ensures exact { (k : ℕ) (d : Form) → k < length forms.now
+        → path_eq (slice_index_or forms.now k d).query.path path.now ≡ has_place k result }
+{
+    let start = first_from(forms, path);
+    Span {
+        start,
+        end: first_behind(forms, path),
+    }
+}
+
+// The forms of the paths of those that end and whose windows may be others'. Those that end stand by their
+// paths, so that those of a path are lent once.
+fn lend_beside<'a>(
+    alloc: Global,
+    windows: &[BoxedWindow],
+    ended: &[Lent<'_>],
+    forms: &'a [BoxedForm],
+) -> Result<Vec<Lent<'a>>, AllocError>
+    requires windows { AreByPath query_of windows.now }
+    requires order { AreByPath form_query forms.now }
+    ensures { IfOk result (λ lent. AreLentOf (is_beside_one windows.now (lent_queries ended.now)) forms.now []
+        lent.items) }
+{
+    let mut lent = Vec::new(alloc);
+    for one in ended {
+        if has_new_path(windows, &lent, one.query) {
+            lend_span(&mut lent, forms, &span_at(forms, one.query.path()))?;
         }
     }
-    false
+    Ok(lent)
 }
 
-// Whether the window of one of these forms may be that of another: it has one, and no limit.
-fn may_hand_on(windows: &[BoxedWindow], forms: &[Query]) -> bool
-    requires order { AreByPath query_of windows.now }
-    ensures { result ≡ list_any (λ f. not (is_some f.limit)
-        && is_some (map_of.find query_cmp f (entries_of windows.now))) forms.now }
-{
-    forms.iter().any(|form| form.limit().is_none() && place_of_window(windows, form).is_some())
-}
-
-// The windows that are handed on where these forms end. Where no filtered form is at or under a region that
-// is lost, and no window of them may be that of another form, there are none; else goes over the filtered forms that were registered.
+// The windows that are handed on where these forms end. Looks at the filtered forms at and under the regions
+// that are lost, and at those of the paths of forms that end and whose windows may be others'.
 pub(crate) fn windows_of_ended(
     alloc: Global,
     regions: &[BoxedRegion],
@@ -365,11 +452,10 @@ pub(crate) fn windows_of_ended(
         (entries_of handed.items)) }
 {
     let filtered = were.filtered();
-    if !is_any_lost(regions, lost, filtered) && !may_hand_on(windows, ended) {
-        return Ok(Vec::new(alloc));
-    }
-    let forms = lend(alloc, filtered)?;
     let those = in_path_order(alloc, ended)?;
+    let mut lent = lend_beside(alloc, windows, &those, filtered)?;
+    lend_lost(&mut lent, regions, lost, filtered)?;
+    let forms = in_path_order(alloc, &lent)?;
     windows_handed(
         alloc, regions, lost, parts, windows, were, &forms, &those, false,
     )

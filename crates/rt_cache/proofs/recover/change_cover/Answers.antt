@@ -22,6 +22,7 @@ use Rattle.rt_cache.proofs.ByListens.{by_listens}
 use Rattle.rt_cache.proofs.Changes.{stays_lost}
 use Rattle.rt_cache.proofs.CutSlices.{parts_of_left, handed_of, cut_moved}
 use Rattle.rt_cache.proofs.Parts.{all_parts_apart, in_order_first, left_with_parts}
+use Rattle.rt_cache.proofs.Gathering.{all_gathered}
 use Rattle.rt_cache.proofs.HandLaws.{handed_listed, those_registered}
 use Rattle.rt_cache.proofs.Lending.{among_lent, forms_alike}
 use Rattle.rt_cache.proofs.Listing.{listed-filter}
@@ -107,7 +108,9 @@ returns-clause-ok c =
     let handed : AreHanded c.args.registered.now c.args.kept.now (held c.args.were.now c.args.regions.now.items c.args.windows.now.items) (entries_of c.in_ok-handed.handed.items) =
     handed_of c.windows_handed.result c.in_ok-handed.handed c.args.registered.now c.args.kept.now c.args.were.now (lent_queries c.deref-8.result.now) (lent_queries c.deref-9.result.now) true
     c.deref-4.result.now c.args.regions.now.items c.deref-5.result.now c.in_ok-lost.lost.items c.deref-6.result.now c.in_ok-parts.parts.items c.deref-7.result.now c.args.windows.now.items
-    c.deref-4.ensures.value c.deref-5.ensures.value c.deref-6.ensures.value c.deref-7.ensures.value c.in_ok-handed.was (c.windows_handed.ensures c.args.registered.now c.args.kept.now) cut
+    c.deref-4.ensures.value c.deref-5.ensures.value c.deref-6.ensures.value c.deref-7.ensures.value c.in_ok-handed.was
+    (λ is t. c.windows_handed.ensures c.args.registered.now c.args.kept.now (lent_queries c.deref-8.result.now) is t
+    (all_gathered c.args.kept.now (pairs_of c.deref-4.result.now) (lent_queries c.deref-8.result.now) (lent_queries c.deref-9.result.now) true (window_queries c.deref-7.result.now))) cut
     (forms_alike c.args.registered.now c.args.registered.now (lent_queries c.deref-8.result.now) (lent_queries c.deref-9.result.now) (window_queries c.args.windows.now.items) true (λ x f. listed x)
     (those_registered c.args.registered.now (lent_queries c.deref-9.result.now) (window_queries c.args.windows.now.items) those)) in
     let windows = c.put_windows.ensures.listed

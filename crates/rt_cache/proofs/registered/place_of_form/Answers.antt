@@ -50,7 +50,7 @@ returns-then-ne-clause-known c =
     let within : c.loop-place.place < length xs = search rules in
     let at : item ≡ get_or xs c.loop-place.place item = search rules in
     let other : path_eq (item.query).path (f.query).path ≡ false = search rules in
-    sym (none_of (is_same_form f) xs (none_of_path_left form_query (f.query).path (is_same_form f) xs c.loop-place.place (of_path f) c.requires within c.loop-place.invariant.1
+    sym (none_of (is_same_form f) xs (none_of_path_left form_query (f.query).path (is_same_form f) xs c.loop-place.place (λ k d lt. of_path f (get_or xs k d)) c.requires within c.loop-place.invariant.1
     (λ d. c.loop-place.invariant.2 c.loop-place.place d (omega arith) within)
     (at_read xs (λ (x : Form). path_eq (x.query).path (f.query).path ≡ false) c.loop-place.place item within at other)))
 

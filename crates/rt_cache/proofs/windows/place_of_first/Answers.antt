@@ -54,7 +54,7 @@ returns-then-ne-clause-none c =
     let at : item ≡ get_or xs c.loop-place.place item = search rules in
     let other : path_eq (item.query).path q.path ≡ false = search rules in
     none_of_forms xs ws q
-    (none_of_path_left form_query q.path (λ (x : Form). has_it (entries_of ws) q x.query) xs c.loop-place.place (λ x. supplies_of_path ws q x.query c.requires.filtered) c.requires.forms within c.loop-place.invariant.1
+    (none_of_path_left form_query q.path (λ (x : Form). has_it (entries_of ws) q x.query) xs c.loop-place.place (λ k d lt. supplies_of_path ws q (get_or xs k d).query c.requires.filtered) c.requires.forms within c.loop-place.invariant.1
     (λ d. c.loop-place.invariant.2 c.loop-place.place d (omega arith) within)
     (at_read xs (λ (x : Form). path_eq (x.query).path q.path ≡ false) c.loop-place.place item within at other))
 

@@ -74,7 +74,7 @@ returns-then-ne-clause-left c =
     let at : item ≡ get_or ws c.loop-place.place item = search rules in
     let other : path_eq (item.query).path q.path ≡ false = search rules in
     left_beside q c.args.windows.now.items ws
-    (none_of_path_left query_of q.path (λ (w : Window). is_other_supplier q w.query) ws c.loop-place.place (λ w. supplied_of_path q w.query c.requires.filtered) c.loop-place.invariant.0 within c.loop-place.invariant.2
+    (none_of_path_left query_of q.path (λ (w : Window). is_other_supplier q w.query) ws c.loop-place.place (λ k d lt. supplied_of_path q (get_or ws k d).query c.requires.filtered) c.loop-place.invariant.0 within c.loop-place.invariant.2
     (λ d. c.loop-place.invariant.3 c.loop-place.place d (omega arith) within)
     (at_read ws (λ (w : Window). path_eq (w.query).path q.path ≡ false) c.loop-place.place item within at other)) c.loop-place.invariant.4
 
