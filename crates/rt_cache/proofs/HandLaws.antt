@@ -1,40 +1,35 @@
 -- What a change of cover hands on: to whom, and that it is found from what is held.
-use Rattle.std.proofs.Common.{◌≡◌, Bool, true, false, cond, not, ◌&&◌, ◌||◌, get_or, List, [], ◌∷◌, ◌++◌}
+use Rattle.std.proofs.Common.{◌≡◌, Bool, true, false, cond, not, ◌&&◌, ◌||◌, get_or, List, [], ◌++◌}
 use Rattle.std.proofs.Common.{refl, sym, ap, ◌∙◌, None, is_some}
 use mathlib.Core.Bool.{true≢false}
 use Rattle.std.specs.List.{filter, list_any, All, Contains}
 use Rattle.std.specs.Option.{option_or}
 use Rattle.std.specs.FinMap as map_of
-use Rattle.std.proofs.lemmas.List.Elements.{All-head, All-tail, All-map, All-contains, Contains-get_or}
+use Rattle.std.proofs.lemmas.List.Elements.{All-contains}
 use Rattle.std.proofs.lemmas.List.Folds.{Any-from_list_any}
 use Rattle.rt_tree.specs.PathTree.{Path, PathTree}
 use Rattle.rt_tree.specs.TreeEq.{both_first, both_second, both}
 use Rattle.rt_query.specs.Queries.{Query, is_filtered}
-use Rattle.rt_query.specs.QueryEq.{query_eq}
 use Rattle.rt_query.specs.Supply.{does_supply}
 use Rattle.rt_query.specs.Needed.{needed}
-use Rattle.rt_query.specs.laws.QueryEq.{query_eq_tells}
-use Rattle.rt_query.specs.Ranges.{takes_in}
-use Rattle.rt_query.specs.laws.NeededLaws.{Contains-filter}
-use Rattle.rt_query.specs.laws.RangeLaws.{taken_in}
-use Rattle.rt_query.specs.laws.SupplyLaws.{same_tests, supply_filtered, supplied_has_path}
+use Rattle.rt_query.specs.laws.SupplyLaws.{same_tests, supplied_has_path}
 use Rattle.rt_cache.specs.QueryOrder.{query_cmp}
 use Rattle.rt_cache.specs.Brought.{Window, Brought, region_part, base, knows}
 use Rattle.rt_cache.specs.Recover.{reaches, regions_kept, in_query_order, is_among, cut, is_lost, heirs, window_left, handed_on}
 use Rattle.rt_cache.specs.declared.region.Region.{Region}
 use Rattle.rt_cache.specs.declared.run.Call.TheVariants.{Recover}
 use Rattle.rt_cache.specs.declared.window.Window as inside
-use Rattle.rt_cache.specs.inside.Held.{pairs_of, entry_of, entries_of, held}
+use Rattle.rt_cache.specs.inside.Held.{pairs_of, entries_of, held}
 use Rattle.rt_cache.specs.inside.Sources.{AreBeside, HaveForms}
-use Rattle.rt_cache.specs.inside.Handing.{window_queries, is_alike, is_region_lost, is_window_lost, is_loser, AreThose, AreHanded}
+use Rattle.rt_cache.specs.inside.Handing.{window_queries, is_alike, is_loser, AreThose}
 use Rattle.rt_cache.proofs.Among.{any_with, among, of_among, any_passing, any_agreeing, needed_alike}
 use Rattle.rt_cache.proofs.ByPaths.{any_map}
 use Rattle.rt_cache.proofs.Cuts.{any_above, part_any}
-use Rattle.rt_cache.proofs.Heirs.{not_so, left_forms}
+use Rattle.rt_cache.proofs.Heirs.{left_forms}
 use Rattle.rt_cache.proofs.Keeping.{find-for_each, find-both}
 use Rattle.rt_cache.proofs.Listing.{Listed, listed_is, listed_sorted, find-listed}
 use Rattle.rt_cache.proofs.RunLaws.{step_known}
-use Rattle.rt_cache.proofs.Sources.{any_found, any_kept, all_kept, knows_by}
+use Rattle.rt_cache.proofs.Sources.{any_kept, knows_by}
 
 -- ---- what is left
 

@@ -1,4 +1,4 @@
-use Rattle.std.proofs.Common.{rules, ◌≡◌, ◌∙◌, ◌<◌, ◌≤◌, ◌&&◌, Bool, List, ap, sym, subst, arith, length, get_or, true, false}
+use Rattle.std.proofs.Common.{rules, ◌≡◌, ◌∙◌, ◌<◌, ◌≤◌, ◌&&◌, Bool, List, sym, subst, arith, length, get_or, true, false}
 use Rattle.std.proofs.lemmas.List.Elements.{at_read}
 use Rattle.std.specs.List.Sorted.{IsPartitionPoint}
 use Rattle.std.specs.Ordering.{is_lt}

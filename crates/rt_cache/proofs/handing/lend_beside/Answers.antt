@@ -1,11 +1,11 @@
-use Rattle.std.proofs.Common.{rules, ◌≡◌, ◌∙◌, ◌+◌, ◌<◌, ◌≤◌, ◌&&◌, ◌||◌, [], ℕ, Bool, true, false, List, ◌∷◌, ap, sym, subst, refl, length, get_or, drop}
+use Rattle.std.proofs.Common.{rules, ◌≡◌, ◌∙◌, ◌+◌, ◌<◌, ◌≤◌, ◌&&◌, ◌||◌, ℕ, Bool, true, false, List, ◌∷◌, ap, sym, subst, refl, length, get_or, drop}
 use Rattle.std.specs.List.{list_any}
 use Rattle.rt_tree.specs.PathTree.{Path, path_eq}
 use Rattle.rt_query.specs.Queries.{Query}
 use Rattle.rt_cache.specs.declared.by_path.Lent.{Lent}
 use Rattle.rt_cache.specs.declared.registered.Form.{Form}
 use Rattle.rt_cache.specs.declared.window.Window.{Window}
-use Rattle.rt_cache.specs.inside.Handing.{lent_queries, hands_on, is_beside_one, AreLentOf}
+use Rattle.rt_cache.specs.inside.Handing.{lent_queries, hands_on, is_beside_one}
 use Rattle.rt_cache.specs.inside.Listed.{queries_of}
 use Rattle.rt_cache.specs.inside.Spans.{has_place}
 use Rattle.rt_cache.proofs.Gathering.{AreWhole, any_no, joined, all_lent, whole_more, beside_more, beside_same, covered}

@@ -1,7 +1,6 @@
 use Rattle.std.proofs.Common.{rules, ◌≡◌, ◌∙◌, ◌+◌, ◌<◌, ◌≤◌, ◌++◌, ◌∷◌, ◌||◌, [], ℕ, List, ap, sym, arith, append-nil, length, get_or}
 use Rattle.std.specs.List.{list_any, slice_range}
 use Rattle.std.proofs.lemmas.List.Folds.{list_any-append}
-use Rattle.rt_query.specs.Queries.{Query}
 use Rattle.rt_cache.specs.declared.by_path.Lent.{Lent}
 use Rattle.rt_cache.specs.declared.registered.Form.{Form}
 use Rattle.rt_cache.specs.inside.Handing.{lent_queries}

@@ -1,4 +1,4 @@
-use Rattle.std.proofs.Common.{rules, ◌≡◌, ◌∙◌, ◌+◌, ◌<◌, ◌≤◌, ◌&&◌, ◌||◌, ℕ, Bool, List, ap, sym, subst, arith, length, get_or}
+use Rattle.std.proofs.Common.{rules, ◌≡◌, ◌∙◌, ◌+◌, ◌<◌, ◌≤◌, ◌&&◌, ℕ, List, ap, sym, arith, length, get_or}
 use Rattle.std.specs.List.{list_any, slice_range}
 use Rattle.rt_tree.specs.PathTree.{Path}
 use Rattle.rt_tree.specs.Assignments.{is_at_or_above}
