@@ -342,8 +342,8 @@ impl Brought {
     ///
     /// Finds what these forms and listens name by halving: the regions at and under each plain one, the
     /// region above each listen that begins, the window of each form that ends. Of the filtered forms it
-    /// looks at those at or under a region that is lost, and at those of the path of a form that ends,
-    /// has a window and no limit; of the windows at those of the paths of these. It sorts the forms that
+    /// looks at those at or under a region that is lost, and at those of the path of a form without limit
+    /// that ends and has a window. Of the windows it looks at those of these paths. It sorts the forms that
     /// end, and those that it looks at, by path. It copies only the parts
     /// and the windows that are handed on, and moves pointers to what stands behind.
     ///
