@@ -11,7 +11,8 @@ use Rattle.rt_cache.specs.contracts.region.Region as region
 use Rattle.rt_cache.specs.contracts.region.BoxedRegion as boxed_region
 use Rattle.rt_cache.specs.contracts.window.Window as window
 use Rattle.rt_cache.specs.contracts.window.BoxedWindow as boxed_window
-use Rattle.rt_cache.specs.contracts.registered.BoxedQuery as boxed_form
+use Rattle.rt_cache.specs.contracts.registered.Form as form
+use Rattle.rt_cache.specs.contracts.registered.BoxedForm as boxed_form
 use Rattle.rt_cache.specs.contracts.registered.Forms as registered
 use Rattle.rt_cache.specs.contracts.brought.Brought as brought
 use Rattle.rt_forms.specs.contracts.numbers.Numbers as numbers
@@ -73,8 +74,11 @@ window_send = search calls_cross depth 40 fits 20000
 boxed_window_send : IsSend boxed_window.the_row
 boxed_window_send = search (window_send, all_cross) depth 40 fits 20000
 
+form_send : IsSend form.the_row
+form_send = search calls_cross depth 40 fits 20000
+
 boxed_form_send : IsSend boxed_form.the_row
-boxed_form_send = search calls_cross depth 40 fits 20000
+boxed_form_send = search (form_send, all_cross) depth 40 fits 20000
 
 registered_send : IsSend registered.the_row
 registered_send = search (boxed_form_send, all_cross) depth 40 fits 20000
