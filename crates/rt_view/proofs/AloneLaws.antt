@@ -43,7 +43,7 @@ either true e = cc
 either false e = refl
 
 -- what a query that isn't filtered shows under a key
-plain_value : (q : Query) (u : PathTree) (w : Window) (k : Key) → is_filtered q ≡ false → IsWindowOf q u w → value_at w.shown.entries k ≡ child_of (children_of u) k
+pub plain_value : (q : Query) (u : PathTree) (w : Window) (k : Key) → is_filtered q ≡ false → IsWindowOf q u w → value_at w.shown.entries k ≡ child_of (children_of u) k
 plain_value q u w k plain h = ap (λ (es : Entries). value_at es k) (sym (plain_rows q u w plain h)) ∙ value_at-children q.index u k
 
 -- under the key of the child that is put there is that child

@@ -5,6 +5,7 @@ pub mod Placed
 pub mod Orderings
 pub mod ReplayLaws
 pub mod RunLaws
+pub mod SeenLaws
 pub mod TellLaws
 pub mod TouchLaws
 pub mod TreeLaws

@@ -13,7 +13,7 @@ ghost use Rattle.rt_view.specs.Changes.{changes};
 ghost use Rattle.rt_view.specs.inside.Windows.{Entries};
 ghost use Rattle.rt_view.specs.inside.Kept.{IsWindowOf, NotesAll, SetsChild, SetsNoted, changes_to};
 ghost use Rattle.rt_view.specs.inside.Kept.{removed_of, shown_by};
-ghost use Rattle.rt_view.specs.inside.Telling.{AreSeen, IsFit, IsSeen, given_of, keys_in, was_in};
+ghost use Rattle.rt_view.specs.inside.Telling.{AreSeen, IsFit, IsSeen, given_of, keys_in};
 ghost use Rattle.rt_view.specs.declared.window.Window.{Window};
 
 use crate::change::Change;
@@ -21,7 +21,7 @@ use crate::change_list::ChangeList;
 use crate::kind::Kind;
 use crate::place::{drop_child, put_child};
 use crate::position::Position;
-use crate::told::{Seen, Told, Was, find_all_told, see_all, was_at_all};
+use crate::told::{Seen, Told, find_all_told, see_all, was_at_all};
 use crate::window::Window;
 use rt_order::Index;
 use rt_query::Query;
@@ -197,17 +197,16 @@ pub fn tell_plain(
     query: &Query,
     known: &Tree,
     window: &Window,
-    was: &[Was],
+    seen: &[Seen],
     leaf: Option<&Leaf>,
 ) -> Result<ChangeList, AllocError>
     requires kept { IsWindowOf query.now known.now window.now }
     requires plain { is_filtered query.now ≡ false }
-    ensures { IfOk result (λ list. (t : PathTree) (ks : List Key) → was.now ≡ was_in t ks
-        → NotesAll query.now.index ks t window.now → leaf_of t ≡ option_copied leaf.entry
+    ensures { IfOk result (λ list. (t : PathTree) → AreSeen query.now.index t window.now seen.now
+        → leaf_of t ≡ option_copied leaf.entry
         → list ≡ changes query.now.index (Some (shown_by query.now.index t))
         (select query.now known.now)) }
 {
-    let found = see_all(alloc, query, known, window, was)?;
-    let rows = row_changes(alloc, query, window, found.as_slice())?;
+    let rows = row_changes(alloc, query, window, seen)?;
     with_value(alloc, query, known, rows, leaf)
 }

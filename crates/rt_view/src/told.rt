@@ -1,14 +1,16 @@
 // What is told of the noted children, each found once.
 ghost use Rattle.std.specs.Prelude.{◌≡◌, [], map, All, IfOk, OnOk, Some};
-ghost use Rattle.std.specs.Option.{option_copied};
+ghost use Rattle.std.specs.Option.{option_copied, option_map_or};
 ghost use Rattle.std.specs.FinMap as map_of;
-ghost use Rattle.rt_tree.specs.PathTree.{PathTree, child_of};
+ghost use Rattle.std.specs.FinMap.Entries.{find};
+ghost use Rattle.std.specs.Map.{values_of};
+ghost use Rattle.rt_tree.specs.PathTree.{PathTree, child_of, key_cmp};
 ghost use Rattle.rt_tree.specs.Children.{children_of};
 ghost use Rattle.rt_order.specs.Entries.{entry, entry_cmp};
 ghost use Rattle.rt_view.specs.inside.Windows.{before};
 ghost use Rattle.rt_view.specs.inside.Kept.{IsWindowOf, gone_at, gone_from, noted_in, rows_in_tree};
 ghost use Rattle.rt_view.specs.inside.Telling.{IsFit, IsSeen, gone_too, keys_in, seen_of, told_in};
-ghost use Rattle.rt_view.specs.inside.Telling.{told_too, was_in};
+ghost use Rattle.rt_view.specs.inside.Telling.{seen_too, told_too, was_in};
 
 use crate::change::copy_key;
 use crate::place::{child_at, shown_at};
@@ -80,7 +82,7 @@ impl Drop for Noted {
 }
 
 // An equal tree, where there is one.
-fn copy_tree(alloc: Global, tree: Option<&Tree>) -> Result<Option<Tree>, AllocError>
+pub fn copy_tree(alloc: Global, tree: Option<&Tree>) -> Result<Option<Tree>, AllocError>
     ensures { IfOk result (λ copy. copy ≡ option_copied tree.entry) }
 {
     match tree {
@@ -108,21 +110,6 @@ pub fn was_at_all(alloc: Global, tree: &Tree, keys: &[Key]) -> Result<Vec<Was>, 
 {
     let mut was = Vec::with_capacity(alloc, keys.len())?;
     for key in keys {
-        was.push(was_at(alloc, tree, key)?)?;
-    }
-    Ok(was)
-}
-
-// What is shown under the keys of named children, of a tree that is shown as it is.
-pub fn was_at_named(
-    alloc: Global,
-    tree: &Tree,
-    named: &[(Key, Tree)],
-) -> Result<Vec<Was>, AllocError>
-    ensures { IfOk result (λ was. was.items ≡ was_in tree.now (map (λ c. c.0) named.now)) }
-{
-    let mut was = Vec::with_capacity(alloc, named.len())?;
-    for (key, _) in named {
         was.push(was_at(alloc, tree, key)?)?;
     }
     Ok(was)
@@ -164,6 +151,65 @@ pub fn see_all(
         seen.push(see(alloc, query, known, window, one)?)?;
     }
     Ok(seen)
+}
+
+// `insert`, without what was there.
+fn set_seen(seen: &mut BTreeMap<Key, Seen>, key: Key, one: Seen) -> Result<(), AllocError>
+    ensures { OnOk result (seen.new.entries ≡ map_of.put key_cmp key one seen.old.entries) }
+{
+    seen.insert(key, one)?;
+    Ok(())
+}
+
+// What stood at a key first: what is kept there, or this.
+fn first_old(
+    alloc: Global,
+    seen: &BTreeMap<Key, Seen>,
+    key: &Key,
+    old: Option<Tree>,
+) -> Result<Option<Tree>, AllocError>
+    ensures { IfOk result (λ first. first
+        ≡ option_map_or (λ s. s.old) (find key_cmp key.now seen.now.entries) old) }
+{
+    match seen.get(key) {
+        Some(one) => copy_tree(alloc, one.old.as_ref()),
+        None => Ok(old),
+    }
+}
+
+// Keeps that a child stands at a key now, or none, in place of the old one.
+pub fn keep_seen(
+    seen: &mut BTreeMap<Key, Seen>,
+    alloc: Global,
+    key: &Key,
+    old: Option<Tree>,
+    new: &Tree,
+) -> Result<(), AllocError>
+    ensures { OnOk result (seen.new.entries ≡ seen_too key.now old new.now seen.old.entries) }
+{
+    let old = first_old(alloc, seen, key, old)?;
+    let new = if new.is_null() {
+        None
+    } else {
+        Some(new.copy(alloc)?)
+    };
+    let one = Seen {
+        key: key.copy()?,
+        old,
+        new,
+    };
+    set_seen(seen, key.copy()?, one)
+}
+
+// What is kept, in the order of the keys.
+pub fn list_seen(alloc: Global, mut seen: BTreeMap<Key, Seen>) -> Result<Vec<Seen>, AllocError>
+    ensures { IfOk result (λ list. list.items ≡ values_of seen.entries) }
+{
+    let mut list = Vec::with_capacity(alloc, seen.len())?;
+    while let Some((_, one)) = seen.pop_first() {
+        list.push(one)?;
+    }
+    Ok(list)
 }
 
 // Puts a child that is gone in its place.

@@ -1,26 +1,27 @@
 // Named children, put into a known tree and its window.
 ghost use Rattle.std.specs.Prelude.{◌≡◌, ◌≤◌, ◌∷◌, ◌++◌, [], true, false, map, All, IfOk, OnOk, None, Some};
 ghost use Rattle.std.specs.Option.{option_copied};
-ghost use Rattle.rt_tree.specs.PathTree.{levels, put};
+ghost use Rattle.rt_tree.specs.PathTree.{PathTree, levels, put};
 ghost use Rattle.rt_query.specs.Queries.{is_filtered};
 ghost use Rattle.rt_query.specs.Select.{select, tree_of};
 ghost use Rattle.rt_view.specs.Changes.{changes};
 ghost use Rattle.rt_view.specs.Views.{with_named};
 ghost use Rattle.rt_view.specs.inside.Windows.{Becomes, IsWhole, all_of};
 ghost use Rattle.rt_view.specs.inside.Kept.{IsWindowOf, Notes, NotesBeside, brought_in, noted_too};
-ghost use Rattle.rt_view.specs.inside.Telling.{left_by, takes_place};
+ghost use Rattle.rt_view.specs.inside.Telling.{AreSeen, KeepsSeen, left_by, takes_place};
 
 use crate::alone::changes_alone;
 use crate::change_list::ChangeList;
 use crate::place::{child_at, copy_leaf, put_child};
 use crate::position::Position;
 use crate::tell::{tell_filtered, tell_plain, with_value};
-use crate::told::was_at_named;
+use crate::told::{Seen, copy_tree, keep_seen, list_seen};
 use crate::window::Window;
 use rt_order::{Index, sort_value, value_cmp};
 use rt_query::Query;
 use rt_tree::{Key, MAX_KEYS, Tree};
 use std::alloc::{AllocError, Global};
+use std::collections::BTreeMap;
 
 // Notes the key, where there is one.
 fn note(noted: &mut Vec<Key>, key: Option<Key>) -> Result<(), AllocError>
@@ -193,8 +194,58 @@ fn touch_alone(
     with_value(alloc, query, known, rows, leaf.as_ref())
 }
 
+// Puts a child in the place of the one at its key, and keeps what stood there, and what stands there now.
+// The query isn't filtered, so that is what is shown.
+fn touch_seen(
+    known: &mut Tree,
+    window: &mut Window,
+    seen: &mut BTreeMap<Key, Seen>,
+    alloc: Global,
+    query: &Query,
+    key: &Key,
+    child: &Tree,
+) -> Result<(), AllocError>
+    requires kept { IsWindowOf query.now known.old window.old }
+    requires fits { levels child.now ≤ MAX_KEYS }
+    ensures put { OnOk result (known.new ≡ put known.old (key.now ∷ []) child.now) }
+    ensures kept { OnOk result (IsWindowOf query.now known.new window.new) }
+    ensures seen { OnOk result ((t : PathTree) → KeepsSeen t known.old seen.old.entries
+        → KeepsSeen t known.new seen.new.entries) }
+{
+    let mut crossed = Vec::new(alloc);
+    let old = copy_tree(alloc, child_at(known, key))?;
+    take_out(window, &mut crossed, alloc, query, key, old.as_ref(), child)?;
+    bring_in(window, &mut crossed, alloc, query, key, child)?;
+    put_child(known, alloc, key, child)?;
+    keep_seen(seen, alloc, key, old, child)
+}
+
+// Puts the named children in their places. What stood and what stands at each key is kept, in the order
+// of the keys; the query isn't filtered, so that is all that is shown otherwise.
+fn touch_each(
+    known: &mut Tree,
+    window: &mut Window,
+    alloc: Global,
+    query: &Query,
+    named: &[(Key, Tree)],
+) -> Result<Vec<Seen>, AllocError>
+    requires kept { IsWindowOf query.now known.old window.old }
+    requires fits { All (λ c. levels c.1 ≤ MAX_KEYS) named.now }
+    ensures put { OnOk result (known.new ≡ with_named known.old named.now) }
+    ensures kept { OnOk result (IsWindowOf query.now known.new window.new) }
+    ensures seen { IfOk result (λ seen. is_filtered query.now ≡ false
+        → AreSeen query.now.index known.old window.new seen.items) }
+{
+    let mut seen = BTreeMap::new(alloc);
+    for (key, child) in named {
+        touch_seen(known, window, &mut seen, alloc, query, key, child)?;
+    }
+    list_seen(alloc, seen)
+}
+
 // Puts the named children in their places, and tells what changes. The query isn't filtered, so the
-// known tree is what is shown, and crosses no limit: the named children are all that change.
+// known tree is what is shown, and crosses no limit: the named children are all that change. Each is
+// found once.
 pub fn touch_plain(
     known: &mut Tree,
     window: &mut Window,
@@ -215,10 +266,9 @@ pub fn touch_plain(
             return touch_alone(known, window, alloc, query, &first.0, &first.1);
         }
     }
-    let was = was_at_named(alloc, known, named)?;
     let leaf = copy_leaf(alloc, known)?;
-    drop(touch_all(known, window, alloc, query, named)?);
-    tell_plain(alloc, query, known, window, was.as_slice(), leaf.as_ref())
+    let seen = touch_each(known, window, alloc, query, named)?;
+    tell_plain(alloc, query, known, window, seen.as_slice(), leaf.as_ref())
 }
 
 // Puts the named children in their places, and tells what changes. What a filtered query shows stands

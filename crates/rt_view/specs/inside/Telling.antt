@@ -1,10 +1,12 @@
 -- What is told of the noted children, each found once.
 use Rattle.std.specs.Prelude.{◌≡◌, ◌≤◌, Bool, false, not, ◌&&◌, if◌then◌else◌, List, map, Option}
-use Rattle.std.specs.Prelude.{Some, None, IfSome}
+use Rattle.std.specs.Prelude.{Some, None, IfSome, T}
 use Rattle.std.specs.List.{All, filter}
 use Rattle.std.specs.Ordering.{is_eq}
 use Rattle.std.specs.FinMap as map_of
-use Rattle.rt_tree.specs.PathTree.{Key, PathTree, is_null, levels, child_of}
+use Rattle.std.specs.FinMap.Entries.{find, is_sorted}
+use Rattle.std.specs.Option.{option_map_or}
+use Rattle.rt_tree.specs.PathTree.{Key, PathTree, key_cmp, is_null, non_null, levels, child_of}
 use Rattle.rt_tree.specs.Children.{children_of}
 use Rattle.rt_order.specs.declared.index.Index.{Index}
 use Rattle.rt_order.specs.Entries.{Entry, entry, entry_cmp, sort_value}
@@ -57,6 +59,31 @@ IsFit s = IfSome s.new (λ t. (is_null t ≡ false) × (levels t ≤ 32))
 pub record AreSeen (index : Index) (t : PathTree) (window : Window) (seen : List Seen) : Type 0 where
   pub each : All (IsSeen t window.shown.entries) seen
   pub notes : NotesAll index (keys_in seen) t window
+
+-- ---- what is kept by each key that is touched
+
+-- what stood at a key of one tree, and what stands there in another one
+abbrev pub seen_at : PathTree → PathTree → Key → Seen
+seen_at t u k = record {
+  key = k;
+  old = child_of (children_of t) k;
+  new =
+      child_of (children_of u) k;
+}
+
+-- at one key more stands another child, or none, in place of this one; what stood there first stays
+abbrev pub seen_too : Key → Option PathTree → PathTree → List (Key × Seen) → List (Key × Seen)
+seen_too k old new es = map_of.put key_cmp k
+    (record { key = k; old = option_map_or (λ s. s.old) (find key_cmp k es) old; new = non_null new }) es
+
+-- what is kept by a key says what stood and stands there; where nothing is kept that is the same
+abbrev pub IsKeptBy : PathTree → PathTree → Key → Option Seen → Type 0
+IsKeptBy t u k None = child_of (children_of u) k ≡ child_of (children_of t) k
+IsKeptBy t u k (Some s) = s ≡ seen_at t u k
+
+pub record KeepsSeen (t u : PathTree) (es : List (Key × Seen)) : Type 0 where
+  pub rises : T (is_sorted key_cmp es)
+  pub each : (k : Key) → IsKeptBy t u k (find key_cmp k es)
 
 -- ---- a child that is shown now
 

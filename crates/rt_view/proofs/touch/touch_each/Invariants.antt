@@ -1,0 +1,10 @@
+use Rattle.std.proofs.Common.{◌≡◌, drop}
+use Rattle.rt_view.specs.Views.{with_named}
+use Rattle.rt_view.specs.inside.Kept.{IsWindowOf}
+use Rattle.rt_view.specs.inside.Telling.{KeepsSeen}
+use Rattle.rt_view.proofs.touch.touch_each.Given as goal
+
+abbrev pub invariant-loop-key : goal.invariant-loop-key
+invariant-loop-key l = (IsWindowOf l.query l.known l.window)
+    × (with_named l.known (drop l.key-index l.named) ≡ with_named l.initial.known l.named)
+    × KeepsSeen l.initial.known l.known l.seen.entries
