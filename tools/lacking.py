@@ -126,7 +126,7 @@ def in_copies(row, program, library, first, last, room=0):
 # ---- of tests
 
 
-TESTS = ("rt_map", "tests::a_refusal_changes_nothing"), ("rt_hub", "tests::a_refusal_is_said")
+TESTS = ("rt_tests", "maps::a_refusal_changes_nothing"), ("rt_tests", "hubs::a_refusal_is_said")
 
 
 def ends_of_test(program, test, library, number):
@@ -151,7 +151,7 @@ def test_part(copy, crate, test):
             ends = list(pool.map(lambda it: ends_of_test(program, test, library, it), numbers))
             wrong = [f"allocation {number} refused: status {status}" for number, (status, _) in zip(numbers, ends) if status]
             count, is_there = count + sum(it for _, it in ends), ends[-1][1]
-    part(f"{crate}: {count} allocations of a test refused, each of them", some_of(wrong, count), clock)
+    part(f"{crate}: {count} allocations of the test {test} refused, each of them", some_of(wrong, count), clock)
 
 
 def tests_part(copy):

@@ -114,6 +114,12 @@ def shown(port, path="/"):
     return found
 
 
+def ticks(pid):
+    """How much of the processor's time a program has taken, in hundredths of a second or so."""
+    with open(f"/proc/{pid}/stat", encoding="utf-8") as it:
+        return sum(map(int, it.read().rsplit(")", 1)[1].split()[11:13]))
+
+
 # ---- each session
 
 
@@ -136,14 +142,14 @@ def clients_see_each_other(program, _room):
 
 
 def strays_are_told(program, _room):
-    """What is no message is passed over and told with its code, and a refusal is told."""
+    """What is no message is passed over and told with its code, and a refusal is told, and nothing else that is sent."""
     with Emulator(program, "--deny", "/s", "--deny", "/t") as it:
         client = Client(it.port)
         client.frame(TEXT, b"x")
         client.frame(BINARY, b"x")
         client.frame(PING, b"hi")
         must("a ping", client.stream.read(4), b"\x8a\x02hi")
-        must("a denied write", client.ask(put(1, "/s/x", 1), 1), [(TEXT, {"id": 1, "k": "no", "why": "denied"})])
+        must("a denied write", client.ask(put(1234, "/s/x", 1), 1), [(TEXT, {"id": 1234, "k": "no", "why": "denied"})])
         must("a denied listen", client.ask({**LISTEN, "path": "/t"}, 1), [(TEXT, {"k": "revoke", "tag": 1, "why": "denied"})])
         long = {"id": 2, "k": "put", "path": "/a", "value": "y" * 65_537}
         say(client, long)
@@ -154,6 +160,7 @@ def strays_are_told(program, _room):
         must("how it ends", it.end(), (0, b""))
         for part in ("passed over: 1 NotJson", "a binary message is passed over", "passed over: 4 BadTree", '"k":"no"', '"k":"revoke"'):
             it.tells("connection 1", part, seconds=1)
+        must("how many messages to it are told", sum("is sent" in line for line in it.told()), 2)
 
 
 def versions_are_kept_apart(program, _room):
@@ -192,26 +199,28 @@ def broken_ones_are_told_why(program, _room):
         must("what the others are sent at its end", other.stream.read(), b"\x88\x02\x03\xe9")
 
 
+def answered(stream, *origins):
+    """How the answer to a handshake begins that names these origins."""
+    lines = ["GET / HTTP/1.1", "Host: x", "Upgrade: websocket", "Connection: Upgrade", "Sec-WebSocket-Version: 13"]
+    lines += ["Sec-WebSocket-Key: dGhlIHNhbXBsZSBub25jZQ==", *(f"Origin: {origin}" for origin in origins), "", ""]
+    stream.sendall("\r\n".join(lines).encode())
+    return stream.recv(12)
+
+
 def origins_are_asked_for(program, _room):
     """A page of another machine may connect only where it is allowed."""
+    may = ["http://localhost", "http://localhost:3000", "http://127.0.0.1", "https://127.0.0.1:8443", "http://[::1]:80", "https://app.example"]
+    may_not = ["http://evil.example", "http://localhost.evil.example", "http://127.0.0.10", "http://localhost:", "http://localhost:80x"]
+    may_not += ["file://localhost", "ftp://localhost", "", "https://app.example:1"]
     with Emulator(program, "--origin", "https://app.example", "--origin", "null") as it:
-        wanted = {
-            "http://localhost:3000": 101,
-            "http://127.0.0.1": 101,
-            "https://app.example": 101,
-            "null": 101,
-            "http://evil.example": 403,
-            "http://localhost.evil.example": 403,
-            "https://app.example:1": 403,
-        }
-        for origin, status in wanted.items():
+        wanted = [([it], 101) for it in [*may, "null"]] + [([it], 403) for it in may_not]
+        for origins, status in [*wanted, ([], 101), (["http://localhost", "https://app.example"], 403)]:
             with socket.create_connection(("127.0.0.1", it.port), timeout=SECONDS) as stream:
-                lines = ["GET / HTTP/1.1", "Host: x", "Upgrade: websocket", "Connection: Upgrade", "Sec-WebSocket-Version: 13"]
-                lines += ["Sec-WebSocket-Key: dGhlIHNhbXBsZSBub25jZQ==", f"Origin: {origin}", "", ""]
-                stream.sendall("\r\n".join(lines).encode())
-                must(f"a page of {origin}", stream.recv(12), b"HTTP/1.1 %d" % status)
+                must(f"a page of {origins}", answered(stream, *origins), b"HTTP/1.1 %d" % status)
         it.tells("is no WebSocket: a page of http://evil.example may not connect")
         must("how it ends", it.end(), (0, b""))
+    with Emulator(program) as it, socket.create_connection(("127.0.0.1", it.port), timeout=SECONDS) as stream:
+        must("a page of no place", answered(stream, "null"), b"HTTP/1.1 403")
 
 
 def writers_that_go_are_heard(program, _room):
@@ -285,8 +294,8 @@ def floods_hold_nobody_up(program, _room):
 
 def silent_ones_are_ended(program, _room):
     """One that shakes no hands is ended after 10 seconds; one that says nothing is sent a ping after 30, and ended 30 later; one that
-    answers the ping stays."""
-    with Emulator(program) as it:
+    answers the ping stays. The first is none of the connections that have gone. Between all this the program sleeps."""
+    with Emulator(program, "--count", "2") as it:
         begun = time.monotonic()
         hanging = socket.create_connection(("127.0.0.1", it.port), timeout=90)
         hanging.sendall(b"GET / HTTP/1.1\r\n")
@@ -298,6 +307,8 @@ def silent_ones_are_ended(program, _room):
             raise Wrong(f"a hanging handshake was ended after {time.monotonic() - begun:.1f} s")
         it.tells("is no WebSocket: no handshake in 10000 ms")
         must("what a silent one is sent", silent.stream.read(2), bytes([PING, 0]))
+        if not 29 < time.monotonic() - begun < 45:
+            raise Wrong(f"a silent client was sent a ping after {time.monotonic() - begun:.1f} s")
         must("what another is sent", alive.stream.read(2), bytes([PING, 0]))
         alive.frame(PONG, b"")
         must("what comes of one that answers no ping", silent.stream.read(), b"")
@@ -308,7 +319,10 @@ def silent_ones_are_ended(program, _room):
         while alive.stream.peek(1)[:1] == bytes([PING]):  # the next one is due by then
             alive.stream.read(2)
         must("a write of one that answered", alive.text(), ok(1))
-        must("how it ends", it.end(), (0, b""))
+        if ticks(it.ran.pid) > 100:
+            raise Wrong(f"an emulator of silent clients has taken {ticks(it.ran.pid)} ticks in a minute")
+        must("a close", alive.close()[-len(CLOSED) :], CLOSED)
+        must("how it ends with the second that has gone", it.ended(), (0, b""))
 
 
 def descriptors_come_back(program, _room):
@@ -344,6 +358,11 @@ def file_is_kept(program, room):
         it.ran.wait(SECONDS)
     with Emulator(program, "--file", file) as it:
         must("what is there after a kill", len(shown(it.port, "/c")), 40_000)
+        must("how it ends", it.end(), (0, b""))
+    with open(file, "w", encoding="utf-8") as out:
+        out.write('{"a":{"x":1},"b":[2]}')
+    with Emulator(program, "--file", file) as it:
+        must("what is there of a file that somebody else wrote", shown(it.port), {"a": {"x": 1}, "b": {"0": 2}})
         must("how it ends", it.end(), (0, b""))
     with open(file, "w", encoding="utf-8") as out:
         out.write("[1")

@@ -11,7 +11,7 @@ import time
 
 from connecting import READ_FAULT, WRITE_FAULT
 from cutting import Wrong, must
-from emulating import Emulator, asked, ok, put, shown
+from emulating import Emulator, asked, ok, put, shown, ticks
 from frames import BINARY, CLOSE, PING, SECONDS, Client, Server, frame, free_port, text
 from session import HELLO, broken, listen, stop
 from session import data as pushed
@@ -200,12 +200,6 @@ def it_ends_when_it_is_quiet(program):
         it.tells("connection 1 ends: the client closed it")
         must("what it left", shown(it.port), {"a": {"x": 5}})
         must("how the emulator ends", it.end(), (0, b""))
-
-
-def ticks(pid):
-    """How much of the processor's time a program has taken, in hundredths of a second or so."""
-    with open(f"/proc/{pid}/stat", encoding="utf-8") as it:
-        return sum(map(int, it.read().rsplit(")", 1)[1].split()[11:13]))
 
 
 def an_idle_one_sleeps(program):

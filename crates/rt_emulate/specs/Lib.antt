@@ -1,7 +1,10 @@
 -- What a reader has to believe: the definitions that public contracts name. In reading order:
 --     Emulating  what an emulator is to do
+--     Origins    which web pages may connect
 --     Faults     the numbers and names of faults
--- inside/ has what only the code's own functions need.
+-- laws/ has rows that the prover computes (Examples); inside/ has what only the code's own functions need.
 pub mod Emulating
 pub mod Faults
 pub mod inside
+pub mod laws
+pub mod Origins

@@ -90,7 +90,8 @@ impl fmt::Display for Ending {
             },
             Ending::Over => write!(
                 f,
-                "it is too slow: more than {MAX_WAITING_MESSAGES} messages or {MAX_WAITING_BYTES} bytes wait for it"
+                "it is too slow: more than {MAX_WAITING_MESSAGES} messages or {MAX_WAITING_BYTES} \
+                 bytes wait for it"
             ),
             Ending::Silent => write!(
                 f,

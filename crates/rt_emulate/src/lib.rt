@@ -14,6 +14,7 @@
 mod emulating;
 mod emulator;
 mod ending;
+mod examples;
 mod fault;
 mod guest;
 mod guests;
@@ -22,11 +23,10 @@ mod origin;
 mod silence;
 mod socket;
 mod telling;
-#[cfg(test)]
-mod tests;
 mod whole;
 
 pub use emulating::Emulating;
 pub use emulator::{Emulator, Stopper};
+pub use examples::origin_examples;
 pub use fault::EmulateFault;
 pub use silence::{HANDSHAKE_MS, SILENCE_MS};

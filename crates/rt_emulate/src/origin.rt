@@ -1,39 +1,75 @@
 // Which web pages may connect.
+ghost use Rattle.std.specs.Prelude.{◌≡◌, map, string_bytes};
+ghost use Rattle.std.specs.Char.{is_ascii_digit};
+ghost use Rattle.std.specs.List.{list_all, list_any};
+ghost use Rattle.std.specs.Str.{bytes_eq};
+ghost use Rattle.rt_emulate.specs.Origins.{is_local, is_page_of, is_port, may_connect};
+
 use http::{HeaderValue, Request, Response, StatusCode};
 use std::alloc::{AllocError, Global};
 use tungstenite::handshake::server::{Callback, ErrorResponse};
 
-// The hosts that are this machine.
-const HOSTS: [&str; 3] = ["localhost", "127.0.0.1", "[::1]"];
+// Whether there are digits alone.
+fn are_digits(text: &[u8]) -> bool
+    ensures { result ≡ list_all is_ascii_digit text.now }
+{
+    for byte in text {
+        if !byte.is_ascii_digit() {
+            return false;
+        }
+    }
+    true
+}
 
 // Whether nothing or a port stands there.
-fn is_port(text: &str) -> bool {
-    match text.strip_prefix(':') {
-        Some(digits) => !digits.is_empty() && digits.bytes().all(|byte| byte.is_ascii_digit()),
-        None => text.is_empty(),
+fn is_port(text: &[u8]) -> bool
+    ensures { result ≡ is_port text.now }
+{
+    match text.split_first() {
+        Some((colon, digits)) => *colon == b':' && !digits.is_empty() && are_digits(digits),
+        None => true,
+    }
+}
+
+// Whether an origin is a page of that place, at any port.
+fn is_page_of(place: &str, origin: &str) -> bool
+    ensures { result ≡ is_page_of place.now origin.now }
+{
+    match origin.as_bytes().strip_prefix(place.as_bytes()) {
+        Some(port) => is_port(port),
+        None => false,
     }
 }
 
 /// Whether an origin, as a browser writes it, is a page of this machine.
-pub(crate) fn is_local(origin: &str) -> bool {
-    let place = match origin.strip_prefix("http://") {
-        Some(place) => place,
-        None => match origin.strip_prefix("https://") {
-            Some(place) => place,
-            None => return false,
-        },
-    };
-    for host in HOSTS {
-        if let Some(port) = place.strip_prefix(host) {
-            return is_port(port);
+pub(crate) fn is_local(origin: &str) -> bool
+    ensures { result ≡ is_local origin.now }
+{
+    is_page_of("http://localhost", origin)
+        || is_page_of("https://localhost", origin)
+        || is_page_of("http://127.0.0.1", origin)
+        || is_page_of("https://127.0.0.1", origin)
+        || is_page_of("http://[::1]", origin)
+        || is_page_of("https://[::1]", origin)
+}
+
+// Whether an origin is one of those that are allowed.
+fn is_among(origin: &str, allowed: &[String]) -> bool
+    ensures { result ≡ list_any (λ one. bytes_eq one origin.now) (map string_bytes allowed.now) }
+{
+    for one in allowed {
+        if one.as_str() == origin {
+            return true;
         }
     }
     false
 }
 
 /// Whether a page of that origin may connect: it is of this machine, or one of those that are allowed.
-pub(crate) fn may_connect(origin: &str, allowed: &[String]) -> bool {
-    is_local(origin) || allowed.iter().any(|one| one.as_str() == origin)
+pub(crate) fn may_connect(origin: &str, allowed: &[String]) -> bool
+    ensures { result ≡ may_connect origin.now (map string_bytes allowed.now) }
+{
+    is_local(origin) || is_among(origin, allowed)
 }
 
 /// The pages of other machines that may connect, for one handshake.

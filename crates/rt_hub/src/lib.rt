@@ -22,8 +22,6 @@ mod hub;
 mod laws;
 mod line;
 mod lines;
-#[cfg(test)]
-mod tests;
 
 pub use bounds::{Bounds, MAX_WAITING_BYTES, MAX_WAITING_MESSAGES};
 pub use examples::line_examples;

@@ -15,8 +15,6 @@ mod row;
 mod share;
 mod shown;
 mod table;
-#[cfg(test)]
-mod tests;
 
 pub use iter::{Iter, Keys, Values};
 pub use map::OrdMap;

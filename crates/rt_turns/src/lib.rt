@@ -16,8 +16,6 @@ mod hand;
 mod leaving;
 mod take;
 mod telling;
-#[cfg(test)]
-mod tests;
 
 pub use door::{Door, Flushed, Heard};
 pub use hand::{Handed, ROUNDS, hand_over};

@@ -1,5 +1,5 @@
 // What no clause of a hub says: that its calls succeed with memory, and that one that lacks it says so.
-use crate::{Bounds, Hub, Taken};
+use rt_hub::{Bounds, Hub, Taken};
 use rt_peer::PeerError;
 use rt_tree::Tree;
 use std::alloc::Global;

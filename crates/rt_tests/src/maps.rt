@@ -1,14 +1,20 @@
 // What no clause of a map says: that its calls succeed, how it prints, and what is left where memory lacks.
-use crate::{OrdMap, Share};
+use rt_map::{OrdMap, Share};
 use std::alloc::{AllocError, Global};
 use std::collections::BTreeMap;
 use std::test::Fail;
 
-impl Share for u64 {
-    fn share(&self) -> Result<u64, AllocError> {
+// A number, which is its own copy.
+#[derive(Clone, Copy, Debug, PartialEq, Eq, PartialOrd, Ord)]
+struct Number(u64);
+
+impl Share for Number {
+    fn share(&self) -> Result<Number, AllocError> {
         Ok(*self)
     }
 }
+
+type Map = OrdMap<Number, Number>;
 
 #[test]
 fn changes_as_a_map_of_std(rt: HostRuntime) -> Result<(), Fail> {
@@ -20,16 +26,16 @@ fn changes_as_a_map_of_std(rt: HostRuntime) -> Result<(), Fail> {
         seed = seed
             .wrapping_mul(6364136223846793005)
             .wrapping_add(1442695040888963407);
-        let key = seed / 65536 % 3000;
+        let (key, value) = (Number(seed / 65536 % 3000), Number(round));
         let held = map.copy()?;
         if seed / 1048576 % 3 == 0 {
             assert_eq!(rt; map.remove(&key)?, tree.remove(&key));
         } else if seed / 1048576 % 7 == 1 && map.get(&key).is_some() {
-            let value = map.get_mut(&key)?;
-            *value = round;
-            drop(tree.insert(key, round)?);
+            let place = map.get_mut(&key)?;
+            *place = value;
+            drop(tree.insert(key, value)?);
         } else {
-            assert_eq!(rt; map.insert(alloc, key, round)?, tree.insert(key, round)?);
+            assert_eq!(rt; map.insert(alloc, key, value)?, tree.insert(key, value)?);
         }
         drop(held);
         assert_eq!(rt; map.len(), tree.len());
@@ -44,16 +50,16 @@ fn changes_as_a_map_of_std(rt: HostRuntime) -> Result<(), Fail> {
 }
 
 // The first n even numbers, each with its half.
-fn halves(alloc: Global, n: u64) -> Result<OrdMap<u64, u64>, AllocError> {
+fn halves(alloc: Global, n: u64) -> Result<Map, AllocError> {
     let mut map = OrdMap::new(alloc)?;
     for half in 0..n {
-        drop(map.insert(alloc, half.wrapping_mul(2), half)?);
+        drop(map.insert(alloc, Number(half.wrapping_mul(2)), Number(half))?);
     }
     Ok(map)
 }
 
 // A map of the same entries at once, which shares no part with the other.
-fn made_anew(alloc: Global, map: &OrdMap<u64, u64>) -> Result<OrdMap<u64, u64>, AllocError> {
+fn made_anew(alloc: Global, map: &Map) -> Result<Map, AllocError> {
     let mut entries = Vec::new(alloc);
     for (key, value) in map {
         entries.push((*key, *value))?;
@@ -68,18 +74,18 @@ fn small_and_large(rt: HostRuntime) -> Result<(), Fail> {
     assert!(rt; empty.is_empty());
     assert_eq!(rt; empty.first(), None);
     assert_eq!(rt; empty.last(), None);
-    assert_eq!(rt; empty.remove(&7)?, None);
+    assert_eq!(rt; empty.remove(&Number(7))?, None);
     let small = halves(alloc, 3)?;
-    assert!(rt; small.contains_key(&4));
+    assert!(rt; small.contains_key(&Number(4)));
     assert_eq!(rt;
         format!(in alloc; "{small:?}")?.as_str(),
-        "{0: 0, 2: 1, 4: 2}"
+        "{Number(0): Number(0), Number(2): Number(1), Number(4): Number(2)}"
     );
     let large = halves(alloc, 2500)?;
-    assert_eq!(rt; large.first(), Some((&0, &0)));
-    assert_eq!(rt; large.last(), Some((&4998, &2499)));
-    assert_eq!(rt; large.keys().next(), Some(&0));
-    assert_eq!(rt; large.values().next(), Some(&0));
+    assert_eq!(rt; large.first(), Some((&Number(0), &Number(0))));
+    assert_eq!(rt; large.last(), Some((&Number(4998), &Number(2499))));
+    assert_eq!(rt; large.keys().next(), Some(&Number(0)));
+    assert_eq!(rt; large.values().next(), Some(&Number(0)));
     Ok(())
 }
 
@@ -88,8 +94,8 @@ fn is_made_alike(alloc: Global, n: u64) -> Result<bool, AllocError> {
     let mut map = halves(alloc, n)?;
     let mut made = made_anew(alloc, &map)?;
     let is_alike = made == map && made.len() == map.len();
-    drop(map.insert(alloc, n | 1, 0)?);
-    drop(made.insert(alloc, n | 1, 0)?);
+    drop(map.insert(alloc, Number(n | 1), Number(0))?);
+    drop(made.insert(alloc, Number(n | 1), Number(0))?);
     Ok(is_alike && made == map)
 }
 
@@ -111,11 +117,11 @@ fn a_copy_stays(rt: HostRuntime) -> Result<(), Fail> {
     let map = halves(alloc, 2500)?;
     let mut other = map.copy()?;
     assert!(rt; map == other);
-    drop(other.insert(alloc, 1200, 7)?);
+    drop(other.insert(alloc, Number(1200), Number(7))?);
     assert!(rt; map != other);
-    drop(other.insert(alloc, 1200, 600)?);
+    drop(other.insert(alloc, Number(1200), Number(600))?);
     assert!(rt; map == other);
-    drop(other.remove(&4998)?);
+    drop(other.remove(&Number(4998))?);
     assert!(rt; map != other);
     Ok(())
 }
@@ -123,9 +129,9 @@ fn a_copy_stays(rt: HostRuntime) -> Result<(), Fail> {
 // A map that shares all its parts with the other, or none.
 fn alike(
     alloc: Global,
-    map: &OrdMap<u64, u64>,
+    map: &Map,
     is_held: bool,
-) -> Result<OrdMap<u64, u64>, AllocError> {
+) -> Result<Map, AllocError> {
     if is_held {
         map.copy()
     } else {
@@ -136,21 +142,21 @@ fn alike(
 // Whether an insert changes the map just where it is not refused.
 fn insert_is_whole(
     alloc: Global,
-    held: &OrdMap<u64, u64>,
+    held: &Map,
     is_held: bool,
-    key: u64,
+    key: Number,
 ) -> Result<bool, AllocError> {
     let mut map = alike(alloc, held, is_held)?;
-    let is_done = map.insert(alloc, key, u64::MAX).is_ok();
+    let is_done = map.insert(alloc, key, Number(u64::MAX)).is_ok();
     Ok(is_done != (map == *held))
 }
 
 // The same of a removal.
 fn remove_is_whole(
     alloc: Global,
-    held: &OrdMap<u64, u64>,
+    held: &Map,
     is_held: bool,
-    key: u64,
+    key: Number,
 ) -> Result<bool, AllocError> {
     let mut map = alike(alloc, held, is_held)?;
     let is_done = map.remove(&key).is_ok();
@@ -160,9 +166,9 @@ fn remove_is_whole(
 // And of a value that is written in its place.
 fn write_is_whole(
     alloc: Global,
-    held: &OrdMap<u64, u64>,
+    held: &Map,
     is_held: bool,
-    key: u64,
+    key: Number,
 ) -> Result<bool, AllocError> {
     let mut map = alike(alloc, held, is_held)?;
     if !map.contains_key(&key) {
@@ -170,7 +176,7 @@ fn write_is_whole(
     }
     let is_done = match map.get_mut(&key) {
         Ok(value) => {
-            *value = u64::MAX;
+            *value = Number(u64::MAX);
             true
         }
         Err(_) => false,
@@ -181,9 +187,9 @@ fn write_is_whole(
 // Whether each change is whole or refused, of a map of the first n even numbers.
 fn is_whole_or_refused(alloc: Global, n: u64, is_held: bool) -> Result<bool, AllocError> {
     let held = halves(alloc, n)?;
-    let middle = n / 4 * 2;
-    let is_inserted = insert_is_whole(alloc, &held, is_held, middle | 1)?
-        && insert_is_whole(alloc, &held, is_held, u64::MAX)?
+    let middle = Number(n / 4 * 2);
+    let is_inserted = insert_is_whole(alloc, &held, is_held, Number(middle.0 | 1))?
+        && insert_is_whole(alloc, &held, is_held, Number(u64::MAX))?
         && insert_is_whole(alloc, &held, is_held, middle)?;
     Ok(
         is_inserted
