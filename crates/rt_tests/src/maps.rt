@@ -127,11 +127,7 @@ fn a_copy_stays(rt: HostRuntime) -> Result<(), Fail> {
 }
 
 // A map that shares all its parts with the other, or none.
-fn alike(
-    alloc: Global,
-    map: &Map,
-    is_held: bool,
-) -> Result<Map, AllocError> {
+fn alike(alloc: Global, map: &Map, is_held: bool) -> Result<Map, AllocError> {
     if is_held {
         map.copy()
     } else {
