@@ -16,36 +16,82 @@ impl Share for Number {
 
 type Map = OrdMap<Number, Number>;
 
+type StdMap = BTreeMap<Number, Number>;
+
+// The same change of both maps, which a number says: whether both answer the same.
+fn change(
+    alloc: Global,
+    map: &mut Map,
+    tree: &mut StdMap,
+    chance: u64,
+    round: u64,
+) -> Result<bool, AllocError> {
+    let (key, value) = (key_of(chance), Number(round));
+    if chance / 1048576 % 3 == 0 {
+        return Ok(map.remove(&key)? == tree.remove(&key));
+    }
+    if chance / 1048576 % 7 != 1 || !map.contains_key(&key) {
+        return Ok(map.insert(alloc, key, value)? == tree.insert(key, value)?);
+    }
+    *map.get_mut(&key)? = value;
+    drop(tree.insert(key, value)?);
+    Ok(true)
+}
+
+fn key_of(chance: u64) -> Number {
+    Number(chance / 65536 % 3000)
+}
+
+// So while somebody holds a copy, and whether both show the same there.
+fn change_beside_a_copy(
+    alloc: Global,
+    map: &mut Map,
+    tree: &mut StdMap,
+    chance: u64,
+    round: u64,
+) -> Result<bool, AllocError> {
+    let held = map.copy()?;
+    let is_same = change(alloc, map, tree, chance, round);
+    drop(held);
+    Ok(is_same? && map.len() == tree.len() && map.get(&key_of(chance)) == tree.get(&key_of(chance)))
+}
+
+// Whether both have the same entries, in the same order.
+fn have_the_same(map: &Map, tree: &StdMap) -> bool {
+    let mut entries = tree.iter();
+    for entry in map {
+        if entries.next() != Some(entry) {
+            return false;
+        }
+    }
+    entries.next().is_none()
+}
+
+// Makes so many changes by chance, up to the first after which the maps differ, and says how many it made.
+fn change_all(
+    alloc: Global,
+    map: &mut Map,
+    tree: &mut StdMap,
+    rounds: u64,
+) -> Result<u64, AllocError> {
+    let mut chance = 12345u64;
+    for round in 0..rounds {
+        chance = chance
+            .wrapping_mul(6364136223846793005)
+            .wrapping_add(1442695040888963407);
+        if !change_beside_a_copy(alloc, map, tree, chance, round)? {
+            return Ok(round);
+        }
+    }
+    Ok(rounds)
+}
+
 #[test]
 fn changes_as_a_map_of_std(rt: HostRuntime) -> Result<(), Fail> {
     let alloc = rt.alloc();
-    let mut map = OrdMap::new(alloc)?;
-    let mut tree = BTreeMap::new(alloc);
-    let mut seed = 12345u64;
-    for round in 0..20000u64 {
-        seed = seed
-            .wrapping_mul(6364136223846793005)
-            .wrapping_add(1442695040888963407);
-        let (key, value) = (Number(seed / 65536 % 3000), Number(round));
-        let held = map.copy()?;
-        if seed / 1048576 % 3 == 0 {
-            assert_eq!(rt; map.remove(&key)?, tree.remove(&key));
-        } else if seed / 1048576 % 7 == 1 && map.get(&key).is_some() {
-            let place = map.get_mut(&key)?;
-            *place = value;
-            drop(tree.insert(key, value)?);
-        } else {
-            assert_eq!(rt; map.insert(alloc, key, value)?, tree.insert(key, value)?);
-        }
-        drop(held);
-        assert_eq!(rt; map.len(), tree.len());
-        assert_eq!(rt; map.get(&key), tree.get(&key));
-    }
-    let mut entries = tree.iter();
-    for entry in map.iter() {
-        assert_eq!(rt; entries.next(), Some(entry));
-    }
-    assert_eq!(rt; entries.next(), None);
+    let (mut map, mut tree) = (OrdMap::new(alloc)?, BTreeMap::new(alloc));
+    let changes = change_all(alloc, &mut map, &mut tree, 20000)?;
+    assert_eq!(rt; (changes, have_the_same(&map, &tree)), (20000, true));
     Ok(())
 }
 
@@ -67,25 +113,37 @@ fn made_anew(alloc: Global, map: &Map) -> Result<Map, AllocError> {
     OrdMap::from_sorted(alloc, entries)
 }
 
+// Whether that map has no entry, nor one to be taken out.
+fn has_none(map: &mut Map) -> bool {
+    let is_empty = map.is_empty() && map.first().is_none() && map.last().is_none();
+    is_empty && map.remove(&Number(7)) == Ok(None)
+}
+
+// Whether it begins with 0, and ends with this key and value.
+fn has_ends(map: &Map, last: (Number, Number)) -> bool {
+    map.first() == Some((&Number(0), &Number(0)))
+        && map.last() == Some((&last.0, &last.1))
+        && map.keys().next() == Some(&Number(0))
+        && map.values().next() == Some(&Number(0))
+}
+
 #[test]
 fn small_and_large(rt: HostRuntime) -> Result<(), Fail> {
     let alloc = rt.alloc();
-    let mut empty = halves(alloc, 0)?;
-    assert!(rt; empty.is_empty());
-    assert_eq!(rt; empty.first(), None);
-    assert_eq!(rt; empty.last(), None);
-    assert_eq!(rt; empty.remove(&Number(7))?, None);
-    let small = halves(alloc, 3)?;
-    assert!(rt; small.contains_key(&Number(4)));
+    assert!(rt; has_none(&mut halves(alloc, 0)?));
+    assert!(rt; has_ends(&halves(alloc, 3)?, (Number(4), Number(2))));
+    assert!(rt; has_ends(&halves(alloc, 2500)?, (Number(4998), Number(2499))));
+    Ok(())
+}
+
+#[test]
+fn a_small_one_is_shown(rt: HostRuntime) -> Result<(), Fail> {
+    let alloc = rt.alloc();
+    let shown = format!(in alloc; "{:?}", halves(alloc, 2)?)?;
     assert_eq!(rt;
-        format!(in alloc; "{small:?}")?.as_str(),
-        "{Number(0): Number(0), Number(2): Number(1), Number(4): Number(2)}"
+        shown.as_str(),
+        "{Number(0): Number(0), Number(2): Number(1)}"
     );
-    let large = halves(alloc, 2500)?;
-    assert_eq!(rt; large.first(), Some((&Number(0), &Number(0))));
-    assert_eq!(rt; large.last(), Some((&Number(4998), &Number(2499))));
-    assert_eq!(rt; large.keys().next(), Some(&Number(0)));
-    assert_eq!(rt; large.values().next(), Some(&Number(0)));
     Ok(())
 }
 
@@ -111,18 +169,28 @@ fn made_of_entries_at_once(rt: HostRuntime) -> Result<(), Fail> {
     Ok(())
 }
 
+// Whether a map stays as it is while a copy of it is changed, changed back, and loses an entry.
+fn stays(alloc: Global, map: &Map, copy: &mut Map) -> Result<bool, AllocError> {
+    let was_equal = map == copy;
+    drop(copy.insert(alloc, Number(1200), Number(7))?);
+    let differs = map != copy;
+    drop(copy.insert(alloc, Number(1200), Number(600))?);
+    let is_equal = map == copy;
+    drop(copy.remove(&Number(4998))?);
+    Ok(
+        was_equal
+            && differs
+            && is_equal
+            && map != copy
+            && has_ends(map, (Number(4998), Number(2499))),
+    )
+}
+
 #[test]
 fn a_copy_stays(rt: HostRuntime) -> Result<(), Fail> {
     let alloc = rt.alloc();
     let map = halves(alloc, 2500)?;
-    let mut other = map.copy()?;
-    assert!(rt; map == other);
-    drop(other.insert(alloc, Number(1200), Number(7))?);
-    assert!(rt; map != other);
-    drop(other.insert(alloc, Number(1200), Number(600))?);
-    assert!(rt; map == other);
-    drop(other.remove(&Number(4998))?);
-    assert!(rt; map != other);
+    assert!(rt; stays(alloc, &map, &mut map.copy()?)?);
     Ok(())
 }
 
