@@ -14,6 +14,7 @@
 
 void *__libc_malloc(size_t size);
 void *__libc_realloc(void *old, size_t size);
+void __libc_free(void *old);
 
 enum { SECONDS = 60, MOST = 1 << 22, STOPPED = 99 };
 static const char LACKING[] = "NoMemory\n";
@@ -127,3 +128,8 @@ void *malloc(size_t size) {
 }
 
 void *realloc(void *old, size_t size) { return is_refused() ? NULL : __libc_realloc(old, size); }
+
+/* A copy ends soon, and what it would give back lies in pages that it shares: to write there would copy each of them. */
+void free(void *old) {
+    if (!is_copy) __libc_free(old);
+}
