@@ -1,6 +1,6 @@
 // The member `q` of a listen, written.
-ghost use Rattle.std.specs.Prelude.{◌≡◌, ◌≤◌, codes, IfOk, OnOk, IfSome, Some, None, option_map};
-ghost use Rattle.std.specs.Prelude.{string_bytes, if◌then◌else◌};
+ghost use Rattle.std.specs.Prelude.{◌≡◌, ◌≤◌, codes, IfOk, IsOk, OnOk, IfSome, Some, None, option_map};
+ghost use Rattle.std.specs.Prelude.{string_bytes, false, if◌then◌else◌};
 ghost use Rattle.serde_json.specs.Data.{array, string, number, unsigned, item, no_items};
 ghost use Rattle.serde_json.specs.Written.{compact_text};
 ghost use Rattle.rt_tree.specs.Key.{IsKey};
@@ -142,8 +142,9 @@ pub(crate) fn write_query(out: &mut Writer, query: &Query) -> Result<(), AllocEr
 /// The text of a listen's `q` for the query; `None` for one that is not filtered, whose listen has
 /// no `q`.
 pub fn query_text(alloc: Global, query: &Query) -> Result<Option<String>, AllocError>
-    ensures { IfOk result (λ text. option_map (λ s. string_bytes s) text
+    ensures text { IfOk result (λ text. option_map (λ s. string_bytes s) text
         ≡ (if is_filtered query.now then Some (compact_text (query_data query.now)) else None)) }
+    ensures absent { is_filtered query.now ≡ false → IsOk result }
 {
     if !query.is_filtered() {
         return Ok(None);

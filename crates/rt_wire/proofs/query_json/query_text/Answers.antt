@@ -10,8 +10,8 @@ use Rattle.rt_wire.proofs.query_json.query_text.Goals as goal
 pub text_of-requires : goal.text_of-requires
 text_of-requires c = c.in_ok-write_query.ensures.put.before ∙ c.in_ok-out.ensures.before
 
-pub returns : goal.returns
-returns c =
+pub returns-clause-text : goal.returns-clause-text
+returns-clause-text c =
     let filtered : is_filtered c.args.query.now ≡ true = first_of (search rules, grind (arith, common_steps)) in
     let d = query_data c.args.query.now in
     let writes = subst (λ ts. WritesValue d ts c.write_query.new.out.tokens) c.in_ok-out.ensures.tokens c.in_ok-write_query.ensures.put.value in
