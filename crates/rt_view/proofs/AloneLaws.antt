@@ -70,12 +70,12 @@ given_one kind index e told =
 
 -- what is told of the one key, as of noted ones
 told_noted : (index : Index) (k : Key) (shown : Entries) (n o : Option PathTree) → told_alone index k o n shown
-    ≡ map removed_of (gone_too index k (gone_at n o) []) ++ given_of Added index (told_too index (record { key = k; old = o }) shown n [])
-    ++ given_of Moved index (told_too index (record { key = k; old = o }) shown n []) ++ given_of Changed index (told_too index (record { key = k; old = o }) shown n [])
+    ≡ map removed_of (gone_too index k (gone_at n o) []) ++ given_of Added index (told_too index k o shown n [])
+    ++ given_of Moved index (told_too index k o shown n []) ++ given_of Changed index (told_too index k o shown n [])
 told_noted index k shown None None = refl
 told_noted index k shown None (Some t) = refl
 told_noted index k shown (Some v) o =
-    let one : (kind : Kind) → row_change kind index o (record { key = k; value = v }) (before (entry index (k, v)) shown) ≡ given_of kind index (told_too index (record { key = k; old = o }) shown (Some v) []) =
+    let one : (kind : Kind) → row_change kind index o (record { key = k; value = v }) (before (entry index (k, v)) shown) ≡ given_of kind index (told_too index k o shown (Some v) []) =
     λ kind. sym (given_one kind index (entry index (k, v)) (record { old = o; new = v; after = before (entry index (k, v)) shown })) in
     λ i. one Added i ++ one Moved i ++ one Changed i
 
@@ -89,12 +89,12 @@ alone_all q t w k o n listed notes was now =
     let removed : map removed_of (gone_too index k (gone_at n o) []) ≡ removals (map row_of rows) (map row_of shown) =
     (λ i. map removed_of (gone_too index k (gone_at (sym now i) (sym (value_at-children index t k ∙ was) i)) (sym (gone_nothing shown rows) i)))
     ∙ ap (map removed_of) (gone_also index [] k shown rows (listed-children index t)) ∙ removed-all index t (k ∷ []) shown (listed-children index t) notes in
-    let told : told_too index (record { key = k; old = o }) shown n [] ≡ told_in t shown (noted_in (k ∷ []) shown) =
-    (λ i. told_too index (record { key = k; old = sym was i }) shown (sym now i) (told_in t shown (sym (noted_nothing shown) i))) ∙ told_also index [] k t shown listed in
-    let all : (kind : Kind) → given_of kind index (told_too index (record { key = k; old = o }) shown n []) ≡ placed_changes (is_given kind index) (change_of kind) (map row_of rows) (map row_of shown) =
+    let told : told_too index k o shown n [] ≡ told_in t shown (noted_in (k ∷ []) shown) =
+    (λ i. told_too index k (sym was i) shown (sym now i) (told_in t shown (sym (noted_nothing shown) i))) ∙ told_also index [] k t shown listed in
+    let all : (kind : Kind) → given_of kind index (told_too index k o shown n []) ≡ placed_changes (is_given kind index) (change_of kind) (map row_of rows) (map row_of shown) =
     λ kind. ap (given_of kind index) told ∙ given_of-told kind index t shown (noted_in (k ∷ []) shown) ∙ given-all kind index t (k ∷ []) shown listed notes in
-    let each : map removed_of (gone_too index k (gone_at n o) []) ++ given_of Added index (told_too index (record { key = k; old = o }) shown n [])
-    ++ given_of Moved index (told_too index (record { key = k; old = o }) shown n []) ++ given_of Changed index (told_too index (record { key = k; old = o }) shown n [])
+    let each : map removed_of (gone_too index k (gone_at n o) []) ++ given_of Added index (told_too index k o shown n [])
+    ++ given_of Moved index (told_too index k o shown n []) ++ given_of Changed index (told_too index k o shown n [])
     ≡ changes_to index t w =
     λ i. removed i ++ all Added i ++ all Moved i ++ all Changed i in
     told_noted index k shown n o ∙ each

@@ -1,5 +1,6 @@
 pub mod AloneLaws
 pub mod Children
+pub mod CrossLaws
 pub mod Listed
 pub mod Placed
 pub mod Orderings

@@ -19,25 +19,12 @@ use Rattle.rt_order.specs.laws.EntryOrder.{entry_cmp_total, entry_cmp-IsAntisymm
 use Rattle.rt_query.specs.declared.limit.Limit.{Limit}
 use Rattle.rt_query.specs.declared.limit.Limit.TheVariants.{First, Last}
 use Rattle.rt_query.specs.Queries.{Query}
-use Rattle.rt_query.specs.Rows.{HasDistinctKeys}
 use Rattle.rt_query.specs.Select.{sorted_by, row_of}
 use Rattle.rt_view.specs.inside.Windows.{Entries, IsWindow, joined, value_at}
+pub use Rattle.rt_view.specs.inside.Windows.{IsListed, Once, Own}
 use Rattle.rt_view.specs.inside.Kept.{in_order}
 use Rattle.rt_view.proofs.ReplayLaws.{row_at-cons}
 use Rattle.rt_view.proofs.WindowLaws.{value_at-skip, value_at-puts, same_entry}
-
--- each child stands at its own entry
-abbrev pub Own : Index → Entries → Type 0
-Own index es = AllByRecursion (λ e. e.0 ≡ entry index (e.0.1, e.1)) es
-
--- no key stands twice
-abbrev pub Once : Entries → Type 0
-Once es = HasDistinctKeys (map row_of es)
-
-pub record IsListed (index : Index) (es : Entries) : Type 0 where
-  pub rises : T (is_sorted entry_cmp es)
-  pub own : Own index es
-  pub once : Once es
 
 abbrev puts : Entry → PathTree → Entries → Entries
 puts e v es = map_of.put entry_cmp e v es
@@ -258,11 +245,11 @@ none_left (x ∷ s) r k h =
     let rest = none_left s r k parts.1 in
     (value_at-skip x s k parts.0 ∙ rest.0, rest.1)
 
-own-left : (index : Index) (s r : Entries) → Own index (s ++ r) → Own index s × Own index r
+pub own-left : (index : Index) (s r : Entries) → Own index (s ++ r) → Own index s × Own index r
 own-left index [] r h = (tt, h)
 own-left index (x ∷ s) r h = let rest = own-left index s r h.1 in ((h.0, rest.0), rest.1)
 
-once-left : (s r : Entries) → Once (s ++ r) → Once s × Once r
+pub once-left : (s r : Entries) → Once (s ++ r) → Once s × Once r
 once-left [] r h = (tt, h)
 once-left (x ∷ s) r h = let rest = once-left s r h.1 in (((none_left s r x.0.1 h.0).0, rest.0), rest.1)
 

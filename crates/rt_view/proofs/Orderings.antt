@@ -1,6 +1,6 @@
 -- Children in any order, and the same ones in order.
 use Rattle.std.specs.Prelude.{T}
-use Rattle.std.proofs.Common.{◌≡◌, ℕ, zero, suc, ◌-◌, ◌<◌, ◌≤◌, ◌⊎◌, inl, inr, arith, Bool, true, false, cond, List, [], ◌∷◌, ◌++◌, map, length, take, drop, refl, sym, ap, subst, ◌∙◌, Option, Some, None}
+use Rattle.std.proofs.Common.{◌≡◌, ℕ, zero, suc, ◌-◌, ◌<◌, ◌≤◌, ◌⊎◌, inl, inr, arith, true, false, cond, List, [], ◌∷◌, ◌++◌, map, length, take, drop, refl, sym, ap, subst, ◌∙◌, Option, Some, None}
 use Rattle.std.specs.declared.cmp.Ordering.TheVariants.{Less, Equal}
 use Rattle.std.specs.Ordering.{is_lt, is_eq, eq_by_cmp}
 use Rattle.std.specs.List.{AllByRecursion}
@@ -47,7 +47,7 @@ rise (x ∷ es) h = both _ _ (rise_below x.0 es (sorted_head entry_cmp x.0 (keys
 
 -- ---- a map made of a list
 
-find_lookup : (es : Entries) (e : Entry) → lookup (is_at (entry_cmp e)) es ≡ find entry_cmp e es
+pub find_lookup : (es : Entries) (e : Entry) → lookup (is_at (entry_cmp e)) es ≡ find entry_cmp e es
 find_lookup [] e = refl
 find_lookup (x ∷ es) e = ap (cond (eq_by_cmp entry_cmp e x.0) (Some x.1)) (find_lookup es e)
 

@@ -1,6 +1,6 @@
--- What is kept by each key that is touched: what stood there first, and what stands there now.
-use Rattle.std.specs.Prelude.{T}
-use Rattle.std.proofs.Common.{◌≡◌, Bool, true, false, cond, ◌||◌, List, [], ◌∷◌, map, refl, sym, ap, subst, ◌∙◌, Option, Some, None}
+-- What is kept by each key under which something else is shown: what was shown there first, and what is shown now.
+use Rattle.std.specs.Prelude.{T, IfSome}
+use Rattle.std.proofs.Common.{◌≡◌, Bool, true, false, cond, ◌||◌, List, [], ◌∷◌, refl, sym, ap, subst, ◌∙◌, ◌≤◌, Option, Some, None, is_some}
 use Rattle.std.specs.Cmp.Lexicographic.{nat_list_cmp_total}
 use Rattle.std.specs.List.{All, AllByRecursion}
 use Rattle.std.specs.Map.{values_of}
@@ -9,21 +9,24 @@ use Rattle.std.specs.BTreeMap.{insert_entry}
 use Rattle.std.specs.Ordering.{is_eq, is_lt, match_ordering}
 use Rattle.std.specs.declared.cmp.Ordering.{Ordering}
 use Rattle.std.specs.declared.cmp.Ordering.TheVariants.{Less, Equal, Greater}
-use Rattle.std.proofs.lemmas.List.Elements.{All-cons, All-nil}
+use Rattle.std.proofs.lemmas.List.Elements.{All-cons, All-nil, All-weaker}
 use Rattle.std.specs.FinMap as map_of
 use Rattle.std.specs.FinMap.Entries.{find, is_sorted, below_all, is_sorted-put, find-put}
-use Rattle.rt_tree.specs.PathTree.{Key, PathTree, first, second, key_cmp, key_eq, key_eq-is, key_eq-same, key_eq-symm, child_of, non_null, put}
+use Rattle.rt_tree.specs.Allowed.{IsAllowed}
+use Rattle.rt_tree.specs.PathTree.{Key, PathTree, first, second, key_cmp, key_eq, key_eq-is, key_eq-same, key_eq-symm, is_null, levels, child_of}
 use Rattle.rt_tree.specs.Children.{children_of}
 use Rattle.rt_order.specs.declared.index.Index.{Index}
-use Rattle.rt_query.specs.Queries.{Query, is_filtered}
+use Rattle.rt_query.specs.Queries.{Query}
 use Rattle.rt_view.specs.declared.told.Seen.{Seen}
+use Rattle.rt_view.specs.declared.window.Turned.{Turned}
 use Rattle.rt_view.specs.declared.window.Window.{Window}
-use Rattle.rt_view.specs.inside.Windows.{value_at}
-use Rattle.rt_view.specs.inside.Kept.{IsWindowOf, is_noted, rows_in_tree}
-use Rattle.rt_view.specs.inside.Telling.{AreSeen, IsKeptBy, IsSeen, KeepsSeen, keys_in, seen_at, seen_too}
-use Rattle.rt_view.proofs.AloneLaws.{plain_value}
+use Rattle.rt_view.specs.inside.Windows.{Entries, value_at}
+use Rattle.rt_view.specs.inside.Kept.{IsWindowOf, is_noted}
+use Rattle.rt_view.specs.inside.Turns.{Comes, Leaves, Values, came_in, set_at, shown_if, went_out}
+use Rattle.rt_view.specs.inside.Telling.{AllSeen, AreSeen, IsFit, IsKeptBy, IsSeen, IsSeenOf, KeepsSeen, keys_in, seen_at, seen_in, seen_out, seen_too, seen_turned}
+use Rattle.rt_view.proofs.CrossLaws.{shown_known}
 use Rattle.rt_view.proofs.Listed.{value_at-children}
-use Rattle.rt_view.proofs.TouchLaws.{child_of-put}
+use Rattle.rt_view.proofs.TouchLaws.{child_fits}
 
 pub insert_entry-put : (es : List (Key × Seen)) (k : Key) (s : Seen) → insert_entry key_cmp es k s ≡ map_of.put key_cmp k s es
 insert_entry-put [] k s = refl
@@ -34,47 +37,109 @@ insert_entry-put (e ∷ es) k s =
       | Greater ↦ ap (λ fs. e ∷ fs) (insert_entry-put es k s)
     ]
 
-pub keeps_nothing : (t : PathTree) → KeepsSeen t t []
-keeps_nothing t = record { rises = tt; each = λ k. refl }
+pub keeps_nothing : (f : Values) → KeepsSeen f f []
+keeps_nothing f = record { rises = tt; each = λ k. refl }
 
--- ---- one child more is put
+keeps_same : (f g h : Values) (es : List (Key × Seen)) → ((j : Key) → h j ≡ g j) → KeepsSeen f g es → KeepsSeen f h es
+keeps_same f g h es same kept = record { rises = kept.rises; each = λ k. at k (find key_cmp k es) (kept.each k) }
+  where
+    at : (k : Key) (o : Option Seen) → IsKeptBy f g k o → IsKeptBy f h k o
+    at k None e = same k ∙ e
+    at k (Some s) e = e ∙ (λ i. record { key = k; old = f k; new = sym (same k) i })
 
-module _ (t u v : PathTree) (k : Key) (x : PathTree) (es : List (Key × Seen)) (h : KeepsSeen t u es) (is : v ≡ put u (k ∷ []) x) where
+-- ---- something else under one key more
+
+module _ (f g : Values) (k : Key) (n : Option PathTree) (es : List (Key × Seen)) (h : KeepsSeen f g es) where
   one : Seen
-  one = record { key = k; old = option_map_or (λ (s : Seen). s.old) (find key_cmp k es) (child_of (children_of u) k); new = non_null x }
+  one = record { key = k; old = option_map_or (λ (s : Seen). s.old) (find key_cmp k es) (g k); new = n }
 
-  below : (j : Key) → child_of (children_of v) j ≡ cond (key_eq k j) (non_null x) (child_of (children_of u) j)
-  below j = ap (λ (y : PathTree). child_of (children_of y) j) is ∙ child_of-put u k j x
-
-  own : one ≡ seen_at t v k
+  own : one ≡ seen_at f (set_at k n g) k
   unfolding one
   own =
       let old = first_old (find key_cmp k es) (h.each k) in
-      let new : non_null x ≡ child_of (children_of v) k = sym (below k ∙ ap (λ b. cond b (non_null x) (child_of (children_of u) k)) (key_eq-same k)) in
+      let new : n ≡ set_at k n g k = sym (ap (λ b. cond b n (g k)) (key_eq-same k)) in
       λ i. record { key = k; old = old i; new = new i }
     where
-      first_old : (o : Option Seen) → IsKeptBy t u k o → option_map_or (λ (s : Seen). s.old) o (child_of (children_of u) k) ≡ child_of (children_of t) k
-      first_old None g = g
-      first_old (Some s) g = ap (λ (y : Seen). y.old) g
+      first_old : (o : Option Seen) → IsKeptBy f g k o → option_map_or (λ (s : Seen). s.old) o (g k) ≡ f k
+      first_old None e = e
+      first_old (Some s) e = ap (λ (y : Seen). y.old) e
 
-  other : (j : Key) → key_eq k j ≡ false → (o : Option Seen) → IsKeptBy t u j o → IsKeptBy t v j o
-  other j e None g = below j ∙ ap (λ b. cond b (non_null x) (child_of (children_of u) j)) e ∙ g
-  other j e (Some s) g =
-      let same : child_of (children_of u) j ≡ child_of (children_of v) j = sym (below j ∙ ap (λ b. cond b (non_null x) (child_of (children_of u) j)) e) in
-      g ∙ (λ i. record { key = j; old = child_of (children_of t) j; new = same i })
+  other : (j : Key) → key_eq k j ≡ false → (o : Option Seen) → IsKeptBy f g j o → IsKeptBy f (set_at k n g) j o
+  other j e None is = ap (λ b. cond b n (g j)) e ∙ is
+  other j e (Some s) is =
+      let same : g j ≡ set_at k n g j = sym (ap (λ b. cond b n (g j)) e) in
+      is ∙ (λ i. record { key = j; old = f j; new = same i })
 
-  pub keeps_put : KeepsSeen t v (seen_too k (child_of (children_of u) k) x es)
+  pub keeps_put : KeepsSeen f (set_at k n g) (seen_too k (g k) n es)
   unfolding one
   keeps_put = record {
     rises = is_sorted-put key_cmp nat_list_cmp_total k one es h.rises;
-    each = λ j. subst (IsKeptBy t v j) (sym (find-put key_cmp nat_list_cmp_total j k one es)) (at j);
+    each = λ j. subst (IsKeptBy f (set_at k n g) j) (sym (find-put key_cmp nat_list_cmp_total j k one es)) (at j);
   }
     where
-      at : (j : Key) → IsKeptBy t v j (cond (key_eq j k) (Some one) (find key_cmp j es))
-      at j = elim (key_eq j k) as (λ b. key_eq j k ≡ b → IsKeptBy t v j (cond b (Some one) (find key_cmp j es))) [
-        | true ↦ λ e. subst (λ (i : Key). IsKeptBy t v i (Some one)) (sym (key_eq-is j k e)) own
+      at : (j : Key) → IsKeptBy f (set_at k n g) j (cond (key_eq j k) (Some one) (find key_cmp j es))
+      at j = elim (key_eq j k) as (λ b. key_eq j k ≡ b → IsKeptBy f (set_at k n g) j (cond b (Some one) (find key_cmp j es))) [
+        | true ↦ λ e. subst (λ (i : Key). IsKeptBy f (set_at k n g) i (Some one)) (sym (key_eq-is j k e)) own
         | false ↦ λ e. other j (key_eq-symm k j ∙ e) (find key_cmp j es) (h.each j)
       ] refl
+
+-- ---- a child that left its place, and one that came there
+
+kept_in : (f g : Values) (k : Key) (crossed : Option (Key × PathTree)) (es : List (Key × Seen)) → IfSome crossed (λ c. (g c.0 ≡ None) × (key_eq k c.0 ≡ false))
+    → KeepsSeen f g es → KeepsSeen f (came_in crossed g) (seen_in crossed es)
+kept_in f g k None es is h = h
+kept_in f g k (Some c) es is h = subst (λ o. KeepsSeen f (set_at c.0 (Some c.1) g) (seen_too c.0 o (Some c.1) es)) is.0 (keeps_put f g c.0 (Some c.1) es h)
+
+kept_out : (f g : Values) (crossed : Option (Key × PathTree)) (es : List (Key × Seen)) → IfSome crossed (λ c. g c.0 ≡ Some c.1)
+    → KeepsSeen f g es → KeepsSeen f (went_out crossed g) (seen_out crossed es)
+kept_out f g None es is h = h
+kept_out f g (Some c) es is h = subst (λ o. KeepsSeen f (set_at c.0 None g) (seen_too c.0 o None es)) is (keeps_put f g c.0 None es h)
+
+-- one that crosses leaves the others as they are
+still_in : (g : Values) (k : Key) (crossed : Option (Key × PathTree)) → IfSome crossed (λ c. (g c.0 ≡ None) × (key_eq k c.0 ≡ false)) → came_in crossed g k ≡ g k
+still_in g k None is = refl
+still_in g k (Some c) is = ap (λ b. cond b (Some c.1) (g k)) (key_eq-symm c.0 k ∙ is.1)
+
+same_out : (g h : Values) (crossed : Option (Key × PathTree)) → ((j : Key) → g j ≡ h j) → (j : Key) → went_out crossed g j ≡ went_out crossed h j
+same_out g h None same j = same j
+same_out g h (Some c) same j = ap (cond (key_eq c.0 j) None) (same j)
+
+out_at : (g h : Values) (crossed : Option (Key × PathTree)) → ((j : Key) → g j ≡ h j) → IfSome crossed (λ c. h c.0 ≡ Some c.1) → IfSome crossed (λ c. g c.0 ≡ Some c.1)
+out_at g h None same is = is
+out_at g h (Some c) same is = same c.0 ∙ is
+
+module _ (f : Values) (q : Query) (k : Key) (o : Option PathTree) (u : PathTree) (left came : Turned) (before mid after : Entries)
+    (leaves : Leaves q k o u left.was left.crossed before mid) (comes : Comes k u came.was came.is came.crossed mid after) (known : (x : PathTree) → value_at before k ≡ Some x → o ≡ Some x) where
+  -- what was shown at the key
+  was_there : cond (left.was || came.was) o None ≡ value_at before k
+  was_there =
+      elim left.was as (λ b. cond b o (value_at mid k) ≡ value_at before k → cond (b || came.was) o None ≡ value_at before k) [
+        | true ↦ λ e. e
+        | false ↦ λ e. at (value_at mid k) came.was comes.own e known
+      ] leaves.own
+    where
+      at : (v : Option PathTree) (b : Bool) → b ≡ is_some v → v ≡ value_at before k → ((x : PathTree) → value_at before k ≡ Some x → o ≡ Some x) → cond b o None ≡ value_at before k
+      at None b e is g = ap (λ c. cond c o None) e ∙ is
+      at (Some x) b e is g = ap (λ c. cond c o None) e ∙ g x (sym is) ∙ is
+
+  under : (j : Key) → set_at k (shown_if came.is u) (came_in left.crossed (value_at before)) j ≡ set_at k (shown_if came.is u) (value_at mid) j
+  under j = elim (key_eq k j) as (λ b. key_eq k j ≡ b → cond b (shown_if came.is u) (came_in left.crossed (value_at before) j) ≡ cond b (shown_if came.is u) (value_at mid j)) [
+    | true ↦ λ e. refl
+    | false ↦ λ e. sym (leaves.others j e)
+  ] refl
+
+  pub keeps_turned : (es : List (Key × Seen)) → KeepsSeen f (value_at before) es → KeepsSeen f (value_at after) (seen_turned k o u left came es)
+  keeps_turned es h =
+      let between : Values = came_in left.crossed (value_at before) in
+      let n = shown_if came.is u in
+      let one = kept_in f (value_at before) k left.crossed es leaves.apart h in
+      let old : between k ≡ cond (left.was || came.was) o None = still_in (value_at before) k left.crossed leaves.apart ∙ sym was_there in
+      let two : KeepsSeen f (set_at k n between) (seen_too k (cond (left.was || came.was) o None) n (seen_in left.crossed es)) =
+      subst (λ x. KeepsSeen f (set_at k n between) (seen_too k x n (seen_in left.crossed es))) old (keeps_put f between k n (seen_in left.crossed es) one) in
+      let three = kept_out f (set_at k n between) came.crossed (seen_too k (cond (left.was || came.was) o None) n (seen_in left.crossed es))
+      (out_at (set_at k n between) (set_at k n (value_at mid)) came.crossed under comes.apart) two in
+      keeps_same f (went_out came.crossed (set_at k n between)) (value_at after) (seen_turned k o u left came es)
+      (λ j. comes.all j ∙ sym (same_out (set_at k n between) (set_at k n (value_at mid)) came.crossed under j)) three
 
 -- ---- all that is kept
 
@@ -104,40 +169,49 @@ found_all (x ∷ es) h = (
   found_behind x es es (first _ _ h) (found_all es (second (below_all key_cmp x.0 es) _ h)),
 )
 
-abbrev Each : PathTree → PathTree → List (Key × Seen) → Type 0
-Each t u es = AllByRecursion (λ e. e.1 ≡ seen_at t u e.0) es
+abbrev Each : Values → Values → List (Key × Seen) → Type 0
+Each f g es = AllByRecursion (λ e. e.1 ≡ seen_at f g e.0) es
 
-each_kept : (t u : PathTree) (all es : List (Key × Seen)) → ((k : Key) → IsKeptBy t u k (find key_cmp k all)) → Found all es → Each t u es
-each_kept t u all [] h g = tt
-each_kept t u all (e ∷ es) h g = (subst (IsKeptBy t u e.0) g.0 (h e.0), each_kept t u all es h g.1)
+each_kept : (f g : Values) (all es : List (Key × Seen)) → ((k : Key) → IsKeptBy f g k (find key_cmp k all)) → Found all es → Each f g es
+each_kept f g all [] h found = tt
+each_kept f g all (e ∷ es) h found = (subst (IsKeptBy f g e.0) found.0 (h e.0), each_kept f g all es h found.1)
 
 either : (a b : Bool) → (a || b) ≡ false → (a ≡ false) × (b ≡ false)
 either true b h = cc
 either false b h = (refl, h)
 
 -- a key that isn't noted has none
-absent : (t u : PathTree) (es : List (Key × Seen)) → Each t u es → (k : Key) → is_noted (keys_in (values_of es)) k ≡ false → find key_cmp k es ≡ None
-absent t u [] h k e = refl
-absent t u (x ∷ es) h k e =
+absent : (f g : Values) (es : List (Key × Seen)) → Each f g es → (k : Key) → is_noted (keys_in (values_of es)) k ≡ false → find key_cmp k es ≡ None
+absent f g [] h k e = refl
+absent f g (x ∷ es) h k e =
     let parts = either (key_eq x.1.key k) (is_noted (keys_in (values_of es)) k) e in
     let other : key_eq k x.0 ≡ false = key_eq-symm k x.0 ∙ ap (λ (s : Seen). key_eq s.key k) (sym h.0) ∙ parts.0 in
-    ap (λ b. cond b (Some x.1) (find key_cmp k es)) other ∙ absent t u es h.1 k parts.1
+    ap (λ b. cond b (Some x.1) (find key_cmp k es)) other ∙ absent f g es h.1 k parts.1
 
-module _ (q : Query) (t u : PathTree) (w : Window) (plain : is_filtered q ≡ false) (kept : IsWindowOf q u w) where
-  is_seen : (k : Key) (s : Seen) → s ≡ seen_at t u k → IsSeen t w.shown.entries s
-  is_seen k s h = subst (IsSeen t w.shown.entries) (sym h) (refl, sym (plain_value q u w k plain kept))
+all_of_each : (before after : Entries) (es : List (Key × Seen)) → Each (value_at before) (value_at after) es → All (IsSeenOf before after) (values_of es)
+all_of_each before after [] h = All-nil (IsSeenOf before after)
+all_of_each before after (x ∷ es) h = All-cons (IsSeenOf before after) x.1 (values_of es) (subst (IsSeenOf before after) (sym h.0) refl) (all_of_each before after es h.1)
 
-  all_seen : (es : List (Key × Seen)) → Each t u es → All (IsSeen t w.shown.entries) (values_of es)
-  all_seen [] h = All-nil (IsSeen t w.shown.entries)
-  all_seen (x ∷ es) h = All-cons (IsSeen t w.shown.entries) x.1 (values_of es) (is_seen x.0 x.1 h.0) (all_seen es h.1)
+pub keeps_all : (before after : Entries) (es : List (Key × Seen)) → KeepsSeen (value_at before) (value_at after) es → AllSeen before after (values_of es)
+keeps_all before after es h =
+    let each = each_kept (value_at before) (value_at after) es es h.each (found_all es h.rises) in
+    record {
+      each = all_of_each before after es each;
+      notes = λ k e. (refl, subst (IsKeptBy (value_at before) (value_at after) k) (absent (value_at before) (value_at after) es each k e) (h.each k));
+    }
 
-  pub keeps_seen : (es : List (Key × Seen)) → KeepsSeen t u es → AreSeen q.index t w (values_of es)
-  keeps_seen es h =
-      let each = each_kept t u es es h.each (found_all es h.rises) in
-      record {
-        each = all_seen es each;
-        notes = λ k e. (
-          refl,
-          plain_value q u w k plain kept ∙ subst (IsKeptBy t u k) (absent t u es each k e) (h.each k) ∙ sym (value_at-children q.index t k),
-        );
-      }
+-- what was shown of a tree
+pub are_seen : (index : Index) (t : PathTree) (w : Window) (before : Entries) (seen : List Seen) → AllSeen before w.shown.entries seen
+    → ((k : Key) → value_at before k ≡ child_of (children_of t) k) → AreSeen index t w seen
+are_seen index t w before seen h of_tree = record {
+  each = All-weaker (IsSeenOf before w.shown.entries) (IsSeen t w.shown.entries) (λ s e. (ap (λ (y : Seen). y.old) e ∙ of_tree s.key, ap (λ (y : Seen). y.new) e)) seen h.each;
+  notes = λ k e. (refl, (h.notes k e).1 ∙ of_tree k ∙ sym (value_at-children index t k));
+}
+
+-- what is shown fits
+pub all_fit : (q : Query) (t u : PathTree) (w : Window) (seen : List Seen) → IsAllowed u → IsWindowOf q u w → All (IsSeen t w.shown.entries) seen → All IsFit seen
+all_fit q t u w seen allowed kept h = All-weaker (IsSeen t w.shown.entries) IsFit (λ s e. fit s.key s.new e.1) seen h
+  where
+    fit : (k : Key) (o : Option PathTree) → o ≡ value_at w.shown.entries k → IfSome o (λ x. (is_null x ≡ false) × (levels x ≤ 32))
+    fit k None e = tt
+    fit k (Some v) e = child_fits u k v allowed (shown_known q u w k v kept (sym e)).0

@@ -4,9 +4,8 @@ use Rattle.std.proofs.Common.{◌≡◌, ℕ, ◌+◌, ◌<◌, length, take, ge
 use Rattle.std.specs.declared.cmp.Ordering.TheVariants.{Less, Equal, Greater}
 use Rattle.std.specs.Ordering.{is_eq, is_le, is_lt}
 use Rattle.std.specs.Cmp.{tied_itself}
-use Rattle.std.specs.List.{All, AllByRecursion, filter}
+use Rattle.std.specs.List.{AllByRecursion, filter}
 use Rattle.std.proofs.lemmas.List.{map-append, take_more}
-use Rattle.std.proofs.lemmas.List.Elements.{All-cons, All-nil}
 use Rattle.std.specs.FinMap as map_of
 use Rattle.std.specs.FinMap.Entries.{by_order, is_sorted, below_all}
 use Rattle.rt_tree.specs.PathTree.{Key, PathTree, first, second, key_eq, key_eq-is, key_eq-same, child_of}
@@ -25,12 +24,10 @@ use Rattle.rt_view.specs.declared.kind.Kind.TheVariants as kind
 use Rattle.rt_view.specs.Changes.{placed, removals, placed_changes}
 use Rattle.rt_view.specs.inside.Given.{change_of, is_given}
 use Rattle.rt_view.specs.inside.Windows.{Entries, value_at, before, last_key}
-use Rattle.rt_view.specs.inside.Kept.{is_noted, Notes, NotesAll, noted_in, gone_at, gone_from, removed_of, given_in, rows_in_tree}
+use Rattle.rt_view.specs.inside.Kept.{is_noted, Notes, noted_in, gone_at, gone_from, removed_of, given_in, rows_in_tree}
 use Rattle.rt_view.specs.declared.told.Seen.{Seen}
 use Rattle.rt_view.specs.declared.told.Told.{Told}
-use Rattle.rt_view.specs.declared.told.Was.{Was}
-use Rattle.rt_view.specs.declared.window.Window.{Window}
-use Rattle.rt_view.specs.inside.Telling.{AreSeen, IsSeen, given_of, gone_too, keys_in, seen_of, told_in, told_of, told_too, was_in}
+use Rattle.rt_view.specs.inside.Telling.{given_of, gone_too, keys_in, told_in, told_of, told_too}
 use Rattle.rt_view.proofs.Listed.{IsListed, Once, same_listed, passing, listed-filter, value_at-filter, listed-puts, value_at-puts_all, puts_there, value_at-cons, value_at-children}
 use Rattle.rt_view.proofs.WindowLaws.{above_head, below_of, last_key-push}
 use Rattle.rt_view.proofs.TouchLaws.{is_noted-push}
@@ -201,38 +198,16 @@ told_in-puts t shown e v (x ∷ es) =
     ] refl
 
 -- and of the noted ones with one key more
-pub told_also : (index : Index) (ks : List Key) (k : Key) (t : PathTree) (shown : Entries) → IsListed index shown → told_too index (record { key = k; old = child_of (children_of t) k }) shown (value_at shown k) (told_in t shown (noted_in ks shown)) ≡ told_in t shown (noted_in (ks ++ k ∷ []) shown)
+pub told_also : (index : Index) (ks : List Key) (k : Key) (t : PathTree) (shown : Entries) → IsListed index shown → told_too index k (child_of (children_of t) k) shown (value_at shown k) (told_in t shown (noted_in ks shown)) ≡ told_in t shown (noted_in (ks ++ k ∷ []) shown)
 told_also index ks k t shown h = at (value_at shown k) refl
   where
-    at : (o : Option PathTree) → value_at shown k ≡ o → told_too index (record { key = k; old = child_of (children_of t) k }) shown o (told_in t shown (noted_in ks shown)) ≡ told_in t shown (noted_in (ks ++ k ∷ []) shown)
+    at : (o : Option PathTree) → value_at shown k ≡ o → told_too index k (child_of (children_of t) k) shown o (told_in t shown (noted_in ks shown)) ≡ told_in t shown (noted_in (ks ++ k ∷ []) shown)
     at None e = ap (told_in t shown) (noted_none index ks k shown h e)
     at (Some v) e = told_in-puts t shown (entry index (k, v)) v (noted_in ks shown) ∙ ap (told_in t shown) (noted_some index ks k v shown h e)
 
 -- what is shown under one key more
 pub keys_in-more : (seen : List Seen) (s : Seen) → keys_in (seen ++ s ∷ []) ≡ keys_in seen ++ s.key ∷ []
 keys_in-more seen s = map-append (λ r. r.key) seen (s ∷ [])
-
--- what is shown now beside what was shown under these keys
-seen_in : PathTree → Entries → List Key → List Seen
-seen_in t shown ks = map (seen_of shown) (was_in t ks)
-
-keys_in-seen : (t : PathTree) (shown : Entries) (ks : List Key) → keys_in (seen_in t shown ks) ≡ ks
-unfolding seen_in
-keys_in-seen t shown [] = refl
-keys_in-seen t shown (k ∷ ks) = ap (λ js. k ∷ js) (keys_in-seen t shown ks)
-
-each_seen : (t : PathTree) (shown : Entries) (ks : List Key) → All (IsSeen t shown) (seen_in t shown ks)
-unfolding seen_in
-each_seen t shown [] = All-nil (IsSeen t shown)
-each_seen t shown (k ∷ ks) = All-cons (IsSeen t shown) (record { key = k; old = child_of (children_of t) k; new = value_at shown k }) (seen_in t shown ks) (refl, refl) (each_seen t shown ks)
-
-pub are_seen : (index : Index) (t : PathTree) (w : Window) (ks : List Key) (was : List Was) (seen : List Seen) → was ≡ was_in t ks → seen ≡ map (seen_of w.shown.entries) was → NotesAll index ks t w → AreSeen index t w seen
-unfolding seen_in
-are_seen index t w ks was seen is now notes =
-    subst (λ x. AreSeen index t w x) (sym (now ∙ ap (map (seen_of w.shown.entries)) is)) (record {
-      each = each_seen t w.shown.entries ks;
-      notes = subst (λ js. NotesAll index js t w) (sym (keys_in-seen t w.shown.entries ks)) notes;
-    })
 
 -- the changes of one kind, by what is told
 pub given_of-told : (k : Kind) (index : Index) (t : PathTree) (shown es : Entries) → given_of k index (told_in t shown es) ≡ given_in k index t shown es

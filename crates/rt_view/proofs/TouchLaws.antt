@@ -1,12 +1,11 @@
 -- A child that is put into a tree, in the order of the tree's children.
 use Rattle.std.specs.Prelude.{T}
-use Rattle.std.proofs.Common.{◌≡◌, Bool, true, false, cond, not, ◌&&◌, ◌||◌, List, [], ◌∷◌, ◌++◌, refl, sym, ap, subst, ◌∙◌, arith, ◌≤◌, Option, Some, None, is_some}
+use Rattle.std.proofs.Common.{◌≡◌, Bool, true, false, cond, not, ◌&&◌, ◌||◌, List, [], ◌∷◌, ◌++◌, refl, sym, ap, subst, ◌∙◌, arith, ◌≤◌, Option, Some, None}
 use Rattle.std.specs.Ordering.{is_eq, eq_by_cmp}
-use Rattle.std.specs.Option.{option_map_or}
 use Rattle.std.specs.Cmp.{tied_itself, Equal-is}
 use Rattle.std.proofs.lemmas.List.Folds.{list_any-append}
 use Rattle.std.specs.FinMap as map_of
-use Rattle.std.specs.FinMap.Entries.{find, is_sorted}
+use Rattle.std.specs.FinMap.Entries.{is_sorted}
 use Rattle.rt_tree.specs.Allowed.{IsAllowed}
 use Rattle.rt_tree.specs.PathTree.{Key, PathTree, leaf_at-sub, levels, levels_le, key_eq, key_eq-is, key_eq-same, child, child_of, is_null, non_null, put}
 use Rattle.rt_tree.specs.Children.{children_of, child_of-children_of}
@@ -17,13 +16,12 @@ use Rattle.rt_order.specs.Cuts.{has}
 use Rattle.rt_order.specs.laws.EntryOrder.{entry_cmp_total, value_cmp-IsAntisymmetric}
 use Rattle.rt_order.specs.Values.{value_cmp}
 use Rattle.rt_query.specs.Queries.{Query}
-use Rattle.rt_query.specs.Select.{limited}
 use Rattle.rt_view.specs.declared.window.Window.{Window}
 use Rattle.rt_view.specs.inside.Windows.{Entries, IsWindow, joined, value_at, without}
 use Rattle.rt_view.specs.inside.Kept.{IsWindowOf, in_order, put_in, brought_in, taken_out, is_noted}
-use Rattle.rt_view.proofs.Listed.{IsListed, same_listed, passing, at_entry, find-value_at, apart_keys, listed-filter, value_at-filter, listed-puts, value_at-puts_all, listed-in_order, value_at-in_order, listed-shown}
+use Rattle.rt_view.proofs.Listed.{IsListed, same_listed, passing, apart_keys, listed-filter, value_at-filter, listed-puts, value_at-puts_all, listed-in_order, value_at-in_order}
 use Rattle.rt_view.specs.inside.Telling.{left_by, takes_place}
-use Rattle.rt_view.proofs.WindowLaws.{parts_rise, puts-without}
+use Rattle.rt_view.proofs.WindowLaws.{puts-without}
 
 -- the children of a tree with one put in its place
 pub child_of-put : (t : PathTree) (k j : Key) (u : PathTree) → child_of (children_of (put t (k ∷ []) u)) j ≡ cond (key_eq k j) (non_null u) (child_of (children_of t) j)
@@ -39,7 +37,7 @@ pub record HasAt (index : Index) (es : Entries) (k : Key) (o : Option PathTree) 
   pub value : (j : Key) → value_at fs j ≡ cond (key_eq k j) o (value_at es j)
 
 -- what is as it was
-as_it_was : (index : Index) (es : Entries) (k : Key) (o : Option PathTree) → IsListed index es → value_at es k ≡ o → HasAt index es k o es
+pub as_it_was : (index : Index) (es : Entries) (k : Key) (o : Option PathTree) → IsListed index es → value_at es k ≡ o → HasAt index es k o es
 as_it_was index es k o h is = record {
   listed = h;
   value = λ j. elim (key_eq k j) as (λ b. key_eq k j ≡ b → value_at es j ≡ cond b o (value_at es j)) [
@@ -48,7 +46,7 @@ as_it_was index es k o h is = record {
   ] refl;
 }
 
-taken_here : (index : Index) (k : Key) (t : PathTree) (es : Entries) → IsListed index es → value_at es k ≡ Some t → HasAt index es k None (without (entry index (k, t)) es)
+pub taken_here : (index : Index) (k : Key) (t : PathTree) (es : Entries) → IsListed index es → value_at es k ≡ Some t → HasAt index es k None (without (entry index (k, t)) es)
 taken_here index k t es h is = record {
   listed = listed-filter (λ x. not (eq_by_cmp entry_cmp (entry index (k, t)) x)) index es h;
   value = λ j. value_at-filter (λ x. not (eq_by_cmp entry_cmp (entry index (k, t)) x)) index es h j ∙ at j;
@@ -94,7 +92,7 @@ brought_at_key q k u es h none =
       ]
     ]
 
-cond_twice : (b : Bool) (x y z : Option PathTree) → cond b x (cond b y z) ≡ cond b x z
+pub cond_twice : (b : Bool) (x y z : Option PathTree) → cond b x (cond b y z) ≡ cond b x z
 cond_twice true x y z = refl
 cond_twice false x y z = refl
 
@@ -119,49 +117,10 @@ touched_order q t k u =
 
 -- ---- a child that is shown
 
--- found at its entry, where it is shown at all
-pub found_row : (q : Query) (t : PathTree) (w : Window) (k : Key) (v : PathTree) → IsWindowOf q t w → child_of (children_of t) k ≡ Some v
-    → find entry_cmp (entry q.index (k, v)) w.shown.entries ≡ value_at w.shown.entries k
-found_row q t w k v h is =
-    let up = (parts_rise q.limit w.shown.entries w.rest.entries _ h.cut).0 in
-    let shown = listed-shown q.index q.limit w.shown.entries w.rest.entries _ h.cut (listed-in_order q t) up in
-    find-value_at q.index w.shown.entries shown.0.own shown.0.once (entry q.index (k, v)) ∙ at (value_at w.shown.entries k) (shown.1 k)
-  where
-    at : (o : Option PathTree) → ((x : PathTree) → o ≡ Some x → value_at (in_order q (children_of t)) k ≡ Some x) → at_entry q.index (entry q.index (k, v)) o ≡ o
-    at None g = refl
-    at (Some x) g =
-        let there : passing (has q.range) q.index k (Some v) ≡ Some x = ap (passing (has q.range) q.index k) (sym is) ∙ sym (value_at-in_order q t k) ∙ g x refl in
-        let same : v ≡ x = passed (has q.range (entry q.index (k, v))) x there in
-        ap (λ (y : PathTree). cond (eq_by_cmp entry_cmp (entry q.index (k, v)) (entry q.index (k, y))) (Some x) None) (sym same)
-        ∙ ap (λ c. cond (is_eq c) (Some x) None) (tied_itself entry_cmp_total (entry q.index (k, v)))
-      where
-        passed : (b : Bool) (x : PathTree) → cond b (Some v) None ≡ Some x → v ≡ x
-        passed true x e = cc
-        passed false x e = cc
-
--- and none where the key has no child
-pub no_row : (q : Query) (t : PathTree) (w : Window) (k : Key) → IsWindowOf q t w → child_of (children_of t) k ≡ None → value_at w.shown.entries k ≡ None
-no_row q t w k h is =
-    let up = (parts_rise q.limit w.shown.entries w.rest.entries _ h.cut).0 in
-    let shown = listed-shown q.index q.limit w.shown.entries w.rest.entries _ h.cut (listed-in_order q t) up in
-    at (value_at w.shown.entries k) (shown.1 k)
-  where
-    at : (o : Option PathTree) → ((x : PathTree) → o ≡ Some x → value_at (in_order q (children_of t)) k ≡ Some x) → o ≡ None
-    at None g = refl
-    at (Some x) g = cc (g x refl, value_at-in_order q t k, ap (passing (has q.range) q.index k) is)
-
 -- ---- notes
-
-neither : (a b : Bool) → (a || (b || false)) ≡ false → (a ≡ false) × (b ≡ false)
-neither true b h = cc
-neither false true h = cc
-neither false false h = (refl, refl)
 
 pub is_noted-push : (ks : List Key) (j k : Key) → is_noted (ks ++ j ∷ []) k ≡ (is_noted ks k || (key_eq j k || false))
 is_noted-push ks j k = list_any-append (λ i. key_eq i k) ks (j ∷ [])
-
-pub noted_neither : (ks : List Key) (j k : Key) → is_noted (ks ++ j ∷ []) k ≡ false → (is_noted ks k ≡ false) × (key_eq j k ≡ false)
-noted_neither ks j k h = neither (is_noted ks k) (key_eq j k) (sym (is_noted-push ks j k) ∙ h)
 
 -- ---- what the calls keep
 
@@ -175,39 +134,6 @@ child_fits t k v allowed e = at (is_null (child t k)) refl (sym (child_of-childr
         let same : child t k ≡ v = cc in
         let low : levels (child t k) ≤ 32 = levels_le (child t k) 32 (λ q l f. omega (arith, (allowed (k ∷ q) l (sym (leaf_at-sub t (k ∷ []) q) ∙ f)).0.short)) in
         subst (λ x. (is_null x ≡ false) × (levels x ≤ 32)) same (s, low)
-
--- without a limit each child in the range is shown
-pub shown_unlimited : (q : Query) (t : PathTree) (w : Window) (k : Key) (v : PathTree) → IsWindowOf q t w → q.limit ≡ None → child_of (children_of t) k ≡ Some v
-    → cond (has q.range (entry q.index (k, v))) (Some v) None ≡ value_at w.shown.entries k
-shown_unlimited q t w k v h none is =
-    ap (passing (has q.range) q.index k) (sym is) ∙ sym (value_at-in_order q t k)
-    ∙ ap (λ (es : Entries). value_at es k) (sym (ap (λ l. limited l (in_order q (children_of t))) none) ∙ h.cut.cut)
-
--- what stands at the child's entry says whether it is shown
-pub shown_child : (q : Query) (t : PathTree) (w : Window) (k : Key) (v : PathTree) (o : Option PathTree) → IsWindowOf q t w → child_of (children_of t) k ≡ Some v
-    → o ≡ find entry_cmp (entry q.index (k, v)) w.shown.entries → option_map_or (λ x. Some v) o None ≡ value_at w.shown.entries k
-shown_child q t w k v o h is e =
-    let up = (parts_rise q.limit w.shown.entries w.rest.entries _ h.cut).0 in
-    let shown = listed-shown q.index q.limit w.shown.entries w.rest.entries _ h.cut (listed-in_order q t) up in
-    at o (e ∙ found_row q t w k v h is) (shown.1 k)
-  where
-    at : (o : Option PathTree) → o ≡ value_at w.shown.entries k → ((x : PathTree) → value_at w.shown.entries k ≡ Some x → value_at (in_order q (children_of t)) k ≡ Some x)
-        → option_map_or (λ x. Some v) o None ≡ value_at w.shown.entries k
-    at None g up_to = g
-    at (Some x) g up_to = ap Some (passed (has q.range (entry q.index (k, v))) (ap (passing (has q.range) q.index k) (sym is) ∙ sym (value_at-in_order q t k) ∙ up_to x (sym g))) ∙ g
-      where
-        passed : (b : Bool) → cond b (Some v) None ≡ Some x → v ≡ x
-        passed true e = cc
-        passed false e = cc
-
--- and says so as a test
-pub shown_limited : (q : Query) (t : PathTree) (w : Window) (k : Key) (v : PathTree) (o : Option PathTree) → IsWindowOf q t w → child_of (children_of t) k ≡ Some v
-    → o ≡ find entry_cmp (entry q.index (k, v)) w.shown.entries → cond (is_some o) (Some v) None ≡ value_at w.shown.entries k
-shown_limited q t w k v o h is e = as_test o ∙ shown_child q t w k v o h is e
-  where
-    as_test : (o : Option PathTree) → cond (is_some o) (Some v) None ≡ option_map_or (λ (x : PathTree). Some v) o None
-    as_test None = refl
-    as_test (Some x) = refl
 
 -- a child that takes the place of another one needs no room made for it
 pub left_same : (q : Query) (k : Key) (o : Option PathTree) (u : PathTree) (es : Entries) → T (is_sorted entry_cmp es) → brought_in q k u (left_by q k o u es) ≡ brought_in q k u (taken_out q k o es)

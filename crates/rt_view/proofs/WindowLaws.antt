@@ -17,7 +17,7 @@ use Rattle.rt_order.specs.laws.EntryOrder.{entry_cmp_total, entry_cmp-IsAntisymm
 use Rattle.rt_query.specs.declared.limit.Limit.{Limit}
 use Rattle.rt_query.specs.declared.limit.Limit.TheVariants.{First, Last}
 use Rattle.rt_query.specs.Select.{row_of}
-use Rattle.rt_view.specs.inside.Windows.{Entries, joined, IsWindow, without, value_at, Crosses, is_from_first, is_to_last, last_key}
+use Rattle.rt_view.specs.inside.Windows.{Entries, joined, IsWindow, without, value_at, is_from_first, is_to_last, last_key}
 use Rattle.rt_view.proofs.ReplayLaws.{row_at-cons}
 
 pub insert_entry-put : {X : Type 0} (es : List (Entry × X)) (k : Entry) (v : X) → insert_entry entry_cmp es k v ≡ map_of.put entry_cmp k v es
@@ -174,7 +174,7 @@ head_below : (y : Entry) (s : Entries) (x : Entry × PathTree) (r : Entries) →
 head_below y s x r h = less _ (first _ _ (below_append-right y s (x ∷ r) h))
 
 -- at or above the first of the rest, so above what is shown
-above_shown : (e : Entry) (s : Entries) (x : Entry × PathTree) (r : Entries) → T (is_sorted entry_cmp (s ++ x ∷ r)) → is_le (entry_cmp x.0 e) ≡ true → Above e s
+pub above_shown : (e : Entry) (s : Entries) (x : Entry × PathTree) (r : Entries) → T (is_sorted entry_cmp (s ++ x ∷ r)) → is_le (entry_cmp x.0 e) ≡ true → Above e s
 above_shown e [] x r h f = tt
 above_shown e (y ∷ s) x r h f = (
   turn y.0 e (lt_le y.0 x.0 e (head_below y.0 s x r (first _ _ h)) f),
@@ -191,7 +191,7 @@ above_last e (x ∷ y ∷ r) h f =
     (turn x.0 e (entry_cmp_total.trans x.0 y.0 e (less _ (first _ _ (first (below_all entry_cmp x.0 (y ∷ r)) _ h))) l), rest)
 
 -- at or below the last of a list, so below what comes after it
-below_after : (e : Entry) (r s : Entries) → T (is_sorted entry_cmp (r ++ s)) → is_to_last r e ≡ true → T (below_all entry_cmp e s)
+pub below_after : (e : Entry) (r s : Entries) → T (is_sorted entry_cmp (r ++ s)) → is_to_last r e ≡ true → T (below_all entry_cmp e s)
 below_after e [] s h f = cc
 below_after e (x ∷ []) s h f = after s (first _ _ h)
   where
@@ -218,10 +218,6 @@ value_at-puts e v (x ∷ s) k h =
           value_at-skip (x.0, v) s k other ∙ sym (value_at-skip x s k other)
       | Greater ↦ λ t. value_at-more x (puts e v s) s k (value_at-puts e v s k h)
     ] refl
-
-value_at-push : (s : Entries) (x : Entry × PathTree) (k : Key) → key_eq x.0.1 k ≡ false → value_at (s ++ x ∷ []) k ≡ value_at s k
-value_at-push [] x k h = value_at-skip x [] k h
-value_at-push (y ∷ s) x k h = value_at-more y (s ++ x ∷ []) s k (value_at-push s x k h)
 
 -- ---- a child is put, where the first are shown
 
@@ -274,12 +270,6 @@ spill_first n e v s r all w h long t p is =
     let full : length t ≡ n = omega (arith, old.0, long, (length-puts e v s).1, ap length is, length-append t (p ∷ [])) in
     record { rises = up; whole = whole; cut = ap (take n) (sym whole) ∙ cut_first n t (puts p.0 p.1 r) (omega (arith, full), inl full) }
 
-pub crosses_put : (e : Entry) (v : PathTree) (s : Entries) → Crosses None e.1 s (puts e v s)
-crosses_put e v s k h g = value_at-puts e v s k h
-
-pub crosses_spill_first : (e : Entry) (v : PathTree) (s t : Entries) (p : Entry × PathTree) → puts e v s ≡ t ++ p ∷ [] → Crosses (Some p.0.1) e.1 s t
-crosses_spill_first e v s t p is k h g = sym (value_at-push t p k g) ∙ ap (λ x. value_at x k) (sym is) ∙ value_at-puts e v s k h
-
 -- ---- and where the last are shown
 
 counts_last_of : (n : ℕ) (s r all : Entries) → IsWindow (Some (Last n)) s r all → Counts n s r
@@ -325,9 +315,6 @@ spill_last n e v s r all w h long t p is =
     let full : length t ≡ n = omega (arith, old.0, long, (length-puts e v s).1, ap length is) in
     record { rises = up; whole = whole; cut = ap (λ es. drop (length es - n) es) (sym whole) ∙ cut_last n t (puts p.0 p.1 r) (omega (arith, full), inl full) }
 
-pub crosses_spill_last : (e : Entry) (v : PathTree) (s t : Entries) (p : Entry × PathTree) → puts e v s ≡ p ∷ t → Crosses (Some p.0.1) e.1 s t
-crosses_spill_last e v s t p is k h g = sym (value_at-skip p t k g) ∙ ap (λ x. value_at x k) (sym is) ∙ value_at-puts e v s k h
-
 -- the last one is the one at the last place
 pub is_to_last-at : (es : Entries) (x : Entry × PathTree) (e : Entry) → slice_get es (length es - 1) ≡ Some x → is_to_last es e ≡ is_le (entry_cmp e x.0)
 is_to_last-at [] x e h = cc
@@ -339,16 +326,16 @@ is_to_last-at (r ∷ s ∷ rs) x e h =
 
 -- ---- a child is taken out
 
-without-below : (e : Entry) (s : Entries) → T (below_all entry_cmp e s) → without e s ≡ s
+pub without-below : (e : Entry) (s : Entries) → T (below_all entry_cmp e s) → without e s ≡ s
 without-below e [] h = refl
 without-below e (x ∷ s) h =
     ap (λ o. cond (not (is_eq o)) (x ∷ without e s) (without e s)) (less _ (first _ _ h)) ∙ ap (λ es. x ∷ es) (without-below e s (second (is_lt (entry_cmp e x.0)) _ h))
 
-without-above : (e : Entry) (s : Entries) → Above e s → without e s ≡ s
+pub without-above : (e : Entry) (s : Entries) → Above e s → without e s ≡ s
 without-above e [] h = refl
 without-above e (x ∷ s) h = ap (λ o. cond (not (is_eq o)) (x ∷ without e s) (without e s)) h.0 ∙ ap (λ es. x ∷ es) (without-above e s h.1)
 
-without-append : (e : Entry) (s r : Entries) → without e (s ++ r) ≡ without e s ++ without e r
+pub without-append : (e : Entry) (s r : Entries) → without e (s ++ r) ≡ without e s ++ without e r
 without-append e [] r = refl
 without-append e (x ∷ s) r =
     elim (eq_by_cmp entry_cmp e x.0) as (λ b. cond (not b) (x ∷ without e (s ++ r)) (without e (s ++ r)) ≡ cond (not b) (x ∷ without e s) (without e s) ++ without e r) [
@@ -473,14 +460,6 @@ refill_last n e s r all w hit p t is =
     let still : length (puts p.0 p.1 (without e s)) ≡ n = omega (arith, ap (λ (es : Entries). length es) pushed, length-without e s (sorted-right r s up) hit, full) in
     record { rises = rises; whole = whole; cut = ap (λ es. drop (length es - n) es) (sym whole) ∙ cut_last n (puts p.0 p.1 (without e s)) t (omega (arith, still), inl still) }
 
-pub value_at-without : (e : Entry) (s : Entries) (k : Key) → key_eq e.1 k ≡ false → value_at (without e s) k ≡ value_at s k
-value_at-without e [] k h = refl
-value_at-without e (x ∷ s) k h =
-    elim (eq_by_cmp entry_cmp e x.0) as (λ b. eq_by_cmp entry_cmp e x.0 ≡ b → value_at (cond (not b) (x ∷ without e s) (without e s)) k ≡ value_at (x ∷ s) k) [
-      | true ↦ λ t. value_at-without e s k h ∙ sym (value_at-skip x s k (subst (λ (z : Entry). key_eq z.1 k ≡ false) (same_entry e x.0 t) h))
-      | false ↦ λ t. value_at-more x (without e s) s k (value_at-without e s k h)
-    ] refl
-
 without-missed : (e : Entry) (s : Entries) → is_some (lookup (is_at (entry_cmp e)) s) ≡ false → without e s ≡ s
 without-missed e [] h = refl
 without-missed e (x ∷ s) h =
@@ -542,9 +521,6 @@ pub taken_at : (limit known : Option Limit) (e : Entry) (s r s' r' : Entries) �
     → IsWindow limit s r (joined limit s r) → IsWindow limit s' r' (without e (joined limit s r))
 taken_at limit known e s r s' r' is law w =
     subst (λ l. IsWindow l s' r' (without e (joined l s r))) (sym is) (law (subst (λ l. IsWindow l s r (joined l s r)) is w))
-
-pub crosses_refill : (e : Entry) (s : Entries) (p : Entry × PathTree) → Crosses (Some p.0.1) e.1 s (puts p.0 p.1 (without e s))
-crosses_refill e s p k h g = value_at-puts p.0 p.1 (without e s) k g ∙ value_at-without e s k h
 
 pub last_key-push : (t : Entries) (x : Entry × PathTree) → last_key (t ++ x ∷ []) ≡ Some x.0.1
 last_key-push [] x = refl

@@ -4,4 +4,5 @@ pub mod Given
 pub mod Kept
 pub mod Positions
 pub mod Telling
+pub mod Turns
 pub mod Windows

@@ -1,10 +1,8 @@
 // Children in their places.
-ghost use Rattle.std.specs.Prelude.{◌≡◌, ◌≤◌, ◌∷◌, [], false, IfOk, IfSome, OnOk, length, map};
-ghost use Rattle.std.specs.Prelude.{None, Some, if◌then◌else◌};
+ghost use Rattle.std.specs.Prelude.{◌≡◌, ◌≤◌, ◌∷◌, [], false, IfOk, IfSome, OnOk, length};
 ghost use Rattle.std.specs.Option.{option_copied};
 ghost use Rattle.rt_tree.specs.PathTree.{child_of, is_null, leaf_of, levels, null, put};
 ghost use Rattle.rt_tree.specs.Children.{children_of};
-ghost use Rattle.rt_view.specs.inside.Windows.{value_at};
 ghost use Rattle.rt_view.specs.inside.Kept.{IsWindowOf, in_order, in_range};
 
 use crate::position::Position;
@@ -113,49 +111,4 @@ pub fn drop_child(tree: &mut Tree, alloc: Global, key: &Key) -> Result<(), Alloc
     ensures { OnOk result (tree.new ≡ put tree.old (key.now ∷ []) null) }
 {
     put_child(tree, alloc, key, &Tree::null())
-}
-
-// Whether a child of the known tree is shown: in the range, and within the limit, where there is one.
-fn is_shown(
-    alloc: Global,
-    query: &Query,
-    known: &Tree,
-    window: &Window,
-    key: &Key,
-    child: &Tree,
-) -> Result<bool, AllocError>
-    requires kept { IsWindowOf query.now known.now window.now }
-    requires child { child_of (children_of known.now) key.now ≡ Some child.now }
-    ensures { IfOk result (λ shown. (if shown then Some child.now else None)
-        ≡ value_at window.now.shown.entries key.now) }
-{
-    if query.limit().is_none() {
-        return Ok(query.range().has(query.index(), key, child));
-    }
-    let position = Position::of(alloc, query.index(), key, child)?;
-    Ok(window.row(&position).is_some())
-}
-
-// The child of a key, where it is shown.
-pub fn shown_at<'a>(
-    alloc: Global,
-    query: &Query,
-    known: &'a Tree,
-    window: &Window,
-    key: &Key,
-) -> Result<Option<&'a Tree>, AllocError>
-    requires { IsWindowOf query.now known.now window.now }
-    ensures shown { IfOk result (λ child. option_copied child
-        ≡ value_at window.now.shown.entries key.now) }
-    ensures full { IfOk result (λ child. IfSome child (λ t. is_null t.now ≡ false)) }
-    ensures fits { IfOk result (λ child. IfSome child (λ t. levels t.now ≤ MAX_KEYS)) }
-{
-    let Some(child) = child_at(known, key) else {
-        return Ok(None);
-    };
-    if is_shown(alloc, query, known, window, key, child)? {
-        Ok(Some(child))
-    } else {
-        Ok(None)
-    }
 }

@@ -1,17 +1,15 @@
 // What is told of the noted children.
-ghost use Rattle.std.specs.Prelude.{◌≡◌, ◌==◌, ◌&&◌, ◌++◌, [], true, false, map, length, All, IfOk, OnOk, None};
-ghost use Rattle.std.specs.Prelude.{List, Some};
-ghost use Rattle.std.specs.Bool.{OnFalse, OnTrue};
+ghost use Rattle.std.specs.Prelude.{◌≡◌, ◌==◌, ◌&&◌, ◌++◌, true, false, map, length, All, IfOk, OnOk, None};
+ghost use Rattle.std.specs.Prelude.{Some};
 ghost use Rattle.std.specs.Option.{option_copied, option_eq};
-ghost use Rattle.rt_tree.specs.PathTree.{Key, PathTree, leaf_of};
+ghost use Rattle.rt_tree.specs.PathTree.{PathTree, leaf_of};
 ghost use Rattle.rt_tree.specs.Children.{children_of};
 ghost use Rattle.rt_tree.specs.TreeEq.{leaf_eq};
 ghost use Rattle.rt_query.specs.Queries.{is_filtered};
 ghost use Rattle.rt_query.specs.Select.{select, tree_of};
-ghost use Rattle.rt_query.specs.QueryEq.{shown_eq};
 ghost use Rattle.rt_view.specs.Changes.{changes};
 ghost use Rattle.rt_view.specs.inside.Windows.{Entries};
-ghost use Rattle.rt_view.specs.inside.Kept.{IsWindowOf, NotesAll, SetsChild, SetsNoted, changes_to};
+ghost use Rattle.rt_view.specs.inside.Kept.{IsWindowOf, SetsChild, SetsNoted, changes_to};
 ghost use Rattle.rt_view.specs.inside.Kept.{removed_of, shown_by};
 ghost use Rattle.rt_view.specs.inside.Telling.{AreSeen, IsFit, IsSeen, given_of, keys_in};
 ghost use Rattle.rt_view.specs.declared.window.Window.{Window};
@@ -21,11 +19,11 @@ use crate::change_list::ChangeList;
 use crate::kind::Kind;
 use crate::place::{drop_child, put_child};
 use crate::position::Position;
-use crate::told::{Seen, Told, find_all_told, see_all, was_at_all};
+use crate::told::{Seen, Told, find_all_told};
 use crate::window::Window;
 use rt_order::Index;
 use rt_query::Query;
-use rt_tree::{Key, Leaf, Tree};
+use rt_tree::{Leaf, Tree};
 use std::alloc::{AllocError, Global};
 use std::collections::BTreeMap;
 
@@ -125,20 +123,19 @@ pub fn tell_filtered(
     query: &Query,
     known: &Tree,
     window: &Window,
-    noted: &[Key],
+    seen: &[Seen],
 ) -> Result<ChangeList, AllocError>
     requires filtered { is_filtered query.now ≡ true }
     requires object { leaf_of tree.old ≡ None }
     requires kept { IsWindowOf query.now known.now window.now }
-    requires notes { NotesAll query.now.index noted.now tree.old window.now }
+    requires seen { AreSeen query.now.index tree.old window.now seen.now }
     ensures tree { OnOk result (tree.new ≡ tree_of (select query.now known.now)) }
     ensures changes { IfOk result (λ list. list
         ≡ changes query.now.index (Some (shown_by query.now.index tree.old))
         (select query.now known.now)) }
 {
-    let was = was_at_all(alloc, tree, noted)?;
-    let found = see_all(alloc, query, known, window, was.as_slice())?;
-    let seen = found.as_slice();
+    // The prover learns that each known child fits below a key.
+    let _ = known.children();
     let mut changes = row_changes(alloc, query, window, seen)?;
     if changes.is_empty() {
         return Ok(ChangeList::of(changes));

@@ -1,38 +1,24 @@
 // What is told of the noted children, each found once.
-ghost use Rattle.std.specs.Prelude.{◌≡◌, [], map, All, IfOk, OnOk, Some};
+ghost use Rattle.std.specs.Prelude.{◌≡◌, All, IfOk, OnOk};
 ghost use Rattle.std.specs.Option.{option_copied, option_map_or};
 ghost use Rattle.std.specs.FinMap as map_of;
 ghost use Rattle.std.specs.FinMap.Entries.{find};
 ghost use Rattle.std.specs.Map.{values_of};
-ghost use Rattle.rt_tree.specs.PathTree.{PathTree, child_of, key_cmp};
-ghost use Rattle.rt_tree.specs.Children.{children_of};
+ghost use Rattle.rt_tree.specs.PathTree.{PathTree, key_cmp};
 ghost use Rattle.rt_order.specs.Entries.{entry, entry_cmp};
 ghost use Rattle.rt_view.specs.inside.Windows.{before};
 ghost use Rattle.rt_view.specs.inside.Kept.{IsWindowOf, gone_at, gone_from, noted_in, rows_in_tree};
-ghost use Rattle.rt_view.specs.inside.Telling.{IsFit, IsSeen, gone_too, keys_in, seen_of, told_in};
-ghost use Rattle.rt_view.specs.inside.Telling.{seen_too, told_too, was_in};
+ghost use Rattle.rt_view.specs.inside.Telling.{IsSeen, gone_too, keys_in, seen_in, seen_out};
+ghost use Rattle.rt_view.specs.inside.Telling.{seen_too, seen_turned, told_in, told_too};
 
 use crate::change::copy_key;
-use crate::place::{child_at, shown_at};
 use crate::position::Position;
-use crate::window::{Window, set};
+use crate::window::{Turned, Window, set};
 use rt_order::Index;
 use rt_query::Query;
 use rt_tree::{Key, Tree};
 use std::alloc::{AllocError, Global};
 use std::collections::BTreeMap;
-
-// What was shown under a key.
-pub struct Was {
-    pub key: Key,
-    pub old: Option<Tree>,
-}
-
-impl Drop for Was {
-    fn drop(self) {
-        let Was { key: _, old: _ } = self;
-    }
-}
 
 // What was shown under a key, and what is shown there now.
 pub struct Seen {
@@ -91,68 +77,6 @@ pub fn copy_tree(alloc: Global, tree: Option<&Tree>) -> Result<Option<Tree>, All
     }
 }
 
-// What was shown under a key, of a tree that was shown.
-fn was_at(alloc: Global, tree: &Tree, key: &Key) -> Result<Was, AllocError>
-    ensures { IfOk result (λ was. was ≡ record {
-      key = key.now;
-      old =
-          child_of (children_of tree.now) key.now;
-    }) }
-{
-    let old = copy_tree(alloc, child_at(tree, key))?;
-    let key = key.copy()?;
-    Ok(Was { key, old })
-}
-
-// What was shown under these keys, of a tree that was shown.
-pub fn was_at_all(alloc: Global, tree: &Tree, keys: &[Key]) -> Result<Vec<Was>, AllocError>
-    ensures { IfOk result (λ was. was.items ≡ was_in tree.now keys.now) }
-{
-    let mut was = Vec::with_capacity(alloc, keys.len())?;
-    for key in keys {
-        was.push(was_at(alloc, tree, key)?)?;
-    }
-    Ok(was)
-}
-
-// What is shown under a key now, beside what was. It is looked for here alone.
-fn see(
-    alloc: Global,
-    query: &Query,
-    known: &Tree,
-    window: &Window,
-    was: &Was,
-) -> Result<Seen, AllocError>
-    requires { IsWindowOf query.now known.now window.now }
-    ensures seen { IfOk result (λ seen. seen ≡ seen_of window.now.shown.entries was.now) }
-    ensures fits { IfOk result IsFit }
-{
-    let new = copy_tree(alloc, shown_at(alloc, query, known, window, &was.key)?)?;
-    let old = copy_tree(alloc, was.old.as_ref())?;
-    let key = was.key.copy()?;
-    Ok(Seen { key, old, new })
-}
-
-// What is shown under these keys now, beside what was.
-pub fn see_all(
-    alloc: Global,
-    query: &Query,
-    known: &Tree,
-    window: &Window,
-    was: &[Was],
-) -> Result<Vec<Seen>, AllocError>
-    requires { IsWindowOf query.now known.now window.now }
-    ensures seen { IfOk result (λ seen. seen.items
-        ≡ map (seen_of window.now.shown.entries) was.now) }
-    ensures fits { IfOk result (λ seen. All IsFit seen.items) }
-{
-    let mut seen = Vec::with_capacity(alloc, was.len())?;
-    for one in was {
-        seen.push(see(alloc, query, known, window, one)?)?;
-    }
-    Ok(seen)
-}
-
 // `insert`, without what was there.
 fn set_seen(seen: &mut BTreeMap<Key, Seen>, key: Key, one: Seen) -> Result<(), AllocError>
     ensures { OnOk result (seen.new.entries ≡ map_of.put key_cmp key one seen.old.entries) }
@@ -161,44 +85,83 @@ fn set_seen(seen: &mut BTreeMap<Key, Seen>, key: Key, one: Seen) -> Result<(), A
     Ok(())
 }
 
-// What stood at a key first: what is kept there, or this.
+// What was shown under a key first: what is kept there, or this.
 fn first_old(
     alloc: Global,
     seen: &BTreeMap<Key, Seen>,
     key: &Key,
-    old: Option<Tree>,
+    old: Option<&Tree>,
 ) -> Result<Option<Tree>, AllocError>
     ensures { IfOk result (λ first. first
-        ≡ option_map_or (λ s. s.old) (find key_cmp key.now seen.now.entries) old) }
+        ≡ option_map_or (λ s. s.old) (find key_cmp key.now seen.now.entries)
+        (option_copied old.entry)) }
 {
     match seen.get(key) {
         Some(one) => copy_tree(alloc, one.old.as_ref()),
-        None => Ok(old),
+        None => copy_tree(alloc, old),
     }
 }
 
-// Keeps that a child stands at a key now, or none, in place of the old one.
-pub fn keep_seen(
+// Keeps that a child is shown under a key now, or none, in place of the old one.
+fn keep_seen(
     seen: &mut BTreeMap<Key, Seen>,
     alloc: Global,
     key: &Key,
-    old: Option<Tree>,
-    new: &Tree,
+    old: Option<&Tree>,
+    new: Option<&Tree>,
 ) -> Result<(), AllocError>
-    ensures { OnOk result (seen.new.entries ≡ seen_too key.now old new.now seen.old.entries) }
+    ensures { OnOk result (seen.new.entries
+        ≡ seen_too key.now (option_copied old.entry) (option_copied new.entry) seen.old.entries) }
 {
     let old = first_old(alloc, seen, key, old)?;
-    let new = if new.is_null() {
-        None
-    } else {
-        Some(new.copy(alloc)?)
-    };
+    let new = copy_tree(alloc, new)?;
     let one = Seen {
         key: key.copy()?,
         old,
         new,
     };
     set_seen(seen, key.copy()?, one)
+}
+
+// Keeps the child that crossed to those that are shown.
+fn keep_in(seen: &mut BTreeMap<Key, Seen>, alloc: Global, left: &Turned) -> Result<(), AllocError>
+    ensures { OnOk result (seen.new.entries ≡ seen_in left.now.crossed seen.old.entries) }
+{
+    match &left.crossed {
+        Some((key, tree)) => keep_seen(seen, alloc, key, None, Some(tree)),
+        None => Ok(()),
+    }
+}
+
+// Keeps the child that crossed from those that are shown.
+fn keep_out(seen: &mut BTreeMap<Key, Seen>, alloc: Global, came: &Turned) -> Result<(), AllocError>
+    ensures { OnOk result (seen.new.entries ≡ seen_out came.now.crossed seen.old.entries) }
+{
+    match &came.crossed {
+        Some((key, tree)) => keep_seen(seen, alloc, key, Some(tree), None),
+        None => Ok(()),
+    }
+}
+
+// Keeps what is shown otherwise once a child left its place at a key and another one came there.
+pub fn keep_turned(
+    seen: &mut BTreeMap<Key, Seen>,
+    alloc: Global,
+    key: &Key,
+    old: Option<&Tree>,
+    new: &Tree,
+    left: &Turned,
+    came: &Turned,
+) -> Result<(), AllocError>
+    ensures { OnOk result (seen.new.entries
+        ≡ seen_turned key.now (option_copied old.entry) new.now left.now came.now
+        seen.old.entries) }
+{
+    keep_in(seen, alloc, left)?;
+    let old = if left.was || came.was { old } else { None };
+    let new = if came.is { Some(new) } else { None };
+    keep_seen(seen, alloc, key, old, new)?;
+    keep_out(seen, alloc, came)
 }
 
 // What is kept, in the order of the keys.
@@ -277,7 +240,7 @@ fn find_told(
     ensures gone { OnOk result (noted.new.gone.entries ≡ gone_too index.now seen.now.key
         (gone_at seen.now.new seen.now.old) noted.old.gone.entries) }
     ensures now { OnOk result (noted.new.now.entries ≡ told_too index.now
-        (record { key = seen.now.key; old = seen.now.old }) window.now.shown.entries
+        seen.now.key seen.now.old window.now.shown.entries
         seen.now.new noted.old.now.entries) }
 {
     let key = &seen.key;

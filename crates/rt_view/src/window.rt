@@ -1,16 +1,15 @@
 // The children in a range, in order, and how far a limit shows them.
 ghost use Rattle.std.specs.Prelude.{◌≡◌, ◌<◌, ◌++◌, ◌∷◌, [], map, IfOk, IfSome, IfNone, OnOk, Some};
-ghost use Rattle.std.specs.Prelude.{None, T, is_some};
+ghost use Rattle.std.specs.Prelude.{None, T, true, false};
 ghost use Rattle.std.specs.Option.{option_copied};
 ghost use Rattle.std.specs.FinMap as map_of;
-ghost use Rattle.std.specs.FinMap.Entries.{find, is_sorted};
-ghost use Rattle.std.specs.Map.{lookup};
-ghost use Rattle.std.specs.BTreeMap.{is_at};
+ghost use Rattle.std.specs.FinMap.Entries.{is_sorted};
 ghost use Rattle.rt_order.specs.Entries.{entry_cmp};
 ghost use Rattle.rt_query.specs.Select.{row_of};
 ghost use Rattle.rt_query.specs.declared.limit.Limit.TheVariants.{First, Last};
-ghost use Rattle.rt_view.specs.inside.Windows.{Becomes, Crosses, IsApart, IsOrdering, IsWhole, IsWindow};
-ghost use Rattle.rt_view.specs.inside.Windows.{all_of, before, is_from_first, is_to_last, without};
+ghost use Rattle.rt_view.specs.inside.Windows.{Becomes, IsApart, IsOrdering, IsWhole, IsWindow};
+ghost use Rattle.rt_view.specs.inside.Windows.{all_of, before, is_from_first, is_there, is_to_last, without};
+ghost use Rattle.rt_view.specs.inside.Turns.{Refills, Spills};
 
 use crate::position::Position;
 use rt_query::{Limit, Row};
@@ -36,6 +35,59 @@ impl Drop for Window {
     }
 }
 
+// What is shown otherwise once a child was put or taken out at an entry: whether one was shown there,
+// whether one is now, and the child that crosses the cut for it.
+pub struct Turned {
+    pub was: bool,
+    pub is: bool,
+    pub crossed: Option<(Key, Tree)>,
+}
+
+impl Drop for Turned {
+    fn drop(self) {
+        let Turned {
+            was: _,
+            is: _,
+            crossed: _,
+        } = self;
+    }
+}
+
+impl Turned {
+    // Nothing was shown at the entry, and nothing is.
+    pub fn none() -> Turned
+        ensures { result ≡ record { was = false; is = false; crossed = None } }
+    {
+        Turned {
+            was: false,
+            is: false,
+            crossed: None,
+        }
+    }
+
+    // A child was shown at the entry, and is no more.
+    pub fn left(crossed: Option<(Key, Tree)>) -> Turned
+        ensures { result ≡ record { was = true; is = false; crossed = crossed } }
+    {
+        Turned {
+            was: true,
+            is: false,
+            crossed,
+        }
+    }
+
+    // A child is shown at the entry.
+    pub fn came(was: bool, crossed: Option<(Key, Tree)>) -> Turned
+        ensures { result ≡ record { was = was; is = true; crossed = crossed } }
+    {
+        Turned {
+            was,
+            is: true,
+            crossed,
+        }
+    }
+}
+
 // `insert`, without the old child.
 pub fn set(
     children: &mut BTreeMap<Position, Tree>,
@@ -49,11 +101,27 @@ pub fn set(
     Ok(())
 }
 
+// `insert`, which answers whether there was a child.
+fn reset(
+    children: &mut BTreeMap<Position, Tree>,
+    position: Position,
+    tree: Tree,
+) -> Result<bool, AllocError>
+    ensures put { OnOk result (children.new.entries
+        ≡ map_of.put entry_cmp position tree children.old.entries) }
+    ensures was { IfOk result (λ was. was ≡ is_there position children.old.entries) }
+{
+    let old = children.insert(position, tree)?;
+    let was = old.is_some();
+    drop(old);
+    Ok(was)
+}
+
 // `remove`, which answers whether there was a child.
 fn unset(children: &mut BTreeMap<Position, Tree>, position: &Position) -> bool
     requires { T (is_sorted entry_cmp children.old.entries) }
     ensures gone { children.new.entries ≡ without position.now children.old.entries }
-    ensures was { result ≡ is_some (lookup (is_at (entry_cmp position.now)) children.old.entries) }
+    ensures was { result ≡ is_there position.now children.old.entries }
 {
     let old = children.remove(position);
     let was = old.is_some();
@@ -188,87 +256,98 @@ impl Window {
         }
     }
 
-    // Puts a child at its entry. The key of a child that is shown no more is handed out.
-    pub fn put(&mut self, position: Position, tree: Tree) -> Result<Option<Key>, AllocError>
+    // Puts a child at its entry. Another one may cross the cut for it, or itself.
+    pub fn put(
+        &mut self,
+        alloc: Global,
+        position: Position,
+        tree: Tree,
+    ) -> Result<Turned, AllocError>
         requires { IsWhole self.old }
         ensures limit { self.new.limit ≡ self.old.limit }
         ensures put { OnOk result
             (Becomes self.old self.new (map_of.put entry_cmp position tree (all_of self.old))) }
-        ensures alone { IfOk result (λ key. self.old.limit ≡ None → key ≡ None) }
-        ensures crosses { IfOk result (λ key.
-            Crosses key position.1 self.old.shown.entries self.new.shown.entries) }
+        ensures was { IfOk result (λ turned. turned.was
+            ≡ is_there position self.old.shown.entries) }
+        ensures crosses { IfOk result (λ turned. Spills turned self.old.shown.entries
+            (map_of.put entry_cmp position tree self.old.shown.entries) self.new.shown.entries) }
     {
         match self.limit {
             None => {
-                set(&mut self.shown, position, tree)?;
-                Ok(None)
+                let was = reset(&mut self.shown, position, tree)?;
+                Ok(Turned::came(was, None))
             }
             Some(Limit::First(n)) => {
                 if is_from_first(&self.rest, &position) {
                     set(&mut self.rest, position, tree)?;
-                    return Ok(None);
+                    return Ok(Turned::none());
                 }
-                set(&mut self.shown, position, tree)?;
+                let was = reset(&mut self.shown, position, tree)?;
                 if self.shown.len() <= n as usize {
-                    return Ok(None);
+                    return Ok(Turned::came(was, None));
                 }
                 let Some((edge, tree)) = self.shown.pop_last() else {
-                    return Ok(None);
+                    return Ok(Turned::came(was, None));
                 };
                 let key = edge.key().copy()?;
+                let child = tree.copy(alloc)?;
                 set(&mut self.rest, edge, tree)?;
-                Ok(Some(key))
+                Ok(Turned::came(was, Some((key, child))))
             }
             Some(Limit::Last(n)) => {
                 if is_to_last(&self.rest, &position) {
                     set(&mut self.rest, position, tree)?;
-                    return Ok(None);
+                    return Ok(Turned::none());
                 }
-                set(&mut self.shown, position, tree)?;
+                let was = reset(&mut self.shown, position, tree)?;
                 if self.shown.len() <= n as usize {
-                    return Ok(None);
+                    return Ok(Turned::came(was, None));
                 }
                 let Some((edge, tree)) = self.shown.pop_first() else {
-                    return Ok(None);
+                    return Ok(Turned::came(was, None));
                 };
                 let key = edge.key().copy()?;
+                let child = tree.copy(alloc)?;
                 set(&mut self.rest, edge, tree)?;
-                Ok(Some(key))
+                Ok(Turned::came(was, Some((key, child))))
             }
         }
     }
 
-    // Takes out the child at an entry. The key of a child that comes to be shown is handed out.
-    pub fn take(&mut self, position: &Position) -> Result<Option<Key>, AllocError>
+    // Takes out the child at an entry. Another one may cross the cut for it.
+    pub fn take(&mut self, alloc: Global, position: &Position) -> Result<Turned, AllocError>
         requires { IsWhole self.old }
         ensures limit { self.new.limit ≡ self.old.limit }
         ensures taken { OnOk result
             (Becomes self.old self.new (without position.now (all_of self.old))) }
-        ensures alone { IfOk result (λ key. self.old.limit ≡ None → key ≡ None) }
-        ensures crosses { IfOk result (λ key.
-            Crosses key position.now.1 self.old.shown.entries self.new.shown.entries) }
+        ensures was { IfOk result (λ turned. turned.was
+            ≡ is_there position.now self.old.shown.entries) }
+        ensures crosses { IfOk result (λ turned. Refills turned self.old.rest.entries
+            (without position.now self.old.shown.entries) self.new.shown.entries) }
     {
         if !unset(&mut self.shown, position) {
             unset(&mut self.rest, position);
-            return Ok(None);
+            return Ok(Turned::none());
         }
         match self.limit {
-            None => Ok(None),
+            None => Ok(Turned::left(None)),
             Some(Limit::First(_)) => {
                 let Some((edge, tree)) = self.rest.pop_first() else {
-                    return Ok(None);
+                    return Ok(Turned::left(None));
                 };
                 let key = edge.key().copy()?;
+                let child = tree.copy(alloc)?;
                 set(&mut self.shown, edge, tree)?;
-                Ok(Some(key))
+                Ok(Turned::left(Some((key, child))))
             }
             Some(Limit::Last(_)) => {
                 let Some((edge, tree)) = self.rest.pop_last() else {
-                    return Ok(None);
+                    return Ok(Turned::left(None));
                 };
                 let key = edge.key().copy()?;
+                let child = tree.copy(alloc)?;
                 set(&mut self.shown, edge, tree)?;
-                Ok(Some(key))
+                Ok(Turned::left(Some((key, child))))
             }
         }
     }
@@ -284,13 +363,6 @@ impl Window {
             rows.push(Row { key, value })?;
         }
         Ok(rows)
-    }
-
-    // The child that is shown at an entry.
-    pub fn row(&self, position: &Position) -> Option<&Tree>
-        ensures { option_copied result ≡ find entry_cmp position.now self.now.shown.entries }
-    {
-        self.shown.get(position)
     }
 
     // The key of the child that is shown before an entry.

@@ -1,5 +1,5 @@
 -- What a view keeps, and how a child is put and taken out.
-use Rattle.std.specs.Prelude.{◌≡◌, Bool, false, not, ◌&&◌, if◌then◌else◌, List, [], ◌∷◌, ◌++◌, map}
+use Rattle.std.specs.Prelude.{◌≡◌, Bool, false, not, ◌&&◌, if◌then◌else◌, List, [], map}
 use Rattle.std.specs.Prelude.{Option, Some, None, is_some}
 use Rattle.std.specs.List.{filter, list_any}
 use Rattle.std.specs.FinMap as map_of
@@ -92,17 +92,6 @@ noted_in noted es = filter (λ e. is_noted noted e.0.1) es
 -- of the noted entries those that are shown no more
 abbrev pub gone_from : List Key → Entries → Entries → Entries
 gone_from noted new old = filter (λ e. is_noted noted e.0.1 && not (is_some (value_at new e.0.1))) old
-
--- the same, beside one key that is noted already
-abbrev pub NotesBeside : Key → List Key → List Key → Entries → Entries → Type 0
-NotesBeside own old new before after =
-    (k : Key) → is_noted new k ≡ false → (is_noted old k ≡ false)
-    × (key_eq own k ≡ false → value_at after k ≡ value_at before k)
-
--- the noted keys, and one more, if there is one
-abbrev pub noted_too : Option Key → List Key → List Key
-noted_too None noted = noted
-noted_too (Some k) noted = noted ++ k ∷ []
 
 -- of what is shown under a key now, and of what was, that which is gone
 abbrev pub gone_at : Option PathTree → Option PathTree → Option PathTree

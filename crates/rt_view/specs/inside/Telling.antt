@@ -1,12 +1,12 @@
 -- What is told of the noted children, each found once.
-use Rattle.std.specs.Prelude.{◌≡◌, ◌≤◌, Bool, false, not, ◌&&◌, if◌then◌else◌, List, map, Option}
+use Rattle.std.specs.Prelude.{◌≡◌, ◌≤◌, Bool, false, not, ◌&&◌, ◌||◌, if◌then◌else◌, List, [], map, Option}
 use Rattle.std.specs.Prelude.{Some, None, IfSome, T}
 use Rattle.std.specs.List.{All, filter}
 use Rattle.std.specs.Ordering.{is_eq}
 use Rattle.std.specs.FinMap as map_of
 use Rattle.std.specs.FinMap.Entries.{find, is_sorted}
 use Rattle.std.specs.Option.{option_map_or}
-use Rattle.rt_tree.specs.PathTree.{Key, PathTree, key_cmp, is_null, non_null, levels, child_of}
+use Rattle.rt_tree.specs.PathTree.{Key, PathTree, key_cmp, is_null, levels, child_of}
 use Rattle.rt_tree.specs.Children.{children_of}
 use Rattle.rt_order.specs.declared.index.Index.{Index}
 use Rattle.rt_order.specs.Entries.{Entry, entry, entry_cmp, sort_value}
@@ -14,12 +14,13 @@ use Rattle.rt_order.specs.Values.{value_cmp}
 use Rattle.rt_query.specs.Queries.{Query}
 use Rattle.rt_view.specs.declared.told.Seen.{Seen}
 use Rattle.rt_view.specs.declared.told.Told.{Told}
-use Rattle.rt_view.specs.declared.told.Was.{Was}
+use Rattle.rt_view.specs.declared.window.Turned.{Turned}
 use Rattle.rt_view.specs.declared.window.Window.{Window}
 use Rattle.rt_view.specs.declared.change.Change.{Change}
 use Rattle.rt_view.specs.declared.kind.Kind.{Kind}
 use Rattle.rt_view.specs.inside.Given.{change_of, is_given}
-use Rattle.rt_view.specs.inside.Kept.{NotesAll, taken_out}
+use Rattle.rt_view.specs.inside.Kept.{Notes, NotesAll, taken_out}
+use Rattle.rt_view.specs.inside.Turns.{Values, shown_if}
 use Rattle.rt_view.specs.inside.Windows.{Entries, before, value_at}
 
 -- ---- a child that comes
@@ -35,14 +36,6 @@ left_by q k None new es = es
 left_by q k (Some t) new es = if takes_place q.index t new then es else taken_out q k (Some t) es
 
 -- ---- what was shown, and what is shown now
-
--- what was shown under these keys, of a tree that was shown
-abbrev pub was_in : PathTree → List Key → List Was
-was_in t ks = map (λ k. record { key = k; old = child_of (children_of t) k }) ks
-
--- and what is shown now beside it
-abbrev pub seen_of : Entries → Was → Seen
-seen_of shown w = record { key = w.key; old = w.old; new = value_at shown w.key }
 
 abbrev pub keys_in : List Seen → List Key
 keys_in seen = map (λ s. s.key) seen
@@ -60,30 +53,48 @@ pub record AreSeen (index : Index) (t : PathTree) (window : Window) (seen : List
   pub each : All (IsSeen t window.shown.entries) seen
   pub notes : NotesAll index (keys_in seen) t window
 
--- ---- what is kept by each key that is touched
+-- ---- what is kept by each key under which something else is shown
 
--- what stood at a key of one tree, and what stands there in another one
-abbrev pub seen_at : PathTree → PathTree → Key → Seen
-seen_at t u k = record {
-  key = k;
-  old = child_of (children_of t) k;
-  new =
-      child_of (children_of u) k;
-}
+-- what was shown under a key, and what is shown there now
+abbrev pub seen_at : Values → Values → Key → Seen
+seen_at old new k = record { key = k; old = old k; new = new k }
 
--- at one key more stands another child, or none, in place of this one; what stood there first stays
-abbrev pub seen_too : Key → Option PathTree → PathTree → List (Key × Seen) → List (Key × Seen)
+-- what is kept says what was and is shown at its key
+abbrev pub IsSeenOf : Entries → Entries → Seen → Type 0
+IsSeenOf before after s = s ≡ seen_at (value_at before) (value_at after) s.key
+
+-- all that is shown otherwise
+pub record AllSeen (before after : Entries) (seen : List Seen) : Type 0 where
+  pub each : All (IsSeenOf before after) seen
+  pub notes : Notes [] (keys_in seen) before after
+
+-- under one key more another child is shown, or none, in place of this one; what was shown there first stays
+abbrev pub seen_too : Key → Option PathTree → Option PathTree → List (Key × Seen) → List (Key × Seen)
 seen_too k old new es = map_of.put key_cmp k
-    (record { key = k; old = option_map_or (λ s. s.old) (find key_cmp k es) old; new = non_null new }) es
+    (record { key = k; old = option_map_or (λ s. s.old) (find key_cmp k es) old; new = new }) es
 
--- what is kept by a key says what stood and stands there; where nothing is kept that is the same
-abbrev pub IsKeptBy : PathTree → PathTree → Key → Option Seen → Type 0
-IsKeptBy t u k None = child_of (children_of u) k ≡ child_of (children_of t) k
-IsKeptBy t u k (Some s) = s ≡ seen_at t u k
+-- with a child that crossed in, or out
+abbrev pub seen_in : Option (Key × PathTree) → List (Key × Seen) → List (Key × Seen)
+seen_in None es = es
+seen_in (Some c) es = seen_too c.0 None (Some c.1) es
 
-pub record KeepsSeen (t u : PathTree) (es : List (Key × Seen)) : Type 0 where
+abbrev pub seen_out : Option (Key × PathTree) → List (Key × Seen) → List (Key × Seen)
+seen_out None es = es
+seen_out (Some c) es = seen_too c.0 (Some c.1) None es
+
+-- with a child that came to a key, where this one left
+abbrev pub seen_turned : Key → Option PathTree → PathTree → Turned → Turned → List (Key × Seen) → List (Key × Seen)
+seen_turned k old new left came es = seen_out came.crossed
+    (seen_too k (if left.was || came.was then old else None) (shown_if came.is new) (seen_in left.crossed es))
+
+-- what is kept by a key says what was and is shown there; where nothing is kept that is the same
+abbrev pub IsKeptBy : Values → Values → Key → Option Seen → Type 0
+IsKeptBy old new k None = new k ≡ old k
+IsKeptBy old new k (Some s) = s ≡ seen_at old new k
+
+pub record KeepsSeen (old new : Values) (es : List (Key × Seen)) : Type 0 where
   pub rises : T (is_sorted key_cmp es)
-  pub each : (k : Key) → IsKeptBy t u k (find key_cmp k es)
+  pub each : (k : Key) → IsKeptBy old new k (find key_cmp k es)
 
 -- ---- a child that is shown now
 
@@ -100,10 +111,10 @@ abbrev pub told_in : PathTree → Entries → Entries → List (Entry × Told)
 told_in old shown es = map (λ e. (e.0, told_of old shown e)) es
 
 -- the child that is shown under one more key, if there is one
-abbrev pub told_too : Index → Was → Entries → Option PathTree → List (Entry × Told) → List (Entry × Told)
-told_too index was shown None es = es
-told_too index was shown (Some v) es = map_of.put entry_cmp (entry index (was.key, v))
-    (record { old = was.old; new = v; after = before (entry index (was.key, v)) shown }) es
+abbrev pub told_too : Index → Key → Option PathTree → Entries → Option PathTree → List (Entry × Told) → List (Entry × Told)
+told_too index k old shown None es = es
+told_too index k old shown (Some v) es = map_of.put entry_cmp (entry index (k, v))
+    (record { old = old; new = v; after = before (entry index (k, v)) shown }) es
 
 -- the child that is gone from one more key, if there is one
 abbrev pub gone_too : Index → Key → Option PathTree → Entries → Entries

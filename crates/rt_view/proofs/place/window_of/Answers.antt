@@ -1,5 +1,5 @@
 use Rattle.std.specs.Prelude.{T}
-use Rattle.std.proofs.Common.{◌≡◌, sym, subst, ◌∙◌}
+use Rattle.std.proofs.Common.{sym, subst, ◌∙◌}
 use Rattle.std.specs.FinMap.Entries.{is_sorted}
 use Rattle.rt_tree.specs.Children.{children_of}
 use Rattle.rt_order.specs.Entries.{entry_cmp}

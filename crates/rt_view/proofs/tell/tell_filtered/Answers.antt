@@ -2,17 +2,19 @@ use Rattle.std.specs.Prelude.{◌==◌}
 use Rattle.std.proofs.Common.{◌≡◌, ◌++◌, ◌∷◌, [], length, refl, sym, ◌∙◌, rules}
 use Rattle.rt_view.specs.declared.change.Change.TheVariants.{Value}
 use Rattle.rt_view.specs.inside.Telling.{keys_in}
-use Rattle.rt_view.proofs.TellLaws.{are_seen}
+use Rattle.rt_view.proofs.SeenLaws.{all_fit}
 use Rattle.rt_view.proofs.TreeLaws.{filtered_same, filtered_leaf, set_all, told_same, told_other, tree_of_children, tree_same}
 use Rattle.rt_view.proofs.tell.tell_filtered.Goals as goal
+
+pub set_noted-requires-clause-fits : goal.set_noted-requires-clause-fits
+set_noted-requires-clause-fits c = all_fit c.args.query.now c.args.tree.now c.args.known.now c.args.window.now c.args.seen.now c.children.ensures.allowed c.requires.kept c.requires.seen.each
 
 pub returns-then-is_empty-clause-tree : goal.returns-then-is_empty-clause-tree
 returns-then-is_empty-clause-tree c =
     let q = c.args.query.now in
     let t = c.args.tree.now in
-    let seen = are_seen q.index t c.args.window.now c.args.noted.now _ _ (c.as_slice.ensures.value ∙ c.in_ok-was.ensures) (c.as_slice-seen.ensures.value ∙ c.in_ok-found.ensures.seen) c.requires.notes in
     let empty : c.is_empty.result ≡ (length c.in_ok-changes.changes.items == 0) = search rules in
-    let rows = c.in_ok-changes.ensures c.args.known.now t c.requires.kept seen in
+    let rows = c.in_ok-changes.ensures c.args.known.now t c.requires.kept c.requires.seen in
     tree_same q c.args.known.now t
     (sym (filtered_same q c.args.known.now t c.args.window.now c.in_ok-changes.changes.items c.requires.kept c.requires.filtered c.requires.object rows) ∙ sym empty ∙ c.if-is_empty.true)
 
@@ -20,9 +22,8 @@ pub returns-then-is_empty-clause-changes : goal.returns-then-is_empty-clause-cha
 returns-then-is_empty-clause-changes c =
     let q = c.args.query.now in
     let t = c.args.tree.now in
-    let seen = are_seen q.index t c.args.window.now c.args.noted.now _ _ (c.as_slice.ensures.value ∙ c.in_ok-was.ensures) (c.as_slice-seen.ensures.value ∙ c.in_ok-found.ensures.seen) c.requires.notes in
     let empty : c.is_empty.result ≡ (length c.in_ok-changes.changes.items == 0) = search rules in
-    let rows = c.in_ok-changes.ensures c.args.known.now t c.requires.kept seen in
+    let rows = c.in_ok-changes.ensures c.args.known.now t c.requires.kept c.requires.seen in
     c.of.ensures ∙ rows ∙ told_same q c.args.known.now t c.args.window.now c.requires.kept
     (sym (filtered_same q c.args.known.now t c.args.window.now c.in_ok-changes.changes.items c.requires.kept c.requires.filtered c.requires.object rows) ∙ sym empty ∙ c.if-is_empty.true)
 
@@ -30,19 +31,17 @@ pub returns-clause-tree : goal.returns-clause-tree
 returns-clause-tree c =
     let q = c.args.query.now in
     let t = c.args.tree.now in
-    let seen = are_seen q.index t c.args.window.now c.args.noted.now _ _ (c.as_slice.ensures.value ∙ c.in_ok-was.ensures) (c.as_slice-seen.ensures.value ∙ c.in_ok-found.ensures.seen) c.requires.notes in
     tree_of_children q c.args.known.now c.set_noted.new.tree c.args.window.now c.requires.kept (filtered_leaf q c.args.known.now c.requires.filtered) c.in_ok-set_noted.ensures.object
-    (set_all q (keys_in c.as_slice-seen.result.now) c.args.window.now.shown.entries t t c.set_noted.new.tree seen.notes (λ k. refl) (c.in_ok-set_noted.ensures.set t c.args.window.now.shown.entries seen.each))
+    (set_all q (keys_in c.args.seen.now) c.args.window.now.shown.entries t t c.set_noted.new.tree c.requires.seen.notes (λ k. refl) (c.in_ok-set_noted.ensures.set t c.args.window.now.shown.entries c.requires.seen.each))
 
 pub returns-clause-changes : goal.returns-clause-changes
 returns-clause-changes c =
     let q = c.args.query.now in
     let t = c.args.tree.now in
-    let seen = are_seen q.index t c.args.window.now c.args.noted.now _ _ (c.as_slice.ensures.value ∙ c.in_ok-was.ensures) (c.as_slice-seen.ensures.value ∙ c.in_ok-found.ensures.seen) c.requires.notes in
     let empty : c.is_empty.result ≡ (length c.in_ok-changes.changes.items == 0) = search rules in
-    let rows = c.in_ok-changes.ensures c.args.known.now t c.requires.kept seen in
+    let rows = c.in_ok-changes.ensures c.args.known.now t c.requires.kept c.requires.seen in
     let tree = tree_of_children q c.args.known.now c.set_noted.new.tree c.args.window.now c.requires.kept (filtered_leaf q c.args.known.now c.requires.filtered) c.in_ok-set_noted.ensures.object
-    (set_all q (keys_in c.as_slice-seen.result.now) c.args.window.now.shown.entries t t c.set_noted.new.tree seen.notes (λ k. refl) (c.in_ok-set_noted.ensures.set t c.args.window.now.shown.entries seen.each)) in
+    (set_all q (keys_in c.args.seen.now) c.args.window.now.shown.entries t t c.set_noted.new.tree c.requires.seen.notes (λ k. refl) (c.in_ok-set_noted.ensures.set t c.args.window.now.shown.entries c.requires.seen.each)) in
     c.of-2.ensures ∙ c.in_ok-push.ensures.items ∙ (λ i. rows i ++ Value ((c.in_ok-value.ensures ∙ tree) i) ∷ [])
     ∙ told_other q c.args.known.now t c.args.window.now c.requires.kept
     (sym (filtered_same q c.args.known.now t c.args.window.now c.in_ok-changes.changes.items c.requires.kept c.requires.filtered c.requires.object rows) ∙ sym empty ∙ c.if-is_empty.false)

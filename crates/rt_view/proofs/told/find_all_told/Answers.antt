@@ -34,7 +34,7 @@ loop-one-preserved c known t kept had =
       c.in_ok-find_told.ensures.gone
           ∙ (λ i. gone_too (own i) one.key (gone_at (at.1 i) ((at.0 ∙ sym (value_at-children index t one.key)) i)) (before.0 i))
           ∙ gone_also index ks one.key new old (listed-children index t) ∙ ap (λ js. gone_from js new old) (sym next),
-      c.in_ok-find_told.ensures.now ∙ (λ i. told_too (own i) (record { key = one.key; old = at.0 i }) new (at.1 i) (before.1 i))
+      c.in_ok-find_told.ensures.now ∙ (λ i. told_too (own i) one.key (at.0 i) new (at.1 i) (before.1 i))
           ∙ told_also index ks one.key t new listed ∙ ap (λ js. told_in t new (noted_in js new)) (sym next),
     )
 

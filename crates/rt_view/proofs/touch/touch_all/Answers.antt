@@ -1,8 +1,30 @@
-use Rattle.std.proofs.Common.{◌++◌, map, append-nil, ap, sym, ◌∙◌}
-use Rattle.std.proofs.lemmas.List.{drop_all}
+use Rattle.std.proofs.Common.{◌+◌, ◌∷◌, [], List, drop, ap, sym, subst, ◌∙◌}
+use Rattle.std.proofs.lemmas.List.{drop_more}
+use Rattle.std.proofs.lemmas.Result.{IfOk-weaker}
+use Rattle.rt_tree.specs.PathTree.{Key, PathTree, put}
+use Rattle.rt_view.specs.Views.{with_named}
+use Rattle.rt_view.specs.inside.Telling.{AllSeen}
+use Rattle.rt_view.specs.inside.Windows.{value_at}
+use Rattle.rt_view.proofs.SeenLaws.{keeps_all}
 use Rattle.rt_view.proofs.touch.touch_all.Goals as goal
 
-pub returns-clause-alone : goal.returns-clause-alone
-returns-clause-alone c none =
-    sym (ap (λ cs. c.loop-key.noted.items ++ map (λ d. d.0) cs) (drop_all c.loop-key.key-index c.args.named.now c.loop-key-test.false) ∙ append-nil c.loop-key.noted.items)
-    ∙ c.loop-key.invariant.2 none
+pub loop-key-preserved : goal.loop-key-preserved
+loop-key-preserved c =
+    let t : PathTree = c.loop-key.known in
+    let item : Key × PathTree = c.loop-key-item.result in
+    let rest : List (Key × PathTree) = drop (c.loop-key.key-index + 1) c.args.named.now in (
+      c.in_ok-touch_child.ensures.kept,
+      ap (λ (u : PathTree). with_named u rest) c.in_ok-touch_child.ensures.put
+          ∙ ap (λ (d : Key × PathTree). with_named (put t (d.0 ∷ []) d.1) rest) c.loop-key-item.is
+          ∙ sym (ap (with_named t) (drop_more c.args.named.now c.loop-key.key-index item c.loop-key-test.true))
+          ∙ c.loop-key.invariant.1,
+      c.in_ok-touch_child.ensures.seen (value_at c.args.window.now.shown.entries) c.loop-key.invariant.2,
+    )
+
+pub returns-clause-seen : goal.returns-clause-seen
+returns-clause-seen c =
+    let before = c.args.window.now.shown.entries in
+    let after = c.loop-key.window.shown.entries in
+    IfOk-weaker c.list_seen.result _ _
+    (λ list told. subst (AllSeen before after) (sym told) (keeps_all before after c.loop-key.seen.entries c.loop-key.invariant.2))
+    c.list_seen.ensures

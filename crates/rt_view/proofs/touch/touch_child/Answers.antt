@@ -1,9 +1,40 @@
+use Rattle.std.proofs.Common.{◌≡◌, Option, ap, sym, subst, ◌∙◌, rules}
 use Rattle.std.specs.Option.{option_copied}
+use Rattle.std.proofs.lemmas.Result.{IfOk-weaker}
+use Rattle.rt_tree.specs.PathTree.{PathTree, child_of}
+use Rattle.rt_tree.specs.Children.{children_of}
+use Rattle.rt_view.specs.inside.Telling.{KeepsSeen, seen_turned}
+use Rattle.rt_view.specs.inside.Windows.{value_at}
+use Rattle.rt_view.proofs.CrossLaws.{listed_left, shown_known}
+use Rattle.rt_view.proofs.SeenLaws.{keeps_turned}
 use Rattle.rt_view.proofs.TouchLaws.{touched_window}
 use Rattle.rt_view.proofs.touch.touch_child.Goals as goal
 
 pub returns-clause-kept : goal.returns-clause-kept
 returns-clause-kept c =
-    touched_window c.args.query.now c.args.known.now c.put_child.new.tree c.args.key.now c.args.child.now (option_copied c.child_at.result)
-    c.args.window.now c.take_out.new.window c.bring_in.new.window c.requires.kept c.child_at.ensures.child
-    c.in_ok-take_out.ensures.limit c.in_ok-take_out.ensures.taken c.in_ok-bring_in.ensures.limit c.in_ok-bring_in.ensures.put c.in_ok-put_child.ensures
+    let old : option_copied c.as_ref.result ≡ child_of (children_of c.args.known.now) c.args.key.now = search rules in
+    IfOk-weaker c.keep_turned.result _ _
+    (λ x told. touched_window c.args.query.now c.args.known.now c.put_child.new.tree c.args.key.now c.args.child.now (option_copied c.as_ref.result)
+    c.args.window.now c.take_out.new.window c.bring_in.new.window c.requires.kept old
+    c.in_ok-left.ensures.limit c.in_ok-left.ensures.taken c.in_ok-came.ensures.limit c.in_ok-came.ensures.put c.in_ok-put_child.ensures)
+    c.keep_turned.ensures
+
+pub returns-clause-seen : goal.returns-clause-seen
+returns-clause-seen c =
+    let q = c.args.query.now in
+    let t : PathTree = c.args.known.now in
+    let k = c.args.key.now in
+    let before = c.args.window.now in
+    let mid = c.take_out.new.window in
+    let after = c.bring_in.new.window in
+    let old : option_copied c.as_ref.result ≡ child_of (children_of t) k = search rules in
+    let leaves = c.in_ok-left.ensures.leaves t c.requires.kept (sym old) in
+    let listed = listed_left q t k (option_copied c.as_ref.result) c.args.child.now before mid c.requires.kept c.in_ok-left.ensures.taken in
+    let comes = c.in_ok-came.ensures.comes listed leaves.stands in
+    let same : option_copied c.as_ref-2.result ≡ option_copied c.as_ref.result = search rules in
+    let kept = ap (λ (o : Option PathTree). seen_turned k o c.args.child.now c.in_ok-left.left c.in_ok-came.came c.args.seen.now.entries) same in
+    IfOk-weaker c.keep_turned.result _ _
+    (λ x told f h. subst (KeepsSeen f (value_at after.shown.entries)) (sym (told ∙ kept))
+    (keeps_turned f q k (option_copied c.as_ref.result) c.args.child.now c.in_ok-left.left c.in_ok-came.came before.shown.entries mid.shown.entries after.shown.entries
+    leaves comes (λ v g. old ∙ (shown_known q t before k v c.requires.kept g).0) c.args.seen.now.entries h))
+    c.keep_turned.ensures

@@ -1,20 +1,29 @@
-use Rattle.std.proofs.Common.{◌≡◌, Some, IfOk, refl, ap, sym, subst, ◌∙◌}
+use Rattle.std.proofs.Common.{◌≡◌, Some, IfOk, ap, sym, subst, ◌∙◌}
+use Rattle.rt_tree.specs.PathTree.{Key, child_of}
+use Rattle.rt_tree.specs.Children.{children_of}
 use Rattle.rt_query.specs.Select.{select}
 use Rattle.rt_view.specs.Changes.{changes}
 use Rattle.rt_view.specs.inside.Windows.{Entries, value_at}
-use Rattle.rt_view.specs.inside.Kept.{is_noted, rows_in_tree, shown_by}
+use Rattle.rt_view.specs.inside.Kept.{rows_in_tree, shown_by}
+use Rattle.rt_view.specs.inside.Telling.{AreSeen}
+use Rattle.rt_view.proofs.Listed.{value_at-children}
+use Rattle.rt_view.proofs.SeenLaws.{are_seen}
 use Rattle.rt_view.proofs.TreeLaws.{filtered_object, rows_in_tree-shown, shown_by-shown}
 use Rattle.rt_view.proofs.touch.touch_filtered.Goals as goal
 
 pub tell_filtered-requires-clause-object : goal.tell_filtered-requires-clause-object
 tell_filtered-requires-clause-object c = filtered_object c.args.query.now c.args.known.now c.args.tree.now c.requires.filtered c.requires.tree
 
-pub tell_filtered-requires-clause-notes : goal.tell_filtered-requires-clause-notes
-tell_filtered-requires-clause-notes c k e =
+pub tell_filtered-requires-clause-seen : goal.tell_filtered-requires-clause-seen
+tell_filtered-requires-clause-seen c =
     let q = c.args.query.now in
-    let same : rows_in_tree q.index c.args.tree.now ≡ c.args.window.now.shown.entries =
+    let t = c.args.tree.now in
+    let w = c.touch_all.new.window in
+    let same : rows_in_tree q.index t ≡ c.args.window.now.shown.entries =
     ap (rows_in_tree q.index) c.requires.tree ∙ rows_in_tree-shown q c.args.known.now c.args.window.now c.requires.kept in
-    (refl, (c.in_ok-noted.ensures.notes k (ap (λ ks. is_noted ks k) (sym c.as_slice.ensures.value) ∙ e)).1 ∙ ap (λ (es : Entries). value_at es k) (sym same))
+    let of_tree : (k : Key) → value_at c.args.window.now.shown.entries k ≡ child_of (children_of t) k =
+    λ k. ap (λ (es : Entries). value_at es k) (sym same) ∙ value_at-children q.index t k in
+    subst (AreSeen q.index t w) (sym c.as_slice.ensures.value) (are_seen q.index t w c.args.window.now.shown.entries _ c.in_ok-seen.ensures.seen of_tree)
 
 pub returns-clause-changes : goal.returns-clause-changes
 returns-clause-changes c =

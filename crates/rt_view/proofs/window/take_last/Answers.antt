@@ -1,5 +1,5 @@
 use Rattle.std.specs.Prelude.{T}
-use Rattle.std.proofs.Common.{◌≡◌, ◌∷◌, [], ◌++◌, ◌<◌, length, reverse, length-append, append_assoc, ap, arith, sym, subst, ◌∙◌, Some}
+use Rattle.std.proofs.Common.{◌∷◌, [], ◌++◌, length, reverse, length-append, append_assoc, ap, arith, sym, subst, ◌∙◌, Some}
 use Rattle.std.specs.FinMap.Entries.{is_sorted}
 use Rattle.std.proofs.lemmas.List.{length-reverse, reverse-append}
 use Rattle.std.proofs.lemmas.Result.{IfOk-weaker}

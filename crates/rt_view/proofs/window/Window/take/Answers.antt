@@ -1,10 +1,13 @@
-use Rattle.std.proofs.Common.{◌≡◌, ◌++◌, [], sym, ap, subst, ◌∙◌, rules, Some, None}
+use Rattle.std.proofs.Common.{◌≡◌, ◌++◌, [], refl, sym, ap, subst, ◌∙◌, rules, Some, None}
 use Rattle.std.specs.FinMap as map_of
-use Rattle.rt_tree.specs.PathTree.{PathTree, Key, key_eq}
+use Rattle.rt_tree.specs.PathTree.{PathTree}
 use Rattle.rt_order.specs.Entries.{Entry, entry_cmp}
 use Rattle.rt_query.specs.declared.limit.Limit.TheVariants.{First, Last}
-use Rattle.rt_view.specs.inside.Windows.{Entries, IsWindow, joined, without, value_at}
-use Rattle.rt_view.proofs.WindowLaws.{parts_rise, take_rest, take_unlimited, take_all_first, take_all_last, refill_first, refill_last, taken_at, empty_of, crosses_refill, value_at-without}
+use Rattle.rt_view.specs.inside.Windows.{Entries, IsWindow, joined, without}
+use Rattle.rt_view.proofs.WindowLaws.{parts_rise, take_rest, take_unlimited, take_all_first, take_all_last, refill_first, refill_last, taken_at, empty_of}
+use Rattle.rt_view.proofs.Orderings.{find_lookup}
+use Rattle.rt_view.specs.declared.window.Turned.{Turned}
+use Rattle.rt_view.specs.inside.Turns.{Refilled, Refills}
 use Rattle.rt_view.proofs.window.Window.take.Goals as goal
 
 pub unset-requires : goal.unset-requires
@@ -21,7 +24,9 @@ returns-then-not-unset-clause-taken c =
     (take_rest m.limit c.args.position.now m.shown.entries m.rest.entries _ c.requires (sym c.if-not-unset.ensures.was)))
 
 pub returns-then-not-unset-clause-crosses : goal.returns-then-not-unset-clause-crosses
-returns-then-not-unset-clause-crosses c k h g = ap (λ (s : Entries). value_at s k) c.if-not-unset.ensures.gone ∙ value_at-without c.args.position.now c.args.self.now.shown.entries k h
+returns-then-not-unset-clause-crosses c =
+    let m = c.args.self.now in
+    subst (λ (r : Turned). Refills r m.rest.entries (without c.args.position.now m.shown.entries) c.unset.new.children.entries) (sym c.none.ensures) (c.if-not-unset.ensures.gone, tt)
 
 pub returns-in_default-clause-taken : goal.returns-in_default-clause-taken
 returns-in_default-clause-taken c =
@@ -36,7 +41,9 @@ returns-in_default-clause-taken c =
     (take_all_first c.in-Some-First.field-0-0 e m.shown.entries _ (subst (λ r. IsWindow (Some (First c.in-Some-First.field-0-0)) m.shown.entries r (m.shown.entries ++ m.rest.entries)) none w)))) c.requires
 
 pub returns-in_default-clause-crosses : goal.returns-in_default-clause-crosses
-returns-in_default-clause-crosses c k h g = ap (λ (s : Entries). value_at s k) c.if-not-unset.ensures.gone ∙ value_at-without c.args.position.now c.args.self.now.shown.entries k h
+returns-in_default-clause-crosses c =
+    let m = c.args.self.now in
+    subst (λ (r : Turned). Refills r m.rest.entries (without c.args.position.now m.shown.entries) c.unset.new.children.entries) (sym c.left-in_default.ensures) (c.if-not-unset.ensures.gone, tt)
 
 pub returns-in_default-pop_last-clause-taken : goal.returns-in_default-pop_last-clause-taken
 returns-in_default-pop_last-clause-taken c =
@@ -51,7 +58,9 @@ returns-in_default-pop_last-clause-taken c =
     (take_all_last c.in-Some-Last.field-0-0 e m.shown.entries _ (subst (λ r. IsWindow (Some (Last c.in-Some-Last.field-0-0)) m.shown.entries r (m.rest.entries ++ m.shown.entries)) none w)))) c.requires
 
 pub returns-in_default-pop_last-clause-crosses : goal.returns-in_default-pop_last-clause-crosses
-returns-in_default-pop_last-clause-crosses c k h g = ap (λ (s : Entries). value_at s k) c.if-not-unset.ensures.gone ∙ value_at-without c.args.position.now c.args.self.now.shown.entries k h
+returns-in_default-pop_last-clause-crosses c =
+    let m = c.args.self.now in
+    subst (λ (r : Turned). Refills r m.rest.entries (without c.args.position.now m.shown.entries) c.unset.new.children.entries) (sym c.left-in_default-pop_last.ensures) (c.if-not-unset.ensures.gone, tt)
 
 pub returns-in-None-clause-taken : goal.returns-in-None-clause-taken
 returns-in-None-clause-taken c =
@@ -61,7 +70,9 @@ returns-in-None-clause-taken c =
     (λ w. subst (λ s. IsWindow None s m.rest.entries (without e (m.shown.entries ++ m.rest.entries))) (sym c.if-not-unset.ensures.gone) (take_unlimited e m.shown.entries m.rest.entries _ w)) c.requires
 
 pub returns-in-None-clause-crosses : goal.returns-in-None-clause-crosses
-returns-in-None-clause-crosses c k h g = ap (λ (s : Entries). value_at s k) c.if-not-unset.ensures.gone ∙ value_at-without c.args.position.now c.args.self.now.shown.entries k h
+returns-in-None-clause-crosses c =
+    let m = c.args.self.now in
+    subst (λ (r : Turned). Refills r m.rest.entries (without c.args.position.now m.shown.entries) c.unset.new.children.entries) (sym c.left.ensures) (c.if-not-unset.ensures.gone, tt)
 
 pub returns-in_ok-set-in-Some-First-clause-taken : goal.returns-in_ok-set-in-Some-First-clause-taken
 returns-in_ok-set-in-Some-First-clause-taken c =
@@ -75,11 +86,17 @@ returns-in_ok-set-in-Some-First-clause-taken c =
     (refill_first c.in-Some-First.field-0-0 e m.shown.entries m.rest.entries _ w (sym c.if-not-unset.ensures.was) p c.pop_first.new.self.entries c.in-Some.ensures.removal)) c.requires
 
 pub returns-in_ok-set-in-Some-First-clause-crosses : goal.returns-in_ok-set-in-Some-First-clause-crosses
-returns-in_ok-set-in-Some-First-clause-crosses c k h g =
+returns-in_ok-set-in-Some-First-clause-crosses c =
+    let m = c.args.self.now in
+    let left : Entries = without c.args.position.now m.shown.entries in
     let p : Entry × PathTree = (c.in-Some.edge, c.in-Some.tree) in
-    let same : c.in_ok-key-in-Some-First.key ≡ c.in-Some.edge.1 = search rules in
-    let set : c.set.new.children.entries ≡ map_of.put entry_cmp p.0 p.1 (without c.args.position.now c.args.self.now.shown.entries) = c.in_ok-set-in-Some-First.ensures ∙ ap (λ (s : Entries). map_of.put entry_cmp p.0 p.1 s) c.if-not-unset.ensures.gone in
-    ap (λ (s : Entries). value_at s k) set ∙ crosses_refill c.args.position.now c.args.self.now.shown.entries p k h (ap (λ (j : Key). key_eq j k) (sym same) ∙ g)
+    let same : c.in_ok-key-in-Some-First.key ≡ p.0.1 = search rules in
+    let child : c.in_ok-child-in-Some-First.child ≡ p.1 = search rules in
+    let set : c.set.new.children.entries ≡ map_of.put entry_cmp p.0 p.1 left = c.in_ok-set-in-Some-First.ensures ∙ ap (λ (s : Entries). map_of.put entry_cmp p.0 p.1 s) c.if-not-unset.ensures.gone in
+    let refilled : Refilled (Some (c.in_ok-key-in-Some-First.key, p.1)) m.rest.entries left c.set.new.children.entries =
+    (p.0, sym same, sym (find_lookup m.rest.entries p.0) ∙ c.in-Some.ensures.value, set) in
+    subst (λ (r : Turned). Refills r m.rest.entries left c.set.new.children.entries) (sym c.left-in-Some-First.ensures)
+    (subst (λ (x : PathTree). Refilled (Some (c.in_ok-key-in-Some-First.key, x)) m.rest.entries left c.set.new.children.entries) (sym child) refilled, refl)
 
 pub returns-in_ok-set-in-Some-Last-clause-taken : goal.returns-in_ok-set-in-Some-Last-clause-taken
 returns-in_ok-set-in-Some-Last-clause-taken c =
@@ -93,8 +110,14 @@ returns-in_ok-set-in-Some-Last-clause-taken c =
     (refill_last c.in-Some-Last.field-0-0 e m.shown.entries m.rest.entries _ w (sym c.if-not-unset.ensures.was) p c.pop_last.new.self.entries c.in-Some-pop_last.ensures.removal)) c.requires
 
 pub returns-in_ok-set-in-Some-Last-clause-crosses : goal.returns-in_ok-set-in-Some-Last-clause-crosses
-returns-in_ok-set-in-Some-Last-clause-crosses c k h g =
+returns-in_ok-set-in-Some-Last-clause-crosses c =
+    let m = c.args.self.now in
+    let left : Entries = without c.args.position.now m.shown.entries in
     let p : Entry × PathTree = (c.in-Some-pop_last.edge, c.in-Some-pop_last.tree) in
-    let same : c.in_ok-key-in-Some-Last.key ≡ c.in-Some-pop_last.edge.1 = search rules in
-    let set : c.set-in-Some-Last.new.children.entries ≡ map_of.put entry_cmp p.0 p.1 (without c.args.position.now c.args.self.now.shown.entries) = c.in_ok-set-in-Some-Last.ensures ∙ ap (λ (s : Entries). map_of.put entry_cmp p.0 p.1 s) c.if-not-unset.ensures.gone in
-    ap (λ (s : Entries). value_at s k) set ∙ crosses_refill c.args.position.now c.args.self.now.shown.entries p k h (ap (λ (j : Key). key_eq j k) (sym same) ∙ g)
+    let same : c.in_ok-key-in-Some-Last.key ≡ p.0.1 = search rules in
+    let child : c.in_ok-child-in-Some-Last.child ≡ p.1 = search rules in
+    let set : c.set-in-Some-Last.new.children.entries ≡ map_of.put entry_cmp p.0 p.1 left = c.in_ok-set-in-Some-Last.ensures ∙ ap (λ (s : Entries). map_of.put entry_cmp p.0 p.1 s) c.if-not-unset.ensures.gone in
+    let refilled : Refilled (Some (c.in_ok-key-in-Some-Last.key, p.1)) m.rest.entries left c.set-in-Some-Last.new.children.entries =
+    (p.0, sym same, sym (find_lookup m.rest.entries p.0) ∙ c.in-Some-pop_last.ensures.value, set) in
+    subst (λ (r : Turned). Refills r m.rest.entries left c.set-in-Some-Last.new.children.entries) (sym c.left-in-Some-Last.ensures)
+    (subst (λ (x : PathTree). Refilled (Some (c.in_ok-key-in-Some-Last.key, x)) m.rest.entries left c.set-in-Some-Last.new.children.entries) (sym child) refilled, refl)
