@@ -1,10 +1,11 @@
-// A view and the one of the tests, side by side: equal batches and equal rows after each of many touches
-// and renewals, by queries of each order, without a limit and with one on either side, with and without
-// a range.
+// A view and the two of the tests, side by side: one whose children are sorted and compared anew, and one
+// whose children stand in two maps. Equal batches and equal rows after each of many touches and renewals,
+// by queries of each order, without a limit and with one on either side, with and without a range.
 ghost use Rattle.std.specs.Prelude.{◌≤◌, All, IfOk};
 ghost use Rattle.rt_tree.specs.PathTree.{levels};
 
 use crate::list_view::ListView;
+use crate::map_view::MapView;
 use rt_order::Mark;
 use rt_query::{Draft, Query, Shown};
 use rt_tree::{Key, Leaf, MAX_KEYS, Path, Tree};
@@ -188,23 +189,57 @@ fn named(alloc: Global, step: Step) -> Result<Vec<(Key, Tree)>, Fail>
     Ok(named)
 }
 
-// Makes the step of both; whether they tell and show the same, and as many children were read as named.
-fn make(alloc: Global, view: &mut View, list: &mut ListView, step: Step) -> Result<bool, Fail> {
+// The same query of the same tree, three times.
+#[derive(Drop)]
+struct Views {
+    view: View,
+    list: ListView,
+    maps: MapView,
+}
+
+// Whether the three told the same, and show the same.
+fn agree(
+    alloc: Global,
+    views: &Views,
+    told: &[Change],
+    listed: &[Change],
+    mapped: &[Change],
+) -> Result<bool, Fail> {
+    Ok(
+        are_same(told, listed)
+            && are_same(told, mapped)
+            && *views.maps.tree() == views.list.tree(alloc)?
+            && shows_same(alloc, &views.view.shown()?, &views.list)?,
+    )
+}
+
+// Makes the step of all; whether they tell and show the same, and as many children were read as named.
+fn make(alloc: Global, views: &mut Views, step: Step) -> Result<bool, Fail> {
     if step.kind == 16 {
-        let told = view.renew(alloc, whole(alloc, step.tree)?)?;
-        let others = list.renew(alloc, whole(alloc, step.tree)?)?;
-        return Ok(
-            are_same(told.as_slice(), others.as_slice())
-                && shows_same(alloc, &view.shown()?, list)?,
+        let told = views.view.renew(alloc, whole(alloc, step.tree)?)?;
+        let listed = views.list.renew(alloc, whole(alloc, step.tree)?)?;
+        let mapped = views.maps.renew(alloc, whole(alloc, step.tree)?)?;
+        return agree(
+            alloc,
+            views,
+            told.as_slice(),
+            listed.as_slice(),
+            mapped.as_slice(),
         );
     }
     let named = named(alloc, step)?;
-    let others = list.touch(alloc, named.as_slice())?;
-    let told = view.touch(alloc, named)?;
-    Ok(
-        are_same(told.as_slice(), others.as_slice())
-            && view.reads() == step.kind % 4
-            && shows_same(alloc, &view.shown()?, list)?,
+    let listed = views.list.touch(alloc, named.as_slice())?;
+    let mapped = views.maps.touch(alloc, named.as_slice())?;
+    let told = views.view.touch(alloc, named)?;
+    if views.view.reads() != step.kind % 4 {
+        return Ok(false);
+    }
+    agree(
+        alloc,
+        views,
+        told.as_slice(),
+        listed.as_slice(),
+        mapped.as_slice(),
     )
 }
 
@@ -231,13 +266,22 @@ fn by_chance(seed: u64) -> Step {
     }
 }
 
-// A view of the query and the one of the tests, of the same tree, where they tell the same at first.
-fn begun(alloc: Global, order: u64, form: u64) -> Result<Option<(View, ListView)>, Fail> {
+// The query over a tree, three times, where the three tell the same at first.
+fn begun(alloc: Global, order: u64, form: u64) -> Result<Option<Views>, Fail> {
     let (view, told) = View::first(alloc, query(alloc, order, form)?, whole(alloc, 0)?)?;
     let list = ListView::new(alloc, query(alloc, order, form)?, whole(alloc, 0)?)?;
-    let others = list.first(alloc)?;
-    if are_same(told.as_slice(), others.as_slice()) {
-        Ok(Some((view, list)))
+    let listed = list.first(alloc)?;
+    let mut maps = MapView::new(alloc, query(alloc, order, form)?, whole(alloc, 0)?)?;
+    let mapped = maps.first(alloc)?;
+    let views = Views { view, list, maps };
+    if agree(
+        alloc,
+        &views,
+        told.as_slice(),
+        listed.as_slice(),
+        mapped.as_slice(),
+    )? {
+        Ok(Some(views))
     } else {
         Ok(None)
     }
@@ -245,11 +289,11 @@ fn begun(alloc: Global, order: u64, form: u64) -> Result<Option<(View, ListView)
 
 // How many of the steps were alike under a query, up to the first that was not.
 fn stated_alike(alloc: Global, order: u64, form: u64) -> Result<u64, Fail> {
-    let Some((mut view, mut list)) = begun(alloc, order, form)? else {
+    let Some(mut views) = begun(alloc, order, form)? else {
         return Ok(0);
     };
     for place in 0..STATED {
-        if !make(alloc, &mut view, &mut list, stated(place))? {
+        if !make(alloc, &mut views, stated(place))? {
             return Ok(place);
         }
     }
@@ -257,13 +301,13 @@ fn stated_alike(alloc: Global, order: u64, form: u64) -> Result<u64, Fail> {
 }
 
 fn chance_alike(alloc: Global, order: u64, form: u64) -> Result<u64, Fail> {
-    let Some((mut view, mut list)) = begun(alloc, order, form)? else {
+    let Some(mut views) = begun(alloc, order, form)? else {
         return Ok(0);
     };
     let mut seed = form.wrapping_add(55);
     for place in 0..CHANCE {
         seed = next(seed);
-        if !make(alloc, &mut view, &mut list, by_chance(seed))? {
+        if !make(alloc, &mut views, by_chance(seed))? {
             return Ok(place);
         }
     }
