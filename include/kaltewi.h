@@ -34,6 +34,7 @@ typedef struct {
 } kw_handle;
 
 typedef kw_handle kw_core;   /* a core that lines of a script drive */
+typedef kw_handle kw_client; /* a client with its seats */
 
 /* How a call ends. */
 typedef uint32_t kw_status;
@@ -44,12 +45,12 @@ enum {
     KW_TOO_SMALL = 3,       /* the text is longer than its room: nothing is written, and it is still to be had */
     KW_CLOSED = 4,          /* the handle is closed, or another kind's */
     KW_NO_MEMORY = 5,
-    KW_FAILED = 6,          /* the client has lacked memory before: it answers nothing else from then on */
+    KW_FAILED = 6,          /* the client has lacked memory before: it makes no step and shows no cover from then on */
     KW_BAD_TEXT = 7,        /* no UTF-8, no JSON, or of another form than the call has */
     KW_WRONG_SEAT = 8,      /* the client has no such seat */
-    KW_MAILBOX_FULL = 9,    /* the seat's ring has no room: take items by kw_next first */
+    KW_MAILBOX_FULL = 9,    /* the seat's ring has no room: take items by kw_client_next first */
     KW_TOO_MANY_SEATS = 10, /* more than 64 */
-    KW_REFUSED = 11         /* a layer refuses */
+    KW_REFUSED = 11         /* a layer refuses: kw_client_error says which, and why */
 };
 
 /* ---- a core that lines of a script drive */
@@ -67,6 +68,100 @@ kw_status kw_core_text(kw_core *core, uint8_t *out, size_t room, size_t *len);
 
 /* Closes a core; one that is closed stays so. */
 void kw_core_close(kw_core *core);
+
+/* ---- a client with its seats
+
+   A client knows what the server has, as far as somebody listens to it, and what was written here and is not settled
+   yet. It has seats, numbered from 1: each is told of its own listeners and requests, by items, in order. A listener
+   and a request have a number, from 1, which is never given twice.
+
+   Any call may also end with KW_CLOSED, and nothing has changed; with KW_FAILED, once a step has lacked memory; and, but
+   for kw_client_settle, with KW_NO_MEMORY: where a text could not be read or made nothing has changed, else the client has
+   failed.
+   A client that has failed still gives what its rings hold, a message that was taken out before, and push ids. */
+
+/* Opens a client with a seat for each of so many numbers, each saying how many items the seat's ring holds: a 0 counts
+   as 1, and more than 65,536 as that. One that is open is closed first. KW_DONE, KW_TOO_MANY_SEATS, KW_NO_MEMORY. */
+kw_status kw_client_open(kw_client *client, const size_t *rings, size_t seats);
+
+/* Closes a client; one that is closed stays so. */
+void kw_client_close(kw_client *client);
+
+/* Why the last call ended with KW_REFUSED: the name of the layer, a space and the name of the refusal, as `tree BadKey`,
+   and its number within its layer. KW_DONE, KW_TOO_SMALL, KW_NONE where the last call ended otherwise. */
+kw_status kw_client_error(kw_client *client, uint32_t *code, uint8_t *out, size_t room, size_t *len);
+
+/* -- calls of a seat
+
+   Each hands over to the seat's ring all that waited for it, and then the receipt of the call. A path is a text as
+   "/a/b", a tree is JSON, and entries are an object of trees by their paths: {"/a/b":1,"/c":null}.
+
+   KW_DONE, and the number of the new listener or request; KW_BAD_TEXT where a text is no UTF-8, a query no JSON, or
+   entries no JSON object; KW_REFUSED where a path, a tree, a query or the core refuses it; KW_WRONG_SEAT;
+   KW_MAILBOX_FULL where the ring has no room for what waits and the receipt: take items by kw_client_next first. On
+   all but KW_DONE the number is 0 and, but for a want of memory, nothing has changed. */
+
+/* Registers a listener, which the seat is told of from then on. The query is the member `q` of the message that listens,
+   as {"limit":["last",2],"order":"/score"}; one of no bytes listens to all of the path. */
+kw_status kw_client_listen(kw_client *client, uint64_t seat, const uint8_t *path, size_t path_len, const uint8_t *query,
+                           size_t query_len, uint64_t *listener);
+
+/* Ends a listener of the seat. */
+kw_status kw_client_unlisten(kw_client *client, uint64_t seat, uint64_t listener);
+
+/* Sets a tree at a path; null removes. */
+kw_status kw_client_set(kw_client *client, uint64_t seat, const uint8_t *path, size_t path_len, const uint8_t *tree,
+                        size_t tree_len, uint64_t *request);
+
+/* Sets several trees, each at its path, in one write. */
+kw_status kw_client_update(kw_client *client, uint64_t seat, const uint8_t *entries, size_t entries_len,
+                           uint64_t *request);
+
+/* Removes what is at a path. */
+kw_status kw_client_remove(kw_client *client, uint64_t seat, const uint8_t *path, size_t path_len, uint64_t *request);
+
+/* Asks the server to set a tree at a path, or several, when the connection ends. */
+kw_status kw_client_on_disconnect(kw_client *client, uint64_t seat, const uint8_t *path, size_t path_len,
+                                  const uint8_t *tree, size_t tree_len, uint64_t *request);
+kw_status kw_client_on_disconnect_update(kw_client *client, uint64_t seat, const uint8_t *entries, size_t entries_len,
+                                         uint64_t *request);
+
+/* Drops what was to be written at and below a path when the connection ends. */
+kw_status kw_client_cancel_disconnect(kw_client *client, uint64_t seat, const uint8_t *path, size_t path_len,
+                                      uint64_t *request);
+
+/* -- the connection, which is the program's: each text is one message of a WebSocket */
+
+/* A connection to the server stands, or has ended. KW_DONE, KW_REFUSED. A message that was asked for and not given yet goes
+   with its connection. */
+kw_status kw_client_connected(kw_client *client);
+kw_status kw_client_disconnected(kw_client *client);
+
+/* Takes a message of the server. KW_DONE; KW_STALE where it came too late; KW_BAD_TEXT where it is no UTF-8; KW_REFUSED
+   where it is no message, or the core refuses it. */
+kw_status kw_client_server_message(kw_client *client, const uint8_t *message, size_t message_len);
+
+/* Takes out the first message that is to be sent. KW_DONE, KW_NONE, or KW_TOO_SMALL, and then it is still to be had. */
+kw_status kw_client_take_outgoing(kw_client *client, uint8_t *out, size_t room, size_t *len);
+
+/* -- what a seat is told */
+
+/* Hands over to the seat's ring what waits for it, in order, as long as there is room. KW_DONE, KW_WRONG_SEAT. */
+kw_status kw_client_settle(kw_client *client, uint64_t seat);
+
+/* Takes the first item of the seat's ring, as JSON. KW_DONE; KW_NONE where the ring is empty, which says nothing of what
+   still waits to be handed over; KW_TOO_SMALL, and then it is still to be had; KW_WRONG_SEAT. */
+kw_status kw_client_next(kw_client *client, uint64_t seat, uint8_t *out, size_t room, size_t *len);
+
+/* -- what a client knows */
+
+/* The listens that are kept at the server, a line each, as the console prints them. KW_DONE, KW_TOO_SMALL. */
+kw_status kw_client_cover(kw_client *client, uint8_t *out, size_t room, size_t *len);
+
+/* Makes the next push id, of 20 characters, for the moment now in milliseconds since 1970 and twelve numbers from 0 to
+   63, drawn at random. KW_DONE; KW_TOO_SMALL where the room has fewer than 20 bytes, and none is used up; KW_REFUSED. */
+kw_status kw_client_push_key(kw_client *client, uint64_t now_ms, const uint8_t random[12], uint8_t *out, size_t room,
+                             size_t *len);
 
 #ifdef __cplusplus
 }

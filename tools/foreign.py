@@ -2,8 +2,8 @@
 
 The library is built over what rt ci proved. A C program with include/kaltewi.h, compiled with warnings as errors and with the sanitizers of
 addresses and of undefined behaviour, runs each script row, and prints what the console prints. Another runs each script of examples/ once for
-each growth that it asks for, with that growth refused. The tests of the bindings run where their languages are there; where one is not, the
-part says so."""
+each growth that it asks for, with that growth refused, and a third makes each call of a client so. The tests of the bindings run where their
+languages are there, and the chat of bindings/rust over the console's emulate; where one is not, the part says so."""
 import os
 import shutil
 import subprocess
@@ -11,8 +11,11 @@ import sys
 
 sys.path.insert(0, f"{os.path.dirname(os.path.realpath(__file__))}/sessions")
 from bodies import over_proved
+from cutting import Wrong
+from emulating import Emulator
+from frames import SECONDS
 from parts import ROOT, Clock, crates, part, some_of
-from rows import rows
+from rows import builds_of, rows
 from runs import differs
 
 CRATE = "rt_ffi"
@@ -79,6 +82,17 @@ def growths_part(room):
     part(f"C: {len(scripts)} scripts with each growth of a heap of their own refused", some_of(wrong, scripts), clock)
 
 
+def client_part(room):
+    """The calls of a client, with each growth refused; what they print is bindings/c/client.out."""
+    clock = Clock()
+    why = compiled("client", archives(room)[:1], room)
+    if not why:
+        ran = subprocess.run([f"{room}/client"], stdin=subprocess.DEVNULL, capture_output=True, timeout=300, env={**os.environ, **SANITIZED})
+        with open(f"{ROOT}/bindings/c/client.out", "rb") as it:
+            why = differs("client in C", (ran.returncode, ran.stdout, ran.stderr), (0, it.read(), b""))
+    part("C: the calls of a client, with each growth refused", why, clock)
+
+
 def shared(room):
     """Makes the shared library of the archive, whose names alone are seen."""
     with open(f"{room}/names", "w", encoding="utf-8") as it:
@@ -97,7 +111,7 @@ def python_part(room):
     part("Python: the tests of bindings/python", why, clock)
 
 
-def rust_part(room):
+def rust_part(copy, room):
     if not shutil.which("cargo"):
         print("       Rust: no command 'cargo' is on the PATH, so bindings/rust is not tried")
         return
@@ -106,6 +120,36 @@ def rust_part(room):
     environment = {**os.environ, "KALTEWI_ARCHIVES": ":".join(archives(room)), "CARGO_TARGET_DIR": f"{room}/target"}
     why = said(["cargo", "test", "--quiet", "--offline"], cwd=crate, env=environment)
     part("Rust: the tests and examples of bindings/rust", why, clock)
+    if not why:
+        chat_part(copy, f"{room}/target/debug/examples/chat")
+
+
+def wrong_chat(program, chat):
+    """What is wrong with a chat of two clients at once whom that program serves, if anything is: each has to hear what either says."""
+    try:
+        with Emulator(program, "--count", "2") as it:
+            ran = subprocess.run([chat, str(it.port)], capture_output=True, text=True, timeout=SECONDS)
+            lines = ran.stdout.splitlines()
+            heard = {(line[:3], said) for line in lines for said in ("ann: hi", "bob: hello") if " hears: " in line and said in line}
+            if ran.returncode or len(heard) != 4:
+                return f"the chat ended with {ran.returncode}, and {len(heard)} lines of 4 were heard: {ran.stderr[-200:]}"
+            return "" if it.ended() == (0, b"") else "emulate did not end well"
+    except subprocess.TimeoutExpired:
+        return "the chat did not end"
+    except Wrong as why:
+        return str(why)
+
+
+def chat_part(copy, chat):
+    """The chat of bindings/rust beside the console, where that is built."""
+    folder = f"{copy}/crates/rt_console/out"
+    programs = builds_of(copy, "rt_console") if os.path.isdir(folder) else []
+    if not programs:
+        print("       Rust: the console is not built, so the chat of bindings/rust is not tried")
+        return
+    clock = Clock()
+    wrong = [text for it in programs for text in [wrong_chat(it, chat)] if text]
+    part(f"Rust: a chat of two clients over emulate, {len(programs)} runs", some_of(wrong, programs), clock)
 
 
 def foreign_parts(copy, room):
@@ -115,8 +159,9 @@ def foreign_parts(copy, room):
         return
     if c_part(copy, room):
         growths_part(room)
+        client_part(room)
         python_part(room)
-        rust_part(room)
+        rust_part(copy, room)
 
 
 def main():

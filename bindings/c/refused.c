@@ -1,53 +1,11 @@
 /* Runs the script of the standard input once for each growth that its core asks for, with that growth refused. The heap
    is this program's own. A refused growth is said by KW_NO_MEMORY, after which the core has no text and can be closed;
    or it is made do without, and the texts are those of the whole run. Prints how many growths there were. */
+#include "heap.h"
 #include "kaltewi.h"
 
 #include <stdio.h>
-#include <stdlib.h>
 #include <string.h>
-
-typedef struct {
-    bool is_there;
-    void *at;
-} grown;
-
-static long left = -1;      /* how many growths are granted before one is refused; none is refused below 0 */
-static int was_refused = 0; /* whether one was */
-
-static grown give(void *at)
-{
-    static char none;
-    return (grown){at != NULL, at ? at : (void *)&none};
-}
-
-static bool is_refused(void)
-{
-    if (left < 0)
-        return false;
-    was_refused |= left == 0;
-    return left-- == 0;
-}
-
-grown rattle_alloc(size_t size, size_t align);
-grown rattle_realloc(void *at, size_t kept, size_t size, size_t align);
-void rattle_dealloc(void *at);
-
-grown rattle_alloc(size_t size, size_t align)
-{
-    return give(is_refused() ? NULL : malloc(size ? size : align));
-}
-
-grown rattle_realloc(void *at, size_t kept, size_t size, size_t align)
-{
-    (void)kept;
-    return give(is_refused() ? NULL : realloc(at, size ? size : align));
-}
-
-void rattle_dealloc(void *at)
-{
-    free(at);
-}
 
 static char script[1 << 20];
 static uint8_t whole[1 << 20], printed[1 << 20];

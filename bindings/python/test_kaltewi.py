@@ -1,5 +1,6 @@
 """The tests of the binding, which need no socket: python3 test_kaltewi.py, with KALTEWI_LIBRARY set or libkaltewi.so beside kaltewi.py."""
 import glob
+import json
 import os
 import unittest
 
@@ -45,6 +46,100 @@ class Scripts(unittest.TestCase):
         core.close()
         with self.assertRaises(kaltewi.Closed):
             core.line('["connected"]')
+
+
+HELLO = '{"k":"hello","version":2}'
+
+
+def told(tag, path, value):
+    return json.dumps({"k": "data", "tag": tag, "path": path, "value": value})
+
+
+class Clients(unittest.TestCase):
+    def test_a_seat_is_told_of_what_it_listens_to(self):
+        with kaltewi.Client() as client:
+            ann = client.seat()
+            client.connected()
+            self.assertEqual(ann.listen("/chat"), 1)
+            self.assertEqual(list(client.outgoing()), [HELLO, '{"k":"listen","path":"/chat","tag":1}'])
+            self.assertTrue(client.receive(told(1, "/chat", {"m1": "hi"})))
+            whole = {"k": "value", "value": {"m1": "hi"}}
+            added = {"k": "added", "key": "m1", "value": "hi", "after": None}
+            batch = {"k": "batch", "listener": 1, "changes": [added, whole]}
+            self.assertEqual(list(ann), [{"k": "listened", "listener": 1}, batch])
+            self.assertEqual(list(ann), [])
+
+    def test_writes_are_settled(self):
+        with kaltewi.Client(rings=[8, 8]) as client:
+            ann, bob = client.seat(1), client.seat(2)
+            client.connected()
+            self.assertEqual([ann.set("/a", 1), bob.update({"/b": 2, "/c": None}), ann.remove("/d")], [1, 2, 3])
+            self.assertEqual([json.loads(it)["k"] for it in client.outgoing()], ["hello", "put", "merge", "put"])
+            client.receive('{"k":"ok","id":1}')
+            client.receive('{"k":"no","id":2,"why":"denied"}')
+            self.assertEqual(list(ann), [{"k": "wrote", "id": 1}, {"k": "wrote", "id": 3}, {"k": "ok", "id": 1}])
+            self.assertEqual(list(bob), [{"k": "wrote", "id": 2}, {"k": "no", "id": 2, "why": "denied"}])
+
+    def test_the_end_of_the_connection_is_prepared(self):
+        with kaltewi.Client() as client:
+            ann = client.seat()
+            client.connected()
+            numbers = [ann.on_disconnect("/here", None), ann.on_disconnect_update({"/a/b": 1}), ann.cancel_disconnect("/here")]
+            self.assertEqual(numbers, [1, 2, 3])
+            self.assertEqual([json.loads(it)["k"] for it in client.outgoing()], ["hello", "od-put", "od-merge", "od-cancel"])
+            client.disconnected()
+
+    def test_a_query_is_kept_until_its_listener_ends(self):
+        with kaltewi.Client() as client:
+            ann, query = client.seat(), {"limit": ["last", 2], "order": "/score"}
+            listener = ann.listen("/scores", query)
+            self.assertEqual(client.cover(), ['T1 /scores {"limit":["last",2],"order":"/score"} by L1'])
+            ann.unlisten(listener)
+            self.assertEqual(client.cover(), ["T none"])
+
+    def test_push_ids_rise(self):
+        with kaltewi.Client() as client:
+            self.assertEqual(client.push_key(1_700_000_000_000, bytes(12)), "-NjEtLV-------------")
+            self.assertEqual(client.push_key(1_700_000_000_000, bytes(12)), "-NjEtLV------------0")
+            key, request = client.seat().push("/chat", "hi")
+            self.assertEqual((len(key), request), (20, 1))
+
+    def test_what_is_wrong_is_said(self):
+        with kaltewi.Client(rings=[1]) as client:
+            ann = client.seat()
+            with self.assertRaises(kaltewi.Refused) as refused:
+                ann.set("/a.b", 1)
+            self.assertEqual((refused.exception.layer, refused.exception.name, refused.exception.code), ("tree", "BadKey", 1))
+            with self.assertRaises(kaltewi.Refused) as refused:
+                client.disconnected()
+            self.assertEqual(str(refused.exception), "core 10 NotConnected")
+            with self.assertRaises(kaltewi.Refused):
+                ann.listen("/a", {"limit": ["first", 0], "order": "key"})
+            with self.assertRaises(kaltewi.BadText):
+                client.receive(b"\xff")
+            with self.assertRaises(kaltewi.WrongSeat):
+                client.seat(2).set("/a", 1)
+            ann.set("/a", 1)
+            with self.assertRaises(kaltewi.MailboxFull):
+                ann.set("/a", 2)
+            with self.assertRaises(kaltewi.TooManySeats):
+                kaltewi.Client(rings=[1] * 65)
+
+    def test_a_small_room_loses_nothing(self):
+        with kaltewi.Client(room=1) as client:
+            ann = client.seat()
+            client.connected()
+            ann.set("/a", "x" * 1000)
+            self.assertEqual([len(it) for it in client.outgoing()], [len(HELLO), 1041])
+            self.assertEqual(list(ann), [{"k": "wrote", "id": 1}])
+
+    def test_a_closed_client_says_so(self):
+        client = kaltewi.Client()
+        client.close()
+        client.close()
+        for call in (client.connected, client.cover, client.push_key, lambda: list(client.seat())):
+            with self.assertRaises(kaltewi.Closed):
+                call()
 
 
 if __name__ == "__main__":

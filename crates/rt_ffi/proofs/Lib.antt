@@ -1,1 +1,1 @@
-mod Handles
+mod TextsRead

@@ -1,4 +1,1 @@
 pub mod Held
-pub mod Sessions
-pub mod Status
-pub mod Texts

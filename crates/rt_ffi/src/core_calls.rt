@@ -1,15 +1,11 @@
 // The calls on a core that lines drive.
 ghost use Rattle.std.specs.Prelude.{◌≡◌, ◌⊎◌, None, Some, MatchOption};
 ghost use Rattle.rt_ffi.specs.Held.{CallsCore, core_in};
-ghost use Rattle.rt_ffi.specs.Sessions.{TakesLine, new_session};
-ghost use Rattle.rt_ffi.specs.Status as status;
-ghost use Rattle.rt_ffi.specs.Texts.{Gives, IsTurnedAway};
+ghost use Rattle.rt_foreign.specs.Sessions.{TakesLine, new_session};
+ghost use Rattle.rt_foreign.specs.Status as status;
+ghost use Rattle.rt_foreign.specs.Texts.{Gives, IsTurnedAway};
 
-use crate::handle::Handle;
-use crate::held::Held;
-use crate::session::Session;
-use crate::status::{CLOSED, DONE, NO_MEMORY};
-use crate::text::give;
+use rt_foreign::{CLOSED, DONE, Handle, Held, NO_MEMORY, Session, give};
 use std::alloc::Global;
 
 /// Opens a core, which takes all that a core takes. A handle that is open is closed first.
@@ -36,17 +32,19 @@ fn line_on(held: &mut Held, line: &[u8]) -> u32
 {
     match held {
         Held::Core(session) => session.line(line),
+        Held::Client(_) => CLOSED,
     }
 }
 
 // Gives what the last line on what a handle holds has printed.
 fn text_on(held: &Held, out: &mut [u8], len: &mut usize) -> u32
     ensures { MatchOption (core_in (Some held.now))
-        (IsTurnedAway out.old result out.new len.new)
+        ((result ≡ status.closed) × (out.new ≡ out.old) × (len.new ≡ len.old))
         (λ session. Gives session.printed out.old result out.new len.new) }
 {
     match held {
         Held::Core(session) => give(session.text().as_bytes(), out, len),
+        Held::Client(_) => CLOSED,
     }
 }
 

@@ -1,0 +1,12 @@
+use Rattle.std.proofs.Common.{◌≡◌}
+use Rattle.rt_foreign.specs.Reading.{order_read, update_words}
+use Rattle.rt_foreign.specs.Status as status
+use Rattle.rt_ffi.proofs.TextsRead.{asks_read}
+use Rattle.rt_ffi.proofs.seat_calls.kw_client_update.Goals as goal
+
+pub returns : goal.returns
+returns c =
+    asks_read (order_read (update_words c.args.entries.now)) c.update_call.result
+    ((c.ask.result ≡ status.closed) × (c.ask.new.given ≡ 0)) c.args.seat c.ask.result c.ask.new.given
+    c.args.handle.now.loose.value c.ask.new.handle.loose.value c.update_call.ensures.ok
+    c.update_call.ensures.fault c.ask.ensures

@@ -1,0 +1,5 @@
+mod Giving
+mod Handles
+mod Placing
+mod Texts
+mod Written

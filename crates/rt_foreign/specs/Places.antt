@@ -1,0 +1,43 @@
+-- A seat as C has it: its ring, and the item that was taken out of it and is still to be given.
+use Rattle.std.specs.Prelude.{◌≡◌, ◌⊎◌, ◌==◌, ℕ, List, drop, if◌then◌else◌, Option, Some, None}
+use Rattle.std.specs.List.{slice_get}
+use Rattle.rt_mail.specs.declared.item.Item.{Item}
+use Rattle.rt_client.specs.Calls.{Seated}
+use Rattle.rt_foreign.specs.declared.place.Place.{Place}
+use Rattle.rt_foreign.specs.Items.{item_text}
+use Rattle.rt_foreign.specs.Status as status
+use Rattle.rt_foreign.specs.Texts.{Gives}
+
+-- the seat without the first item of its ring
+abbrev pub without_first : Seated → Seated
+without_first seat = record seat { ring = record seat.ring { items = drop 1 seat.ring.items } }
+
+-- the first item of the ring is taken out, where none was before
+abbrev pub look_at : Option Item → Seated → Place
+look_at None seat = record { seat = without_first seat; first = slice_get seat.ring.items 0 }
+look_at (Some item) seat = record { seat = seat; first = Some item }
+
+abbrev pub looked : Place → Place
+looked place = look_at place.first place.seat
+
+-- nothing is given
+abbrev pub GivesNothing : ℕ → List ℕ → ℕ → List ℕ → ℕ → Type 0
+GivesNothing wanted had result left len = (result ≡ wanted) × (left ≡ had) × (len ≡ 0)
+
+-- an item is given whole, and then it is gone; or not at all, and then it is still to be had
+pub record GivesItem (item : Item) (place : Place) (had : List ℕ) (result : ℕ) (new : Place)
+    (left : List ℕ) (len : ℕ) : Type 0 where
+  pub text : Gives (item_text item) had result left len
+  pub rest : new ≡ (if result == status.done then record place { first = None } else place)
+
+-- the first item of a seat is given, if it has one; memory may lack for its text, and then it stays
+abbrev pub GivesFirst : Option Item → Place → List ℕ → ℕ → Place → List ℕ → ℕ → Type 0
+GivesFirst None place had result new left len =
+    GivesNothing status.none had result left len × (new ≡ place)
+GivesFirst (Some item) place had result new left len =
+    GivesItem item place had result new left len
+    ⊎ (GivesNothing status.no_memory had result left len × (new ≡ place))
+
+abbrev pub GivesNext : Place → List ℕ → ℕ → Place → List ℕ → ℕ → Type 0
+GivesNext old had result new left len =
+    GivesFirst (looked old).first (looked old) had result new left len

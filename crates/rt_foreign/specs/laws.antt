@@ -1,0 +1,2 @@
+-- What the prover computes of some items and texts.
+pub mod Examples
