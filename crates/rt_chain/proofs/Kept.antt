@@ -9,13 +9,22 @@ use Rattle.std.specs.List.Sorted.{IsStrictlySortedBy}
 use Rattle.std.specs.BTreeMap.{insert_entry, is_at}
 use Rattle.std.specs.Map.{keys_of, values_of, lookup, remove_entry}
 use Rattle.slab.specs.Slab.{Slab, get, Updates}
-use Rattle.rt_chain.specs.Chains.{Chain, IsChain, IsRun, IsApart, IsOther, below, head_or, last_or, joined, is_link, links_in, with_value}
+use Rattle.rt_chain.specs.Chains.{IsApart, IsOther, below, head_or, last_or}
+use Rattle.rt_chain.specs.inside.Links.{Linked, IsLinked, IsRun, joined, is_link, links_in, with_mark, with_value}
 use Rattle.rt_chain.specs.declared.node.Node.{Node}
 use Rattle.rt_chain.proofs.Places.{found, parted, values-append}
-use Rattle.rt_chain.proofs.Runs.{JoinsTo, apart_with, apart_without, assoc_one, links_at, none_last, run_kept, run_last, run_same, run_with, run_without, vacant_other}
+use Rattle.rt_chain.proofs.Runs.{JoinsTo, apart_with, apart_without, assoc_one, links_at, none_last, run_kept, run_last, run_same, run_with, run_without, turned, vacant_other}
 
 differs : (m n : ℕ) → nat_eq n m ≡ false → m ≢ n
 differs m n e same = cc (e, eq-eqb n m (sym same))
+
+other_mid : (m n : ℕ) (fs gs : List ℕ) → IsOther m (fs ++ n ∷ gs) → (nat_eq m n ≡ false) × IsOther m (fs ++ gs)
+other_mid m n [] gs o = o
+other_mid m n (f ∷ fs) gs o = let r = other_mid m n fs gs o.1 in (r.0, (o.0, r.1))
+
+other_with : (m n : ℕ) (fs gs : List ℕ) → nat_eq m n ≡ false → IsOther m (fs ++ gs) → IsOther m (fs ++ n ∷ gs)
+other_with m n [] gs e o = (e, o)
+other_with m n (f ∷ fs) gs e o = (o.0, other_with m n fs gs e o.1)
 
 -- the slot behind those below a key, where there are none
 pub next_none : (es : List ℕ) (p q : Option ℕ) → p ≡ None → q ≡ head_or es None → (fs gs : List ℕ) → es ≡ fs ++ gs → p ≡ last_or None fs → q ≡ head_or gs None
@@ -34,26 +43,31 @@ module _ {X : Type 0} where
       at None = refl
       at (Some x) = refl
 
+  -- a slot without a node has none once two were linked to each other
+  more_none : (s t : Slab (Node X)) (p q : Option ℕ) (n : ℕ) → get t n ≡ option_map (joined p q n) (get s n) → get s n ≡ None → get t n ≡ None
+  more_none s t p q n is none = is ∙ ap (option_map (joined p q n)) none
+
   module _ {K : Type 0} (cmp : K → K → Ordering) where
-    abbrev chain : List (K × ℕ) → Slab (Node X) → Chain K X
+    abbrev chain : List (K × ℕ) → Slab (Node X) → Linked K X
     chain es s = record { places = es; nodes = s }
 
     -- with other places, which are the same, and nodes that have the same links
-    pub same_links : (es ds : List (K × ℕ)) (s t : Slab (Node X)) → ds ≡ es → ((n : ℕ) → links_in t n ≡ links_in s n) → IsChain cmp (chain es s) → IsChain cmp (chain ds t)
-    same_links es ds s t e same h =
-        subst (λ xs. IsChain cmp (chain xs t)) (sym e) (record {
+    pub same_links : (es ds : List (K × ℕ)) (s t : Slab (Node X)) → ds ≡ es → ((n : ℕ) → links_in t n ≡ links_in s n) → ((n : ℕ) → get s n ≡ None → get t n ≡ None) → IsLinked cmp (chain es s) → IsLinked cmp (chain ds t)
+    same_links es ds s t e same gone h =
+        subst (λ xs. IsLinked cmp (chain xs t)) (sym e) (record {
           rises = h.rises;
           linked = run_same (links_in s) (links_in t) same None (values_of es) None h.linked;
           apart = h.apart;
+          whole = λ n o. gone n (h.whole n o);
         })
 
-    pub same_nodes : (es ds : List (K × ℕ)) (s t : Slab (Node X)) → ds ≡ es → ((n : ℕ) → get t n ≡ get s n) → IsChain cmp (chain es s) → IsChain cmp (chain ds t)
-    same_nodes es ds s t e same h = same_links es ds s t e (λ n. ap (option_map links_of) (same n)) h
+    pub same_nodes : (es ds : List (K × ℕ)) (s t : Slab (Node X)) → ds ≡ es → ((n : ℕ) → get t n ≡ get s n) → IsLinked cmp (chain es s) → IsLinked cmp (chain ds t)
+    same_nodes es ds s t e same h = same_links es ds s t e (λ n. ap (option_map links_of) (same n)) (λ n none. same n ∙ none) h
 
     -- with another value in one slot
     pub value_set : (es : List (K × ℕ)) (s t : Slab (Node X)) (slot : ℕ) (x : X) → get t slot ≡ option_map (with_value x) (get s slot) → ((n : ℕ) → n ≢ slot → get t n ≡ get s n)
-        → IsChain cmp (chain es s) → IsChain cmp (chain es t)
-    value_set es s t slot x written others h = same_links es es s t refl each h
+        → IsLinked cmp (chain es s) → IsLinked cmp (chain es t)
+    value_set es s t slot x written others h = same_links es es s t refl each gone h
       where
         links : Option (Node X) → Option (Option ℕ × Option ℕ)
         links o = option_map links_of o
@@ -68,8 +82,38 @@ module _ {X : Type 0} where
           | false ↦ λ e. ap links (others n (differs n slot e))
         ] refl
 
+        gone : (n : ℕ) → get s n ≡ None → get t n ≡ None
+        gone n none = elim (nat_eq slot n) as (λ b. nat_eq slot n ≡ b → get t n ≡ None) [
+          | true ↦ λ e. subst (λ k. get s k ≡ None → get t k ≡ None) (eqb-true slot n e) (λ free. written ∙ ap (option_map (with_value x)) free) none
+          | false ↦ λ e. others n (differs n slot e) ∙ none
+        ] refl
+
+    -- with another mark of one slot
+    pub mark_set : (es : List (K × ℕ)) (s t : Slab (Node X)) (slot : ℕ) (m : Bool) → get t slot ≡ option_map (with_mark m) (get s slot) → ((n : ℕ) → n ≢ slot → get t n ≡ get s n)
+        → IsLinked cmp (chain es s) → IsLinked cmp (chain es t)
+    mark_set es s t slot m written others h = same_links es es s t refl each gone h
+      where
+        links : Option (Node X) → Option (Option ℕ × Option ℕ)
+        links o = option_map links_of o
+
+        at : (o : Option (Node X)) → links (option_map (with_mark m) o) ≡ links o
+        at None = refl
+        at (Some y) = refl
+
+        each : (n : ℕ) → links_in t n ≡ links_in s n
+        each n = elim (nat_eq slot n) as (λ b. nat_eq slot n ≡ b → links (get t n) ≡ links (get s n)) [
+          | true ↦ λ e. subst (λ k. links (get t k) ≡ links (get s k)) (eqb-true slot n e) (ap links written ∙ at (get s slot))
+          | false ↦ λ e. ap links (others n (differs n slot e))
+        ] refl
+
+        gone : (n : ℕ) → get s n ≡ None → get t n ≡ None
+        gone n none = elim (nat_eq slot n) as (λ b. nat_eq slot n ≡ b → get t n ≡ None) [
+          | true ↦ λ e. subst (λ k. get s k ≡ None → get t k ≡ None) (eqb-true slot n e) (λ free. written ∙ ap (option_map (with_mark m)) free) none
+          | false ↦ λ e. others n (differs n slot e) ∙ none
+        ] refl
+
     -- a node came, and went again
-    pub undone : (es ds : List (K × ℕ)) (s t u : Slab (Node X)) (n : ℕ) (x : Node X) → ds ≡ es → get s n ≡ None → Updates s t n (Some x) → Updates t u n None → IsChain cmp (chain es s) → IsChain cmp (chain ds u)
+    pub undone : (es ds : List (K × ℕ)) (s t u : Slab (Node X)) (n : ℕ) (x : Node X) → ds ≡ es → get s n ≡ None → Updates s t n (Some x) → Updates t u n None → IsLinked cmp (chain es s) → IsLinked cmp (chain ds u)
     undone es ds s t u n x e free up down h = same_nodes es ds s u e each h
       where
         each : (m : ℕ) → get u m ≡ get s m
@@ -80,10 +124,10 @@ module _ {X : Type 0} where
 
     -- a node came at a key that had none
     pub inserted : IsTotalOrder cmp → (es ds : List (K × ℕ)) (s t u v : Slab (Node X)) (k : K) (n : ℕ) (x : X) (p q : Option ℕ) → lookup (is_at (cmp k)) es ≡ None → get s n ≡ None
-        → Updates s t n (Some (record { value = x; previous = None; next = None })) → p ≡ last_or None (values_of (below (cmp k) es))
+        → Updates s t n (Some (record { value = x; marked = false; previous = None; next = None })) → p ≡ last_or None (values_of (below (cmp k) es))
         → ((fs gs : List ℕ) → values_of es ≡ fs ++ gs → p ≡ last_or None fs → q ≡ head_or gs None)
         → ((m : ℕ) → get u m ≡ option_map (joined p (Some n) m) (get t m)) → ((m : ℕ) → get v m ≡ option_map (joined (Some n) q m) (get u m))
-        → ds ≡ insert_entry cmp es k n → IsStrictlySortedBy cmp (keys_of ds) → IsChain cmp (chain es s) → IsChain cmp (chain ds v)
+        → ds ≡ insert_entry cmp es k n → IsStrictlySortedBy cmp (keys_of ds) → IsLinked cmp (chain es s) → IsLinked cmp (chain ds v)
     inserted o es ds s t u v k n x p q absent free up before next first second more rises h =
         let parts = parted o k n es h.rises absent in
         let fs : List ℕ = values_of (below (cmp k) es) in
@@ -104,12 +148,16 @@ module _ {X : Type 0} where
               (subst (λ y. JoinsTo (links_in t) (links_in u) y (Some n)) before (joins t u p (Some n) first))
               (subst (λ y. JoinsTo (links_in u) (links_in v) (Some n) y) (next fs gs whole before) (joins u v (Some n) q second)));
           apart = subst IsApart (sym put) (subst IsApart (assoc_one fs gs n) (apart_with fs gs n apart' other'));
+          whole = λ m others.
+              let far = other_mid m n fs gs (subst (IsOther m) put others) in
+              let none : get t m ≡ None = up.others m (λ is. differs n m far.0 (sym is)) ∙ h.whole m (subst (IsOther m) (sym whole) far.1) in
+              more_none u v (Some n) q m (second m) (more_none t u p (Some n) m (first m) none);
         }
 
     -- a node went
     pub removed : (es ds : List (K × ℕ)) (s t u : Slab (Node X)) (p : K → Bool) (n : ℕ) (x : Node X) (y z : Option ℕ) → y ≡ x.previous → z ≡ x.next → lookup p es ≡ Some n → get s n ≡ Some x
         → Updates s t n None → ((m : ℕ) → get u m ≡ option_map (joined y z m) (get t m)) → ds ≡ remove_entry p es → IsStrictlySortedBy cmp (keys_of ds)
-        → IsChain cmp (chain es s) → IsChain cmp (chain ds u)
+        → IsLinked cmp (chain es s) → IsLinked cmp (chain ds u)
     removed es ds s t u p n x y z front behind there is down join less rises h =
         let at = found p n es there in
         let fs : List ℕ = values_of at.front in
@@ -128,13 +176,18 @@ module _ {X : Type 0} where
               (run_without (links_in s) (links_in t) (links_in u) fs gs n run apart' kept
               (subst (λ (o : Option ℕ × Option ℕ). JoinsTo (links_in t) (links_in u) o.0 o.1) pair (joins t u y z join)));
           apart = subst IsApart (sym taken) (apart_without fs gs n apart').0;
+          whole = λ m others. more_none t u y z m (join m)
+              (elim (nat_eq n m) as (λ b. nat_eq n m ≡ b → get t m ≡ None) [
+                | true ↦ λ e. subst (λ k. get t k ≡ None) (eqb-true n m e) down.changed
+                | false ↦ λ e. down.others m (differs m n e) ∙ h.whole m (subst (IsOther m) (sym whole) (other_with m n fs gs (turned n m e) (subst (IsOther m) taken others)))
+              ] refl);
         }
       where
         inside : {a b : Option ℕ × Option ℕ} → Some a ≡ Some b → a ≡ b
         inside e = cc e
 
     -- each slot of a key has a node
-    pub no_node : (es : List (K × ℕ)) (s : Slab (Node X)) (p : K → Bool) (n : ℕ) → lookup p es ≡ Some n → get s n ≡ None → IsChain cmp (chain es s) → {Y : Type 0} → Y
+    pub no_node : (es : List (K × ℕ)) (s : Slab (Node X)) (p : K → Bool) (n : ℕ) → lookup p es ≡ Some n → get s n ≡ None → IsLinked cmp (chain es s) → {Y : Type 0} → Y
     no_node es s p n there none h =
         let at = found p n es there in
         let whole : values_of es ≡ values_of at.front ++ n ∷ values_of at.behind = ap values_of at.whole ∙ values-append at.front ((at.key, n) ∷ at.behind) in

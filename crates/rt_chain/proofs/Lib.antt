@@ -1,4 +1,12 @@
--- Lemmas: runs of linked slots, and a key's place among the others.
+-- Lemmas: runs of linked slots, a key's place among the others, and the halves of a cut.
+mod Kept
+mod Cutting
+mod Entries
+mod Halves
+mod Looks
 mod Places
 mod Runs
-mod Kept
+mod Seeks
+mod Sides
+mod Spots
+mod Steps

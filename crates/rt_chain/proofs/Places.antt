@@ -35,7 +35,7 @@ module _ {K : Type 0} {cmp : K → K → Ordering} (o : IsTotalOrder cmp) where
   none_below k [] h = refl
   none_below k (e ∷ es) h = ap (λ r. cond (not (is_le r)) (e ∷ below (cmp k) es) (below (cmp k) es)) h.0 ∙ none_below k es h.1
 
-  all_risen : (k x : K) (ks : List K) → cmp k x ≡ Less → AllByRecursion (λ y. cmp x y ≡ Less) ks → AllByRecursion (λ y. cmp k y ≡ Less) ks
+  pub all_risen : (k x : K) (ks : List K) → cmp k x ≡ Less → AllByRecursion (λ y. cmp x y ≡ Less) ks → AllByRecursion (λ y. cmp k y ≡ Less) ks
   all_risen k x [] e h = tt
   all_risen k x (y ∷ ks) e h = (o.trans k x y e h.0, all_risen k x ks e h.1)
 

@@ -4,7 +4,8 @@ use Rattle.std.proofs.lemmas.Bool.{eqb-true, eq-eqb}
 use Rattle.std.specs.Prelude.{nat_eq}
 use Rattle.std.specs.List.{AllByRecursion}
 use Rattle.std.specs.Option.{option_map}
-use Rattle.rt_chain.specs.Chains.{Links, head_or, last_or, IsRun, IsOther, IsApart, is_link}
+use Rattle.rt_chain.specs.Chains.{IsApart, IsOther, head_or, last_or}
+use Rattle.rt_chain.specs.inside.Links.{Links, IsRun, is_link}
 
 -- ---- parts of a run
 pub head-append : (fs bs : List ℕ) (x : Option ℕ) → head_or (fs ++ bs) x ≡ head_or fs (head_or bs x)

@@ -1,42 +1,12 @@
--- A chain as a value: which slot each key has, and the nodes in the slots.
-use Rattle.std.specs.Prelude.{◌≡◌, ◌≢◌, ℕ, Bool, false, cond, not, nat_eq, Option, Some, None, List, [], ◌∷◌, refl}
+-- A chain that is cut at one place, as a value: what stands in front of the cut, and what behind it.
+use Rattle.std.specs.Prelude.{◌≡◌, ℕ, Bool, true, false, not, nat_eq, if◌then◌else◌, Option, Some, None, List, [], ◌∷◌, ◌++◌, map, refl}
 use Rattle.std.specs.List.{AllByRecursion, filter}
-use Rattle.std.specs.List.Sorted.{IsStrictlySortedBy}
-use Rattle.std.specs.Map.{keys_of, values_of}
-use Rattle.std.specs.Option.{option_map}
-use Rattle.std.specs.Coded.{Coded, code_by, coded×, coded_ℕ, coded_list, coded_option}
-use Rattle.std.specs.declared.cmp.Ordering.{Ordering}
 use Rattle.std.specs.Ordering.{is_le}
-use Rattle.slab.specs.Slab.{Slab, get, slab_code}
-use Rattle.rt_chain.specs.declared.node.Node.{Node}
-
--- the keys with their slots, in the keys' order, and the nodes
-pub record Chain (K X : Type 0) : Type 0 where
-  pub places : List (K × ℕ)
-  pub nodes : Slab (Node X)
-
--- a node is stored as the tuple of its fields, and so is a chain
-abbrev pub node_code : {X : Type 0} → Coded X → Coded (Node X)
-node_code {X} code =
-    let link = coded_option coded_ℕ in
-    code_by (X × (Option ℕ × Option ℕ)) (coded× code (coded× link link))
-    (λ s. (s.value, (s.previous, s.next)))
-    (λ p. record { value = p.0; previous = p.1.0; next = p.1.1 }) (λ _. refl)
-
-abbrev pub chain_code : {K X : Type 0} → Coded K → Coded X → Coded (Chain K X)
-chain_code {K} {X} key value =
-    code_by (List (K × ℕ) × Slab (Node X))
-    (coded× (coded_list (coded× key coded_ℕ)) (slab_code (node_code value)))
-    (λ c. (c.places, c.nodes)) (λ p. record { places = p.0; nodes = p.1 }) (λ _. refl)
-
--- ---- links
-
--- where the links of each slot lead: to the one in front of it, and to the one behind it
-abbrev pub Links : Type 0
-Links = ℕ → Option (Option ℕ × Option ℕ)
-
-abbrev pub links_in : {X : Type 0} → Slab (Node X) → Links
-links_in s n = option_map (λ x. (x.previous, x.next)) (get s n)
+use Rattle.std.specs.BTreeMap.{insert_entry}
+use Rattle.std.specs.Coded.{Coded, code_by, coded×, coded_ℕ, coded_list}
+use Rattle.std.specs.declared.cmp.Ordering.{Ordering}
+use Rattle.rt_chain.specs.declared.half.Half.{Half}
+use Rattle.rt_chain.specs.declared.half.Half.TheVariants.{Front, Behind}
 
 -- the first of some slots, or the one behind them
 abbrev pub head_or : List ℕ → Option ℕ → Option ℕ
@@ -48,11 +18,6 @@ abbrev pub last_or : Option ℕ → List ℕ → Option ℕ
 last_or before [] = before
 last_or before (n ∷ ns) = last_or (Some n) ns
 
--- these slots are linked one behind another, between a slot in front of them and one behind them
-abbrev pub IsRun : Links → Option ℕ → List ℕ → Option ℕ → Type 0
-IsRun l before [] behind = Unit {0}
-IsRun l before (n ∷ ns) behind = (l n ≡ Some (before, head_or ns behind)) × IsRun l (Some n) ns behind
-
 -- the slot isn't one of these
 abbrev pub IsOther : ℕ → List ℕ → Type 0
 IsOther n ns = AllByRecursion (λ m. nat_eq n m ≡ false) ns
@@ -62,46 +27,90 @@ abbrev pub IsApart : List ℕ → Type 0
 IsApart [] = Unit {0}
 IsApart (n ∷ ns) = IsOther n ns × IsApart ns
 
--- the keys rise, and their slots are linked in this order
-pub record IsChain {K X : Type 0} (cmp : K → K → Ordering) (c : Chain K X) : Type 0 where
-  pub rises : IsStrictlySortedBy cmp (keys_of c.places)
-  pub linked : IsRun (links_in c.nodes) None (values_of c.places) None
-  pub apart : IsApart (values_of c.places)
-
--- the keys below one that compares to each, with their slots
-abbrev pub below : {K : Type 0} → (K → Ordering) → List (K × ℕ) → List (K × ℕ)
+-- the keys below one that compares to each, with what stands at them
+abbrev pub below : {K X : Type 0} → (K → Ordering) → List (K × X) → List (K × X)
 below compare places = filter (λ e. not (is_le (compare e.0))) places
 
--- ---- values
+module _ {K X : Type 0} (cmp : K → K → Ordering) (k : K) where
+  -- whether the key lies at the first of these or behind it
+  abbrev pub is_from_first : List (K × X) → Bool
+  is_from_first [] = false
+  is_from_first (e ∷ es) = is_le (cmp e.0 k)
 
--- the value in a slot
-abbrev pub value_in : {K X : Type 0} → Chain K X → ℕ → Option X
-value_in c n = option_map (λ x. x.value) (get c.nodes n)
+  -- and whether it lies at the last of them or in front of it
+  abbrev pub is_to_last : List (K × X) → Bool
+  is_to_last [] = false
+  is_to_last (e ∷ []) = is_le (cmp k e.0)
+  is_to_last (e ∷ d ∷ es) = is_to_last (d ∷ es)
 
--- the slots but one have the values that they had
-abbrev pub KeepsOthers : {K X : Type 0} → Chain K X → Chain K X → ℕ → Type 0
-KeepsOthers old new slot = (n : ℕ) → n ≢ slot → value_in new n ≡ value_in old n
+-- the keys in order, each with its slot and its value
+pub record Chain (K X : Type 0) : Type 0 where
+  pub front : List (K × (ℕ × X))
+  pub behind : List (K × (ℕ × X))
 
--- ---- how nodes change
+-- the half in front, the half behind, or at the cut
+abbrev pub half_between : Bool → Bool → Half → Half
+half_between true behind at_cut = Front
+half_between false true at_cut = Behind
+half_between false false at_cut = at_cut
 
--- whether a link leads to a slot
-abbrev pub is_link : Option ℕ → ℕ → Bool
-is_link None n = false
-is_link (Some m) n = nat_eq n m
+-- it is stored as the pair of its halves
+abbrev pub chain_code : {K X : Type 0} → Coded K → Coded X → Coded (Chain K X)
+chain_code {K} {X} key value =
+    let half = coded_list (coded× key (coded× coded_ℕ value)) in
+    code_by (List (K × (ℕ × X)) × List (K × (ℕ × X))) (coded× half half)
+    (λ c. (c.front, c.behind)) (λ p. record { front = p.0; behind = p.1 }) (λ _. refl)
 
-module _ {X : Type 0} where
-  abbrev pub with_value : X → Node X → Node X
-  with_value x node = record node { value = x }
+module _ {K X : Type 0} where
+  -- both halves
+  abbrev pub all_in : Chain K X → List (K × (ℕ × X))
+  all_in c = c.front ++ c.behind
 
-  abbrev pub with_next : Option ℕ → Node X → Node X
-  with_next o node = record node { next = o }
+  abbrev pub in_half : Half → Chain K X → List (K × (ℕ × X))
+  in_half Front c = c.front
+  in_half Behind c = c.behind
 
-  abbrev pub with_previous : Option ℕ → Node X → Node X
-  with_previous o node = record node { previous = o }
+  -- the slots, in order
+  abbrev pub slots_of : List (K × (ℕ × X)) → List ℕ
+  slots_of es = map (λ e. e.1.0) es
 
-  -- a node, where these two were linked to each other
-  abbrev pub joined : Option ℕ → Option ℕ → ℕ → Node X → Node X
-  joined p q n node = record node {
-    next = cond (is_link p n) q node.next;
-    previous = cond (is_link q n) p node.previous;
-  }
+  -- the entries with another value in one slot
+  abbrev pub with_value : ℕ → X → List (K × (ℕ × X)) → List (K × (ℕ × X))
+  with_value n x es = map (λ e. if nat_eq n e.1.0 then (e.0, (e.1.0, x)) else e) es
+
+  -- the last entry
+  abbrev pub last_in : List (K × (ℕ × X)) → Option (K × (ℕ × X))
+  last_in [] = None
+  last_in (e ∷ []) = Some e
+  last_in (e ∷ d ∷ es) = last_in (d ∷ es)
+
+  -- the half of a key, which is the one that is named where the key lies at the cut
+  abbrev pub half_at : (K → K → Ordering) → K → Half → Chain K X → Half
+  half_at cmp k at_cut c = half_between (is_to_last cmp k c.front) (is_from_first cmp k c.behind) at_cut
+
+  -- a slot with its value is put at a key of one half, and the other half stays
+  abbrev pub Puts : Half → (K → K → Ordering) → K → ℕ × X → Chain K X → Chain K X → Type 0
+  Puts Front cmp k p old new = (new.front ≡ insert_entry cmp old.front k p) × (new.behind ≡ old.behind)
+  Puts Behind cmp k p old new = (new.front ≡ old.front) × (new.behind ≡ insert_entry cmp old.behind k p)
+
+  -- the last entry in front of the cut, which has this slot, is the first one behind it now
+  pub record CrossesBack (slot : ℕ) (old new : Chain K X) : Type 0 where
+    pub one : K × (ℕ × X)
+    pub is : one.1.0 ≡ slot
+    pub was : old.front ≡ new.front ++ one ∷ []
+    pub behind : new.behind ≡ one ∷ old.behind
+
+  -- the first entry behind the cut, which has this slot, is the last one in front of it now
+  pub record CrossesAhead (slot : ℕ) (old new : Chain K X) : Type 0 where
+    pub one : K × (ℕ × X)
+    pub is : one.1.0 ≡ slot
+    pub was : old.behind ≡ one ∷ new.behind
+    pub front : new.front ≡ old.front ++ one ∷ []
+
+-- whether an answer is this half
+abbrev pub is_half : Half → Option Half → Bool
+is_half h None = false
+is_half Front (Some Front) = true
+is_half Front (Some Behind) = false
+is_half Behind (Some Front) = false
+is_half Behind (Some Behind) = true

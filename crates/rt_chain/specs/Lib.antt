@@ -1,2 +1,3 @@
--- What a chain is, and how its nodes change.
+-- What a chain is, and how its nodes are linked.
 pub mod Chains
+pub mod inside

@@ -1,196 +1,369 @@
-// A chain.
-ghost use Rattle.std.specs.Prelude.{◌≡◌, [], ℕ, Some, None, IfOk, IfSome, OnErr, length};
+// A chain that is cut at one place.
+ghost use Rattle.std.specs.Prelude.{◌≡◌, ◌++◌, ◌∷◌, [], ℕ, List, Some, None, IfOk, IfSome, IfNone, OnErr};
+ghost use Rattle.std.specs.Prelude.{if◌then◌else◌, length, is_some};
+ghost use Rattle.std.specs.List.Sorted.{IsStrictlySortedBy};
 ghost use Rattle.std.specs.Option.{option_and_then, option_copied, option_map};
-ghost use Rattle.std.specs.BTreeMap.{insert_entry, is_at};
-ghost use Rattle.std.specs.Map.{lookup, remove_entry, values_of};
 ghost use Rattle.slab.specs.Slab.{get};
-ghost use Rattle.rt_chain.specs.Chains.{IsChain, KeepsOthers, below, head_or, last_or, value_in};
+ghost use Rattle.std.specs.BTreeMap.{insert_entry, is_at};
+ghost use Rattle.std.specs.Map.{keys_of, lookup, remove_entry};
+ghost use Rattle.rt_chain.specs.Chains.{CrossesAhead, CrossesBack, IsApart, IsOther, Puts, all_in, below};
+ghost use Rattle.rt_chain.specs.Chains.{half_at, half_between, head_or, in_half, is_half, last_in, last_or};
+ghost use Rattle.rt_chain.specs.Chains.{slots_of, with_value};
+ghost use Rattle.rt_chain.specs.inside.Links.{is_marked};
+ghost use Rattle.rt_chain.specs.inside.Halves.{half_by, is_behind, is_front};
+ghost use Rattle.rt_chain.specs.declared.half.Half.TheVariants.{Front, Behind};
 
-use crate::links::{join, set_value};
-use crate::node::Node;
-use slab::Slab;
+use crate::half::Half;
+use crate::linked_map::{LinkedMap, Place};
+use crate::placed::Placed;
 use std::alloc::{AllocError, Global};
-use std::collections::BTreeMap;
 use std::marker::Model;
 
-/// Values in the order of their keys, each in a slot that leads to the ones beside it.
+/// Values in the order of their keys, linked in a slab, with a cut between two of them, or at an end.
 ///
-/// To find a key costs by the logarithm of the number of keys; to go on from a slot costs nothing more.
+/// A call by a key looks for it once or twice in the map from keys to slots. A call by a slot, and one
+/// that moves the cut, looks for nothing.
 pub struct Chain<K: Ord, V> {
-    nodes: Slab<Node<V>>,
-    places: BTreeMap<K, usize>,
+    linked: LinkedMap<K, V>,
+    last: Option<u32>,
+    first: Option<u32>,
+    count: usize,
 }
 
 impl<K: Ord + Drop, V: Drop> Drop for Chain<K, V> {
     fn drop(self) {
         let Chain {
-            nodes: _,
-            places: _,
+            linked: _,
+            last: _,
+            first: _,
+            count: _,
         } = self;
     }
 }
 
 impl<K: Ord, V> Model for Chain<K, V> {
-    ghost use Rattle.rt_chain.specs.Chains.{Chain as Seen, IsChain, chain_code};
+    ghost use Rattle.rt_chain.specs.Chains.{Chain, chain_code};
+    ghost use Rattle.rt_chain.specs.inside.Halves.{IsCut, chain_of};
 
-    ghost Value = { Seen K V };
+    ghost Value = { Chain K V };
 
     ghost coded = { chain_code K.code V.code };
 
-    ghost view = { λ a. record { places = a.places.entries; nodes = a.nodes } };
+    ghost view = { λ a. chain_of a.linked };
 
-    ghost invariant = { λ a. IsChain K.cmp (record { places = a.places.entries; nodes = a.nodes }) };
+    ghost invariant = { λ a. IsCut K.cmp a.linked a.last a.first a.count };
 }
 
-// The slot of the last key below this one.
-fn slot_below<K: Ord + Drop>(places: &BTreeMap<K, usize>, key: &K) -> Option<usize>
-    ensures { result ≡ last_or None (values_of (below (K.cmp key.now) places.now.entries)) }
+// Whether there is a slot, and it is in front of the cut.
+fn is_front<K: Ord + Drop, V: Drop>(linked: &LinkedMap<K, V>, slot: Option<u32>) -> bool
+    ensures { result ≡ is_front (is_marked linked.now) slot }
 {
-    match places.range(..key).next_back() {
-        Some((_, slot)) => Some(*slot),
-        None => None,
+    match slot {
+        Some(slot) => linked.is_marked(slot),
+        None => false,
     }
 }
 
-// The first slot.
-fn first_slot<K: Ord>(places: &BTreeMap<K, usize>) -> Option<usize>
-    ensures { result ≡ head_or (values_of places.now.entries) None }
+// Whether there is a slot, and it is behind the cut.
+fn is_behind<K: Ord + Drop, V: Drop>(linked: &LinkedMap<K, V>, slot: Option<u32>) -> bool
+    ensures { result ≡ is_behind (is_marked linked.now) slot }
 {
-    match places.first_key_value() {
-        Some((_, slot)) => Some(*slot),
-        None => None,
+    match slot {
+        Some(slot) => !linked.is_marked(slot),
+        None => false,
     }
 }
 
-// The slot behind one.
-fn next_in<V>(nodes: &Slab<Node<V>>, slot: usize) -> Option<usize>
-    ensures { result ≡ option_and_then (λ x. x.next) (get nodes.now slot) }
+// The half of a slot.
+fn half_of<K: Ord + Drop, V: Drop>(linked: &LinkedMap<K, V>, slot: u32) -> Half
+    ensures { result ≡ half_by (is_marked linked.now slot) }
 {
-    match nodes.get(slot) {
-        Some(node) => node.next,
-        None => None,
+    if linked.is_marked(slot) {
+        Half::Front
+    } else {
+        Half::Behind
     }
+}
+
+// The half in which a slot comes to stand: that of those beside it, or the named one at the cut.
+fn half_between<K: Ord + Drop, V: Drop>(linked: &LinkedMap<K, V>, slot: u32, at_cut: Half) -> Half
+    ensures { result ≡ half_between
+        (is_front (is_marked linked.now) (option_and_then (λ x. x.next) (get linked.now.nodes slot)))
+        (is_behind (is_marked linked.now)
+        (option_and_then (λ x. x.previous) (get linked.now.nodes slot))) at_cut }
+{
+    if is_front(linked, linked.next(slot)) {
+        Half::Front
+    } else if is_behind(linked, linked.previous(slot)) {
+        Half::Behind
+    } else {
+        at_cut
+    }
+}
+
+// Whether two halves are one.
+fn is_same(half: Half, other: Half) -> bool
+    ensures { result ≡ is_half half (Some other) }
+{
+    match (half, other) {
+        (Half::Front, Half::Front) | (Half::Behind, Half::Behind) => true,
+        (Half::Front, Half::Behind) | (Half::Behind, Half::Front) => false,
+    }
+}
+
+// The old slot, where it stays, or the new one.
+fn either(stays: bool, old: Option<u32>, new: Option<u32>) -> Option<u32>
+    ensures { result ≡ if stays then old else new }
+{
+    if stays { old } else { new }
 }
 
 impl<K: Ord + Drop, V: Drop> Chain<K, V> {
     /// A chain of nothing.
     pub fn new(alloc: Global) -> Chain<K, V>
-        ensures { result.places ≡ [] }
+        ensures front { result.front ≡ [] }
+        ensures behind { result.behind ≡ [] }
     {
         Chain {
-            nodes: Slab::new(alloc),
-            places: BTreeMap::new(alloc),
+            linked: LinkedMap::new(alloc),
+            last: None,
+            first: None,
+            count: 0,
         }
     }
 
-    /// How many values.
+    /// How many values. The keys rise, and no slot is one of two keys.
     pub fn len(&self) -> usize
-        ensures len { result ≡ length self.now.places }
-        ensures chain { IsChain K.cmp self.now }
+        ensures len { result ≡ length (all_in self.now) }
+        ensures rises { IsStrictlySortedBy K.cmp (keys_of (all_in self.now)) }
+        ensures apart { IsApart (slots_of (all_in self.now)) }
     {
-        self.places.len()
+        self.linked.len()
+    }
+
+    /// How many values are in front of the cut.
+    pub fn front_len(&self) -> usize
+        ensures { result ≡ length self.now.front }
+    {
+        self.count
+    }
+
+    /// How many values are behind the cut.
+    pub fn behind_len(&self) -> usize
+        ensures { result ≡ length self.now.behind }
+    {
+        self.linked.len() - self.count
+    }
+
+    /// Puts a value at a key, in place of the one that was there. Where the key lies at the cut, the
+    /// value comes to stand in the half that is named.
+    ///
+    /// # Errors
+    ///
+    /// An `AllocError`, for want of memory or where all 2^32 slots are taken, after which nothing has
+    /// changed. A key that is there needs neither.
+    pub fn put(&mut self, key: K, value: V, at_cut: Half) -> Result<Placed<V>, AllocError>
+        ensures puts { IfOk result (λ p. Puts p.half K.cmp key (p.slot, value) self.old self.new) }
+        ensures whole { IfOk result (λ p. all_in self.new
+            ≡ insert_entry K.cmp (all_in self.old) key (p.slot, value)) }
+        ensures half { IfOk result (λ p. p.half ≡ half_at K.cmp key at_cut self.old) }
+        ensures slot { IfOk result (λ p. IfSome (lookup (is_at (K.cmp key)) (all_in self.old))
+            (λ q. p.slot ≡ q.0)) }
+        ensures old { IfOk result (λ p. p.old
+            ≡ option_map (λ q. q.1) (lookup (is_at (K.cmp key)) (all_in self.old))) }
+        ensures stood { IfOk result (λ p. p.old
+            ≡ option_map (λ q. q.1) (lookup (is_at (K.cmp key)) (in_half p.half self.old))) }
+        ensures err { OnErr result (self.new ≡ self.old) }
+        ensures absent { OnErr result (lookup (is_at (K.cmp key)) (all_in self.old) ≡ None) }
+    {
+        let previous = match self.linked.place(&key) {
+            Place::At(slot) => {
+                let half = half_of(&self.linked, slot);
+                let old = self.linked.set(slot, value);
+                return Ok(Placed { slot, half, old });
+            }
+            Place::After(previous) => previous,
+        };
+        let slot = self.linked.insert(key, value, previous)?;
+        // For the prover: no more values stand in front of the cut than there are.
+        let _len = self.linked.len();
+        match half_between(&self.linked, slot, at_cut) {
+            Half::Front => {
+                let stays = is_front(&self.linked, self.linked.next(slot));
+                self.linked.mark(slot, true);
+                self.last = either(stays, self.last, Some(slot));
+                self.count += 1;
+                Ok(Placed {
+                    slot,
+                    half: Half::Front,
+                    old: None,
+                })
+            }
+            Half::Behind => {
+                let stays = is_behind(&self.linked, self.linked.previous(slot));
+                self.first = either(stays, self.first, Some(slot));
+                Ok(Placed {
+                    slot,
+                    half: Half::Behind,
+                    old: None,
+                })
+            }
+        }
+    }
+
+    /// Takes out the value at a key. The answer is the half in which it stood, and the value.
+    pub fn remove(&mut self, key: &K) -> Option<(Half, V)>
+        ensures front { self.new.front ≡ remove_entry (is_at (K.cmp key.now)) self.old.front }
+        ensures behind { self.new.behind ≡ remove_entry (is_at (K.cmp key.now)) self.old.behind }
+        ensures whole { all_in self.new ≡ remove_entry (is_at (K.cmp key.now)) (all_in self.old) }
+        ensures was_front { is_half Front (option_map (λ p. p.0) result)
+            ≡ is_some (lookup (is_at (K.cmp key.now)) self.old.front) }
+        ensures was_behind { is_half Behind (option_map (λ p. p.0) result)
+            ≡ is_some (lookup (is_at (K.cmp key.now)) self.old.behind) }
+        ensures value { option_map (λ p. p.1) result
+            ≡ option_map (λ q. q.1) (lookup (is_at (K.cmp key.now)) (all_in self.old)) }
+        ensures none { IfNone result (self.new ≡ self.old) }
+    {
+        let node = self.linked.remove(key)?;
+        let (value, marked, previous, next) = node.parts();
+        if marked {
+            let stays = is_front(&self.linked, next);
+            self.last = either(stays, self.last, previous);
+            self.count -= 1;
+            Some((Half::Front, value))
+        } else {
+            let stays = is_behind(&self.linked, previous);
+            self.first = either(stays, self.first, next);
+            Some((Half::Behind, value))
+        }
+    }
+
+    /// Puts a value in a slot in place of the one that was there, which is handed out. Without one the
+    /// value is dropped.
+    pub fn set(&mut self, slot: u32, value: V) -> Option<V>
+        ensures front { self.new.front ≡ with_value slot value self.old.front }
+        ensures behind { self.new.behind ≡ with_value slot value self.old.behind }
+        ensures old { (fs gs : List (K × (ℕ × V))) (k : K) (v : V)
+            → all_in self.old ≡ fs ++ (k, (slot, v)) ∷ gs → result ≡ Some v }
+        ensures none { IsOther slot (slots_of (all_in self.old)) → result ≡ None }
+    {
+        self.linked.set(slot, value)
+    }
+
+    /// The last value in front of the cut goes behind it. The answer is its slot.
+    pub fn cross_back(&mut self) -> Option<u32>
+        ensures crosses { IfSome result (λ slot. CrossesBack slot self.old self.new) }
+        ensures none { IfNone result (self.old.front ≡ []) }
+        ensures same { IfNone result (self.new ≡ self.old) }
+    {
+        let slot = self.last?;
+        self.linked.mark(slot, false);
+        self.count -= 1;
+        self.first = Some(slot);
+        self.last = self.linked.previous(slot);
+        Some(slot)
+    }
+
+    /// The first value behind the cut goes in front of it. The answer is its slot.
+    pub fn cross_ahead(&mut self) -> Option<u32>
+        ensures crosses { IfSome result (λ slot. CrossesAhead slot self.old self.new) }
+        ensures none { IfNone result (self.old.behind ≡ []) }
+        ensures same { IfNone result (self.new ≡ self.old) }
+    {
+        let slot = self.first?;
+        // For the prover: no more values stand in front of the cut than there are.
+        let _len = self.linked.len();
+        self.linked.mark(slot, true);
+        self.count += 1;
+        self.last = Some(slot);
+        self.first = self.linked.next(slot);
+        Some(slot)
     }
 
     /// The slot of a key.
-    pub fn find(&self, key: &K) -> Option<usize>
-        ensures { result ≡ lookup (is_at (K.cmp key.now)) self.now.places }
+    pub fn find(&self, key: &K) -> Option<u32>
+        ensures { result
+            ≡ option_map (λ q. q.0) (lookup (is_at (K.cmp key.now)) (all_in self.now)) }
     {
-        match self.places.get(key) {
-            Some(slot) => Some(*slot),
-            None => None,
-        }
+        self.linked.find(key)
     }
 
     /// The value in a slot.
-    pub fn get(&self, slot: usize) -> Option<&V>
-        ensures { option_copied result ≡ value_in self.now slot }
+    pub fn get(&self, slot: u32) -> Option<&V>
+        ensures value { (fs gs : List (K × (ℕ × V))) (k : K) (v : V)
+            → all_in self.now ≡ fs ++ (k, (slot, v)) ∷ gs → option_copied result ≡ Some v }
+        ensures none { IsOther slot (slots_of (all_in self.now)) → option_copied result ≡ None }
     {
-        match self.nodes.get(slot) {
-            Some(node) => Some(&node.value),
-            None => None,
+        self.linked.get(slot)
+    }
+
+    /// The half in which a slot stands.
+    pub fn half(&self, slot: u32) -> Option<Half>
+        ensures front { (fs gs : List (K × (ℕ × V))) (k : K) (v : V)
+            → self.now.front ≡ fs ++ (k, (slot, v)) ∷ gs → result ≡ Some Front }
+        ensures behind { (fs gs : List (K × (ℕ × V))) (k : K) (v : V)
+            → self.now.behind ≡ fs ++ (k, (slot, v)) ∷ gs → result ≡ Some Behind }
+        ensures none { IsOther slot (slots_of (all_in self.now)) → result ≡ None }
+    {
+        let marked = self.linked.mark_of(slot)?;
+        if marked {
+            Some(Half::Front)
+        } else {
+            Some(Half::Behind)
         }
     }
 
     /// The slot behind one.
-    pub fn next(&self, slot: usize) -> Option<usize>
-        ensures { result ≡ option_and_then (λ x. x.next) (get self.now.nodes slot) }
+    pub fn next(&self, slot: u32) -> Option<u32>
+        ensures value { (fs gs : List (K × (ℕ × V))) (k : K) (v : V)
+            → all_in self.now ≡ fs ++ (k, (slot, v)) ∷ gs → result ≡ head_or (slots_of gs) None }
+        ensures none { IsOther slot (slots_of (all_in self.now)) → result ≡ None }
     {
-        next_in(&self.nodes, slot)
+        self.linked.next(slot)
     }
 
     /// The slot in front of one.
-    pub fn previous(&self, slot: usize) -> Option<usize>
-        ensures { result ≡ option_and_then (λ x. x.previous) (get self.now.nodes slot) }
+    pub fn previous(&self, slot: u32) -> Option<u32>
+        ensures value { (fs gs : List (K × (ℕ × V))) (k : K) (v : V)
+            → all_in self.now ≡ fs ++ (k, (slot, v)) ∷ gs → result ≡ last_or None (slots_of fs) }
+        ensures none { IsOther slot (slots_of (all_in self.now)) → result ≡ None }
     {
-        match self.nodes.get(slot) {
-            Some(node) => node.previous,
-            None => None,
-        }
+        self.linked.previous(slot)
     }
 
     /// The first slot.
-    pub fn first(&self) -> Option<usize>
-        ensures { result ≡ head_or (values_of self.now.places) None }
+    pub fn first(&self) -> Option<u32>
+        ensures { result ≡ head_or (slots_of (all_in self.now)) None }
     {
-        first_slot(&self.places)
+        self.linked.first()
     }
 
-    /// Puts a value in a slot in place of the one that was there.
-    pub fn set(&mut self, slot: usize, value: V)
-        ensures places { self.new.places ≡ self.old.places }
-        ensures value { value_in self.new slot ≡ option_map (λ _. value) (value_in self.old slot) }
-        ensures others { KeepsOthers self.old self.new slot }
+    /// The last slot in front of the cut.
+    pub fn last_front(&self) -> Option<u32>
+        ensures { result ≡ last_or None (slots_of self.now.front) }
     {
-        set_value(&mut self.nodes, slot, value);
+        self.last
     }
 
-    /// Puts a value at a key that has none, between those beside it. The answer is its slot.
-    ///
-    /// # Errors
-    ///
-    /// An `AllocError`, after which the keys and the values are as they were.
-    pub fn insert(&mut self, key: K, value: V) -> Result<usize, AllocError>
-        requires { lookup (is_at (K.cmp key)) self.old.places ≡ None }
-        ensures places { IfOk result (λ slot. self.new.places
-            ≡ insert_entry K.cmp self.old.places key slot) }
-        ensures vacant { IfOk result (λ slot. value_in self.old slot ≡ None) }
-        ensures value { IfOk result (λ slot. value_in self.new slot ≡ Some value) }
-        ensures others { IfOk result (λ slot. KeepsOthers self.old self.new slot) }
-        ensures err { OnErr result ((self.new.places ≡ self.old.places)
-            × ((n : ℕ) → get self.new.nodes n ≡ get self.old.nodes n)) }
+    /// The first slot behind the cut.
+    pub fn first_behind(&self) -> Option<u32>
+        ensures { result ≡ head_or (slots_of self.now.behind) None }
     {
-        let previous = slot_below(&self.places, &key);
-        let next = match previous {
-            Some(slot) => next_in(&self.nodes, slot),
-            None => first_slot(&self.places),
-        };
-        let slot = self.nodes.insert(Node {
-            value,
-            previous: None,
-            next: None,
-        })?;
-        if let Err(failed) = self.places.insert(key, slot) {
-            drop(failed);
-            drop(self.nodes.try_remove(slot));
-            return Err(AllocError);
+        self.first
+    }
+
+    /// The last value of a half below a key.
+    pub fn before(&self, key: &K, half: Half) -> Option<&V>
+        ensures { option_copied result ≡ option_map (λ e. e.1.1)
+            (last_in (below (K.cmp key.now) (in_half half self.now))) }
+    {
+        let slot = self.linked.below(key)?;
+        if is_same(half_of(&self.linked, slot), half) {
+            return self.linked.get(slot);
         }
-        join(&mut self.nodes, previous, Some(slot));
-        join(&mut self.nodes, Some(slot), next);
-        Ok(slot)
-    }
-
-    /// Takes out the value at a key, and links those beside it to each other.
-    pub fn remove(&mut self, key: &K) -> Option<V>
-        ensures places { self.new.places ≡ remove_entry (is_at (K.cmp key.now)) self.old.places }
-        ensures value { result ≡ option_and_then (λ slot. value_in self.old slot)
-            (lookup (is_at (K.cmp key.now)) self.old.places) }
-        ensures others { IfSome (lookup (is_at (K.cmp key.now)) self.old.places)
-            (λ slot. KeepsOthers self.old self.new slot) }
-        ensures none { lookup (is_at (K.cmp key.now)) self.old.places ≡ None → self.new ≡ self.old }
-    {
-        let slot = self.places.remove(key)?;
-        let (value, previous, next) = self.nodes.try_remove(slot)?.parts();
-        join(&mut self.nodes, previous, next);
-        Some(value)
+        match half {
+            Half::Front => self.linked.get(self.last?),
+            Half::Behind => None,
+        }
     }
 }

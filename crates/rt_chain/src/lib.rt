@@ -1,18 +1,23 @@
 //! Values in the order of their keys, linked in a slab: each knows the slots beside it, and an ordered
-//! map from keys to slots stands beside the links, so that nothing is walked.
+//! map from keys to slots stands beside the links, so that nothing is walked. A cut parts them in two.
 //!
 //! ```text
 //! let mut chain = Chain::new(alloc);
-//! let slot = chain.insert(5, "five")?;
-//! chain.insert(9, "nine")?;
-//! chain.next(slot)                    // the slot of 9
+//! let five = chain.put(5, "five", Half::Front)?;
+//! let nine = chain.put(9, "nine", Half::Behind)?;
+//! chain.next(five.slot)                 // the slot of 9
+//! chain.cross_ahead();                  // 9 stands in front of the cut too
 //! chain.remove(&9);
 //! ```
 #![tactic(auto)]
 
 mod chain;
+mod half;
+mod linked_map;
 mod links;
 mod node;
+mod placed;
 
 pub use chain::Chain;
-pub use node::Node;
+pub use half::Half;
+pub use placed::Placed;

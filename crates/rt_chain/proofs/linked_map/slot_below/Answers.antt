@@ -2,7 +2,7 @@ use Rattle.std.proofs.Common.{◌≡◌, ◌++◌, ◌∷◌, [], ℕ, None, ap,
 use Rattle.std.specs.Map.{values_of}
 use Rattle.rt_chain.specs.Chains.{below, last_or}
 use Rattle.rt_chain.proofs.Places.{last-push}
-use Rattle.rt_chain.proofs.chain.slot_below.Goals as goal
+use Rattle.rt_chain.proofs.linked_map.slot_below.Goals as goal
 
 pub returns-in-Some : goal.returns-in-Some
 returns-in-Some g c =

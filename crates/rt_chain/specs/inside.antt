@@ -1,0 +1,4 @@
+-- What only the bodies need.
+pub mod Halves
+pub mod Links
+pub mod Places
