@@ -123,12 +123,12 @@ module _ {X : Type 0} where
         ] refl
 
     -- a node came at a key that had none
-    pub inserted : IsTotalOrder cmp → (es ds : List (K × ℕ)) (s t u v : Slab (Node X)) (k : K) (n : ℕ) (x : X) (p q : Option ℕ) → lookup (is_at (cmp k)) es ≡ None → get s n ≡ None
-        → Updates s t n (Some (record { value = x; marked = false; previous = None; next = None })) → p ≡ last_or None (values_of (below (cmp k) es))
-        → ((fs gs : List ℕ) → values_of es ≡ fs ++ gs → p ≡ last_or None fs → q ≡ head_or gs None)
+    pub inserted : IsTotalOrder cmp → (es ds : List (K × ℕ)) (s t u v : Slab (Node X)) (k : K) (n : ℕ) (x : X) (b : Bool) (p q : Option ℕ) → lookup (is_at (cmp k)) es ≡ None → get s n ≡ None
+        → Updates s t n (Some (record { value = x; marked = b; previous = None; next = None })) → p ≡ last_or None (values_of (below (cmp k) es))
+        → ((fs gs : List ℕ) → values_of es ≡ fs ++ gs → fs ≡ values_of (below (cmp k) es) → p ≡ last_or None fs → q ≡ head_or gs None)
         → ((m : ℕ) → get u m ≡ option_map (joined p (Some n) m) (get t m)) → ((m : ℕ) → get v m ≡ option_map (joined (Some n) q m) (get u m))
         → ds ≡ insert_entry cmp es k n → IsStrictlySortedBy cmp (keys_of ds) → IsLinked cmp (chain es s) → IsLinked cmp (chain ds v)
-    inserted o es ds s t u v k n x p q absent free up before next first second more rises h =
+    inserted o es ds s t u v k n x b p q absent free up before next first second more rises h =
         let parts = parted o k n es h.rises absent in
         let fs : List ℕ = values_of (below (cmp k) es) in
         let gs : List ℕ = values_of parts.above in
@@ -146,7 +146,7 @@ module _ {X : Type 0} where
           linked = subst (λ ns. IsRun (links_in v) None ns None) (sym put)
               (run_with (links_in t) (links_in u) (links_in v) fs gs n (subst (λ ns. IsRun (links_in t) None ns None) whole run) apart' other' alone
               (subst (λ y. JoinsTo (links_in t) (links_in u) y (Some n)) before (joins t u p (Some n) first))
-              (subst (λ y. JoinsTo (links_in u) (links_in v) (Some n) y) (next fs gs whole before) (joins u v (Some n) q second)));
+              (subst (λ y. JoinsTo (links_in u) (links_in v) (Some n) y) (next fs gs whole refl before) (joins u v (Some n) q second)));
           apart = subst IsApart (sym put) (subst IsApart (assoc_one fs gs n) (apart_with fs gs n apart' other'));
           whole = λ m others.
               let far = other_mid m n fs gs (subst (IsOther m) put others) in

@@ -4,6 +4,7 @@ mod Cutting
 mod Entries
 mod Halves
 mod Looks
+mod Making
 mod Places
 mod Runs
 mod Seeks

@@ -141,7 +141,7 @@ module _ {K X : Type 0} where
   places-append [] ds = refl
   places-append (e ∷ es) ds = ap (λ xs. (e.0, e.1.0) ∷ xs) (places-append es ds)
 
-  places-keys : (es : List (K × (ℕ × X))) → keys_of (places_in es) ≡ keys_of es
+  pub places-keys : (es : List (K × (ℕ × X))) → keys_of (places_in es) ≡ keys_of es
   places-keys [] = refl
   places-keys (e ∷ es) = ap (λ xs. e.0 ∷ xs) (places-keys es)
 

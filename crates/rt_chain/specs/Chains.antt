@@ -70,6 +70,10 @@ module _ {K X : Type 0} where
   in_half Front c = c.front
   in_half Behind c = c.behind
 
+  -- the entries without their slots
+  abbrev pub entries_of : List (K × (ℕ × X)) → List (K × X)
+  entries_of es = map (λ e. (e.0, e.1.1)) es
+
   -- the slots, in order
   abbrev pub slots_of : List (K × (ℕ × X)) → List ℕ
   slots_of es = map (λ e. e.1.0) es

@@ -1,4 +1,5 @@
 -- What only the bodies need.
 pub mod Halves
 pub mod Links
+pub mod Made
 pub mod Places

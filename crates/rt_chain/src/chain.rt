@@ -1,28 +1,31 @@
 // A chain that is cut at one place.
-ghost use Rattle.std.specs.Prelude.{◌≡◌, ◌++◌, ◌∷◌, [], ℕ, List, Some, None, IfOk, IfSome, IfNone, OnErr};
-ghost use Rattle.std.specs.Prelude.{if◌then◌else◌, length, is_some};
+ghost use Rattle.std.specs.Prelude.{◌≡◌, ◌++◌, ◌∷◌, [], ℕ, List, Some, None, IfOk, IfSome, IfNone};
+ghost use Rattle.std.specs.Prelude.{OnErr, if◌then◌else◌, ◌||◌, drop, length, is_some, take};
 ghost use Rattle.std.specs.List.Sorted.{IsStrictlySortedBy};
 ghost use Rattle.std.specs.Option.{option_and_then, option_copied, option_map};
+ghost use Rattle.std.specs.declared.cmp.Ordering.TheVariants.{Equal};
 ghost use Rattle.slab.specs.Slab.{get};
 ghost use Rattle.std.specs.BTreeMap.{insert_entry, is_at};
 ghost use Rattle.std.specs.Map.{keys_of, lookup, remove_entry};
 ghost use Rattle.rt_chain.specs.Chains.{CrossesAhead, CrossesBack, IsApart, IsOther, Puts, all_in, below};
-ghost use Rattle.rt_chain.specs.Chains.{half_at, half_between, head_or, in_half, is_half, last_in, last_or};
-ghost use Rattle.rt_chain.specs.Chains.{slots_of, with_value};
+ghost use Rattle.rt_chain.specs.Chains.{entries_of, half_at, half_between, head_or, in_half, is_half};
+ghost use Rattle.rt_chain.specs.Chains.{last_in, last_or, slots_of, with_value};
 ghost use Rattle.rt_chain.specs.inside.Links.{is_marked};
 ghost use Rattle.rt_chain.specs.inside.Halves.{half_by, is_behind, is_front};
 ghost use Rattle.rt_chain.specs.declared.half.Half.TheVariants.{Front, Behind};
 
 use crate::half::Half;
 use crate::linked_map::{LinkedMap, Place};
+use crate::links::push;
 use crate::placed::Placed;
+use slab::Slab;
 use std::alloc::{AllocError, Global};
 use std::marker::Model;
 
 /// Values in the order of their keys, linked in a slab, with a cut between two of them, or at an end.
 ///
-/// A call by a key looks for it once or twice in the map from keys to slots. A call by a slot, and one
-/// that moves the cut, looks for nothing.
+/// A call by a key looks for it in the map from keys to slots: once where it is there, and at most three
+/// times where it isn't. A call by a slot, and one that moves the cut, looks for nothing.
 pub struct Chain<K: Ord, V> {
     linked: LinkedMap<K, V>,
     last: Option<u32>,
@@ -118,6 +121,17 @@ fn either(stays: bool, old: Option<u32>, new: Option<u32>) -> Option<u32>
     if stays { old } else { new }
 }
 
+// The first slot behind the cut, once one came that stands in front of it or behind.
+fn first_of(first: Option<u32>, in_front: bool, slot: u32) -> Option<u32>
+    ensures { result ≡ if in_front || is_some first then first else Some slot }
+{
+    if in_front || first.is_some() {
+        first
+    } else {
+        Some(slot)
+    }
+}
+
 impl<K: Ord + Drop, V: Drop> Chain<K, V> {
     /// A chain of nothing.
     pub fn new(alloc: Global) -> Chain<K, V>
@@ -130,6 +144,44 @@ impl<K: Ord + Drop, V: Drop> Chain<K, V> {
             first: None,
             count: 0,
         }
+    }
+
+    /// A chain of these entries, whose keys rise, of which so many stand in front of the cut. No key is
+    /// looked for: the map from keys to slots is made in order, so that the parts of it are full.
+    ///
+    /// # Errors
+    ///
+    /// An `AllocError`, for want of memory or where there are more than 2^32 entries, after which the
+    /// entries are dropped.
+    pub fn from_sorted(
+        alloc: Global,
+        entries: Vec<(K, V)>,
+        front: usize,
+    ) -> Result<Chain<K, V>, AllocError>
+        requires rises { IsStrictlySortedBy K.cmp (keys_of entries.items) }
+        requires same { (j k : K) → K.cmp j k ≡ Equal → j ≡ k }
+        ensures whole { IfOk result (λ chain. entries_of (all_in chain) ≡ entries.items) }
+        ensures front { IfOk result (λ chain. entries_of chain.front ≡ take front entries.items) }
+        ensures behind { IfOk result (λ chain. entries_of chain.behind ≡ drop front entries.items) }
+    {
+        let mut nodes = Slab::with_capacity(alloc, entries.len())?;
+        let mut places = Vec::with_capacity(alloc, entries.len())?;
+        let (mut tail, mut last, mut first) = (None, None, None);
+        for (key, value) in entries {
+            let in_front = places.len() < front;
+            let slot = push(&mut nodes, tail, value, in_front)?;
+            places.push((key, slot))?;
+            tail = Some(slot);
+            last = either(in_front, tail, last);
+            first = first_of(first, in_front, slot);
+        }
+        let count = places.len().min(front);
+        Ok(Chain {
+            linked: LinkedMap::of(alloc, nodes, places)?,
+            last,
+            first,
+            count,
+        })
     }
 
     /// How many values. The keys rise, and no slot is one of two keys.

@@ -3,6 +3,7 @@ ghost use Rattle.std.specs.Prelude.{◌≡◌, [], false, ℕ, Some, None, IfOk,
 ghost use Rattle.std.specs.Option.{option_and_then, option_copied, option_map};
 ghost use Rattle.std.specs.BTreeMap.{insert_entry, is_at};
 ghost use Rattle.std.specs.Map.{lookup, remove_entry, values_of};
+ghost use Rattle.std.specs.declared.cmp.Ordering.TheVariants.{Equal};
 ghost use Rattle.slab.specs.Slab.{get};
 ghost use Rattle.rt_chain.specs.Chains.{below, head_or, last_or};
 ghost use Rattle.rt_chain.specs.declared.linked_map.Place.TheVariants.{After};
@@ -10,15 +11,12 @@ ghost use Rattle.rt_chain.specs.inside.Places.{IsPlace};
 ghost use Rattle.rt_chain.specs.inside.Links.{IsLinked, KeepsOthers, is_marked, kept_in, marks};
 ghost use Rattle.rt_chain.specs.inside.Links.{sets, value_in};
 
-use crate::links::{join, set_mark, set_value};
+use crate::links::{LAST_SLOT, join, set_mark, set_value};
 use crate::node::Node;
 use slab::Slab;
 use std::alloc::{AllocError, Global};
 use std::collections::BTreeMap;
 use std::marker::Model;
-
-// A slot takes four bytes: one beyond that is refused as memory.
-const LAST_SLOT: usize = u32::MAX as usize;
 
 // Where a key stands, or after which slot it would.
 pub(crate) enum Place {
@@ -67,15 +65,9 @@ fn slot_below<K: Ord + Drop>(places: &BTreeMap<K, u32>, key: &K) -> Option<u32>
 fn place_of<K: Ord + Drop>(places: &BTreeMap<K, u32>, key: &K) -> Place
     ensures { IsPlace (K.cmp key.now) places.now.entries result }
 {
-    match places.range(..=key).next_back() {
-        Some((found, slot)) => {
-            if key.cmp(found).is_eq() {
-                Place::At(*slot)
-            } else {
-                Place::After(Some(*slot))
-            }
-        }
-        None => Place::After(None),
+    match places.get(key) {
+        Some(slot) => Place::At(*slot),
+        None => Place::After(slot_below(places, key)),
     }
 }
 
@@ -108,6 +100,20 @@ impl<K: Ord + Drop, V: Drop> LinkedMap<K, V> {
             nodes: Slab::new(alloc),
             places: BTreeMap::new(alloc),
         }
+    }
+
+    // The nodes of these places.
+    pub fn of(
+        alloc: Global,
+        nodes: Slab<Node<V>>,
+        places: Vec<(K, u32)>,
+    ) -> Result<LinkedMap<K, V>, AllocError>
+        requires linked { IsLinked K.cmp (record { places = places.items; nodes = nodes }) }
+        requires same { (j k : K) → K.cmp j k ≡ Equal → j ≡ k }
+        ensures { IfOk result (λ map. map ≡ record { places = places.items; nodes = nodes }) }
+    {
+        let places = BTreeMap::from_iter(alloc, places)?;
+        Ok(LinkedMap { nodes, places })
     }
 
     // How many values.
@@ -166,7 +172,10 @@ impl<K: Ord + Drop, V: Drop> LinkedMap<K, V> {
     pub fn below(&self, key: &K) -> Option<u32>
         ensures { result ≡ last_or None (values_of (below (K.cmp key.now) self.now.places)) }
     {
-        slot_below(&self.places, key)
+        match self.find(key) {
+            Some(slot) => self.previous(slot),
+            None => slot_below(&self.places, key),
+        }
     }
 
     // Where a key stands, or after which slot it would.

@@ -1,12 +1,17 @@
 // Nodes are linked to each other.
-ghost use Rattle.std.specs.Prelude.{◌≡◌, ◌≢◌, ℕ};
+ghost use Rattle.std.specs.Prelude.{◌≡◌, ◌≢◌, ℕ, IfOk};
 ghost use Rattle.std.specs.Option.{option_map};
 ghost use Rattle.slab.specs.Slab.{get};
-ghost use Rattle.rt_chain.specs.inside.Links.{joined, with_mark, with_next, with_previous, with_value};
+ghost use Rattle.rt_chain.specs.inside.Links.{Pushes, joined, with_mark, with_next, with_previous};
+ghost use Rattle.rt_chain.specs.inside.Links.{with_value};
 
 use crate::node::Node;
 use slab::Slab;
+use std::alloc::AllocError;
 use std::mem;
+
+// A slot takes four bytes: one beyond that is refused as memory.
+pub(crate) const LAST_SLOT: usize = u32::MAX as usize;
 
 // Sets the value of a node. The old one is handed out.
 pub(crate) fn set_value<V: Drop>(nodes: &mut Slab<Node<V>>, slot: u32, value: V) -> Option<V>
@@ -48,6 +53,30 @@ pub(crate) fn set_previous<V: Drop>(nodes: &mut Slab<Node<V>>, slot: u32, link: 
     if let Some(node) = nodes.get_mut(slot as usize) {
         node.previous = link;
     }
+}
+
+// Puts a node behind another one, with nothing behind it. The answer is its slot.
+pub(crate) fn push<V: Drop>(
+    nodes: &mut Slab<Node<V>>,
+    previous: Option<u32>,
+    value: V,
+    marked: bool,
+) -> Result<u32, AllocError>
+    ensures { IfOk result (λ slot. Pushes previous slot marked value nodes.old nodes.new) }
+{
+    if nodes.vacant_key() > LAST_SLOT {
+        return Err(AllocError);
+    }
+    let place = nodes.insert(Node {
+        value,
+        marked,
+        previous: None,
+        next: None,
+    })?;
+    let slot = place as u32;
+    join(nodes, previous, Some(slot));
+    join(nodes, Some(slot), None);
+    Ok(slot)
 }
 
 // Links two nodes to each other, where they are there.

@@ -19,7 +19,8 @@ HasMark {X} b o = (x : X) × (o ≡ Some (b, x))
 
 module _ {K X : Type 0} where
   -- a place with its value, where its mark is this one
-  abbrev pub taken : Bool → K × ℕ → Option (Bool × X) → List (K × (ℕ × X)) → List (K × (ℕ × X))
+  abbrev pub taken : Bool → K × ℕ → Option (Bool × X) → List (K × (ℕ × X))
+      → List (K × (ℕ × X))
   taken b e None rest = rest
   taken b e (Some p) rest = if is_same b p.0 then (e.0, (e.1, p.1)) ∷ rest else rest
 
@@ -36,7 +37,8 @@ module _ {K X : Type 0} where
 
   -- the marked slots stand in front of the others; the last of the ones and the first of the others
   -- are known, and how many of the ones there are
-  pub record IsCut (cmp : K → K → Ordering) (c : Linked K X) (last first : Option ℕ) (count : ℕ) : Type 0 where
+  pub record IsCut (cmp : K → K → Ordering) (c : Linked K X) (last first : Option ℕ)
+      (count : ℕ) : Type 0 where
     pub chain : IsLinked cmp c
     pub front : List (K × ℕ)
     pub behind : List (K × ℕ)

@@ -5,7 +5,7 @@ use Rattle.std.specs.Map.{keys_of, values_of}
 use Rattle.std.specs.Option.{option_map, option_map_or}
 use Rattle.std.specs.Coded.{Coded, code_by, coded×, coded_ℕ, coded_bool, coded_list, coded_option}
 use Rattle.std.specs.declared.cmp.Ordering.{Ordering}
-use Rattle.slab.specs.Slab.{Slab, get, slab_code}
+use Rattle.slab.specs.Slab.{Slab, Updates, get, slab_code}
 use Rattle.rt_chain.specs.declared.node.Node.{Node}
 use Rattle.rt_chain.specs.Chains.{IsApart, IsOther, head_or}
 
@@ -18,7 +18,8 @@ pub record Linked (K X : Type 0) : Type 0 where
 abbrev pub node_code : {X : Type 0} → Coded X → Coded (Node X)
 node_code {X} code =
     let link = coded_option coded_ℕ in
-    code_by ((X × Bool) × (Option ℕ × Option ℕ)) (coded× (coded× code coded_bool) (coded× link link))
+    code_by ((X × Bool) × (Option ℕ × Option ℕ))
+    (coded× (coded× code coded_bool) (coded× link link))
     (λ s. ((s.value, s.marked), (s.previous, s.next)))
     (λ p. record { value = p.0.0; marked = p.0.1; previous = p.1.0; next = p.1.1 }) (λ _. refl)
 
@@ -99,3 +100,14 @@ module _ {X : Type 0} where
     next = cond (is_link p n) q node.next;
     previous = cond (is_link q n) p node.previous;
   }
+
+-- a node came to a slot that was vacant, behind another one and with nothing behind it
+pub record Pushes {X : Type 0} (previous : Option ℕ) (slot : ℕ) (marked : Bool) (value : X)
+    (old new : Slab (Node X)) : Type 0 where
+  pub vacant : get old slot ≡ None
+  pub mid : Slab (Node X)
+  pub low : Slab (Node X)
+  pub came : Updates old mid slot
+      (Some (record { value = value; marked = marked; previous = None; next = None }))
+  pub linked : (m : ℕ) → get low m ≡ option_map (joined previous (Some slot) m) (get mid m)
+  pub ended : (m : ℕ) → get new m ≡ option_map (joined (Some slot) None m) (get low m)

@@ -10,4 +10,5 @@ use Rattle.rt_chain.specs.Chains.{below, last_or}
 -- a key has this slot; or it has none, and the last one below it has that
 abbrev pub IsPlace : {K : Type 0} → (K → Ordering) → List (K × ℕ) → Place → Type 0
 IsPlace compare es (At n) = lookup (is_at compare) es ≡ Some n
-IsPlace compare es (After p) = (lookup (is_at compare) es ≡ None) × (p ≡ last_or None (values_of (below compare es)))
+IsPlace compare es (After p) =
+    (lookup (is_at compare) es ≡ None) × (p ≡ last_or None (values_of (below compare es)))

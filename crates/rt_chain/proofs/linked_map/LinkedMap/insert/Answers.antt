@@ -1,4 +1,4 @@
-use Rattle.std.proofs.Common.{◌≡◌, ◌++◌, ℕ, List, None, refl, ap, sym, subst, ◌∙◌}
+use Rattle.std.proofs.Common.{◌≡◌, false, ◌++◌, ℕ, List, None, refl, ap, sym, subst, ◌∙◌}
 use Rattle.std.specs.Map.{values_of}
 use Rattle.slab.specs.Slab.{get}
 use Rattle.rt_chain.specs.Chains.{head_or, last_or}
@@ -29,8 +29,8 @@ invariant_of-self-2 g c =
     ] in
     let asked = subst (λ (v : Linked g.row.K.Denot g.row.V.Denot). IsPlace (g.K.Ord.cmp c.args.key) v.places (After c.args.previous)) (sym c.self.view_is) c.requires in
     let before : c.match-previous.previous ≡ c.args.previous = elim c.match-previous.branch [ in-Some w ↦ w.previous-is ∙ sym w.in-Some.is | in-None w ↦ w.previous-is ] in
-    inserted g.K.Ord.cmp g.met.K.Ord.total es c.insert-2.new.self.entries c.self.inside.nodes c.insert.new.self c.join.new.nodes c.join-2.new.nodes c.args.key c.in_ok-place.place c.args.value
-    c.match-previous.previous c.match-previous.next asked.0 c.in_ok-place.ensures.was_vacant c.in_ok-place.ensures.updates (before ∙ asked.1) next
+    inserted g.K.Ord.cmp g.met.K.Ord.total es c.insert-2.new.self.entries c.self.inside.nodes c.insert.new.self c.join.new.nodes c.join-2.new.nodes c.args.key c.in_ok-place.place c.args.value false
+    c.match-previous.previous c.match-previous.next asked.0 c.in_ok-place.ensures.was_vacant c.in_ok-place.ensures.updates (before ∙ asked.1) (λ fs gs whole same. next fs gs whole)
     c.join.ensures c.join-2.ensures c.in_default.ensures.entries c.in_default.ensures.ordered c.self.invariant
 
 pub returns-in_err-place-clause-chain : goal.returns-in_err-place-clause-chain
@@ -53,6 +53,6 @@ returns-clause-chain g c =
     ] in
     let asked = subst (λ (v : Linked g.row.K.Denot g.row.V.Denot). IsPlace (g.K.Ord.cmp c.args.key) v.places (After c.args.previous)) (sym c.self.view_is) c.requires in
     let before : c.match-previous.previous ≡ c.args.previous = elim c.match-previous.branch [ in-Some w ↦ w.previous-is ∙ sym w.in-Some.is | in-None w ↦ w.previous-is ] in
-    inserted g.K.Ord.cmp g.met.K.Ord.total es c.insert-2.new.self.entries c.self.inside.nodes c.insert.new.self c.join.new.nodes c.join-2.new.nodes c.args.key c.in_ok-place.place c.args.value
-    c.match-previous.previous c.match-previous.next asked.0 c.in_ok-place.ensures.was_vacant c.in_ok-place.ensures.updates (before ∙ asked.1) next
+    inserted g.K.Ord.cmp g.met.K.Ord.total es c.insert-2.new.self.entries c.self.inside.nodes c.insert.new.self c.join.new.nodes c.join-2.new.nodes c.args.key c.in_ok-place.place c.args.value false
+    c.match-previous.previous c.match-previous.next asked.0 c.in_ok-place.ensures.was_vacant c.in_ok-place.ensures.updates (before ∙ asked.1) (λ fs gs whole same. next fs gs whole)
     c.join.ensures c.join-2.ensures c.in_default.ensures.entries c.in_default.ensures.ordered c.self.invariant
