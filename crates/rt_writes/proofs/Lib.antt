@@ -4,6 +4,7 @@ pub mod LayLaws
 pub mod LeafLaws
 pub mod Lists
 pub mod NumberLaws
+pub mod OverlapLaws
 pub mod PartLaws
 pub mod RowLaws
 pub mod Shallow

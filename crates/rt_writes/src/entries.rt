@@ -6,6 +6,7 @@ ghost use Rattle.rt_tree.specs.PathTree.{levels, sub, put};
 ghost use Rattle.rt_tree.specs.Assignments.{is_at_or_above, do_overlap, have_overlap};
 ghost use Rattle.rt_writes.specs.Writes.{IsShallow, overlaid};
 
+use crate::overlap::some_overlap;
 use rt_tree::{Key, MAX_KEYS, MAX_LEVELS, Path, Tree, TreeError};
 use std::alloc::{AllocError, Global};
 use std::marker::Model;
@@ -70,18 +71,12 @@ impl Entries {
         Ok(Entries { items })
     }
 
-    /// Whether of two entries one is at or above the other. Compares each with each.
+    /// Whether of two entries one is at or above the other. Costs n log n for n entries; where memory
+    /// lacks for putting them in order, each is compared with each.
     pub fn have_overlap(&self) -> bool
         ensures { result ≡ have_overlap self.now }
     {
-        let mut rest = self.items.as_slice();
-        while let Some((first, others)) = rest.split_first() {
-            if others.iter().any(|other| do_overlap(&first.0, &other.0)) {
-                return true;
-            }
-            rest = others;
-        }
-        false
+        some_overlap(*self.items.allocator(), self.items.as_slice())
     }
 
     // Whether an entry sits at or above the path.
@@ -126,13 +121,6 @@ pub fn is_shallow(path: &Path, tree: &Tree) -> bool
     ensures { IsTrue result ↔ IsShallow (path.now, tree.now) }
 {
     path.keys().len() + tree.levels() <= MAX_LEVELS
-}
-
-// Whether one of the two is at or above the other.
-fn do_overlap(left: &Path, right: &Path) -> bool
-    ensures { result ≡ do_overlap left.now right.now }
-{
-    left.is_prefix_of(right) || right.is_prefix_of(left)
 }
 
 // Whether `at` is at or above the child's path.

@@ -20,6 +20,7 @@ mod list;
 mod marks;
 mod merged;
 mod numbers;
+mod overlap;
 mod pending;
 mod spots;
 mod write;
