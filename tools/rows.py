@@ -18,7 +18,7 @@ class Row:
     in place of 'script', NAME.status its exit status, and NAME.err what it says on standard error. NAME.unsaid is how many of its allocations may be refused and no
     answer shows it: those for the copy of a seat's call that the core refuses, those for the tree beside the pending writes, which is given
     up, those for the room that the list of a new view's children asks for at once, in whose place it grows bit by bit, and those for the sorted
-    tags of a push of more than 64 parts, in whose place each tag is compared with each."""
+    tags of a push of more than 64 parts and the sorted entries of a write of more than 8, in whose place each is compared with each."""
 
     def __init__(self, name):
         self.name = name

@@ -13,7 +13,7 @@ use Rattle.rt_view.specs.declared.told.Told.{Told}
 use Rattle.rt_view.specs.declared.window.Window.{Window}
 use Rattle.rt_view.specs.Changes.{placed_changes, removals}
 use Rattle.rt_view.specs.inside.Given.{change_of, is_given, row_change}
-use Rattle.rt_view.specs.inside.Windows.{Entries, before, value_at}
+use Rattle.rt_view.specs.inside.Windows.{Entries, before, value_at, shown_in}
 use Rattle.rt_view.specs.inside.Kept.{IsWindowOf, NotesAll, changes_to, gone_at, noted_in, removed_of, rows_in_tree}
 use Rattle.rt_view.specs.inside.Alone.{told_alone, told_there}
 use Rattle.rt_view.specs.inside.Telling.{given_of, gone_too, told_in, told_too}
@@ -43,11 +43,11 @@ either true e = cc
 either false e = refl
 
 -- what a query that isn't filtered shows under a key
-pub plain_value : (q : Query) (u : PathTree) (w : Window) (k : Key) → is_filtered q ≡ false → IsWindowOf q u w → value_at w.shown.entries k ≡ child_of (children_of u) k
+pub plain_value : (q : Query) (u : PathTree) (w : Window) (k : Key) → is_filtered q ≡ false → IsWindowOf q u w → value_at (shown_in w) k ≡ child_of (children_of u) k
 plain_value q u w k plain h = ap (λ (es : Entries). value_at es k) (sym (plain_rows q u w plain h)) ∙ value_at-children q.index u k
 
 -- under the key of the child that is put there is that child
-pub alone_now : (q : Query) (t u : PathTree) (w : Window) (k : Key) (v : PathTree) → is_filtered q ≡ false → IsWindowOf q u w → u ≡ put t (k ∷ []) v → value_at w.shown.entries k ≡ non_null v
+pub alone_now : (q : Query) (t u : PathTree) (w : Window) (k : Key) (v : PathTree) → is_filtered q ≡ false → IsWindowOf q u w → u ≡ put t (k ∷ []) v → value_at (shown_in w) k ≡ non_null v
 alone_now q t u w k v plain h is =
     plain_value q u w k plain h ∙ ap (λ (x : PathTree). child_of (children_of x) k) is ∙ child_of-put t k k v
     ∙ ap (λ b. cond b (non_null v) (child_of (children_of t) k)) (key_eq-same k)
@@ -80,11 +80,11 @@ told_noted index k shown (Some v) o =
     λ i. one Added i ++ one Moved i ++ one Changed i
 
 -- is what is told of all rows, where nothing differs under the other keys
-pub alone_all : (q : Query) (t : PathTree) (w : Window) (k : Key) (o n : Option PathTree) → IsListed q.index w.shown.entries → NotesAll q.index (k ∷ []) t w
-    → child_of (children_of t) k ≡ o → value_at w.shown.entries k ≡ n → told_alone q.index k o n w.shown.entries ≡ changes_to q.index t w
+pub alone_all : (q : Query) (t : PathTree) (w : Window) (k : Key) (o n : Option PathTree) → IsListed q.index (shown_in w) → NotesAll q.index (k ∷ []) t w
+    → child_of (children_of t) k ≡ o → value_at (shown_in w) k ≡ n → told_alone q.index k o n (shown_in w) ≡ changes_to q.index t w
 alone_all q t w k o n listed notes was now =
     let index = q.index in
-    let shown = w.shown.entries in
+    let shown = shown_in w in
     let rows = rows_in_tree index t in
     let removed : map removed_of (gone_too index k (gone_at n o) []) ≡ removals (map row_of rows) (map row_of shown) =
     (λ i. map removed_of (gone_too index k (gone_at (sym now i) (sym (value_at-children index t k ∙ was) i)) (sym (gone_nothing shown rows) i)))

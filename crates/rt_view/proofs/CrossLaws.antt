@@ -19,7 +19,7 @@ use Rattle.rt_query.specs.declared.limit.Limit.{Limit}
 use Rattle.rt_query.specs.declared.limit.Limit.TheVariants.{First, Last}
 use Rattle.rt_view.specs.declared.window.Turned.{Turned}
 use Rattle.rt_view.specs.declared.window.Window.{Window}
-use Rattle.rt_view.specs.inside.Windows.{Entries, IsWindow, is_from_first, is_there, is_to_last, joined, value_at, without}
+use Rattle.rt_view.specs.inside.Windows.{Entries, IsWindow, is_from_first, is_there, is_to_last, joined, value_at, without, rest_in, shown_in}
 use Rattle.rt_view.specs.inside.Kept.{IsWindowOf, in_order, taken_out}
 use Rattle.rt_view.specs.inside.Telling.{left_by, takes_place}
 use Rattle.rt_view.specs.inside.Turns.{Comes, Leaves, Refilled, Refills, Spilled, SpilledBy, Spills, Stands, set_at}
@@ -131,14 +131,10 @@ no_stand q k child es stands nowhere = at (value_at es k) refl
     at None g = refl
     at (Some x) g = let is = stands x g in absurd (nowhere (is.0, is.2))
 
--- null, or one that lies outside the range
+-- null
 pub comes_null : (q : Query) (k : Key) (child : PathTree) (es : Entries) → Stands q k child es → is_null child ≡ true
     → Comes k child false false None es es
 comes_null q k child es stands null = comes_not k child es (no_stand q k child es stands (λ g. cc (g.0, null)))
-
-pub comes_outside : (q : Query) (k : Key) (child : PathTree) (es : Entries) → Stands q k child es → has q.range (entry q.index (k, child)) ≡ false
-    → Comes k child false false None es es
-comes_outside q k child es stands out = comes_not k child es (no_stand q k child es stands (λ g. cc (g.1, out)))
 
 module _ (index : Index) (k : Key) (child : PathTree) (before after : Entries) (h : IsListed index before) (stands : StandsAt index k (entry index (k, child)) before) where
   more : Entries
@@ -193,10 +189,10 @@ passing_some p index k (Some v) x h =
     ] refl h
 
 -- what is shown is known, and in the range
-pub shown_known : (q : Query) (t : PathTree) (w : Window) (k : Key) (x : PathTree) → IsWindowOf q t w → value_at w.shown.entries k ≡ Some x → (child_of (children_of t) k ≡ Some x) × (has q.range (entry q.index (k, x)) ≡ true)
+pub shown_known : (q : Query) (t : PathTree) (w : Window) (k : Key) (x : PathTree) → IsWindowOf q t w → value_at (shown_in w) k ≡ Some x → (child_of (children_of t) k ≡ Some x) × (has q.range (entry q.index (k, x)) ≡ true)
 shown_known q t w k x h is =
-    let up = (parts_rise q.limit w.shown.entries w.rest.entries _ h.cut).0 in
-    let shown = listed-shown q.index q.limit w.shown.entries w.rest.entries _ h.cut (listed-in_order q t) up in
+    let up = (parts_rise q.limit (shown_in w) (rest_in w) _ h.cut).0 in
+    let shown = listed-shown q.index q.limit (shown_in w) (rest_in w) _ h.cut (listed-in_order q t) up in
     passing_some (has q.range) q.index k (child_of (children_of t) k) x (sym (value_at-in_order q t k) ∙ shown.1 k x is)
 
 -- nothing stands under one key in both of two parts
@@ -264,21 +260,13 @@ leaves_still q k o new es stands = record { own = refl; stands = stands; apart =
 
 module _ (q : Query) (u : PathTree) (w : Window) (k : Key) (h : IsWindowOf q u w) where
   -- no child stands at the key
-  pub leaves_none : (new : PathTree) → child_of (children_of u) k ≡ None → Leaves q k None new false None w.shown.entries w.shown.entries
-  leaves_none new none = leaves_still q k None new w.shown.entries (λ x g. cc (none, (shown_known q u w k x h g).0))
-
-  -- one that lies outside the range
-  pub leaves_outside : (t new : PathTree) → child_of (children_of u) k ≡ Some t → has q.range (entry q.index (k, t)) ≡ false
-      → Leaves q k (Some t) new false None w.shown.entries w.shown.entries
-  leaves_outside t new is out = leaves_still q k (Some t) new w.shown.entries (λ x g.
-      let known = shown_known q u w k x h g in
-      let same : x ≡ t = cc (known.0, is) in
-      cc (known.1, out, ap (λ (y : PathTree). has q.range (entry q.index (k, y))) same))
+  pub leaves_none : (new : PathTree) → child_of (children_of u) k ≡ None → Leaves q k None new false None (shown_in w) (shown_in w)
+  leaves_none new none = leaves_still q k None new (shown_in w) (λ x g. cc (none, (shown_known q u w k x h g).0))
 
   -- one whose place is taken
   pub leaves_place : (t new : PathTree) → child_of (children_of u) k ≡ Some t → takes_place q.index t new ≡ true
-      → Leaves q k (Some t) new false None w.shown.entries w.shown.entries
-  leaves_place t new is takes = leaves_still q k (Some t) new w.shown.entries (λ x g.
+      → Leaves q k (Some t) new false None (shown_in w) (shown_in w)
+  leaves_place t new is takes = leaves_still q k (Some t) new (shown_in w) (λ x g.
       let known = shown_known q u w k x h g in
       let same : x ≡ t = cc (known.0, is) in
       let parts = both_of (is_null new) (is_eq (value_cmp (sort_value q.index t) (sort_value q.index new))) takes in
@@ -292,79 +280,79 @@ module _ (q : Query) (u : PathTree) (w : Window) (k : Key) (h : IsWindowOf q u w
       both_of false b e = (refl, e)
 
   module _ (t new : PathTree) (is : child_of (children_of u) k ≡ Some t) (turned : Turned) (after : Entries)
-      (was : turned.was ≡ is_there (entry q.index (k, t)) w.shown.entries)
-      (refills : Refills turned w.rest.entries (without (entry q.index (k, t)) w.shown.entries) after) where
-    here : StandsAt q.index k (entry q.index (k, t)) w.shown.entries
+      (was : turned.was ≡ is_there (entry q.index (k, t)) (shown_in w))
+      (refills : Refills turned (rest_in w) (without (entry q.index (k, t)) (shown_in w)) after) where
+    here : StandsAt q.index k (entry q.index (k, t)) (shown_in w)
     here x g = let same : x ≡ t = cc (is, (shown_known q u w k x h g).0) in ap (λ (y : PathTree). entry q.index (k, y)) same
 
-    parts : IsParted q.index w.shown.entries w.rest.entries
-    parts = parted q.index q.limit w.shown.entries w.rest.entries _ h.cut (listed-in_order q u)
+    parts : IsParted q.index (shown_in w) (rest_in w)
+    parts = parted q.index q.limit (shown_in w) (rest_in w) _ h.cut (listed-in_order q u)
 
-    left : HasAt q.index w.shown.entries k None (without (entry q.index (k, t)) w.shown.entries)
+    left : HasAt q.index (shown_in w) k None (without (entry q.index (k, t)) (shown_in w))
     unfolding parts
-    left = left_here q.index k (entry q.index (k, t)) refl w.shown.entries parts.shown here
+    left = left_here q.index k (entry q.index (k, t)) refl (shown_in w) parts.shown here
 
-    says : turned.was ≡ is_some (value_at w.shown.entries k)
+    says : turned.was ≡ is_some (value_at (shown_in w) k)
     unfolding parts
-    says = was ∙ found_says q.index k t w.shown.entries parts.shown here
+    says = was ∙ found_says q.index k t (shown_in w) parts.shown here
 
-    nothing : value_at (without (entry q.index (k, t)) w.shown.entries) k ≡ None
-    nothing = left.value k ∙ ap (λ b. cond b None (value_at w.shown.entries k)) (key_eq-same k)
+    nothing : value_at (without (entry q.index (k, t)) (shown_in w)) k ≡ None
+    nothing = left.value k ∙ ap (λ b. cond b None (value_at (shown_in w) k)) (key_eq-same k)
 
     -- what stood there is the child, where it was shown
-    stood : (o : Option PathTree) → value_at w.shown.entries k ≡ o → (b : Bool) → b ≡ is_some o → cond b (Some t) None ≡ o
+    stood : (o : Option PathTree) → value_at (shown_in w) k ≡ o → (b : Bool) → b ≡ is_some o → cond b (Some t) None ≡ o
     stood None g b e = ap (λ c. cond c (Some t) None) e
     stood (Some x) g b e =
         let same : Some t ≡ Some x = sym is ∙ (shown_known q u w k x h g).0 in
         ap (λ c. cond c (Some t) None) e ∙ same
 
-    leaves_of : (crossed : Option (Key × PathTree)) → Refilled crossed w.rest.entries (without (entry q.index (k, t)) w.shown.entries) after → IfSome crossed (λ c. turned.was ≡ true)
-        → Leaves q k (Some t) new turned.was crossed w.shown.entries after
+    leaves_of : (crossed : Option (Key × PathTree)) → Refilled crossed (rest_in w) (without (entry q.index (k, t)) (shown_in w)) after → IfSome crossed (λ c. turned.was ≡ true)
+        → Leaves q k (Some t) new turned.was crossed (shown_in w) after
     leaves_of None r first =
         let gone : value_at after k ≡ None = ap (λ (fs : Entries). value_at fs k) r ∙ nothing in
         record {
-          own = ap (cond turned.was (Some t)) gone ∙ stood (value_at w.shown.entries k) refl turned.was says;
+          own = ap (cond turned.was (Some t)) gone ∙ stood (value_at (shown_in w) k) refl turned.was says;
           stands = λ x g. cc (gone, g);
           apart = tt;
-          others = λ j e. ap (λ (fs : Entries). value_at fs j) r ∙ left.value j ∙ ap (λ b. cond b None (value_at w.shown.entries j)) e;
+          others = λ j e. ap (λ (fs : Entries). value_at fs j) r ∙ left.value j ∙ ap (λ b. cond b None (value_at (shown_in w) j)) e;
         }
     leaves_of (Some c) r first =
         let e : Entry = r.0 in
-        let found = found_at q.index e c.1 w.rest.entries parts.rest r.2 in
-        let there : value_at w.rest.entries c.0 ≡ Some c.1 = ap (value_at w.rest.entries) (sym r.1) ∙ found.0 in
+        let found = found_at q.index e c.1 (rest_in w) parts.rest r.2 in
+        let there : value_at (rest_in w) c.0 ≡ Some c.1 = ap (value_at (rest_in w)) (sym r.1) ∙ found.0 in
         let own : e ≡ entry q.index (c.0, c.1) = found.1 ∙ ap (λ (i : Key). entry q.index (i, c.1)) r.1 in
-        let unshown : value_at w.shown.entries c.0 ≡ None = parts.apart c.0 c.1 there in
-        let full : is_some (value_at w.shown.entries k) ≡ true = sym says ∙ first in
-        let other : key_eq k c.0 ≡ false = differ (value_at w.shown.entries k) full unshown in
-        let unleft : value_at (without (entry q.index (k, t)) w.shown.entries) c.0 ≡ None = left.value c.0 ∙ ap (λ b. cond b None (value_at w.shown.entries c.0)) other ∙ unshown in
-        let put = put_here q.index c.0 c.1 (without (entry q.index (k, t)) w.shown.entries) left.listed (no_value q.index c.0 (entry q.index (c.0, c.1)) (without (entry q.index (k, t)) w.shown.entries) unleft) in
-        let now : (j : Key) → value_at after j ≡ cond (key_eq c.0 j) (Some c.1) (value_at (without (entry q.index (k, t)) w.shown.entries) j) =
-        λ j. ap (λ (fs : Entries). value_at fs j) (r.3 ∙ ap (λ (x : Entry). map_of.put entry_cmp x c.1 (without (entry q.index (k, t)) w.shown.entries)) own) ∙ put.value j in
-        let gone : value_at after k ≡ None = now k ∙ ap (λ b. cond b (Some c.1) (value_at (without (entry q.index (k, t)) w.shown.entries) k)) (key_eq-symm c.0 k ∙ other) ∙ nothing in
+        let unshown : value_at (shown_in w) c.0 ≡ None = parts.apart c.0 c.1 there in
+        let full : is_some (value_at (shown_in w) k) ≡ true = sym says ∙ first in
+        let other : key_eq k c.0 ≡ false = differ (value_at (shown_in w) k) full unshown in
+        let unleft : value_at (without (entry q.index (k, t)) (shown_in w)) c.0 ≡ None = left.value c.0 ∙ ap (λ b. cond b None (value_at (shown_in w) c.0)) other ∙ unshown in
+        let put = put_here q.index c.0 c.1 (without (entry q.index (k, t)) (shown_in w)) left.listed (no_value q.index c.0 (entry q.index (c.0, c.1)) (without (entry q.index (k, t)) (shown_in w)) unleft) in
+        let now : (j : Key) → value_at after j ≡ cond (key_eq c.0 j) (Some c.1) (value_at (without (entry q.index (k, t)) (shown_in w)) j) =
+        λ j. ap (λ (fs : Entries). value_at fs j) (r.3 ∙ ap (λ (x : Entry). map_of.put entry_cmp x c.1 (without (entry q.index (k, t)) (shown_in w))) own) ∙ put.value j in
+        let gone : value_at after k ≡ None = now k ∙ ap (λ b. cond b (Some c.1) (value_at (without (entry q.index (k, t)) (shown_in w)) k)) (key_eq-symm c.0 k ∙ other) ∙ nothing in
         record {
-          own = ap (cond turned.was (Some t)) gone ∙ stood (value_at w.shown.entries k) refl turned.was says;
+          own = ap (cond turned.was (Some t)) gone ∙ stood (value_at (shown_in w) k) refl turned.was says;
           stands = λ x g. cc (gone, g);
           apart = (unshown, other);
-          others = λ j e. now j ∙ ap (cond (key_eq c.0 j) (Some c.1)) (left.value j ∙ ap (λ b. cond b None (value_at w.shown.entries j)) e);
+          others = λ j e. now j ∙ ap (cond (key_eq c.0 j) (Some c.1)) (left.value j ∙ ap (λ b. cond b None (value_at (shown_in w) j)) e);
         }
       where
-        differ : (o : Option PathTree) → is_some (value_at w.shown.entries k) ≡ true → value_at w.shown.entries c.0 ≡ None → key_eq k c.0 ≡ false
+        differ : (o : Option PathTree) → is_some (value_at (shown_in w) k) ≡ true → value_at (shown_in w) c.0 ≡ None → key_eq k c.0 ≡ false
         differ o full none = elim (key_eq k c.0) as (λ b. key_eq k c.0 ≡ b → b ≡ false) [
-          | true ↦ λ e. cc (full, ap is_some (ap (value_at w.shown.entries) (key_eq-is k c.0 e) ∙ none))
+          | true ↦ λ e. cc (full, ap is_some (ap (value_at (shown_in w)) (key_eq-is k c.0 e) ∙ none))
           | false ↦ λ e. refl
         ] refl
 
-    pub leaves_taken : Leaves q k (Some t) new turned.was turned.crossed w.shown.entries after
+    pub leaves_taken : Leaves q k (Some t) new turned.was turned.crossed (shown_in w) after
     leaves_taken = leaves_of turned.crossed refills.0 refills.1
 
 -- ---- the window without the child
 
 -- what is shown once a child was taken out is listed
 pub listed_left : (q : Query) (t : PathTree) (k : Key) (o : Option PathTree) (v : PathTree) (a b : Window) → IsWindowOf q t a
-    → IsWindow a.limit b.shown.entries b.rest.entries (left_by q k o v (joined a.limit a.shown.entries a.rest.entries)) → IsListed q.index b.shown.entries
+    → IsWindow a.limit (shown_in b) (rest_in b) (left_by q k o v (joined a.limit (shown_in a) (rest_in a))) → IsListed q.index (shown_in b)
 listed_left q t k o v a b h cut =
-    let whole : joined a.limit a.shown.entries a.rest.entries ≡ in_order q (children_of t) = ap (λ l. joined l a.shown.entries a.rest.entries) h.limit ∙ h.cut.whole in
-    (parted q.index a.limit b.shown.entries b.rest.entries _ cut (subst (λ es. IsListed q.index (left_by q k o v es)) (sym whole) (left o (in_order q (children_of t)) (listed-in_order q t)))).shown
+    let whole : joined a.limit (shown_in a) (rest_in a) ≡ in_order q (children_of t) = ap (λ l. joined l (shown_in a) (rest_in a)) h.limit ∙ h.cut.whole in
+    (parted q.index a.limit (shown_in b) (rest_in b) _ cut (subst (λ es. IsListed q.index (left_by q k o v es)) (sym whole) (left o (in_order q (children_of t)) (listed-in_order q t)))).shown
   where
     left : (o : Option PathTree) (es : Entries) → IsListed q.index es → IsListed q.index (left_by q k o v es)
     left None es g = g

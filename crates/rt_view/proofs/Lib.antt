@@ -1,9 +1,16 @@
 pub mod AloneLaws
 pub mod Children
 pub mod CrossLaws
+pub mod HalfLaws
+pub mod BesideLaws
+pub mod InsideLaws
+pub mod KnownLaws
+pub mod KnownWalks
 pub mod Listed
+pub mod MadeLaws
 pub mod Placed
 pub mod Orderings
+pub mod RangedLaws
 pub mod ReplayLaws
 pub mod RunLaws
 pub mod SeenLaws

@@ -1,41 +1,26 @@
 -- Children in any order, and the same ones in order.
 use Rattle.std.specs.Prelude.{T}
-use Rattle.std.proofs.Common.{◌≡◌, ℕ, zero, suc, ◌-◌, ◌<◌, ◌≤◌, ◌⊎◌, inl, inr, arith, true, false, cond, List, [], ◌∷◌, ◌++◌, map, length, take, drop, refl, sym, ap, subst, ◌∙◌, Option, Some, None}
-use Rattle.std.specs.declared.cmp.Ordering.TheVariants.{Less, Equal}
-use Rattle.std.specs.Ordering.{is_lt, is_eq, eq_by_cmp}
+use Rattle.std.proofs.Common.{◌≡◌, true, false, cond, List, [], ◌∷◌, refl, sym, ap, subst, ◌∙◌, Option, Some, None}
+use Rattle.std.specs.declared.cmp.Ordering.TheVariants.{Less}
+use Rattle.std.specs.Ordering.{is_lt, eq_by_cmp}
 use Rattle.std.specs.List.{AllByRecursion}
 use Rattle.std.specs.List.Sorted.{IsStrictlySortedBy}
 use Rattle.std.specs.Map.{keys_of, lookup, update, update_all}
 use Rattle.std.specs.BTreeMap.{is_at}
-use Rattle.std.specs.FinMap.Entries.{find, is_sorted, below_all, find-put, find-where_key, same_entries}
+use Rattle.std.specs.FinMap.Entries.{find, is_sorted, below_all, find-put, same_entries}
 use Rattle.std.proofs.lemmas.Map.Keys.{sorted_head, sorted_tail}
-use Rattle.rt_tree.specs.PathTree.{Key, PathTree, key_eq, key_eq-symm, child_of, both, first, second}
+use Rattle.rt_tree.specs.PathTree.{Key, PathTree, key_eq, key_eq-symm, child_of, both}
 use Rattle.rt_tree.specs.Children.{children_of, children_sorted}
-use Rattle.rt_order.specs.Cuts.{has}
+use Rattle.rt_order.specs.declared.index.Index.{Index}
 use Rattle.rt_order.specs.Entries.{Entry, entry, entry_cmp}
 use Rattle.rt_order.specs.laws.EntryOrder.{entry_cmp_total, entry_cmp-IsAntisymmetric}
-use Rattle.rt_query.specs.declared.limit.Limit.TheVariants.{First, Last}
-use Rattle.rt_query.specs.Queries.{Query}
 use Rattle.rt_query.specs.Select.{sorted_by}
-use Rattle.rt_view.specs.inside.Windows.{Entries, IsApart, IsOrdering, IsWindow}
-use Rattle.rt_view.specs.inside.Kept.{in_order, in_range}
-use Rattle.rt_view.proofs.Listed.{EachOnce, apart_keys, each_once, listed-in_order}
-use Rattle.rt_view.proofs.WindowLaws.{Counts, below_of, cut_first, cut_last, same_entry}
+use Rattle.rt_view.specs.inside.Windows.{Entries, IsApart, IsOrdering}
+use Rattle.rt_view.specs.inside.Kept.{entries_of}
+use Rattle.rt_view.proofs.Listed.{EachOnce, apart_keys, each_once, listed-children}
+use Rattle.rt_view.proofs.WindowLaws.{same_entry}
 
 -- ---- entries that rise
-
-find_below : (e : Entry) (es : Entries) → T (below_all entry_cmp e es) → find entry_cmp e es ≡ None
-find_below e [] h = refl
-find_below e (x ∷ es) h =
-    ap (λ o. cond (is_eq o) (Some x.1) (find entry_cmp e es)) (below_of e x.0 (first _ _ h)) ∙ find_below e es (second (is_lt (entry_cmp e x.0)) _ h)
-
-pub apart_sorted : (es : Entries) → T (is_sorted entry_cmp es) → IsApart es
-apart_sorted [] h = tt
-apart_sorted (x ∷ es) h = (find_below x.0 es (first _ _ h), apart_sorted es (second (below_all entry_cmp x.0 es) _ h))
-
--- in order they are what they are
-pub same_order : (es all : Entries) → T (is_sorted entry_cmp es) → IsOrdering es all → all ≡ es
-same_order es all up o = same_entries entry_cmp entry_cmp_total entry_cmp-IsAntisymmetric all es o.rises up o.same
 
 rise_below : (e : Entry) (es : Entries) → AllByRecursion (λ y. entry_cmp e y ≡ Less) (keys_of es) → T (below_all entry_cmp e es)
 rise_below e [] h = tt
@@ -89,63 +74,33 @@ ordering_of xs es apart has up = record {
   same = λ e. sym (find_lookup es e) ∙ has e ∙ updated (λ _. None) xs apart e ∙ first_alone (find entry_cmp e xs);
 }
 
--- ---- the children in the range
+-- ---- the children of a tree
 
-module _ (q : Query) where
-  find-sorted_by : (e : Entry) (cs : List (Key × PathTree)) → find entry_cmp e (sorted_by q.index cs) ≡ find entry_cmp e (map (λ c. (entry q.index c, c.1)) cs)
+module _ (index : Index) where
+  find-sorted_by : (e : Entry) (cs : List (Key × PathTree)) → find entry_cmp e (sorted_by index cs) ≡ find entry_cmp e (entries_of index cs)
   find-sorted_by e [] = refl
   find-sorted_by e (c ∷ cs) =
-      find-put entry_cmp entry_cmp_total e (entry q.index c) c.1 (sorted_by q.index cs)
-      ∙ ap (cond (eq_by_cmp entry_cmp e (entry q.index c)) (Some c.1)) (find-sorted_by e cs)
+      find-put entry_cmp entry_cmp_total e (entry index c) c.1 (sorted_by index cs)
+      ∙ ap (cond (eq_by_cmp entry_cmp e (entry index c)) (Some c.1)) (find-sorted_by e cs)
 
-  find-in_range : (e : Entry) (cs : List (Key × PathTree)) → find entry_cmp e (in_range q cs) ≡ find entry_cmp e (in_order q cs)
-  find-in_range e cs =
-      let alike = λ (x : Entry) (t : entry_cmp e x ≡ Equal). ap (has q.range) (sym (entry_cmp-IsAntisymmetric e x t)) in
-      find-where_key entry_cmp (has q.range) e alike (map (λ c. (entry q.index c, c.1)) cs)
-      ∙ ap (λ o. cond (has q.range e) o None) (sym (find-sorted_by e cs))
-      ∙ sym (find-where_key entry_cmp (has q.range) e alike (sorted_by q.index cs))
-
-  none_in_range : (e : Entry) (cs : List (Key × PathTree)) → child_of cs e.1 ≡ None → find entry_cmp e (in_range q cs) ≡ None
-  none_in_range e [] h = refl
-  none_in_range e (c ∷ cs) h =
-      elim (key_eq e.1 c.0) as (λ b. key_eq e.1 c.0 ≡ b → cond b (Some c.1) (child_of cs e.1) ≡ None → find entry_cmp e (in_range q (c ∷ cs)) ≡ None) [
+  none_there : (e : Entry) (cs : List (Key × PathTree)) → child_of cs e.1 ≡ None → find entry_cmp e (entries_of index cs) ≡ None
+  none_there e [] h = refl
+  none_there e (c ∷ cs) h =
+      elim (key_eq e.1 c.0) as (λ b. key_eq e.1 c.0 ≡ b → cond b (Some c.1) (child_of cs e.1) ≡ None → find entry_cmp e (entries_of index (c ∷ cs)) ≡ None) [
         | true ↦ λ t g. cc
-        | false ↦ λ t g. elim (has q.range (entry q.index c)) as (λ b. find entry_cmp e (cond b ((entry q.index c, c.1) ∷ in_range q cs) (in_range q cs)) ≡ None) [
-          | true ↦ ap (λ b. cond b (Some c.1) (find entry_cmp e (in_range q cs))) (apart_keys e (entry q.index c) (key_eq-symm c.0 e.1 ∙ t)) ∙ none_in_range e cs g
-          | false ↦ none_in_range e cs g
-        ]
+        | false ↦ λ t g. ap (λ b. cond b (Some c.1) (find entry_cmp e (entries_of index cs))) (apart_keys e (entry index c) (key_eq-symm c.0 e.1 ∙ t)) ∙ none_there e cs g
       ] refl h
 
-  apart_in_range : (cs : List (Key × PathTree)) → EachOnce cs → IsApart (in_range q cs)
-  apart_in_range [] h = tt
-  apart_in_range (c ∷ cs) h =
-      elim (has q.range (entry q.index c)) as (λ b. IsApart (cond b ((entry q.index c, c.1) ∷ in_range q cs) (in_range q cs))) [
-        | true ↦ (none_in_range (entry q.index c) cs h.0, apart_in_range cs h.1)
-        | false ↦ apart_in_range cs h.1
-      ]
+  apart_entries : (cs : List (Key × PathTree)) → EachOnce cs → IsApart (entries_of index cs)
+  apart_entries [] h = tt
+  apart_entries (c ∷ cs) h = (none_there (entry index c) cs h.0, apart_entries cs h.1)
 
   -- no two children of a tree stand at one entry
-  pub apart_children : (t : PathTree) → IsApart (in_range q (children_of t))
-  apart_children t = apart_in_range (children_of t) (each_once (children_of t) (children_sorted t))
+  pub apart_children : (t : PathTree) → IsApart (entries_of index (children_of t))
+  apart_children t = apart_entries (children_of t) (each_once (children_of t) (children_sorted t))
 
   -- in order they are those of the definition
-  pub ordered_children : (t : PathTree) (all : Entries) → IsOrdering (in_range q (children_of t)) all → all ≡ in_order q (children_of t)
+  pub ordered_children : (t : PathTree) (all : Entries) → IsOrdering (entries_of index (children_of t)) all → all ≡ sorted_by index (children_of t)
   ordered_children t all o =
-      same_entries entry_cmp entry_cmp_total entry_cmp-IsAntisymmetric all (in_order q (children_of t)) o.rises (listed-in_order q t).rises
-      (λ e. o.same e ∙ find-in_range e (children_of t))
-
--- ---- the first and the last of them
-
--- so many were taken, and fewer only where none is left
-pub counts_taken : (n : ℕ) (s r : Entries) → length s ≤ n → (length s < n → r ≡ []) → Counts n s r
-counts_taken n s r short none = (short, at (n - length s) refl)
-  where
-    at : (k : ℕ) → n - length s ≡ k → (length s ≡ n) ⊎ (r ≡ [])
-    at zero f = inl (omega (arith, f, short))
-    at (suc k) f = inr (none (omega (arith, f)))
-
-pub window_first : (n : ℕ) (s r all : Entries) → T (is_sorted entry_cmp all) → s ++ r ≡ all → Counts n s r → IsWindow (Some (First n)) s r all
-window_first n s r all up whole counts = record { rises = up; whole = whole; cut = ap (take n) (sym whole) ∙ cut_first n s r counts }
-
-pub window_last : (n : ℕ) (s r all : Entries) → T (is_sorted entry_cmp all) → r ++ s ≡ all → Counts n s r → IsWindow (Some (Last n)) s r all
-window_last n s r all up whole counts = record { rises = up; whole = whole; cut = ap (λ es. drop (length es - n) es) (sym whole) ∙ cut_last n s r counts }
+      same_entries entry_cmp entry_cmp_total entry_cmp-IsAntisymmetric all (sorted_by index (children_of t)) o.rises (listed-children index t).rises
+      (λ e. o.same e ∙ sym (find-sorted_by e (children_of t)))

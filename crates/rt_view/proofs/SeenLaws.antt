@@ -20,7 +20,7 @@ use Rattle.rt_query.specs.Queries.{Query}
 use Rattle.rt_view.specs.declared.told.Seen.{Seen}
 use Rattle.rt_view.specs.declared.window.Turned.{Turned}
 use Rattle.rt_view.specs.declared.window.Window.{Window}
-use Rattle.rt_view.specs.inside.Windows.{Entries, value_at}
+use Rattle.rt_view.specs.inside.Windows.{Entries, value_at, shown_in}
 use Rattle.rt_view.specs.inside.Kept.{IsWindowOf, is_noted}
 use Rattle.rt_view.specs.inside.Turns.{Comes, Leaves, Values, came_in, set_at, shown_if, went_out}
 use Rattle.rt_view.specs.inside.Telling.{AllSeen, AreSeen, IsFit, IsKeptBy, IsSeen, IsSeenOf, KeepsSeen, keys_in, seen_at, seen_in, seen_out, seen_too, seen_turned}
@@ -201,17 +201,17 @@ keeps_all before after es h =
     }
 
 -- what was shown of a tree
-pub are_seen : (index : Index) (t : PathTree) (w : Window) (before : Entries) (seen : List Seen) → AllSeen before w.shown.entries seen
+pub are_seen : (index : Index) (t : PathTree) (w : Window) (before : Entries) (seen : List Seen) → AllSeen before (shown_in w) seen
     → ((k : Key) → value_at before k ≡ child_of (children_of t) k) → AreSeen index t w seen
 are_seen index t w before seen h of_tree = record {
-  each = All-weaker (IsSeenOf before w.shown.entries) (IsSeen t w.shown.entries) (λ s e. (ap (λ (y : Seen). y.old) e ∙ of_tree s.key, ap (λ (y : Seen). y.new) e)) seen h.each;
+  each = All-weaker (IsSeenOf before (shown_in w)) (IsSeen t (shown_in w)) (λ s e. (ap (λ (y : Seen). y.old) e ∙ of_tree s.key, ap (λ (y : Seen). y.new) e)) seen h.each;
   notes = λ k e. (refl, (h.notes k e).1 ∙ of_tree k ∙ sym (value_at-children index t k));
 }
 
 -- what is shown fits
-pub all_fit : (q : Query) (t u : PathTree) (w : Window) (seen : List Seen) → IsAllowed u → IsWindowOf q u w → All (IsSeen t w.shown.entries) seen → All IsFit seen
-all_fit q t u w seen allowed kept h = All-weaker (IsSeen t w.shown.entries) IsFit (λ s e. fit s.key s.new e.1) seen h
+pub all_fit : (q : Query) (t u : PathTree) (w : Window) (seen : List Seen) → IsAllowed u → IsWindowOf q u w → All (IsSeen t (shown_in w)) seen → All IsFit seen
+all_fit q t u w seen allowed kept h = All-weaker (IsSeen t (shown_in w)) IsFit (λ s e. fit s.key s.new e.1) seen h
   where
-    fit : (k : Key) (o : Option PathTree) → o ≡ value_at w.shown.entries k → IfSome o (λ x. (is_null x ≡ false) × (levels x ≤ 32))
+    fit : (k : Key) (o : Option PathTree) → o ≡ value_at (shown_in w) k → IfSome o (λ x. (is_null x ≡ false) × (levels x ≤ 32))
     fit k None e = tt
     fit k (Some v) e = child_fits u k v allowed (shown_known q u w k v kept (sym e)).0

@@ -16,9 +16,8 @@ use Rattle.rt_order.specs.Cuts.{has}
 use Rattle.rt_order.specs.laws.EntryOrder.{entry_cmp_total, value_cmp-IsAntisymmetric}
 use Rattle.rt_order.specs.Values.{value_cmp}
 use Rattle.rt_query.specs.Queries.{Query}
-use Rattle.rt_view.specs.declared.window.Window.{Window}
-use Rattle.rt_view.specs.inside.Windows.{Entries, IsWindow, joined, value_at, without}
-use Rattle.rt_view.specs.inside.Kept.{IsWindowOf, in_order, put_in, brought_in, taken_out, is_noted}
+use Rattle.rt_view.specs.inside.Windows.{Entries, value_at, without}
+use Rattle.rt_view.specs.inside.Kept.{in_order, put_in, brought_in, taken_out, is_noted}
 use Rattle.rt_view.proofs.Listed.{IsListed, same_listed, passing, apart_keys, listed-filter, value_at-filter, listed-puts, value_at-puts_all, listed-in_order, value_at-in_order}
 use Rattle.rt_view.specs.inside.Telling.{left_by, takes_place}
 use Rattle.rt_view.proofs.WindowLaws.{puts-without}
@@ -158,19 +157,3 @@ left_same q k (Some t) u es up =
     here true s null tie e = cc
     here false false null tie e = cc
     here false true null tie e = placed (λ i. (value_cmp-IsAntisymmetric (sort_value q.index t) (sort_value q.index u) ((Equal-is (value_cmp (sort_value q.index t) (sort_value q.index u))).0 tie) i, k))
-
--- the window after a child was taken out and another one brought in
-pub touched_window : (q : Query) (t u : PathTree) (k : Key) (v : PathTree) (o : Option PathTree) (a b c : Window) → IsWindowOf q t a → o ≡ child_of (children_of t) k
-    → b.limit ≡ a.limit → IsWindow a.limit b.shown.entries b.rest.entries (left_by q k o v (joined a.limit a.shown.entries a.rest.entries))
-    → c.limit ≡ b.limit → IsWindow b.limit c.shown.entries c.rest.entries (brought_in q k v (joined b.limit b.shown.entries b.rest.entries))
-    → u ≡ put t (k ∷ []) v → IsWindowOf q u c
-touched_window q t u k v o a b c h is limit_b cut_b limit_c cut_c e =
-    let whole_a : joined a.limit a.shown.entries a.rest.entries ≡ in_order q (children_of t) = ap (λ l. joined l a.shown.entries a.rest.entries) h.limit ∙ h.cut.whole in
-    let whole_b : joined b.limit b.shown.entries b.rest.entries ≡ left_by q k (child_of (children_of t) k) v (in_order q (children_of t)) =
-    ap (λ l. joined l b.shown.entries b.rest.entries) limit_b ∙ cut_b.whole ∙ (λ i. left_by q k (is i) v (whole_a i)) in
-    let all : brought_in q k v (joined b.limit b.shown.entries b.rest.entries) ≡ in_order q (children_of u) =
-    ap (brought_in q k v) whole_b ∙ left_same q k (child_of (children_of t) k) v (in_order q (children_of t)) h.cut.rises ∙ touched_order q t k v ∙ ap (λ (x : PathTree). in_order q (children_of x)) (sym e) in
-    record {
-      limit = limit_c ∙ limit_b ∙ h.limit;
-      cut = subst (λ l. IsWindow l c.shown.entries c.rest.entries (in_order q (children_of u))) (limit_b ∙ h.limit) (subst (λ es. IsWindow b.limit c.shown.entries c.rest.entries es) all cut_c);
-    }

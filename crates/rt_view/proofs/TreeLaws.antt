@@ -23,7 +23,7 @@ use Rattle.rt_view.specs.declared.change.Change.{Change}
 use Rattle.rt_view.specs.declared.change.Change.TheVariants.{Value}
 use Rattle.rt_view.specs.declared.window.Window.{Window}
 use Rattle.rt_view.specs.Changes.{row_changes, changes, replay, by_keys}
-use Rattle.rt_view.specs.inside.Windows.{Entries, value_at}
+use Rattle.rt_view.specs.inside.Windows.{Entries, value_at, rest_in, shown_in}
 use Rattle.rt_view.specs.inside.Kept.{IsWindowOf, Notes, own_tree, SetsChild, SetsNoted, is_noted, leaf_in, rows_in_tree, shown_by}
 use Rattle.rt_view.proofs.ReplayLaws.{row_at-by_keys, replay-row_changes}
 use Rattle.rt_view.proofs.TurnLaws.{row_changes-same}
@@ -33,13 +33,13 @@ use Rattle.rt_view.proofs.TellLaws.{note_other, note_own}
 use Rattle.rt_view.proofs.TouchLaws.{child_of-put}
 
 -- what a window shows is listed
-pub listed-window : (q : Query) (t : PathTree) (w : Window) → IsWindowOf q t w → IsListed q.index w.shown.entries
+pub listed-window : (q : Query) (t : PathTree) (w : Window) → IsWindowOf q t w → IsListed q.index (shown_in w)
 listed-window q t w h =
-    let up = (parts_rise q.limit w.shown.entries w.rest.entries _ h.cut).0 in
-    (listed-shown q.index q.limit w.shown.entries w.rest.entries _ h.cut (listed-in_order q t) up).0
+    let up = (parts_rise q.limit (shown_in w) (rest_in w) _ h.cut).0 in
+    (listed-shown q.index q.limit (shown_in w) (rest_in w) _ h.cut (listed-in_order q t) up).0
 
 -- the rows of a window
-pub select-window : (q : Query) (t : PathTree) (w : Window) → IsWindowOf q t w → select q t ≡ record { leaf = leaf_in q t; rows = map row_of w.shown.entries }
+pub select-window : (q : Query) (t : PathTree) (w : Window) → IsWindowOf q t w → select q t ≡ record { leaf = leaf_in q t; rows = map row_of (shown_in w) }
 select-window q t w h = λ i. record { leaf = leaf_in q t; rows = map row_of (h.cut.cut i) }
 
 -- what a query shows is a view
@@ -54,10 +54,10 @@ select-shown q t =
 -- ---- read off the tree
 
 -- the children of the tree that is shown are those of the window
-pub rows_in_tree-shown : (q : Query) (t : PathTree) (w : Window) → IsWindowOf q t w → rows_in_tree q.index (tree_of (select q t)) ≡ w.shown.entries
+pub rows_in_tree-shown : (q : Query) (t : PathTree) (w : Window) → IsWindowOf q t w → rows_in_tree q.index (tree_of (select q t)) ≡ shown_in w
 rows_in_tree-shown q t w h =
     let tree = tree_of (select q t) in
-    same_listed q.index (rows_in_tree q.index tree) w.shown.entries (listed-children q.index tree) (listed-window q t w h)
+    same_listed q.index (rows_in_tree q.index tree) (shown_in w) (listed-children q.index tree) (listed-window q t w h)
     (λ k. value_at-children q.index tree k ∙ row_at-tree (leaf_in q t) (rows_of q (children_of t)) tree k (select-shown q t) ∙ ap (λ (es : Entries). row_at (map row_of es) k) h.cut.cut)
 
 leaf_of-tree_by : (leaf : Option LeafValue) (rows : List Row) → leaf_of (tree_by leaf rows) ≡ leaf
@@ -72,7 +72,7 @@ shown_by-shown q t w h =
 
 -- what is kept, as a view
 pub kept_shown : (q : Query) (t : PathTree) (w : Window) (tree u : PathTree) (leaf : Option LeafValue) (rows : List Row) → IsWindowOf q t w → tree ≡ tree_of (select q t)
-    → u ≡ tree → leaf ≡ leaf_of tree → rows ≡ map row_of w.shown.entries → IsShown leaf rows u × (record { leaf = leaf; rows = rows } ≡ select q t)
+    → u ≡ tree → leaf ≡ leaf_of tree → rows ≡ map row_of (shown_in w) → IsShown leaf rows u × (record { leaf = leaf; rows = rows } ≡ select q t)
 kept_shown q t w tree u leaf rows h kept is of_tree of_window =
     let same_leaf : leaf ≡ leaf_in q t = of_tree ∙ ap leaf_of kept ∙ leaf_of-tree_by (leaf_in q t) (rows_of q (children_of t)) in
     let same_rows : rows ≡ rows_of q (children_of t) = of_window ∙ ap (map row_of) (sym h.cut.cut) in (
@@ -100,11 +100,11 @@ same_rows index old new h g none =
     replay_none cs e = ap (λ ds. replay ds (by_keys (map row_of old))) e
 
 -- nothing differs where no row changed and the leaf is the same
-pub same_view : (q : Query) (known tree : PathTree) (w : Window) → IsWindowOf q known w → row_changes q.index (map row_of (rows_in_tree q.index tree)) (map row_of w.shown.entries) ≡ []
+pub same_view : (q : Query) (known tree : PathTree) (w : Window) → IsWindowOf q known w → row_changes q.index (map row_of (rows_in_tree q.index tree)) (map row_of (shown_in w)) ≡ []
     → shown_eq (shown_by q.index tree) (select q known) ≡ option_eq leaf_eq (leaf_of tree) (leaf_in q known)
 same_view q known tree w h none =
     let rows : map row_of (rows_in_tree q.index tree) ≡ rows_of q (children_of known) =
-    ap (map row_of) (same_rows q.index (rows_in_tree q.index tree) w.shown.entries (listed-children q.index tree) (listed-window q known w h) none ∙ sym h.cut.cut) in
+    ap (map row_of) (same_rows q.index (rows_in_tree q.index tree) (shown_in w) (listed-children q.index tree) (listed-window q known w h) none ∙ sym h.cut.cut) in
     ap (λ rs. option_eq leaf_eq (leaf_of tree) (leaf_in q known) && pointwise row_eq rs (rows_of q (children_of known))) rows
     ∙ ap (λ b. option_eq leaf_eq (leaf_of tree) (leaf_in q known) && b) (same_lists (rows_of q (children_of known)))
     ∙ and_true (option_eq leaf_eq (leaf_of tree) (leaf_in q known))
@@ -118,14 +118,14 @@ same_view q known tree w h none =
 
 -- and something does where a row changed
 pub other_view : (q : Query) (known tree : PathTree) (w : Window) → IsWindowOf q known w
-    → (row_changes q.index (map row_of (rows_in_tree q.index tree)) (map row_of w.shown.entries) ≡ [] → ⊥)
+    → (row_changes q.index (map row_of (rows_in_tree q.index tree)) (map row_of (shown_in w)) ≡ [] → ⊥)
     → shown_eq (shown_by q.index tree) (select q known) ≡ false
 other_view q known tree w h some =
     elim (shown_eq (shown_by q.index tree) (select q known)) as (λ b. shown_eq (shown_by q.index tree) (select q known) ≡ b → b ≡ false) [
       | true ↦ λ e.
           let same : shown_by q.index tree ≡ select q known = (shown_eq_tells (shown_by q.index tree) (select q known)).0 e in
-          let rows : map row_of (rows_in_tree q.index tree) ≡ map row_of w.shown.entries = ap (λ (v : Shown). v.rows) same ∙ ap (map row_of) h.cut.cut in
-          absurd (some (ap (λ rs. row_changes q.index rs (map row_of w.shown.entries)) rows ∙ row_changes-same q.index (map row_of w.shown.entries) (listed-window q known w h).once))
+          let rows : map row_of (rows_in_tree q.index tree) ≡ map row_of (shown_in w) = ap (λ (v : Shown). v.rows) same ∙ ap (map row_of) h.cut.cut in
+          absurd (some (ap (λ rs. row_changes q.index rs (map row_of (shown_in w))) rows ∙ row_changes-same q.index (map row_of (shown_in w)) (listed-window q known w h).once))
       | false ↦ λ e. refl
     ] refl
 
@@ -140,14 +140,14 @@ some_list d ds f = absurd (omega (arith, ap (λ (xs : List Change). length xs) f
 
 -- the changes, where nothing differs, and where something does
 pub told_same : (q : Query) (known tree : PathTree) (w : Window) → IsWindowOf q known w → shown_eq (shown_by q.index tree) (select q known) ≡ true
-    → row_changes q.index (map row_of (rows_in_tree q.index tree)) (map row_of w.shown.entries) ≡ changes q.index (Some (shown_by q.index tree)) (select q known)
+    → row_changes q.index (map row_of (rows_in_tree q.index tree)) (map row_of (shown_in w)) ≡ changes q.index (Some (shown_by q.index tree)) (select q known)
 told_same q known tree w h e =
     ap (λ es. row_changes q.index (map row_of (rows_in_tree q.index tree)) (map row_of es)) (sym h.cut.cut)
     ∙ sym (append-nil (row_changes q.index (map row_of (rows_in_tree q.index tree)) (rows_of q (children_of known))))
     ∙ ap (λ b. row_changes q.index (map row_of (rows_in_tree q.index tree)) (rows_of q (children_of known)) ++ cond b [] (Value (tree_of (select q known)) ∷ [])) (sym e)
 
 pub told_other : (q : Query) (known tree : PathTree) (w : Window) → IsWindowOf q known w → shown_eq (shown_by q.index tree) (select q known) ≡ false
-    → row_changes q.index (map row_of (rows_in_tree q.index tree)) (map row_of w.shown.entries) ++ Value (tree_of (select q known)) ∷ [] ≡ changes q.index (Some (shown_by q.index tree)) (select q known)
+    → row_changes q.index (map row_of (rows_in_tree q.index tree)) (map row_of (shown_in w)) ++ Value (tree_of (select q known)) ∷ [] ≡ changes q.index (Some (shown_by q.index tree)) (select q known)
 told_other q known tree w h e =
     ap (λ es. row_changes q.index (map row_of (rows_in_tree q.index tree)) (map row_of es) ++ Value (tree_of (select q known)) ∷ []) (sym h.cut.cut)
     ∙ ap (λ b. row_changes q.index (map row_of (rows_in_tree q.index tree)) (rows_of q (children_of known)) ++ cond b [] (Value (tree_of (select q known)) ∷ [])) (sym e)
@@ -165,21 +165,21 @@ filtered_object q t u filtered is = ap leaf_of is ∙ leaf_of-tree_by (leaf_in q
 
 -- so nothing differs where no row changed
 pub filtered_same : (q : Query) (known tree : PathTree) (w : Window) (cs : List Change) → IsWindowOf q known w → is_filtered q ≡ true → leaf_of tree ≡ None
-    → cs ≡ row_changes q.index (map row_of (rows_in_tree q.index tree)) (map row_of w.shown.entries) → (length cs == 0) ≡ shown_eq (shown_by q.index tree) (select q known)
+    → cs ≡ row_changes q.index (map row_of (rows_in_tree q.index tree)) (map row_of (shown_in w)) → (length cs == 0) ≡ shown_eq (shown_by q.index tree) (select q known)
 filtered_same q known tree w [] h filtered object is =
     (λ i. option_eq leaf_eq (sym object i) (sym (filtered_leaf q known filtered) i)) ∙ sym (same_view q known tree w h (sym is))
 filtered_same q known tree w (d ∷ ds) h filtered object is = not_empty d ds ∙ sym (other_view q known tree w h (λ f. some_list d ds (is ∙ f)))
 
 -- where the query isn't filtered: no row changed, and the leaf is the same
 pub plain_same : (q : Query) (known tree : PathTree) (w : Window) (cs : List Change) (leaf : Option LeafValue) → IsWindowOf q known w → is_filtered q ≡ false
-    → cs ≡ row_changes q.index (map row_of (rows_in_tree q.index tree)) (map row_of w.shown.entries) → leaf_of tree ≡ leaf
+    → cs ≡ row_changes q.index (map row_of (rows_in_tree q.index tree)) (map row_of (shown_in w)) → leaf_of tree ≡ leaf
     → ((length cs == 0) && option_eq leaf_eq leaf (leaf_of known)) ≡ shown_eq (shown_by q.index tree) (select q known)
 plain_same q known tree w cs leaf h plain is old = at cs is
   where
     plain_leaf : leaf_in q known ≡ leaf_of known
     plain_leaf = ap (λ b. cond b None (leaf_of known)) plain
 
-    at : (ds : List Change) → ds ≡ row_changes q.index (map row_of (rows_in_tree q.index tree)) (map row_of w.shown.entries)
+    at : (ds : List Change) → ds ≡ row_changes q.index (map row_of (rows_in_tree q.index tree)) (map row_of (shown_in w))
         → ((length ds == 0) && option_eq leaf_eq leaf (leaf_of known)) ≡ shown_eq (shown_by q.index tree) (select q known)
     at [] e = (λ i. option_eq leaf_eq (sym old i) (sym plain_leaf i)) ∙ sym (same_view q known tree w h (sym e))
     at (d ∷ ds) e =
@@ -225,7 +225,7 @@ plain_limit q plain = at (is_some q.range.lower) (is_some q.range.upper) q.limit
     at false false (Some l) e = cc
 
 -- what a query that isn't filtered shows
-pub plain_rows : (q : Query) (t : PathTree) (w : Window) → is_filtered q ≡ false → IsWindowOf q t w → rows_in_tree q.index t ≡ w.shown.entries
+pub plain_rows : (q : Query) (t : PathTree) (w : Window) → is_filtered q ≡ false → IsWindowOf q t w → rows_in_tree q.index t ≡ shown_in w
 plain_rows q t w plain h = ap (rows_in_tree q.index) (sym (select-whole q t plain)) ∙ rows_in_tree-shown q t w h
 
 pub plain_shown : (q : Query) (t : PathTree) (w : Window) → is_filtered q ≡ false → IsWindowOf q t w → shown_by q.index t ≡ select q t
@@ -235,9 +235,9 @@ plain_shown q t w plain h = ap (shown_by q.index) (sym (select-whole q t plain))
 
 -- children that are what the window shows, and no leaf
 pub tree_of_children : (q : Query) (known tree : PathTree) (w : Window) → IsWindowOf q known w → leaf_in q known ≡ None → leaf_of tree ≡ None
-    → ((k : Key) → child_of (children_of tree) k ≡ value_at w.shown.entries k) → tree ≡ tree_of (select q known)
+    → ((k : Key) → child_of (children_of tree) k ≡ value_at (shown_in w) k) → tree ≡ tree_of (select q known)
 tree_of_children q known tree w h no_leaf root same =
-    let rows = map row_of w.shown.entries in
+    let rows = map row_of (shown_in w) in
     sym ((λ i. tree_by (no_leaf i) (map row_of (h.cut.cut i)))
     ∙ object-parts tree (as_children rows) root (λ k. child_of-as_children rows k ∙ sym (same k) ∙ child_of-children_of tree k))
 

@@ -5,7 +5,7 @@ use Rattle.std.specs.declared.cmp.Ordering.{Ordering}
 use Rattle.std.specs.declared.cmp.Ordering.TheVariants.{Less, Equal, Greater}
 use Rattle.std.specs.Ordering.{is_lt, is_le, is_eq, eq_by_cmp, match_ordering, ordering_reverse}
 use Rattle.std.specs.Cmp.{tied_itself, Equal-is}
-use Rattle.std.specs.List.{AllByRecursion, slice_get}
+use Rattle.std.specs.List.{AllByRecursion}
 use Rattle.std.specs.Map.{remove_entry, lookup}
 use Rattle.std.specs.BTreeMap.{insert_entry, is_at}
 use Rattle.std.specs.FinMap as map_of
@@ -17,7 +17,7 @@ use Rattle.rt_order.specs.laws.EntryOrder.{entry_cmp_total, entry_cmp-IsAntisymm
 use Rattle.rt_query.specs.declared.limit.Limit.{Limit}
 use Rattle.rt_query.specs.declared.limit.Limit.TheVariants.{First, Last}
 use Rattle.rt_query.specs.Select.{row_of}
-use Rattle.rt_view.specs.inside.Windows.{Entries, joined, IsWindow, without, value_at, is_from_first, is_to_last, last_key}
+use Rattle.rt_view.specs.inside.Windows.{Entries, IsWindow, without, value_at, is_from_first, is_to_last, last_key}
 use Rattle.rt_view.proofs.ReplayLaws.{row_at-cons}
 
 pub insert_entry-put : {X : Type 0} (es : List (Entry × X)) (k : Entry) (v : X) → insert_entry entry_cmp es k v ≡ map_of.put entry_cmp k v es
@@ -76,7 +76,7 @@ pub sorted-right : (s r : Entries) → T (is_sorted entry_cmp (s ++ r)) → T (i
 sorted-right [] r h = h
 sorted-right (x ∷ s) r h = sorted-right s r (second (below_all entry_cmp x.0 (s ++ r)) _ h)
 
-turn : (a b : Entry) → entry_cmp a b ≡ Less → entry_cmp b a ≡ Greater
+pub turn : (a b : Entry) → entry_cmp a b ≡ Less → entry_cmp b a ≡ Greater
 turn a b e = entry_cmp_total.antisymm b a ∙ ap ordering_reverse e
 
 -- ---- counts
@@ -260,15 +260,13 @@ put_shown_first n e v s r all w h short =
     record { rises = put_whole _ e v s r all w; whole = whole; cut = ap (take n) (sym whole) ∙ cut_first n (puts e v s) r (short, full) }
 
 pub spill_first : (n : ℕ) (e : Entry) (v : PathTree) (s r all : Entries) → IsWindow (Some (First n)) s r all → is_from_first r e ≡ false → n < length (puts e v s) → (t : Entries) (p : Entry × PathTree) → puts e v s ≡ t ++ p ∷ []
-    → IsWindow (Some (First n)) t (puts p.0 p.1 r) (puts e v all)
+    → IsWindow (Some (First n)) t (p ∷ r) (puts e v all)
 spill_first n e v s r all w h long t p is =
     let up = put_whole _ e v s r all w in
     let line : t ++ p ∷ r ≡ puts e v all = sym (append_assoc t (p ∷ []) r) ∙ ap (λ x. x ++ r) (sym is) ∙ shown_first n e v s r all w h in
-    let above = first (below_all entry_cmp p.0 r) _ (sorted-right t (p ∷ r) (subst (λ es. T (is_sorted entry_cmp es)) (sym line) up)) in
-    let whole : t ++ puts p.0 p.1 r ≡ puts e v all = ap (λ x. t ++ x) (put-left p.0 p.1 [] r above) ∙ line in
     let old = counts_first_of n s r all w in
     let full : length t ≡ n = omega (arith, old.0, long, (length-puts e v s).1, ap length is, length-append t (p ∷ [])) in
-    record { rises = up; whole = whole; cut = ap (take n) (sym whole) ∙ cut_first n t (puts p.0 p.1 r) (omega (arith, full), inl full) }
+    record { rises = up; whole = line; cut = ap (take n) (sym line) ∙ cut_first n t (p ∷ r) (omega (arith, full), inl full) }
 
 -- ---- and where the last are shown
 
@@ -304,25 +302,13 @@ above_head r p t up = above_shown p.0 r p t up (ap is_le (tied p.0))
     tied x = tied_itself entry_cmp_total x
 
 pub spill_last : (n : ℕ) (e : Entry) (v : PathTree) (s r all : Entries) → IsWindow (Some (Last n)) s r all → is_to_last r e ≡ false → n < length (puts e v s) → (t : Entries) (p : Entry × PathTree) → puts e v s ≡ p ∷ t
-    → IsWindow (Some (Last n)) t (puts p.0 p.1 r) (puts e v all)
+    → IsWindow (Some (Last n)) t (r ++ p ∷ []) (puts e v all)
 spill_last n e v s r all w h long t p is =
     let up = put_whole _ e v s r all w in
-    let line : r ++ p ∷ t ≡ puts e v all = ap (λ x. r ++ x) (sym is) ∙ shown_last n e v s r all w h in
-    let above = above_head r p t (subst (λ es. T (is_sorted entry_cmp es)) (sym line) up) in
-    let pushed : puts p.0 p.1 r ≡ r ++ p ∷ [] = ap (puts p.0 p.1) (sym (append-nil r)) ∙ put-right p.0 p.1 r [] above in
-    let whole : puts p.0 p.1 r ++ t ≡ puts e v all = ap (λ x. x ++ t) pushed ∙ append_assoc r (p ∷ []) t ∙ line in
+    let whole : (r ++ p ∷ []) ++ t ≡ puts e v all = append_assoc r (p ∷ []) t ∙ ap (λ x. r ++ x) (sym is) ∙ shown_last n e v s r all w h in
     let old = counts_last_of n s r all w in
     let full : length t ≡ n = omega (arith, old.0, long, (length-puts e v s).1, ap length is) in
-    record { rises = up; whole = whole; cut = ap (λ es. drop (length es - n) es) (sym whole) ∙ cut_last n t (puts p.0 p.1 r) (omega (arith, full), inl full) }
-
--- the last one is the one at the last place
-pub is_to_last-at : (es : Entries) (x : Entry × PathTree) (e : Entry) → slice_get es (length es - 1) ≡ Some x → is_to_last es e ≡ is_le (entry_cmp e x.0)
-is_to_last-at [] x e h = cc
-is_to_last-at (r ∷ []) x e h = let same : r ≡ x = cc in ap (λ (y : Entry × PathTree). is_le (entry_cmp e y.0)) same
-is_to_last-at (r ∷ s ∷ rs) x e h =
-    let two : suc (suc (length rs)) - 1 ≡ suc (length rs) = omega arith in
-    let one : suc (length rs) - 1 ≡ length rs = omega arith in
-    is_to_last-at (s ∷ rs) x e (ap (slice_get (s ∷ rs)) one ∙ ap (slice_get (r ∷ s ∷ rs)) (sym two) ∙ h)
+    record { rises = up; whole = whole; cut = ap (λ es. drop (length es - n) es) (sym whole) ∙ cut_last n t (r ++ p ∷ []) (omega (arith, full), inl full) }
 
 -- ---- a child is taken out
 
@@ -379,7 +365,7 @@ remove_entry-without e (x ∷ s) h =
     ] refl
 
 -- an entry of the first part lies below the second, and one of the second above the first
-hit_below : (e : Entry) (s r : Entries) → T (is_sorted entry_cmp (s ++ r)) → is_some (lookup (is_at (entry_cmp e)) s) ≡ true → T (below_all entry_cmp e r)
+pub hit_below : (e : Entry) (s r : Entries) → T (is_sorted entry_cmp (s ++ r)) → is_some (lookup (is_at (entry_cmp e)) s) ≡ true → T (below_all entry_cmp e r)
 hit_below e [] r h f = cc
 hit_below e (x ∷ s) r h f =
     elim (eq_by_cmp entry_cmp e x.0) as (λ b. eq_by_cmp entry_cmp e x.0 ≡ b → is_some (cond b (Some x.1) (lookup (is_at (entry_cmp e)) s)) ≡ true → T (below_all entry_cmp e r)) [
@@ -395,7 +381,7 @@ above_hit y e (x ∷ s) h f =
       | false ↦ λ t g. above_hit y e s (second (is_lt (entry_cmp y x.0)) _ h) g
     ] refl f
 
-hit_above : (e : Entry) (r s : Entries) → T (is_sorted entry_cmp (r ++ s)) → is_some (lookup (is_at (entry_cmp e)) s) ≡ true → Above e r
+pub hit_above : (e : Entry) (r s : Entries) → T (is_sorted entry_cmp (r ++ s)) → is_some (lookup (is_at (entry_cmp e)) s) ≡ true → Above e r
 hit_above e [] s h f = tt
 hit_above e (y ∷ r) s h f = (turn y.0 e (above_hit y.0 e s (below_append-right y.0 r s (first _ _ h)) f), hit_above e r s (second (below_all entry_cmp y.0 (r ++ s)) _ h) f)
 
@@ -428,7 +414,7 @@ take_rest_last n e s r all w h =
 
 -- a shown child is taken out, and the next of the rest comes to be shown
 pub refill_first : (n : ℕ) (e : Entry) (s r all : Entries) → IsWindow (Some (First n)) s r all → is_some (lookup (is_at (entry_cmp e)) s) ≡ true → (p : Entry × PathTree) (t : Entries) → r ≡ p ∷ t
-    → IsWindow (Some (First n)) (puts p.0 p.1 (without e s)) t (without e all)
+    → (puts p.0 p.1 (without e s) ≡ without e s ++ p ∷ []) × IsWindow (Some (First n)) (without e s ++ p ∷ []) t (without e all)
 refill_first n e s r all w hit p t is =
     let line : s ++ p ∷ t ≡ all = ap (λ x. s ++ x) (sym is) ∙ w.whole in
     let up : T (is_sorted entry_cmp (s ++ p ∷ t)) = subst (λ es. T (is_sorted entry_cmp es)) (sym line) w.rises in
@@ -437,14 +423,14 @@ refill_first n e s r all w hit p t is =
     let rises2 = subst (λ es. T (is_sorted entry_cmp es)) (ap (without e) (sym line) ∙ apart) rises in
     let above : Above p.0 (without e s) = above_head (without e s) p t rises2 in
     let pushed : puts p.0 p.1 (without e s) ≡ without e s ++ p ∷ [] = ap (puts p.0 p.1) (sym (append-nil (without e s))) ∙ put-right p.0 p.1 (without e s) [] above in
-    let whole : puts p.0 p.1 (without e s) ++ t ≡ without e all = ap (λ x. x ++ t) pushed ∙ append_assoc (without e s) (p ∷ []) t ∙ sym apart ∙ ap (without e) line in
+    let whole : (without e s ++ p ∷ []) ++ t ≡ without e all = append_assoc (without e s) (p ∷ []) t ∙ sym apart ∙ ap (without e) line in
     let old = counts_first_of n s r all w in
     let full : length s ≡ n = elim old.1 [ inl z ↦ z | inr z ↦ cc ] in
-    let still : length (puts p.0 p.1 (without e s)) ≡ n = omega (arith, ap (λ (es : Entries). length es) pushed, length-append (without e s) (p ∷ []), length-without e s (sorted-left s (p ∷ t) up) hit, full) in
-    record { rises = rises; whole = whole; cut = ap (take n) (sym whole) ∙ cut_first n (puts p.0 p.1 (without e s)) t (omega (arith, still), inl still) }
+    let still : length (without e s ++ p ∷ []) ≡ n = omega (arith, length-append (without e s) (p ∷ []), length-without e s (sorted-left s (p ∷ t) up) hit, full) in
+    (pushed, record { rises = rises; whole = whole; cut = ap (take n) (sym whole) ∙ cut_first n (without e s ++ p ∷ []) t (omega (arith, still), inl still) })
 
 pub refill_last : (n : ℕ) (e : Entry) (s r all : Entries) → IsWindow (Some (Last n)) s r all → is_some (lookup (is_at (entry_cmp e)) s) ≡ true → (p : Entry × PathTree) (t : Entries) → r ≡ t ++ p ∷ []
-    → IsWindow (Some (Last n)) (puts p.0 p.1 (without e s)) t (without e all)
+    → (puts p.0 p.1 (without e s) ≡ p ∷ without e s) × IsWindow (Some (Last n)) (p ∷ without e s) t (without e all)
 refill_last n e s r all w hit p t is =
     let line : t ++ p ∷ s ≡ all = sym (append_assoc t (p ∷ []) s) ∙ ap (λ x. x ++ s) (sym is) ∙ w.whole in
     let up : T (is_sorted entry_cmp (r ++ s)) = subst (λ es. T (is_sorted entry_cmp es)) (sym w.whole) w.rises in
@@ -454,11 +440,10 @@ refill_last n e s r all w hit p t is =
     let flat : t ++ p ∷ without e s ≡ without e all = sym (append_assoc t (p ∷ []) (without e s)) ∙ joint in
     let below = first (below_all entry_cmp p.0 (without e s)) _ (sorted-right t (p ∷ without e s) (subst (λ es. T (is_sorted entry_cmp es)) (sym flat) rises)) in
     let pushed : puts p.0 p.1 (without e s) ≡ p ∷ without e s = put-left p.0 p.1 [] (without e s) below in
-    let whole : t ++ puts p.0 p.1 (without e s) ≡ without e all = ap (λ x. t ++ x) pushed ∙ flat in
     let old = counts_last_of n s r all w in
     let full : length s ≡ n = elim old.1 [ inl z ↦ z | inr z ↦ absurd (omega (arith, ap (λ (es : Entries). length es) z, ap (λ (es : Entries). length es) is, length-append t (p ∷ []))) ] in
-    let still : length (puts p.0 p.1 (without e s)) ≡ n = omega (arith, ap (λ (es : Entries). length es) pushed, length-without e s (sorted-right r s up) hit, full) in
-    record { rises = rises; whole = whole; cut = ap (λ es. drop (length es - n) es) (sym whole) ∙ cut_last n (puts p.0 p.1 (without e s)) t (omega (arith, still), inl still) }
+    let still : length (p ∷ without e s) ≡ n = omega (arith, length-without e s (sorted-right r s up) hit, full) in
+    (pushed, record { rises = rises; whole = flat; cut = ap (λ es. drop (length es - n) es) (sym flat) ∙ cut_last n (p ∷ without e s) t (omega (arith, still), inl still) })
 
 without-missed : (e : Entry) (s : Entries) → is_some (lookup (is_at (entry_cmp e)) s) ≡ false → without e s ≡ s
 without-missed e [] h = refl
@@ -474,7 +459,7 @@ parts_rise None s r all w = let up = subst (λ es. T (is_sorted entry_cmp es)) (
 parts_rise (Some (First n)) s r all w = let up = subst (λ es. T (is_sorted entry_cmp es)) (sym w.whole) w.rises in (sorted-left s r up, sorted-right s r up)
 parts_rise (Some (Last n)) s r all w = let up = subst (λ es. T (is_sorted entry_cmp es)) (sym w.whole) w.rises in (sorted-right r s up, sorted-left r s up)
 
-none_left : (s r : Entries) → s ++ r ≡ s → r ≡ []
+pub none_left : (s r : Entries) → s ++ r ≡ s → r ≡ []
 none_left s r e = no_length r (omega (arith, ap (λ (es : Entries). length es) e, length-append s r))
 
 -- what is not shown is taken out of the rest
@@ -510,17 +495,6 @@ take_all_last n e s all w =
     let whole : without e s ≡ without e all = ap (without e) w.whole in
     let old = counts_last_of n s [] all w in
     record { rises = taken_rises _ e s [] all w; whole = whole; cut = ap (λ es. drop (length es - n) es) (sym whole) ∙ cut_last n (without e s) [] (omega (arith, old.0, short_without e s), inr refl) }
-
-pub empty_of : (r : Entries) → ((0 < length r) → false ≡ true) → r ≡ []
-empty_of [] h = refl
-empty_of (x ∷ r) h = let no : false ≡ true = h (omega arith) in cc
-
--- at a known limit
-pub taken_at : (limit known : Option Limit) (e : Entry) (s r s' r' : Entries) → limit ≡ known
-    → (IsWindow known s r (joined known s r) → IsWindow known s' r' (without e (joined known s r)))
-    → IsWindow limit s r (joined limit s r) → IsWindow limit s' r' (without e (joined limit s r))
-taken_at limit known e s r s' r' is law w =
-    subst (λ l. IsWindow l s' r' (without e (joined l s r))) (sym is) (law (subst (λ l. IsWindow l s r (joined l s r)) is w))
 
 pub last_key-push : (t : Entries) (x : Entry × PathTree) → last_key (t ++ x ∷ []) ≡ Some x.0.1
 last_key-push [] x = refl

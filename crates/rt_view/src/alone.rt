@@ -6,7 +6,8 @@ ghost use Rattle.rt_order.specs.Entries.{entry};
 ghost use Rattle.rt_view.specs.declared.change.Change.TheVariants.{Removed};
 ghost use Rattle.rt_view.specs.inside.Given.{change_of, row_change};
 ghost use Rattle.rt_view.specs.inside.Alone.{told_alone, told_there};
-ghost use Rattle.rt_view.specs.inside.Windows.{before};
+ghost use Rattle.rt_view.specs.inside.Ranged.{HasEach};
+ghost use Rattle.rt_view.specs.inside.Windows.{before, shown_in};
 
 use crate::change::{Change, copy_key};
 use crate::kind::Kind;
@@ -79,8 +80,9 @@ fn key_before(
     key: &Key,
     new: &Tree,
 ) -> Result<Option<Key>, AllocError>
+    requires { HasEach window.now.children.range }
     ensures { IfOk result (λ found. found
-        ≡ before (entry index.now (key.now, new.now)) window.now.shown.entries) }
+        ≡ before (entry index.now (key.now, new.now)) (shown_in window.now)) }
 {
     let position = Position::of(alloc, index, key, new)?;
     copy_key(window.before(&position))
@@ -97,9 +99,10 @@ fn push_there(
     old: Option<&Tree>,
     new: &Tree,
 ) -> Result<(), AllocError>
+    requires { HasEach window.now.children.range }
     ensures { OnOk result (changes.new.items ≡ changes.old.items
         ++ told_there index.now (option_copied old.entry) (record { key = key.now; value = new.now })
-        (before (entry index.now (key.now, new.now)) window.now.shown.entries)) }
+        (before (entry index.now (key.now, new.now)) (shown_in window.now))) }
 {
     let Some(was) = old else {
         let after = key_before(alloc, index, window, key, new)?;
@@ -122,8 +125,9 @@ pub fn changes_alone(
     old: Option<&Tree>,
     new: &Tree,
 ) -> Result<Vec<Change>, AllocError>
+    requires { HasEach window.now.children.range }
     ensures { IfOk result (λ changes. changes.items ≡ told_alone index.now key.now
-        (option_copied old.entry) (non_null new.now) window.now.shown.entries) }
+        (option_copied old.entry) (non_null new.now) (shown_in window.now)) }
 {
     let mut changes = Vec::new(alloc);
     if new.is_null() {

@@ -3,47 +3,47 @@ ghost use Rattle.std.specs.Prelude.{◌≡◌, ◌≤◌, ◌∷◌, [], false, 
 ghost use Rattle.std.specs.Option.{option_copied};
 ghost use Rattle.rt_tree.specs.PathTree.{child_of, is_null, leaf_of, levels, null, put};
 ghost use Rattle.rt_tree.specs.Children.{children_of};
-ghost use Rattle.rt_view.specs.inside.Kept.{IsWindowOf, in_order, in_range};
+ghost use Rattle.rt_query.specs.Select.{sorted_by};
+ghost use Rattle.rt_view.specs.inside.Kept.{IsWindowOf, entries_of};
 
 use crate::position::Position;
 use crate::window::{Window, ordered};
 use rt_map::OrdMap;
+use rt_order::Index;
 use rt_query::Query;
 use rt_tree::{Key, Leaf, MAX_KEYS, Path, Tree, TreeError};
 use std::alloc::{AllocError, Global};
 use std::collections::BTreeMap;
 
-// The children in the range, by their entries.
-fn in_range(
+// All children, by their entries.
+fn entries_of(
     alloc: Global,
-    query: &Query,
+    index: &Index,
     children: &OrdMap<Key, Tree>,
 ) -> Result<Vec<(Position, Tree)>, AllocError>
-    ensures { IfOk result (λ found. found.items ≡ in_range query.now children.now.entries) }
+    ensures { IfOk result (λ found. found.items ≡ entries_of index.now children.now.entries) }
 {
     let mut found = Vec::with_capacity(alloc, children.len())?;
     for (key, tree) in children {
-        if query.range().has(query.index(), key, tree) {
-            let position = Position::of(alloc, query.index(), key, tree)?;
-            let tree = tree.copy(alloc)?;
-            found.push((position, tree))?;
-        }
+        let position = Position::of(alloc, index, key, tree)?;
+        let tree = tree.copy(alloc)?;
+        found.push((position, tree))?;
     }
     Ok(found)
 }
 
-// The children of a tree that lie in the query's range, in order.
+// The children of a tree, in order.
 fn in_order(
     alloc: Global,
-    query: &Query,
+    index: &Index,
     known: &Tree,
 ) -> Result<BTreeMap<Position, Tree>, AllocError>
-    ensures { IfOk result (λ found. found.entries ≡ in_order query.now (children_of known.now)) }
+    ensures { IfOk result (λ found. found.entries ≡ sorted_by index.now (children_of known.now)) }
 {
     let Some(children) = known.children() else {
         return Ok(BTreeMap::new(alloc));
     };
-    let found = in_range(alloc, query, children)?;
+    let found = entries_of(alloc, index, children)?;
     ordered(alloc, found)
 }
 
@@ -51,8 +51,8 @@ fn in_order(
 pub fn window_of(alloc: Global, query: &Query, known: &Tree) -> Result<Window, AllocError>
     ensures { IfOk result (λ window. IsWindowOf query.now known.now window) }
 {
-    let children = in_order(alloc, query, known)?;
-    let window = Window::of(alloc, query.limit(), children)?;
+    let children = in_order(alloc, query.index(), known)?;
+    let window = Window::of(alloc, query.range(), query.limit(), children)?;
     Ok(window)
 }
 

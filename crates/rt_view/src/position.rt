@@ -1,10 +1,11 @@
 // Where a child stands in a view's order.
 ghost use Rattle.std.specs.Prelude.{◌≡◌, IfOk};
+ghost use Rattle.rt_order.specs.Cuts.{has};
 ghost use Rattle.rt_order.specs.Entries.{entry};
 ghost use Rattle.rt_order.specs.SortRef.{value_of};
 ghost use Rattle.rt_view.specs.inside.Positions.{sort_of};
 
-use rt_order::{Index, PlacedKey, SortRef, sort_value, value_cmp};
+use rt_order::{Index, PlacedKey, Range, SortRef, sort_value, value_cmp};
 use rt_tree::{Key, Leaf, Tree};
 use std::alloc::{AllocError, Global};
 use std::cmp::Ordering;
@@ -77,6 +78,13 @@ impl Position {
         ensures { result.now ≡ self.now.1 }
     {
         self.key.key()
+    }
+
+    // Whether the entry lies in a range.
+    pub fn is_in(&self, range: &Range) -> bool
+        ensures { result ≡ has range.now self.now }
+    {
+        range.has_entry(&self.sort.as_ref(), &self.key.borrowed())
     }
 }
 

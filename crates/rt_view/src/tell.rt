@@ -11,7 +11,7 @@ ghost use Rattle.rt_view.specs.Changes.{changes};
 ghost use Rattle.rt_view.specs.inside.Windows.{Entries};
 ghost use Rattle.rt_view.specs.inside.Kept.{IsWindowOf, SetsChild, SetsNoted, changes_to};
 ghost use Rattle.rt_view.specs.inside.Kept.{removed_of, shown_by};
-ghost use Rattle.rt_view.specs.inside.Telling.{AreSeen, IsFit, IsSeen, given_of, keys_in};
+ghost use Rattle.rt_view.specs.inside.Telling.{AreSeen, IsFit, IsSeen, IsSeenIn, given_of, keys_in};
 ghost use Rattle.rt_view.specs.declared.window.Window.{Window};
 
 use crate::change::Change;
@@ -70,6 +70,7 @@ fn row_changes(
     window: &Window,
     seen: &[Seen],
 ) -> Result<Vec<Change>, AllocError>
+    requires { All (IsSeenIn window.now.children.range query.now.index) seen.now }
     ensures { IfOk result (λ changes. (known t : PathTree)
         → IsWindowOf query.now known window.now
         → AreSeen query.now.index t window.now seen.now

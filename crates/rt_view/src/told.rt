@@ -1,15 +1,16 @@
 // What is told of the noted children, each found once.
-ghost use Rattle.std.specs.Prelude.{◌≡◌, All, IfOk, OnOk};
+ghost use Rattle.std.specs.Prelude.{◌≡◌, true, All, IfOk, OnOk};
 ghost use Rattle.std.specs.Option.{option_copied, option_map_or};
 ghost use Rattle.std.specs.FinMap as map_of;
 ghost use Rattle.std.specs.FinMap.Entries.{find};
 ghost use Rattle.std.specs.Map.{values_of};
 ghost use Rattle.rt_tree.specs.PathTree.{PathTree, key_cmp};
+ghost use Rattle.rt_order.specs.Cuts.{has};
 ghost use Rattle.rt_order.specs.Entries.{entry, entry_cmp};
-ghost use Rattle.rt_view.specs.inside.Windows.{before};
+ghost use Rattle.rt_view.specs.inside.Windows.{before, shown_in};
 ghost use Rattle.rt_view.specs.inside.Kept.{IsWindowOf, gone_at, gone_from, noted_in, rows_in_tree};
-ghost use Rattle.rt_view.specs.inside.Telling.{IsSeen, gone_too, keys_in, seen_in, seen_out};
-ghost use Rattle.rt_view.specs.inside.Telling.{seen_too, seen_turned, told_in, told_too};
+ghost use Rattle.rt_view.specs.inside.Telling.{IsSeen, IsSeenIn, gone_too, keys_in, seen_in};
+ghost use Rattle.rt_view.specs.inside.Telling.{seen_out, seen_too, seen_turned, told_in, told_too};
 
 use crate::change::copy_key;
 use crate::position::Position;
@@ -213,13 +214,14 @@ fn put_told(
     old: Option<&Tree>,
     new: &Tree,
 ) -> Result<(), AllocError>
+    requires { has window.now.children.range (entry index.now (key.now, new.now)) ≡ true }
     ensures { OnOk result (now.new.entries
         ≡ map_of.put entry_cmp (entry index.now (key.now, new.now)) (record {
           old =
               option_copied old.entry;
           new = new.now;
           after =
-              before (entry index.now (key.now, new.now)) window.now.shown.entries;
+              before (entry index.now (key.now, new.now)) (shown_in window.now);
         }) now.old.entries) }
 {
     let position = Position::of(alloc, index, key, new)?;
@@ -237,10 +239,11 @@ fn find_told(
     window: &Window,
     seen: &Seen,
 ) -> Result<(), AllocError>
+    requires { IsSeenIn window.now.children.range index.now seen.now }
     ensures gone { OnOk result (noted.new.gone.entries ≡ gone_too index.now seen.now.key
         (gone_at seen.now.new seen.now.old) noted.old.gone.entries) }
     ensures now { OnOk result (noted.new.now.entries ≡ told_too index.now
-        seen.now.key seen.now.old window.now.shown.entries
+        seen.now.key seen.now.old (shown_in window.now)
         seen.now.new noted.old.now.entries) }
 {
     let key = &seen.key;
@@ -258,14 +261,15 @@ pub fn find_all_told(
     window: &Window,
     seen: &[Seen],
 ) -> Result<Noted, AllocError>
+    requires { All (IsSeenIn window.now.children.range query.now.index) seen.now }
     ensures gone { IfOk result (λ noted. (known t : PathTree)
-        → IsWindowOf query.now known window.now → All (IsSeen t window.now.shown.entries) seen.now
-        → noted.gone.entries ≡ gone_from (keys_in seen.now) window.now.shown.entries
+        → IsWindowOf query.now known window.now → All (IsSeen t (shown_in window.now)) seen.now
+        → noted.gone.entries ≡ gone_from (keys_in seen.now) (shown_in window.now)
         (rows_in_tree query.now.index t)) }
     ensures now { IfOk result (λ noted. (known t : PathTree)
-        → IsWindowOf query.now known window.now → All (IsSeen t window.now.shown.entries) seen.now
-        → noted.now.entries ≡ told_in t window.now.shown.entries
-        (noted_in (keys_in seen.now) window.now.shown.entries)) }
+        → IsWindowOf query.now known window.now → All (IsSeen t (shown_in window.now)) seen.now
+        → noted.now.entries ≡ told_in t (shown_in window.now)
+        (noted_in (keys_in seen.now) (shown_in window.now))) }
 {
     let mut noted = Noted {
         gone: BTreeMap::new(alloc),

@@ -7,9 +7,10 @@ ghost use Rattle.rt_query.specs.Queries.{is_filtered};
 ghost use Rattle.rt_query.specs.Select.{select, tree_of};
 ghost use Rattle.rt_view.specs.Changes.{changes};
 ghost use Rattle.rt_view.specs.Views.{with_named};
-ghost use Rattle.rt_view.specs.inside.Windows.{Becomes, IsListed, IsWhole, all_of, value_at};
+ghost use Rattle.rt_view.specs.inside.Windows.{Becomes, IsListed, IsWhole, all_of, known_in};
+ghost use Rattle.rt_view.specs.inside.Windows.{shown_in, value_at};
 ghost use Rattle.rt_view.specs.inside.Turns.{Comes, Leaves, Stands, Values};
-ghost use Rattle.rt_view.specs.inside.Kept.{IsWindowOf, brought_in};
+ghost use Rattle.rt_view.specs.inside.Kept.{IsWindowOf, brought_in, wholly};
 ghost use Rattle.rt_view.specs.inside.Telling.{AllSeen, KeepsSeen, left_by, takes_place};
 
 use crate::alone::changes_alone;
@@ -41,23 +42,24 @@ fn take_out(
     child: Option<&Tree>,
     new: &Tree,
 ) -> Result<Turned, AllocError>
-    requires { IsWhole window.old }
+    requires whole { IsWhole window.old }
+    requires range { window.old.children.range ≡ query.now.range }
     ensures limit { window.new.limit ≡ window.old.limit }
+    ensures range { window.new.children.range ≡ window.old.children.range }
+    ensures known { OnOk result (known_in window.new ≡ left_by (wholly query.now) key.now
+        (option_copied child.entry) new.now (known_in window.old)) }
     ensures taken { OnOk result
         (Becomes window.old window.new (left_by query.now key.now (option_copied child.entry) new.now
         (all_of window.old))) }
     ensures leaves { IfOk result (λ turned. (t : PathTree) → IsWindowOf query.now t window.old
         → child_of (children_of t) key.now ≡ option_copied child.entry
         → Leaves query.now key.now (option_copied child.entry) new.now turned.was turned.crossed
-        window.old.shown.entries window.new.shown.entries) }
+        (shown_in window.old) (shown_in window.new)) }
 {
     let Some(child) = child else {
         return Ok(Turned::none());
     };
     if takes_place(query.index(), child, new) {
-        return Ok(Turned::none());
-    }
-    if !query.range().has(query.index(), key, child) {
         return Ok(Turned::none());
     }
     let position = Position::of(alloc, query.index(), key, child)?;
@@ -72,19 +74,20 @@ fn bring_in(
     key: &Key,
     child: &Tree,
 ) -> Result<Turned, AllocError>
-    requires { IsWhole window.old }
+    requires whole { IsWhole window.old }
+    requires range { window.old.children.range ≡ query.now.range }
     ensures limit { window.new.limit ≡ window.old.limit }
+    ensures range { window.new.children.range ≡ window.old.children.range }
+    ensures known { OnOk result (known_in window.new
+        ≡ brought_in (wholly query.now) key.now child.now (known_in window.old)) }
     ensures put { OnOk result
         (Becomes window.old window.new (brought_in query.now key.now child.now (all_of window.old))) }
-    ensures comes { IfOk result (λ turned. IsListed query.now.index window.old.shown.entries
-        → Stands query.now key.now child.now window.old.shown.entries
+    ensures comes { IfOk result (λ turned. IsListed query.now.index (shown_in window.old)
+        → Stands query.now key.now child.now (shown_in window.old)
         → Comes key.now child.now turned.was turned.is turned.crossed
-        window.old.shown.entries window.new.shown.entries) }
+        (shown_in window.old) (shown_in window.new)) }
 {
     if child.is_null() {
-        return Ok(Turned::none());
-    }
-    if !query.range().has(query.index(), key, child) {
         return Ok(Turned::none());
     }
     let position = Position::of(alloc, query.index(), key, child)?;
@@ -136,8 +139,8 @@ fn touch_child(
     ensures put { OnOk result (known.new ≡ put known.old (key.now ∷ []) child.now) }
     ensures kept { OnOk result (IsWindowOf query.now known.new window.new) }
     ensures seen { OnOk result ((first : Values)
-        → KeepsSeen first (value_at window.old.shown.entries) seen.old.entries
-        → KeepsSeen first (value_at window.new.shown.entries) seen.new.entries) }
+        → KeepsSeen first (value_at (shown_in window.old)) seen.old.entries
+        → KeepsSeen first (value_at (shown_in window.new)) seen.new.entries) }
 {
     let old = copy_tree(alloc, child_at(known, key))?;
     let left = take_out(window, alloc, query, key, old.as_ref(), child)?;
@@ -160,7 +163,7 @@ fn touch_all(
     ensures put { OnOk result (known.new ≡ with_named known.old named.now) }
     ensures kept { OnOk result (IsWindowOf query.now known.new window.new) }
     ensures seen { IfOk result (λ seen.
-        AllSeen window.old.shown.entries window.new.shown.entries seen.items) }
+        AllSeen (shown_in window.old) (shown_in window.new) seen.items) }
 {
     let mut seen = BTreeMap::new(alloc);
     for (key, child) in named {

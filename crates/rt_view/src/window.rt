@@ -1,36 +1,39 @@
-// The children in a range, in order, and how far a limit shows them.
-ghost use Rattle.std.specs.Prelude.{◌≡◌, ◌<◌, ◌++◌, ◌∷◌, [], map, IfOk, IfSome, IfNone, OnOk, Some};
-ghost use Rattle.std.specs.Prelude.{None, T, true, false};
+// All children that are known, in order, and which of them a range and a limit show.
+ghost use Rattle.std.specs.Prelude.{◌≡◌, map, IfOk, OnOk, None, T, true, false};
 ghost use Rattle.std.specs.Option.{option_copied};
 ghost use Rattle.std.specs.FinMap as map_of;
 ghost use Rattle.std.specs.FinMap.Entries.{is_sorted};
+ghost use Rattle.rt_chain.specs.Chains.{is_half};
+ghost use Rattle.rt_order.specs.Cuts.{has};
 ghost use Rattle.rt_order.specs.Entries.{entry_cmp};
 ghost use Rattle.rt_query.specs.Select.{row_of};
-ghost use Rattle.rt_query.specs.declared.limit.Limit.TheVariants.{First, Last};
+ghost use Rattle.rt_view.specs.inside.Ranged.{inside};
 ghost use Rattle.rt_view.specs.inside.Windows.{Becomes, IsApart, IsOrdering, IsWhole, IsWindow};
-ghost use Rattle.rt_view.specs.inside.Windows.{all_of, before, is_from_first, is_there, is_to_last, without};
+ghost use Rattle.rt_view.specs.inside.Windows.{all_of, before, half_of, is_there, known_in};
+ghost use Rattle.rt_view.specs.inside.Windows.{put_inside, rest_in, shown_in, without};
 ghost use Rattle.rt_view.specs.inside.Turns.{Refills, Spills};
 
 use crate::position::Position;
+use crate::ranged::Ranged;
+use rt_chain::Half;
+use rt_order::Range;
 use rt_query::{Limit, Row};
 use rt_tree::{Key, Tree};
 use std::alloc::{AllocError, Global};
 use std::collections::BTreeMap;
 
-// The children in a range, by their entries: those that the limit shows, and the rest, which lies
-// beside them on one side.
+// All children that are known, in the order of their entries, with the cut up to which the limit shows
+// those in the range: the first of these in front of it, or the last of them behind it.
 pub struct Window {
     pub limit: Option<Limit>,
-    pub shown: BTreeMap<Position, Tree>,
-    pub rest: BTreeMap<Position, Tree>,
+    pub children: Ranged,
 }
 
 impl Drop for Window {
     fn drop(self) {
         let Window {
             limit: _,
-            shown: _,
-            rest: _,
+            children: _,
         } = self;
     }
 }
@@ -101,52 +104,6 @@ pub fn set(
     Ok(())
 }
 
-// `insert`, which answers whether there was a child.
-fn reset(
-    children: &mut BTreeMap<Position, Tree>,
-    position: Position,
-    tree: Tree,
-) -> Result<bool, AllocError>
-    ensures put { OnOk result (children.new.entries
-        ≡ map_of.put entry_cmp position tree children.old.entries) }
-    ensures was { IfOk result (λ was. was ≡ is_there position children.old.entries) }
-{
-    let old = children.insert(position, tree)?;
-    let was = old.is_some();
-    drop(old);
-    Ok(was)
-}
-
-// `remove`, which answers whether there was a child.
-fn unset(children: &mut BTreeMap<Position, Tree>, position: &Position) -> bool
-    requires { T (is_sorted entry_cmp children.old.entries) }
-    ensures gone { children.new.entries ≡ without position.now children.old.entries }
-    ensures was { result ≡ is_there position.now children.old.entries }
-{
-    let old = children.remove(position);
-    let was = old.is_some();
-    drop(old);
-    was
-}
-
-fn is_from_first(children: &BTreeMap<Position, Tree>, position: &Position) -> bool
-    ensures { result ≡ is_from_first children.now.entries position.now }
-{
-    match children.first_key_value() {
-        Some((edge, _)) => edge.cmp(position).is_le(),
-        None => false,
-    }
-}
-
-fn is_to_last(children: &BTreeMap<Position, Tree>, position: &Position) -> bool
-    ensures { result ≡ is_to_last children.now.entries position.now }
-{
-    match children.last_key_value() {
-        Some((edge, _)) => position.cmp(edge).is_le(),
-        None => false,
-    }
-}
-
 // A map of these children. It is made in order, so its parts are full.
 pub fn ordered(
     alloc: Global,
@@ -158,105 +115,48 @@ pub fn ordered(
     BTreeMap::from_iter(alloc, children)
 }
 
-// Takes out the first child, where fewer than n were taken before.
-fn pop_first(
-    children: &mut BTreeMap<Position, Tree>,
-    taken: usize,
-    n: usize,
-) -> Option<(Position, Tree)>
-    ensures child { IfSome result (λ p. children.old.entries ≡ p ∷ children.new.entries) }
-    ensures fewer { IfSome result (λ p. taken < n) }
-    ensures same { IfNone result (children.new.entries ≡ children.old.entries) }
-    ensures none { IfNone result (taken < n → children.old.entries ≡ []) }
+// The half of the children that a limit shows.
+fn half_of(limit: Option<Limit>) -> Half
+    ensures { result ≡ half_of limit }
 {
-    if taken < n {
-        children.pop_first()
-    } else {
-        None
+    match limit {
+        None | Some(Limit::First(_)) => Half::Front,
+        Some(Limit::Last(_)) => Half::Behind,
     }
 }
 
-// Takes out the last child, where fewer than n were taken before.
-fn pop_last(
-    children: &mut BTreeMap<Position, Tree>,
-    taken: usize,
-    n: usize,
-) -> Option<(Position, Tree)>
-    ensures child { IfSome result (λ p. children.old.entries ≡ children.new.entries ++ p ∷ []) }
-    ensures fewer { IfSome result (λ p. taken < n) }
-    ensures same { IfNone result (children.new.entries ≡ children.old.entries) }
-    ensures none { IfNone result (taken < n → children.old.entries ≡ []) }
+// Whether an answer is this half.
+fn is_half(half: Half, answer: Option<Half>) -> bool
+    ensures { result ≡ is_half half answer }
 {
-    if taken < n { children.pop_last() } else { None }
-}
-
-// Takes out the first children, of which there are at most n.
-fn take_first(
-    children: &mut BTreeMap<Position, Tree>,
-    alloc: Global,
-    n: usize,
-) -> Result<BTreeMap<Position, Tree>, AllocError>
-    requires { T (is_sorted entry_cmp children.old.entries) }
-    ensures { IfOk result (λ first. IsWindow (Some (First n)) first.entries children.new.entries
-        children.old.entries) }
-{
-    let mut first = Vec::new(alloc);
-    while let Some(child) = pop_first(children, first.len(), n) {
-        first.push(child)?;
+    match (half, answer) {
+        (Half::Front, Some(Half::Front)) | (Half::Behind, Some(Half::Behind)) => true,
+        (Half::Front, Some(Half::Behind)) | (Half::Behind, Some(Half::Front)) => false,
+        (Half::Front | Half::Behind, None) => false,
     }
-    ordered(alloc, first)
-}
-
-// Takes out the last children, of which there are at most n.
-fn take_last(
-    children: &mut BTreeMap<Position, Tree>,
-    alloc: Global,
-    n: usize,
-) -> Result<BTreeMap<Position, Tree>, AllocError>
-    requires { T (is_sorted entry_cmp children.old.entries) }
-    ensures { IfOk result (λ last. IsWindow (Some (Last n)) last.entries children.new.entries
-        children.old.entries) }
-{
-    let mut last = Vec::new(alloc);
-    while let Some(child) = pop_last(children, last.len(), n) {
-        last.push(child)?;
-    }
-    last.reverse();
-    ordered(alloc, last)
 }
 
 impl Window {
     // The window of these children.
     pub fn of(
         alloc: Global,
+        range: &Range,
         limit: Option<Limit>,
         children: BTreeMap<Position, Tree>,
     ) -> Result<Window, AllocError>
         requires { T (is_sorted entry_cmp children.entries) }
         ensures limit { IfOk result (λ window. window.limit ≡ limit) }
-        ensures cut { IfOk result (λ window. IsWindow limit window.shown.entries window.rest.entries
-            children.entries) }
+        ensures range { IfOk result (λ window. window.children.range ≡ range.now) }
+        ensures known { IfOk result (λ window. known_in window ≡ children.entries) }
+        ensures cut { IfOk result (λ window. IsWindow limit (shown_in window) (rest_in window)
+            (inside range.now children.entries)) }
     {
-        match limit {
-            None => Ok(Window {
-                limit,
-                shown: children,
-                rest: BTreeMap::new(alloc),
-            }),
-            Some(Limit::First(n)) => {
-                let mut rest = children;
-                let shown = take_first(&mut rest, alloc, n as usize)?;
-                Ok(Window { limit, shown, rest })
-            }
-            Some(Limit::Last(n)) => {
-                let mut rest = children;
-                let shown = take_last(&mut rest, alloc, n as usize)?;
-                Ok(Window { limit, shown, rest })
-            }
-        }
+        let children = Ranged::of(alloc, range, limit, children)?;
+        Ok(Window { limit, children })
     }
 
-    // Puts a child at its entry. Another one may cross the cut for it, or itself.
+    // Puts a child at its entry. Where that lies in the range another one may cross the cut for it, or
+    // itself.
     pub fn put(
         &mut self,
         alloc: Global,
@@ -265,51 +165,39 @@ impl Window {
     ) -> Result<Turned, AllocError>
         requires { IsWhole self.old }
         ensures limit { self.new.limit ≡ self.old.limit }
-        ensures put { OnOk result
-            (Becomes self.old self.new (map_of.put entry_cmp position tree (all_of self.old))) }
+        ensures range { self.new.children.range ≡ self.old.children.range }
+        ensures known { OnOk result (known_in self.new
+            ≡ map_of.put entry_cmp position tree (known_in self.old)) }
+        ensures put { OnOk result (Becomes self.old self.new
+            (put_inside self.old.children.range position tree (all_of self.old))) }
         ensures was { IfOk result (λ turned. turned.was
-            ≡ is_there position self.old.shown.entries) }
-        ensures crosses { IfOk result (λ turned. Spills turned self.old.shown.entries
-            (map_of.put entry_cmp position tree self.old.shown.entries) self.new.shown.entries) }
+            ≡ is_there position (shown_in self.old)) }
+        ensures crosses { IfOk result (λ turned. Spills turned (shown_in self.old)
+            (map_of.put entry_cmp position tree (shown_in self.old)) (shown_in self.new)) }
     {
+        let shown = half_of(self.limit);
+        let placed = self.children.put(position, tree, shown)?;
+        let Some((half, was)) = placed else {
+            return Ok(Turned::none());
+        };
+        if !is_half(shown, Some(half)) {
+            return Ok(Turned::none());
+        }
         match self.limit {
-            None => {
-                let was = reset(&mut self.shown, position, tree)?;
-                Ok(Turned::came(was, None))
-            }
+            None => Ok(Turned::came(was, None)),
             Some(Limit::First(n)) => {
-                if is_from_first(&self.rest, &position) {
-                    set(&mut self.rest, position, tree)?;
-                    return Ok(Turned::none());
-                }
-                let was = reset(&mut self.shown, position, tree)?;
-                if self.shown.len() <= n as usize {
+                if self.children.len(shown) <= n as usize {
                     return Ok(Turned::came(was, None));
                 }
-                let Some((edge, tree)) = self.shown.pop_last() else {
-                    return Ok(Turned::came(was, None));
-                };
-                let key = edge.key().copy()?;
-                let child = tree.copy(alloc)?;
-                set(&mut self.rest, edge, tree)?;
-                Ok(Turned::came(was, Some((key, child))))
+                let crossed = self.children.cross_back(alloc)?;
+                Ok(Turned::came(was, crossed))
             }
             Some(Limit::Last(n)) => {
-                if is_to_last(&self.rest, &position) {
-                    set(&mut self.rest, position, tree)?;
-                    return Ok(Turned::none());
-                }
-                let was = reset(&mut self.shown, position, tree)?;
-                if self.shown.len() <= n as usize {
+                if self.children.len(shown) <= n as usize {
                     return Ok(Turned::came(was, None));
                 }
-                let Some((edge, tree)) = self.shown.pop_first() else {
-                    return Ok(Turned::came(was, None));
-                };
-                let key = edge.key().copy()?;
-                let child = tree.copy(alloc)?;
-                set(&mut self.rest, edge, tree)?;
-                Ok(Turned::came(was, Some((key, child))))
+                let crossed = self.children.cross_ahead(alloc)?;
+                Ok(Turned::came(was, crossed))
             }
         }
     }
@@ -318,60 +206,40 @@ impl Window {
     pub fn take(&mut self, alloc: Global, position: &Position) -> Result<Turned, AllocError>
         requires { IsWhole self.old }
         ensures limit { self.new.limit ≡ self.old.limit }
+        ensures range { self.new.children.range ≡ self.old.children.range }
+        ensures known { OnOk result (known_in self.new ≡ without position.now (known_in self.old)) }
         ensures taken { OnOk result
             (Becomes self.old self.new (without position.now (all_of self.old))) }
         ensures was { IfOk result (λ turned. turned.was
-            ≡ is_there position.now self.old.shown.entries) }
-        ensures crosses { IfOk result (λ turned. Refills turned self.old.rest.entries
-            (without position.now self.old.shown.entries) self.new.shown.entries) }
+            ≡ is_there position.now (shown_in self.old)) }
+        ensures crosses { IfOk result (λ turned. Refills turned (rest_in self.old)
+            (without position.now (shown_in self.old)) (shown_in self.new)) }
     {
-        if !unset(&mut self.shown, position) {
-            unset(&mut self.rest, position);
+        // The prover learns that all children rise.
+        let _len = self.children.len(Half::Front);
+        let half = self.children.remove(position);
+        if !is_half(half_of(self.limit), half) {
             return Ok(Turned::none());
         }
         match self.limit {
             None => Ok(Turned::left(None)),
-            Some(Limit::First(_)) => {
-                let Some((edge, tree)) = self.rest.pop_first() else {
-                    return Ok(Turned::left(None));
-                };
-                let key = edge.key().copy()?;
-                let child = tree.copy(alloc)?;
-                set(&mut self.shown, edge, tree)?;
-                Ok(Turned::left(Some((key, child))))
-            }
-            Some(Limit::Last(_)) => {
-                let Some((edge, tree)) = self.rest.pop_last() else {
-                    return Ok(Turned::left(None));
-                };
-                let key = edge.key().copy()?;
-                let child = tree.copy(alloc)?;
-                set(&mut self.shown, edge, tree)?;
-                Ok(Turned::left(Some((key, child))))
-            }
+            Some(Limit::First(_)) => Ok(Turned::left(self.children.cross_ahead(alloc)?)),
+            Some(Limit::Last(_)) => Ok(Turned::left(self.children.cross_back(alloc)?)),
         }
     }
 
     // The children that are shown, as rows. Their trees are shared.
     pub fn rows(&self, alloc: Global) -> Result<Vec<Row>, AllocError>
-        ensures { IfOk result (λ rows. rows.items ≡ map row_of self.now.shown.entries) }
+        ensures { IfOk result (λ rows. rows.items ≡ map row_of (shown_in self.now)) }
     {
-        let mut rows = Vec::with_capacity(alloc, self.shown.len())?;
-        for (position, child) in &self.shown {
-            let key = position.key().copy()?;
-            let value = child.copy(alloc)?;
-            rows.push(Row { key, value })?;
-        }
-        Ok(rows)
+        self.children.rows(alloc, half_of(self.limit))
     }
 
-    // The key of the child that is shown before an entry.
+    // The key of the child that is shown before an entry of the range.
     pub fn before(&self, position: &Position) -> Option<&Key>
-        ensures { option_copied result ≡ before position.now self.now.shown.entries }
+        requires { has self.now.children.range position.now ≡ true }
+        ensures { option_copied result ≡ before position.now (shown_in self.now) }
     {
-        match self.shown.range(..position).next_back() {
-            Some((edge, _)) => Some(edge.key()),
-            None => None,
-        }
+        self.children.before(position, half_of(self.limit))
     }
 }

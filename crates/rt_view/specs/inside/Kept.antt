@@ -2,12 +2,11 @@
 use Rattle.std.specs.Prelude.{◌≡◌, Bool, false, not, ◌&&◌, if◌then◌else◌, List, [], map}
 use Rattle.std.specs.Prelude.{Option, Some, None, is_some}
 use Rattle.std.specs.List.{filter, list_any}
-use Rattle.std.specs.FinMap as map_of
 use Rattle.rt_tree.specs.PathTree.{Key, PathTree, key_eq, is_null, leaf_of, child_of}
 use Rattle.rt_tree.specs.Children.{children_of}
 use Rattle.rt_tree.specs.Leaf.{LeafValue}
 use Rattle.rt_order.specs.declared.index.Index.{Index}
-use Rattle.rt_order.specs.Entries.{Entry, entry, entry_cmp}
+use Rattle.rt_order.specs.Entries.{Entry, entry}
 use Rattle.rt_order.specs.Cuts.{has}
 use Rattle.rt_query.specs.Queries.{Query, is_filtered}
 use Rattle.rt_query.specs.Select.{Shown, sorted_by, select, tree_of, row_of}
@@ -17,20 +16,27 @@ use Rattle.rt_view.specs.declared.change.Change.TheVariants.{Removed}
 use Rattle.rt_view.specs.declared.kind.Kind.{Kind}
 use Rattle.rt_view.specs.Changes.{row_changes}
 use Rattle.rt_view.specs.inside.Given.{change_of, is_given}
-use Rattle.rt_view.specs.inside.Windows.{Entries, IsWindow, value_at, without, before}
+use Rattle.rt_view.specs.inside.Windows.{Entries, IsWindow, value_at, without, before, known_in, put_inside, rest_in, shown_in}
 
 -- the children in the range, in order
 abbrev pub in_order : Query → List (Key × PathTree) → Entries
 in_order q cs = filter (λ e. has q.range e.0) (sorted_by q.index cs)
 
--- the same children, in the order of their keys' bytes
-abbrev pub in_range : Query → List (Key × PathTree) → Entries
-in_range q cs = filter (λ e. has q.range e.0) (map (λ c. (entry q.index c, c.1)) cs)
+-- all children by their entries, in the order of their keys' bytes
+abbrev pub entries_of : Index → List (Key × PathTree) → Entries
+entries_of index cs = map (λ c. (entry index c, c.1)) cs
 
--- the window of a tree: its children in the range, cut by the limit
+-- the query of all children in the same order
+abbrev pub wholly : Query → Query
+wholly q =
+    record { path = q.path; index = q.index; range = record { lower = None; upper = None }; limit = q.limit }
+
+-- the window of a tree: all its children, and of these the ones in the range cut by the limit
 pub record IsWindowOf (query : Query) (known : PathTree) (window : Window) : Type 0 where
   pub limit : window.limit ≡ query.limit
-  pub cut : IsWindow query.limit window.shown.entries window.rest.entries
+  pub range : window.children.range ≡ query.range
+  pub all : known_in window ≡ sorted_by query.index (children_of known)
+  pub cut : IsWindow query.limit (shown_in window) (rest_in window)
       (in_order query (children_of known))
 
 -- what is shown as a tree of its own, which only a filtered query has: another one shows all that is known
@@ -38,7 +44,8 @@ abbrev pub own_tree : Query → PathTree → Option PathTree
 own_tree q t = if is_filtered q then Some (tree_of (select q t)) else None
 
 -- what is kept: the window of the known tree, and what is shown as a tree of its own
-pub record IsKept (query : Query) (known : PathTree) (window : Window) (shown : Option PathTree) : Type 0 where
+pub record IsKept (query : Query) (known : PathTree) (window : Window) (shown : Option PathTree)
+    : Type 0 where
   pub children : IsWindowOf query known window
   pub tree : shown ≡ own_tree query known
 
@@ -58,8 +65,7 @@ shown_by index t = record { leaf = leaf_of t; rows = map row_of (rows_in_tree in
 
 -- a child is put in its place, where it is in the range
 abbrev pub put_in : Query → Key × PathTree → Entries → Entries
-put_in q c es = if has q.range (entry q.index c) then map_of.put entry_cmp
-    (entry q.index c) c.1 es else es
+put_in q c es = put_inside q.range (entry q.index c) c.1 es
 
 -- a child that may be null is put
 abbrev pub brought_in : Query → Key → PathTree → Entries → Entries
@@ -83,7 +89,7 @@ Notes old new before after = (k : Key) → is_noted new k ≡ false → (is_note
 
 -- the notes between a tree that was shown and what a window shows
 abbrev pub NotesAll : Index → List Key → PathTree → Window → Type 0
-NotesAll index noted old window = Notes [] noted (rows_in_tree index old) window.shown.entries
+NotesAll index noted old window = Notes [] noted (rows_in_tree index old) (shown_in window)
 
 -- of the entries those whose keys are noted
 abbrev pub noted_in : List Key → Entries → Entries
@@ -112,7 +118,7 @@ SetsNoted noted shown before after = (k : Key)
 -- the changes of the rows, from a tree that was shown to what a window shows
 abbrev pub changes_to : Index → PathTree → Window → List Change
 changes_to index old window = row_changes index (map row_of (rows_in_tree index old))
-    (map row_of window.shown.entries)
+    (map row_of (shown_in window))
 
 -- a child that is shown no more
 abbrev pub removed_of : Entry × PathTree → Change

@@ -1,5 +1,5 @@
 -- What is told of the noted children, each found once.
-use Rattle.std.specs.Prelude.{◌≡◌, ◌≤◌, Bool, false, not, ◌&&◌, ◌||◌, if◌then◌else◌, List, [], map, Option}
+use Rattle.std.specs.Prelude.{◌≡◌, ◌≤◌, Bool, true, false, not, ◌&&◌, ◌||◌, if◌then◌else◌, List, [], map, Option}
 use Rattle.std.specs.Prelude.{Some, None, IfSome, T}
 use Rattle.std.specs.List.{All, filter}
 use Rattle.std.specs.Ordering.{is_eq}
@@ -9,6 +9,8 @@ use Rattle.std.specs.Option.{option_map_or}
 use Rattle.rt_tree.specs.PathTree.{Key, PathTree, key_cmp, is_null, levels, child_of}
 use Rattle.rt_tree.specs.Children.{children_of}
 use Rattle.rt_order.specs.declared.index.Index.{Index}
+use Rattle.rt_order.specs.declared.cut.Range.{Range}
+use Rattle.rt_order.specs.Cuts.{has}
 use Rattle.rt_order.specs.Entries.{Entry, entry, entry_cmp, sort_value}
 use Rattle.rt_order.specs.Values.{value_cmp}
 use Rattle.rt_query.specs.Queries.{Query}
@@ -21,7 +23,7 @@ use Rattle.rt_view.specs.declared.kind.Kind.{Kind}
 use Rattle.rt_view.specs.inside.Given.{change_of, is_given}
 use Rattle.rt_view.specs.inside.Kept.{Notes, NotesAll, taken_out}
 use Rattle.rt_view.specs.inside.Turns.{Values, shown_if}
-use Rattle.rt_view.specs.inside.Windows.{Entries, before, value_at}
+use Rattle.rt_view.specs.inside.Windows.{Entries, before, value_at, shown_in}
 
 -- ---- a child that comes
 
@@ -48,9 +50,13 @@ IsSeen t shown s = (s.old ≡ child_of (children_of t) s.key) × (s.new ≡ valu
 abbrev pub IsFit : Seen → Type 0
 IsFit s = IfSome s.new (λ t. (is_null t ≡ false) × (levels t ≤ 32))
 
+-- what is shown now lies in a range
+abbrev pub IsSeenIn : Range → Index → Seen → Type 0
+IsSeenIn range index s = IfSome s.new (λ t. has range (entry index (s.key, t)) ≡ true)
+
 -- what was shown of a tree and what is shown now, where under other keys than these the same is shown
 pub record AreSeen (index : Index) (t : PathTree) (window : Window) (seen : List Seen) : Type 0 where
-  pub each : All (IsSeen t window.shown.entries) seen
+  pub each : All (IsSeen t (shown_in window)) seen
   pub notes : NotesAll index (keys_in seen) t window
 
 -- ---- what is kept by each key under which something else is shown
@@ -83,7 +89,8 @@ seen_out None es = es
 seen_out (Some c) es = seen_too c.0 (Some c.1) None es
 
 -- with a child that came to a key, where this one left
-abbrev pub seen_turned : Key → Option PathTree → PathTree → Turned → Turned → List (Key × Seen) → List (Key × Seen)
+abbrev pub seen_turned : Key → Option PathTree → PathTree → Turned → Turned
+    → List (Key × Seen) → List (Key × Seen)
 seen_turned k old new left came es = seen_out came.crossed
     (seen_too k (if left.was || came.was then old else None) (shown_if came.is new) (seen_in left.crossed es))
 
@@ -111,7 +118,8 @@ abbrev pub told_in : PathTree → Entries → Entries → List (Entry × Told)
 told_in old shown es = map (λ e. (e.0, told_of old shown e)) es
 
 -- the child that is shown under one more key, if there is one
-abbrev pub told_too : Index → Key → Option PathTree → Entries → Option PathTree → List (Entry × Told) → List (Entry × Told)
+abbrev pub told_too : Index → Key → Option PathTree → Entries → Option PathTree
+    → List (Entry × Told) → List (Entry × Told)
 told_too index k old shown None es = es
 told_too index k old shown (Some v) es = map_of.put entry_cmp (entry index (k, v))
     (record { old = old; new = v; after = before (entry index (k, v)) shown }) es

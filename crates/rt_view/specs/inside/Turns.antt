@@ -12,7 +12,8 @@ use Rattle.rt_view.specs.inside.Windows.{Entries, value_at, without}
 
 -- ---- as entries
 
--- a child was taken out of those that are shown, which leaves these; another one of the rest may have come in for it
+-- a child was taken out of those that are shown, which leaves these; another one of the rest may have come
+-- in for it
 abbrev pub Refilled : Option (Key × PathTree) → Entries → Entries → Entries → Type 0
 Refilled None rest left new = new ≡ left
 Refilled (Some c) rest left new =
@@ -20,9 +21,11 @@ Refilled (Some c) rest left new =
 
 -- and only where it was shown
 abbrev pub Refills : Turned → Entries → Entries → Entries → Type 0
-Refills turned rest left new = Refilled turned.crossed rest left new × IfSome turned.crossed (λ c. turned.was ≡ true)
+Refills turned rest left new =
+    Refilled turned.crossed rest left new × IfSome turned.crossed (λ c. turned.was ≡ true)
 
--- a child was put to those that are shown, which makes these; another one of them, or itself, may have gone out for it
+-- a child was put to those that are shown, which makes these; another one of them, or itself, may have gone
+-- out for it
 abbrev pub Spilled : Option (Key × PathTree) → Entries → Entries → Type 0
 Spilled None more new = new ≡ more
 Spilled (Some c) more new =
@@ -57,10 +60,12 @@ went_out (Some c) f = set_at c.0 None f
 -- what is shown under a key has the entry of the child that comes there
 abbrev pub Stands : Query → Key → PathTree → Entries → Type 0
 Stands q k child es = (x : PathTree) → value_at es k ≡ Some x
-    → (is_null child ≡ false) × (entry q.index (k, x) ≡ entry q.index (k, child)) × (has q.range (entry q.index (k, child)) ≡ true)
+    → (is_null child ≡ false) × (entry q.index (k, x) ≡ entry q.index (k, child))
+    × (has q.range (entry q.index (k, child)) ≡ true)
 
 -- what stood at a key was taken out, or stands at the entry of the child that comes
-pub record Leaves (q : Query) (k : Key) (old : Option PathTree) (new : PathTree) (was : Bool) (crossed : Option (Key × PathTree)) (before after : Entries) : Type 0 where
+pub record Leaves (q : Query) (k : Key) (old : Option PathTree) (new : PathTree) (was : Bool)
+    (crossed : Option (Key × PathTree)) (before after : Entries) : Type 0 where
   pub own : (if was then old else value_at after k) ≡ value_at before k
   pub stands : Stands q k new after
   pub apart : IfSome crossed (λ c. (value_at before c.0 ≡ None) × (key_eq k c.0 ≡ false))
@@ -71,7 +76,8 @@ abbrev pub shown_if : Bool → PathTree → Option PathTree
 shown_if is child = if is then Some child else None
 
 -- a child came to a key
-pub record Comes (k : Key) (child : PathTree) (was is : Bool) (crossed : Option (Key × PathTree)) (before after : Entries) : Type 0 where
+pub record Comes (k : Key) (child : PathTree) (was is : Bool) (crossed : Option (Key × PathTree))
+    (before after : Entries) : Type 0 where
   pub own : was ≡ is_some (value_at before k)
   pub apart : IfSome crossed (λ c. set_at k (shown_if is child) (value_at before) c.0 ≡ Some c.1)
   pub all : (j : Key) → value_at after j ≡ went_out crossed (set_at k (shown_if is child) (value_at before)) j

@@ -11,11 +11,12 @@ use Rattle.rt_view.proofs.Listed.{listed-children}
 use Rattle.rt_view.proofs.TellLaws.{given-all, given_of-told, removed-all}
 use Rattle.rt_view.proofs.TreeLaws.{listed-window}
 use Rattle.rt_view.proofs.tell.row_changes.Goals as goal
+use Rattle.rt_view.specs.inside.Windows.{shown_in}
 
 pub returns : goal.returns
 returns c known t kept seen =
     let q = c.args.query.now in
-    let shown = c.args.window.now.shown.entries in
+    let shown = shown_in c.args.window.now in
     let ks = keys_in c.args.seen.now in
     let old = map row_of (rows_in_tree q.index t) in
     let new = map row_of shown in

@@ -3,7 +3,7 @@ use Rattle.std.proofs.lemmas.List.{take_all}
 use Rattle.std.proofs.lemmas.List.Elements.{All-get_or}
 use Rattle.rt_tree.specs.PathTree.{Key}
 use Rattle.rt_view.specs.declared.told.Seen.{Seen}
-use Rattle.rt_view.specs.inside.Windows.{Entries}
+use Rattle.rt_view.specs.inside.Windows.{Entries, shown_in}
 use Rattle.rt_view.specs.inside.Kept.{gone_at, gone_from, noted_in, rows_in_tree}
 use Rattle.rt_view.specs.inside.Telling.{IsSeen, gone_too, keys_in, told_in, told_too}
 use Rattle.rt_view.proofs.Listed.{listed-children, value_at-children}
@@ -13,15 +13,15 @@ use Rattle.rt_view.proofs.told.find_all_told.Goals as goal
 
 pub loop-one-init : goal.loop-one-init
 loop-one-init c known t kept had = (
-  c.new.ensures.empty ∙ sym (gone_nothing c.args.window.now.shown.entries (rows_in_tree c.args.query.now.index t)),
-  c.new-2.ensures.empty ∙ ap (told_in t c.args.window.now.shown.entries) (sym (noted_nothing c.args.window.now.shown.entries)),
+  c.new.ensures.empty ∙ sym (gone_nothing (shown_in c.args.window.now) (rows_in_tree c.args.query.now.index t)),
+  c.new-2.ensures.empty ∙ ap (told_in t (shown_in c.args.window.now)) (sym (noted_nothing (shown_in c.args.window.now))),
 )
 
 pub loop-one-preserved : goal.loop-one-preserved
 loop-one-preserved c known t kept had =
     let index = c.args.query.now.index in
     let own = c.index.ensures in
-    let new : Entries = c.args.window.now.shown.entries in
+    let new : Entries = shown_in c.args.window.now in
     let old = rows_in_tree index t in
     let seen : List Seen = c.args.seen.now in
     let one : Seen = c.one-item.result in
@@ -41,9 +41,9 @@ loop-one-preserved c known t kept had =
 pub returns-clause-gone : goal.returns-clause-gone
 returns-clause-gone c known t kept had =
     (c.loop-one.invariant known t kept had).0
-    ∙ ap (λ ws. gone_from (keys_in ws) c.args.window.now.shown.entries (rows_in_tree c.args.query.now.index t)) (take_all c.loop-one.one-index c.args.seen.now c.loop-one-test.false)
+    ∙ ap (λ ws. gone_from (keys_in ws) (shown_in c.args.window.now) (rows_in_tree c.args.query.now.index t)) (take_all c.loop-one.one-index c.args.seen.now c.loop-one-test.false)
 
 pub returns-clause-now : goal.returns-clause-now
 returns-clause-now c known t kept had =
     (c.loop-one.invariant known t kept had).1
-    ∙ ap (λ ws. told_in t c.args.window.now.shown.entries (noted_in (keys_in ws) c.args.window.now.shown.entries)) (take_all c.loop-one.one-index c.args.seen.now c.loop-one-test.false)
+    ∙ ap (λ ws. told_in t (shown_in c.args.window.now) (noted_in (keys_in ws) (shown_in c.args.window.now))) (take_all c.loop-one.one-index c.args.seen.now c.loop-one-test.false)

@@ -1,34 +1,26 @@
-use Rattle.std.proofs.Common.{◌≡◌, true, false, sym, subst, rules}
+use Rattle.std.proofs.Common.{◌≡◌, true, sym, subst, rules}
 use Rattle.std.specs.FinMap as map_of
 use Rattle.rt_tree.specs.PathTree.{PathTree, is_null}
-use Rattle.rt_order.specs.Cuts.{has}
 use Rattle.rt_order.specs.Entries.{Entry, entry, entry_cmp}
 use Rattle.rt_view.specs.declared.window.Turned.{Turned}
 use Rattle.rt_view.specs.inside.Turns.{Comes, Spills}
-use Rattle.rt_view.specs.inside.Windows.{is_there}
-use Rattle.rt_view.proofs.CrossLaws.{both_ok, comes_null, comes_outside, comes_put}
+use Rattle.rt_view.specs.inside.Windows.{is_there, shown_in}
+use Rattle.rt_view.proofs.CrossLaws.{both_ok, comes_null, comes_put}
 use Rattle.rt_view.proofs.touch.bring_in.Goals as goal
 
 pub returns-then-is_null-clause-comes : goal.returns-then-is_null-clause-comes
 returns-then-is_null-clause-comes c listed stands =
     let q = c.args.query.now in
-    let es = c.args.window.now.shown.entries in
+    let es = shown_in c.args.window.now in
     let null : is_null c.args.child.now ≡ true = search rules in
     subst (λ (r : Turned). Comes c.args.key.now c.args.child.now r.was r.is r.crossed es es) (sym c.none.ensures) (comes_null q c.args.key.now c.args.child.now es stands null)
-
-pub returns-then-not-has-clause-comes : goal.returns-then-not-has-clause-comes
-returns-then-not-has-clause-comes c listed stands =
-    let q = c.args.query.now in
-    let es = c.args.window.now.shown.entries in
-    let out : has q.range (entry q.index (c.args.key.now, c.args.child.now)) ≡ false = search rules in
-    subst (λ (r : Turned). Comes c.args.key.now c.args.child.now r.was r.is r.crossed es es) (sym c.none-then-not-has.ensures) (comes_outside q c.args.key.now c.args.child.now es stands out)
 
 pub returns-clause-comes : goal.returns-clause-comes
 returns-clause-comes c =
     let q = c.args.query.now in
     let k = c.args.key.now in
-    let es = c.args.window.now.shown.entries in
-    let after = c.put.new.self.shown.entries in
+    let es = shown_in c.args.window.now in
+    let after = shown_in c.put.new.self in
     let v : PathTree = c.args.child.now in
     let position : c.in_ok-position.position ≡ entry q.index (k, v) = search rules in
     let copy : c.in_ok-child.child ≡ v = search rules in

@@ -4,7 +4,7 @@ use Rattle.std.proofs.lemmas.Result.{IfOk-weaker}
 use Rattle.rt_tree.specs.PathTree.{Key, PathTree, put}
 use Rattle.rt_view.specs.Views.{with_named}
 use Rattle.rt_view.specs.inside.Telling.{AllSeen}
-use Rattle.rt_view.specs.inside.Windows.{value_at}
+use Rattle.rt_view.specs.inside.Windows.{value_at, shown_in}
 use Rattle.rt_view.proofs.SeenLaws.{keeps_all}
 use Rattle.rt_view.proofs.touch.touch_all.Goals as goal
 
@@ -18,13 +18,13 @@ loop-key-preserved c =
           ∙ ap (λ (d : Key × PathTree). with_named (put t (d.0 ∷ []) d.1) rest) c.loop-key-item.is
           ∙ sym (ap (with_named t) (drop_more c.args.named.now c.loop-key.key-index item c.loop-key-test.true))
           ∙ c.loop-key.invariant.1,
-      c.in_ok-touch_child.ensures.seen (value_at c.args.window.now.shown.entries) c.loop-key.invariant.2,
+      c.in_ok-touch_child.ensures.seen (value_at (shown_in c.args.window.now)) c.loop-key.invariant.2,
     )
 
 pub returns-clause-seen : goal.returns-clause-seen
 returns-clause-seen c =
-    let before = c.args.window.now.shown.entries in
-    let after = c.loop-key.window.shown.entries in
+    let before = shown_in c.args.window.now in
+    let after = shown_in c.loop-key.window in
     IfOk-weaker c.list_seen.result _ _
     (λ list told. subst (AllSeen before after) (sym told) (keeps_all before after c.loop-key.seen.entries c.loop-key.invariant.2))
     c.list_seen.ensures

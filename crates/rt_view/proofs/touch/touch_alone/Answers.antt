@@ -7,16 +7,19 @@ use Rattle.rt_view.specs.Changes.{changes}
 use Rattle.rt_view.specs.inside.Alone.{told_alone}
 use Rattle.rt_view.specs.inside.Kept.{IsWindowOf, changes_to}
 use Rattle.rt_view.proofs.AloneLaws.{alone_all, alone_notes, alone_now}
-use Rattle.rt_view.proofs.TouchLaws.{touched_window}
+use Rattle.rt_view.proofs.BesideLaws.{touched_window}
 use Rattle.rt_view.proofs.TreeLaws.{listed-window, plain_shown}
 use Rattle.rt_view.proofs.touch.touch_alone.Goals as goal
+use Rattle.rt_view.specs.inside.Windows.{shown_in}
 
 pub returns-clause-kept : goal.returns-clause-kept
 returns-clause-kept c =
     let kept : IsWindowOf c.args.query.now c.put_child.new.tree c.bring_in.new.window =
     touched_window c.args.query.now c.args.known.now c.put_child.new.tree c.args.key.now c.args.child.now (option_copied c.child_at-old.result)
     c.args.window.now c.take_out.new.window c.bring_in.new.window c.requires.kept c.child_at-old.ensures.child
-    c.in_ok-take_out.ensures.limit c.in_ok-take_out.ensures.taken c.in_ok-bring_in.ensures.limit c.in_ok-bring_in.ensures.put c.in_ok-put_child.ensures in
+    (record { limit = c.in_ok-take_out.ensures.limit; range = c.in_ok-take_out.ensures.range; known = c.in_ok-take_out.ensures.known; cut = c.in_ok-take_out.ensures.taken })
+    (record { limit = c.in_ok-bring_in.ensures.limit; range = c.in_ok-bring_in.ensures.range; known = c.in_ok-bring_in.ensures.known; cut = c.in_ok-bring_in.ensures.put })
+    c.in_ok-put_child.ensures in
     IfOk-weaker c.with_value.result _ _ (λ list told. kept) c.with_value.ensures
 
 pub returns-clause-changes : goal.returns-clause-changes
@@ -28,11 +31,13 @@ returns-clause-changes c =
     let kept : IsWindowOf q u w =
     touched_window q t u c.args.key.now c.args.child.now (option_copied c.child_at-old.result)
     c.args.window.now c.take_out.new.window w c.requires.kept c.child_at-old.ensures.child
-    c.in_ok-take_out.ensures.limit c.in_ok-take_out.ensures.taken c.in_ok-bring_in.ensures.limit c.in_ok-bring_in.ensures.put c.in_ok-put_child.ensures in
+    (record { limit = c.in_ok-take_out.ensures.limit; range = c.in_ok-take_out.ensures.range; known = c.in_ok-take_out.ensures.known; cut = c.in_ok-take_out.ensures.taken })
+    (record { limit = c.in_ok-bring_in.ensures.limit; range = c.in_ok-bring_in.ensures.range; known = c.in_ok-bring_in.ensures.known; cut = c.in_ok-bring_in.ensures.put })
+    c.in_ok-put_child.ensures in
     let notes = alone_notes q t u w c.args.key.now c.args.child.now c.requires.plain kept c.in_ok-put_child.ensures in
     let now = alone_now q t u w c.args.key.now c.args.child.now c.requires.plain kept c.in_ok-put_child.ensures in
     let rows : c.in_ok-rows.rows.items ≡ changes_to q.index t w =
-    c.in_ok-rows.ensures ∙ ap (λ index. told_alone index c.args.key.now (option_copied c.child_at-old.result) (non_null c.args.child.now) w.shown.entries) c.index.ensures
+    c.in_ok-rows.ensures ∙ ap (λ index. told_alone index c.args.key.now (option_copied c.child_at-old.result) (non_null c.args.child.now) (shown_in w)) c.index.ensures
     ∙ alone_all q t w c.args.key.now (option_copied c.child_at-old.result) (non_null c.args.child.now) (listed-window q u w kept) notes (sym c.child_at-old.ensures.child) now in
     let leaf : leaf_of t ≡ option_copied c.as_ref.result = search rules in
     IfOk-weaker c.with_value.result _ _

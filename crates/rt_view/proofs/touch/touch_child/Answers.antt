@@ -4,10 +4,10 @@ use Rattle.std.proofs.lemmas.Result.{IfOk-weaker}
 use Rattle.rt_tree.specs.PathTree.{PathTree, child_of}
 use Rattle.rt_tree.specs.Children.{children_of}
 use Rattle.rt_view.specs.inside.Telling.{KeepsSeen, seen_turned}
-use Rattle.rt_view.specs.inside.Windows.{value_at}
+use Rattle.rt_view.specs.inside.Windows.{value_at, shown_in}
 use Rattle.rt_view.proofs.CrossLaws.{listed_left, shown_known}
 use Rattle.rt_view.proofs.SeenLaws.{keeps_turned}
-use Rattle.rt_view.proofs.TouchLaws.{touched_window}
+use Rattle.rt_view.proofs.BesideLaws.{touched_window}
 use Rattle.rt_view.proofs.touch.touch_child.Goals as goal
 
 pub returns-clause-kept : goal.returns-clause-kept
@@ -16,7 +16,9 @@ returns-clause-kept c =
     IfOk-weaker c.keep_turned.result _ _
     (λ x told. touched_window c.args.query.now c.args.known.now c.put_child.new.tree c.args.key.now c.args.child.now (option_copied c.as_ref.result)
     c.args.window.now c.take_out.new.window c.bring_in.new.window c.requires.kept old
-    c.in_ok-left.ensures.limit c.in_ok-left.ensures.taken c.in_ok-came.ensures.limit c.in_ok-came.ensures.put c.in_ok-put_child.ensures)
+    (record { limit = c.in_ok-left.ensures.limit; range = c.in_ok-left.ensures.range; known = c.in_ok-left.ensures.known; cut = c.in_ok-left.ensures.taken })
+    (record { limit = c.in_ok-came.ensures.limit; range = c.in_ok-came.ensures.range; known = c.in_ok-came.ensures.known; cut = c.in_ok-came.ensures.put })
+    c.in_ok-put_child.ensures)
     c.keep_turned.ensures
 
 pub returns-clause-seen : goal.returns-clause-seen
@@ -34,7 +36,7 @@ returns-clause-seen c =
     let same : option_copied c.as_ref-2.result ≡ option_copied c.as_ref.result = search rules in
     let kept = ap (λ (o : Option PathTree). seen_turned k o c.args.child.now c.in_ok-left.left c.in_ok-came.came c.args.seen.now.entries) same in
     IfOk-weaker c.keep_turned.result _ _
-    (λ x told f h. subst (KeepsSeen f (value_at after.shown.entries)) (sym (told ∙ kept))
-    (keeps_turned f q k (option_copied c.as_ref.result) c.args.child.now c.in_ok-left.left c.in_ok-came.came before.shown.entries mid.shown.entries after.shown.entries
+    (λ x told f h. subst (KeepsSeen f (value_at (shown_in after))) (sym (told ∙ kept))
+    (keeps_turned f q k (option_copied c.as_ref.result) c.args.child.now c.in_ok-left.left c.in_ok-came.came (shown_in before) (shown_in mid) (shown_in after)
     leaves comes (λ v g. old ∙ (shown_known q t before k v c.requires.kept g).0) c.args.seen.now.entries h))
     c.keep_turned.ensures

@@ -3,7 +3,7 @@ use Rattle.rt_tree.specs.PathTree.{Key, child_of}
 use Rattle.rt_tree.specs.Children.{children_of}
 use Rattle.rt_query.specs.Select.{select}
 use Rattle.rt_view.specs.Changes.{changes}
-use Rattle.rt_view.specs.inside.Windows.{Entries, value_at}
+use Rattle.rt_view.specs.inside.Windows.{Entries, value_at, shown_in}
 use Rattle.rt_view.specs.inside.Kept.{rows_in_tree, shown_by}
 use Rattle.rt_view.specs.inside.Telling.{AreSeen}
 use Rattle.rt_view.proofs.Listed.{value_at-children}
@@ -19,11 +19,11 @@ tell_filtered-requires-clause-seen c =
     let q = c.args.query.now in
     let t = c.args.tree.now in
     let w = c.touch_all.new.window in
-    let same : rows_in_tree q.index t ≡ c.args.window.now.shown.entries =
+    let same : rows_in_tree q.index t ≡ shown_in c.args.window.now =
     ap (rows_in_tree q.index) c.requires.tree ∙ rows_in_tree-shown q c.args.known.now c.args.window.now c.requires.kept in
-    let of_tree : (k : Key) → value_at c.args.window.now.shown.entries k ≡ child_of (children_of t) k =
+    let of_tree : (k : Key) → value_at (shown_in c.args.window.now) k ≡ child_of (children_of t) k =
     λ k. ap (λ (es : Entries). value_at es k) (sym same) ∙ value_at-children q.index t k in
-    subst (AreSeen q.index t w) (sym c.as_slice.ensures.value) (are_seen q.index t w c.args.window.now.shown.entries _ c.in_ok-seen.ensures.seen of_tree)
+    subst (AreSeen q.index t w) (sym c.as_slice.ensures.value) (are_seen q.index t w (shown_in c.args.window.now) _ c.in_ok-seen.ensures.seen of_tree)
 
 pub returns-clause-changes : goal.returns-clause-changes
 returns-clause-changes c =

@@ -1,0 +1,179 @@
+-- All children that are known, and those beside the range.
+use Rattle.std.specs.Prelude.{T, IfNone, IfSome}
+use Rattle.std.proofs.Common.{◌≡◌, true, false, cond, not, [], ◌∷◌, ◌++◌, refl, sym, ap, subst, ◌∙◌, ◌||◌, List, Option, Some, None, is_some}
+use Rattle.std.specs.List.{All, AllByRecursion, filter}
+use Rattle.std.proofs.lemmas.List.Elements.{All-cons, All-nil}
+use Rattle.std.specs.FinMap as map_of
+use Rattle.std.specs.FinMap.Entries.{is_sorted}
+use Rattle.std.specs.Map.{lookup, remove_entry}
+use Rattle.std.specs.BTreeMap.{is_at}
+use Rattle.std.specs.Ordering.{eq_by_cmp}
+use Rattle.rt_tree.specs.PathTree.{Key, PathTree, child_of, put}
+use Rattle.rt_tree.specs.Children.{children_of}
+use Rattle.rt_order.specs.declared.cut.Cut.{Cut}
+use Rattle.rt_order.specs.declared.cut.Range.{Range}
+use Rattle.rt_order.specs.declared.index.Index.{Index}
+use Rattle.rt_order.specs.Cuts.{has}
+use Rattle.rt_order.specs.Entries.{Entry, entry, entry_cmp}
+use Rattle.rt_query.specs.declared.limit.Limit.{Limit}
+use Rattle.rt_query.specs.declared.limit.Limit.TheVariants.{First, Last}
+use Rattle.rt_query.specs.Queries.{Query, is_filtered}
+use Rattle.rt_query.specs.Select.{sorted_by}
+use Rattle.rt_view.specs.declared.told.Seen.{Seen}
+use Rattle.rt_view.specs.declared.window.Window.{Window}
+use Rattle.rt_view.specs.inside.Kept.{IsWindowOf, brought_in, in_order, taken_out, wholly}
+use Rattle.rt_view.specs.inside.Ranged.{HasEach, Spread, all_known, inner, inside}
+use Rattle.rt_view.specs.inside.Telling.{IsSeen, IsSeenIn, left_by, takes_place}
+use Rattle.rt_view.specs.inside.Windows.{Entries, IsWindow, all_of, is_there, joined, known_in, put_inside, rest_from, rest_in, shown_from, shown_in, without}
+use Rattle.rt_view.proofs.CrossLaws.{shown_known}
+use Rattle.rt_view.proofs.Listed.{listed-in_order}
+use Rattle.rt_view.proofs.TouchLaws.{left_same, touched_order}
+use Rattle.rt_view.proofs.WindowLaws.{remove_entry-without, same_entry}
+
+-- ---- what lies in the range
+
+abbrev pub Inside : Range → Entries → Type 0
+Inside r es = AllByRecursion (λ x. has r x.0 ≡ true) es
+
+pub is_inside : (r : Range) (es : Entries) → Inside r (inside r es)
+is_inside r [] = tt
+is_inside r (x ∷ es) =
+    elim (has r x.0) as (λ b. has r x.0 ≡ b → Inside r (cond b (x ∷ inside r es) (inside r es))) [
+      | true ↦ λ h. (h, is_inside r es)
+      | false ↦ λ h. is_inside r es
+    ] refl
+
+inside_both : (r : Range) (es ds : Entries) → Inside r es → Inside r ds → Inside r (es ++ ds)
+inside_both r [] ds h g = g
+inside_both r (x ∷ es) ds h g = (h.0, inside_both r es ds h.1 g)
+
+-- what a window has in its range
+pub all_inside : (w : Window) → Inside w.children.range (all_of w)
+all_inside w = at w.limit
+  where
+    at : (l : Option Limit) → Inside w.children.range (joined l (shown_from l (inner w.children)) (rest_from l (inner w.children)))
+    at None = inside_both w.children.range _ _ (is_inside w.children.range w.children.halves.0) (is_inside w.children.range w.children.halves.1)
+    at (Some (First n)) = inside_both w.children.range _ _ (is_inside w.children.range w.children.halves.0) (is_inside w.children.range w.children.halves.1)
+    at (Some (Last n)) = inside_both w.children.range _ _ (is_inside w.children.range w.children.halves.0) (is_inside w.children.range w.children.halves.1)
+
+module _ (r : Range) (e : Entry) (beside : has r e ≡ false) where
+  other_entry : (x : Entry) → has r x ≡ true → eq_by_cmp entry_cmp e x ≡ false
+  other_entry x h = elim (eq_by_cmp entry_cmp e x) as (λ b. eq_by_cmp entry_cmp e x ≡ b → b ≡ false) [
+    | true ↦ λ t. let same : e ≡ x = same_entry e x t in cc (beside, h, ap (has r) same)
+    | false ↦ λ t. refl
+  ] refl
+
+  pub without-beside : (es : Entries) → Inside r es → without e es ≡ es
+  without-beside [] h = refl
+  without-beside (x ∷ es) h =
+      ap (λ b. cond (not b) (x ∷ without e es) (without e es)) (other_entry x.0 h.0) ∙ ap (λ (xs : Entries). x ∷ xs) (without-beside es h.1)
+
+  pub there-beside : (es : Entries) → Inside r es → is_there e es ≡ false
+  there-beside [] h = refl
+  there-beside (x ∷ es) h = ap (λ b. is_some (cond b (Some x.1) (lookup (is_at (entry_cmp e)) es))) (other_entry x.0 h.0) ∙ there-beside es h.1
+
+-- what a window shows
+pub there_beside : (w : Window) (e : Entry) → has w.children.range e ≡ false → is_there e (shown_in w) ≡ false
+there_beside w e beside = at w.limit
+  where
+    at : (l : Option Limit) → is_there e (shown_from l (inner w.children)) ≡ false
+    at None = there-beside w.children.range e beside _ (is_inside w.children.range w.children.halves.0)
+    at (Some (First n)) = there-beside w.children.range e beside _ (is_inside w.children.range w.children.halves.0)
+    at (Some (Last n)) = there-beside w.children.range e beside _ (is_inside w.children.range w.children.halves.1)
+
+pub inside_is : (r : Range) (e : Entry) (v : PathTree) (es : Entries) → has r e ≡ true → map_of.put entry_cmp e v es ≡ put_inside r e v es
+inside_is r e v es h = sym (ap (λ b. cond b (map_of.put entry_cmp e v es) es) h)
+
+-- taken out by its key, where another one doesn't take its place
+pub left_taken : (q : Query) (k : Key) (o : Option PathTree) (t new : PathTree) (w : Window) → w.children.range ≡ q.range → o ≡ Some t → takes_place q.index t new ≡ false
+    → without (entry q.index (k, t)) (all_of w) ≡ left_by q k o new (all_of w)
+left_taken q k o t new w range is takes =
+    let e : Entry = entry q.index (k, t) in
+    elim (has q.range e) as (λ b. has q.range e ≡ b → without e (all_of w) ≡ cond b (without e (all_of w)) (all_of w)) [
+      | true ↦ λ h. refl
+      | false ↦ λ h. without-beside q.range e h (all_of w) (subst (λ r. Inside r (all_of w)) range (all_inside w))
+    ] refl
+    ∙ sym (ap (λ b. cond b (all_of w) (taken_out q k (Some t) (all_of w))) takes)
+    ∙ sym (ap (λ x. left_by q k x new (all_of w)) is)
+
+-- all that are known, once one was taken out
+pub known_without : (e : Entry) (old new : Spread) → T (is_sorted entry_cmp (all_known old)) → all_known new ≡ remove_entry (is_at (entry_cmp e)) (all_known old) → all_known new ≡ without e (all_known old)
+known_without e old new up taken = taken ∙ remove_entry-without e (all_known old) up
+
+-- ---- what is shown lies in the range
+
+pub seen_in_range : (q : Query) (known t : PathTree) (w : Window) → IsWindowOf q known w → (s : Seen) → IsSeen t (shown_in w) s → IsSeenIn w.children.range q.index s
+seen_in_range q known t w kept s seen = at s.new refl
+  where
+    at : (o : Option PathTree) → s.new ≡ o → IfSome o (λ x. has w.children.range (entry q.index (s.key, x)) ≡ true)
+    at None g = tt
+    at (Some x) g = ap (λ r. has r (entry q.index (s.key, x))) kept.range ∙ (shown_known q known w s.key x kept (sym seen.1 ∙ g)).1
+
+-- a query that isn't filtered has each entry in its range
+pub has_each : (q : Query) (r : Range) → is_filtered q ≡ false → r ≡ q.range → HasEach r
+has_each q r plain is e = ap (λ (x : Range). has x e) is ∙ at q.range.lower q.range.upper plain
+  where
+    at : (a b : Option Cut) → (is_some a || is_some b || is_some q.limit) ≡ false → has (record { lower = a; upper = b }) e ≡ true
+    at None None h = refl
+    at None (Some b) h = cc
+    at (Some a) b h = cc
+
+pub all_seen_in : (r : Range) (index : Index) → HasEach r → (seen : List Seen) → All (IsSeenIn r index) seen
+all_seen_in r index each [] = All-nil (IsSeenIn r index)
+all_seen_in r index each (s ∷ seen) = All-cons (IsSeenIn r index) s seen (at s.new) (all_seen_in r index each seen)
+  where
+    at : (o : Option PathTree) → IfSome o (λ x. has r (entry index (s.key, x)) ≡ true)
+    at None = tt
+    at (Some x) = each (entry index (s.key, x))
+
+-- ---- an answer that is known
+
+pub some_of : {X : Type 0} (P : X → Type 0) (o : Option X) (x : X) → o ≡ Some x → IfSome o P → P x
+some_of P o x is h = subst (λ q. IfSome q P) is h
+
+pub none_of : {X : Type 0} (P : Type 0) (o : Option X) → o ≡ None → IfNone o P → P
+none_of P o is h = subst (λ q. IfNone q P) is h
+
+-- ---- all children in order
+
+pub in_whole : (q : Query) (es : Entries) → filter (λ e. has (wholly q).range e.0) es ≡ es
+in_whole q [] = refl
+in_whole q (e ∷ es) = ap (λ (xs : Entries). e ∷ xs) (in_whole q es)
+
+-- once a child was taken out and another one brought in, the known children are those of the tree
+pub touched_known : (q : Query) (t u : PathTree) (k : Key) (v : PathTree) (o : Option PathTree) (a b c : Entries) → a ≡ sorted_by q.index (children_of t) → o ≡ child_of (children_of t) k
+    → b ≡ left_by (wholly q) k o v a → c ≡ brought_in (wholly q) k v b → u ≡ put t (k ∷ []) v → c ≡ sorted_by q.index (children_of u)
+touched_known q t u k v o a b c h is left brought e =
+    let all : a ≡ in_order (wholly q) (children_of t) = h ∙ sym (in_whole q (sorted_by q.index (children_of t))) in
+    brought ∙ ap (brought_in (wholly q) k v) (left ∙ (λ i. left_by (wholly q) k (is i) v (all i)))
+    ∙ left_same (wholly q) k (child_of (children_of t) k) v (in_order (wholly q) (children_of t)) (listed-in_order (wholly q) t).rises
+    ∙ touched_order (wholly q) t k v ∙ ap (λ (x : PathTree). in_order (wholly q) (children_of x)) (sym e) ∙ in_whole q (sorted_by q.index (children_of u))
+
+-- ---- the window after a child was taken out and another one brought in
+
+pub record TakenOut (q : Query) (k : Key) (o : Option PathTree) (v : PathTree) (a b : Window) : Type 0 where
+  pub limit : b.limit ≡ a.limit
+  pub range : b.children.range ≡ a.children.range
+  pub known : known_in b ≡ left_by (wholly q) k o v (known_in a)
+  pub cut : IsWindow a.limit (shown_in b) (rest_in b) (left_by q k o v (joined a.limit (shown_in a) (rest_in a)))
+
+pub record BroughtIn (q : Query) (k : Key) (v : PathTree) (b c : Window) : Type 0 where
+  pub limit : c.limit ≡ b.limit
+  pub range : c.children.range ≡ b.children.range
+  pub known : known_in c ≡ brought_in (wholly q) k v (known_in b)
+  pub cut : IsWindow b.limit (shown_in c) (rest_in c) (brought_in q k v (joined b.limit (shown_in b) (rest_in b)))
+
+pub touched_window : (q : Query) (t u : PathTree) (k : Key) (v : PathTree) (o : Option PathTree) (a b c : Window) → IsWindowOf q t a → o ≡ child_of (children_of t) k
+    → TakenOut q k o v a b → BroughtIn q k v b c → u ≡ put t (k ∷ []) v → IsWindowOf q u c
+touched_window q t u k v o a b c h is left brought e =
+    let whole_a : joined a.limit (shown_in a) (rest_in a) ≡ in_order q (children_of t) = ap (λ l. joined l (shown_in a) (rest_in a)) h.limit ∙ h.cut.whole in
+    let whole_b : joined b.limit (shown_in b) (rest_in b) ≡ left_by q k (child_of (children_of t) k) v (in_order q (children_of t)) =
+    ap (λ l. joined l (shown_in b) (rest_in b)) left.limit ∙ left.cut.whole ∙ (λ i. left_by q k (is i) v (whole_a i)) in
+    let all : brought_in q k v (joined b.limit (shown_in b) (rest_in b)) ≡ in_order q (children_of u) =
+    ap (brought_in q k v) whole_b ∙ left_same q k (child_of (children_of t) k) v (in_order q (children_of t)) h.cut.rises ∙ touched_order q t k v ∙ ap (λ (x : PathTree). in_order q (children_of x)) (sym e) in
+    record {
+      limit = brought.limit ∙ left.limit ∙ h.limit;
+      range = brought.range ∙ left.range ∙ h.range;
+      all = touched_known q t u k v o (known_in a) (known_in b) (known_in c) h.all is left.known brought.known e;
+      cut = subst (λ l. IsWindow l (shown_in c) (rest_in c) (in_order q (children_of u))) (left.limit ∙ h.limit) (subst (λ es. IsWindow b.limit (shown_in c) (rest_in c) es) all brought.cut);
+    }
