@@ -22,7 +22,6 @@ use rt_order::Range;
 use rt_query::Row;
 use rt_tree::{Key, Tree};
 use std::alloc::{AllocError, Global};
-use std::collections::BTreeMap;
 use std::marker::Model;
 
 // What stands at an entry: the child's key and tree, and whether the entry lies above the lower cut.
@@ -146,12 +145,12 @@ fn rows_of(
 fn list_children(
     alloc: Global,
     from: &Range,
-    mut children: BTreeMap<Position, Tree>,
+    children: Vec<(Position, Tree)>,
 ) -> Result<Vec<(Position, Child)>, AllocError>
-    ensures { IfOk result (λ list. list.items ≡ marked from.now children.entries) }
+    ensures { IfOk result (λ list. list.items ≡ marked from.now children.items) }
 {
     let mut list = Vec::with_capacity(alloc, children.len())?;
-    while let Some((position, value)) = children.pop_first() {
+    for (position, value) in children {
         let key = position.key().copy()?;
         let above = position.is_in(from);
         list.push((position, Child { key, value, above }))?;
@@ -165,13 +164,13 @@ impl Known {
     pub fn of(
         alloc: Global,
         from: Range,
-        children: BTreeMap<Position, Tree>,
+        children: Vec<(Position, Tree)>,
         front: usize,
     ) -> Result<Known, AllocError>
-        requires { T (is_sorted entry_cmp children.entries) }
+        requires { T (is_sorted entry_cmp children.items) }
         ensures from { IfOk result (λ known. known.from ≡ from) }
         ensures halves { IfOk result (λ known. known.halves
-            ≡ (take front children.entries, drop front children.entries)) }
+            ≡ (take front children.items, drop front children.items)) }
     {
         let children = list_children(alloc, &from, children)?;
         let chain = Chain::from_sorted(alloc, children, front)?;

@@ -13,7 +13,6 @@ use rt_order::Index;
 use rt_query::Query;
 use rt_tree::{Key, Leaf, MAX_KEYS, Path, Tree, TreeError};
 use std::alloc::{AllocError, Global};
-use std::collections::BTreeMap;
 
 // All children, by their entries.
 fn entries_of(
@@ -33,18 +32,14 @@ fn entries_of(
 }
 
 // The children of a tree, in order.
-fn in_order(
-    alloc: Global,
-    index: &Index,
-    known: &Tree,
-) -> Result<BTreeMap<Position, Tree>, AllocError>
-    ensures { IfOk result (λ found. found.entries ≡ sorted_by index.now (children_of known.now)) }
+fn in_order(alloc: Global, index: &Index, known: &Tree) -> Result<Vec<(Position, Tree)>, AllocError>
+    ensures { IfOk result (λ found. found.items ≡ sorted_by index.now (children_of known.now)) }
 {
     let Some(children) = known.children() else {
-        return Ok(BTreeMap::new(alloc));
+        return Ok(Vec::new(alloc));
     };
     let found = entries_of(alloc, index, children)?;
-    ordered(alloc, found)
+    Ok(ordered(found))
 }
 
 // The window of a tree.

@@ -21,7 +21,6 @@ use rt_order::Range;
 use rt_query::{Limit, Row};
 use rt_tree::{Key, Tree};
 use std::alloc::{AllocError, Global};
-use std::collections::BTreeMap;
 use std::marker::Model;
 
 // All children that are known, linked in the order of their entries: those below a range, those in it,
@@ -56,9 +55,9 @@ impl Model for Ranged {
 }
 
 // How many of these children lie below one range, and how many of the others above another one.
-fn beside(children: &BTreeMap<Position, Tree>, from: &Range, to: &Range) -> (usize, usize)
-    ensures low { result.0 ≡ length (outside from.now children.now.entries) }
-    ensures high { result.1 ≡ length (outside to.now (inside from.now children.now.entries)) }
+fn beside(children: &[(Position, Tree)], from: &Range, to: &Range) -> (usize, usize)
+    ensures low { result.0 ≡ length (outside from.now children.now) }
+    ensures high { result.1 ≡ length (outside to.now (inside from.now children.now)) }
 {
     let mut low = 0;
     let mut high = 0;
@@ -90,13 +89,13 @@ impl Ranged {
         alloc: Global,
         range: &Range,
         limit: Option<Limit>,
-        children: BTreeMap<Position, Tree>,
+        children: Vec<(Position, Tree)>,
     ) -> Result<Ranged, AllocError>
-        requires { T (is_sorted entry_cmp children.entries) }
+        requires { T (is_sorted entry_cmp children.items) }
         ensures range { IfOk result (λ ranged. ranged.range ≡ range.now) }
-        ensures known { IfOk result (λ ranged. all_known ranged ≡ children.entries) }
+        ensures known { IfOk result (λ ranged. all_known ranged ≡ children.items) }
         ensures cut { IfOk result (λ ranged. IsWindow limit (shown_from limit (inner ranged))
-            (rest_from limit (inner ranged)) (inside range.now children.entries)) }
+            (rest_from limit (inner ranged)) (inside range.now children.items)) }
     {
         let range = range.copy(alloc)?;
         let from = Range {

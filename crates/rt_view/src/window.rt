@@ -104,15 +104,13 @@ pub fn set(
     Ok(())
 }
 
-// A map of these children. It is made in order, so its parts are full.
-pub fn ordered(
-    alloc: Global,
-    children: Vec<(Position, Tree)>,
-) -> Result<BTreeMap<Position, Tree>, AllocError>
+// These children in order. No memory is asked for.
+pub fn ordered(mut children: Vec<(Position, Tree)>) -> Vec<(Position, Tree)>
     requires { IsApart children.items }
-    ensures { IfOk result (λ map. IsOrdering children.items map.entries) }
+    ensures { IsOrdering children.items result.items }
 {
-    BTreeMap::from_iter(alloc, children)
+    children.sort_unstable_by(|one, other| one.0.cmp(&other.0));
+    children
 }
 
 // The half of the children that a limit shows.
@@ -142,14 +140,14 @@ impl Window {
         alloc: Global,
         range: &Range,
         limit: Option<Limit>,
-        children: BTreeMap<Position, Tree>,
+        children: Vec<(Position, Tree)>,
     ) -> Result<Window, AllocError>
-        requires { T (is_sorted entry_cmp children.entries) }
+        requires { T (is_sorted entry_cmp children.items) }
         ensures limit { IfOk result (λ window. window.limit ≡ limit) }
         ensures range { IfOk result (λ window. window.children.range ≡ range.now) }
-        ensures known { IfOk result (λ window. known_in window ≡ children.entries) }
+        ensures known { IfOk result (λ window. known_in window ≡ children.items) }
         ensures cut { IfOk result (λ window. IsWindow limit (shown_in window) (rest_in window)
-            (inside range.now children.entries)) }
+            (inside range.now children.items)) }
     {
         let children = Ranged::of(alloc, range, limit, children)?;
         Ok(Window { limit, children })

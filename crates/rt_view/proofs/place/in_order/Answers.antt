@@ -17,10 +17,10 @@ pub returns : goal.returns
 returns c =
     let index = c.args.index.now in
     let all : c.in-Some.children.now.entries ≡ children_of c.args.known.now = search rules in
-    IfOk-weaker c.ordered.result _ _ (λ m o. ordered_children index c.args.known.now m.entries (subst (λ (es : Entries). IsOrdering es m.entries) (c.in_ok-found.ensures ∙ ap (entries_of index) all) o)) c.ordered.ensures
+    ordered_children index c.args.known.now c.ordered.result.items (subst (λ (es : Entries). IsOrdering es c.ordered.result.items) (c.in_ok-found.ensures ∙ ap (entries_of index) all) c.ordered.ensures)
 
 pub returns-in_default : goal.returns-in_default
 returns-in_default c =
     let none : children_of c.args.known.now ≡ [] = search rules in
-    let made : c.new.result.entries ≡ [] = search rules in
+    let made : c.new.result.items ≡ [] = search rules in
     made ∙ sym (ap (sorted_by c.args.index.now) none)

@@ -1,9 +1,9 @@
-use Rattle.std.proofs.Common.{◌≡◌, ◌+◌, ◌^◌, ◌<◌, length}
+use Rattle.std.proofs.Common.{◌≡◌, ◌+◌, ◌^◌, ◌<◌, drop, length}
 use Rattle.rt_view.specs.inside.Ranged.{inside, outside}
 use Rattle.rt_view.proofs.ranged.beside.Given as goal
 
 abbrev pub invariant-loop-position : goal.invariant-loop-position
 invariant-loop-position l =
-    (l.low + length (outside l.from l.position-iterator) ≡ length (outside l.from l.children.entries))
-    × (l.high + length (outside l.to (inside l.from l.position-iterator)) ≡ length (outside l.to (inside l.from l.children.entries)))
-    × (length l.children.entries < 2 ^ 63)
+    (l.low + length (outside l.from (drop l.position-index l.children)) ≡ length (outside l.from l.children))
+    × (l.high + length (outside l.to (inside l.from (drop l.position-index l.children))) ≡ length (outside l.to (inside l.from l.children)))
+    × (length l.children < 2 ^ 63)

@@ -1,14 +1,11 @@
-use Rattle.std.proofs.Common.{◌∙◌, subst}
-use Rattle.std.specs.BTreeMap.{IsFromIterResult}
-use Rattle.std.proofs.IntoIterSteps.{All-taken}
-use Rattle.std.proofs.lemmas.Result.{IfOk-weaker}
+use Rattle.std.proofs.Common.{rules}
+use Rattle.std.specs.Ordering.{is_lt}
+use Rattle.std.proofs.lemmas.Fn.{always_returns_same}
 use Rattle.rt_order.specs.Entries.{entry_cmp}
-use Rattle.rt_view.specs.inside.Windows.{Entries}
-use Rattle.rt_view.proofs.Orderings.{ordering_of}
+use Rattle.rt_view.proofs.Orderings.{entry_ranks, ordering_sorted}
 use Rattle.rt_view.proofs.window.ordered.Goals as goal
 
 pub returns : goal.returns
 returns c =
-    IfOk-weaker c.from_iter.result _ _ (λ all h.
-    let made = subst (λ (xs : Entries). IsFromIterResult entry_cmp xs all) (All-taken h.0 h.1 ((h.3.2 tt).0, (h.3.0, h.3.1, (h.3.2 tt).1)) ∙ h.2.0) h.4 in
-    ordering_of c.args.children.items all.entries c.requires made.0 made.1) c.from_iter.ensures.ran
+    ordering_sorted c.args.children.items c.sort_unstable_by.new.self.items c.requires c.sort_unstable_by.ensures.permutation
+    (c.sort_unstable_by.ensures.sorted (λ a b. is_lt (entry_cmp a.0 b.0)) entry_ranks (always_returns_same _ _ _ (λ a r f' h. search rules)))

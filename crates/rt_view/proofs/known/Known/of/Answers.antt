@@ -9,14 +9,14 @@ use Rattle.rt_view.proofs.MadeLaws.{keys_rise, made_halves, made_marks}
 use Rattle.rt_view.proofs.known.Known.of.Goals as goal
 
 pub from_sorted-requires-clause-rises : goal.from_sorted-requires-clause-rises
-from_sorted-requires-clause-rises c = subst (λ (xs : List (Entry × Child)). IsStrictlySortedBy entry_cmp (keys_of xs)) (sym c.in_ok-children.ensures) (keys_rise c.args.from c.args.children.entries c.requires)
+from_sorted-requires-clause-rises c = subst (λ (xs : List (Entry × Child)). IsStrictlySortedBy entry_cmp (keys_of xs)) (sym c.in_ok-children.ensures) (keys_rise c.args.from c.args.children.items c.requires)
 
 pub from_sorted-requires-clause-same : goal.from_sorted-requires-clause-same
 from_sorted-requires-clause-same c = entry_cmp-IsAntisymmetric
 
 pub invariant_of-result : goal.invariant_of-result
-invariant_of-result c = made_marks c.args.from (all_in c.in_ok-chain.chain) c.args.children.entries (c.in_ok-chain.ensures.whole ∙ c.in_ok-children.ensures)
+invariant_of-result c = made_marks c.args.from (all_in c.in_ok-chain.chain) c.args.children.items (c.in_ok-chain.ensures.whole ∙ c.in_ok-children.ensures)
 
 pub returns-clause-halves : goal.returns-clause-halves
 returns-clause-halves c =
-    made_halves c.args.from c.args.front c.in_ok-chain.chain c.args.children.entries (c.in_ok-chain.ensures.front ∙ ap (take c.args.front) c.in_ok-children.ensures) (c.in_ok-chain.ensures.behind ∙ ap (drop c.args.front) c.in_ok-children.ensures)
+    made_halves c.args.from c.args.front c.in_ok-chain.chain c.args.children.items (c.in_ok-chain.ensures.front ∙ ap (take c.args.front) c.in_ok-children.ensures) (c.in_ok-chain.ensures.behind ∙ ap (drop c.args.front) c.in_ok-children.ensures)
