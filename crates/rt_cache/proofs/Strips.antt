@@ -1,6 +1,6 @@
 -- What follows a path, and parts that are not there.
 use Rattle.std.proofs.Common.{◌≡◌, ◌≤◌, true, false, cond, [], ◌∷◌, ◌++◌, length, drop, refl, sym, ap, ◌∙◌, arith, Option, Some, None, is_some}
-use Rattle.rt_tree.specs.PathTree.{Path, PathTree, strip, strip-some, length-strip, null, is_null, null_of_is_null, non_null}
+use Rattle.rt_tree.specs.PathTree.{Key, Path, PathTree, strip, strip-some, length-strip, null, is_null, null_of_is_null, non_null, leaf_at-null, leaf_at-sub, same_tree, sub, child}
 
 pub some_of : {X : Type 0} (o : Option X) → is_some o ≡ true → (x : X) × (o ≡ Some x)
 some_of None e = cc
@@ -26,3 +26,17 @@ non_null-none t e =
       | true ↦ λ n x. sym (null_of_is_null t n)
       | false ↦ λ n x. cc
     ] refl e
+
+-- a part that is there is the tree's
+pub non_null-some : (t u : PathTree) → Some u ≡ non_null t → u ≡ t
+non_null-some t u e =
+    elim (is_null t) as (λ b. Some u ≡ cond b None (Some t) → u ≡ t) [
+      | true ↦ λ x. cc
+      | false ↦ λ x. cc
+    ] e
+
+-- nothing has no children
+pub no_child : (t : PathTree) (k : Key) → null ≡ t → null ≡ child t k
+no_child t k e =
+    same_tree null (child null k) (λ q. leaf_at-null q ∙ sym (leaf_at-null (k ∷ q)) ∙ sym (leaf_at-sub null (k ∷ []) q))
+    ∙ ap (λ x. child x k) e

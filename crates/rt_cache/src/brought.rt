@@ -19,6 +19,7 @@ use crate::base::Base;
 use crate::by_path::{has_another_at, has_supplier};
 use crate::region::BoxedRegion;
 use crate::registered::Forms;
+use crate::trees::child_of;
 use crate::window::BoxedWindow;
 use crate::{recover, regions, windows};
 use rt_query::Query;
@@ -31,10 +32,9 @@ use std::marker::Model;
 ///
 /// Regions stand in the order of their paths, and none is at or above another, so that the one at
 /// or above a path is found by halving. Windows stand in the order of their queries' paths, so that
-/// those of a path are found by halving too. Each tree is a store of its own, so that a tree that a call
-/// doesn't touch is neither copied nor walked, and has an equal tree beside it, of which all parts
-/// that are handed out are shared copies. Each form, region and window stands in memory of its own, so that
-/// a list moves a pointer to it and no more.
+/// those of a path are found by halving too. A tree that a call doesn't touch is neither copied nor
+/// walked, and all parts that are handed out are shared copies. Each form, region and window stands in
+/// memory of its own, so that a list moves a pointer to it and no more.
 pub struct Brought {
     registered: Forms,
     regions: Vec<BoxedRegion>,
@@ -209,8 +209,7 @@ impl Brought {
     /// Finds it as [`Brought::knows`] does, and where several windows supply it by going over the filtered
     /// forms of its path, and then costs by the path: the tree shares its parts with
     /// what is brought, and with what else was handed out of it. It is no deeper than a tree at the
-    /// query's path may be. After a push that lacked memory the tree is made anew, each time, until
-    /// one at the path of the region or of the window replaces it.
+    /// query's path may be.
     ///
     /// An `Err` is want of memory. Where nothing is brought it takes none.
     pub fn base(&self, query: &Query) -> Result<Option<Base>, AllocError>
@@ -230,7 +229,7 @@ impl Brought {
             return Ok(None);
         };
         let window = self.windows[place].window();
-        let tree = window.children.get(alloc, &Path::root(alloc))?;
+        let tree = window.children.copy(alloc)?;
         Ok(Some(Base {
             tree,
             whole: window.is_whole,
@@ -238,8 +237,8 @@ impl Brought {
     }
 
     /// [`Brought::base`] with one child of the tree in its place, null where there is none. It costs
-    /// by the path, and where the tree has to be made anew by that child too. It is no deeper than a
-    /// tree at the child's path may be. Where nothing is brought for the query it takes no memory.
+    /// by the path. It is no deeper than a tree at the child's path may be. Where nothing is brought for
+    /// the query it takes no memory.
     pub fn base_child(&self, query: &Query, key: &Key) -> Result<Option<Base>, AllocError>
         ensures found { IfOk result (λ found. found ≡ base_child self.now query.now key.now) }
         ensures shallow { IfOk result (λ found. IfSome found (λ base.
@@ -257,7 +256,7 @@ impl Brought {
             return Ok(None);
         };
         let window = self.windows[place].window();
-        let tree = window.children.child(alloc, &Path::root(alloc), key)?;
+        let tree = child_of(alloc, &window.children, key)?;
         Ok(Some(Base {
             tree,
             whole: window.is_whole,

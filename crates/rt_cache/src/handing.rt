@@ -32,7 +32,7 @@ use crate::region::BoxedRegion;
 use crate::regions::{part_at, place_above};
 use crate::registered::{BoxedForm, Forms};
 use crate::spans::{Span, is_within};
-use crate::stored_tree::StoredTree;
+use crate::trees::children_alone;
 use crate::window::{BoxedWindow, Window};
 use crate::windows::{place_of_source, place_of_window};
 use rt_query::Query;
@@ -220,7 +220,7 @@ fn window_of(
         let part = part_at(alloc, &regions[place], query.path())?;
         let own = Window {
             query: query.copy()?,
-            children: StoredTree::of_children(alloc, &part)?,
+            children: children_alone(alloc, &part)?,
             is_whole: true,
         };
         return Ok(Some(BoxedWindow::new(alloc, own)?));
@@ -229,10 +229,9 @@ fn window_of(
         return Ok(None);
     };
     let window = windows[place].window();
-    let tree = window.children.get(alloc, &Path::root(alloc))?;
     let own = Window {
         query: query.copy()?,
-        children: StoredTree::of_children(alloc, &tree)?,
+        children: children_alone(alloc, &window.children)?,
         is_whole: window.is_whole,
     };
     Ok(Some(BoxedWindow::new(alloc, own)?))

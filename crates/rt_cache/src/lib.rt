@@ -22,7 +22,7 @@ mod regions;
 mod registered;
 mod run;
 mod spans;
-mod stored_tree;
+mod trees;
 mod window;
 mod windows;
 

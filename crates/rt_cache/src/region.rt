@@ -2,15 +2,15 @@
 ghost use Rattle.std.specs.Prelude.{◌≡◌, IfOk, OnOk, OnErr};
 ghost use Rattle.rt_tree.specs.PathTree.{put};
 
-use crate::stored_tree::StoredTree;
-use rt_tree::{Path, Tree};
+use crate::trees::put_at;
+use rt_tree::{Key, Path, Tree};
 use std::alloc::{AllocError, Global};
 use std::marker::Model;
 
 // A tree at a path.
 pub(crate) struct Region {
     pub(crate) path: Path,
-    pub(crate) tree: StoredTree,
+    pub(crate) tree: Tree,
 }
 
 impl Drop for Region {
@@ -62,14 +62,14 @@ impl BoxedRegion {
         &self.region.path
     }
 
-    // The tree put into its own, at a path from its own on.
-    pub(crate) fn set(&mut self, alloc: Global, path: &Path, tree: &Tree) -> Result<(), AllocError>
+    // The tree put into its own, below these keys.
+    pub(crate) fn set(&mut self, alloc: Global, keys: &[Key], tree: &Tree) -> Result<(), AllocError>
         ensures ok { OnOk result (self.new ≡ record {
           path = self.old.path;
-          tree = put self.old.tree path.now tree.now;
+          tree = put self.old.tree keys.now tree.now;
         }) }
         ensures err { OnErr result (self.new ≡ self.old) }
     {
-        self.region.tree.set(alloc, path, tree)
+        put_at(alloc, &mut self.region.tree, keys, tree)
     }
 }

@@ -17,7 +17,7 @@ ghost use Rattle.rt_cache.specs.declared.region.Region.{Region};
 use crate::paths::{meet, rest_of};
 use crate::region::{BoxedRegion, Region};
 use crate::spans::Span;
-use crate::stored_tree::StoredTree;
+use crate::trees::{child_of, part_of};
 use rt_tree::{Key, MAX_LEVELS, Path, Tree};
 use std::alloc::{AllocError, Global};
 
@@ -79,10 +79,8 @@ pub(crate) fn part_at(alloc: Global, region: &BoxedRegion, path: &Path) -> Resul
     ensures { IfOk result (λ part. Some part
         ≡ option_map (sub region.now.tree) (strip region.now.path path.now)) }
 {
-    match rest_of(alloc, region.path(), path)? {
-        Some(rest) => region.region().tree.get(alloc, &rest),
-        None => Ok(Tree::null()),
-    }
+    let keys = rest_of(region.path(), path);
+    part_of(alloc, &region.region().tree, keys)
 }
 
 // The child of that part.
@@ -97,8 +95,9 @@ pub(crate) fn child_at(
         ≡ option_map (λ rest. child (sub region.now.tree rest) key.now)
         (strip region.now.path path.now)) }
 {
-    match rest_of(alloc, region.path(), path)? {
-        Some(rest) => region.region().tree.child(alloc, &rest, key),
+    let keys = rest_of(region.path(), path);
+    match region.region().tree.at(keys) {
+        Some(part) => child_of(alloc, part, key),
         None => Ok(Tree::null()),
     }
 }
@@ -110,15 +109,14 @@ pub(crate) fn put_into(
     path: &Path,
     tree: &Tree,
 ) -> Result<(), AllocError>
+    requires under { is_at_or_above region.old.path path.now ≡ true }
     requires levels { length path.now + levels tree.now ≤ MAX_LEVELS }
     ensures ok { OnOk result (pair_of region.new
         ≡ region_put (path.now, tree.now) (pair_of region.old)) }
     ensures err { OnErr result (pair_of region.new ≡ pair_of region.old) }
 {
-    match rest_of(alloc, region.path(), path)? {
-        Some(rest) => region.set(alloc, &rest, tree),
-        None => Ok(()),
-    }
+    let keys = rest_of(region.path(), path);
+    region.set(alloc, keys, tree)
 }
 
 // The region in its place, for which there is room.
@@ -203,7 +201,7 @@ pub(crate) fn region_of(alloc: Global, path: &Path, tree: &Tree) -> Result<Boxed
 {
     let region = Region {
         path: path.copy()?,
-        tree: StoredTree::of(alloc, tree)?,
+        tree: tree.copy(alloc)?,
     };
     BoxedRegion::new(alloc, region)
 }

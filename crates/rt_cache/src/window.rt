@@ -3,16 +3,16 @@ ghost use Rattle.std.specs.Prelude.{◌≡◌, false, IfOk, OnOk, OnErr};
 ghost use Rattle.rt_tree.specs.PathTree.{put};
 
 use crate::by_path::HasQuery;
-use crate::stored_tree::StoredTree;
+use crate::trees::put_at;
 use rt_query::Query;
-use rt_tree::{Path, Tree};
+use rt_tree::{Key, Tree};
 use std::alloc::{AllocError, Global};
 use std::marker::Model;
 
 // The known children of a filtered query; whole where they are all that its path has.
 pub(crate) struct Window {
     pub(crate) query: Query,
-    pub(crate) children: StoredTree,
+    pub(crate) children: Tree,
     pub(crate) is_whole: bool,
 }
 
@@ -71,7 +71,7 @@ impl BoxedWindow {
     }
 
     // Other children, which need not be all that the path has.
-    pub(crate) fn refill(&mut self, children: StoredTree)
+    pub(crate) fn refill(&mut self, children: Tree)
         ensures { self.new
             ≡ record { query = self.old.query; children = children; is_whole = false } }
     {
@@ -79,15 +79,15 @@ impl BoxedWindow {
         self.window.is_whole = false;
     }
 
-    // The tree put into the children, at a path from theirs on.
-    pub(crate) fn set(&mut self, alloc: Global, path: &Path, tree: &Tree) -> Result<(), AllocError>
+    // The tree put into the children, below these keys.
+    pub(crate) fn set(&mut self, alloc: Global, keys: &[Key], tree: &Tree) -> Result<(), AllocError>
         ensures ok { OnOk result (self.new ≡ record {
           query = self.old.query;
-          children = put self.old.children path.now tree.now;
+          children = put self.old.children keys.now tree.now;
           is_whole = self.old.is_whole;
         }) }
         ensures err { OnErr result (self.new ≡ self.old) }
     {
-        self.window.children.set(alloc, path, tree)
+        put_at(alloc, &mut self.window.children, keys, tree)
     }
 }

@@ -25,7 +25,7 @@ use crate::by_path::{
 use crate::paths::rest_of;
 use crate::registered::{BoxedForm, Forms};
 use crate::spans::Span;
-use crate::stored_tree::StoredTree;
+use crate::trees::children_alone;
 use crate::window::{BoxedWindow, Window};
 use rt_query::Query;
 use rt_tree::{MAX_LEVELS, Path, Tree};
@@ -106,7 +106,7 @@ pub(crate) fn replace(
         (entries_of windows.old.items))) }
     ensures err { OnErr result (windows.new.items ≡ windows.old.items) }
 {
-    let children = StoredTree::of_children(alloc, tree)?;
+    let children = children_alone(alloc, tree)?;
     match place_of_window(windows, query) {
         Some(place) => {
             let window = &mut windows[place];
@@ -128,13 +128,14 @@ pub(crate) fn replace(
     Ok(())
 }
 
-// The tree put into a window, whose query's path is above the path.
+// The tree put into a window, whose query's path is at or above the path.
 fn put_into_window(
     alloc: Global,
     window: &mut BoxedWindow,
     path: &Path,
     tree: &Tree,
 ) -> Result<(), AllocError>
+    requires under { is_at_or_above window.old.query.path path.now ≡ true }
     requires levels { length path.now + levels tree.now ≤ MAX_LEVELS }
     ensures query { window.new.query ≡ window.old.query }
     ensures mark { window.new.is_whole ≡ window.old.is_whole }
@@ -143,10 +144,8 @@ fn put_into_window(
         (strip window.old.query.path path.now) window.old.children) }
     ensures err { OnErr result (window.new.children ≡ window.old.children) }
 {
-    match rest_of(alloc, window.query().path(), path)? {
-        Some(rest) => window.set(alloc, &rest, tree),
-        None => Ok(()),
-    }
+    let keys = rest_of(window.query().path(), path);
+    window.set(alloc, keys, tree)
 }
 
 // The windows that are not in the span.

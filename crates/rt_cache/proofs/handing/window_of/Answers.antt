@@ -2,7 +2,6 @@ use Rattle.std.proofs.Common.{rules, ◌≡◌, ◌∙◌, ◌<◌, ℕ, ap, sym
 use Rattle.std.specs.FinMap as map_of
 use Rattle.std.specs.Option.{option_map}
 use Rattle.rt_tree.specs.PathTree.{strip, sub, children_alone}
-use Rattle.rt_tree.specs.Parts.{sub_root}
 use Rattle.rt_tree.specs.Assignments.{is_at_or_above}
 use Rattle.rt_query.specs.QueryEq.{query_eq}
 use Rattle.rt_query.specs.laws.QueryEq.{query_eq_tells}
@@ -30,7 +29,7 @@ returns-in-Some c =
     part_is (c.args.query.now).path c.args.regions.now c.in-Some.place region c.requires.apart within above
     ∙ ap (λ (r : Region). option_map (sub r.tree) (strip r.path (c.args.query.now).path)) (sym at) ∙ sym part in
     let query : c.in_ok-copy.field-0 ≡ c.args.query.now = search rules in
-    let children : c.in_ok-of_children.field-0 ≡ children_alone c.in_ok-part.part = search rules in
+    let children : c.in_ok-children_alone.field-0 ≡ children_alone c.in_ok-part.part = search rules in
     (λ i. Some (entry_of (c.in_ok-new.ensures i)))
     ∙ (λ i. Some (query i, record { children = children i; is_whole = true }))
     ∙ ap (λ x. option_map (λ w. (c.args.query.now, w)) (window_left x)) (sym (part_found c.args.registered.now c.args.regions.now c.args.windows.now c.args.query.now (Some c.in_ok-part.part) seen refl))
@@ -49,12 +48,11 @@ returns c =
     let at : window ≡ get_or c.args.windows.now c.in-Some-place_of_source.place window = search rules in
     let source : source_among (entries_of c.args.windows.now) c.args.registered.now c.args.query.now ≡ Some (get_or c.args.windows.now c.in-Some-place_of_source.place window).query = search rules in
     let first : (k : ℕ) → k < c.in-Some-place_of_source.place → query_eq (get_or c.args.windows.now k window).query (get_or c.args.windows.now c.in-Some-place_of_source.place window).query ≡ false = search rules in
-    let tree : c.in_ok-tree.tree ≡ sub window.children c.root.result = search rules in
     let found : map_of.find query_cmp (get_or c.args.windows.now c.in-Some-place_of_source.place window).query (entries_of c.args.windows.now) ≡ Some (seen_window window) =
     find-at (get_or c.args.windows.now c.in-Some-place_of_source.place window).query c.args.windows.now c.in-Some-place_of_source.place window within first ((query_eq_tells (get_or c.args.windows.now c.in-Some-place_of_source.place window).query (get_or c.args.windows.now c.in-Some-place_of_source.place window).query).1 refl) ∙ ap (λ (w : Window). Some (seen_window w)) (sym at) in
     let query : c.in_ok-copy-2.field-0 ≡ c.args.query.now = search rules in
-    let children : c.in_ok-of_children-2.field-0 ≡ children_alone c.in_ok-tree.tree = search rules in
+    let children : c.in_ok-children_alone-2.field-0 ≡ children_alone window.children = search rules in
     (λ i. Some (entry_of (c.in_ok-new-2.ensures i)))
-    ∙ (λ i. Some (query i, record { children = (children ∙ ap children_alone (tree ∙ ap (sub window.children) c.root.ensures ∙ sub_root window.children)) i; is_whole = window.is_whole }))
+    ∙ (λ i. Some (query i, record { children = children i; is_whole = window.is_whole }))
     ∙ ap (λ x. option_map (λ w. (c.args.query.now, w)) (window_left x))
     (sym (window_found c.args.registered.now c.args.regions.now c.args.windows.now c.args.query.now _ none source ∙ ap (option_map of_window) found))

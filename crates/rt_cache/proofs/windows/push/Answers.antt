@@ -5,6 +5,7 @@ use mathlib.Core.Bool.{true≢false}
 use Rattle.std.specs.Option.{option_map_or}
 use Rattle.std.specs.FinMap as map_of
 use Rattle.rt_tree.specs.PathTree.{path_eq, strip, put}
+use Rattle.rt_tree.specs.Assignments.{is_at_or_above}
 use Rattle.rt_query.specs.QueryEq.{query_eq}
 use Rattle.rt_query.specs.laws.QueryEq.{query_eq_tells}
 use Rattle.rt_query.specs.Queries.{Query}
@@ -28,6 +29,15 @@ pub returns-then-eq-clause-taken : goal.returns-then-eq-clause-taken
 returns-then-eq-clause-taken c =
     let own : path_eq c.args.path.now (c.args.query.now).path ≡ true = search rules in
     taken_own c.args.query.now c.args.path.now (in_query_order (entries_of c.args.windows.now.items)) own
+
+pub put_into_window-requires-clause-under : goal.put_into_window-requires-clause-under
+put_into_window-requires-clause-under c =
+    let old : Window = c.index_mut.result.now in
+    let within : c.in-Some.place < length c.args.windows.now.items = search rules in
+    let at : old ≡ get_or c.args.windows.now.items c.in-Some.place old = search rules in
+    let own : query_eq (get_or c.args.windows.now.items c.in-Some.place old).query c.args.query.now ≡ true = search rules in
+    let was : old.query ≡ c.args.query.now = (query_eq_tells old.query c.args.query.now).0 (ap (λ (w : Window). query_eq w.query c.args.query.now) at ∙ own) in
+    ap (λ (q : Query). is_at_or_above q.path c.args.path.now) was ∙ c.requires.under
 
 pub returns-in_default-clause-ok : goal.returns-in_default-clause-ok
 returns-in_default-clause-ok c =

@@ -5,7 +5,6 @@ use Rattle.std.specs.FinMap as map_of
 use Rattle.std.specs.Option.{option_map}
 use Rattle.rt_tree.specs.PathTree.{strip, sub, child, levels}
 use Rattle.rt_tree.specs.declared.limits.TheConstants.{MAX_KEYS, MAX_LEVELS}
-use Rattle.rt_tree.specs.Parts.{sub_root}
 use Rattle.rt_tree.specs.Assignments.{is_at_or_above}
 use Rattle.rt_query.specs.QueryEq.{query_eq}
 use Rattle.rt_cache.specs.QueryOrder.{query_cmp}
@@ -62,10 +61,10 @@ returns-clause-found c =
     let at : window ≡ get_or c.self.inside.windows.items c.in-Some-place_of_source.place window = search rules in
     let source : source_among (entries_of c.self.inside.windows.items) c.self.inside.registered c.args.query.now ≡ Some (get_or c.self.inside.windows.items c.in-Some-place_of_source.place window).query = search rules in
     let first : (k : ℕ) → k < c.in-Some-place_of_source.place → query_eq (get_or c.self.inside.windows.items k window).query (get_or c.self.inside.windows.items c.in-Some-place_of_source.place window).query ≡ false = search rules in
-    let tree : c.in_ok-tree-2.tree ≡ child (sub window.children c.root.result) c.args.key.now = search rules in
+    let tree : c.in_ok-tree-2.tree ≡ child window.children c.args.key.now = search rules in
     let found : map_of.find query_cmp (get_or c.self.inside.windows.items c.in-Some-place_of_source.place window).query (entries_of c.self.inside.windows.items) ≡ Some (seen_window window) =
     find-at (get_or c.self.inside.windows.items c.in-Some-place_of_source.place window).query c.self.inside.windows.items c.in-Some-place_of_source.place window within first ((query_eq_tells (get_or c.self.inside.windows.items c.in-Some-place_of_source.place window).query (get_or c.self.inside.windows.items c.in-Some-place_of_source.place window).query).1 refl) ∙ ap (λ (w : Window). Some (seen_window w)) (sym at) in
-    (λ i. Some (record { tree = (tree ∙ ap (λ x. child (sub window.children x) c.args.key.now) c.root.ensures ∙ ap (λ x. child x c.args.key.now) (sub_root window.children)) i; whole = window.is_whole }))
+    (λ i. Some (record { tree = tree i; whole = window.is_whole }))
     ∙ ap (option_map (child_base c.args.key.now)) (sym (window_found c.self.inside.registered c.self.inside.regions.items c.self.inside.windows.items c.args.query.now _ none source ∙ ap (option_map of_window) found))
     ∙ ap (λ b. base_child b c.args.query.now c.args.key.now) c.self.view_is
 
