@@ -5,7 +5,7 @@ use rt_tree::{Path, Tree};
 use std::marker::Model;
 
 /// What an emulator is to do.
-#[derive(Debug, Drop)]
+#[derive(Debug)]
 pub struct Emulating {
     pub(crate) port: u16,
     pub(crate) count: Option<u16>,
@@ -13,6 +13,19 @@ pub struct Emulating {
     pub(crate) file: Option<String>,
     pub(crate) denied: Vec<Path>,
     pub(crate) origins: Vec<String>,
+}
+
+impl Drop for Emulating {
+    fn drop(self) {
+        let Emulating {
+            port: _,
+            count: _,
+            tree: _,
+            file: _,
+            denied: _,
+            origins: _,
+        } = self;
+    }
 }
 
 impl Model for Emulating {
@@ -61,5 +74,21 @@ impl Emulating {
             denied,
             origins,
         }
+    }
+
+    // The tree, the paths that are denied, and the origins.
+    pub(crate) fn into_parts(self) -> (Tree, Vec<Path>, Vec<String>)
+        ensures { (result.0 ≡ self.tree) × (result.1.items ≡ self.denied)
+            × (map string_bytes result.2.items ≡ self.origins) }
+    {
+        let Emulating {
+            port: _,
+            count: _,
+            tree: first,
+            file: _,
+            denied: paths,
+            origins: all,
+        } = self;
+        (first, paths, all)
     }
 }

@@ -1,64 +1,34 @@
 // The emulator: who connects is let in, and each has its turns.
+use crate::edge::{Edge, LISTENER, Stopper, WAKER};
 use crate::emulating::Emulating;
 use crate::fault::EmulateFault;
 use crate::guests::Guests;
 use crate::kept::Kept;
 use crate::telling;
-use mio::net::{TcpListener, TcpStream};
-use mio::{Events, Interest, Poll, Token, Waker};
+use mio::net::TcpStream;
 use rt_hub::{Bounds, Hub};
 use rt_input::Log;
-use rt_tree::Tree;
-use std::alloc::{AllocGlobal, Global};
+use rt_peer::PeerError;
+use std::alloc::{AllocError, AllocGlobal, Global};
 use std::io;
 use std::io::ErrorKind;
-use std::net::{Ipv4Addr, Net, SocketAddr};
+use std::net::{Net, SocketAddr};
 use std::rt::{Clock, Files};
-use std::sync::{Arc, Wait};
-use std::time::{Duration, Instant};
+use std::sync::Wait;
 
-// The tokens of what is no guest; a guest's is its place.
-const LISTENER: Token = Token(usize::MAX);
-
-const WAKER: Token = Token(usize::MAX - 1);
-
-// How many events are taken at once, and how many that connect are let in.
-const MOST_EVENTS: usize = 1_024;
-
+// How many that connect are let in at once.
 const MOST_ACCEPTED: usize = 256;
 
 // After how many milliseconds it is tried again to let somebody in, where that failed.
 const RETRY_MS: u64 = 1_000;
 
-/// Ends an emulator, from another thread.
-#[derive(Drop)]
-pub struct Stopper {
-    waker: Arc<Waker>,
-}
-
-impl Stopper {
-    /// The emulator ends with its next turn.
-    ///
-    /// # Errors
-    ///
-    /// Where the system can't wake it.
-    pub fn stop(&self) -> io::Result<()> {
-        self.waker.wake()
-    }
-}
-
 /// Serves a tree to any number of clients at once.
-#[derive(Drop)]
 pub struct Emulator {
     alloc: Global,
-    poll: Poll,
-    listener: TcpListener,
-    waker: Arc<Waker>,
+    edge: Edge,
     guests: Guests<TcpStream>,
     kept: Option<Kept>,
     count: Option<u16>,
-    port: u16,
-    start: Instant,
     // How many milliseconds have passed since the start.
     now: u64,
     // Whether somebody may wait to be let in.
@@ -67,43 +37,42 @@ pub struct Emulator {
     retry_at: Option<u64>,
 }
 
-// The first tree, and where it is kept.
-fn first_tree<Y: Files + AllocGlobal>(
-    system: &Y,
-    alloc: Global,
-    tree: Tree,
-    file: Option<String>,
-) -> Result<(Tree, Option<Kept>), EmulateFault> {
-    let Some(file) = file else {
-        return Ok((tree, None));
-    };
-    let kept = Kept::of(alloc, file)?;
-    match kept.read(system, alloc)? {
-        Some(read) => Ok((read, Some(kept))),
-        None => Ok((tree, Some(kept))),
+impl Drop for Emulator {
+    fn drop(self) {
+        let Emulator {
+            alloc: _,
+            edge: _,
+            guests: _,
+            kept: _,
+            count: _,
+            now: _,
+            has_visitor: _,
+            retry_at: _,
+        } = self;
     }
 }
 
-// A listener at the port, of which each that connects is an event.
-fn listener_of<R: Net>(rt: &R, poll: &Poll, port: u16) -> io::Result<TcpListener> {
-    let mut listener = TcpListener::bind(rt, SocketAddr::from((Ipv4Addr::LOCALHOST, port)))?;
-    poll.registry()
-        .register(&mut listener, LISTENER, Interest::READABLE)?;
-    Ok(listener)
+// Where the tree is kept, which is read first, if there is a file.
+fn keep<Y: Files + AllocGlobal>(
+    system: &Y,
+    alloc: Global,
+    emulating: &mut Emulating,
+) -> Result<Option<Kept>, EmulateFault> {
+    let Some(file) = emulating.file.take() else {
+        return Ok(None);
+    };
+    let kept = Kept::of(alloc, file)?;
+    if let Some(tree) = kept.read(system, alloc)? {
+        emulating.tree = tree;
+    }
+    Ok(Some(kept))
 }
 
-// What wakes who waits for events.
-fn poll_of<R: Net>(rt: &R, alloc: Global) -> Result<(Poll, Arc<Waker>), EmulateFault> {
-    let poll = match Poll::new(rt) {
-        Ok(poll) => poll,
-        Err(why) => return Err(EmulateFault::NotWaited(why)),
-    };
-    let waker = match Waker::new(poll.registry(), WAKER) {
-        Ok(waker) => waker,
-        Err(why) => return Err(EmulateFault::NotWaited(why)),
-    };
-    let waker = Arc::new(alloc, waker)?;
-    Ok((poll, waker))
+// Nobody has come yet to what is served.
+fn guests_of(alloc: Global, emulating: Emulating, is_telling: bool) -> Guests<TcpStream> {
+    let (tree, denied, origins) = emulating.into_parts();
+    let hub = Hub::new(alloc, tree, denied, Bounds::full());
+    Guests::new(alloc, hub, origins, is_telling)
 }
 
 impl Emulator {
@@ -117,40 +86,20 @@ impl Emulator {
     pub fn open<R: Net, Y: Files + Clock + AllocGlobal, L: Log>(
         rt: &R,
         system: &Y,
-        emulating: Emulating,
+        mut emulating: Emulating,
         log: &mut L,
     ) -> Result<Emulator, EmulateFault> {
         let alloc = system.alloc();
-        let Emulating {
-            port,
-            count,
-            tree,
-            file,
-            denied,
-            origins,
-        } = emulating;
-        let (tree, kept) = first_tree(system, alloc, tree, file)?;
-        let hub = Hub::new(alloc, tree, denied, Bounds::full());
-        let (poll, waker) = poll_of(rt, alloc)?;
-        let listener = match listener_of(rt, &poll, port) {
-            Ok(listener) => listener,
-            Err(why) => return Err(EmulateFault::NotBound { port, why }),
-        };
-        let start = match Instant::now(system) {
-            Ok(start) => start,
-            Err(why) => return Err(EmulateFault::NotWaited(why)),
-        };
+        let (port, count) = (emulating.port, emulating.count);
+        let kept = keep(system, alloc, &mut emulating)?;
+        let edge = Edge::open(rt, system, alloc, port)?;
         telling::listening(alloc, log, port);
         Ok(Emulator {
             alloc,
-            poll,
-            listener,
-            waker,
-            guests: Guests::new(alloc, hub, origins, log.is_on()),
+            edge,
+            guests: guests_of(alloc, emulating, log.is_on()),
             kept,
             count,
-            port,
-            start,
             now: 0,
             has_visitor: false,
             retry_at: None,
@@ -163,16 +112,13 @@ impl Emulator {
     ///
     /// Where memory is lacking.
     pub fn stopper(&self) -> Result<Stopper, EmulateFault> {
-        let waker = Arc::try_clone(&self.waker)?;
-        Ok(Stopper { waker })
+        Ok(self.edge.stopper()?)
     }
 
     // Sees how late it is.
     fn tick<Y: Clock>(&mut self, system: &Y) {
-        if let Ok(passed) = self.start.elapsed(system) {
-            if let Ok(now) = u64::try_from(passed.as_millis()) {
-                self.now = self.now.max(now);
-            }
+        if let Some(now) = self.edge.passed(system) {
+            self.now = self.now.max(now);
         }
     }
 
@@ -191,31 +137,39 @@ impl Emulator {
 
     // Lets in who waits to be let in. Where that fails, it is tried again once a guest has gone or a
     // second has passed.
-    fn let_in<L: Log>(&mut self, log: &mut L) -> Result<(), EmulateFault> {
+    fn let_in<L: Log>(&mut self, log: &mut L) -> Result<(), PeerError> {
         for _ in 0..MOST_ACCEPTED {
-            match self.listener.accept() {
+            match self.edge.accept() {
                 Ok((stream, from)) => {
                     self.retry_at = None;
                     self.let_one_in(stream, from, log)?;
                 }
-                Err(why) if why.kind() == ErrorKind::WouldBlock => {
-                    self.has_visitor = false;
-                    self.retry_at = None;
-                    return Ok(());
-                }
-                Err(why)
-                    if why.kind() == ErrorKind::Interrupted
-                        || why.kind() == ErrorKind::ConnectionAborted => {}
                 Err(why) => {
-                    if self.retry_at.is_none() {
-                        telling::not_accepted(self.alloc, log, &why);
+                    if self.stops_letting_in(why, log) {
+                        return Ok(());
                     }
-                    self.retry_at = Some(self.now.saturating_add(RETRY_MS));
-                    return Ok(());
                 }
             }
         }
         Ok(())
+    }
+
+    // Nobody could be let in, for that reason. Answers whether nobody is for now.
+    fn stops_letting_in<L: Log>(&mut self, why: io::Error, log: &mut L) -> bool {
+        let kind = why.kind();
+        if kind == ErrorKind::Interrupted || kind == ErrorKind::ConnectionAborted {
+            return false;
+        }
+        if kind == ErrorKind::WouldBlock {
+            self.has_visitor = false;
+            self.retry_at = None;
+            return true;
+        }
+        if self.retry_at.is_none() {
+            telling::not_accepted(self.alloc, log, &why);
+        }
+        self.retry_at = Some(self.now.saturating_add(RETRY_MS));
+        true
     }
 
     // Lets in one that has connected.
@@ -224,22 +178,21 @@ impl Emulator {
         mut stream: TcpStream,
         from: SocketAddr,
         log: &mut L,
-    ) -> Result<(), EmulateFault> {
+    ) -> Result<(), PeerError> {
         let _at_once = stream.set_nodelay(true);
-        let token = Token(self.guests.next_place());
-        let both = Interest::READABLE | Interest::WRITABLE;
-        if let Err(why) = self.poll.registry().register(&mut stream, token, both) {
-            telling::not_accepted(self.alloc, log, &why);
-            return Ok(());
+        match self.edge.listen_to(&mut stream, self.guests.next_place()) {
+            Ok(()) => self.guests.add(stream, from, self.now),
+            Err(why) => {
+                telling::not_accepted(self.alloc, log, &why);
+                Ok(())
+            }
         }
-        self.guests.add(stream, from, self.now)?;
-        Ok(())
     }
 
     // Takes what happened, and answers whether it is to stop.
-    fn take(&mut self, events: &Events) -> Result<bool, EmulateFault> {
+    fn take(&mut self) -> Result<bool, PeerError> {
         let mut stops = false;
-        for event in events.iter() {
+        for event in self.edge.events() {
             let token = event.token();
             if token == LISTENER {
                 self.has_visitor = true;
@@ -252,8 +205,8 @@ impl Emulator {
         Ok(stops)
     }
 
-    // All that can be done now without waiting.
-    fn work<Y: Files, L: Log>(&mut self, system: &Y, log: &mut L) -> Result<(), EmulateFault> {
+    // Those that have come have their turns.
+    fn turn<L: Log>(&mut self, log: &mut L) -> Result<(), PeerError> {
         let gone = self.guests.gone();
         let is_time = match self.retry_at {
             Some(at) => at <= self.now,
@@ -271,14 +224,19 @@ impl Emulator {
                 self.retry_at = Some(self.now);
             }
         }
-        let is_changed = self.guests.take_changed();
-        if let Some(kept) = &mut self.kept {
-            if is_changed {
-                kept.note_change();
-            }
-            kept.write(system, self.alloc, self.guests.tree(), self.now, log)?;
-        }
         Ok(())
+    }
+
+    // Writes the tree to its file, if it is time.
+    fn write<Y: Files, L: Log>(&mut self, system: &Y, log: &mut L) -> Result<(), AllocError> {
+        let is_changed = self.guests.take_changed();
+        let Some(kept) = &mut self.kept else {
+            return Ok(());
+        };
+        if is_changed {
+            kept.note_change();
+        }
+        kept.write(system, self.alloc, self.guests.tree(), self.now, log)
     }
 
     // Whether as many connections have gone as are served.
@@ -289,17 +247,41 @@ impl Emulator {
         }
     }
 
+    // Takes what happened, does all that can be done now without waiting, and answers whether it is to
+    // stop.
+    fn work<L: Log>(&mut self, log: &mut L) -> Result<bool, PeerError> {
+        let stops = self.take()?;
+        self.turn(log)?;
+        Ok(stops || self.is_done())
+    }
+
+    // Serves until it is to stop.
+    fn serve<R: Wait, Y: Files + Clock, L: Log>(
+        &mut self,
+        rt: &R,
+        system: &Y,
+        log: &mut L,
+    ) -> Result<(), EmulateFault> {
+        for _ in rt.forever() {
+            let patience = self.patience();
+            if let Err(why) = self.edge.wait(patience) {
+                return Err(EmulateFault::NotWaited(why));
+            }
+            self.tick(system);
+            let stops = self.work(log)?;
+            self.write(system, log)?;
+            if stops {
+                return Ok(());
+            }
+        }
+        unreachable!()
+    }
+
     // All go, what they asked for at their end is run, and the tree is written.
-    fn finish<Y: Files, L: Log>(mut self, system: &Y, log: &mut L) -> Result<(), EmulateFault> {
+    fn finish<Y: Files, L: Log>(&mut self, system: &Y, log: &mut L) -> Result<(), EmulateFault> {
         self.guests.remove_all(log)?;
-        let Emulator {
-            alloc,
-            guests,
-            kept,
-            ..
-        } = self;
-        match kept {
-            Some(kept) => kept.write_last(system, alloc, guests.tree()),
+        match &mut self.kept {
+            Some(kept) => kept.write_last(system, self.alloc, self.guests.tree()),
             None => Ok(()),
         }
     }
@@ -317,20 +299,8 @@ impl Emulator {
         system: &Y,
         log: &mut L,
     ) -> Result<(), EmulateFault> {
-        let mut events = Events::with_capacity(self.alloc, MOST_EVENTS)?;
-        for _ in rt.forever() {
-            let patience = self.patience().map(Duration::from_millis);
-            if let Err(why) = self.poll.poll(&mut events, patience) {
-                return Err(EmulateFault::NotWaited(why));
-            }
-            self.tick(system);
-            let stops = self.take(&events)?;
-            self.work(system, log)?;
-            if stops || self.is_done() {
-                return self.finish(system, log);
-            }
-        }
-        unreachable!()
+        self.serve(rt, system, log)?;
+        self.finish(system, log)
     }
 }
 

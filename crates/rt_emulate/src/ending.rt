@@ -1,18 +1,18 @@
 // Why a guest goes.
+use crate::broken::Broken;
 use crate::silence::{HANDSHAKE_MS, SILENCE_MS};
 use rt_hub::{MAX_WAITING_BYTES, MAX_WAITING_MESSAGES};
 use std::fmt;
-use std::io::ErrorKind;
-use tungstenite::Error;
-use websocket::error::ProtocolError;
 
 /// Why a guest goes.
-#[derive(Debug, Drop)]
+#[derive(Clone, Copy)]
 pub(crate) enum Ending {
     /// It closed the connection, with that code or with none.
     Closed(Option<u16>),
     /// A read of its stream failed, or found its end.
-    Failed(Error),
+    Failed(Broken),
+    /// Its handshake failed, which was told then.
+    Refused,
     /// More was sent to it than may wait.
     Over,
     /// Nothing is heard of it, and a ping was not answered.
@@ -24,54 +24,31 @@ pub(crate) enum Ending {
 }
 
 impl Ending {
-    /// The code that RFC 6455 (section 7.4.1) has for the client, where it is told why: it broke the
-    /// protocol, a text is no UTF-8, a message has too many bytes, or all are ended.
-    pub(crate) fn close_code(&self) -> Option<u16> {
+    /// Whether it was told before the guest goes.
+    pub(crate) fn is_told(self) -> bool {
+        matches!(self, Ending::Refused)
+    }
+
+    /// The code that RFC 6455 (section 7.4.1) has for the client, where it is told why: as at
+    /// [`Broken::close_code`], or all are ended.
+    pub(crate) fn close_code(self) -> Option<u16> {
         match self {
-            Ending::Failed(Error::Protocol(ProtocolError::ResetWithoutClosingHandshake)) => None,
-            Ending::Failed(Error::Protocol(_)) => Some(1002),
-            Ending::Failed(Error::Utf8) => Some(1007),
-            Ending::Failed(Error::Capacity(_)) => Some(1009),
-            Ending::Failed(
-                Error::Io(_)
-                | Error::ConnectionClosed
-                | Error::AlreadyClosed
-                | Error::WriteBufferFull
-                | Error::AttackAttempt
-                | Error::Handshake(_)
-                | Error::HandshakeIncomplete
-                | Error::JunkAfterRequest
-                | Error::CustomResponseSuccessful
-                | Error::Url
-                | Error::Http(_)
-                | Error::Refused(_)
-                | Error::OutOfMemory,
-            ) => None,
+            Ending::Failed(why) => why.close_code(),
             Ending::Stopped => Some(1001),
-            Ending::Closed(_) | Ending::Over | Ending::Silent | Ending::Unshaken => None,
+            Ending::Closed(_)
+            | Ending::Refused
+            | Ending::Over
+            | Ending::Silent
+            | Ending::Unshaken => None,
         }
     }
 }
 
-/// Whether that is an error of a stream, of that kind.
-pub(crate) fn is_io(error: &Error, kind: ErrorKind) -> bool {
-    match error {
-        Error::Io(why) => why.kind() == kind,
-        Error::ConnectionClosed
-        | Error::AlreadyClosed
-        | Error::Capacity(_)
-        | Error::Protocol(_)
-        | Error::WriteBufferFull
-        | Error::Utf8
-        | Error::AttackAttempt
-        | Error::Handshake(_)
-        | Error::HandshakeIncomplete
-        | Error::JunkAfterRequest
-        | Error::CustomResponseSuccessful
-        | Error::Url
-        | Error::Http(_)
-        | Error::Refused(_)
-        | Error::OutOfMemory => false,
+// Writes why a socket failed, and with which code it is closed.
+fn write_broken<W: fmt::Write>(f: &mut fmt::Formatter<W>, why: Broken) -> fmt::Result {
+    match why.close_code() {
+        Some(code) => write!(f, "{why}; it is closed with {code}"),
+        None => write!(f, "{why}"),
     }
 }
 
@@ -80,14 +57,8 @@ impl fmt::Display for Ending {
         match self {
             Ending::Closed(None) => f.write_str("the client closed it"),
             Ending::Closed(Some(code)) => write!(f, "the client closed it with {code}"),
-            Ending::Failed(Error::Refused(answer)) => match answer.body() {
-                Some(why) => f.write_str(why),
-                None => f.write_str("its origin is refused"),
-            },
-            Ending::Failed(why) => match self.close_code() {
-                Some(code) => write!(f, "{why}; it is closed with {code}"),
-                None => write!(f, "{why}"),
-            },
+            Ending::Failed(why) => write_broken(f, *why),
+            Ending::Refused => f.write_str("its handshake failed"),
             Ending::Over => write!(
                 f,
                 "it is too slow: more than {MAX_WAITING_MESSAGES} messages or {MAX_WAITING_BYTES} \

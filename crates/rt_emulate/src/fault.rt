@@ -6,11 +6,11 @@ ghost use Rattle.rt_emulate.specs.declared.fault.EmulateFault.TheVariants.{NoMem
 use rt_peer::PeerError;
 use rt_tree::TreeError;
 use std::alloc::{AllocError, AllocFailed};
-use std::io;
+use std::{fmt, io};
 use thiserror::Error;
 
 /// Why an emulator ends early, or does not begin.
-#[derive(Debug, Drop, Error)]
+#[derive(Error)]
 pub enum EmulateFault {
     #[error("port {port} can't be bound: {why}")]
     NotBound { port: u16, why: io::Error },
@@ -24,6 +24,25 @@ pub enum EmulateFault {
     Unwritten { file: String, why: io::Error },
     #[error("out of memory")]
     NoMemory,
+}
+
+impl Drop for EmulateFault {
+    fn drop(self) {
+        match self {
+            EmulateFault::NotBound { port: _, why: _ }
+            | EmulateFault::NotWaited(_)
+            | EmulateFault::Unread { file: _, why: _ }
+            | EmulateFault::NoTree { file: _, why: _ }
+            | EmulateFault::Unwritten { file: _, why: _ }
+            | EmulateFault::NoMemory => {}
+        }
+    }
+}
+
+impl fmt::Debug for EmulateFault {
+    fn fmt<W: fmt::Write>(&self, f: &mut fmt::Formatter<W>) -> fmt::Result {
+        f.write_str(self.name())
+    }
 }
 
 impl EmulateFault {

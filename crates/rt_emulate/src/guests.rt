@@ -1,4 +1,5 @@
 // Those that have come, over one hub.
+use crate::broken::Broken;
 use crate::ending::Ending;
 use crate::guest::{Guest, Shaking, Stage, Talk};
 use crate::origin::Origins;
@@ -28,7 +29,7 @@ const MOST_SENT: usize = 4_096;
 type Alarm = Reverse<(u64, u64, usize)>;
 
 // What became of a guest's turn.
-#[derive(Drop)]
+#[derive(Clone, Copy)]
 enum Turned {
     // Nothing more is there now.
     Idle,
@@ -39,7 +40,6 @@ enum Turned {
 }
 
 /// Those that have come, over one hub: each by its place.
-#[derive(Drop)]
 pub(crate) struct Guests<S: Read + Write + Drop> {
     alloc: Global,
     hub: Hub,
@@ -62,6 +62,27 @@ pub(crate) struct Guests<S: Read + Write + Drop> {
     came: u64,
     gone: u64,
     is_changed: bool,
+}
+
+impl<S: Read + Write + Drop> Drop for Guests<S> {
+    fn drop(self) {
+        let Guests {
+            alloc: _,
+            hub: _,
+            allowed: _,
+            is_telling: _,
+            all: _,
+            places: _,
+            ready: _,
+            noted: _,
+            told: _,
+            sent: _,
+            alarms: _,
+            came: _,
+            gone: _,
+            is_changed: _,
+        } = self;
+    }
 }
 
 impl<S: Read + Write + Drop> Guests<S> {
@@ -166,8 +187,13 @@ impl<S: Read + Write + Drop> Guests<S> {
     fn note_told(&mut self) -> Result<(), PeerError> {
         let told = std::mem::replace(&mut self.told, Vec::new(self.alloc));
         self.sent = self.sent.saturating_add(told.len());
-        for connection in told {
-            if let Some(place) = place_of(self.places.as_slice(), connection) {
+        self.note_each(told.as_slice())
+    }
+
+    // Notes the guests of these connections.
+    fn note_each(&mut self, connections: &[u64]) -> Result<(), PeerError> {
+        for connection in connections {
+            if let Some(place) = place_of(self.places.as_slice(), *connection) {
                 self.note(place)?;
             }
         }
@@ -213,11 +239,16 @@ impl<S: Read + Write + Drop> Guests<S> {
     /// Each that is ready has a turn, and what waits is handed over.
     pub(crate) fn turn_all<L: Log>(&mut self, log: &mut L) -> Result<(), PeerError> {
         let ready = std::mem::replace(&mut self.ready, Vec::new(self.alloc));
-        for place in ready {
-            match self.turn(place, log)? {
+        self.turn_each(ready.as_slice(), log)
+    }
+
+    // The guests at these places have a turn, and what waits is handed over.
+    fn turn_each<L: Log>(&mut self, places: &[usize], log: &mut L) -> Result<(), PeerError> {
+        for place in places {
+            match self.turn(*place, log)? {
                 Turned::Idle => {}
-                Turned::More => self.get_ready(place)?,
-                Turned::Ends(why) => self.remove(place, &why, log)?,
+                Turned::More => self.get_ready(*place)?,
+                Turned::Ends(why) => self.remove(*place, why, log)?,
             }
         }
         self.hand_over_all(log)
@@ -233,9 +264,10 @@ impl<S: Read + Write + Drop> Guests<S> {
             talk.socket.begin_turn();
             return self.listen_to(place, log);
         }
-        match std::mem::replace(&mut guest.stage, Stage::Gone) {
-            Stage::Shaking(shaking) => self.shake(place, shaking, log),
-            Stage::Open(_) | Stage::Gone => Ok(Turned::Idle),
+        let from = guest.from;
+        match guest.take_shaking() {
+            Some(shaking) => self.shake(place, from, shaking, log),
+            None => Ok(Turned::Idle),
         }
     }
 
@@ -243,24 +275,24 @@ impl<S: Read + Write + Drop> Guests<S> {
     fn shake<L: Log>(
         &mut self,
         place: usize,
+        from: SocketAddr,
         mut shaking: Shaking<S>,
         log: &mut L,
     ) -> Result<Turned, PeerError> {
         shaking.get_mut().await_message();
         match shaking.handshake() {
-            Ok(socket) => {
-                self.open(place, Socket::new(self.alloc, socket, self.is_telling), log)?;
-                Ok(Turned::More)
-            }
-            Err(HandshakeError::Interrupted(shaking)) => {
-                if let Some(guest) = self.all.get_mut(place) {
-                    guest.stage = Stage::Shaking(shaking);
-                }
-                Ok(Turned::Idle)
-            }
-            Err(HandshakeError::Failure(Error::OutOfMemory)) => Err(PeerError::NoMemory),
-            Err(HandshakeError::Failure(why)) => Ok(Turned::Ends(Ending::Failed(why))),
+            Ok(socket) => self.open(place, Socket::new(self.alloc, socket, self.is_telling), log),
+            Err(HandshakeError::Interrupted(shaking)) => Ok(self.wait_on(place, shaking)),
+            Err(HandshakeError::Failure(why)) => unshaken(self.alloc, from, why, log),
         }
+    }
+
+    // The handshake of the guest at that place goes on once more is there.
+    fn wait_on(&mut self, place: usize, shaking: Shaking<S>) -> Turned {
+        if let Some(guest) = self.all.get_mut(place) {
+            guest.stage = Stage::Shaking(shaking);
+        }
+        Turned::Idle
     }
 
     // The guest at that place has shaken hands, and is a connection of the hub from now on.
@@ -269,9 +301,9 @@ impl<S: Read + Write + Drop> Guests<S> {
         place: usize,
         socket: Socket<S>,
         log: &mut L,
-    ) -> Result<(), PeerError> {
+    ) -> Result<Turned, PeerError> {
         let Some(guest) = self.all.get_mut(place) else {
-            return Ok(());
+            return Ok(Turned::Idle);
         };
         let connection = self.hub.connect()?;
         guest.stage = Stage::Open(Talk {
@@ -280,7 +312,8 @@ impl<S: Read + Write + Drop> Guests<S> {
             is_blocked: false,
         });
         telling::begun(self.alloc, log, connection, guest.from);
-        set_place(&mut self.places, connection, place)
+        set_place(&mut self.places, connection, place)?;
+        Ok(Turned::More)
     }
 
     // Takes what the guest at that place has to say in its turn.
@@ -329,7 +362,7 @@ impl<S: Read + Write + Drop> Guests<S> {
                 self.note_told()?;
                 Ok(None)
             }
-            Turn::Ended => Ok(Some(Turned::Ends(talk.socket.take_ending()))),
+            Turn::Ended => Ok(Some(Turned::Ends(talk.socket.ending()))),
         }
     }
 
@@ -337,12 +370,17 @@ impl<S: Read + Write + Drop> Guests<S> {
     fn hand_over_all<L: Log>(&mut self, log: &mut L) -> Result<(), PeerError> {
         self.sent = 0;
         let noted = std::mem::replace(&mut self.noted, Vec::new(self.alloc));
-        for place in noted {
-            if let Some(guest) = self.all.get_mut(place) {
+        self.hand_over_each(noted.as_slice(), log)
+    }
+
+    // Hands over to the guests at these places.
+    fn hand_over_each<L: Log>(&mut self, places: &[usize], log: &mut L) -> Result<(), PeerError> {
+        for place in places {
+            if let Some(guest) = self.all.get_mut(*place) {
                 guest.is_noted = false;
             }
-            if let Some(why) = self.hand_over_to(place, log)? {
-                self.remove(place, &why, log)?;
+            if let Some(why) = self.hand_over_to(*place, log)? {
+                self.remove(*place, why, log)?;
             }
         }
         Ok(())
@@ -370,7 +408,7 @@ impl<S: Read + Write + Drop> Guests<S> {
             return Err(PeerError::NoMemory);
         };
         let refusals = talk.socket.take_refusals();
-        telling::refused(self.alloc, log, talk.connection, refusals.as_slice());
+        telling::refused(self.alloc, log, talk.connection, refusals);
         match handed {
             Handed::Drained => {}
             Handed::Blocked => talk.is_blocked = true,
@@ -385,26 +423,32 @@ impl<S: Read + Write + Drop> Guests<S> {
     }
 
     // The guest at that place goes.
-    fn remove<L: Log>(&mut self, place: usize, why: &Ending, log: &mut L) -> Result<(), PeerError> {
+    fn remove<L: Log>(&mut self, place: usize, why: Ending, log: &mut L) -> Result<(), PeerError> {
         let Some(guest) = self.all.try_remove(place) else {
             return Ok(());
         };
-        match guest.stage {
-            Stage::Open(mut talk) => {
-                if let Some(code) = why.close_code() {
-                    talk.socket.close(code);
-                }
-                telling::ended(self.alloc, log, talk.connection, why);
-                leave(&mut self.hub, talk.connection, &mut self.told)?;
-                self.gone = self.gone.saturating_add(1);
-                self.is_changed = true;
-                self.note_told()
-            }
-            Stage::Shaking(_) | Stage::Gone => {
-                telling::unshaken(self.alloc, log, guest.from, why);
+        let from = guest.from;
+        match guest.end(why) {
+            Some(connection) => self.leave(connection, why, log),
+            None => {
+                telling::unshaken(self.alloc, log, from, why);
                 Ok(())
             }
         }
+    }
+
+    // The connection ends.
+    fn leave<L: Log>(
+        &mut self,
+        connection: u64,
+        why: Ending,
+        log: &mut L,
+    ) -> Result<(), PeerError> {
+        telling::ended(self.alloc, log, connection, why);
+        leave(&mut self.hub, connection, &mut self.told)?;
+        self.gone = self.gone.saturating_add(1);
+        self.is_changed = true;
+        self.note_told()
     }
 
     /// Looks at each guest whose alarm rings.
@@ -436,10 +480,10 @@ impl<S: Read + Write + Drop> Guests<S> {
             return Ok(());
         }
         let Stage::Open(talk) = &mut guest.stage else {
-            return self.remove(place, &Ending::Unshaken, log);
+            return self.remove(place, Ending::Unshaken, log);
         };
         match guest.silence.due(now) {
-            Due::End => self.remove(place, &Ending::Silent, log),
+            Due::End => self.remove(place, Ending::Silent, log),
             Due::Ping => {
                 talk.socket.ping();
                 guest.silence = guest.silence.pinged(now);
@@ -451,14 +495,40 @@ impl<S: Read + Write + Drop> Guests<S> {
 
     /// All go.
     pub(crate) fn remove_all<L: Log>(&mut self, log: &mut L) -> Result<(), PeerError> {
+        let places = self.all_places()?;
+        self.stop_each(places.as_slice(), log)
+    }
+
+    // The places of all.
+    fn all_places(&self) -> Result<Vec<usize>, PeerError> {
         let mut places = Vec::new(self.alloc);
         for (place, _) in self.all.iter() {
             push(&mut places, place)?;
         }
+        Ok(places)
+    }
+
+    // The guests at these places go.
+    fn stop_each<L: Log>(&mut self, places: &[usize], log: &mut L) -> Result<(), PeerError> {
         for place in places {
-            self.remove(place, &Ending::Stopped, log)?;
+            self.remove(*place, Ending::Stopped, log)?;
         }
         Ok(())
+    }
+}
+
+// A handshake with one from there has failed, which is told.
+fn unshaken<L: Log>(
+    alloc: Global,
+    from: SocketAddr,
+    why: Error,
+    log: &mut L,
+) -> Result<Turned, PeerError> {
+    telling::no_socket(alloc, log, from, &why);
+    if Broken::of(why).lacks_memory() {
+        Err(PeerError::NoMemory)
+    } else {
+        Ok(Turned::Ends(Ending::Refused))
     }
 }
 

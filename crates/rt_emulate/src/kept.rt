@@ -4,7 +4,7 @@ use crate::telling;
 use crate::whole::read_whole;
 use rt_input::Log;
 use rt_tree::{Tree, TreeError};
-use std::alloc::{AllocGlobal, Global};
+use std::alloc::{AllocError, AllocGlobal, Global};
 use std::io::ErrorKind;
 use std::rt::Files;
 use std::{fs, io};
@@ -13,7 +13,6 @@ use std::{fs, io};
 const PAUSE_MS: u64 = 1_000;
 
 /// The file that the tree is kept in.
-#[derive(Drop)]
 pub(crate) struct Kept {
     file: String,
     // What is written before it takes the file's place.
@@ -21,6 +20,17 @@ pub(crate) struct Kept {
     // Whether the tree may have changed since it was written.
     is_due: bool,
     written_at: u64,
+}
+
+impl Drop for Kept {
+    fn drop(self) {
+        let Kept {
+            file: _,
+            new: _,
+            is_due: _,
+            written_at: _,
+        } = self;
+    }
 }
 
 impl Kept {
@@ -34,28 +44,47 @@ impl Kept {
         })
     }
 
+    // The text of the file; none where there is no file.
+    fn text<R: Files + AllocGlobal>(
+        &self,
+        system: &R,
+        alloc: Global,
+    ) -> Result<Option<String>, EmulateFault> {
+        let why = match fs::read_to_string(system, self.file.as_str()) {
+            Ok(text) => return Ok(Some(text)),
+            Err(why) => why,
+        };
+        match why.kind() {
+            ErrorKind::NotFound => Ok(None),
+            ErrorKind::OutOfMemory => Err(EmulateFault::NoMemory),
+            _ => {
+                let file = String::from_str(alloc, self.file.as_str())?;
+                Err(EmulateFault::Unread { file, why })
+            }
+        }
+    }
+
+    // The tree of the file's text.
+    fn tree_of(&self, alloc: Global, text: &str) -> Result<Tree, EmulateFault> {
+        match read_whole(alloc, text) {
+            Ok(tree) => Ok(tree),
+            Err(TreeError::NoMemory) => Err(EmulateFault::NoMemory),
+            Err(why) => {
+                let file = String::from_str(alloc, self.file.as_str())?;
+                Err(EmulateFault::NoTree { file, why })
+            }
+        }
+    }
+
     /// The tree of the file; none where there is no file.
     pub(crate) fn read<R: Files + AllocGlobal>(
         &self,
         system: &R,
         alloc: Global,
     ) -> Result<Option<Tree>, EmulateFault> {
-        let text = match fs::read_to_string(system, self.file.as_str()) {
-            Ok(text) => text,
-            Err(why) if why.kind() == ErrorKind::NotFound => return Ok(None),
-            Err(why) if why.kind() == ErrorKind::OutOfMemory => return Err(EmulateFault::NoMemory),
-            Err(why) => {
-                let file = String::from_str(alloc, self.file.as_str())?;
-                return Err(EmulateFault::Unread { file, why });
-            }
-        };
-        match read_whole(alloc, text.as_str()) {
-            Ok(tree) => Ok(Some(tree)),
-            Err(TreeError::NoMemory) => Err(EmulateFault::NoMemory),
-            Err(why) => {
-                let file = String::from_str(alloc, self.file.as_str())?;
-                Err(EmulateFault::NoTree { file, why })
-            }
+        match self.text(system, alloc)? {
+            Some(text) => Ok(Some(self.tree_of(alloc, text.as_str())?)),
+            None => Ok(None),
         }
     }
 
@@ -87,7 +116,7 @@ impl Kept {
         tree: &Tree,
         now: u64,
         log: &mut L,
-    ) -> Result<(), EmulateFault> {
+    ) -> Result<(), AllocError> {
         match self.next_at() {
             Some(at) if at <= now => {}
             Some(_) | None => return Ok(()),
@@ -103,7 +132,7 @@ impl Kept {
 
     /// Writes the tree, at the end.
     pub(crate) fn write_last<R: Files>(
-        self,
+        &mut self,
         system: &R,
         alloc: Global,
         tree: &Tree,
@@ -111,10 +140,10 @@ impl Kept {
         let text = tree.text(alloc)?;
         match self.replace(system, text) {
             Ok(()) => Ok(()),
-            Err(why) => Err(EmulateFault::Unwritten {
-                file: self.file,
-                why,
-            }),
+            Err(why) => {
+                let file = std::mem::replace(&mut self.file, String::new(alloc));
+                Err(EmulateFault::Unwritten { file, why })
+            }
         }
     }
 }

@@ -11,6 +11,8 @@
 //! crate is the edge: streams, handshakes, turns, what is due of a silent client, and the tree's file.
 #![tactic(auto)]
 
+mod broken;
+mod edge;
 mod emulating;
 mod emulator;
 mod ending;
@@ -25,8 +27,9 @@ mod socket;
 mod telling;
 mod whole;
 
+pub use edge::Stopper;
 pub use emulating::Emulating;
-pub use emulator::{Emulator, Stopper};
+pub use emulator::Emulator;
 pub use examples::origin_examples;
 pub use fault::EmulateFault;
 pub use silence::{HANDSHAKE_MS, SILENCE_MS};

@@ -73,10 +73,18 @@ pub(crate) fn may_connect(origin: &str, allowed: &[String]) -> bool
 }
 
 /// The pages of other machines that may connect, for one handshake.
-#[derive(Drop)]
 pub(crate) struct Origins {
     alloc: Global,
     allowed: Vec<String>,
+}
+
+impl Drop for Origins {
+    fn drop(self) {
+        let Origins {
+            alloc: _,
+            allowed: _,
+        } = self;
+    }
 }
 
 impl Origins {

@@ -1,13 +1,14 @@
 // A WebSocket as a door.
 ghost use Rattle.std.specs.Prelude.{[], None};
 
-use crate::ending::{Ending, is_io};
+use crate::broken::{Broken, done};
+use crate::ending::Ending;
 use rt_hub::MAX_WAITING_BYTES;
 use rt_input::Counted;
 use rt_turns::{Door, Flushed, Heard};
 use std::alloc::{AllocError, Global};
-use std::io::{ErrorKind, Read, Write};
-use tungstenite::{Bytes, Error, Message, NoMask, Utf8Bytes, WebSocket, WebSocketConfig};
+use std::io::{Read, Write};
+use tungstenite::{Bytes, Message, NoMask, Utf8Bytes, WebSocket, WebSocketConfig};
 
 /// How many bytes are read of a guest in one turn.
 pub(crate) const TURN_BYTES: usize = 65_536;
@@ -36,7 +37,6 @@ enum Last {
 }
 
 /// A WebSocket as a door.
-#[derive(Drop)]
 pub(crate) struct Socket<S: Read + Write + Drop> {
     alloc: Global,
     socket: WebSocket<Counted<S>, NoMask>,
@@ -49,10 +49,28 @@ pub(crate) struct Socket<S: Read + Write + Drop> {
     // The code of the client's close, where it has closed.
     closed: Option<Option<u16>>,
     // Why it has ended, where that was no close.
-    why: Option<Error>,
+    why: Option<Broken>,
     // Whether refusals are kept to be told.
     is_telling: bool,
     refusals: Vec<String>,
+}
+
+impl<S: Read + Write + Drop> Drop for Socket<S> {
+    fn drop(self) {
+        let Socket {
+            alloc: _,
+            socket: _,
+            text: _,
+            last: _,
+            said: _,
+            flushed: _,
+            is_spent: _,
+            closed: _,
+            why: _,
+            is_telling: _,
+            refusals: _,
+        } = self;
+    }
 }
 
 impl<S: Read + Write + Drop> Socket<S> {
@@ -99,13 +117,11 @@ impl<S: Read + Write + Drop> Socket<S> {
     }
 
     /// Why it has ended.
-    pub(crate) fn take_ending(&mut self) -> Ending {
-        if let Some(code) = self.closed {
-            return Ending::Closed(code);
-        }
-        match self.why.take() {
-            Some(why) => Ending::Failed(why),
-            None => Ending::Failed(Error::ConnectionClosed),
+    pub(crate) fn ending(&self) -> Ending {
+        match (self.closed, self.why) {
+            (Some(code), _) => Ending::Closed(code),
+            (None, Some(why)) => Ending::Failed(why),
+            (None, None) => Ending::Failed(Broken::Closed),
         }
     }
 
@@ -117,13 +133,13 @@ impl<S: Read + Write + Drop> Socket<S> {
     /// Sends a ping.
     pub(crate) fn ping(&mut self) {
         // A stream that takes none is found out by its silence.
-        let _pinged = self.socket.send(Message::Ping(Bytes::new()));
+        let _pinged = done(self.socket.send(Message::Ping(Bytes::new())));
     }
 
     /// Sends what waits, as far as it goes, and a close with that code. A socket that has failed takes no
     /// close, so it is written behind its back.
     pub(crate) fn close(&mut self, code: u16) {
-        if self.socket.flush().is_ok() {
+        if done(self.socket.flush()).is_ok() {
             let frame = [0x88, 2, (code / 256) as u8, (code % 256) as u8];
             let _written = self.socket.get_mut().write(&frame);
         }
@@ -153,20 +169,52 @@ impl<S: Read + Write + Drop> Socket<S> {
         }
     }
 
-    // The next message, also where what the socket has to answer by itself can't be written any more.
-    fn read(&mut self) -> Result<Message, Error> {
+    // The next message.
+    fn read(&mut self) -> Result<Heard, Broken> {
         match self.socket.read() {
-            Err(Error::Io(why)) => {
-                let is_put_off = why.kind() == ErrorKind::WouldBlock
-                    || why.kind() == ErrorKind::QuotaExceeded;
-                if !is_put_off && self.pass_over_writes() {
-                    self.socket.read()
+            Ok(message) => Ok(self.keep(message)),
+            Err(error) => Err(Broken::of(error)),
+        }
+    }
+
+    // Whether a read failed because what the socket has to answer by itself can't be written any more.
+    // From then on it goes nowhere.
+    fn passes_over(&mut self, why: Broken) -> bool {
+        why.of_stream().is_some()
+            && !why.would_block()
+            && !why.is_spent()
+            && self.pass_over_writes()
+    }
+
+    // The next message, also where what the socket has to answer by itself can't be written any more.
+    fn read_on(&mut self) -> Result<Heard, Broken> {
+        match self.read() {
+            Ok(heard) => Ok(heard),
+            Err(why) => {
+                if self.passes_over(why) {
+                    self.read()
                 } else {
-                    Err(Error::Io(why))
+                    Err(why)
                 }
             }
-            read => read,
         }
+    }
+
+    // What a read says that failed so: nothing is there now, or it has ended.
+    fn say_broken(&mut self, why: Broken) -> Heard {
+        self.is_spent = why.is_spent();
+        if self.is_spent || why.would_block() {
+            Heard::Nothing
+        } else {
+            self.why = Some(why);
+            Heard::Ended
+        }
+    }
+
+    // Keeps a refusal, to be told.
+    fn keep_refusal(&mut self, text: &str) -> Result<(), AllocError> {
+        let text = String::from_str(self.alloc, text)?;
+        Ok(self.refusals.push(text)?)
     }
 }
 
@@ -182,18 +230,10 @@ impl<S: Read + Write + Drop> Door for Socket<S> {
     ghost flushed = { λ s. s.flushed };
 
     fn hear(&mut self) -> Result<Heard, AllocError> {
-        let heard = match self.read() {
-            Ok(message) => self.keep(message),
-            Err(Error::OutOfMemory) => return Err(AllocError),
-            Err(why) => {
-                self.is_spent = is_io(&why, ErrorKind::QuotaExceeded);
-                if self.is_spent || is_io(&why, ErrorKind::WouldBlock) {
-                    Heard::Nothing
-                } else {
-                    self.why = Some(why);
-                    Heard::Ended
-                }
-            }
+        let heard = match self.read_on() {
+            Ok(heard) => heard,
+            Err(Broken::NoMemory) => return Err(AllocError),
+            Err(why) => self.say_broken(why),
         };
         self.said = heard;
         Ok(heard)
@@ -205,22 +245,22 @@ impl<S: Read + Write + Drop> Door for Socket<S> {
 
     fn put(&mut self, text: &str) -> Result<bool, AllocError> {
         if self.is_telling && is_refusal(text) {
-            self.refusals.push(String::from_str(self.alloc, text)?)?;
+            self.keep_refusal(text)?;
         }
         let message = Message::text(self.alloc, text)?;
-        match self.socket.write(message) {
+        match done(self.socket.write(message)) {
             Ok(()) => Ok(true),
-            Err(Error::OutOfMemory) => Err(AllocError),
+            Err(Broken::NoMemory) => Err(AllocError),
             // What would block is taken all the same.
-            Err(why) => Ok(is_io(&why, ErrorKind::WouldBlock)),
+            Err(why) => Ok(why.would_block()),
         }
     }
 
     fn flush(&mut self) -> Flushed {
-        self.flushed = match self.socket.flush() {
+        self.flushed = match done(self.socket.flush()) {
             Ok(()) => Flushed::Done,
             Err(why) => {
-                if is_io(&why, ErrorKind::WouldBlock) {
+                if why.would_block() {
                     Flushed::Blocked
                 } else {
                     Flushed::Failed

@@ -5,6 +5,7 @@ use rt_wire::WireError;
 use std::alloc::{AllocError, Global};
 use std::io;
 use std::net::SocketAddr;
+use tungstenite::Error;
 
 // Tells a line, if there was memory for it.
 fn tell<L: Log>(log: &mut L, line: Result<String, AllocError>) {
@@ -28,8 +29,31 @@ pub(crate) fn begun<L: Log>(alloc: Global, log: &mut L, connection: u64, from: S
     }
 }
 
-pub(crate) fn unshaken<L: Log>(alloc: Global, log: &mut L, from: SocketAddr, why: &Ending) {
-    if log.is_on() {
+// Why a handshake failed, of which memory is no cause that is told.
+pub(crate) fn no_socket<L: Log>(alloc: Global, log: &mut L, from: SocketAddr, why: &Error) {
+    if !log.is_on() {
+        return;
+    }
+    match why {
+        Error::OutOfMemory => {}
+        Error::Refused(answer) => {
+            let why = answer.body().as_ref();
+            let why = why.map_or("its origin is refused", String::as_str);
+            tell(
+                log,
+                format!(in alloc; "a stream from {from} is no WebSocket: {why}"),
+            );
+        }
+        why => tell(
+            log,
+            format!(in alloc; "a stream from {from} is no WebSocket: {why}"),
+        ),
+    }
+}
+
+// Why one goes that hasn't shaken hands, unless it was told when its handshake failed.
+pub(crate) fn unshaken<L: Log>(alloc: Global, log: &mut L, from: SocketAddr, why: Ending) {
+    if log.is_on() && !why.is_told() {
         tell(
             log,
             format!(in alloc; "a stream from {from} is no WebSocket: {why}"),
@@ -37,7 +61,7 @@ pub(crate) fn unshaken<L: Log>(alloc: Global, log: &mut L, from: SocketAddr, why
     }
 }
 
-pub(crate) fn ended<L: Log>(alloc: Global, log: &mut L, connection: u64, why: &Ending) {
+pub(crate) fn ended<L: Log>(alloc: Global, log: &mut L, connection: u64, why: Ending) {
     if log.is_on() {
         tell(
             log,
@@ -64,8 +88,8 @@ pub(crate) fn not_sent<L: Log>(alloc: Global, log: &mut L, connection: u64) {
     }
 }
 
-pub(crate) fn refused<L: Log>(alloc: Global, log: &mut L, connection: u64, texts: &[String]) {
-    for text in texts {
+pub(crate) fn refused<L: Log>(alloc: Global, log: &mut L, connection: u64, texts: Vec<String>) {
+    for text in texts.as_slice() {
         tell(
             log,
             format!(in alloc; "connection {connection} is sent {text}"),

@@ -1,22 +1,18 @@
 -- What a read of the socket says: a text, a message that is none, or why the connection ends.
 use Rattle.std.specs.Prelude.{ℕ, Bool, true, false, List, [], Option, Some, None, Result, Ok, Err}
 use Rattle.std.specs.Prelude.{if◌then◌else◌, ◌||◌, ◌==◌, not}
-use Rattle.std.specs.IoError.{error_kind}
-use Rattle.std.specs.declared.io.ErrorKind.{ErrorKind}
-use Rattle.std.specs.declared.io.ErrorKind.TheVariants.{QuotaExceeded}
 use Rattle.websocket.specs.CloseCode.{close_code_number}
 use Rattle.websocket.specs.Connection.{can_read}
-use Rattle.websocket.specs.declared.error.ProtocolError.{ProtocolError}
-use Rattle.websocket.specs.declared.error.ProtocolError.TheVariants.{ResetWithoutClosingHandshake}
 use Rattle.tungstenite.specs.Socket.{Socket}
 use Rattle.tungstenite.specs.declared.error.Error.{Error}
-use Rattle.tungstenite.specs.declared.error.Error.TheVariants.{Protocol, Utf8, Capacity, Io, OutOfMemory}
 use Rattle.tungstenite.specs.declared.message.CloseFrame.{CloseFrame}
 use Rattle.tungstenite.specs.declared.message.Message.{Message}
 use Rattle.tungstenite.specs.declared.message.Message.TheVariants as Kind
 use Rattle.rt_input.specs.Counted.{CountedStream}
 use Rattle.rt_wire.specs.Client.{client_message}
 use Rattle.rt_peer.specs.Runs.{Call}
+use Rattle.rt_serve.specs.Broken.{broken_code, broken_of, lacks_memory}
+use Rattle.rt_serve.specs.declared.broken.Broken.{Broken}
 use Rattle.rt_serve.specs.declared.error.ServeError.{ServeError}
 use Rattle.rt_serve.specs.declared.error.ServeError.TheVariants.{NoMemory}
 use Rattle.rt_serve.specs.declared.heard.End.{End}
@@ -39,14 +35,13 @@ heard_message (Kind.Ping bytes) = Nothing
 heard_message (Kind.Pong bytes) = Nothing
 heard_message (Kind.Close frame) = Ended (Closed (code_in frame))
 
-abbrev pub heard_error : Error → Result Heard ServeError
-heard_error OutOfMemory = Err NoMemory
-heard_error e = Ok (Ended (Failed e))
+abbrev pub heard_broken : Broken → Result Heard ServeError
+heard_broken why = if lacks_memory why then Err NoMemory else Ok (Ended (Failed why))
 
 -- what a read says: its message, or its error
 abbrev pub heard_of : Result Message Error → Result Heard ServeError
 heard_of (Ok message) = Ok (heard_message message)
-heard_of (Err e) = heard_error e
+heard_of (Err e) = heard_broken (broken_of e)
 
 -- ---- why a connection ends
 
@@ -57,25 +52,10 @@ end_of Binary = None
 end_of Nothing = None
 end_of (Ended end) = Some end
 
-abbrev pub is_quota : ErrorKind → Bool
-is_quota QuotaExceeded = true
-is_quota kind = false
-
-abbrev pub protocol_code : ProtocolError → Option ℕ
-protocol_code ResetWithoutClosingHandshake = None
-protocol_code e = Some 1002
-
-abbrev pub error_code : Error → Option ℕ
-error_code (Protocol e) = protocol_code e
-error_code Utf8 = Some 1007
-error_code (Capacity e) = Some 1009
-error_code (Io why) = if is_quota (error_kind why) then Some 1009 else None
-error_code e = None
-
 -- the code that the client is told, where it is told why (RFC 6455, section 7.4.1)
 abbrev pub close_code_of : End → Option ℕ
 close_code_of (Closed code) = None
-close_code_of (Failed e) = error_code e
+close_code_of (Failed why) = broken_code why
 close_code_of TooMany = Some 1008
 
 -- nothing more can be read of the socket

@@ -12,7 +12,7 @@ use rt_wire::{ClientMessage, WireError};
 use std::alloc::Global;
 
 // What a text comes to: what the peer then sends, or why it is passed over.
-#[derive(Debug, Drop)]
+#[derive(Drop)]
 pub(crate) enum Answer {
     Sends(Vec<Sent>),
     PassedOver(WireError),

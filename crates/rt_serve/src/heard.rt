@@ -1,25 +1,23 @@
 // What a read of the socket says.
-ghost use Rattle.std.specs.Prelude.{◌≡◌};
-ghost use Rattle.rt_serve.specs.Heard.{close_code_of, heard_of};
+ghost use Rattle.std.specs.Prelude.{◌≡◌, IfErr};
+ghost use Rattle.rt_serve.specs.Heard.{close_code_of, end_of, heard_message, heard_of};
 
+use crate::broken::Broken;
 use crate::error::ServeError;
-use std::io::ErrorKind;
 use tungstenite::{Error, Message, Utf8Bytes};
-use websocket::error::ProtocolError;
 
 // Why a connection ends.
-#[derive(Debug, Drop)]
+#[derive(Clone, Copy)]
 pub(crate) enum End {
     // The client closed it, with that code or with none.
     Closed(Option<u16>),
     // A read of the socket failed, or found its end.
-    Failed(Error),
+    Failed(Broken),
     // There were as many messages as are taken.
     TooMany,
 }
 
 // What a read of the socket says.
-#[derive(Debug, Drop)]
 pub(crate) enum Heard {
     Text(Utf8Bytes),
     Binary,
@@ -28,56 +26,70 @@ pub(crate) enum Heard {
     Ended(End),
 }
 
+impl Drop for Heard {
+    fn drop(self) {
+        match self {
+            Heard::Text(_) | Heard::Binary | Heard::Nothing | Heard::Ended(_) => {}
+        }
+    }
+}
+
+impl Heard {
+    // Why the connection ends, where it does.
+    pub(crate) fn end(&self) -> Option<End>
+        ensures { result ≡ end_of self.now }
+    {
+        match self {
+            Heard::Ended(end) => Some(*end),
+            Heard::Text(_) | Heard::Binary | Heard::Nothing => None,
+        }
+    }
+
+    // Whether the stream has failed.
+    pub(crate) fn has_lost_stream(&self) -> bool {
+        matches!(self, Heard::Ended(End::Failed(Broken::Stream(_, _))))
+    }
+}
+
+// What a message says.
+fn heard_message(message: Message) -> Heard
+    ensures { result ≡ heard_message message }
+{
+    match message {
+        Message::Text(words) => Heard::Text(words),
+        Message::Binary(_) => Heard::Binary,
+        Message::Ping(_) | Message::Pong(_) => Heard::Nothing,
+        Message::Close(None) => Heard::Ended(End::Closed(None)),
+        Message::Close(Some(frame)) => Heard::Ended(End::Closed(Some(u16::from(frame.code)))),
+    }
+}
+
 // What a message or an error of the socket says.
 pub(crate) fn heard_from(read: Result<Message, Error>) -> Result<Heard, ServeError>
-    ensures { result ≡ heard_of read }
+    ensures heard { result ≡ heard_of read }
+    ensures memory { IfErr result (λ e. e ≡ ServeError.NoMemory) }
 {
-    match read {
-        Ok(Message::Text(words)) => Ok(Heard::Text(words)),
-        Ok(Message::Binary(_)) => Ok(Heard::Binary),
-        Ok(Message::Ping(_) | Message::Pong(_)) => Ok(Heard::Nothing),
-        Ok(Message::Close(None)) => Ok(Heard::Ended(End::Closed(None))),
-        Ok(Message::Close(Some(frame))) => {
-            Ok(Heard::Ended(End::Closed(Some(u16::from(frame.code)))))
-        }
-        Err(Error::OutOfMemory) => Err(ServeError::NoMemory),
-        Err(error) => Ok(Heard::Ended(End::Failed(error))),
+    let error = match read {
+        Ok(message) => return Ok(heard_message(message)),
+        Err(error) => error,
+    };
+    let why = Broken::of(error);
+    if why.lacks_memory() {
+        Err(ServeError::NoMemory)
+    } else {
+        Ok(Heard::Ended(End::Failed(why)))
     }
 }
 
 impl End {
-    // The code that RFC 6455 (section 7.4.1) has for the client, where it is told why: it broke the
-    // protocol, a text is no UTF-8, a message has too many bytes, or there were too many messages.
-    pub(crate) fn close_code(&self) -> Option<u16>
-        ensures { result ≡ close_code_of self.now }
+    // The code that RFC 6455 (section 7.4.1) has for the client, where it is told why: as at
+    // [`Broken::close_code`], or there were too many messages.
+    pub(crate) fn close_code(self) -> Option<u16>
+        ensures { result ≡ close_code_of self }
     {
         match self {
             End::Closed(_) => None,
-            End::Failed(Error::Protocol(ProtocolError::ResetWithoutClosingHandshake)) => None,
-            End::Failed(Error::Protocol(_)) => Some(1002),
-            End::Failed(Error::Utf8) => Some(1007),
-            End::Failed(Error::Capacity(_)) => Some(1009),
-            End::Failed(Error::Io(why)) => {
-                if why.kind() == ErrorKind::QuotaExceeded {
-                    Some(1009)
-                } else {
-                    None
-                }
-            }
-            End::Failed(
-                Error::ConnectionClosed
-                | Error::AlreadyClosed
-                | Error::WriteBufferFull
-                | Error::AttackAttempt
-                | Error::Handshake(_)
-                | Error::HandshakeIncomplete
-                | Error::JunkAfterRequest
-                | Error::CustomResponseSuccessful
-                | Error::Url
-                | Error::Http(_)
-                | Error::Refused(_)
-                | Error::OutOfMemory,
-            ) => None,
+            End::Failed(why) => why.close_code(),
             End::TooMany => Some(1008),
         }
     }

@@ -12,6 +12,7 @@
 #![tactic(auto)]
 
 mod answer;
+mod broken;
 mod error;
 mod heard;
 mod laws;

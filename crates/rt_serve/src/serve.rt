@@ -62,16 +62,16 @@ fn take_heard<S: Read + Write + Drop, L: Log>(
     peer: &mut Peer,
     socket: &mut Socket<S>,
     connection: u64,
-    heard: Heard,
+    heard: &Heard,
     log: &mut L,
 ) -> Result<Option<End>, ServeError>
     requires { fault peer.old connection ≡ None }
     ensures taken { IfSome peer.old (λ p. OnOk result (peer.new
-        ≡ Some (after_all p (calls_of connection heard)))) }
+        ≡ Some (after_all p (calls_of connection heard.now)))) }
     ensures failed { IfSome peer.old (λ p. OnErr result ((peer.new ≡ None) ⊎ (peer.new ≡ peer.old)
-        ⊎ (peer.new ≡ Some (after_all p (calls_of connection heard))))) }
-    ensures ends { IfOk result (λ end. end ≡ end_of heard) }
-    ensures still { IfSome (end_of heard) (λ _. socket.new ≡ socket.old) }
+        ⊎ (peer.new ≡ Some (after_all p (calls_of connection heard.now))))) }
+    ensures ends { IfOk result (λ end. end ≡ end_of heard.now) }
+    ensures still { IfSome (end_of heard.now) (λ _. socket.new ≡ socket.old) }
     ensures memory { IfErr result (λ e. e ≡ ServeError.NoMemory) }
 {
     match heard {
@@ -86,7 +86,7 @@ fn take_heard<S: Read + Write + Drop, L: Log>(
             Ok(None)
         }
         Heard::Nothing => Ok(None),
-        Heard::Ended(end) => Ok(Some(end)),
+        Heard::Ended(end) => Ok(Some(*end)),
     }
 }
 
@@ -106,7 +106,7 @@ fn take_next<S: Read + Write + Drop, L: Log>(
     ensures memory { IfErr result (λ e. e ≡ ServeError.NoMemory) }
 {
     let heard = hear(socket)?;
-    take_heard(alloc, peer, socket, connection, heard, log)
+    take_heard(alloc, peer, socket, connection, &heard, log)
 }
 
 // Takes message after message of the connection, until nothing more can be read or as many have come
@@ -164,7 +164,7 @@ fn take_to_end<S: Read + Write + Drop, L: Log>(
 {
     let end = take_all(alloc, peer, socket, connection, log)?;
     close(socket, end.close_code());
-    telling::ended(alloc, log, connection, &end);
+    telling::ended(alloc, log, connection, end);
     Ok(())
 }
 
@@ -172,7 +172,7 @@ fn take_to_end<S: Read + Write + Drop, L: Log>(
 fn serve_socket<S: Read + Write + Drop, L: Log>(
     alloc: Global,
     peer: &mut Peer,
-    mut socket: Socket<S>,
+    socket: &mut Socket<S>,
     log: &mut L,
 ) -> Result<(), ServeError>
     ensures served { IfSome peer.old (λ p. OnOk result (HasServed p peer.new)) }
@@ -182,12 +182,13 @@ fn serve_socket<S: Read + Write + Drop, L: Log>(
 {
     let connection = connect(peer)?;
     telling::begun(alloc, log, connection);
-    let taken = take_to_end(alloc, peer, &mut socket, connection, log);
+    let taken = take_to_end(alloc, peer, socket, connection, log);
     // What the end of the connection changes is told to others, and none is served beside it.
     match peer.disconnect(connection) {
-        Ok(_) => taken,
-        Err(_) => Err(ServeError::NoMemory),
+        Ok(_) => {}
+        Err(_) => return Err(ServeError::NoMemory),
     }
+    taken
 }
 
 // Serves what came of a handshake, and says whether it came about.
@@ -206,12 +207,12 @@ fn serve_handshake<S: Read + Write + Drop, L: Log>(
     ensures memory { IfErr result (λ e. IfSome peer.old (λ _. e ≡ ServeError.NoMemory)) }
 {
     match handshake {
-        Handshake::Done(socket) => {
-            serve_socket(alloc, peer, socket, log)?;
+        Handshake::Done(mut held) => {
+            serve_socket(alloc, peer, &mut held.socket, log)?;
             Ok(true)
         }
         Handshake::Failed(why) => {
-            telling::no_handshake(alloc, log, &why);
+            telling::no_handshake(alloc, log, why);
             Ok(false)
         }
     }

@@ -1,5 +1,5 @@
 // A server's socket: its handshake, its messages, and what is sent to it.
-ghost use Rattle.std.specs.Prelude.{◌≡◌, [], true, IfOk, IfErr, IfSome, OnOk};
+ghost use Rattle.std.specs.Prelude.{◌≡◌, [], true, false, IfOk, IfErr, IfSome, OnOk};
 ghost use Rattle.std.specs.Io.KnownBytes.{Appends};
 ghost use Rattle.websocket.specs.Connection.{write_step};
 ghost use Rattle.websocket.specs.Content.{text};
@@ -9,6 +9,7 @@ ghost use Rattle.rt_serve.specs.Answers.{Tells, text_of, texts_of};
 ghost use Rattle.rt_serve.specs.Closing.{close_frame};
 ghost use Rattle.rt_serve.specs.Heard.{end_of, is_over};
 
+use crate::broken::Broken;
 use crate::error::ServeError;
 use crate::heard::{Heard, heard_from};
 use rt_input::Counted;
@@ -17,16 +18,47 @@ use rt_wire::ServerMessage;
 use std::alloc::{AllocError, Global};
 use std::io;
 use std::io::{ErrorKind, Read, Write};
-use tungstenite::{Error, HandshakeError, Message, NoMask, WebSocket, WebSocketConfig};
+use tungstenite::{HandshakeError, Message, NoMask, WebSocket, WebSocketConfig};
 
 // A server's WebSocket over a stream whose bytes are counted.
 pub(crate) type Socket<S> = WebSocket<Counted<S>, NoMask>;
 
+// A socket that is held: it ends by a call.
+pub(crate) struct Held<S> {
+    pub(crate) socket: Socket<S>,
+}
+
+impl<S: Drop> Drop for Held<S> {
+    fn drop(self) {
+        let Held { socket: _ } = self;
+    }
+}
+
 // What came of a handshake: a socket, or why there is none.
 #[derive(Drop)]
 pub(crate) enum Handshake<S> {
-    Done(Socket<S>),
-    Failed(Error),
+    Done(Held<S>),
+    Failed(Broken),
+}
+
+// A socket of which a message may have so many bytes.
+fn limited<S: Read + Write + Drop>(mut socket: Socket<S>, most: usize) -> Held<S> {
+    let limits = WebSocketConfig::default()
+        .max_message_size(Some(most))
+        .max_frame_size(Some(most));
+    socket.set_config(limits);
+    Held { socket }
+}
+
+// A handshake that failed so: for another cause than memory it is none.
+fn failed<S: Read + Write + Drop>(why: Broken) -> Result<Handshake<S>, ServeError>
+    ensures { IfErr result (λ e. e ≡ ServeError.NoMemory) }
+{
+    if why.lacks_memory() {
+        Err(ServeError::NoMemory)
+    } else {
+        Ok(Handshake::Failed(why))
+    }
 }
 
 // Shakes hands on a stream. At most so many bytes are read for one message, which may be as long.
@@ -38,17 +70,10 @@ pub(crate) fn shake_hands<S: Read + Write + Drop>(
     ensures { IfErr result (λ e. e ≡ ServeError.NoMemory) }
 {
     match tungstenite::accept(alloc, Counted::new(stream, most)) {
-        Ok(mut socket) => {
-            let limits = WebSocketConfig::default()
-                .max_message_size(Some(most))
-                .max_frame_size(Some(most));
-            socket.set_config(limits);
-            Ok(Handshake::Done(socket))
-        }
-        Err(HandshakeError::Failure(Error::OutOfMemory)) => Err(ServeError::NoMemory),
-        Err(HandshakeError::Failure(why)) => Ok(Handshake::Failed(why)),
+        Ok(socket) => Ok(Handshake::Done(limited(socket, most))),
+        Err(HandshakeError::Failure(error)) => failed(Broken::of(error)),
         Err(HandshakeError::Interrupted(_)) => {
-            Ok(Handshake::Failed(Error::Io(io::Error::from(ErrorKind::WouldBlock))))
+            Ok(Handshake::Failed(Broken::Stream(ErrorKind::WouldBlock, None)))
         }
     }
 }
@@ -60,17 +85,15 @@ fn is_over<S: Read + Write + Drop>(socket: &Socket<S>) -> bool
     !socket.can_read() || socket.get_ref().is_over()
 }
 
-// The next message of the socket, also where what it has to answer by itself can't be written.
-fn read_on<S: Read + Write + Drop>(socket: &mut Socket<S>) -> Result<Message, Error> {
-    match socket.read() {
-        Err(Error::Io(why)) => {
-            if socket.get_mut().pass_over_writes() {
-                socket.read()
-            } else {
-                Err(Error::Io(why))
-            }
-        }
-        read => read,
+// What the next message of the socket says, also where what it has to answer by itself can't be written.
+fn read_on<S: Read + Write + Drop>(socket: &mut Socket<S>) -> Result<Heard, ServeError>
+    ensures { IfErr result (λ e. e ≡ ServeError.NoMemory) }
+{
+    let heard = heard_from(socket.read())?;
+    if heard.has_lost_stream() && socket.get_mut().pass_over_writes() {
+        heard_from(socket.read())
+    } else {
+        Ok(heard)
     }
 }
 
@@ -80,16 +103,11 @@ pub(crate) fn hear<S: Read + Write + Drop>(socket: &mut Socket<S>) -> Result<Hea
     ensures ended { IfOk result (λ heard. IfSome (end_of heard) (λ _. is_over socket.new ≡ true)) }
 {
     socket.get_mut().await_message();
-    match heard_from(read_on(socket))? {
-        Heard::Ended(end) => {
-            if is_over(socket) {
-                Ok(Heard::Ended(end))
-            } else {
-                Ok(Heard::Nothing)
-            }
-        }
-        heard @ (Heard::Text(_) | Heard::Binary | Heard::Nothing) => Ok(heard),
+    let heard = read_on(socket)?;
+    if heard.end().is_some() && !is_over(socket) {
+        return Ok(Heard::Nothing);
     }
+    Ok(heard)
 }
 
 // A message as it is sent.
@@ -98,6 +116,19 @@ fn message_of(alloc: Global, message: &ServerMessage) -> Result<Message, AllocEr
 {
     let words = message.text(alloc)?;
     Message::text(alloc, &words)
+}
+
+// A message was not sent for that cause: what is sent from here on goes nowhere.
+fn not_sent<S: Read + Write + Drop>(socket: &mut Socket<S>, why: Broken) -> Result<bool, ServeError>
+    ensures memory { IfErr result (λ e. e ≡ ServeError.NoMemory) }
+    ensures none { IfOk result (λ is_sent. is_sent ≡ false) }
+{
+    if why.lacks_memory() {
+        return Err(ServeError::NoMemory);
+    }
+    // It ends where no message comes any more.
+    let _begins_now = socket.get_mut().pass_over_writes();
+    Ok(false)
 }
 
 // Sends a message, and says whether it was sent. Where a write fails, those behind it are passed over,
@@ -118,12 +149,7 @@ fn send<S: Read + Write + Drop>(
     };
     match socket.send(message) {
         Ok(()) => Ok(true),
-        Err(Error::OutOfMemory) => Err(ServeError::NoMemory),
-        Err(_) => {
-            // It ends where no message comes any more.
-            let _begins_now = socket.get_mut().pass_over_writes();
-            Ok(false)
-        }
+        Err(error) => not_sent(socket, Broken::of(error)),
     }
 }
 
@@ -156,7 +182,9 @@ fn write_close<W: Write>(stream: &mut W, code: u16) -> io::Result<()>
 // Sends what waits to be sent, and a close with that code, if there is one. A socket that has failed
 // takes no close, so it is written behind its back; where that fails the client is not told.
 pub(crate) fn close<S: Read + Write + Drop>(socket: &mut Socket<S>, code: Option<u16>) {
-    let _flushed = socket.flush();
+    if let Err(error) = socket.flush() {
+        let _passed_over = Broken::of(error);
+    }
     if let Some(code) = code {
         let _closed = write_close(socket.get_mut(), code);
     }

@@ -1,0 +1,175 @@
+// What an emulator has of the system: its port, what wakes it, and the time.
+use crate::fault::EmulateFault;
+use mio::event::Event;
+use mio::net::{TcpListener, TcpStream};
+use mio::{Events, Interest, Poll, Token, Waker};
+use std::alloc::{AllocError, Global};
+use std::io;
+use std::net::{Ipv4Addr, Net, SocketAddr};
+use std::rt::Clock;
+use std::slice::Iter;
+use std::sync::Arc;
+use std::time::{Duration, Instant};
+
+/// The token of who connects; a guest's is its place.
+pub(crate) const LISTENER: Token = Token(usize::MAX);
+
+/// The token of who stops the emulator.
+pub(crate) const WAKER: Token = Token(usize::MAX - 1);
+
+// How many events are taken at once.
+const MOST_EVENTS: usize = 1_024;
+
+/// Ends an emulator, from another thread.
+pub struct Stopper {
+    waker: Arc<Waker>,
+}
+
+impl Drop for Stopper {
+    fn drop(self) {
+        let Stopper { waker: _ } = self;
+    }
+}
+
+impl Stopper {
+    /// The emulator ends with its next turn.
+    ///
+    /// # Errors
+    ///
+    /// Where the system can't wake it.
+    pub fn stop(&self) -> io::Result<()> {
+        self.waker.wake()
+    }
+}
+
+// What is waited with.
+struct Bell {
+    poll: Poll,
+    events: Events,
+    waker: Arc<Waker>,
+}
+
+impl Drop for Bell {
+    fn drop(self) {
+        let Bell {
+            poll: _,
+            events: _,
+            waker: _,
+        } = self;
+    }
+}
+
+// What wakes who waits with that.
+fn waker_of(alloc: Global, poll: &Poll) -> Result<Arc<Waker>, EmulateFault> {
+    match Waker::new(poll.registry(), WAKER) {
+        Ok(waker) => Ok(Arc::new(alloc, waker)?),
+        Err(why) => Err(EmulateFault::NotWaited(why)),
+    }
+}
+
+impl Bell {
+    fn new<R: Net>(rt: &R, alloc: Global) -> Result<Bell, EmulateFault> {
+        let events = Events::with_capacity(alloc, MOST_EVENTS)?;
+        match Poll::new(rt) {
+            Ok(poll) => Bell::of(alloc, poll, events),
+            Err(why) => Err(EmulateFault::NotWaited(why)),
+        }
+    }
+
+    fn of(alloc: Global, poll: Poll, events: Events) -> Result<Bell, EmulateFault> {
+        let waker = waker_of(alloc, &poll)?;
+        Ok(Bell {
+            poll,
+            events,
+            waker,
+        })
+    }
+}
+
+// A listener at the port, of which each that connects is an event.
+fn listener_of<R: Net>(rt: &R, poll: &Poll, port: u16) -> io::Result<TcpListener> {
+    let mut listener = TcpListener::bind(rt, SocketAddr::from((Ipv4Addr::LOCALHOST, port)))?;
+    poll.registry()
+        .register(&mut listener, LISTENER, Interest::READABLE)?;
+    Ok(listener)
+}
+
+/// What an emulator has of the system.
+pub(crate) struct Edge {
+    bell: Bell,
+    listener: TcpListener,
+    start: Instant,
+}
+
+impl Drop for Edge {
+    fn drop(self) {
+        let Edge {
+            bell: _,
+            listener: _,
+            start: _,
+        } = self;
+    }
+}
+
+impl Edge {
+    /// Waits at the port: from here on clients can connect.
+    pub(crate) fn open<R: Net, Y: Clock>(
+        rt: &R,
+        system: &Y,
+        alloc: Global,
+        port: u16,
+    ) -> Result<Edge, EmulateFault> {
+        let start = match Instant::now(system) {
+            Ok(start) => start,
+            Err(why) => return Err(EmulateFault::NotWaited(why)),
+        };
+        let bell = Bell::new(rt, alloc)?;
+        match listener_of(rt, &bell.poll, port) {
+            Ok(listener) => Ok(Edge {
+                bell,
+                listener,
+                start,
+            }),
+            Err(why) => Err(EmulateFault::NotBound { port, why }),
+        }
+    }
+
+    /// What ends the emulator.
+    pub(crate) fn stopper(&self) -> Result<Stopper, AllocError> {
+        let waker = Arc::try_clone(&self.bell.waker)?;
+        Ok(Stopper { waker })
+    }
+
+    /// How many milliseconds have passed since the start, where the system says it.
+    pub(crate) fn passed<Y: Clock>(&self, system: &Y) -> Option<u64> {
+        let Ok(passed) = self.start.elapsed(system) else {
+            return None;
+        };
+        u64::try_from(passed.as_millis()).ok()
+    }
+
+    /// Waits until something happens, for so many milliseconds at most; none: for ever.
+    pub(crate) fn wait(&mut self, patience: Option<u64>) -> io::Result<()> {
+        let patience = patience.map(Duration::from_millis);
+        self.bell.poll.poll(&mut self.bell.events, patience)
+    }
+
+    /// The next one that connects.
+    pub(crate) fn accept(&self) -> io::Result<(TcpStream, SocketAddr)> {
+        self.listener.accept()
+    }
+
+    /// From now on what the stream gives and takes are events of the guest at that place.
+    pub(crate) fn listen_to(&self, stream: &mut TcpStream, place: usize) -> io::Result<()> {
+        let both = Interest::READABLE | Interest::WRITABLE;
+        self.bell
+            .poll
+            .registry()
+            .register(stream, Token(place), both)
+    }
+
+    /// What happened, one after another.
+    pub(crate) fn events(&self) -> Iter<'_, Event> {
+        self.bell.events.iter()
+    }
+}
