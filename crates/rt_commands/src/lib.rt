@@ -9,22 +9,19 @@
 //! let Asked { work, verbose } = read_words(alloc, &words)?;       // what a command line asks for
 //! ```
 //!
-//! What a command stands on is handed on: the peer and how it serves a stream ([`Peer`],
-//! [`serve_stream`]), and how lines drive a client ([`drive`]).
+//! What stands below is handed on: the words of a command line ([`read_words`]), a script
+//! ([`run_script`]), the peer and how it serves a stream ([`Peer`], [`serve_stream`]), and how lines drive
+//! a client ([`drive`]).
 #![tactic(auto)]
 
-mod commands;
 mod connecting;
-mod script;
 mod serving;
-mod words;
 
-pub use commands::PROGRAM;
 pub use connecting::{ConnectFault, connect};
 pub use rt_drive::{drive, drive_logged};
 pub use rt_input::{ConsoleError, Drain, Source};
 pub use rt_peer::Peer;
+pub use rt_script::{run_logged, run_script};
 pub use rt_serve::serve_stream;
-pub use script::{run_logged, run_script};
+pub use rt_words::{Asked, PROGRAM, Serving, Work, explain, read_words};
 pub use serving::{ServeFault, Streams, Visitors, serve};
-pub use words::{Asked, Serving, Work, explain, read_words};

@@ -10,11 +10,11 @@ ghost use Rattle.rt_commands.specs.Connections.{Fails, listed, NamesPort, Serves
 ghost use Rattle.rt_commands.specs.Errors.{serve_code, serve_name};
 ghost use Rattle.rt_commands.specs.declared.serving.ServeFault.TheVariants.{NoMemory};
 
-use crate::words::Serving;
 use rt_input::Log;
 use rt_peer::Peer;
 use rt_serve::{ServeError, serve_logged};
 use rt_tree::{Path, Tree};
+use rt_words::Serving;
 use std::alloc::{AllocError, AllocFailed, Global};
 use std::fmt::Write;
 use std::io;

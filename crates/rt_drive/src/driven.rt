@@ -19,7 +19,7 @@ ghost use Rattle.rt_drive.specs.Sending.{linked};
 
 use crate::link::Link;
 use crate::lost::Lost;
-use crate::say::{say_bad_line, say_lost};
+use crate::say::say_lost;
 use crate::seats::{
     Seats, obey, open_seats, settle_all, take_messages, take_told, tell_connected,
     tell_disconnected, tell_lost,
@@ -27,7 +27,7 @@ use crate::seats::{
 use crate::socket::{Heard, MAX_PINGS, Socket, Told, opened};
 use rt_client::{Client, Seat};
 use rt_input::{ConsoleError, Drain, LineReader, Log, Silent, Source, write_printed};
-use rt_lines::{LineError, Order, Refusal, write_bad_line, write_refusal};
+use rt_lines::{LineError, Order, Refusal, say_bad_line, write_bad_line, write_refusal};
 use rt_world::{Call, CoreError};
 use std::alloc::{AllocError, Global};
 use std::io::{Read, Write};

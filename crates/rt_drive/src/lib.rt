@@ -20,6 +20,5 @@ mod tell;
 
 pub use ahead::{MAX_KEPT_BYTES, MAX_UNANSWERED_BYTES};
 pub use driven::{drive, drive_logged};
-pub use say::say_bad_line;
 pub use seats::{Seats, obey, open_seats, settle_all};
 pub use socket::MAX_PINGS;

@@ -1,9 +1,9 @@
 -- What lines do to a core that C holds.
 use Rattle.std.specs.Prelude.{◌≡◌, ◌⊎◌, ℕ, ◌+◌, min, List, [], if◌then◌else◌}
 use Rattle.rt_world.specs.World.{full_limits, limits_from}
-use Rattle.rt_lines.specs.Doing.{AskedLacks, bytes_done, is_good}
+use Rattle.rt_script.specs.Doing.{AskedLacks, bytes_done, is_good}
 use Rattle.rt_lines.specs.Lines.{line_of_bytes}
-use Rattle.rt_lines.specs.State.{State, new_state}
+use Rattle.rt_script.specs.State.{State, new_state}
 use Rattle.rt_foreign.specs.Status as status
 
 -- a core and the source of its push ids, how many lines it was given, and what the last of them printed

@@ -3,7 +3,7 @@ ghost use Rattle.std.specs.Prelude.{◌≡◌};
 ghost use Rattle.rt_foreign.specs.Sessions.{TakesLine, new_session};
 
 use crate::status::{BAD_TEXT, DONE, NO_MEMORY};
-use rt_lines::{State, do_bytes};
+use rt_script::{State, do_bytes};
 use rt_world::Limits;
 use std::alloc::Global;
 use std::marker::Model;

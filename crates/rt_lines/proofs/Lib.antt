@@ -1,6 +1,4 @@
 mod Bytes
-mod Doings
 mod Faults
 mod Lists
 mod Parts
-mod Waiting

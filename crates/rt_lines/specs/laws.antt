@@ -1,3 +1,2 @@
 -- What the prover computes of some lines.
 pub mod Examples
-pub mod Scripts

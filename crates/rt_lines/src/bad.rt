@@ -1,10 +1,13 @@
 // What is wrong with a line that has none of the forms.
-ghost use Rattle.std.specs.Prelude.{◌≡◌, IfOk, OnOk};
+ghost use Rattle.std.specs.Prelude.{◌≡◌, false, true, IfOk, OnOk};
+ghost use Rattle.std.specs.Io.KnownBytes.{Appends as Tells};
+ghost use Rattle.rt_input.specs.Log.{log_line};
 ghost use Rattle.rt_lines.specs.Bad.{code_of, fault_in, fault_line, name_of};
 ghost use Rattle.rt_lines.specs.inside.Appending.{Appends};
 
 use crate::error::LineError;
 use crate::line::value_of;
+use rt_input::Log;
 use std::alloc::{AllocError, Global};
 use std::fmt::Write;
 use thiserror::Error;
@@ -63,4 +66,26 @@ pub fn write_fault(out: &mut String, number: u64, fault: LineFault) -> Result<()
         LineFault::NotJson => write!(out, "line {number} is no JSON"),
         LineFault::NoForm => write!(out, "line {number} has none of the forms"),
     }
+}
+
+/// Tells what is wrong with the line of that number, which has none of the forms.
+pub fn say_bad_line<L: Log>(
+    alloc: Global,
+    number: u64,
+    bytes: &[u8],
+    log: &mut L,
+) -> Result<(), AllocError>
+    ensures on { L.is_on log.new ≡ L.is_on log.old }
+    ensures off { L.is_on log.old ≡ false → log.new ≡ log.old }
+    ensures told { OnOk result (L.is_on log.old ≡ true → L.has_lost log.new ≡ false
+        → Tells (L.told log.old) (L.told log.new)
+        (log_line (fault_line number (fault_in bytes.now)))) }
+{
+    if !log.is_on() {
+        return Ok(());
+    }
+    let mut line = String::new(alloc);
+    write_fault(&mut line, number, fault_of(alloc, bytes)?)?;
+    log.tell(&line);
+    Ok(())
 }

@@ -1,7 +1,6 @@
-//! Lines and scripts that the prover computes.
+//! Lines that the prover computes.
 ghost use Rattle.rt_lines.specs.laws.Examples.{CallsAreMade, CallsAreRefused, FirstWordIsRefused};
 ghost use Rattle.rt_lines.specs.laws.Examples.{FormsComeFirst, LinesAreRead, TextsArePrinted};
-ghost use Rattle.rt_lines.specs.laws.Scripts.{IdsGoOn, LooksAreShown, RefusedLines, RootListen};
 
 /// What lines ask for.
 pub fn lines_are_read()
@@ -31,24 +30,4 @@ pub fn calls_are_refused()
 /// What is printed.
 pub fn texts_are_printed()
     ensures { TextsArePrinted }
-{}
-
-/// A listen on all there is, a push, and a write that shows at once.
-pub fn root_listen()
-    ensures { RootListen }
-{}
-
-/// What a core shows: messages, which are taken out, the listens that are kept, views.
-pub fn looks_are_shown()
-    ensures { LooksAreShown }
-{}
-
-/// What is refused, bad or stale changes nothing.
-pub fn refused_lines()
-    ensures { RefusedLines }
-{}
-
-/// Push ids go on from line to line; a refusal changes nothing.
-pub fn ids_go_on()
-    ensures { IdsGoOn }
 {}

@@ -1,20 +1,18 @@
-//! The lines of a script: which bytes are which line, what a line asks for, what it does to a core or
-//! asks of a source of push ids, and what is printed for it. Each of the three can be had by itself.
+//! The lines of a script: which bytes are which line, what a line asks for, and what is printed for it.
 //!
 //! ```text
-//! do_bytes(alloc, &mut state, 1, b"[\"set\",1,\"/a\",5]", &mut text)?;      // does it, and prints
-//!
 //! match Line::read(alloc, b"[\"set\",1,\"/a\",5]")? {
 //!     Line::Step(step) => ..,               // Write {seat: 1, action: Put {path: /a, tree: 5}}
 //!     Line::Out | Line::Cover | Line::View(_) | Line::Push { .. } => ..,
 //! }
 //! ```
+//!
+//! What a line does to a core is `rt_script`'s, and what it asks of a client `rt_drive`'s.
 #![tactic(auto)]
 
 mod bad;
 mod call;
 mod change;
-mod doing;
 mod draft;
 mod error;
 pub mod examples;
@@ -24,12 +22,10 @@ mod order;
 mod reading;
 mod report;
 mod show;
-mod state;
 mod word;
 
-pub use bad::{LineFault, fault_of, write_fault};
+pub use bad::{LineFault, fault_of, say_bad_line, write_fault};
 pub use change::write_batch;
-pub use doing::{do_bytes, do_line};
 pub use error::{LineError, Refusal};
 pub use line::Line;
 pub use order::{MOST_READ, Order};
@@ -38,4 +34,3 @@ pub use report::{
     write_report, write_settled,
 };
 pub use show::{write_cover, write_messages, write_view};
-pub use state::State;

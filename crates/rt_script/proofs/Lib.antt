@@ -1,0 +1,4 @@
+mod Doings
+mod Runs
+mod Waiting
+mod Written

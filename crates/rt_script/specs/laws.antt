@@ -1,0 +1,2 @@
+-- What the prover computes of some scripts.
+pub mod Scripts

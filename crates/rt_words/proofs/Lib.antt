@@ -1,0 +1,4 @@
+mod Asking
+mod Flags
+mod Numbers
+mod Several

@@ -1,0 +1,413 @@
+// What clap is asked to read: the program's subcommands, with what each takes and says of itself.
+ghost use Rattle.std.specs.Prelude.{◌≡◌, false, IfOk};
+ghost use Rattle.clap.specs.Words.{app_of, new_app, rule_of};
+ghost use Rattle.clap.specs.declared.builder.command.Command.TheViews.{out-Command as fields_of};
+ghost use Rattle.rt_words.specs.Commands.{base_app, connect_app, console_app, count_rule, deny_rule};
+ghost use Rattle.rt_words.specs.Commands.{denies_rule, emulate_app, file_rule, gone_rule, no_input_rule};
+ghost use Rattle.rt_words.specs.Commands.{origin_rule, port_rule, quiet_rule, script_app, serve_app};
+ghost use Rattle.rt_words.specs.Commands.{idle_rule, tree_rule, verbose_rule, watch_app, whole};
+
+use clap::builder::ValueParser;
+use clap::{Arg, ArgAction, Command, value_parser};
+use std::alloc::{AllocError, Global};
+
+/// The program's name, as its users type it.
+pub const PROGRAM: &str = "kaltewi";
+
+const ABOUT: &str = "Runs a Firebase Realtime Database sync client from the command line";
+
+const SCRIPT: &str = "\
+Reads lines from standard input, does what they ask of one client, and prints what each answers";
+
+const LINES: &str = "\
+Each line is a JSON array. The connection to the server opens and ends:
+  [\"connected\"], [\"disconnected\"]
+A seat listens, writes, asks for what the server is to do once the connection ends, and goes:
+  [\"listen\",SEAT,PATH,[CALL,..]]         a listener; prints its number
+  [\"unlisten\",SEAT,LISTENER]
+  [\"set\",SEAT,PATH,VALUE]                a request; prints its number, as the next six do
+  [\"update\",SEAT,{PATH:VALUE,..}]
+  [\"remove\",SEAT,PATH]
+  [\"onDisconnect\",SEAT,\"set\",PATH,VALUE]
+  [\"onDisconnect\",SEAT,\"update\",{PATH:VALUE,..}]
+  [\"onDisconnect\",SEAT,\"remove\",PATH]
+  [\"onDisconnect\",SEAT,\"cancel\",PATH]
+  [\"close\",SEAT]
+The server sends values on the listen with that tag, settles requests, and ends listens:
+  [\"data\",TAG,PATH,VALUE]
+  [\"merge\",TAG,{PATH:VALUE,..}]
+  [\"parts\",[[TAG,{PATH:VALUE,..}],..]]   values on several listens, as one step
+  [\"ok\",REQUEST]
+  [\"no\",REQUEST,REASON]
+  [\"revoke\",TAG,REASON]
+  [\"server\",TEXT]                        one of these six as the message that it sends
+Looks at the client:
+  [\"view\",LISTENER]                      what the listener shows
+  [\"cover\"]                              the listens that are kept
+  [\"out\"]                                the messages to be sent, which are taken
+The next push id, for the milliseconds since 1970 and twelve random numbers from 0 to 63:
+  [\"push\",MS,[RANDOM,..]]
+CALL is [\"orderByKey\"], [\"orderByValue\"], [\"orderByChild\",PATH], [\"limitToFirst\",N],
+[\"limitToLast\",N], or startAt, startAfter, endAt, endBefore or equalTo with a value and perhaps a key.
+A step prints 'done', 'done N' or 'stale', then what is settled and ended, then each listener's changes.
+A line that can't be made prints why: 'refused LAYER CODE NAME'.
+A line that is none of these prints 'bad line N', and the run goes on; --verbose says what is wrong with it.
+Exit status: 0 done; 1 a fault, or a bad line was printed; 2 a bad command line, or help.";
+
+const SERVE: &str = "\
+Serves clients that connect over WebSockets, one after the other, and keeps what they write in one tree";
+
+const MESSAGES: &str = "\
+A client connects to ws://127.0.0.1:PORT/ and sends text messages, each a JSON object, as
+  {\"k\":\"listen\",\"path\":\"/a\",\"tag\":1}
+  {\"k\":\"put\",\"id\":1,\"path\":\"/a\",\"value\":5}
+The next client comes in when it goes, and finds what was written. Nothing is printed on standard output.
+--verbose says on standard error where it listens, which connections come and how each ends, and what is
+passed over. One that speaks no WebSocket is not one of the N.
+Exit status: 0 once N clients came and went; 1 a fault, such as a port that is taken; 2 a bad command line,
+or help.
+
+Example: kaltewi serve 8080 --count 2 --tree '{\"a\":1}' --deny /secret";
+
+const TREE: &str = "\
+The tree before the first connection; null where it is left out. Write -5 as --tree=-5";
+
+const DENY: &str = "\
+A path that can't be listened to, nor written, nor any above or below it. Write -a as --deny=-a";
+
+const CONNECT: &str = "\
+Connects a client to 127.0.0.1:PORT over a WebSocket, and drives it by lines from standard input";
+
+const DRIVING: &str = "\
+The client has eight seats, with the numbers 1 to 8. The lines are some of those of 'kaltewi script':
+  listen, unlisten, set, update, remove, onDisconnect, close and cover
+with what they print there, and
+  [\"read\",N]                             reads N messages of the server, from 1 to 1000
+A message prints 'done' or 'stale', or why it can't be read or taken: 'refused LAYER CODE NAME'.
+What a seat is told then, settled, ended or changed, is printed seat by seat.
+Where the connection fails or ends 'disconnected' is printed, and the lines go on; --verbose says why.
+A line that is none of these prints 'bad line N', and the run goes on; --verbose says what is wrong with it.
+Exit status: 0 done; 1 a fault, or a bad line was printed; 2 a bad command line, or help.
+
+Example: kaltewi serve 8080 in one terminal, and in another
+  printf '%s\\n' '[\"listen\",1,\"/a\",[]]' '[\"read\",1]' | kaltewi connect 8080";
+
+const WATCH: &str = "\
+Connects a client to 127.0.0.1:PORT, does lines as they come, and prints what changes as it happens";
+
+const WATCHING: &str = "\
+The client has eight seats, with the numbers 1 to 8. The lines are those of 'kaltewi connect' but 'read':
+  listen, unlisten, set, update, remove, onDisconnect, close and cover
+with what they print there. A line is done once it is there, from when the client is connected.
+Messages of the server are taken as they come. What a seat is told of them, settled, ended or changed, is
+printed at once, seat by seat, and of a message that can't be read or taken why: 'refused LAYER CODE NAME'.
+Where the connection fails or ends 'disconnected' is printed, and the lines go on; --verbose says why.
+A line that is none of these prints 'bad line N', and the run goes on; --verbose says what is wrong with it.
+At the end of the lines it goes on until the connection has ended or, with --idle, until nothing was printed
+for so long. Then the client closes the connection.
+Exit status: 0 done; 1 a fault, or a bad line was printed; 2 a bad command line, or help.
+
+Example: kaltewi emulate 8080 in one terminal, and in two others
+  kaltewi watch 8080
+with the line [\"listen\",1,\"/a\",[]] typed in both, and [\"set\",1,\"/a/x\",5] in one of them";
+
+const EMULATE: &str = "\
+Serves any number of clients at once over WebSockets, and keeps what they write in one tree";
+
+const LIVE: &str = "\
+A client connects to ws://127.0.0.1:PORT/ and sends the same messages as to 'kaltewi serve'; what it writes
+is sent at once to all that listen there.
+It ends with its standard input, at the end of a file or at Ctrl-D, or once N connections have gone. Then
+all connections are ended, and what they asked for at their end is done. In the background, where there is
+no input, --no-input lets it go on until a signal ends it.
+With --file the tree is that of FILE, where there is one, else that of --tree. What has changed is written to
+FILE.new, which then takes FILE's place: a second after the change at most, and at the end. So Ctrl-C loses a
+second at most. A tree of any size is read again.
+A web page of another machine is refused, as its browser says by the handshake's Origin, unless --origin
+allows it.
+A client that doesn't read is ended once more than 10000 messages or 16777216 bytes wait for it, and so is
+one of which nothing is heard: for 10 seconds before its handshake, and after it for 30 seconds behind a ping,
+which is sent after 30 seconds of silence. A message has at most 16777216 bytes.
+Nothing is printed on standard output. On standard error it says where it listens, and each connection,
+message, refusal and end, unless --quiet is given.
+Exit status: 0 at its end; 1 a fault, such as a port that is taken; 2 a bad command line, or help.
+
+Example: kaltewi emulate 8080 --file tree.json --deny /secret --origin https://app.example";
+
+const FIRST_TREE: &str = "\
+The first tree, where FILE has none; null where it is left out. Write -5 as --tree=-5";
+
+const FILE: &str = "\
+The file that the tree is read from at first, and written to. Write -a as --file=-a";
+
+const ORIGIN: &str = "\
+An origin whose pages may connect, such as https://app.example; may be given several times";
+
+const DENIES: &str = "\
+A path that can't be listened to, nor written, nor any above or below it; may be given several times";
+
+// `-v`, `--verbose`
+fn verbose_arg<'a>(alloc: Global) -> Arg<'a>
+    ensures rule { rule_of result ≡ verbose_rule }
+    ensures local { result.global ≡ false }
+{
+    Arg::new(alloc, "verbose")
+        .short('v')
+        .long("verbose")
+        .action(ArgAction::SetTrue)
+        .help("Says on standard error what happens; standard output stays as it is")
+}
+
+// `script`
+fn script_command<'a>(alloc: Global) -> Result<Command<'a>, AllocError>
+    ensures app { IfOk result (λ command. app_of command ≡ script_app) }
+    ensures local { IfOk result (λ command. (fields_of command).has_globals ≡ false) }
+{
+    let command = Command::new(alloc, "script")
+        .about(SCRIPT)
+        .after_help(LINES)
+        .arg(verbose_arg(alloc))?;
+    Ok(command)
+}
+
+// A whole number from 1 to 65,535.
+fn whole_number<'a>() -> ValueParser<'a>
+    ensures { result ≡ whole }
+{
+    value_parser!(u16).range(1..)
+}
+
+// `PORT`
+fn port_arg<'a>(alloc: Global) -> Arg<'a>
+    ensures rule { rule_of result ≡ port_rule }
+    ensures local { result.global ≡ false }
+{
+    Arg::new(alloc, "PORT")
+        .help("The port of 127.0.0.1, from 1 to 65535")
+        .required(true)
+        .value_parser(whole_number())
+}
+
+// `--count N`
+fn count_arg<'a>(alloc: Global) -> Arg<'a>
+    ensures rule { rule_of result ≡ count_rule }
+    ensures local { result.global ≡ false }
+{
+    Arg::new(alloc, "count")
+        .long("count")
+        .value_name("N")
+        .help("How many connections are served, from 1 to 65535")
+        .default_value("1")
+        .value_parser(whole_number())
+}
+
+// `--tree JSON`
+fn tree_arg<'a>(alloc: Global) -> Arg<'a>
+    ensures rule { rule_of result ≡ tree_rule }
+    ensures local { result.global ≡ false }
+{
+    Arg::new(alloc, "tree")
+        .long("tree")
+        .value_name("JSON")
+        .help(TREE)
+}
+
+// `--deny PATH`
+fn deny_arg<'a>(alloc: Global) -> Arg<'a>
+    ensures rule { rule_of result ≡ deny_rule }
+    ensures local { result.global ≡ false }
+{
+    Arg::new(alloc, "deny")
+        .long("deny")
+        .value_name("PATH")
+        .help(DENY)
+}
+
+// `-q`, `--quiet`
+fn quiet_arg<'a>(alloc: Global) -> Arg<'a>
+    ensures rule { rule_of result ≡ quiet_rule }
+    ensures local { result.global ≡ false }
+{
+    Arg::new(alloc, "quiet")
+        .short('q')
+        .long("quiet")
+        .action(ArgAction::SetTrue)
+        .help("Says nothing on standard error but why it ends early")
+}
+
+// `--no-input`
+fn no_input_arg<'a>(alloc: Global) -> Arg<'a>
+    ensures rule { rule_of result ≡ no_input_rule }
+    ensures local { result.global ≡ false }
+{
+    Arg::new(alloc, "no-input")
+        .long("no-input")
+        .action(ArgAction::SetTrue)
+        .help("Goes on where its standard input ends, and doesn't read it")
+}
+
+// `--count N`, of those that have gone
+fn gone_arg<'a>(alloc: Global) -> Arg<'a>
+    ensures rule { rule_of result ≡ gone_rule }
+    ensures local { result.global ≡ false }
+{
+    Arg::new(alloc, "count")
+        .long("count")
+        .value_name("N")
+        .help("Ends once so many connections have gone, from 1 to 65535")
+        .value_parser(whole_number())
+}
+
+// `--file FILE`
+fn file_arg<'a>(alloc: Global) -> Arg<'a>
+    ensures rule { rule_of result ≡ file_rule }
+    ensures local { result.global ≡ false }
+{
+    Arg::new(alloc, "file")
+        .long("file")
+        .value_name("FILE")
+        .help(FILE)
+}
+
+// `--deny PATH`, several times
+fn denies_arg<'a>(alloc: Global) -> Arg<'a>
+    ensures rule { rule_of result ≡ denies_rule }
+    ensures local { result.global ≡ false }
+{
+    Arg::new(alloc, "deny")
+        .long("deny")
+        .value_name("PATH")
+        .action(ArgAction::Append)
+        .help(DENIES)
+}
+
+// `--origin TEXT`, several times
+fn origin_arg<'a>(alloc: Global) -> Arg<'a>
+    ensures rule { rule_of result ≡ origin_rule }
+    ensures local { result.global ≡ false }
+{
+    Arg::new(alloc, "origin")
+        .long("origin")
+        .value_name("TEXT")
+        .action(ArgAction::Append)
+        .help(ORIGIN)
+}
+
+// `--tree JSON`, of `emulate`
+fn first_tree_arg<'a>(alloc: Global) -> Arg<'a>
+    ensures rule { rule_of result ≡ tree_rule }
+    ensures local { result.global ≡ false }
+{
+    Arg::new(alloc, "tree")
+        .long("tree")
+        .value_name("JSON")
+        .help(FIRST_TREE)
+}
+
+// `emulate`
+pub(crate) fn emulate_command<'a>(alloc: Global) -> Result<Command<'a>, AllocError>
+    ensures app { IfOk result (λ command. app_of command ≡ emulate_app) }
+    ensures local { IfOk result (λ command. (fields_of command).has_globals ≡ false) }
+{
+    let command = Command::new(alloc, "emulate")
+        .about(EMULATE)
+        .after_help(LIVE)
+        .arg(port_arg(alloc))?
+        .arg(first_tree_arg(alloc))?
+        .arg(file_arg(alloc))?
+        .arg(denies_arg(alloc))?
+        .arg(origin_arg(alloc))?
+        .arg(gone_arg(alloc))?
+        .arg(no_input_arg(alloc))?
+        .arg(quiet_arg(alloc))?;
+    Ok(command)
+}
+
+// `serve`
+pub(crate) fn serve_command<'a>(alloc: Global) -> Result<Command<'a>, AllocError>
+    ensures app { IfOk result (λ command. app_of command ≡ serve_app) }
+    ensures local { IfOk result (λ command. (fields_of command).has_globals ≡ false) }
+{
+    let command = Command::new(alloc, "serve")
+        .about(SERVE)
+        .after_help(MESSAGES)
+        .arg(port_arg(alloc))?
+        .arg(count_arg(alloc))?
+        .arg(tree_arg(alloc))?
+        .arg(deny_arg(alloc))?
+        .arg(verbose_arg(alloc))?;
+    Ok(command)
+}
+
+// `connect`
+fn connect_command<'a>(alloc: Global) -> Result<Command<'a>, AllocError>
+    ensures app { IfOk result (λ command. app_of command ≡ connect_app) }
+    ensures local { IfOk result (λ command. (fields_of command).has_globals ≡ false) }
+{
+    let command = Command::new(alloc, "connect")
+        .about(CONNECT)
+        .after_help(DRIVING)
+        .arg(port_arg(alloc))?
+        .arg(verbose_arg(alloc))?;
+    Ok(command)
+}
+
+// `--idle MS`
+fn idle_arg<'a>(alloc: Global) -> Arg<'a>
+    ensures rule { rule_of result ≡ idle_rule }
+    ensures local { result.global ≡ false }
+{
+    Arg::new(alloc, "idle")
+        .long("idle")
+        .value_name("MS")
+        .help(
+            "Ends once no more lines come and nothing was printed for MS milliseconds, from 1 to 65535",
+        )
+        .value_parser(whole_number())
+}
+
+// `watch`
+fn watch_command<'a>(alloc: Global) -> Result<Command<'a>, AllocError>
+    ensures app { IfOk result (λ command. app_of command ≡ watch_app) }
+    ensures local { IfOk result (λ command. (fields_of command).has_globals ≡ false) }
+{
+    let command = Command::new(alloc, "watch")
+        .about(WATCH)
+        .after_help(WATCHING)
+        .arg(port_arg(alloc))?
+        .arg(idle_arg(alloc))?
+        .arg(verbose_arg(alloc))?;
+    Ok(command)
+}
+
+// The program, with no subcommand yet.
+fn base_command<'a>(alloc: Global) -> Result<Command<'a>, AllocError>
+    ensures app { IfOk result (λ command. app_of command ≡ base_app) }
+    ensures local { IfOk result (λ command. (fields_of command).has_globals ≡ false) }
+{
+    let command = Command::new(alloc, PROGRAM)
+        .about(ABOUT)
+        .no_binary_name(true)
+        .subcommand_required(true)
+        .bin_name(PROGRAM)?;
+    Ok(command)
+}
+
+// The program's command line.
+pub(crate) fn console_command<'a>(alloc: Global) -> Result<Command<'a>, AllocError>
+    ensures { IfOk result (λ command. app_of command ≡ console_app) }
+{
+    let base = base_command(alloc)?;
+    let script = script_command(alloc)?;
+    let serve = serve_command(alloc)?;
+    let emulate = emulate_command(alloc)?;
+    let connect = connect_command(alloc)?;
+    let watch = watch_command(alloc)?;
+    let command = base
+        .subcommand(script)?
+        .subcommand(serve)?
+        .subcommand(emulate)?
+        .subcommand(connect)?
+        .subcommand(watch)?;
+    Ok(command)
+}
