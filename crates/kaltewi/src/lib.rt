@@ -18,7 +18,7 @@
 //! | to show it | [`Snapshots`], [`Snapshot`], `Shared::view` |
 //! | the messages of one server connection | [`ServerMessage::read`], [`ClientMessage::text`] |
 //! | the core alone, with no thread and no lock | [`Core`], [`Step`], [`run`] |
-//! | its connection over a WebSocket, in a thread of its own | [`Link::open`], [`Link::run`], [`Linked`] |
+//! | its connection over a WebSocket, in a thread of its own | [`Link::open`], [`Link::keep`], [`Linked`] |
 //! | a small server in the same process, for tests | [`Peer`] |
 //!
 //! A client in threads:
@@ -37,10 +37,10 @@
 //!
 //! Each name has an example above the line that hands it on, in the module of its topic: `trees`, `queries`,
 //! `steps`, `client`, `link`, `told`, `messages`, `ids`, `errors`. They are quoted from the programs
-//! `example_calls` and `example_link`. There `rt` is the runtime that `main` is given, and `alloc` its
+//! `examples/calls` and `examples/link`. There `rt` is the runtime that `main` is given, and `alloc` its
 //! allocator.
 //!
-//! `example_chat` and `example_threads` are whole programs over this crate. Each call's contract, which says
+//! `examples/chat` and `examples/threads` are whole programs over this crate. Each call's contract, which says
 //! all that it does, stands in the crate that it comes from; `docs/PROOFS.md` has them by crate.
 #![tactic(auto)]
 
@@ -63,7 +63,8 @@ pub use errors::{
 };
 pub use ids::{PushIds, ids_are_keys, keys_rise};
 pub use link::{
-    Bell, Connection, Link, LinkEnd, LinkFault, Linked, Lost, Passed, Turn, link_crossing_law,
+    Answer, Bell, Connection, Link, LinkEnd, LinkFault, Linked, Lost, Passed, Turn,
+    link_crossing_law,
 };
 pub use messages::{Asked, ClientMessage, Part, Parts, Peer, Reason, Sent, ServerMessage};
 pub use queries::{Draft, Index, Limit, Mark, Query, Row, Shown, query_text};

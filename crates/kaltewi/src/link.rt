@@ -1,9 +1,9 @@
 // A link, which carries a client's connection over a WebSocket in a thread of its own.
 
-/// A client and the link that carries its connection: one thread runs the link, and sleeps while there is
-/// nothing to do. Threads share the linked client; each of its calls is the client's call of that name, and
-/// wakes the link. A run ends when the connection does, or when it is told to stop, and can be made again:
-/// what was not answered is sent again then.
+/// A client and the link that keeps its connection: one thread does, and sleeps while there is nothing to do.
+/// Threads share the linked client; each of its calls is the client's call of that name, and wakes the link.
+/// Where a connection ends, the next one is waited for: a second at first, and longer each time, up to 30.
+/// What was not answered is sent again then.
 ///
 /// ```rust
 /// fn open_linked(rt: &impl Net, alloc: Global) -> Result<(Link, Linked, Vec<Seat>), LinkFault> {
@@ -20,15 +20,25 @@
 ///     server: SocketAddr,
 /// ) -> Result<(), LinkFault> {
 ///     for _ in rt.forever() {
-///         let ending = link.run(rt, alloc, linked, rt, server)?;
-///         let is_last = matches!(ending, LinkEnd::Stopped);
-///         drop(ending);
-///         if is_last {
+///         if let LinkEnd::Stopped = link.keep(rt, alloc, linked, rt, server)? {
 ///             break;
 ///         }
-///         link.wait(Duration::from_secs(1))?;
 ///     }
 ///     Ok(())
+/// }
+///
+/// fn carry_once<R: Net + Wait + Clock + RandomSource>(
+///     rt: &R,
+///     alloc: Global,
+///     link: &mut Link,
+///     linked: &Linked,
+///     server: SocketAddr,
+/// ) -> Result<LinkEnd, LinkFault> {
+///     link.run(rt, alloc, linked, rt, server)
+/// }
+///
+/// fn due_millis(link: &Link) -> u64 {
+///     link.next_wait()
 /// }
 ///
 /// fn stop_all(rt: &impl Wait, linked: &Linked) {
@@ -54,6 +64,17 @@
 ///     linked.set(rt, seat, path, tree)
 /// }
 ///
+/// fn write_and_wait(
+///     rt: &impl Wait,
+///     linked: &Linked,
+///     seat: &mut Seat,
+///     path: Path,
+///     tree: Tree,
+/// ) -> Result<Answer, ClientError> {
+///     let request = linked.set(rt, seat, path, tree)?;
+///     linked.wait_answer(rt, seat, request)
+/// }
+///
 /// fn remove_and_ring(
 ///     rt: &impl Wait,
 ///     linked: &Linked,
@@ -69,7 +90,7 @@
 ///     link.passed_over()
 /// }
 /// ```
-pub use rt_link::{Link, LinkEnd, LinkFault, Linked};
+pub use rt_link::{Answer, Link, LinkEnd, LinkFault, Linked};
 
 /// What wakes a link, for a thread that makes no call.
 ///

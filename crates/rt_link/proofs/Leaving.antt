@@ -4,7 +4,7 @@ use Rattle.std.specs.Prelude.{◌≢◌}
 use mathlib.Core.List.{append-nil}
 use Rattle.rt_link.specs.Carrying.{Standing, Shaking, Open, Closing, Gone, Carried, IsLeft, PassesOver, Turns}
 use Rattle.rt_link.specs.declared.connection.Turn.TheVariants.{NotOpened}
-use Rattle.rt_link.specs.declared.lost.Lost.{Lost}
+use Rattle.rt_socket.specs.declared.lost.Lost.{Lost}
 use Rattle.rt_link.specs.declared.taking.Passed.{Passed}
 
 -- it is gone

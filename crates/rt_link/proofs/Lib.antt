@@ -1,4 +1,3 @@
 pub mod Crosses
-pub mod Joining
 pub mod Leaving
 pub mod Taken

@@ -4,7 +4,7 @@ use Rattle.rt_link.specs.declared.connection.Stage.{Stage}
 use Rattle.rt_link.specs.declared.connection.Stage.TheVariants as stage
 use Rattle.rt_link.specs.declared.connection.Turn.{Turn}
 use Rattle.rt_link.specs.declared.connection.Turn.TheVariants as turn
-use Rattle.rt_link.specs.declared.lost.Lost.TheVariants as lost
+use Rattle.rt_socket.specs.declared.lost.Lost.TheVariants as lost
 use Rattle.rt_link.specs.declared.taking.Passed.{Passed}
 
 -- its handshake is not done, or it stands; the client has said that it goes; it is gone

@@ -1,18 +1,12 @@
 -- What a turn of a connection leaves to be done.
-use Rattle.std.specs.Prelude.{ℕ, ◌==◌, if◌then◌else◌, Bool, true, false, Result, Ok, Err}
-use Rattle.tungstenite.specs.declared.error.Error.{Error}
-use Rattle.tungstenite.specs.declared.error.Error.TheVariants.{OutOfMemory, Io}
-use Rattle.rt_link.specs.declared.batch.Pause.{Pause}
-use Rattle.rt_link.specs.declared.batch.Pause.TheVariants as pause
+use Rattle.std.specs.Prelude.{ℕ, ◌==◌, if◌then◌else◌, Bool, true, false}
+use Rattle.rt_socket.specs.declared.batch.Pause.{Pause}
+use Rattle.rt_socket.specs.declared.batch.Pause.TheVariants as pause
 use Rattle.rt_link.specs.declared.connection.Turn.{Turn}
 use Rattle.rt_link.specs.declared.connection.Turn.TheVariants as turn
-use Rattle.rt_link.specs.declared.error.LinkFault.{LinkFault}
-use Rattle.rt_link.specs.declared.error.LinkFault.TheVariants.{NoMemory}
 use Rattle.rt_link.specs.declared.link.LinkEnd.TheVariants as ending
 use Rattle.rt_link.specs.declared.link.Next.{Next}
 use Rattle.rt_link.specs.declared.link.Next.TheVariants.{GoOn, Sleep, End}
-use Rattle.rt_link.specs.declared.lost.Lost.{Lost}
-use Rattle.rt_link.specs.declared.lost.Lost.TheVariants.{Unreachable, NoHandshake}
 use Rattle.rt_link.specs.declared.turning.Sent.{Sent}
 use Rattle.rt_link.specs.declared.turning.Sent.TheVariants as sent
 
@@ -27,12 +21,6 @@ abbrev pub is_there_more : Sent → Sent
 is_there_more sent.Done = sent.More
 is_there_more sent.More = sent.More
 is_there_more (sent.Lost why) = sent.Lost why
-
--- a handshake that fails: want of memory, a stream that failed, or another fault of the other side
-abbrev pub unopened : Error → Result Lost LinkFault
-unopened OutOfMemory = Err NoMemory
-unopened (Io why) = Ok (Unreachable why)
-unopened e = Ok (NoHandshake e)
 
 -- what a run does after a turn: it ends where it was told to stop, or where the connection ends
 abbrev pub next : Turn → Bool → Next

@@ -1,3 +1,2 @@
 -- What only the proofs of this crate need.
 pub mod Counts
-pub mod Rounds

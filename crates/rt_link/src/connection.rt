@@ -4,16 +4,14 @@ ghost use Rattle.rt_link.specs.Carrying.{Closes, Fails, GoesOn, PassesOver, Shak
 ghost use Rattle.rt_link.specs.declared.connection.Turn.TheVariants.{Ended};
 ghost use Rattle.rt_link.specs.Carrying.{begun, is_open, Closing, Gone, Open, Shaking};
 
-use crate::batch::{Batch, Pause, hear_all};
 use crate::error::LinkFault;
-use crate::lost::Lost;
-use crate::paced::Paced;
-use crate::patience::{Patience, for_end, for_handshake, for_silence};
-use crate::socket::{Socket, limits};
 use crate::taking::Passed;
-use crate::turning::{BATCH, Sent, answer_turn, hear_turn, paced, unopened};
-use crate::wire::{Flushed, Wire};
+use crate::turning::{BATCH, Sent, answer_turn, hear_turn, paced};
 use rt_client::Client;
+use rt_socket::{
+    Batch, Flushed, Lost, Paced, Patience, Pause, Socket, Wire, for_end, for_handshake,
+    for_silence, hear_all, limits, unopened,
+};
 use std::alloc::Global;
 use std::io::{Read, Write};
 use std::marker::Model;
@@ -22,7 +20,10 @@ use std::sync::Wait;
 use std::time::{Clock, Duration, Instant};
 use tungstenite::handshake::MidHandshake;
 use tungstenite::handshake::client::{ClientHandshake, request_of, start};
-use tungstenite::{Error, HandshakeError, RandomKeys};
+use tungstenite::{HandshakeError, RandomKeys};
+
+/// The most bytes of a message of the server.
+const MAX_MESSAGE_BYTES: usize = 134_217_728;
 
 // How many bytes are read in one turn.
 const TURN_BYTES: usize = 262_144;
@@ -30,13 +31,16 @@ const TURN_BYTES: usize = 262_144;
 // What the stream of a handshake is read from.
 type Shaking<S, N> = MidHandshake<ClientHandshake<Paced<S>, RandomKeys<N>>>;
 
+// A connection's socket.
+type ClientSocket<S, N> = Socket<Paced<S>, RandomKeys<N>>;
+
 // Where a connection stands.
 #[derive(Drop)]
 enum Stage<S: Read + Write + Drop, N: RandomSource + Drop> {
     Shaking(Shaking<S, N>),
-    Open(Socket<S, N>),
+    Open(ClientSocket<S, N>),
     // The client has said that it goes.
-    Closing(Socket<S, N>),
+    Closing(ClientSocket<S, N>),
     Gone,
 }
 
@@ -55,7 +59,6 @@ pub enum Turn {
 
 /// A connection of a client, over a stream that does not wait. It begins with its handshake; a client that
 /// it has told of a connection is told of its end by [`Connection::close`], if no turn did so before.
-#[derive(Drop)]
 pub struct Connection<S: Read + Write + Drop, N: RandomSource + Drop> {
     alloc: Global,
     stage: Stage<S, N>,
@@ -63,6 +66,18 @@ pub struct Connection<S: Read + Write + Drop, N: RandomSource + Drop> {
     heard: Instant,
     is_asked: bool,
     passed: Vec<Passed>,
+}
+
+impl<S: Read + Write + Drop, N: RandomSource + Drop> Drop for Connection<S, N> {
+    fn drop(self) {
+        let Connection {
+            alloc: _,
+            stage: _,
+            heard: _,
+            is_asked: _,
+            passed: _,
+        } = self;
+    }
 }
 
 impl<S: Read + Write + Drop, N: RandomSource + Drop> Model for Connection<S, N> {
@@ -74,7 +89,7 @@ impl<S: Read + Write + Drop, N: RandomSource + Drop> Model for Connection<S, N> 
 }
 
 // How many milliseconds have gone by.
-fn millis_since<R: Clock>(rt: &R, then: Instant) -> Result<u64, LinkFault> {
+pub(crate) fn millis_since<R: Clock>(rt: &R, then: Instant) -> Result<u64, LinkFault> {
     let millis = then.elapsed(rt)?.as_millis();
     Ok(u64::try_from(millis).unwrap_or(u64::MAX))
 }
@@ -99,7 +114,7 @@ fn shake_hands<S: Read + Write + Drop, N: RandomSource + Drop>(
         keys,
         request,
         Paced::new(stream),
-        Some(limits()),
+        Some(limits(MAX_MESSAGE_BYTES)),
     ) {
         Ok(mid) => Ok(Ok(mid)),
         Err(why) => Ok(Err(unopened(why)?)),
@@ -292,7 +307,11 @@ impl<S: Read + Write + Drop, N: RandomSource + Drop> Connection<S, N> {
     }
 
     // Passes over what the server still sends, until it goes too.
-    fn see_off<R: Clock>(&mut self, rt: &R, mut socket: Socket<S, N>) -> Result<Turn, LinkFault>
+    fn see_off<R: Clock>(
+        &mut self,
+        rt: &R,
+        mut socket: ClientSocket<S, N>,
+    ) -> Result<Turn, LinkFault>
         ensures gone { IfErr result (λ e. self.new ≡ self.old) }
         ensures stands { self.old.standing ≡ Gone
             → IfOk result (λ turn. GoesOn Closing turn self.new.standing) }
@@ -335,7 +354,7 @@ impl<S: Read + Write + Drop, N: RandomSource + Drop> Connection<S, N> {
     {
         match std::mem::replace(&mut self.stage, Stage::Gone) {
             Stage::Open(mut socket) => {
-                if let Flushed::Done | Flushed::Blocked = socket.say_close() {
+                if let Flushed::Done | Flushed::Blocked = socket.close(None) {
                     self.stage = Stage::Closing(socket);
                 }
                 client.disconnected(rt)?;

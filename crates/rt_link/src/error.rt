@@ -4,11 +4,11 @@ ghost use Rattle.rt_link.specs.declared.error.LinkFault.TheVariants.{Client, Sys
 
 use rt_client::ClientError;
 use std::alloc::{AllocError, AllocFailed};
-use std::io;
+use std::{fmt, io};
 use thiserror::Error;
 
 /// Why a link can't go on. The end of a connection is none: `Lost` says that.
-#[derive(Debug, Drop, Error)]
+#[derive(Clone, Copy, Error)]
 pub enum LinkFault {
     /// The client has failed, or somebody else has told it of a connection.
     #[error("{0}")]
@@ -19,6 +19,13 @@ pub enum LinkFault {
     /// A growth was refused.
     #[error("out of memory")]
     NoMemory,
+}
+
+impl fmt::Debug for LinkFault {
+    // In its words.
+    fn fmt<W: fmt::Write>(&self, f: &mut fmt::Formatter<W>) -> fmt::Result {
+        fmt::Display::fmt(self, f)
+    }
 }
 
 impl From<AllocError> for LinkFault {

@@ -6,38 +6,35 @@
 //! let (mut link, linked) = Link::open(rt, alloc, client)?;
 //! linked.set(rt, &mut seats[0], path, tree)?;              // in any thread: calls, and wakes the link
 //! linked.client.wait(rt, &mut seats[0])?;                  // sleeps until the seat is told something
-//! link.run(rt, alloc, &linked, random, address)?;          // in one thread: until the socket ends
-//! linked.stop(rt);                                         // or it is told to stop
+//! link.keep(rt, alloc, &linked, random, address)?;         // in one thread, again and again: a connection
+//! linked.stop(rt);                                         // until it is told to stop
 //! ```
 //!
 //! [`Link::run`] connects, tells the client that it is connected, carries messages, and tells it that it is
 //! disconnected. It can be run again: the client then makes its listens and its unanswered requests anew.
+//! [`Link::keep`] is such a run behind a wait, which grows as long as no connection lasts.
 //! So a write whose answer was lost reaches the server twice. One write is done then in the place of
 //! the other where nobody else has written in between; else it is the last one again.
 //!
 //! [`Link::connect`] and [`Connection::turn`] are the parts that `run` is made of, for a loop of one's own.
 #![tactic(auto)]
 
-mod batch;
+mod answering;
 mod connection;
 mod crossing;
 mod error;
 mod link;
 mod linked;
-mod lost;
-mod paced;
-mod patience;
-mod socket;
 mod taking;
 mod turning;
-mod wire;
 
-pub use batch::{Batch, Pause, hear_all, say_all};
+pub use answering::Answer;
 pub use connection::{Connection, Turn};
 pub use crossing::link_crossing_law;
 pub use error::LinkFault;
 pub use link::{Link, LinkEnd};
 pub use linked::{Bell, Linked};
-pub use lost::Lost;
+pub use rt_socket::{
+    Batch, Flushed, Heard, Lost, Pause, Said, SocketFault, Wire, hear_all, say_all,
+};
 pub use taking::{Passed, take_all, take_batch};
-pub use wire::{Flushed, Heard, Said, Wire};

@@ -1,22 +1,23 @@
 // What runs a client's connections, one after another.
-ghost use Rattle.std.specs.Prelude.{◌≡◌, ◌≤◌, IfOk, OnOk};
+ghost use Rattle.std.specs.Prelude.{◌≡◌, IfOk, OnOk};
 ghost use Rattle.rt_link.specs.Carrying.{IsLeft, begun, Gone};
 ghost use Rattle.rt_link.specs.inside.Counts.{counted};
+ghost use Rattle.rt_link.specs.Keeping.{PassesMore, WaitsBehind};
 ghost use Rattle.rt_link.specs.Turning.{next};
 
-use crate::connection::{Connection, Turn};
+use crate::connection::{Connection, Turn, millis_since};
 use crate::error::LinkFault;
 use crate::linked::{Bell, Linked};
-use crate::lost::Lost;
 use mio::net::TcpStream;
 use mio::{Events, Interest, Poll, Token, Waker};
 use rt_client::Client;
+use rt_socket::{Lost, Patience, up_to, wait_after};
 use std::alloc::Global;
 use std::marker::Model;
 use std::net::{Net, SocketAddr};
 use std::random::RandomSource;
 use std::sync::Wait;
-use std::time::{Clock, Duration};
+use std::time::{Clock, Duration, Instant};
 
 // By what the connection's stream and the waker are known.
 const STREAM: Token = Token(0);
@@ -64,20 +65,47 @@ fn next_of(turn: Turn, is_stopped: bool) -> Next
 }
 
 /// What runs a client's connections, one after another, in one thread. The client is [`Linked`].
-#[derive(Drop)]
 pub struct Link {
     poll: Poll,
     events: Events,
     passed_over: u64,
+    // How many milliseconds were waited before the connection that is kept, or are due behind it.
+    waited: u64,
+}
+
+impl Drop for Link {
+    fn drop(self) {
+        let Link {
+            poll: _,
+            events: _,
+            passed_over: _,
+            waited: _,
+        } = self;
+    }
 }
 
 impl Model for Link {
-    ghost use Rattle.std.specs.Prelude.{ℕ};
+    ghost use Rattle.rt_link.specs.Keeping.{LinkState};
 
-    // How many messages its runs have passed over.
-    ghost Value = { ℕ };
+    ghost Value = { LinkState };
 
-    ghost view = { λ link. link.passed_over };
+    ghost view = { λ link. record { passed_over = link.passed_over; waited = link.waited } };
+}
+
+// How long is waited behind an end, where so long was waited before the connection, which was begun then.
+fn waited_behind<R: Clock>(
+    rt: &R,
+    ending: &LinkEnd,
+    waited: u64,
+    begun: Instant,
+) -> Result<u64, LinkFault>
+    ensures { IfOk result (λ new. WaitsBehind ending.now waited new) }
+{
+    match ending {
+        LinkEnd::Stopped => Ok(waited),
+        LinkEnd::NotOpened(_) => Ok(wait_after(waited, 0)),
+        LinkEnd::Ended(_) => Ok(wait_after(waited, millis_since(rt, begun)?)),
+    }
 }
 
 impl Link {
@@ -87,7 +115,7 @@ impl Link {
     ///
     /// `System` where the system refuses what waiting needs, and `NoMemory`.
     pub fn open<R: Net>(rt: &R, alloc: Global, client: Client) -> Result<(Link, Linked), LinkFault>
-        ensures link { IfOk result (λ opened. opened.0 ≡ 0) }
+        ensures link { IfOk result (λ opened. opened.0 ≡ record { passed_over = 0; waited = 0 }) }
         ensures client { IfOk result (λ opened. opened.1.client ≡ client) }
     {
         let poll = Poll::new(rt)?;
@@ -97,6 +125,7 @@ impl Link {
             poll,
             events,
             passed_over: 0,
+            waited: 0,
         };
         Ok((link, Linked::new(client, bell)))
     }
@@ -144,8 +173,9 @@ impl Link {
 
     // So many more messages were passed over, as far as the count goes.
     fn note(&mut self, passed: usize)
-        ensures counted { self.new ≡ counted self.old passed }
-        ensures grown { self.old ≤ self.new }
+        ensures counted { self.new
+            ≡ record (self.old) { passed_over = counted self.old.passed_over passed } }
+        ensures more { PassesMore self.old self.new }
     {
         self.passed_over = self.passed_over.saturating_add(passed as u64);
     }
@@ -153,9 +183,17 @@ impl Link {
     /// How many messages of the server its runs have passed over, since they can't be read or the client
     /// refuses them.
     pub fn passed_over(&self) -> u64
-        ensures { result ≡ self.now }
+        ensures { result ≡ self.now.passed_over }
     {
         self.passed_over
+    }
+
+    /// How many milliseconds [`Link::keep`] waits before it connects: those that are due behind the end of
+    /// the connection before.
+    pub fn next_wait(&self) -> u64
+        ensures { result ≡ self.now.waited }
+    {
+        self.waited
     }
 
     // Carries a connection until it ends, or the link is told to stop.
@@ -165,7 +203,7 @@ impl Link {
         linked: &Linked,
         connection: &mut Connection<TcpStream, N>,
     ) -> Result<LinkEnd, LinkFault>
-        ensures link { self.old ≤ self.new }
+        ensures link { PassesMore self.old self.new }
     {
         for _ in rt.forever() {
             let turn = connection.turn(rt, &linked.client)?;
@@ -207,6 +245,25 @@ impl Link {
         unreachable!()
     }
 
+    // Carries a connection until it ends, or the link is told to stop, and ends it.
+    fn carry_out<R: Wait + Clock, N: RandomSource + Drop>(
+        &mut self,
+        rt: &R,
+        linked: &Linked,
+        connection: &mut Connection<TcpStream, N>,
+    ) -> Result<LinkEnd, LinkFault>
+        ensures link { PassesMore self.old self.new }
+    {
+        let ending = self.carry(rt, linked, connection);
+        match self.close(rt, &linked.client, connection) {
+            Ok(()) => ending,
+            Err(why) => {
+                drop(ending);
+                Err(why)
+            }
+        }
+    }
+
     /// Connects to an address, and carries the client's connection until it ends or the link is told to
     /// stop. It sleeps while there is nothing to do. The client is told that it is connected once the
     /// handshake is done, and that it is disconnected before this returns. It can be run again.
@@ -224,17 +281,74 @@ impl Link {
         random: N,
         address: SocketAddr,
     ) -> Result<LinkEnd, LinkFault>
-        ensures link { self.old ≤ self.new }
+        ensures link { PassesMore self.old self.new }
     {
         if linked.is_stopped(rt) {
             return Ok(LinkEnd::Stopped);
         }
-        let mut connection = match self.connect(rt, alloc, random, address)? {
-            Ok(connection) => connection,
-            Err(why) => return Ok(LinkEnd::NotOpened(why)),
-        };
-        let ending = self.carry(rt, linked, &mut connection);
-        self.close(rt, &linked.client, &mut connection)?;
-        ending
+        match self.connect(rt, alloc, random, address)? {
+            Ok(mut connection) => {
+                let ending = self.carry_out(rt, linked, &mut connection);
+                drop(connection);
+                ending
+            }
+            Err(why) => Ok(LinkEnd::NotOpened(why)),
+        }
+    }
+    // Sleeps until so many milliseconds have gone by, or the link is told to stop.
+    fn rest<R: Wait + Clock>(
+        &mut self,
+        rt: &R,
+        linked: &Linked,
+        millis: u64,
+    ) -> Result<(), LinkFault>
+        ensures link { self.new ≡ self.old }
+    {
+        let begun = Instant::now(rt)?;
+        for _ in rt.forever() {
+            if linked.is_stopped(rt) {
+                return Ok(());
+            }
+            match up_to(millis, millis_since(rt, begun)?) {
+                Patience::Wait(left) => self.wait(Duration::from_millis(left))?,
+                Patience::Ping | Patience::GiveUp => return Ok(()),
+            }
+        }
+        unreachable!()
+    }
+
+    /// The next connection of one that is kept: waits for as long as is due behind the end of the one before,
+    /// then runs to the end of this one, as [`Link::run`] does. Called again until it answers `Stopped`, it
+    /// connects again and again. Nothing is waited for the first time. Then it is a second, and twice as long
+    /// behind each further end, up to 30 seconds; behind a connection that stood for 30 seconds it is a second
+    /// again. A call of a seat does not cut the wait short, and a stop does.
+    ///
+    /// # Errors
+    ///
+    /// As of [`Link::run`].
+    pub fn keep<R: Net + Wait + Clock, N: RandomSource + Drop>(
+        &mut self,
+        rt: &R,
+        alloc: Global,
+        linked: &Linked,
+        random: N,
+        address: SocketAddr,
+    ) -> Result<LinkEnd, LinkFault>
+        ensures waits { IfOk result (λ ending. WaitsBehind ending self.old.waited self.new.waited) }
+    {
+        let due = self.waited;
+        self.rest(rt, linked, due)?;
+        let begun = Instant::now(rt)?;
+        let ending = self.run(rt, alloc, linked, random, address)?;
+        match waited_behind(rt, &ending, self.waited, begun) {
+            Ok(waited) => {
+                self.waited = waited;
+                Ok(ending)
+            }
+            Err(why) => {
+                drop(ending);
+                Err(why)
+            }
+        }
     }
 }

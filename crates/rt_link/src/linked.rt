@@ -6,7 +6,9 @@ ghost use Rattle.rt_wire.specs.declared.request.Ending.TheVariants.{Run, Cancel}
 ghost use Rattle.rt_world.specs.declared.call.Call.TheVariants as call;
 ghost use Rattle.rt_client.specs.Calls.{handed_back};
 ghost use Rattle.rt_client.specs.Waiting.{IsNumbered, IsMade, IsDone, IsUnmade, IsClosed, IsUnclosed};
+ghost use Rattle.rt_link.specs.Answering.{IsSameSeat};
 
+use crate::answering::{Answer, take_answer};
 use mio::Waker;
 use rt_client::{Action, Call, Client, ClientError, Done, Seat, Uncalled, Unclosed};
 use rt_query::Query;
@@ -16,9 +18,14 @@ use std::marker::Model;
 use std::sync::{Arc, Wait};
 
 /// What wakes a link. Threads share it, or each has a clone.
-#[derive(Drop)]
 pub struct Bell {
     waker: Arc<Waker, Global>,
+}
+
+impl Drop for Bell {
+    fn drop(self) {
+        let Bell { waker: _ } = self;
+    }
 }
 
 impl Model for Bell {
@@ -57,10 +64,15 @@ impl Bell {
 /// A client whose messages a [`Link`](crate::Link) carries. Threads share it by reference. Each of its calls
 /// makes the client's call of that name, which wakes whoever waits for the client, and then wakes the link.
 /// Whoever makes calls on the client itself, or locks it, wakes the link by [`Linked::ring`].
-#[derive(Drop)]
 pub struct Linked {
     pub client: Client,
     pub bell: Bell,
+}
+
+impl Drop for Linked {
+    fn drop(self) {
+        let Linked { client: _, bell: _ } = self;
+    }
 }
 
 impl Linked {
@@ -199,6 +211,31 @@ impl Linked {
         let answer = self.client.try_call(rt, seat, call);
         self.ring();
         answer
+    }
+
+    /// Waits until the server has answered a request of the seat, and says what became of it. What else the
+    /// seat is told until then is passed over, so who listens too has a further seat for its requests.
+    ///
+    /// # Errors
+    ///
+    /// As of [`Client::wait`].
+    pub fn wait_answer<R: Wait>(
+        &self,
+        rt: &R,
+        seat: &mut Seat,
+        request: u64,
+    ) -> Result<Answer, ClientError>
+        ensures seat { OnOk result (IsSameSeat seat.old seat.new) }
+    {
+        for _ in rt.forever() {
+            if !self.client.wait(rt, seat)? {
+                return Ok(Answer::Stopped);
+            }
+            if let Some(answer) = take_answer(seat, request) {
+                return Ok(answer);
+            }
+        }
+        unreachable!()
     }
 
     /// Ends the seat.

@@ -1,17 +1,14 @@
 // What a turn of a connection reads, and what it sends.
 ghost use Rattle.std.specs.Prelude.{◌≡◌, ◌++◌, List, OnOk};
-ghost use Rattle.rt_link.specs.Turning.{is_there_more, paced, unopened};
+ghost use Rattle.rt_link.specs.Turning.{is_there_more, paced};
 ghost use Rattle.rt_link.specs.declared.taking.Passed.{Passed};
 
-use crate::batch::{Batch, Pause, hear_all, say_all};
 use crate::error::LinkFault;
-use crate::lost::Lost;
 use crate::taking::{Passed, take_all, take_batch};
-use crate::wire::{Flushed, Wire};
 use rt_client::Client;
+use rt_socket::{Batch, Flushed, Lost, Pause, Wire, hear_all, say_all};
 use std::alloc::Global;
 use std::sync::Wait;
-use tungstenite::Error;
 
 // How many messages are read, or taken out of the client, in one go.
 pub(crate) const BATCH: usize = 64;
@@ -50,17 +47,6 @@ fn is_there_more(sent: Sent) -> Sent
     match sent {
         Sent::Done | Sent::More => Sent::More,
         Sent::Lost(why) => Sent::Lost(why),
-    }
-}
-
-// Why a connection does not come about whose handshake fails so.
-pub(crate) fn unopened(error: Error) -> Result<Lost, LinkFault>
-    ensures { result ≡ unopened error }
-{
-    match error {
-        Error::OutOfMemory => Err(LinkFault::NoMemory),
-        Error::Io(why) => Ok(Lost::Unreachable(why)),
-        why => Ok(Lost::NoHandshake(why)),
     }
 }
 

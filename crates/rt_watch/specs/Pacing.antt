@@ -4,7 +4,7 @@ use Rattle.std.specs.Duration.{as_nanos}
 use Rattle.std.specs.declared.time.Duration.{Duration}
 use Rattle.rt_link.specs.declared.connection.Turn.{Turn}
 use Rattle.rt_link.specs.declared.connection.Turn.TheVariants as turn
-use Rattle.rt_link.specs.declared.lost.Lost.TheVariants as why
+use Rattle.rt_socket.specs.declared.lost.Lost.TheVariants as why
 use Rattle.rt_watch.specs.declared.watched.Left.{Left}
 use Rattle.rt_watch.specs.declared.watched.Left.TheVariants as left
 use Rattle.rt_watch.specs.declared.pace.Next.{Next}

@@ -1,0 +1,22 @@
+//! A WebSocket as a wire: what gives texts of the other side, and takes texts for it, where no call waits.
+//! How long the other side is waited for, and what is read of a wire in one go.
+#![tactic(auto)]
+
+mod batch;
+mod fault;
+mod lost;
+mod paced;
+mod patience;
+mod socket;
+mod wire;
+
+pub use batch::{Batch, Pause, hear_all, say_all};
+pub use fault::{SocketFault, fault_of};
+pub use lost::{Lost, closed_by, unopened};
+pub use paced::Paced;
+pub use patience::{
+    CLOSING_MS, FIRST_WAIT_MS, HANDSHAKE_MS, LASTING_MS, MOST_WAIT_MS, PING_MS, Patience,
+    SILENCE_MS, for_end, for_handshake, for_silence, up_to, wait_after,
+};
+pub use socket::{Socket, limits};
+pub use wire::{Flushed, Heard, Said, Wire};

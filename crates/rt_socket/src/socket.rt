@@ -1,0 +1,202 @@
+// A WebSocket as a wire.
+ghost use Rattle.std.specs.Prelude.{◌≡◌, [], None, Some, IfOk, IfSome};
+ghost use Rattle.tungstenite.specs.Connection.{close_step, write_step};
+ghost use Rattle.tungstenite.specs.Content.{ping};
+ghost use Rattle.tungstenite.specs.Socket.{Writes, close_of};
+ghost use Rattle.rt_socket.specs.Hearing.{fault_in, flushed_by, heard_fault, heard_from, heard_of};
+ghost use Rattle.rt_socket.specs.Hearing.{taken_by};
+ghost use Rattle.rt_socket.specs.Sockets.{IsSent, limits_for};
+ghost use Rattle.rt_socket.specs.declared.wire.Said.TheVariants.{Nothing};
+
+use crate::fault::{SocketFault, fault_of};
+use crate::lost::{Lost, closed_by};
+use crate::paced::Paced;
+use crate::wire::{Flushed, Heard, Said, Wire};
+use std::alloc::{AllocError, Global};
+use std::io::{Read, Write};
+use std::marker::Model;
+use tungstenite::{
+    Bytes, CloseFrame, Error as SocketError, MaskKeys, Message, WebSocket, WebSocketConfig,
+};
+
+// How many bytes a read of the stream takes.
+const READ_BYTES: usize = 16_384;
+
+// More bytes than wait to be sent: what is given to a socket goes on its way by `flush` alone.
+const NO_BOUND: usize = 1 << 40;
+
+/// A WebSocket that stands, over a stream that doesn't wait, as a wire. The keys are a client's or a
+/// server's.
+#[derive(Drop)]
+pub struct Socket<S, K> {
+    alloc: Global,
+    socket: WebSocket<S, K>,
+    // What kind of thing it gave last.
+    said: Said,
+}
+
+impl<S, K> Model for Socket<S, K> {
+    ghost use Rattle.rt_socket.specs.Sockets.{WireSocket};
+
+    ghost Value = { WireSocket S };
+
+    ghost view = { λ s. record { socket = s.socket; said = s.said } };
+}
+
+/// What is asked of a WebSocket whose messages have at most so many bytes. A message that waits to be sent
+/// is sent by a flush: a write that would send might answer that it blocks, where it has taken the message.
+pub fn limits(message_bytes: usize) -> WebSocketConfig
+    ensures { result ≡ limits_for message_bytes }
+{
+    WebSocketConfig {
+        read_buffer_size: READ_BYTES,
+        write_buffer_size: NO_BOUND,
+        max_write_buffer_size: NO_BOUND,
+        max_message_size: Some(message_bytes),
+        max_frame_size: Some(message_bytes),
+        accept_unmasked_frames: false,
+    }
+}
+
+// What a message says.
+fn heard_of(message: Message) -> Heard
+    ensures { result ≡ heard_of message }
+{
+    match message {
+        Message::Text(words) => Heard::Text(words),
+        Message::Binary(_) => Heard::Binary,
+        Message::Ping(_) | Message::Pong(_) => Heard::Sign,
+        Message::Close(frame) => Heard::Ended(closed_by(frame)),
+    }
+}
+
+// What a fault says that a read of a socket gives.
+fn heard_fault(why: SocketFault) -> Result<Heard, AllocError>
+    ensures { result ≡ heard_fault why }
+{
+    match why {
+        SocketFault::OutOfMemory => Err(AllocError),
+        why if why.is_blocked() => Ok(Heard::Nothing),
+        why => Ok(Heard::Ended(Lost::Failed(why))),
+    }
+}
+
+// What a read of a socket says.
+fn heard_from(read: Result<Message, SocketError>) -> Result<Heard, AllocError>
+    ensures { result ≡ heard_from read }
+{
+    match read {
+        Ok(message) => Ok(heard_of(message)),
+        Err(why) => heard_fault(fault_of(why)),
+    }
+}
+
+// Why a write or a flush failed, if it did.
+fn fault_in(answer: Result<(), SocketError>) -> Option<SocketFault>
+    ensures { result ≡ fault_in answer }
+{
+    match answer {
+        Ok(()) => None,
+        Err(why) => Some(fault_of(why)),
+    }
+}
+
+// What became of what a socket has taken, by the answer of its flush.
+fn flushed_by(answer: Result<(), SocketError>) -> Flushed
+    ensures { result ≡ flushed_by answer }
+{
+    match fault_in(answer) {
+        None => Flushed::Done,
+        Some(why) if why.is_blocked() => Flushed::Blocked,
+        Some(why) => Flushed::Failed(Lost::Failed(why)),
+    }
+}
+
+// What became of a message that a socket was given. None of it is sent, so that it doesn't block.
+fn taken_by(answer: Result<(), SocketError>) -> Result<Option<Lost>, AllocError>
+    ensures { result ≡ taken_by answer }
+{
+    match fault_in(answer) {
+        None => Ok(None),
+        Some(SocketFault::OutOfMemory) => Err(AllocError),
+        Some(why) => Ok(Some(Lost::Failed(why))),
+    }
+}
+
+impl<S, K> Socket<S, K> {
+    /// A WebSocket that stands.
+    pub fn new(alloc: Global, socket: WebSocket<S, K>) -> Socket<S, K>
+        ensures { result ≡ record { socket = socket; said = Nothing } }
+    {
+        Socket {
+            alloc,
+            socket,
+            said: Said::Nothing,
+        }
+    }
+}
+
+impl<S: Read + Write + Drop, K: MaskKeys + Drop> Socket<Paced<S>, K> {
+    /// So many bytes may be read from now on.
+    pub fn allow(&mut self, most: usize) {
+        self.socket.get_mut().allow(most);
+    }
+
+    /// How many bytes may still be read.
+    pub fn left(&self) -> usize
+        ensures { result ≡ self.now.socket.stream.left }
+    {
+        self.socket.get_ref().left()
+    }
+}
+
+impl<S: Read + Write + Drop, K: MaskKeys + Drop> Socket<S, K> {
+    /// Asks the other side whether it is there.
+    ///
+    /// # Errors
+    ///
+    /// Where memory lacks.
+    pub fn ping(&mut self) -> Result<Option<Lost>, AllocError>
+        ensures asked { IfOk result (λ lost. lost ≡ None → Writes S.contents self.old.socket
+            self.new.socket (write_step self.old.socket.conn (ping []))) }
+    {
+        taken_by(self.socket.write(Message::Ping(Bytes::new())))
+    }
+
+    /// Says that this side goes, with a code and a reason or without. What is not sent of it is sent by a
+    /// flush.
+    pub fn close(&mut self, frame: Option<CloseFrame>) -> Flushed
+        ensures said { IsSent result → Writes S.contents self.old.socket self.new.socket
+            (close_step self.old.socket.conn (close_of frame)) }
+    {
+        flushed_by(self.socket.close(frame))
+    }
+}
+
+impl<S: Read + Write + Drop, K: MaskKeys + Drop> Wire for Socket<S, K> {
+    // What a socket gives and takes is not known.
+    ghost remaining = { λ _. None };
+
+    ghost contents = { λ _. None };
+
+    ghost said = { λ s. s.said };
+
+    fn hear(&mut self) -> Result<Heard, AllocError> {
+        let heard = heard_from(self.socket.read())?;
+        self.said = heard.said();
+        if let Heard::Ended(_) = &heard {
+            // A close is answered by one, which waits to be sent.
+            let _answered = fault_in(self.socket.flush());
+        }
+        Ok(heard)
+    }
+
+    fn put(&mut self, text: &str) -> Result<Option<Lost>, AllocError> {
+        let message = Message::text(self.alloc, text)?;
+        taken_by(self.socket.write(message))
+    }
+
+    fn flush(&mut self) -> Flushed {
+        flushed_by(self.socket.flush())
+    }
+}
