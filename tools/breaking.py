@@ -14,7 +14,7 @@ READ_FAULT = b"kaltewi: the input can't be read: Connection reset by peer (os er
 TOO_LARGE = b"kaltewi: the input has more than 67108864 bytes\n"
 WRITE_FAULT = b"kaltewi: the output can't be written: File too large (os error 27)\n"
 FULL_DEVICE = b"kaltewi: the output can't be written: No space left on device (os error 28)\n"
-SCRIPTS = ("examples/root_listen", "rows/bad_lines", "rows/each_line")
+SCRIPTS = ("tests/scripts/root_listen", "tests/rows/bad_lines", "tests/rows/each_line")
 SECONDS = 60  # the longest that a run may take
 
 
@@ -107,7 +107,7 @@ def on_full_device(program):
 
 def streams_part(copy):
     clock, wrong, count = Clock(), [], 0
-    scripts = [it for it in rows("examples", "rows") if it.name in SCRIPTS]
+    scripts = [it for it in rows("tests/scripts", "tests/rows") if it.name in SCRIPTS]
     for program in builds_of(copy, "rt_console"):
         endless = differs("line feeds for ever", without_end(program, b"\n"), (1, b"done\n", TOO_LARGE))
         for text in [endless, *on_full_device(program), *(text for row in scripts for text in fails_at_each_byte(program, row))]:

@@ -1,5 +1,5 @@
 #!/usr/bin/env python3
-"""The examples of kaltewi's page: each stands word for word in one of the programs `example_calls` and `example_link`, which are proved and run.
+"""The examples of kaltewi's page: each stands word for word in one of the programs of examples/calls and examples/link, which are proved and run.
 
 Usage: tools/examples.py            says what is wrong with them, and fails where anything is
        tools/examples.py --write    writes each item of each example as the program has it; an item's first words, as 'fn path', do for a new one
@@ -18,7 +18,7 @@ import names
 from pages import read, sources
 
 ROOT = os.path.realpath(f"{os.path.dirname(os.path.realpath(__file__))}/..")
-PAGE, PROGRAMS = "crates/kaltewi/src", ("crates/example_calls/src", "crates/example_link/src")
+PAGE, PROGRAMS = "crates/kaltewi/src", ("examples/calls", "examples/link")
 BLOCK = re.compile(r"(?m)^/// ```rust\n((?:^///.*\n)*?)^/// ```\n")
 HANDED_ON = re.compile(r"(?m)((?:^///.*\n)*)^pub use (?:(\w+)::)(?:\{([^}]*)\}|(\w+));")
 HEAD = re.compile(r"(?:pub(?:\(crate\))? )?((?:fn|struct|enum|const|trait) \w+|impl.*? for \w+)")
@@ -63,7 +63,7 @@ def modules(root):
 
 def program(root, module):
     """The items of a module of that name, of the first program that has one; none where none has."""
-    files = (f"{root}/{it}/{module}.rt" for it in PROGRAMS)
+    files = (f"{root}/{it}/{module}.rt.txt" for it in PROGRAMS)
     return next((items(read(it)) for it in files if os.path.isfile(it)), {})
 
 

@@ -1,7 +1,7 @@
 """Kaltewi for other languages: the static library, and what C, Python and Rust make of it.
 
 The library is built over what rt ci proved. A C program with include/kaltewi.h, compiled with warnings as errors and with the sanitizers of
-addresses and of undefined behaviour, runs each script row, and prints what the console prints. Another runs each script of examples/ once for
+addresses and of undefined behaviour, runs each script row, and prints what the console prints. Another runs each script of tests/scripts/ once for
 each growth that it asks for, with that growth refused, and a third makes each call of a client so. The tests of the bindings run where their
 languages are there, and the chat of bindings/rust over the console's emulate; where one is not, the part says so."""
 import os
@@ -10,6 +10,8 @@ import subprocess
 import sys
 
 sys.path.insert(0, f"{os.path.dirname(os.path.realpath(__file__))}/sessions")
+import library
+import spoken
 from bodies import over_proved
 from cutting import Wrong
 from emulating import Emulator
@@ -60,7 +62,7 @@ def wrong_row(row, program):
 
 def c_part(copy, room):
     clock = Clock()
-    scripts = [it for it in rows("examples", "rows") if it.script is not None and not os.path.exists(f"{ROOT}/{it.name}.args")]
+    scripts = [it for it in rows("tests/scripts", "tests/rows") if it.script is not None and not os.path.exists(f"{ROOT}/{it.name}.args")]
     wrong = [it for it in [why_not_built(copy, room) or compiled("lines", archives(room), room)] if it]
     if not wrong:
         wrong = [text for it in scripts for text in [wrong_row(it, f"{room}/lines")] if text]
@@ -75,7 +77,7 @@ def lost_growth(row, program):
 
 
 def growths_part(room):
-    clock, scripts = Clock(), [it for it in rows("examples") if it.script is not None]
+    clock, scripts = Clock(), [it for it in rows("tests/scripts") if it.script is not None]
     wrong = [it for it in [compiled("refused", archives(room)[:1], room)] if it]
     if not wrong:
         wrong = [text for it in scripts for text in [lost_growth(it, f"{room}/refused")] if text]
@@ -152,6 +154,18 @@ def chat_part(copy, chat):
     part(f"Rust: a chat of two clients over emulate, {len(programs)} runs", some_of(wrong, programs), clock)
 
 
+def guide_part(copy, room):
+    """What docs/GUIDE.md shows of the languages, over the library as ./kaltewi lib leaves it."""
+    with open(f"{room}/stamp", "w", encoding="utf-8") as it:
+        it.write("made by the gate\n")
+    try:
+        library.leave(archives(room), "proved", room, f"{copy}/crates/{CRATE}/out", f"{room}/stamp")
+    except library.Stop as why:
+        part("docs/GUIDE.md's pieces for C, Rust and Python", str(why))
+        return
+    spoken.spoken_part(ROOT, copy, room)
+
+
 def foreign_parts(copy, room):
     """The parts of this module, over a copy in which the crates are proved and built."""
     if not shutil.which("gcc"):
@@ -162,6 +176,7 @@ def foreign_parts(copy, room):
         client_part(room)
         python_part(room)
         rust_part(copy, room)
+        guide_part(copy, room)
 
 
 def main():

@@ -4,9 +4,11 @@ import os
 import tempfile
 
 import bodies
-from parts import ROOT, Clock, crates, part
+import record
+from parts import ROOT, Clock, crates, libraries_of, part
 
-CENTRAL_AT_MOST = 60
+CENTRAL_CRATES = 12  # the most crates that have central wrong bodies, since the cost is by crate
+CENTRAL_OF_EACH = 2
 MOST_OF_A_GOAL = 400  # characters
 
 
@@ -21,8 +23,10 @@ def all_edits():
 def applies_part(edits):
     wrong = [f"{it.name}: {why}" for it in edits for why in [it.applied({}, f"{ROOT}/crates/{it.crate}")[1]] if why]
     central = [it for it in edits if it.central]
-    if len(central) > CENTRAL_AT_MOST:
-        wrong.append(f"{len(central)} are central, more than {CENTRAL_AT_MOST}")
+    by_crate = {it.crate: [one for one in central if one.crate == it.crate] for it in central}
+    if len(by_crate) > CENTRAL_CRATES:
+        wrong.append(f"{len(by_crate)} crates have central ones, more than {CENTRAL_CRATES}")
+    wrong += [f"{crate} has {len(own)} central ones, more than {CENTRAL_OF_EACH}" for crate, own in by_crate.items() if len(own) > CENTRAL_OF_EACH]
     part(f"{len(edits)} wrong bodies apply, {len(central)} of them central", "; ".join(wrong[:5]) or ("" if edits else "there is none"))
 
 
@@ -33,12 +37,15 @@ def not_built(copy, crate, below):
     return list(dict.fromkeys(found + [lost for it in own for lost in not_built(copy, it, below)]))
 
 
-def judged(copy, edits, at_once=os.cpu_count()):
-    """Judges wrong bodies, so many crates side by side, the highest first, over what is proved and built in the copy, and gives each crate with the
-    verdicts of its own."""
-    below, by_crate = crates(), {crate: [it for it in edits if it.crate == crate] for crate in reversed(crates())}
+def judged(copy, edits, at_once=os.cpu_count(), waits=lambda names: []):
+    """Judges wrong bodies, so many crates side by side, over what is proved and built in the copy, and gives each crate with the verdicts of its
+    own. A crate waits until its libraries are there; where they don't come its wrong bodies are not judged."""
+    below = crates()
+    by_crate = {crate: [it for it in edits if it.crate == crate] for crate in below}
 
     def verdicts(crate, own, room):
+        if waits(libraries_of(crate, below)):
+            return dict.fromkeys(own, bodies.UNTOLD)
         return bodies.verdicts(crate, own, *bodies.over_proved(ROOT, crate, below, copy, room))
 
     with tempfile.TemporaryDirectory(prefix="kaltewi-edits-") as room, concurrent.futures.ThreadPoolExecutor(at_once) as pool:
@@ -54,11 +61,16 @@ def not_refused(verdicts):
     return "; ".join(f"{why}: {names}" for why, names in named.items() if names)
 
 
-def central_part(copy, edits):
-    clock, verdicts = Clock(), {}
-    for _, own in judged(copy, edits):
+def central_part(copy, edits, waits):
+    """The central wrong bodies. Those that were refused on this machine over the same texts are not tried again."""
+    clock, verdicts = Clock(), {edit: verdict for edit in edits for verdict in [record.kept(edit)] if verdict}
+    known = len(verdicts)
+    for _, own in judged(copy, [it for it in edits if it not in verdicts], max(1, (os.cpu_count() or 1) // 2), waits):
+        for edit, verdict in own.items():
+            record.keep(edit, verdict)
         verdicts.update(own)
-    part(f"{len(edits)} central wrong bodies refused", not_refused(verdicts) if edits else "there is none", clock)
+    what = f"{len(edits)} central wrong bodies refused{f', {known} of them in an earlier run' if known else ''}"
+    part(what, not_refused(verdicts) if edits else "there is none", clock)
 
 
 def wanted(named, below):

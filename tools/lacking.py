@@ -15,16 +15,16 @@ LACKING, REFUSED = b"NoMemory\n", b"refused\n"
 MOST, SOME = 2000, 100  # of more than so many allocations of a row only some are refused, but where all are to be
 AT_ONCE = 200  # how many are refused in one task
 NEVER = 1 << 62  # the number of no allocation
-END = struct.Struct("5q")  # what calls/refuse_each.c writes of the end of a copy
+END = struct.Struct("5q")  # what tests/calls/refuse_each.c writes of the end of a copy
 SAME, WHOLE = -1, -2
 ROOM, STOPPED = 1 << 20, 99  # the room in which rt_calls keeps what it prints, and the status of a copy that was stopped where that says NoMemory
 
 
 def library_of(room, name):
-    """Builds a library of calls/ that is loaded before a program's own, and answers where it is, and what went wrong."""
+    """Builds a library of tests/calls/ that is loaded before a program's own, and answers where it is, and what went wrong."""
     library = f"{room}/{name}.so"
-    made = run(["cc", "-shared", "-fPIC", "-O1", "-o", library, f"{ROOT}/calls/{name}.c"], ROOT)
-    return library, f"calls/{name}.c can't be compiled: {made.stdout[:300]}" if made.returncode else ""
+    made = run(["cc", "-shared", "-fPIC", "-O1", "-o", library, f"{ROOT}/tests/calls/{name}.c"], ROOT)
+    return library, f"tests/calls/{name}.c can't be compiled: {made.stdout[:300]}" if made.returncode else ""
 
 
 def refuser(room):
@@ -94,7 +94,7 @@ def in_turn(row, program, library, numbers):
 
 
 def ends_in(data, out):
-    """How copies ended by what calls/refuse_each.c wrote, each with its number, and last how many allocations there were. `out` is what
+    """How copies ended by what tests/calls/refuse_each.c wrote, each with its number, and last how many allocations there were. `out` is what
     the program itself prints."""
     at, ended = 0, None
     while at < len(data):
@@ -190,7 +190,7 @@ class Sweep:
         self.row, self.program = row, program
         count = in_copies(row, program, library, NEVER, NEVER)[-1][0] if is_whole else count_of(row, program, library)
         numbers = range(1, count + 1) if is_whole else numbers_of(count)
-        room = ROOM if row.name.startswith("calls/") and count > MOST else 0
+        room = ROOM if row.name.startswith("tests/calls/") and count > MOST else 0
         pieces = [numbers[first : first + AT_ONCE] for first in range(0, len(numbers), AT_ONCE)]
 
         def ends_of(piece):
@@ -210,16 +210,16 @@ class Sweep:
         return count, f"{wrong} ({os.path.basename(self.program)})" if wrong else ""
 
 
-def refusals_part(copy, is_whole=False):
-    """Refuses the allocations of each row, of many some, or where it is whole all of them."""
+def refusals_part(copy, programs=PROGRAMS, is_whole=False):
+    """Refuses the allocations of each row of these programs, of many some, or where it is whole all of them."""
     with tempfile.TemporaryDirectory(prefix="kaltewi-refuse-") as room, concurrent.futures.ThreadPoolExecutor(os.cpu_count()) as pool:
         library, why = library_of(room, "refuse_each" if is_whole else "refuse")
         if why:
             part("allocations refused in turn", why)
             return
-        for name, folders in PROGRAMS.items():
+        for name in programs:
             is_told = told_by_console if name == "rt_console" else told_by_calls
-            clock, runs = Clock(), [(row, program) for row in rows(*folders) for program in builds_of(copy, name)]
+            clock, runs = Clock(), [(row, program) for row in rows(*PROGRAMS[name]) for program in builds_of(copy, name)]
             with concurrent.futures.ThreadPoolExecutor(os.cpu_count()) as counting:
                 sweeps = list(counting.map(lambda it: Sweep(pool, *it, library, is_told, is_whole), runs))
             ends = [it.ended() for it in sweeps]

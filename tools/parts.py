@@ -1,5 +1,6 @@
 """The parts of the gate: each is counted, passed or failed, and has a line with the processor and clock minutes that it took."""
 import os
+import re
 import resource
 import sys
 import time
@@ -8,6 +9,11 @@ from bodies import read
 
 ROOT = os.path.realpath(f"{os.path.dirname(os.path.realpath(__file__))}/..")
 COUNTS = {"passed": 0, "failed": 0}
+
+
+def minutes(processor, clock):
+    """What a part took, of seconds."""
+    return f"{processor / 60:.1f} processor minutes, {clock / 60:.1f} by the clock"
 
 
 class Clock:
@@ -23,7 +29,7 @@ class Clock:
 
     def __str__(self):
         processor, clock = (b - a for a, b in zip(self.began, self.now()))
-        return f"{processor / 60:.1f} processor minutes, {clock / 60:.1f} by the clock"
+        return minutes(processor, clock)
 
 
 def count(passed, failed):
@@ -42,8 +48,14 @@ def some_of(wrong, tried):
     return "; ".join(wrong[:5]) or ("" if tried else "there is none")
 
 
-def end(clock):
-    print(f"in all {clock}")
+def counts_in(line):
+    """How many passed and failed by a last line, of rt ci or of ours, where it is one that says so."""
+    said = re.fullmatch(r"(\d+) passed, (\d+) failed\n?", line)
+    return (int(said[1]), int(said[2])) if said else None
+
+
+def end(clock, of=""):
+    print(f"{of}in all {clock}")
     print("{passed} passed, {failed} failed".format(**COUNTS))
     sys.exit(1 if COUNTS["failed"] or not COUNTS["passed"] else 0)
 
@@ -56,3 +68,15 @@ def crates_in(text):
 
 def crates():
     return crates_in(read(f"{ROOT}/crates.txt"))
+
+
+def libraries_of(crate, below):
+    """The crates of the repository that a crate stands on, by others too."""
+    own = [it for it in below[crate] if it in below]
+    return list(dict.fromkeys([*own, *(it for one in own for it in libraries_of(one, below))]))
+
+
+def with_below(named, below):
+    """These crates and those that they stand on, lowest first."""
+    found = {one for it in named for one in [it, *libraries_of(it, below)]}
+    return [it for it in below if it in found]

@@ -1,7 +1,7 @@
 """Bodies that give up, as no contract can always forbid: none can say that memory was really refused. Planted one after another, each makes the
 rows fail that it names. So does a fault in handing over, which the prover would refuse: threads over one client see it (tools/stress.py).
 
-tools/plants/CRATE/NAME.edit has a line 'fails: ROW ..', each row a script of rows/, examples/ or calls/, or CRATE/TEST, or 'threads', and what
+tools/plants/CRATE/NAME.edit has a line 'fails: ROW ..', each row a script below tests/, or CRATE/TEST, or 'threads', and what
 is changed as a wrong body has it. A planted copy is built and run without proofs (rt try); the console that judges what its threads are told
 is the proved one. First each of these rows is run with nothing planted, and passes."""
 import concurrent.futures
@@ -66,12 +66,12 @@ def is_well(copy, name, console):
     if name == THREADS:
         return are_told(copy, console)
     crate, _, test = name.partition("/")
-    if crate not in ("rows", "examples", "calls"):
+    if crate != "tests":
         ran = tried(copy, crate, "--test")
         ended = ended_of((ran.stdout + ran.stderr).decode(errors="replace"), test)
         return ended == "ok" if ended else None
     row = Row(name)
-    ran = tried(copy, "rt_calls" if crate == "calls" else "rt_console", "--", *(it.decode() for it in row.words), script=row.script)
+    ran = tried(copy, "rt_calls" if name.startswith("tests/calls/") else "rt_console", "--", *(it.decode() for it in row.words), script=row.script)
     ended = ENDED.search(ran.stderr.decode(errors="replace"))
     return (int(ended[1]), ran.stdout) == (row.status, row.out) if ended else None
 

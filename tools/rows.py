@@ -3,13 +3,15 @@ import os
 import re
 import subprocess
 
-from parts import ROOT, Clock, part, some_of
+import keeping
+from parts import ROOT, Clock, crates, part, some_of, with_below
 from runs import differs
 
+CONSOLE = "rt_console"
 # The programs, each with the folders of its rows.
 PROGRAMS = {
-    "rt_console": ("examples", "rows"),
-    "rt_calls": ("calls/low", "calls/mid", "calls/high", "calls/mail", "calls/client", "calls/peer"),
+    CONSOLE: ("tests/scripts", "tests/rows"),
+    "rt_calls": ("tests/calls/low", "tests/calls/mid", "tests/calls/high", "tests/calls/mail", "tests/calls/client", "tests/calls/peer"),
 }
 
 
@@ -23,7 +25,7 @@ class Row:
     def __init__(self, name):
         self.name = name
         args, self.script, self.out = self.bytes_of("args"), self.bytes_of("script"), self.bytes_of("out")
-        self.words = args.split(b"\n")[:-1] if args is not None else [] if name.startswith("calls/") else [b"script"]
+        self.words = args.split(b"\n")[:-1] if args is not None else [] if name.startswith("tests/calls/") else [b"script"]
         self.status, self.err = int(self.bytes_of("status") or b"0"), self.bytes_of("err") or b""
         self.unsaid = int(self.bytes_of("unsaid") or b"0")
         self.is_whole = (self.script is None) != (args is None) and (self.out is not None or args is not None)
@@ -57,11 +59,44 @@ def builds_of(copy, name):
     return [f"{folder}/{it}" for it in sorted(os.listdir(folder)) if re.fullmatch(rf"{name}(\.by-\w+)?", it)]
 
 
-def rows_part(copy):
-    for name, folders in PROGRAMS.items():
-        clock, builds, all_rows = Clock(), builds_of(copy, name), rows(*folders)
-        wrong = [f"{it.name} has no .out, or a script beside .args" for it in all_rows if not it.is_whole]
-        wrong += [f"{text} ({os.path.basename(program)})" for it in all_rows for program in builds for text in [it.wrong(program)] if text]
-        if len(builds) != 2:
-            wrong.append(f"{name} was built by {len(builds)} compilers, not by two")
-        part(f"{name}: {len(all_rows)} rows, {len(all_rows) * len(builds)} runs", some_of(wrong, all_rows), clock)
+def rows_part(copy, name):
+    """The rows of a program, by both of its builds."""
+    clock, builds, all_rows = Clock(), builds_of(copy, name), rows(*PROGRAMS[name])
+    wrong = [f"{it.name} has no .out, or a script beside .args" for it in all_rows if not it.is_whole]
+    wrong += [f"{text} ({os.path.basename(program)})" for it in all_rows for program in builds for text in [it.wrong(program)] if text]
+    if len(builds) != 2:
+        wrong.append(f"{name} was built by {len(builds)} compilers, not by two")
+    part(f"{name}: {len(all_rows)} rows, {len(all_rows) * len(builds)} runs", some_of(wrong, all_rows), clock)
+
+
+# The folders of tests/calls/ with the crates whose calls they make.
+CALLS_OF = {
+    "low": ("rt_map", "rt_tree", "rt_order", "rt_links", "rt_store"),
+    "mid": ("rt_query", "rt_writes", "rt_cache", "rt_forms", "rt_cover"),
+    "high": ("rt_view", "rt_wire", "rt_world", "rt_parts", "rt_sync"),
+    "mail": ("rt_mail", "rt_snapshots"),
+    "client": ("rt_client", "rt_push"),
+    "peer": ("rt_peer", "rt_hub", "rt_turns"),
+}
+
+
+def folders_of(program, named, below):
+    """The folders of a program's rows that show these crates."""
+    if program == CONSOLE:
+        return PROGRAMS[CONSOLE] if set(named) & set(with_below([CONSOLE], below)) else ()
+    return tuple(f"tests/calls/{it}" for it, crates_of in CALLS_OF.items() if {*crates_of, program} & set(named))
+
+
+def rows_of_crates_part(copy, named, room):
+    """The rows that show these crates, by the programs that are proved in the copy, or else without proofs."""
+    for program in PROGRAMS:
+        folders = folders_of(program, named, crates())
+        if not folders:
+            continue
+        clock, all_rows, why = Clock(), rows(*folders), ""
+        builds = builds_of(copy, program) if os.path.isdir(f"{copy}/crates/{program}/out") else []
+        is_proved = bool(builds)
+        if not is_proved:
+            builds, why = keeping.runner(program, room)
+        wrong = [why] if why else [text for it in all_rows for build in builds for text in [it.wrong(build)] if text]
+        part(f"{program}{'' if is_proved else ', without its proofs'}: {len(all_rows)} rows", some_of(wrong, all_rows), clock)

@@ -1,4 +1,5 @@
 """The console at both ends of a socket: the parts that tools/sessions/ has."""
+import os
 import tempfile
 
 import connecting
@@ -14,8 +15,9 @@ import serving
 import streams
 import talking
 import watching
+import workspaces
 from parts import Clock, part, some_of
-from rows import builds_of
+from rows import CONSOLE, builds_of
 
 
 def sockets_part(name, wrong_of, *given):
@@ -25,8 +27,16 @@ def sockets_part(name, wrong_of, *given):
     part(name.format(count), some_of(wrong, count), clock)
 
 
+def examples_parts(copy):
+    """The talks of those examples that are built in the copy, and what a link does where its connection ends, where examples/game is."""
+    built = [it for it in workspaces.examples() if os.path.isdir(f"{copy}/crates/{it}/out")]
+    sockets_part("examples: {} talks over emulators", talking.wrong_of, copy, builds_of(copy, CONSOLE), built)
+    if "example_game" in built:
+        sockets_part("a link: {} sessions whose connections end", linking.wrong_of, copy)
+
+
 def sockets_parts(copy):
-    programs = builds_of(copy, "rt_console")
+    programs = builds_of(copy, CONSOLE)
     sockets_part("serve: {} connections", serving.wrong_of, programs)
     sockets_part("serve, a million messages: {} connections", many.wrong_of, programs)
     sockets_part("connect: {} runs", connecting.wrong_of, programs)
@@ -35,8 +45,6 @@ def sockets_parts(copy):
         sockets_part("serve, streams to the byte: {} connections", streams.wrong_of, programs, room)
         sockets_part("serve, clients that write and go at once: {} connections", leaving.wrong_of, programs, room)
         sockets_part("emulate: {} sessions of many clients at once", emulating.wrong_of, programs, room)
-        sockets_part("applications: {} talks over emulators", talking.wrong_of, copy, programs)
-        sockets_part("a link: {} sessions whose connections end", linking.wrong_of, copy)
         sockets_part("serve and connect: {} reads and writes that fail in turn", cutting.wrong_of, programs, room)
         sockets_part("serve and connect: {} sessions of many writes, of which none is lost", handing.wrong_of, programs, room)
         refuser = lacking.refuser(room)[0]

@@ -9,11 +9,13 @@ import comments
 import examples
 import names
 import pages
+import spoken
+import workspaces
 from bodies import read, run
 from parts import ROOT, Clock, crates, part, some_of
 from proving import copied
 
-PROGRAMS_SHOWN = ("example_chat", "example_threads")  # README.md shows a text of each
+PROGRAMS_SHOWN = ("example_chat",)  # README.md shows a text of each
 APPLICATIONS = ("example_rooms", "example_board", "example_game", "example_scores")
 ERRORS = {
     "TreeError": "rt_tree/src/error.rt",
@@ -24,9 +26,9 @@ ERRORS = {
     "PushError": "rt_push/src/error.rt",
     "WireError": "rt_wire/src/error.rt",
     "LinkFault": "rt_link/src/error.rt",
-    "Lost": "rt_link/src/lost.rt",
+    "Lost": "rt_socket/src/lost.rt",
 }  # docs/GUIDE.md shows each refusal of these, with its text
-PATIENCE = "rt_link/src/patience.rt"  # the numbers that some texts name
+PATIENCE = "rt_socket/src/patience.rt"  # the numbers that some texts name
 PROGRAMS_OF_GUIDE = ("example_guide", "example_threads", "example_link")  # docs/GUIDE.md shows texts of these, and of the applications
 
 
@@ -65,8 +67,8 @@ def wrong_of_readme(readme, lines, sources):
 
 
 def readme_part():
-    sources = {it: read(f"{ROOT}/crates/{it}/src/main.rt") for it in PROGRAMS_SHOWN}
-    wrong = wrong_of_readme(read(f"{ROOT}/README.md"), read(f"{ROOT}/crates.txt"), sources)
+    sources = {it: read(f"{workspaces.folder_of(it)}/main.rt.txt") for it in PROGRAMS_SHOWN}
+    wrong = wrong_of_readme(read(f"{ROOT}/README.md"), read(f"{ROOT}/{workspaces.LINES}"), sources)
     part("README.md's examples are as they are proved", "; ".join(wrong))
 
 
@@ -74,7 +76,7 @@ def wrong_of_guide(guide, sources, printed):
     """What is wrong with the examples of a guide: each text of a program is so in one of these sources, and each other one in one of what is printed."""
     blocks = re.findall(r"(?ms)^```(\w*)\n(.*?)^```$", guide)
     places = {"rust": (sources, "in a program"), "text": (printed, "in what is printed")}
-    wrong = [f"a block of kind '{kind}' is compared with nothing" for kind, _ in blocks if kind not in places]
+    wrong = [f"a block of kind '{kind}' is compared with nothing" for kind, _ in blocks if kind not in (*places, *spoken.KINDS)]
     for kind, (texts, where) in places.items():
         shown = [text for it, text in blocks if it == kind]
         wrong += [f"{text.splitlines()[0]} is not so {where}" for text in shown if not any(text in it for it in texts)] if shown else [f"nothing is shown {where}"]
@@ -118,11 +120,11 @@ def sdk_part():
 
 
 def guide_part():
-    """What docs/GUIDE.md shows of programs, of what they print, also in the talks of applications/, and of crates.txt."""
-    files = [f"{at}/{name}" for it in (*PROGRAMS_OF_GUIDE, *APPLICATIONS) for at, _, names in os.walk(f"{ROOT}/crates/{it}/src") for name in names]
-    printed = [read(f"{ROOT}/crates.txt"), *(read(f"{ROOT}/crates/{it}/stdout") for it in PROGRAMS_OF_GUIDE)]
-    printed += [read(f"{ROOT}/applications/{it}") for it in os.listdir(f"{ROOT}/applications")]
-    part("docs/GUIDE.md's examples are as they are proved", "; ".join(wrong_of_guide(read(f"{ROOT}/docs/GUIDE.md"), [read(it) for it in files], printed)))
+    """What docs/GUIDE.md shows of programs, of what they print, also in the talks of tests/talks/, and of crates.txt."""
+    shown = [text for it in (*PROGRAMS_OF_GUIDE, *APPLICATIONS) for text in workspaces.texts_of(it)]
+    printed = [read(f"{ROOT}/{workspaces.LINES}"), *(read(f"{workspaces.folder_of(it)}/stdout") for it in PROGRAMS_OF_GUIDE)]
+    printed += [read(f"{ROOT}/tests/talks/{it}") for it in os.listdir(f"{ROOT}/tests/talks")]
+    part("docs/GUIDE.md's examples are as they are proved", "; ".join(wrong_of_guide(read(f"{ROOT}/docs/GUIDE.md"), shown, printed)))
 
 
 def examples_part():
@@ -140,7 +142,7 @@ def comments_part():
 def layout_part():
     """Each file of a crate is as rt fmt lays it out, which rt ci asks only when the crate's turn comes."""
     with tempfile.TemporaryDirectory(prefix="kaltewi-layout-") as room:
-        copy = copied(f"{room}/repository")
-        told = [(it, run(["rt", "fmt"], f"{copy}/crates/{it}")) for it in crates()]
+        copy = copied(f"{room}/repository", workspaces.examples())
+        told = [(it, run(["rt", "fmt"], f"{copy}/crates/{it}")) for it in [*crates(), *workspaces.examples()]]
     wrong = [f"{it}: {line}" for it, ran in told for line in ran.stdout.splitlines() if ran.returncode or "formatted" in line]
     part(f"{len(told)} crates are as rt fmt lays them out", some_of(wrong, told))

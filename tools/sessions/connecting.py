@@ -99,7 +99,7 @@ def bad_lines(program):
 
 def not_shown():
     """The files that have to show the row, and don't."""
-    shown = {"examples/two_terminals.lines": [ROW], "docs/FORMATS.md": [ROW_OUT]}
+    shown = {"tests/scripts/two_terminals.lines": [ROW], "docs/FORMATS.md": [ROW_OUT]}
     for file, texts in shown.items():
         with open(f"{ROOT}/{file}", encoding="utf-8") as it:
             whole = it.read()

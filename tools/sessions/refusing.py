@@ -10,7 +10,7 @@ from cutting import ENDS, HANDSHAKE, LINES, WHOLE, Wrong, begun, ended, let_end,
 from frames import Client
 from session import stop
 
-REFUSED = b"refused\n"  # what calls/refuse.c says where it refuses
+REFUSED = b"refused\n"  # what tests/calls/refuse.c says where it refuses
 LACKING = (b"kaltewi: out of memory\n", b"error: out of memory\n")  # the second is what clap says
 QUIET = 0, b"", b""
 LOST = "the line that says that it listens"  # in place of how `serve` ended, which goes on

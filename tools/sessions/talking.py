@@ -1,4 +1,4 @@
-"""The applications of crates/example_*: programs that meet at one `emulate`, as a talk in applications/ says line by line.
+"""The applications of examples/: programs that meet at one `emulate`, as a talk in tests/talks/ says line by line.
 
 A talk begins with the words that `emulate` is given. Then each line has a name and what becomes of that program:
 
@@ -29,7 +29,7 @@ from parts import ROOT
 from rows import builds_of
 from session import stop
 
-TALKS = f"{ROOT}/applications"
+TALKS = f"{ROOT}/tests/talks"
 LINE = re.compile(r"(\w+)(?:([$<>!]) ?(.*)|\.)")
 
 
@@ -112,15 +112,22 @@ def step(talkers, program_of, port, line):
             raise Wrong(f"'{name}{kind} {text}': it is {found!r}")
 
 
-def talks():
+def talks(programs=None):
+    """The talks by their names: all, or those of these programs alone."""
     names = sorted(it for it in os.listdir(TALKS) if it.endswith(".talk"))
-    return {it: read(f"{TALKS}/{it}") for it in names}
+    texts = {it: read(f"{TALKS}/{it}") for it in names}
+    return {it: text for it, text in texts.items() if programs is None or programs_of(text) <= set(programs)}
 
 
-def wrong_of(copy, consoles):
-    """What is wrong with the talks, each by both builds of the console and of its programs, and how many there were."""
+def programs_of(text):
+    """The programs that a talk starts."""
+    return {line.split()[0] for _, kind, line in lines_of(text)[1] if kind == "$"}
+
+
+def wrong_of(copy, consoles, programs=None):
+    """What is wrong with the talks, all or those of these programs, each by both builds of the console and of its programs, and how many there were."""
     wrong, count = [], 0
-    for name, text in talks().items():
+    for name, text in talks(programs).items():
         for number, console in enumerate(consoles):
             count += 1
             try:

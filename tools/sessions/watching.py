@@ -286,7 +286,7 @@ def failing_streams(program):
 
 # ---- where memory lacks
 
-REFUSED = b"refused\n"  # what calls/refuse.c says where it refuses
+REFUSED = b"refused\n"  # what tests/calls/refuse.c says where it refuses
 NO_THREAD = b"kaltewi: the system refuses a thread, or what waiting needs: operation would block\n"  # it has no memory for one
 LACKING = (b"kaltewi: out of memory\n", b"error: out of memory\n", NO_THREAD)  # the second is what clap says
 LOOKS, LOOKED = '["cover"]\n' + LISTENS, "T none\ndone 1\n"
@@ -370,12 +370,11 @@ def bad_words(program, words, wanted):
 
 
 def not_shown():
-    """The files that have to show the two terminals, and don't."""
-    for file in ("README.md", "docs/FORMATS.md"):
-        with open(f"{ROOT}/{file}", encoding="utf-8") as it:
-            whole = it.read()
-        if any(part not in whole for part in (LISTENS, LISTENED, WRITES, WRITTEN, HEARD)):
-            yield f"{file} doesn't show two terminals that watch"
+    """What is wrong with the page that has to show the two terminals, if anything is. README.md has a picture of a recorded session (tools/recording)."""
+    with open(f"{ROOT}/docs/FORMATS.md", encoding="utf-8") as it:
+        whole = it.read()
+    if any(part not in whole for part in (LISTENS, LISTENED, WRITES, WRITTEN, HEARD)):
+        yield "docs/FORMATS.md doesn't show two terminals that watch"
 
 
 def wrong_of(programs):

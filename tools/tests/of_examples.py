@@ -124,7 +124,7 @@ class Quotes(unittest.TestCase):
     def test_programs(self):
         with tempfile.TemporaryDirectory() as room:
             first, second = examples.PROGRAMS
-            files(room, {f"{first}/trees.rt": PROGRAM, f"{second}/trees.rt": "fn other() {}\n", f"{second}/link.rt": "fn ring() {}\n"})
+            files(room, {f"{first}/trees.rt.txt": PROGRAM, f"{second}/trees.rt.txt": "fn other() {}\n", f"{second}/link.rt.txt": "fn ring() {}\n"})
             self.assertEqual(examples.program(room, "trees"), self.made)
             self.assertEqual(examples.program(room, "link"), {"fn ring": "fn ring() {}"})
             self.assertEqual(examples.program(room, "told"), {})

@@ -15,13 +15,15 @@ def loaded(path):
     return module
 
 
-gate_table, benchmarks, workspace = loaded("tools/gate_table"), loaded("benchmarks/run"), loaded("benchmarks/workspace")
+gate_table, benchmarks, workspace = loaded("tools/gate_table"), loaded("benchmarks/run"), loaded("tools/workspace")
 beside = loaded("benchmarks/beside")
+import proving
 
 SAID = """ok      805 wrong bodies apply, 43 of them central
         rt_tree proved
 ok      rt ci (69.6 processor minutes, 35.4 by the clock)
         of these: rt_calls 14.0, tests of rt_tests 1.9, the rest 0.4
+        nodes: rt_calls 14000000, tests of rt_tests 1900000
 FAILED  central wrong bodies refused: not judged: rt_tree/x (9.5 processor minutes, 5.5 by the clock)
 in all 82.2 processor minutes, 45.5 by the clock
 43 passed, 1 failed
@@ -40,7 +42,7 @@ class Figures(unittest.TestCase):
         text = gate_table.replaced(page, gate_table.figures(SAID, "Here, then"))
         self.assertNotIn("old", text)
         self.assertTrue(text.startswith("# It\n\n") and text.endswith("\nmore\n"))
-        for it in ("Here, then", "| rt ci | 69.6 | 35.4 |", "| `rt_calls` | 14.0 | the rest | 0.4 |", "| tests of rt_tests | 1.9 |  |  |"):
+        for it in ("Here, then", "| rt ci | 69.6 | 35.4 |"):
             self.assertIn(it, text)
         self.assertEqual(gate_table.replaced(text, gate_table.figures(SAID, "Here, then")), text)
 
@@ -58,6 +60,15 @@ class Figures(unittest.TestCase):
         self.assertEqual(gate_table.with_rows(page, rows), due)
         with self.assertRaises(ValueError):
             gate_table.with_rows(page.replace("./check", "./other"), rows)
+
+    def test_budget(self):
+        taken = gate_table.nodes(SAID)
+        self.assertEqual(taken, {"rt_calls": 14.0, "tests of rt_tests": 1.9})
+        page = f"# It\n\n{proving.BEGIN}\n| Crate |  |\n| --- | --- |\n| `rt_tree` | 2.50 | `rt_gone` | 3.00 |\n\n{proving.END}\nmore\n"
+        text = gate_table.budget(page, taken, ["rt_calls", "rt_tests", "rt_tree"])
+        self.assertEqual(proving.budget_in(text), {"rt_calls": 14.0, "tests of rt_tests": 1.9, "rt_tree": 2.5})
+        self.assertIn("| `rt_calls` | 14.00 | tests of rt_tests | 1.90 |\n| `rt_tree` | 2.50 |  |  |\n", text)
+        self.assertEqual(gate_table.budget(text, {}, ["rt_calls", "rt_tests", "rt_tree"]), text)
 
     def test_what_says_nothing(self):
         with self.assertRaises(ValueError):

@@ -2,20 +2,24 @@
 import importlib.machinery
 import importlib.util
 import os
+import shutil
 import sys
 import tempfile
 import unittest
 
 ROOT = os.path.realpath(f"{os.path.dirname(os.path.realpath(__file__))}/../..")
 sys.path[:0] = [f"{ROOT}/tools/sessions", f"{ROOT}/tools"]
+import beside
 import bodies
 import judging
 import lacking
 import parts
 import planting
 import proving
+import record
 import rows
 import texts
+import workspaces
 
 LOADER = importlib.machinery.SourceFileLoader("judge", f"{ROOT}/tools/judge")
 judge = importlib.util.module_from_spec(importlib.util.spec_from_loader("judge", LOADER))
@@ -83,9 +87,67 @@ class Gate(unittest.TestCase):
         self.assertEqual(texts.wrong_of_sdk("`get`, `settle` and push", names)[0], ["set is missing", "push is missing"])
 
     def test_last_line(self):
-        self.assertEqual(proving.counts_in("27 passed, 0 failed\n"), (27, 0))
-        self.assertEqual(proving.counts_in("rt: 27 passed, 0 failed\n"), None)
-        self.assertEqual(proving.counts_in(""), None)
+        self.assertEqual(parts.counts_in("27 passed, 0 failed\n"), (27, 0))
+        self.assertEqual(parts.counts_in("rt: 27 passed, 0 failed\n"), None)
+        self.assertEqual(parts.counts_in(""), None)
+
+    def test_nodes(self):
+        def mapping(begin, end, kind, kilobytes):
+            return f"{begin:x}-{end:x} {kind} 00000000 00:00 0 \nSize:  9 kB\nRss:   {kilobytes} kB\nVmFlags: rd\n"
+
+        opened, whole = 2**26, proving.NODE * proving.ROOM
+        arena = mapping(2**40, 2**40 + opened, "rw-p", 500) + mapping(2**40 + opened, 2**40 + whole, "---p", 0)
+        other = mapping(2**39, 2**39 + opened, "rw-p", 70)
+        self.assertEqual(proving.nodes_in(other + arena), 500 * 1024 // proving.NODE)
+        self.assertEqual(proving.nodes_in(other), 0)
+        self.assertEqual(proving.nodes_in(arena.replace("---p", "r--p")), 0)
+
+    def test_budget(self):
+        budget = {"low": 1.0, "tests of low": 2.0}
+        self.assertEqual(list(proving.over_budget({"low": 1_100_000, "tests of low": 1_000_000}, budget)), [])
+        self.assertEqual(list(proving.over_budget({"low": 1_120_000}, budget)), ["low takes 1.12 million nodes, 12 % more than its 1.00"])
+        self.assertEqual(list(proving.over_budget({"mid": 500_000}, budget)), ["mid has no line, and takes 0.50 million nodes"])
+        self.assertEqual(list(proving.over_budget({"mid": 400_000}, budget)), [])
+        self.assertEqual([proving.lanes(4, it * proving.GB) for it in (3, 12, 64)], [1, 2, 4])
+
+    def test_what_a_check_of_some_crates_proves(self):
+        below = parts.crates_in(CRATES)
+        self.assertEqual(parts.with_below(["mid"], below), ["low", "mid"])
+        self.assertEqual(parts.libraries_of("high", below), ["mid", "low"])
+
+    def test_what_runs_beside(self):
+        with tempfile.TemporaryDirectory() as room:
+            it = beside.Beside.__new__(beside.Beside)
+            it.proved = f"{room}/repository.proved"
+            open(it.proved, "w", encoding="utf-8").close()
+            it.told("rt: low proved\n")
+            it.told("rt: mid is kept: an earlier run on this machine proved the same files over the same libraries\n")
+            it.told("rt: high NOT PROVED\n")
+            it.tell(beside.ENDED)
+            self.assertEqual(beside.until(f"{room}/repository", ["low", "mid", "high"]), ["high"])
+
+    def test_programs_that_stand_as_texts(self):
+        self.assertEqual(workspaces.place_of("main.rt.txt"), "src/main.rt")
+        self.assertEqual(workspaces.place_of("trees.sorted.antt.txt"), "proofs/trees/sorted/Answers.antt")
+        self.assertEqual(workspaces.place_of("stdout"), "stdout")
+        for name in workspaces.examples():
+            self.assertTrue(workspaces.line_of(name).startswith(name) and workspaces.texts_of(name), name)
+        self.assertLessEqual(set(workspaces.IN_GATE), set(workspaces.examples()))
+
+    def test_a_verdict_is_kept_by_what_it_stands_on(self):
+        edit, table = judging.edits_of("rt_tree")[0], parts.crates()
+        names = {record.name_of(ROOT, edit, table)}
+        with tempfile.TemporaryDirectory() as room:
+            for it in ("tools", "HANDLES", "crates/rt_map", "crates/rt_tree"):
+                os.makedirs(os.path.dirname(f"{room}/{it}"), exist_ok=True)
+                copy = shutil.copytree if os.path.isdir(f"{ROOT}/{it}") else shutil.copy
+                copy(f"{ROOT}/{it}", f"{room}/{it}")
+            names.add(record.name_of(room, edit, table))
+            self.assertEqual(len(names), 1)
+            bodies.write(f"{room}/crates/rt_map/src/more.rt", "// more\n")
+            record.crate_sum.cache_clear()
+            self.assertNotIn(record.name_of(room, edit, table), names)
+            self.assertNotIn(record.name_of(ROOT, judging.edits_of("rt_tree")[1], table), names)
 
     def test_what_a_process_works_on(self):
         kind_of = proving.Watch.kind_of
@@ -109,7 +171,7 @@ class Gate(unittest.TestCase):
         self.assertEqual(list(lacking.ends_in(data, b"abxx")), [(1, ended), (2, ended), (3, None)])
 
     def test_a_row_of_calls_says_once_that_memory_lacks(self):
-        row = rows.Row("calls/low/tree_children")
+        row = rows.Row("tests/calls/low/tree_children")
         whole = row.out
         self.assertTrue(lacking.told_by_calls(row, (0, b"NoMemory\n" + whole, b"")))
         self.assertFalse(lacking.told_by_calls(row, (0, whole, b"")))
@@ -163,9 +225,9 @@ class Gate(unittest.TestCase):
     def test_plants(self):
         with tempfile.TemporaryDirectory() as room:
             os.makedirs(f"{room}/low")
-            bodies.write(f"{room}/low/it.edit", "fails: rows/a low/test\nfile: src/lib.rt\nold: a\nnew: b\n")
+            bodies.write(f"{room}/low/it.edit", "fails: tests/rows/a low/test\nfile: src/lib.rt\nold: a\nnew: b\n")
             [plant] = planting.plants_in(room)
-        self.assertEqual((plant.name, plant.crate, plant.rows), ("low/it", "low", ["rows/a", "low/test"]))
+        self.assertEqual((plant.name, plant.crate, plant.rows), ("low/it", "low", ["tests/rows/a", "low/test"]))
         self.assertEqual(plant.pairs, [("src/lib.rt", "a", "b")])
 
     def test_each_plant_applies(self):

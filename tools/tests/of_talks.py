@@ -6,7 +6,7 @@ import unittest
 HERE = os.path.dirname(os.path.realpath(__file__))
 sys.path[:0] = [f"{HERE}/..", f"{HERE}/../sessions"]
 from cutting import Wrong
-from parts import crates
+import workspaces
 from talking import lines_of, talks
 
 
@@ -25,7 +25,7 @@ class Talks(unittest.TestCase):
         for name, text in talks().items():
             with self.subTest(name):
                 lines = lines_of(text)[1]
-                self.assertLessEqual({it.split()[0] for _, kind, it in lines if kind == "$"}, set(crates()))
+                self.assertLessEqual({it.split()[0] for _, kind, it in lines if kind == "$"}, set(workspaces.examples()))
                 self.assertEqual(sorted(it for it, kind, _ in lines if kind == "$"), sorted(it for it, kind, _ in lines if kind == "."))
 
 

@@ -10,7 +10,6 @@
 mod cache;
 mod clients;
 mod cores;
-mod cover;
 mod deliveries;
 mod errors;
 mod fault;
@@ -18,7 +17,6 @@ mod lanes;
 mod line;
 mod lines;
 mod mirrors;
-mod order;
 mod peers;
 mod seats;
 mod store;
@@ -33,7 +31,6 @@ use crate::fault::{Fault, Told};
 use crate::line::Line;
 use rt_cache::Brought;
 use rt_client::Client;
-use rt_cover::Cover;
 use rt_mail::{Inbox, Lane, Mirror};
 use rt_peer::Peer;
 use rt_store::{Node, Store};
@@ -55,7 +52,6 @@ struct State {
     client: Option<Client>,
     copy: Tree,
     core: Core,
-    cover: Cover,
     inbox: Option<Inbox>,
     lane: Lane,
     mirror: Mirror,
@@ -78,7 +74,6 @@ impl State {
             client: None,
             copy: Tree::null(),
             core: Core::new(alloc, Limits::full()),
-            cover: Cover::new(alloc, 100),
             inbox: None,
             lane: Lane::new(alloc),
             mirror: Mirror::new(alloc),
@@ -103,11 +98,9 @@ impl State {
             "cache" => cache::call(&mut self.brought, line),
             "client" => clients::call(&mut self.client, &mut self.seats, line),
             "core" => cores::call(&mut self.core, line),
-            "cover" => cover::call(&mut self.cover, line),
             "errors" => errors::call(line),
             "lane" => lanes::call(&mut self.lane, &mut self.inbox, line),
             "mirror" => mirrors::call(&mut self.mirror, line),
-            "order" => order::call(line),
             "peer" => peers::call(&mut self.peer, line),
             "seat" => {
                 seats::call::<R>(&mut self.client, &mut self.seats, &mut self.mirror, line)

@@ -1,9 +1,12 @@
 // What no clause of a hub says: that its calls succeed with memory, and that one that lacks it says so.
+// `told` hands on that memory lacked, since one of the tests looks at that.
 use rt_hub::{Bounds, Hub, Taken};
 use rt_peer::PeerError;
 use rt_tree::Tree;
 use std::alloc::Global;
-use std::test::Fail;
+
+// Why a test ends whose allocations are not refused.
+const MEMORY: &str = "memory";
 
 const LISTEN: &str = "{\"k\":\"listen\",\"path\":\"/a\",\"tag\":1}";
 
@@ -46,37 +49,34 @@ fn is_passed_over(taken: &Taken) -> bool {
 }
 
 #[test]
-fn two_connections(rt: HostRuntime) -> Result<(), Fail> {
-    let mut hub = told(rt.alloc(), Bounds::full().messages)?;
+fn two_connections(rt: HostRuntime) {
+    let mut hub = told(rt.alloc(), Bounds::full().messages).expect(&rt, MEMORY);
     assert_eq!(rt; count(&mut hub, 1), 2);
     assert_eq!(rt; count(&mut hub, 2), 3);
     assert!(rt; !hub.is_over(1));
     assert!(rt; !hub.tree().is_null());
-    Ok(())
 }
 
 #[test]
-fn one_text_too_many(rt: HostRuntime) -> Result<(), Fail> {
-    let mut hub = told(rt.alloc(), 2)?;
+fn one_text_too_many(rt: HostRuntime) {
+    let mut hub = told(rt.alloc(), 2).expect(&rt, MEMORY);
     assert_eq!(rt; count(&mut hub, 1), 2);
     assert!(rt; hub.is_over(2));
     assert_eq!(rt; count(&mut hub, 2), 0);
-    let told = hub.disconnect(2)?;
+    let told = hub.disconnect(2).expect(&rt, MEMORY);
     assert!(rt; told.is_empty());
-    Ok(())
 }
 
 #[test]
-fn no_message(rt: HostRuntime) -> Result<(), Fail> {
-    let mut hub = told(rt.alloc(), 2)?;
-    let taken = hub.take(1, "[]")?;
+fn no_message(rt: HostRuntime) {
+    let mut hub = told(rt.alloc(), 2).expect(&rt, MEMORY);
+    let taken = hub.take(1, "[]").expect(&rt, MEMORY);
     assert!(rt; is_passed_over(&taken));
     assert_eq!(rt;
         hub.take(9, LISTEN).err(),
         Some(PeerError::UnknownConnection)
     );
     assert_eq!(rt; hub.disconnect(9).err(), Some(PeerError::UnknownConnection));
-    Ok(())
 }
 
 // Whether each call of that run succeeds, or says that memory lacked.
@@ -92,7 +92,6 @@ fn says_so(alloc: Global) -> bool {
 }
 
 #[test]
-fn a_refusal_is_said(rt: HostRuntime) -> Result<(), Fail> {
+fn a_refusal_is_said(rt: HostRuntime) {
     assert!(rt; says_so(rt.alloc()));
-    Ok(())
 }

@@ -1,8 +1,9 @@
 // What no clause of a map says: that its calls succeed, how it prints, and what is left where memory lacks.
+// What a test whose allocations are refused calls hands on that memory lacked; the others end there.
 use rt_map::{OrdMap, Share};
 use std::alloc::{AllocError, Global};
 use std::collections::BTreeMap;
-use std::test::Fail;
+use std::process::Abort;
 
 // A number, which is its own copy.
 #[derive(Clone, Copy, Debug, PartialEq, Eq, PartialOrd, Ord)]
@@ -14,28 +15,33 @@ impl Share for Number {
     }
 }
 
+// Why a test ends whose allocations are not refused.
+const MEMORY: &str = "memory";
+
 type Map = OrdMap<Number, Number>;
 
 type StdMap = BTreeMap<Number, Number>;
 
 // The same change of both maps, which a number says: whether both answer the same.
 fn change(
+    rt: &impl Abort,
     alloc: Global,
     map: &mut Map,
     tree: &mut StdMap,
     chance: u64,
     round: u64,
-) -> Result<bool, AllocError> {
+) -> bool {
     let (key, value) = (key_of(chance), Number(round));
     if chance / 1048576 % 3 == 0 {
-        return Ok(map.remove(&key)? == tree.remove(&key));
+        return map.remove(&key).expect(rt, MEMORY) == tree.remove(&key);
     }
+    let old: Result<_, _> = tree.insert(key, value);
+    let old = old.expect(rt, MEMORY);
     if chance / 1048576 % 7 != 1 || !map.contains_key(&key) {
-        return Ok(map.insert(alloc, key, value)? == tree.insert(key, value)?);
+        return map.insert(alloc, key, value).expect(rt, MEMORY) == old;
     }
-    *map.get_mut(&key)? = value;
-    drop(tree.insert(key, value)?);
-    Ok(true)
+    *map.get_mut(&key).expect(rt, MEMORY) = value;
+    true
 }
 
 fn key_of(chance: u64) -> Number {
@@ -44,16 +50,17 @@ fn key_of(chance: u64) -> Number {
 
 // So while somebody holds a copy, and whether both show the same there.
 fn change_beside_a_copy(
+    rt: &impl Abort,
     alloc: Global,
     map: &mut Map,
     tree: &mut StdMap,
     chance: u64,
     round: u64,
-) -> Result<bool, AllocError> {
-    let held = map.copy()?;
-    let is_same = change(alloc, map, tree, chance, round);
+) -> bool {
+    let held = map.copy().expect(rt, MEMORY);
+    let is_same = change(rt, alloc, map, tree, chance, round);
     drop(held);
-    Ok(is_same? && map.len() == tree.len() && map.get(&key_of(chance)) == tree.get(&key_of(chance)))
+    is_same && map.len() == tree.len() && map.get(&key_of(chance)) == tree.get(&key_of(chance))
 }
 
 // Whether both have the same entries, in the same order.
@@ -69,30 +76,31 @@ fn have_the_same(map: &Map, tree: &StdMap) -> bool {
 
 // Makes so many changes by chance, up to the first after which the maps differ, and says how many it made.
 fn change_all(
+    rt: &impl Abort,
     alloc: Global,
     map: &mut Map,
     tree: &mut StdMap,
     rounds: u64,
-) -> Result<u64, AllocError> {
+) -> u64 {
     let mut chance = 12345u64;
     for round in 0..rounds {
         chance = chance
             .wrapping_mul(6364136223846793005)
             .wrapping_add(1442695040888963407);
-        if !change_beside_a_copy(alloc, map, tree, chance, round)? {
-            return Ok(round);
+        if !change_beside_a_copy(rt, alloc, map, tree, chance, round) {
+            return round;
         }
     }
-    Ok(rounds)
+    rounds
 }
 
 #[test]
-fn changes_as_a_map_of_std(rt: HostRuntime) -> Result<(), Fail> {
+fn changes_as_a_map_of_std(rt: HostRuntime) {
     let alloc = rt.alloc();
-    let (mut map, mut tree) = (OrdMap::new(alloc)?, BTreeMap::new(alloc));
-    let changes = change_all(alloc, &mut map, &mut tree, 20000)?;
+    let mut map = OrdMap::new(alloc).expect(&rt, MEMORY);
+    let mut tree = BTreeMap::new(alloc);
+    let changes = change_all(&rt, alloc, &mut map, &mut tree, 20000);
     assert_eq!(rt; (changes, have_the_same(&map, &tree)), (20000, true));
-    Ok(())
 }
 
 // The first n even numbers, each with its half.
@@ -113,6 +121,11 @@ fn made_anew(alloc: Global, map: &Map) -> Result<Map, AllocError> {
     OrdMap::from_sorted(alloc, entries)
 }
 
+// `halves`, where memory is.
+fn halves_of(rt: &impl Abort, alloc: Global, n: u64) -> Map {
+    halves(alloc, n).expect(rt, MEMORY)
+}
+
 // Whether that map has no entry, nor one to be taken out.
 fn has_none(map: &mut Map) -> bool {
     let is_empty = map.is_empty() && map.first().is_none() && map.last().is_none();
@@ -128,70 +141,64 @@ fn has_ends(map: &Map, last: (Number, Number)) -> bool {
 }
 
 #[test]
-fn small_and_large(rt: HostRuntime) -> Result<(), Fail> {
+fn small_and_large(rt: HostRuntime) {
     let alloc = rt.alloc();
-    assert!(rt; has_none(&mut halves(alloc, 0)?));
-    assert!(rt; has_ends(&halves(alloc, 3)?, (Number(4), Number(2))));
-    assert!(rt; has_ends(&halves(alloc, 2500)?, (Number(4998), Number(2499))));
-    Ok(())
+    assert!(rt; has_none(&mut halves_of(&rt, alloc, 0)));
+    assert!(rt; has_ends(&halves_of(&rt, alloc, 3), (Number(4), Number(2))));
+    assert!(rt; has_ends(&halves_of(&rt, alloc, 2500), (Number(4998), Number(2499))));
 }
 
 #[test]
-fn a_small_one_is_shown(rt: HostRuntime) -> Result<(), Fail> {
+fn a_small_one_is_shown(rt: HostRuntime) {
     let alloc = rt.alloc();
-    let shown = format!(in alloc; "{:?}", halves(alloc, 2)?)?;
+    let shown = format!(in alloc; "{:?}", halves_of(&rt, alloc, 2)).expect(&rt, MEMORY);
     assert_eq!(rt;
         shown.as_str(),
         "{Number(0): Number(0), Number(2): Number(1)}"
     );
-    Ok(())
+}
+
+// Puts an entry that is new, or in place of an old one.
+fn put(rt: &impl Abort, alloc: Global, map: &mut Map, key: u64, value: u64) {
+    drop(
+        map.insert(alloc, Number(key), Number(value))
+            .expect(rt, MEMORY),
+    );
 }
 
 // Whether a map made at once is the one made by inserts, and so again after a change in its middle.
-fn is_made_alike(alloc: Global, n: u64) -> Result<bool, AllocError> {
-    let mut map = halves(alloc, n)?;
-    let mut made = made_anew(alloc, &map)?;
+fn is_made_alike(rt: &impl Abort, alloc: Global, n: u64) -> bool {
+    let mut map = halves_of(rt, alloc, n);
+    let mut made = made_anew(alloc, &map).expect(rt, MEMORY);
     let is_alike = made == map && made.len() == map.len();
-    drop(map.insert(alloc, Number(n | 1), Number(0))?);
-    drop(made.insert(alloc, Number(n | 1), Number(0))?);
-    Ok(is_alike && made == map)
+    put(rt, alloc, &mut map, n | 1, 0);
+    put(rt, alloc, &mut made, n | 1, 0);
+    is_alike && made == map
 }
 
 #[test]
-fn made_of_entries_at_once(rt: HostRuntime) -> Result<(), Fail> {
-    let alloc = rt.alloc();
-    assert!(rt; is_made_alike(alloc, 0)?);
-    assert!(rt; is_made_alike(alloc, 32)?);
-    assert!(rt; is_made_alike(alloc, 33)?);
-    assert!(rt; is_made_alike(alloc, 1024)?);
-    assert!(rt; is_made_alike(alloc, 1025)?);
-    assert!(rt; is_made_alike(alloc, 2500)?);
-    Ok(())
+fn made_of_entries_at_once(rt: HostRuntime) {
+    for n in [0, 32, 33, 1024, 1025, 2500] {
+        assert!(rt; is_made_alike(&rt, rt.alloc(), n), "of {n}");
+    }
 }
 
 // Whether a map stays as it is while a copy of it is changed, changed back, and loses an entry.
-fn stays(alloc: Global, map: &Map, copy: &mut Map) -> Result<bool, AllocError> {
+fn stays(rt: &impl Abort, alloc: Global, map: &Map, copy: &mut Map) -> bool {
     let was_equal = map == copy;
-    drop(copy.insert(alloc, Number(1200), Number(7))?);
+    put(rt, alloc, copy, 1200, 7);
     let differs = map != copy;
-    drop(copy.insert(alloc, Number(1200), Number(600))?);
+    put(rt, alloc, copy, 1200, 600);
     let is_equal = map == copy;
-    drop(copy.remove(&Number(4998))?);
-    Ok(
-        was_equal
-            && differs
-            && is_equal
-            && map != copy
-            && has_ends(map, (Number(4998), Number(2499))),
-    )
+    drop(copy.remove(&Number(4998)).expect(rt, MEMORY));
+    was_equal && differs && is_equal && map != copy && has_ends(map, (Number(4998), Number(2499)))
 }
 
 #[test]
-fn a_copy_stays(rt: HostRuntime) -> Result<(), Fail> {
+fn a_copy_stays(rt: HostRuntime) {
     let alloc = rt.alloc();
-    let map = halves(alloc, 2500)?;
-    assert!(rt; stays(alloc, &map, &mut map.copy()?)?);
-    Ok(())
+    let map = halves_of(&rt, alloc, 2500);
+    assert!(rt; stays(&rt, alloc, &map, &mut map.copy().expect(&rt, MEMORY)));
 }
 
 // A map that shares all its parts with the other, or none.
@@ -264,7 +271,7 @@ fn is_whole_or_refused(alloc: Global, n: u64, is_held: bool) -> Result<bool, All
 
 // With one of the allocations refused too: a map that could not be made tells nothing.
 #[test]
-fn a_refusal_changes_nothing(rt: HostRuntime) -> Result<(), Fail> {
+fn a_refusal_changes_nothing(rt: HostRuntime) {
     let alloc = rt.alloc();
     assert!(rt; is_whole_or_refused(alloc, 3, false).unwrap_or(true));
     assert!(rt; is_whole_or_refused(alloc, 3, true).unwrap_or(true));
@@ -272,5 +279,4 @@ fn a_refusal_changes_nothing(rt: HostRuntime) -> Result<(), Fail> {
     assert!(rt; is_whole_or_refused(alloc, 32, true).unwrap_or(true));
     assert!(rt; is_whole_or_refused(alloc, 1056, false).unwrap_or(true));
     assert!(rt; is_whole_or_refused(alloc, 1056, true).unwrap_or(true));
-    Ok(())
 }

@@ -7,9 +7,9 @@ use rt_tree::{Leaf, Path, Tree};
 use rt_view::{Batch, Change};
 use rt_world::{Limits, Step};
 use std::alloc::Global;
+use std::process::Abort;
 use std::sync::Wait;
 use std::sync::atomic::{AtomicBool, Ordering};
-use std::test::Fail;
 use std::thread;
 use std::thread::Threads;
 
@@ -158,8 +158,8 @@ fn pushes(shared: &mut Shared, path: Path) -> bool {
     with_core(shared, Step::Data { tag: 1, path, tree }).is_ok()
 }
 
-fn path(alloc: Global, text: &str) -> Result<Path, Fail> {
-    Ok(Path::parse(alloc, text)?)
+fn path(rt: &impl Abort, alloc: Global, text: &str) -> Path {
+    Path::parse(alloc, text).expect(rt, "a path")
 }
 
 // Whether a connection is open on which both seats listen.
@@ -171,37 +171,44 @@ fn opened(shared: &mut Shared, seats: (&mut Seat, &mut Seat), paths: (Path, Path
 }
 
 // The text of the first message that is to be sent; empty where there is none.
-fn sent(shared: &mut Shared, alloc: Global) -> Result<String, Fail> {
-    match shared.take_outgoing() {
-        Ok(Some(message)) => Ok(message.text(alloc)?),
-        Ok(None) => Ok(String::new(alloc)),
-        Err(error) => Err(Fail::new(error)),
+fn sent(rt: &impl Abort, shared: &mut Shared, alloc: Global) -> String {
+    match shared.take_outgoing().expect(rt, "a client") {
+        Some(message) => {
+            let text = message.text(alloc);
+            drop(message);
+            text.expect(rt, "memory")
+        }
+        None => String::new(alloc),
     }
 }
 
 // Whether both seats listen, and each thread's delivery ended by its gate.
-fn meet<R: Threads + Wait + Sync>(
+fn meet<R: Threads + Wait + Abort + Sync>(
     rt: &R,
     alloc: Global,
     client: &Client,
     first: &mut Seat,
     second: &mut Seat,
-) -> Result<(bool, bool, bool), Fail> {
-    let group = (path(alloc, "/g")?, path(alloc, "/g")?, path(alloc, "/g")?);
-    let writes = (path(alloc, "/g/1")?, path(alloc, "/g/2")?);
-    let opened = opened(&mut client.shared.lock(rt), (first, second), group);
+) -> (bool, bool, bool) {
+    let listens = (
+        path(rt, alloc, "/g"),
+        path(rt, alloc, "/g"),
+        path(rt, alloc, "/g"),
+    );
+    let writes = (path(rt, alloc, "/g/1"), path(rt, alloc, "/g/2"));
+    let opened = opened(&mut client.shared.lock(rt), (first, second), listens);
     let (one, two) = both(rt, client, (first, second), writes);
-    Ok((opened, one, two))
+    (opened, one, two)
 }
 
 // Whether a client has just these messages to send, and then none.
-fn sends(shared: &mut Shared, alloc: Global, texts: [&str; 2]) -> Result<bool, Fail> {
+fn sends(rt: &impl Abort, shared: &mut Shared, alloc: Global, texts: [&str; 2]) -> bool {
     for text in texts {
-        if sent(shared, alloc)?.as_str() != text {
-            return Ok(false);
+        if sent(rt, shared, alloc).as_str() != text {
+            return false;
         }
     }
-    Ok(sent(shared, alloc)?.is_empty())
+    sent(rt, shared, alloc).is_empty()
 }
 
 const FIRST: &str = r#"{"id":1,"k":"put","path":"/g/1","value":true}"#;
@@ -209,15 +216,14 @@ const FIRST: &str = r#"{"id":1,"k":"put","path":"/g/1","value":true}"#;
 const SECOND: &str = r#"{"id":2,"k":"put","path":"/g/2","value":true}"#;
 
 #[test]
-fn two_seats_meet(rt: HostRuntime) -> Result<(), Fail> {
+fn two_seats_meet(rt: HostRuntime) {
     let alloc = rt.alloc();
-    let (client, mut seats) = Client::open(alloc, 1, &[8, 8], Limits::full())?;
-    let (Some(mut second), Some(mut first)) = (seats.pop(), seats.pop()) else {
-        return Err(Fail::new("there are no two seats"));
-    };
-    let met = meet(&rt, alloc, &client, &mut first, &mut second)?;
-    let is_sent = sends(&mut client.shared.lock(&rt), alloc, [FIRST, SECOND])?;
+    let opened = Client::open(alloc, 1, &[8, 8], Limits::full());
+    let (client, mut seats) = opened.expect(&rt, "a client");
+    let mut second = seats.pop().expect(&rt, "a seat");
+    let mut first = seats.pop().expect(&rt, "a seat");
+    let met = meet(&rt, alloc, &client, &mut first, &mut second);
+    let is_sent = sends(&rt, &mut client.shared.lock(&rt), alloc, [FIRST, SECOND]);
     assert_eq!(rt; met, (true, true, true));
-    assert_eq!(rt; is_sent, true);
-    Ok(())
+    assert!(rt; is_sent);
 }

@@ -8,7 +8,10 @@ use rt_tree::Tree;
 use rt_turns::{Door, Flushed, Handed, Heard, Turn, hand_over, leave, take_turn};
 use std::alloc::{AllocError, Global};
 use std::collections::VecDeque;
-use std::test::Fail;
+use std::process::Abort;
+
+// Why a test ends.
+const MEMORY: &str = "memory";
 
 const LISTEN: &str = "{\"k\":\"listen\",\"path\":\"/a\",\"tag\":1}";
 
@@ -44,10 +47,10 @@ impl Memory {
         }
     }
 
-    fn say(&mut self, text: &str) -> Result<(), AllocError> {
-        let text = String::from_str(self.alloc, text)?;
-        self.left.push_back(Some(text))?;
-        Ok(())
+    fn say(&mut self, rt: &impl Abort, text: &str) {
+        let text: Result<_, _> = String::from_str(self.alloc, text);
+        let left = self.left.push_back(Some(text.expect(rt, MEMORY)));
+        left.expect(rt, MEMORY);
     }
 }
 
@@ -100,77 +103,72 @@ impl Door for Memory {
 }
 
 // A hub of two connections, and a door that listens and writes.
-fn opened(alloc: Global) -> Result<(Hub, Memory), PeerError> {
+fn opened(rt: &impl Abort, alloc: Global) -> (Hub, Memory) {
     let mut hub = Hub::new(alloc, Tree::null(), Vec::new(alloc), Bounds::full());
-    let _first = hub.connect()?;
-    let _second = hub.connect()?;
+    let _first = hub.connect().expect(rt, MEMORY);
+    let _second = hub.connect().expect(rt, MEMORY);
     let mut door = Memory::new(alloc);
-    if door.say(LISTEN).is_err() || door.say("[]").is_err() || door.say(PUT).is_err() {
-        return Err(PeerError::NoMemory);
+    for text in [LISTEN, "[]", PUT] {
+        door.say(rt, text);
     }
-    Ok((hub, door))
+    (hub, door)
 }
 
 fn turn(
-    alloc: Global,
+    rt: &impl Abort,
     hub: &mut Hub,
     door: &mut Memory,
     most: usize,
     told: &mut Vec<u64>,
-) -> Result<Turn, PeerError> {
-    take_turn(alloc, hub, door, 1, most, told, &mut Silent)
+) -> Turn {
+    take_turn(door.alloc, hub, door, 1, most, told, &mut Silent).expect(rt, MEMORY)
+}
+
+fn handed(rt: &impl Abort, hub: &mut Hub, door: &mut Memory) -> Handed {
+    hand_over(hub, door, 1).expect(rt, MEMORY)
 }
 
 #[test]
-fn texts_go_both_ways(rt: HostRuntime) -> Result<(), Fail> {
-    let alloc = rt.alloc();
-    let (mut hub, mut door) = opened(alloc)?;
-    let mut told = Vec::new(alloc);
-    assert_eq!(rt; turn(alloc, &mut hub, &mut door, 2, &mut told)?, Turn::More);
+fn texts_go_both_ways(rt: HostRuntime) {
+    let (mut hub, mut door) = opened(&rt, rt.alloc());
+    let mut told = Vec::new(rt.alloc());
+    assert_eq!(rt; turn(&rt, &mut hub, &mut door, 2, &mut told), Turn::More);
     assert_eq!(rt; told.as_slice(), [1].as_slice());
-    assert_eq!(rt; turn(alloc, &mut hub, &mut door, 2, &mut told)?, Turn::Idle);
+    assert_eq!(rt; turn(&rt, &mut hub, &mut door, 2, &mut told), Turn::Idle);
     assert_eq!(rt; told.as_slice(), [1, 1, 1].as_slice());
-    assert_eq!(rt; hand_over(&mut hub, &mut door, 1)?, Handed::Drained);
+    assert_eq!(rt; handed(&rt, &mut hub, &mut door), Handed::Drained);
     assert_eq!(rt; door.taken.len(), 3);
-    Ok(())
 }
 
 #[test]
-fn a_door_blocks(rt: HostRuntime) -> Result<(), Fail> {
-    let alloc = rt.alloc();
-    let (mut hub, mut door) = opened(alloc)?;
-    let mut told = Vec::new(alloc);
-    assert_eq!(rt; turn(alloc, &mut hub, &mut door, 9, &mut told)?, Turn::Idle);
+fn a_door_blocks(rt: HostRuntime) {
+    let (mut hub, mut door) = opened(&rt, rt.alloc());
+    let mut told = Vec::new(rt.alloc());
+    assert_eq!(rt; turn(&rt, &mut hub, &mut door, 9, &mut told), Turn::Idle);
     door.flushes = 0;
-    assert_eq!(rt; hand_over(&mut hub, &mut door, 1)?, Handed::Blocked);
+    assert_eq!(rt; handed(&rt, &mut hub, &mut door), Handed::Blocked);
     assert_eq!(rt; door.taken.len(), 0);
     door.flushes = 1;
-    assert_eq!(rt; hand_over(&mut hub, &mut door, 1)?, Handed::Blocked);
+    assert_eq!(rt; handed(&rt, &mut hub, &mut door), Handed::Blocked);
     assert_eq!(rt; door.taken.len(), 3);
     door.flushes = 2;
-    assert_eq!(rt; hand_over(&mut hub, &mut door, 1)?, Handed::Drained);
-    Ok(())
+    assert_eq!(rt; handed(&rt, &mut hub, &mut door), Handed::Drained);
 }
 
 #[test]
-fn a_door_fails_and_ends(rt: HostRuntime) -> Result<(), Fail> {
-    let alloc = rt.alloc();
-    let (mut hub, mut door) = opened(alloc)?;
-    let mut told = Vec::new(alloc);
+fn a_door_fails_and_ends(rt: HostRuntime) {
+    let (mut hub, mut door) = opened(&rt, rt.alloc());
+    let mut told = Vec::new(rt.alloc());
     door.most = 1;
     door.ends = true;
-    assert_eq!(rt;
-        turn(alloc, &mut hub, &mut door, 9, &mut told)?,
-        Turn::Ended
-    );
-    assert_eq!(rt; hand_over(&mut hub, &mut door, 1)?, Handed::Failed);
+    assert_eq!(rt; turn(&rt, &mut hub, &mut door, 9, &mut told), Turn::Ended);
+    assert_eq!(rt; handed(&rt, &mut hub, &mut door), Handed::Failed);
     assert_eq!(rt; door.taken.len(), 1);
     told.clear();
-    leave(&mut hub, 1, &mut told)?;
+    leave(&mut hub, 1, &mut told).expect(&rt, MEMORY);
     assert!(rt; told.is_empty());
     assert_eq!(rt;
         leave(&mut hub, 1, &mut told).err(),
         Some(PeerError::UnknownConnection)
     );
-    Ok(())
 }

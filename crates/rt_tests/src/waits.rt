@@ -5,7 +5,6 @@ use rt_mail::Item;
 use rt_world::Limits;
 use std::sync::Wait;
 use std::sync::atomic::{AtomicBool, Ordering};
-use std::test::Fail;
 use std::thread;
 use std::thread::Threads;
 
@@ -92,11 +91,10 @@ fn both<R: Threads + Wait + Sync>(
 }
 
 #[test]
-fn sleepers_are_woken(rt: HostRuntime) -> Result<(), Fail> {
-    let (client, mut seats) = Client::open(rt.alloc(), 1, &[8, 8], Limits::full())?;
-    let (Some(mut second), Some(mut first)) = (seats.pop(), seats.pop()) else {
-        return Err(Fail::new("there are no two seats"));
-    };
+fn sleepers_are_woken(rt: HostRuntime) {
+    let opened = Client::open(rt.alloc(), 1, &[8, 8], Limits::full());
+    let (client, mut seats) = opened.expect(&rt, "a client");
+    let mut second = seats.pop().expect(&rt, "a seat");
+    let mut first = seats.pop().expect(&rt, "a seat");
     assert_eq!(rt; both(&rt, &client, &mut first, &mut second), (true, true));
-    Ok(())
 }

@@ -5,8 +5,11 @@ use rt_link::{Flushed, Heard, Lost, Pause, Said, Wire, hear_all, say_all};
 use rt_wire::{ClientMessage, WireError};
 use std::alloc::{AllocError, Global};
 use std::collections::VecDeque;
-use std::test::Fail;
+use std::process::Abort;
 use tungstenite::Message;
+
+// Why a test ends.
+const MEMORY: &str = "memory";
 
 const OK: &str = "{\"k\":\"ok\",\"id\":1}";
 
@@ -31,11 +34,15 @@ impl Memory {
         }
     }
 
-    fn say(&mut self, text: &str) -> Result<(), AllocError> {
-        if let Message::Text(words) = Message::text(self.alloc, text)? {
-            self.left.push_back(Heard::Text(words))?;
+    fn give(&mut self, rt: &impl Abort, heard: Heard) {
+        self.left.push_back(heard).expect(rt, MEMORY);
+    }
+
+    fn say(&mut self, rt: &impl Abort, text: &str) {
+        match Message::text(self.alloc, text).expect(rt, MEMORY) {
+            Message::Text(words) => self.give(rt, Heard::Text(words)),
+            other => drop(other),
         }
-        Ok(())
     }
 }
 
@@ -67,39 +74,41 @@ impl Wire for Memory {
 }
 
 #[test]
-fn a_wire_is_read(rt: HostRuntime) -> Result<(), Fail> {
+fn a_wire_is_read(rt: HostRuntime) {
     let alloc = rt.alloc();
     let mut wire = Memory::new(alloc, 0);
-    wire.say(OK)?;
-    wire.left.push_back(Heard::Sign)?;
-    wire.left.push_back(Heard::Binary)?;
-    wire.say("{")?;
-    let some = hear_all(alloc, &mut wire, 3)?;
+    wire.say(&rt, OK);
+    wire.give(&rt, Heard::Sign);
+    wire.give(&rt, Heard::Binary);
+    wire.say(&rt, "{");
+    let some = hear_all(alloc, &mut wire, 3).expect(&rt, MEMORY);
     assert!(rt; matches!(some.pause, Pause::More));
     assert_eq!(rt; some.messages.len(), 2);
     assert!(rt; matches!(some.messages[1], Err(WireError::NotJson)));
-    let rest = hear_all(alloc, &mut wire, 3)?;
+    let rest = hear_all(alloc, &mut wire, 3).expect(&rt, MEMORY);
     assert!(rt; matches!(rest.pause, Pause::Idle));
     assert_eq!(rt; rest.messages.len(), 1);
-    Ok(())
 }
 
 const PUT: &str = "{\"id\":1,\"k\":\"put\",\"path\":\"/a\",\"value\":7}";
 
+// Two messages.
+fn puts(rt: &impl Abort, alloc: Global) -> Vec<ClientMessage> {
+    let mut messages = Vec::new(alloc);
+    for _ in 0..2 {
+        let message = ClientMessage::read(alloc, PUT).expect(rt, "a message");
+        messages.push(message).expect(rt, MEMORY);
+    }
+    messages
+}
+
 #[test]
-fn a_wire_takes_some(rt: HostRuntime) -> Result<(), Fail> {
+fn a_wire_takes_some(rt: HostRuntime) {
     let alloc = rt.alloc();
     let mut wire = Memory::new(alloc, 1);
-    let (first, second) = (
-        ClientMessage::read(alloc, PUT)?,
-        ClientMessage::read(alloc, PUT)?,
-    );
-    let messages = vec![in alloc; first, second]?;
-    let lost = say_all(alloc, &mut wire, messages.as_slice())?;
+    let messages = puts(&rt, alloc);
+    let lost = say_all(alloc, &mut wire, messages.as_slice()).expect(&rt, MEMORY);
     assert!(rt; matches!(lost, Some(Lost::Silent)));
-    let Some(text) = wire.taken.first() else {
-        panic!(rt; "nothing was taken");
-    };
+    let text = wire.taken.first().expect(&rt, "a text was taken");
     assert_eq!(rt; text.as_str(), PUT);
-    Ok(())
 }
