@@ -12,15 +12,17 @@
         for item in ann.items():                      # {"k": "listened", "listener": 1} and then
             print(item)                               # {"k": "batch", "listener": 1, "changes": [..]}
 
-Values are what json makes of them. A core that lines of a script drive is there too:
+Values are what json makes of them, and a float that is whole, as 10/2 gives one, is the whole number that it is: there are no fractions. A core
+that lines of a script drive is there too:
 
     with kaltewi.Core() as core:
         core.line('["connected"]')                    # 'done\\n'
         for text in core.lines(['["listen",1,"/",[]]', '["set",1,"/c","x"]']):
             print(text, end="")
 
-The shared library is the one that the variable KALTEWI_LIBRARY names, else libkaltewi.so beside this file. A client and a core belong to one
-thread at a time. docs/FORMATS.md says what messages, items, queries and lines are.
+The shared library is the one that the variable KALTEWI_LIBRARY names, else libkaltewi.so beside this file, where pip puts it, else the one that
+./kaltewi lib has made in the checkout. A client and a core belong to one thread at a time. docs/FORMATS.md says what messages, items, queries and
+lines are.
 """
 from __future__ import annotations
 
@@ -31,6 +33,7 @@ import secrets
 import time
 from typing import Any, Iterable, Iterator, Mapping, Optional, Sequence, Type
 
+__version__ = "0.1.0"
 __all__ = [
     "BadLine",
     "BadText",
@@ -135,9 +138,18 @@ _CALLS: Mapping[str, tuple] = {
 }
 
 
+def library_file() -> str:
+    """The file of the shared library. Raises FileNotFoundError where there is none."""
+    named, here = os.environ.get("KALTEWI_LIBRARY"), os.path.dirname(os.path.abspath(__file__))
+    places = [named] if named else [os.path.join(here, "libkaltewi.so"), os.path.join(here, "../../crates/rt_ffi/out/libkaltewi.so")]
+    for place in places:
+        if os.path.isfile(place):
+            return os.path.normpath(place)
+    raise FileNotFoundError(f"there is no {places[-1]}: make it by ./kaltewi lib, or name it by the variable KALTEWI_LIBRARY")
+
+
 def _library() -> ctypes.CDLL:
-    beside = os.path.join(os.path.dirname(os.path.abspath(__file__)), "libkaltewi.so")
-    library = ctypes.CDLL(os.environ.get("KALTEWI_LIBRARY", beside))
+    library = ctypes.CDLL(library_file())
     for name, arguments in _CALLS.items():
         call = getattr(library, name)
         call.restype = None if name.endswith("_close") else ctypes.c_uint32
@@ -168,8 +180,17 @@ def _bytes(text: str | bytes) -> bytes:
     return text.encode() if isinstance(text, str) else bytes(text)
 
 
+def _whole(value: Any) -> Any:
+    """The value with each float that is whole as that number."""
+    if isinstance(value, float) and value.is_integer():
+        return int(value)
+    if isinstance(value, Mapping):
+        return {key: _whole(it) for key, it in value.items()}
+    return [_whole(it) for it in value] if isinstance(value, (list, tuple)) else value
+
+
 def _json(value: Any) -> bytes:
-    return json.dumps(value, ensure_ascii=False, separators=(",", ":"), allow_nan=False).encode()
+    return json.dumps(_whole(value), ensure_ascii=False, separators=(",", ":"), allow_nan=False).encode()
 
 
 class _Open:
@@ -334,7 +355,7 @@ class Seat:
         self._client._done("unlisten", self.number, listener)
 
     def set(self, path: str, value: Any) -> int:
-        """Writes a value at a path, and gives the number of the request; None removes."""
+        """Writes a value at a path, and gives the number of the request; None removes. Numbers are whole: 5.0 is 5, and 0.5 raises Refused."""
         return self._at("set", path, value)
 
     def update(self, entries: Mapping[str, Any]) -> int:

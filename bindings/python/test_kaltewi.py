@@ -1,4 +1,4 @@
-"""The tests of the binding, which need no socket: python3 test_kaltewi.py, with KALTEWI_LIBRARY set or libkaltewi.so beside kaltewi.py."""
+"""The tests of the binding, which need no socket: python3 test_kaltewi.py, with a library where kaltewi.py looks for one."""
 import glob
 import json
 import os
@@ -16,7 +16,7 @@ def read(file):
 
 class Scripts(unittest.TestCase):
     def test_each_script_prints_what_the_console_prints(self):
-        scripts = sorted(glob.glob(f"{ROOT}/examples/*.script"))
+        scripts = sorted(glob.glob(f"{ROOT}/tests/scripts/*.script"))
         self.assertTrue(scripts)
         for script in scripts:
             with self.subTest(script), kaltewi.Core() as core:
@@ -79,6 +79,20 @@ class Clients(unittest.TestCase):
             client.receive('{"k":"no","id":2,"why":"denied"}')
             self.assertEqual(list(ann), [{"k": "wrote", "id": 1}, {"k": "wrote", "id": 3}, {"k": "ok", "id": 1}])
             self.assertEqual(list(bob), [{"k": "wrote", "id": 2}, {"k": "no", "id": 2, "why": "denied"}])
+
+    def test_whole_floats_are_whole_numbers(self):
+        with kaltewi.Client() as client:
+            ann = client.seat()
+            client.connected()
+            ann.set("/a", {"x": 10 / 2, "y": [2.0, True], "z": {"deep": (-3.0,)}})
+            ann.update({"/b": 4.0})
+            whole = {"x": 5, "y": {"0": 2, "1": True}, "z": {"deep": {"0": -3}}}
+            self.assertEqual([json.loads(it).get("value") for it in client.outgoing()], [None, whole, None])
+            with self.assertRaises(kaltewi.Refused) as refused:
+                ann.set("/a", 0.5)
+            self.assertEqual((refused.exception.layer, refused.exception.name), ("tree", "NotWhole"))
+            with self.assertRaises(ValueError):
+                ann.set("/a", float("inf"))
 
     def test_the_end_of_the_connection_is_prepared(self):
         with kaltewi.Client() as client:

@@ -1,24 +1,16 @@
-//! Finds the static library: KALTEWI_ARCHIVES names its archive and that of the C library's calls, with a colon between. Where it is not set, they
-//! are what `rt lib` in `crates/rt_ffi` has made in this checkout, and the one of the toolchain that `rt doc` names.
+//! Finds the static library: what `./kaltewi lib` has made in this checkout, or the archives that KALTEWI_ARCHIVES names, with a colon between.
 
 use std::path::{Path, PathBuf};
-use std::process::Command;
-
-/// The archive of the C library's calls, in the toolchain's folder.
-fn of_the_toolchain() -> PathBuf {
-    let said = Command::new("rt").arg("doc").output().expect("KALTEWI_ARCHIVES is not set, and there is no command rt");
-    let page = String::from_utf8(said.stdout).expect("rt doc names a page");
-    Path::new(page.trim()).with_file_name("c").join("liblibc_c.a")
-}
 
 /// The archives to link.
 fn archives() -> Vec<PathBuf> {
     if let Some(named) = std::env::var_os("KALTEWI_ARCHIVES") {
         return named.to_str().expect("paths are UTF-8").split(':').map(PathBuf::from).collect();
     }
-    let own = Path::new(env!("CARGO_MANIFEST_DIR")).join("../../crates/rt_ffi/out/librt_ffi.a");
-    assert!(own.is_file(), "KALTEWI_ARCHIVES is not set, and rt lib in crates/rt_ffi has made no archive");
-    vec![own, of_the_toolchain()]
+    let own = Path::new(env!("CARGO_MANIFEST_DIR")).join("../../crates/rt_ffi/out/libkaltewi.a");
+    println!("cargo:rerun-if-changed={}", own.display());
+    assert!(own.is_file(), "there is no {}: make it by ./kaltewi lib, or name archives by the variable KALTEWI_ARCHIVES", own.display());
+    vec![own]
 }
 
 fn main() {
