@@ -95,6 +95,14 @@ pub use rt_tree::LeafRef;
 ///     tree.put(alloc, path, Tree::null())
 /// }
 ///
+/// fn mark(alloc: Global, tree: &mut Tree, key: &Key) -> Result<(), AllocError> {
+///     tree.put_child(alloc, key, Tree::leaf(Leaf::truth(true)))
+/// }
+///
+/// fn is_marked(tree: &Tree, key: &Key) -> bool {
+///     tree.child(key).is_some()
+/// }
+///
 /// fn leaf_at<'a>(tree: &'a Tree, path: &Path) -> Option<&'a Leaf> {
 ///     tree.get(path)?.as_leaf()
 /// }

@@ -223,7 +223,7 @@ first_name k d ms h = key_place (suc h.0) k d (head_place (suc h.0) (Some k) d (
 pub allowed_children : (all children rest : List (Key × PathTree)) → Building all children rest → IsAllowed (object children)
 allowed_children all children rest h = allowed-object children h.allowed
 
-one_key : (k : Key) → IsKey k → IsPath (k ∷ [])
+pub one_key : (k : Key) → IsKey k → IsPath (k ∷ [])
 one_key k h = record { short = omega arith; keys = (h, tt) }
 
 -- the tree of an item or of a member may stand at its key

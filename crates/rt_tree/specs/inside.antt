@@ -1,5 +1,6 @@
 -- What only the representation needs.
 pub mod Fine
+pub mod KeyWords
 pub mod LeafCode
 pub mod LeafView
 pub mod Puts

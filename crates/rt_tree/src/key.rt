@@ -1,8 +1,11 @@
 // A key of an object.
 ghost use Rattle.std.specs.Prelude.{◌≡◌, ◌⊎◌, IfOk, IfErr, IfSome, OnOk, Some, decimal, string_bytes};
+ghost use Rattle.std.specs.Prelude.{drop, slice_index_or};
+ghost use Rattle.std.specs.Arc.{arc_str_bytes};
 ghost use Rattle.std.specs.List.{list_all};
 ghost use Rattle.std.specs.Result.{result_err};
 ghost use Rattle.rt_tree.specs.Key.{IsKey, is_allowed, key_fault};
+ghost use Rattle.rt_tree.specs.inside.KeyWords.{IsWord};
 
 use crate::error::TreeError;
 use crate::limits::MAX_KEY_BYTES;
@@ -19,14 +22,20 @@ use std::sync::ArcStr;
 /// `.` `$` `#` `[` `]` `/`, as Firebase has them.
 ///
 /// Keys compare by their bytes. A copy shares its text with the original.
-#[derive(Debug)]
 pub struct Key {
+    // The first eight bytes, and the next eight: they mostly tell two keys apart without their texts.
+    head: u64,
+    next: u64,
     text: ArcStr,
 }
 
 impl Drop for Key {
     fn drop(self) {
-        let Key { text: _ } = self;
+        let Key {
+            head: _,
+            next: _,
+            text: _,
+        } = self;
     }
 }
 
@@ -34,12 +43,14 @@ impl Model for Key {
     ghost use Rattle.std.specs.Prelude.{List, ℕ};
     ghost use Rattle.std.specs.Arc.{arc_str_bytes};
     ghost use Rattle.rt_tree.specs.Key.{IsKey};
+    ghost use Rattle.rt_tree.specs.inside.KeyWords.{HasWords};
 
     ghost Value = { List ℕ };
 
     ghost view = { λ a. arc_str_bytes a.text };
 
-    ghost invariant = { λ a. IsKey (arc_str_bytes a.text) };
+    ghost invariant = { λ a. IsKey (arc_str_bytes a.text)
+        × HasWords (arc_str_bytes a.text) a.head a.next };
 }
 
 // Whether the byte may stand in a key. The bytes of a character above 127 all may.
@@ -71,13 +82,52 @@ pub fn check_key(text: &str) -> Result<(), TreeError>
     Ok(())
 }
 
+// The byte at a place of a text; 0 behind its end.
+fn byte_at(text: &[u8], at: usize) -> u8
+    ensures { result ≡ slice_index_or text.now at 0 }
+{
+    if at < text.len() { text[at] } else { 0 }
+}
+
+// The first eight bytes of a text as a number, the first of them highest.
+fn word_of(text: &[u8]) -> u64
+    ensures { IsWord text.now result }
+{
+    let mut word: u64 = 0;
+    for at in 0..8 {
+        word = word * 256 + u64::from(byte_at(text, at));
+    }
+    word
+}
+
+// The bytes behind the first eight.
+fn behind_word(text: &[u8]) -> &[u8]
+    ensures { result.now ≡ drop 8 text.now }
+{
+    if text.len() < 8 {
+        return &text[text.len()..];
+    }
+    &text[8..]
+}
+
+// The key of a shared text that is one.
+fn shared_key(text: ArcStr) -> Key
+    requires { IsKey (arc_str_bytes text) }
+    ensures { result ≡ arc_str_bytes text }
+{
+    let bytes = text.as_str().as_bytes();
+    let head = word_of(bytes);
+    let next = word_of(behind_word(bytes));
+    Key { head, next, text }
+}
+
 // The key of a text that is one.
 pub fn valid_key(alloc: Global, text: &str) -> Result<Key, AllocError>
     requires { IsKey text.now }
     ensures { IfOk result (λ key. key ≡ text.now) }
 {
     let text = ArcStr::from_str(alloc, text)?;
-    Ok(Key { text })
+    Ok(shared_key(text))
 }
 
 // The key of a text that is one, which becomes the key's own.
@@ -85,9 +135,8 @@ pub fn moved_key(text: String) -> Result<Key, AllocError>
     requires { IsKey (string_bytes text) }
     ensures { IfOk result (λ key. key ≡ string_bytes text) }
 {
-    Ok(Key {
-        text: ArcStr::from_string(text)?,
-    })
+    let text = ArcStr::from_string(text)?;
+    Ok(shared_key(text))
 }
 
 // The key of a place in an array.
@@ -129,7 +178,11 @@ impl Key {
         ensures { IfOk result (λ key. key ≡ self.now) }
     {
         let text = self.text.clone()?;
-        Ok(Key { text })
+        Ok(Key {
+            head: self.head,
+            next: self.next,
+            text,
+        })
     }
 }
 
@@ -144,6 +197,13 @@ impl AsStr for Key {
 
     fn as_str(&self) -> &str {
         self.text()
+    }
+}
+
+/// Prints the text alone, which is all that a caller can tell apart.
+impl fmt::Debug for Key {
+    fn fmt<W: fmt::Write>(&self, f: &mut fmt::Formatter<W>) -> fmt::Result {
+        f.debug_struct("Key").field("text", &self.text).finish()
     }
 }
 
@@ -181,7 +241,7 @@ impl PartialEq for Key {
     ghost laws = { Cmp.partial_equiv_from_equiv nat_list_eq_equiv };
 
     fn eq(&self, other: &Key) -> bool {
-        self.text.as_bytes() == other.text.as_bytes()
+        self.cmp(other).is_eq()
     }
 }
 
@@ -223,6 +283,16 @@ impl Ord for Key {
     ghost matches_eq = { Prim.search (comparing, rules) };
 
     fn cmp(&self, other: &Key) -> Ordering {
+        if self.head != other.head {
+            return self.head.cmp(&other.head);
+        }
+        if self.next != other.next {
+            return self.next.cmp(&other.next);
+        }
+        // The sixteenth byte is missing: no byte of a key is 0.
+        if self.next % 256 == 0 {
+            return Ordering::Equal;
+        }
         self.text.as_bytes().cmp(other.text.as_bytes())
     }
 }

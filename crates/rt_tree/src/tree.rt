@@ -7,7 +7,7 @@ ghost use Rattle.std.specs.BTreeMap.{insert_entry};
 ghost use Rattle.rt_map.specs.Maps.{IsOrdered};
 ghost use Rattle.rt_tree.specs.Trees.{leaf_at, null, of_leaf, is_null, sub, put, non_null, object};
 ghost use Rattle.rt_tree.specs.Trees.{levels, child_of, AllFull, IsAllowed, MayStandAt, is_object};
-ghost use Rattle.rt_tree.specs.Trees.{children_of};
+ghost use Rattle.rt_tree.specs.Trees.{children_of, child};
 ghost use Rattle.rt_tree.specs.Leaves.{key_cmp, key_eq};
 ghost use Rattle.rt_tree.specs.inside.Puts.{PutsBelow};
 ghost use Rattle.rt_tree.specs.inside.TreeView.{IsObject};
@@ -20,11 +20,12 @@ mod writing;
 use crate::error::TreeError;
 use crate::key::Key;
 use crate::leaf::Leaf;
-use crate::limits::MAX_LEVELS;
+use crate::limits::{MAX_KEYS, MAX_LEVELS};
 use crate::path::Path;
 use rt_map::{OrdMap, Share};
 use std::alloc::{AllocError, Global};
 use std::marker::Model;
+use std::slice::from_ref;
 
 /// A tree of values: null, a leaf, or an object of children. No child is null, and an object
 /// without children is null. At most 32 keys stand above a leaf.
@@ -132,6 +133,13 @@ impl Tree {
         }
     }
 
+    /// The child at the key; `None` where that is null. Takes no memory.
+    pub fn child(&self, key: &Key) -> Option<&Tree>
+        ensures { option_copied result ≡ non_null (child self.now key.now) }
+    {
+        self.at(from_ref(key))
+    }
+
     /// The children of an object, in the order of their keys' bytes; `None` for null and a leaf.
     pub fn children(&self) -> Option<&OrdMap<Key, Tree>>
         ensures object { is_some result ≡ is_object self.now }
@@ -218,6 +226,28 @@ impl Tree {
             return Ok(());
         }
         self.put_at(alloc, keys, tree)?;
+        Ok(())
+    }
+
+    /// Puts a tree in the place of the child at the key, as [`Tree::put`] does at the path of that key
+    /// alone. Makes no path, and doesn't walk the tree.
+    ///
+    /// # Errors
+    ///
+    /// `AllocError` where memory is missing. The tree is dropped then, and nothing changes.
+    pub fn put_child(&mut self, alloc: Global, key: &Key, tree: Tree) -> Result<(), AllocError>
+        requires { levels tree ≤ MAX_KEYS }
+        ensures ok { OnOk result (self.new ≡ put self.old (key.now ∷ []) tree) }
+        ensures err { OnErr result (self.new ≡ self.old) }
+    {
+        // For the prover: it is a key.
+        let _text = key.text();
+        let place = from_ref(key);
+        if self.is_emptied(place, &tree) {
+            *self = Tree::null();
+            return Ok(());
+        }
+        self.put_at(alloc, place, tree)?;
         Ok(())
     }
 
