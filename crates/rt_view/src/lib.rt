@@ -18,6 +18,7 @@ mod kind;
 mod kinds;
 mod known;
 mod laws;
+mod others;
 mod place;
 mod position;
 mod ranged;

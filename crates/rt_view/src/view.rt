@@ -2,8 +2,7 @@
 ghost use Rattle.std.specs.Prelude.{◌≡◌, ◌≤◌, ◌↔◌, true, All, IfOk, OnOk, OnErr};
 ghost use Rattle.std.specs.Prelude.{IsTrue, None, Some, Err};
 ghost use Rattle.std.specs.Option.{option_copied, unwrap_or};
-ghost use Rattle.std.specs.List.{list_any};
-ghost use Rattle.rt_tree.specs.PathTree.{key_eq, levels};
+ghost use Rattle.rt_tree.specs.PathTree.{levels};
 ghost use Rattle.rt_query.specs.Select.{select};
 ghost use Rattle.rt_view.specs.Changes.{changes};
 ghost use Rattle.rt_view.specs.Errors.{code_of, name_of};
@@ -13,6 +12,7 @@ ghost use Rattle.rt_view.specs.inside.Kept.{IsKept, own_tree};
 
 use crate::change_list::ChangeList;
 use crate::compare::changes;
+use crate::others::has_other;
 use crate::place::{copy_leaf, count, window_of};
 use crate::touch::{touch_filtered, touch_plain};
 use crate::window::Window;
@@ -172,13 +172,6 @@ fn touch_kept(
     }
 }
 
-// Whether the key is one of the named ones.
-fn is_named(named: &[(Key, Tree)], key: &Key) -> bool
-    ensures { result ≡ list_any (λ c. key_eq c.0 key.now) named.now }
-{
-    named.iter().any(|child| child.0 == *key)
-}
-
 // Whether a child is there once the named ones are put in.
 fn leaves_child(tree: &Tree, named: &[(Key, Tree)]) -> bool
     ensures { result ≡ leaves_child tree.now named.now }
@@ -187,7 +180,7 @@ fn leaves_child(tree: &Tree, named: &[(Key, Tree)]) -> bool
         return true;
     }
     match tree.children() {
-        Some(children) => children.keys().any(|key| !is_named(named, key)),
+        Some(children) => has_other(children, named),
         None => false,
     }
 }
@@ -302,7 +295,8 @@ impl View {
 
     /// Whether the tree is an object before and after the named children are put into it, or comes to
     /// be one from null: no leaf stands there, and a child is there afterwards. Takes no memory, and
-    /// costs by the named children alone.
+    /// costs by the named children alone where they are in the order of keys; one that is not is looked
+    /// for among all of them.
     pub fn stays_object(&self, named: &[(Key, Tree)]) -> bool
         ensures { result ≡ stays_object self.now.tree named.now }
     {

@@ -2,7 +2,6 @@ use Rattle.std.proofs.Common.{◌≡◌, true, false, Bool, not, ◌||◌, List,
 use Rattle.std.specs.List.{list_any}
 use Rattle.std.specs.Map.{keys_of}
 use Rattle.std.proofs.lemmas.Iterator.{YieldsList-from_slice}
-use Rattle.std.proofs.lemmas.Iterator.Consumers.{YieldsList-from_first}
 use Rattle.std.proofs.lemmas.Iterator.Search.{any_from_yields_List}
 use Rattle.rt_tree.specs.PathTree.{Key, PathTree, key_eq, is_null}
 use Rattle.rt_tree.specs.Children.{children_of}
@@ -27,7 +26,7 @@ returns-then-any c =
 pub returns-in-Some : goal.returns-in-Some
 returns-in-Some c =
     let full = any_from_yields_List (λ d. not (is_null d.1)) _ _ c.any.result c.any.ensures.ran (YieldsList-from_slice c.args.named.now (cc)) (λ x b q k. search (rules, tests)) in
-    let other = any_from_yields_List (λ k. not (list_any (λ d. key_eq d.0 k) c.args.named.now)) _ _ c.any-in-Some.result c.any-in-Some.ensures.ran (YieldsList-from_first (λ k. k.now) (λ s. s) (keys_of (children_of c.args.tree.now)) (search rules)) (λ x b q k. search (rules, tests)) in
+    let other : c.has_other.result ≡ list_any (λ k. not (list_any (λ d. key_eq d.0 k) c.args.named.now)) (keys_of (children_of c.args.tree.now)) = search rules in
     other ∙ any_key (λ k. not (list_any (λ d. key_eq d.0 k) c.args.named.now)) (children_of c.args.tree.now)
     ∙ ap (λ b. b || any_other c.args.named.now (children_of c.args.tree.now)) (sym c.if-any.false ∙ full)
 
