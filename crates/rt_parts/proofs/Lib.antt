@@ -2,8 +2,10 @@ pub mod HeldLaws
 pub mod IndexLaws
 pub mod KnownLaws
 pub mod Loops
+pub mod NamedLaws
 pub mod Numbered
 pub mod Pendings
+pub mod PairLaws
 pub mod PathLaws
 pub mod PlaceLaws
 pub mod PushLaws

@@ -10,10 +10,9 @@ use Rattle.std.specs.declared.result.Result.TheVariants.{Ok, Err}
 use Rattle.std.proofs.Math.Seq.{take-length}
 use Rattle.std.proofs.lemmas.Bool.{ltb-false, ltb-true}
 use Rattle.std.proofs.lemmas.List.{get_or-map, length-map, length-drop}
-use Rattle.std.proofs.lemmas.List.Folds.{list_any-append, list_any_at, list_any_more}
+use Rattle.std.proofs.lemmas.List.Folds.{list_any-append, list_any_at}
 use Rattle.rt_tree.specs.PathTree.{Path, path_eq, path_eq-same}
-use Rattle.rt_tree.specs.Assignments.{Assignment, do_overlap, is_at_or_above}
-use Rattle.rt_world.specs.Met.{do_meet}
+use Rattle.rt_tree.specs.Assignments.{do_overlap, is_at_or_above}
 use Rattle.rt_parts.specs.declared.places.Place.{Place}
 use Rattle.rt_parts.specs.inside.Placed.{HaveNumbers, Keeps}
 use Rattle.rt_parts.proofs.PathLaws.{above_or_same, first_part}
@@ -95,22 +94,6 @@ met_all places mid new path kept above under k d lt e =
     or_cases (is_at_or_above path x.path) (is_at_or_above x.path path) e (under k d lt)
     (λ f. or_cases (is_at_or_above path x.path) (is_at_or_above x.path path && nat_lt (length x.path) (length path)) (above_or_same x.path path f) (under k d lt)
     (λ g. kept (λ n. x.number == n) (above k d lt g)))
-
--- those that one entry more meets
-pub met_more : (places : List Place) (old new : List ℕ) (entries : List Assignment) (i : ℕ) (a : Assignment) → i < length entries → a ≡ get_or entries i a → Keeps old new
-    → HaveNumbers (λ x. do_overlap a.0 x.path) new places
-    → HaveNumbers (λ x. do_meet (take i entries) x.path) old places
-    → HaveNumbers (λ x. do_meet (take (i + 1) entries) x.path) new places
-met_more places old new entries i a within at kept one all k d lt e =
-    let x : Place = get_or places k d in
-    or_cases (do_meet (take i entries) x.path) (do_overlap a.0 x.path)
-    (ap (λ (z : Assignment). do_meet (take i entries) x.path || do_overlap z.0 x.path) at
-    ∙ sym (list_any_more (λ (z : Assignment). do_overlap z.0 x.path) entries i a within) ∙ e)
-    (λ f. kept (λ n. x.number == n) (all k d lt f)) (one k d lt)
-
--- before the first entry none is met
-pub met_none : (places : List Place) (old : List ℕ) (entries : List Assignment) → HaveNumbers (λ x. do_meet (take 0 entries) x.path) old places
-met_none places old entries k d lt e = absurd (true≢false (sym e))
 
 pub taken_all : {X : Type 0} (n : ℕ) (xs : List X) → length xs ≤ n → take n xs ≡ xs
 taken_all zero [] le = refl

@@ -18,8 +18,9 @@ use Rattle.rt_writes.specs.laws.Places.{filter_none_found}
 use Rattle.rt_parts.specs.declared.held.Held.{Held}
 use Rattle.rt_parts.specs.inside.HeldView.{listener_of, listeners_of, pair_of, refreshed, refreshed_at, told_at}
 use Rattle.rt_parts.specs.declared.places.Place.{Place}
+use Rattle.rt_parts.specs.inside.Pairs.{HasPairs, IsDue}
 use Rattle.rt_parts.specs.inside.Placed.{placed}
-use Rattle.rt_parts.specs.Refreshed.{FollowsNamed, view_after}
+use Rattle.rt_parts.specs.Refreshed.{view_after}
 use Rattle.rt_parts.proofs.Numbered as by
 
 -- a listener with its view
@@ -57,8 +58,8 @@ module _ (entries : List Assignment) (b : Brought) (writes : List Write) where
   abbrev pub told_left : List ℕ → List Pair → List Note
   told_left left ps = filter_map (by.told_in number_of (refreshed entries b writes) told_of left) ps
 
-  abbrev pub AreDue : List ℕ → List Pair → Type 0
-  AreDue left ps = All (λ (p : Pair). list_any (λ n. p.0.number == n) left ≡ true → FollowsNamed entries b writes p) ps
+  abbrev pub AreDue : List (ℕ × ℕ) → List ℕ → List Pair → Type 0
+  AreDue pairs left ps = All (λ (p : Pair). list_any (λ n. p.0.number == n) left ≡ true → IsDue entries b writes pairs p) ps
 
   -- a listener that is renewed keeps its number
   number_stays : (p : Pair) → number_of (refreshed entries b writes p) ≡ number_of p
@@ -94,18 +95,18 @@ module _ (entries : List Assignment) (b : Brought) (writes : List Write) where
       ∙ inv
 
   -- those that are due still are as they were
-  pub due_more : (numbers : List ℕ) (i n : ℕ) (ps new : List Pair) → i < length numbers → n ≡ get_or numbers i n → AllPairs (λ k m. k < m) numbers
-      → new ≡ map (refreshed_at n entries b writes) ps → AreDue (drop i numbers) ps → AreDue (drop (i + 1) numbers) new
-  due_more numbers i n ps new within at rise made due =
-      subst (AreDue (drop (i + 1) numbers)) (sym made)
-      (by.due_left number_of (refreshed entries b writes) told_of number_stays (FollowsNamed entries b writes) n (drop (i + 1) numbers) ps (later numbers i n within at rise)
-      (subst (λ ns. AreDue ns ps) (drop_is numbers i n within at) due))
+  pub due_more : (pairs : List (ℕ × ℕ)) (numbers : List ℕ) (i n : ℕ) (ps new : List Pair) → i < length numbers → n ≡ get_or numbers i n → AllPairs (λ k m. k < m) numbers
+      → new ≡ map (refreshed_at n entries b writes) ps → AreDue pairs (drop i numbers) ps → AreDue pairs (drop (i + 1) numbers) new
+  due_more pairs numbers i n ps new within at rise made due =
+      subst (AreDue pairs (drop (i + 1) numbers)) (sym made)
+      (by.due_left number_of (refreshed entries b writes) told_of number_stays (IsDue entries b writes pairs) n (drop (i + 1) numbers) ps (later numbers i n within at rise)
+      (subst (λ ns. AreDue pairs ns ps) (drop_is numbers i n within at) due))
 
   -- the one of a number that is due
-  pub due_at : (numbers : List ℕ) (i n : ℕ) (ps : List Pair) → i < length numbers → n ≡ get_or numbers i n → AreDue (drop i numbers) ps
-      → All (λ (p : Pair). (p.0.number == n) ≡ true → FollowsNamed entries b writes p) ps
-  due_at numbers i n ps within at due k d lt e =
-      subst (λ ns. AreDue ns ps) (drop_is numbers i n within at) due k d lt (ap (λ z. z || list_any (λ m. (get_or ps k d).0.number == m) (drop (i + 1) numbers)) e)
+  pub due_at : (pairs : List (ℕ × ℕ)) (numbers : List ℕ) (i n : ℕ) (ps : List Pair) → i < length numbers → n ≡ get_or numbers i n → AreDue pairs (drop i numbers) ps
+      → All (λ (p : Pair). (p.0.number == n) ≡ true → IsDue entries b writes pairs p) ps
+  due_at pairs numbers i n ps within at due k d lt e =
+      subst (λ ns. AreDue pairs ns ps) (drop_is numbers i n within at) due k d lt (ap (λ z. z || list_any (λ m. (get_or ps k d).0.number == m) (drop (i + 1) numbers)) e)
 
   -- where none is left, nothing is left to do
   pub none_left : (ps : List Pair) → left_of [] ps ≡ ps
@@ -125,6 +126,11 @@ module _ (entries : List Assignment) (b : Brought) (writes : List Write) where
   met_pairs : (numbers : List ℕ) (ls : List Held) → HaveMet numbers ls → All (λ (p : Pair). met p ≡ true → list_any (λ n. p.0.number == n) numbers ≡ true) (map pair_of ls)
   met_pairs numbers [] h = λ k d lt. absurd (omega arith)
   met_pairs numbers (l ∷ ls) h = All-cons (λ (p : Pair). met p ≡ true → list_any (λ n. p.0.number == n) numbers ≡ true) (pair_of l) (map pair_of ls) (h 0 l (omega arith)) (met_pairs numbers ls (λ k d lt. h (suc k) d (omega arith)))
+
+  -- the entries that meet listeners, with their views as without
+  pub own_pairs : (pairs : List (ℕ × ℕ)) (ls : List Held) → All (λ (l : Held). HasPairs entries pairs l.number l.query.path) ls → All (λ (p : Pair). HasPairs entries pairs p.0.number p.0.query.path) (map pair_of ls)
+  own_pairs pairs [] h = λ k d lt. absurd (omega arith)
+  own_pairs pairs (l ∷ ls) h = All-cons (λ (p : Pair). HasPairs entries pairs p.0.number p.0.query.path) (pair_of l) (map pair_of ls) (h 0 l (omega arith)) (own_pairs pairs ls (λ k d lt. h (suc k) d (omega arith)))
 
   unmet : (p : Pair) → met p ≡ false → refreshed entries b writes p ≡ p
   unmet p e = λ i. (cond (e i) (renewed b writes p.0) p.0, cond (e i) (view_after entries b writes p.0.query p.1) p.1)

@@ -1,4 +1,6 @@
 pub mod HeldView
+pub mod Named
+pub mod Pairs
 pub mod Placed
 pub mod Rising
 pub mod Unknown

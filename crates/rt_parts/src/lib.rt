@@ -21,6 +21,7 @@ mod error;
 mod held;
 mod known;
 mod listeners;
+mod met;
 mod named;
 mod numbers;
 mod places;

@@ -19,7 +19,8 @@ use crate::adding::first;
 use crate::ending::{end_form, end_number, end_seat, tell_ends};
 use crate::error::ShownError;
 use crate::held::{Held, is_seats, place_of};
-use crate::places::{Place, insert_place, numbers_met, push_at};
+use crate::met::{numbers_in, pairs_met};
+use crate::places::{Place, insert_place, push_at};
 use crate::reading::{numbers_of, shown};
 use crate::renewing::{numbers_at, queries_of, renew_all};
 use crate::views::refresh;
@@ -103,7 +104,8 @@ impl Listeners {
     /// all of them lie is touched with the children that they name, where an object stays, and costs
     /// by these; any other view that one meets is taken from scratch, and a listener without one gets
     /// its first, where something is known for it. No other listener is looked at: those that an entry
-    /// meets are found by halving, at its path, at each path above it, and below.
+    /// meets are found by halving, at its path, at each path above it, and below. Of each the entries
+    /// that meet it are looked at, and no others.
     ///
     /// # Errors
     ///
@@ -128,12 +130,14 @@ impl Listeners {
         let alloc = *self.held.allocator();
         let mut held = replace(&mut self.held, Vec::new(alloc));
         let places = replace(&mut self.places, Vec::new(alloc));
-        let numbers = numbers_met(alloc, &places, entries)?;
+        let pairs = pairs_met(alloc, &places, entries)?;
+        let numbers = numbers_in(alloc, &pairs)?;
         refresh(
             alloc,
             held.as_mut_slice(),
             &numbers,
             entries,
+            &pairs,
             brought,
             pending,
             notes,

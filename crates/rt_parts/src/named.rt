@@ -1,14 +1,16 @@
 // The children of a query's path that entries name, as the query sees them.
-ghost use Rattle.std.specs.Prelude.{◌≡◌, ◌≤◌, ◌++◌, ◌∷◌, ◌&&◌, ◌||◌, [], not, IfOk, OnOk};
-ghost use Rattle.std.specs.List.{All, filter};
+ghost use Rattle.std.specs.Prelude.{◌≡◌, ◌≤◌, ◌++◌, ◌∷◌, ◌&&◌, ◌||◌, Bool, [], not, IfOk, OnOk};
+ghost use Rattle.std.specs.List.{All, filter_map, list_any};
+ghost use Rattle.std.specs.List.Sorted.{IsStrictlySortedBy};
 ghost use Rattle.std.specs.Option.{option_copied};
-ghost use Rattle.rt_tree.specs.PathTree.{child, is_null, key_eq, levels};
+ghost use Rattle.rt_tree.specs.PathTree.{Key, child, is_null, key_cmp, levels};
 ghost use Rattle.rt_query.specs.Queries.{is_filtered};
 ghost use Rattle.rt_writes.specs.Writes.{sets_child_whole};
 ghost use Rattle.rt_cache.specs.Brought.{base};
-ghost use Rattle.rt_world.specs.Touched.{children_named, named_by};
+ghost use Rattle.rt_world.specs.Touched.{named_by};
 ghost use Rattle.rt_world.specs.Views.{seen_over};
-ghost use Rattle.rt_parts.specs.Refreshed.{named_children};
+ghost use Rattle.rt_parts.specs.inside.Named.{AreNamed, AreNamedKeys};
+ghost use Rattle.rt_parts.specs.inside.Pairs.{HasOwn, named_at};
 
 use crate::seeing::{is_whole, tree_of};
 use rt_cache::Brought;
@@ -28,35 +30,72 @@ fn named_by<'a>(path: &Path, entry: &'a (Path, Tree)) -> Option<&'a Key>
     }
 }
 
-// Whether it is another key.
-fn is_other(key: &Key, other: &Key) -> bool
-    ensures { result ≡ not (key_eq key.now other.now) }
+// The key that follows the path in that of the pair's entry, if that is below it.
+fn named_at<'a>(path: &Path, entries: &'a [(Path, Tree)], pair: (u64, usize)) -> Option<&'a Key>
+    ensures { option_copied result ≡ named_at path.now entries.now pair }
 {
-    key != other
+    match entries.get(pair.1) {
+        Some(entry) => named_by(path, entry),
+        None => None,
+    }
 }
 
-// Puts the key first, and takes it out where it stood.
-fn put_first(keys: &mut Vec<Key>, key: &Key) -> Result<(), AllocError>
+// Puts the key that the pair's entry names behind the others, if it names one.
+fn put_named(
+    keys: &mut Vec<Key>,
+    path: &Path,
+    entries: &[(Path, Tree)],
+    pair: (u64, usize),
+) -> Result<(), AllocError>
     ensures { OnOk result (keys.new.items
-        ≡ key.now ∷ filter (λ other. not (key_eq key.now other)) keys.old.items) }
+        ≡ keys.old.items ++ filter_map (named_at path.now entries.now) (pair ∷ [])) }
 {
-    keys.retain(|other| is_other(key, other));
-    keys.insert(0, key.copy()?)?;
+    match named_at(path, entries, pair) {
+        Some(key) => keys.push(key.copy()?)?,
+        None => {}
+    }
     Ok(())
 }
 
-// The keys of the path's children that the entries name, each once.
-fn named_keys(alloc: Global, path: &Path, entries: &[(Path, Tree)]) -> Result<Vec<Key>, AllocError>
-    ensures { IfOk result (λ keys. keys.items ≡ children_named path.now entries.now) }
+// The keys of the path's children that the entries of these pairs name, one behind another.
+fn keys_by(
+    alloc: Global,
+    path: &Path,
+    entries: &[(Path, Tree)],
+    own: &[(u64, usize)],
+) -> Result<Vec<Key>, AllocError>
+    ensures { IfOk result (λ keys. keys.items
+        ≡ filter_map (named_at path.now entries.now) own.now) }
 {
     let mut keys = Vec::new(alloc);
-    let mut at = entries.len();
-    while at > 0 {
-        at -= 1;
-        if let Some(key) = named_by(path, &entries[at]) {
-            put_first(&mut keys, key)?;
-        }
+    for pair in own {
+        put_named(&mut keys, path, entries, *pair)?;
     }
+    Ok(keys)
+}
+
+// Sorts the keys, each once.
+fn sort_once(keys: &mut Vec<Key>)
+    ensures rise { IsStrictlySortedBy key_cmp keys.new.items }
+    ensures same { (p : Key → Bool) → list_any p keys.new.items ≡ list_any p keys.old.items }
+{
+    keys.sort_unstable();
+    keys.dedup();
+}
+
+// The keys of the path's children that the entries name, in order, each once. Those that meet the path
+// are among the own ones, which are alone looked at.
+fn named_keys(
+    alloc: Global,
+    path: &Path,
+    entries: &[(Path, Tree)],
+    own: &[(u64, usize)],
+) -> Result<Vec<Key>, AllocError>
+    requires { HasOwn entries.now own.now path.now }
+    ensures { IfOk result (λ keys. AreNamedKeys path.now entries.now keys.items) }
+{
+    let mut keys = keys_by(alloc, path, entries, own)?;
+    sort_once(&mut keys);
     Ok(keys)
 }
 
@@ -100,19 +139,21 @@ fn seen_child(
     pending.overlay(&path, tree)
 }
 
-// The children that the entries name, each taken alone.
+// The children that the entries name, in the order of keys, each taken alone.
 pub(crate) fn named_children(
     alloc: Global,
     entries: &[(Path, Tree)],
+    own: &[(u64, usize)],
     brought: &Brought,
     pending: &Pending,
     query: &Query,
 ) -> Result<Vec<(Key, Tree)>, AllocError>
-    ensures children { IfOk result (λ named. named.items
-        ≡ named_children entries.now brought.now pending.now query.now) }
+    requires { HasOwn entries.now own.now query.now.path }
+    ensures children { IfOk result (λ named.
+        AreNamed entries.now brought.now pending.now query.now named.items) }
     ensures levels { IfOk result (λ named. All (λ c. levels c.1 ≤ MAX_KEYS) named.items) }
 {
-    let keys = named_keys(alloc, query.path(), entries)?;
+    let keys = named_keys(alloc, query.path(), entries, own)?;
     let mut named = Vec::new(alloc);
     for key in &keys {
         let tree = seen_child(brought, pending, query, key)?;

@@ -1,17 +1,16 @@
 // Where listeners stand by path: those that entries meet are found by halving.
 ghost use Rattle.std.specs.Prelude.{◌≡◌, ◌≤◌, ◌<◌, ◌++◌, ◌||◌, ◌&&◌, ℕ, Bool, true, false, not};
-ghost use Rattle.std.specs.Prelude.{length, map, nat_lt, vec_len, vec_capacity, IfOk, OnOk};
+ghost use Rattle.std.specs.Prelude.{length, map, nat_lt, vec_len, vec_capacity, OnOk};
 ghost use Rattle.std.specs.List.{All, AllPairs, filter, list_any};
 ghost use Rattle.std.specs.List.Sorted.{IsPartitionPoint};
 ghost use Rattle.std.specs.Ordering.{is_eq, is_le, is_lt};
 ghost use Rattle.rt_tree.specs.PathTree.{path_cmp, path_eq};
 ghost use Rattle.rt_tree.specs.Assignments.{do_overlap, is_at_or_above};
-ghost use Rattle.rt_world.specs.Met.{do_meet};
 ghost use Rattle.rt_parts.specs.declared.places.Place.{Place};
 ghost use Rattle.rt_parts.specs.inside.Placed.{AreInOrder, HaveNumbers, Keeps, stand_cmp, stand_of};
 
-use rt_tree::{Key, Path, Tree};
-use std::alloc::{AllocError, Global};
+use rt_tree::{Key, Path};
+use std::alloc::AllocError;
 
 // A listener's path, with its number and its seat.
 pub(crate) struct Place {
@@ -123,7 +122,11 @@ fn push_above(numbers: &mut Vec<u64>, places: &[Place], path: &[Key]) -> Result<
 }
 
 // Adds the numbers of those at, above and under a path.
-fn push_met(numbers: &mut Vec<u64>, places: &[Place], path: &Path) -> Result<(), AllocError>
+pub(crate) fn push_met(
+    numbers: &mut Vec<u64>,
+    places: &[Place],
+    path: &Path,
+) -> Result<(), AllocError>
     requires { AreInOrder places.now }
     ensures kept { OnOk result (Keeps numbers.old.items numbers.new.items) }
     ensures all { OnOk result (HaveNumbers (λ x. do_overlap path.now x.path)
@@ -140,26 +143,6 @@ pub(crate) fn sort_once(numbers: &mut Vec<u64>)
 {
     numbers.sort_unstable();
     numbers.dedup();
-}
-
-// The numbers of those whose paths an entry meets, rising. Of an entry it looks for its path and for
-// each path above, and goes over those that stand there and at or under it.
-pub(crate) fn numbers_met(
-    alloc: Global,
-    places: &[Place],
-    entries: &[(Path, Tree)],
-) -> Result<Vec<u64>, AllocError>
-    requires { AreInOrder places.now }
-    ensures rise { IfOk result (λ numbers. AllPairs (λ m n. m < n) numbers.items) }
-    ensures all { IfOk result (λ numbers. HaveNumbers (λ x. do_meet entries.now x.path)
-        numbers.items places.now) }
-{
-    let mut numbers = Vec::new(alloc);
-    for entry in entries {
-        push_met(&mut numbers, places, &entry.0)?;
-    }
-    sort_once(&mut numbers);
-    Ok(numbers)
 }
 
 // Puts one in its place, for which there is room.

@@ -1,9 +1,10 @@
 // The view of a listener, and what its seat is told.
 ghost use Rattle.std.specs.Prelude.{◌≡◌, ◌==◌, ◌≤◌, ◌<◌, ◌++◌, ◌||◌, true, false, map, IfOk, OnOk};
 ghost use Rattle.std.specs.Prelude.{Some};
-ghost use Rattle.std.specs.List.{All, AllPairs, filter_map, list_any};
+ghost use Rattle.std.specs.List.{All, AllPairs, filter_map, list_any, slice_get};
 ghost use Rattle.std.specs.Option.{option_map, option_map_or, option_to_list};
 ghost use Rattle.rt_tree.specs.PathTree.{levels};
+ghost use Rattle.rt_tree.specs.Assignments.{do_overlap, is_at_or_above};
 ghost use Rattle.rt_query.specs.Select.{select};
 ghost use Rattle.rt_view.specs.Changes.{changes};
 ghost use Rattle.rt_world.specs.Views.{is_known};
@@ -12,6 +13,7 @@ ghost use Rattle.rt_world.specs.Answers.{batch_note};
 ghost use Rattle.rt_parts.specs.inside.HeldView.{IsHeld, AreHeld, listener_of, listeners_of};
 ghost use Rattle.rt_parts.specs.inside.HeldView.{pair_of, refreshed, refreshed_at, shown_in, told_at};
 ghost use Rattle.rt_parts.specs.inside.HeldView.{view_over};
+ghost use Rattle.rt_parts.specs.inside.Pairs.{AreUp, HasOwn, HasPairs, IsDue};
 ghost use Rattle.rt_parts.specs.Renewed.{view_anew};
 ghost use Rattle.rt_parts.specs.Refreshed.{FollowsNamed, view_after};
 ghost use Rattle.rt_view.specs.Views.{stays_object, touched};
@@ -20,6 +22,7 @@ ghost use Rattle.rt_world.specs.Met.{all_told, do_meet, seeing, told, told_met};
 ghost use Rattle.rt_world.specs.Touched.{is_covered};
 
 use crate::held::{Held, place_of};
+use crate::met::own_of;
 use crate::named::named_children;
 use crate::seeing::{is_known, seen};
 use rt_cache::Brought;
@@ -149,11 +152,13 @@ fn touch_or_renew(
     alloc: Global,
     listener: &mut Held,
     entries: &[(Path, Tree)],
+    own: &[(u64, usize)],
     brought: &Brought,
     pending: &Pending,
     notes: &mut Vec<Note>,
 ) -> Result<(), AllocError>
     requires held { IsHeld listener.old }
+    requires own { HasOwn entries.now own.now listener.old.query.path }
     requires low { is_covered listener.old.query.path entries.now ≡ false }
     requires follow { FollowsNamed entries.now brought.now pending.now (pair_of listener.old) }
     ensures view { OnOk result (listener_of listener.new
@@ -165,7 +170,7 @@ fn touch_or_renew(
     ensures notes { OnOk result (notes.new.items ≡ notes.old.items
         ++ option_to_list (told brought.now pending.now (listener_of listener.old))) }
 {
-    let named = named_children(alloc, entries, brought, pending, &listener.query)?;
+    let named = named_children(alloc, entries, own, brought, pending, &listener.query)?;
     if !stays_object(listener, &named) {
         return renew(alloc, listener, brought, pending, notes);
     }
@@ -173,18 +178,58 @@ fn touch_or_renew(
     tell(notes, listener, changes)
 }
 
-// Whether one of the entries sits at, above or below the path.
-fn do_meet(entries: &[(Path, Tree)], path: &Path) -> bool
-    ensures { result ≡ do_meet entries.now path.now }
+// Whether the pair's entry sits at, above or below the path.
+fn meets(entries: &[(Path, Tree)], pair: &(u64, usize), path: &Path) -> bool
+    ensures { result ≡ option_map_or (λ a. do_overlap a.0 path.now)
+        (slice_get entries.now (pair.now).1) false }
 {
-    entries.iter().any(|entry| entry.0.is_prefix_of(path) || path.is_prefix_of(&entry.0))
+    match entries.get(pair.1) {
+        Some(entry) => entry.0.is_prefix_of(path) || path.is_prefix_of(&entry.0),
+        None => false,
+    }
 }
 
-// Whether one of them sits at or above it.
-fn is_covered(entries: &[(Path, Tree)], path: &Path) -> bool
+// Whether an entry of these pairs does.
+fn any_meets(entries: &[(Path, Tree)], own: &[(u64, usize)], path: &Path) -> bool
+    ensures { result ≡ list_any (λ o. option_map_or (λ a. do_overlap a.0 path.now)
+        (slice_get entries.now o.1) false) own.now }
+{
+    own.iter().any(|pair| meets(entries, pair, path))
+}
+
+// Whether one of the entries does. Those that do are among the own ones, which are alone looked at.
+fn do_meet(entries: &[(Path, Tree)], own: &[(u64, usize)], path: &Path) -> bool
+    requires { HasOwn entries.now own.now path.now }
+    ensures { result ≡ do_meet entries.now path.now }
+{
+    any_meets(entries, own, path)
+}
+
+// Whether the pair's entry sits at or above the path.
+fn covers(entries: &[(Path, Tree)], pair: &(u64, usize), path: &Path) -> bool
+    ensures { result ≡ option_map_or (λ a. is_at_or_above a.0 path.now)
+        (slice_get entries.now (pair.now).1) false }
+{
+    match entries.get(pair.1) {
+        Some(entry) => entry.0.is_prefix_of(path),
+        None => false,
+    }
+}
+
+// Whether an entry of these pairs does.
+fn any_covers(entries: &[(Path, Tree)], own: &[(u64, usize)], path: &Path) -> bool
+    ensures { result ≡ list_any (λ o. option_map_or (λ a. is_at_or_above a.0 path.now)
+        (slice_get entries.now o.1) false) own.now }
+{
+    own.iter().any(|pair| covers(entries, pair, path))
+}
+
+// Whether one of the entries does; the own ones are alone looked at.
+fn is_covered(entries: &[(Path, Tree)], own: &[(u64, usize)], path: &Path) -> bool
+    requires { HasOwn entries.now own.now path.now }
     ensures { result ≡ is_covered path.now entries.now }
 {
-    entries.iter().any(|entry| entry.0.is_prefix_of(path))
+    any_covers(entries, own, path)
 }
 
 // Touches or renews the view, where an entry meets the listener's path; else it isn't looked at.
@@ -192,11 +237,13 @@ fn refresh_one(
     alloc: Global,
     listener: &mut Held,
     entries: &[(Path, Tree)],
+    own: &[(u64, usize)],
     brought: &Brought,
     pending: &Pending,
     notes: &mut Vec<Note>,
 ) -> Result<(), AllocError>
     requires held { IsHeld listener.old }
+    requires own { HasOwn entries.now own.now listener.old.query.path }
     requires follow { FollowsNamed entries.now brought.now pending.now (pair_of listener.old) }
     ensures pair { OnOk result (pair_of listener.new
         ≡ refreshed entries.now brought.now pending.now (pair_of listener.old)) }
@@ -205,13 +252,13 @@ fn refresh_one(
     ensures notes { OnOk result (notes.new.items ≡ notes.old.items ++ option_to_list
         (told_met entries.now brought.now pending.now (listener_of listener.old))) }
 {
-    if !do_meet(entries, listener.query.path()) {
+    if !do_meet(entries, own, listener.query.path()) {
         return Ok(());
     }
-    if is_covered(entries, listener.query.path()) {
+    if is_covered(entries, own, listener.query.path()) {
         return renew(alloc, listener, brought, pending, notes);
     }
-    touch_or_renew(alloc, listener, entries, brought, pending, notes)
+    touch_or_renew(alloc, listener, entries, own, brought, pending, notes)
 }
 
 // Touches or renews the view of the listener of that number, if an entry meets its path.
@@ -220,13 +267,15 @@ fn refresh_number(
     listeners: &mut [Held],
     number: u64,
     entries: &[(Path, Tree)],
+    met: &[(u64, usize)],
     brought: &Brought,
     pending: &Pending,
     notes: &mut Vec<Note>,
 ) -> Result<(), AllocError>
     requires held { AreHeld listeners.old }
-    requires follow { All (λ p. p.0.number == number ≡ true
-        → FollowsNamed entries.now brought.now pending.now p) (map pair_of listeners.old) }
+    requires up { AreUp met.now }
+    requires due { All (λ p. p.0.number == number ≡ true
+        → IsDue entries.now brought.now pending.now met.now p) (map pair_of listeners.old) }
     ensures pairs { OnOk result (map pair_of listeners.new
         ≡ map (refreshed_at number entries.now brought.now pending.now)
         (map pair_of listeners.old)) }
@@ -236,24 +285,40 @@ fn refresh_number(
         (map pair_of listeners.old)) }
 {
     match place_of(listeners, number) {
-        Some(at) => refresh_one(alloc, &mut listeners[at], entries, brought, pending, notes),
+        Some(at) => {
+            let own = own_of(met, number);
+            refresh_one(
+                alloc,
+                &mut listeners[at],
+                entries,
+                own,
+                brought,
+                pending,
+                notes,
+            )
+        }
         None => Ok(()),
     }
 }
 
 // Touches or renews the views of those listeners, by number, that an entry meets: the numbers of all
-// of these are among those that are given. No other listener is looked at.
+// of these are among those that are given, and the entries that meet them are told by the pairs. No
+// other listener is looked at, and of each no other entry.
 pub(crate) fn refresh(
     alloc: Global,
     listeners: &mut [Held],
     numbers: &[u64],
     entries: &[(Path, Tree)],
+    met: &[(u64, usize)],
     brought: &Brought,
     pending: &Pending,
     notes: &mut Vec<Note>,
 ) -> Result<(), AllocError>
     requires held { AreHeld listeners.old }
     requires follow { All (FollowsNamed entries.now brought.now pending.now)
+        (map pair_of listeners.old) }
+    requires up { AreUp met.now }
+    requires own { All (λ p. HasPairs entries.now met.now p.0.number p.0.query.path)
         (map pair_of listeners.old) }
     requires rise { AllPairs (λ m n. m < n) numbers.now }
     requires numbers { All (λ l. do_meet entries.now l.query.path ≡ true
@@ -265,7 +330,9 @@ pub(crate) fn refresh(
         ++ all_told entries.now brought.now pending.now (listeners_of listeners.old)) }
 {
     for number in numbers {
-        refresh_number(alloc, listeners, *number, entries, brought, pending, notes)?;
+        refresh_number(
+            alloc, listeners, *number, entries, met, brought, pending, notes,
+        )?;
     }
     Ok(())
 }

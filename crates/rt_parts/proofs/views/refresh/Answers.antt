@@ -9,14 +9,14 @@ loop-number-init c = record {
   pairs = refl;
   notes = refl;
   held = c.requires.held;
-  due = λ k d lt e. c.requires.follow k d lt;
+  due = λ k d lt e. record { follow = c.requires.follow k d lt; own = c.requires.own k d lt };
 }
 
-pub refresh_number-requires-clause-follow : goal.refresh_number-requires-clause-follow
-refresh_number-requires-clause-follow c =
+pub refresh_number-requires-clause-due : goal.refresh_number-requires-clause-due
+refresh_number-requires-clause-due c =
     let i : ℕ = c.loop-number.number-index in
     let within : i < length c.args.numbers.now = search rules in
-    due_at c.args.entries.now c.args.brought.now c.args.pending.now c.args.numbers.now i _ (map pair_of c.loop-number.listeners) within (search rules) c.loop-number.invariant.due
+    due_at c.args.entries.now c.args.brought.now c.args.pending.now c.args.met.now c.args.numbers.now i _ (map pair_of c.loop-number.listeners) within (search rules) c.loop-number.invariant.due
 
 pub loop-number-preserved : goal.loop-number-preserved
 loop-number-preserved c =
@@ -32,7 +32,7 @@ loop-number-preserved c =
       notes = told_more c.args.entries.now c.args.brought.now c.args.pending.now c.args.numbers.now i _ ps new c.loop-number.notes.items c.refresh_number.new.notes.items (c.args.notes.now.items ++ told_left c.args.entries.now c.args.brought.now c.args.pending.now c.args.numbers.now (map pair_of c.args.listeners.now)) within (search rules) rise
           (pairs_up c.loop-number.listeners inv.held.rising) made c.in_ok-refresh_number.ensures.notes inv.notes;
       held = c.in_ok-refresh_number.ensures.held;
-      due = due_more c.args.entries.now c.args.brought.now c.args.pending.now c.args.numbers.now i _ ps new within (search rules) rise made inv.due;
+      due = due_more c.args.entries.now c.args.brought.now c.args.pending.now c.args.met.now c.args.numbers.now i _ ps new within (search rules) rise made inv.due;
     }
 
 pub returns-clause-pairs : goal.returns-clause-pairs

@@ -9,5 +9,5 @@ invariant-loop-number l = record {
   pairs : left_of l.entries l.brought l.pending (drop l.number-index l.numbers) (map pair_of l.listeners) ≡ left_of l.entries l.brought l.pending l.numbers (map pair_of l.initial.listeners);
   notes : l.notes.items ++ told_left l.entries l.brought l.pending (drop l.number-index l.numbers) (map pair_of l.listeners) ≡ l.initial.notes.items ++ told_left l.entries l.brought l.pending l.numbers (map pair_of l.initial.listeners);
   held : AreHeld l.listeners;
-  due : AreDue l.entries l.brought l.pending (drop l.number-index l.numbers) (map pair_of l.listeners);
+  due : AreDue l.entries l.brought l.pending l.met (drop l.number-index l.numbers) (map pair_of l.listeners);
 }

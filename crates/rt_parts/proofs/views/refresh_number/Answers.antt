@@ -7,9 +7,11 @@ use Rattle.rt_world.specs.declared.report.Note.{Note}
 use Rattle.rt_parts.specs.declared.held.Held.{Held}
 use Rattle.rt_parts.specs.inside.HeldView.{IsHeld, pair_of, refreshed}
 use Rattle.rt_parts.specs.Refreshed.{FollowsNamed}
+use Rattle.rt_parts.specs.inside.Pairs.{HasPairs}
 use Rattle.rt_parts.proofs.Loops.{all_set, rising_same}
 use Rattle.rt_parts.proofs.Numbered.{changed_one, only_there, stay_none, told_none, told_one}
 use Rattle.rt_parts.proofs.RefreshLaws.{none_there, number_of, Pair, told_of}
+use Rattle.rt_parts.proofs.PairLaws.{has_own}
 use Rattle.rt_parts.proofs.PushLaws.{on_ok}
 use Rattle.rt_parts.proofs.views.refresh_number.Goals as goal
 
@@ -23,7 +25,21 @@ refresh_one-requires-clause-follow c =
     let read : get_or (map pair_of ls) i (pair_of d) ≡ pair_of (get_or ls i d) = get_or-map pair_of ls i d (pair_of d) at.0 in
     let within : i < length (map pair_of ls) = omega (arith, at.0, length-map ls pair_of) in
     subst (FollowsNamed c.args.entries.now c.args.brought.now c.args.pending.now) read
-    (c.requires.follow i (pair_of d) within (ap (λ (p : Pair). p.0.number == c.args.number) read ∙ at.1))
+    (c.requires.due i (pair_of d) within (ap (λ (p : Pair). p.0.number == c.args.number) read ∙ at.1)).follow
+
+pub refresh_one-requires-clause-own : goal.refresh_one-requires-clause-own
+refresh_one-requires-clause-own c =
+    let ls : List Held = c.args.listeners.now in
+    let i : ℕ = c.in-Some.at in
+    let d : Held = c.index-listeners-at.result in
+    let found : position (λ (l : Held). l.number == c.args.number) ls ≡ Some i = search rules in
+    let at = position-Some (λ (l : Held). l.number == c.args.number) ls i d found in
+    let read : get_or (map pair_of ls) i (pair_of d) ≡ pair_of (get_or ls i d) = get_or-map pair_of ls i d (pair_of d) at.0 in
+    let within : i < length (map pair_of ls) = omega (arith, at.0, length-map ls pair_of) in
+    let has : HasPairs c.args.entries.now c.args.met.now (get_or ls i d).number (get_or ls i d).query.path =
+    subst (λ (p : Pair). HasPairs c.args.entries.now c.args.met.now p.0.number p.0.query.path) read
+    (c.requires.due i (pair_of d) within (ap (λ (p : Pair). p.0.number == c.args.number) read ∙ at.1)).own in
+    has_own c.args.entries.now c.args.met.now c.own_of-own.result.now (get_or ls i d).number c.args.number (get_or ls i d).query.path at.1 c.own_of-own.ensures has
 
 pub returns-in-Some-clause-pairs : goal.returns-in-Some-clause-pairs
 returns-in-Some-clause-pairs c =

@@ -1,28 +1,48 @@
-use Rattle.std.proofs.Common.{◌≡◌, ◌==◌, true, length, map, sym, ap, subst, ◌∙◌, rules}
+use Rattle.std.proofs.Common.{◌≡◌, ◌==◌, true, ℕ, length, get_or, map, sym, ap, subst, ◌∙◌, rules}
 use Rattle.std.specs.List.{All, list_any, zip}
 use Rattle.std.proofs.lemmas.List.{with_items_is}
 use Rattle.rt_world.specs.Met.{do_meet, renewed_met}
 use Rattle.rt_parts.specs.declared.held.Held.{Held}
-use Rattle.rt_parts.specs.declared.places.Place.{Place}
-use Rattle.rt_parts.specs.inside.Placed.{HaveNumbers, IsIndex}
+use Rattle.rt_parts.specs.inside.Pairs.{AreUp, HasPairs, HavePairs}
+use Rattle.rt_parts.specs.inside.Placed.{IsIndex}
 use Rattle.rt_parts.specs.Listeners.{Listeners}
 use Rattle.rt_parts.specs.Refreshed.{FollowNamed, FollowsNamed, view_met}
 use Rattle.rt_parts.specs.inside.HeldView.{all_of, AreHeld, listeners_of, pair_of, refreshed, views_of}
 use Rattle.rt_parts.proofs.Loops.{all_listeners, all_views, zip_pairs}
-use Rattle.rt_parts.proofs.IndexLaws.{have_due, index_read}
-use Rattle.rt_parts.proofs.RefreshLaws.{placed_same}
+use Rattle.rt_parts.proofs.IndexLaws.{index_read}
+use Rattle.rt_parts.proofs.PairLaws.{have_pairs, met_number}
+use Rattle.rt_parts.proofs.RefreshLaws.{own_pairs, Pair, placed_same}
 use Rattle.rt_parts.proofs.listeners.Listeners.refresh.Goals as goal
+
+pub refresh-requires-clause-own : goal.refresh-requires-clause-own
+refresh-requires-clause-own c =
+    let old : c.as_mut_slice.result.now ≡ c.self.inside.held.items = search rules in
+    let met : c.deref-4.result.now ≡ c.in_ok-pairs.pairs.items = c.deref-4.ensures.value in
+    let places : c.deref.result.now ≡ c.self.inside.places.items = search rules in
+    let all : HavePairs c.args.entries.now c.in_ok-pairs.pairs.items c.self.inside.places.items =
+    subst (HavePairs c.args.entries.now c.in_ok-pairs.pairs.items) places c.in_ok-pairs.ensures.all in
+    subst (λ hs. All (λ (p : Pair). HasPairs c.args.entries.now c.deref-4.result.now p.0.number p.0.query.path) (map pair_of hs)) (sym old)
+    (subst (λ ps. All (λ (p : Pair). HasPairs c.args.entries.now ps p.0.number p.0.query.path) (map pair_of c.self.inside.held.items)) (sym met)
+    (own_pairs c.args.entries.now c.args.brought.now c.args.pending.now c.in_ok-pairs.pairs.items c.self.inside.held.items
+    (have_pairs c.args.entries.now c.in_ok-pairs.pairs.items c.self.inside.held.items c.self.inside.places.items c.self.invariant.1 all)))
+
+pub refresh-requires-clause-up : goal.refresh-requires-clause-up
+refresh-requires-clause-up c = subst AreUp (sym c.deref-4.ensures.value) c.in_ok-pairs.ensures.up
 
 pub refresh-requires-clause-numbers : goal.refresh-requires-clause-numbers
 refresh-requires-clause-numbers c =
     let old : c.as_mut_slice.result.now ≡ c.self.inside.held.items = search rules in
-    let numbers : c.deref-2.result.now ≡ c.in_ok-numbers.numbers.items = c.deref-2.ensures.value in
+    let numbers : c.deref-3.result.now ≡ c.in_ok-numbers.numbers.items = c.deref-3.ensures.value in
+    let pairs : c.deref-2.result.now ≡ c.in_ok-pairs.pairs.items = c.deref-2.ensures.value in
     let places : c.deref.result.now ≡ c.self.inside.places.items = search rules in
-    let all : HaveNumbers (λ (x : Place). do_meet c.args.entries.now x.path) c.in_ok-numbers.numbers.items c.self.inside.places.items =
-    subst (HaveNumbers (λ (x : Place). do_meet c.args.entries.now x.path) c.in_ok-numbers.numbers.items) places c.in_ok-numbers.ensures.all in
-    subst (λ hs. All (λ (l : Held). do_meet c.args.entries.now l.query.path ≡ true → list_any (λ n. l.number == n) c.deref-2.result.now ≡ true) hs) (sym old)
-    (subst (λ ns. All (λ (l : Held). do_meet c.args.entries.now l.query.path ≡ true → list_any (λ n. l.number == n) ns ≡ true) c.self.inside.held.items) (sym numbers)
-    (have_due (λ (x : Place). do_meet c.args.entries.now x.path) c.in_ok-numbers.numbers.items c.self.inside.held.items c.self.inside.places.items c.self.invariant.1 all))
+    let all : HavePairs c.args.entries.now c.in_ok-pairs.pairs.items c.self.inside.places.items =
+    subst (HavePairs c.args.entries.now c.in_ok-pairs.pairs.items) places c.in_ok-pairs.ensures.all in
+    subst (λ hs. All (λ (l : Held). do_meet c.args.entries.now l.query.path ≡ true → list_any (λ n. l.number == n) c.deref-3.result.now ≡ true) hs) (sym old)
+    (λ k d lt e.
+    let l : Held = get_or c.self.inside.held.items k d in
+    ap (list_any (λ n. l.number == n)) numbers ∙ c.in_ok-numbers.ensures.same (λ n. l.number == n) ∙ ap (list_any (λ (o : ℕ × ℕ). l.number == o.0)) pairs
+    ∙ met_number c.args.entries.now c.in_ok-pairs.pairs.items l.number l.query.path
+    (have_pairs c.args.entries.now c.in_ok-pairs.pairs.items c.self.inside.held.items c.self.inside.places.items c.self.invariant.1 all k d lt) e)
 
 pub invariant_of-self-2 : goal.invariant_of-self-2
 invariant_of-self-2 c =
