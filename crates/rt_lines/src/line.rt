@@ -1,11 +1,11 @@
 // What a line asks for.
 ghost use Rattle.std.specs.Prelude.{◌≡◌, ◌⊎◌, IfOk, IfErr, Ok, Err, Some, None};
-ghost use Rattle.serde_json.specs.View.{view as data_of};
+ghost use Rattle.serde_json.specs.View.{members_view, view as data_of};
 ghost use Rattle.rt_lines.specs.Lines.{data_of_bytes, line_in, line_of_bytes, line_of_data};
-ghost use Rattle.rt_lines.specs.Lines.{makes, server_step};
 ghost use Rattle.rt_lines.specs.Forms as form;
-ghost use Rattle.rt_lines.specs.inside.FormView.{as_form, as_parts, as_written};
+ghost use Rattle.rt_lines.specs.inside.FormView.{as_calls, as_form, as_parts, as_written};
 
+use crate::call::Call;
 use crate::draft::query_of;
 use crate::error::{LineError, Refusal};
 use crate::form::{Form, PartWords, Written, form_of};
@@ -13,7 +13,8 @@ use crate::reading::{action_of, entries_of, parts_read, path_of, tree_of};
 use rt_wire::{Ending, Reason, ServerMessage, WireError};
 use rt_world::Step;
 use serde_json::Value;
-use std::alloc::{AllocError, Global};
+use std::alloc::Global;
+use std::collections::BTreeMap;
 
 /// What a line asks for.
 #[derive(Drop)]
@@ -30,113 +31,151 @@ pub enum Line {
     Push { now_ms: u64, random: [u8; 12] },
 }
 
-// The step of a text of the server.
-fn served(alloc: Global, text: &str) -> Result<Step, LineError>
-    ensures ok { IfOk result (λ step. server_step text.now ≡ Ok step) }
-    ensures fault { IfErr result (λ e. (server_step text.now ≡ Err e) ⊎ (e ≡ LineError.NoMemory)) }
+// What the server sends as a text.
+fn served(alloc: Global, text: &str) -> Result<Line, LineError>
+    ensures ok { IfOk result (λ line. line_in (form.Server text.now) ≡ Ok line) }
+    ensures fault { IfErr result (λ e. (line_in (form.Server text.now) ≡ Err e)
+        ⊎ (e ≡ LineError.NoMemory)) }
 {
     match ServerMessage::read(alloc, text) {
-        Ok(message) => Ok(Step::from(message)),
+        Ok(message) => Ok(Line::Step(Step::from(message))),
         Err(WireError::NoMemory) => Err(LineError::NoMemory),
         Err(error) => Err(LineError::Refused(Refusal::Wire(error))),
     }
 }
 
 // A reason, which has no bound in a script.
-fn reason_of(alloc: Global, why: &str) -> Result<Reason, AllocError>
-    ensures { IfOk result (λ reason. reason ≡ why.now) }
+fn reason_of(alloc: Global, why: &str) -> Result<Reason, LineError>
+    ensures ok { IfOk result (λ reason. reason ≡ why.now) }
+    ensures fault { IfErr result (λ e. e ≡ LineError.NoMemory) }
 {
     Ok(Reason::of(String::from_str(alloc, why)?))
 }
 
-// A value that the server sends at a path.
-fn data_step(alloc: Global, tag: u64, path: &str, value: &Value) -> Result<Step, LineError>
-    ensures ok { IfOk result (λ step. line_in (form.Data tag path.now (data_of value.now))
-        ≡ makes step) }
-    ensures fault { IfErr result (λ e. (line_in (form.Data tag path.now (data_of value.now)) ≡ Err e)
+// A listen of a seat.
+fn listen(alloc: Global, seat: u64, path: &str, calls: Vec<Call<'_>>) -> Result<Line, LineError>
+    ensures ok { IfOk result (λ line. line_in (form.Listen seat path.now (as_calls calls.entry.items))
+        ≡ Ok line) }
+    ensures fault { IfErr result (λ e.
+        (line_in (form.Listen seat path.now (as_calls calls.entry.items)) ≡ Err e)
         ⊎ (e ≡ LineError.NoMemory)) }
 {
-    let path = path_of(alloc, path)?;
-    let tree = tree_of(alloc, value)?;
-    Ok(Step::Data { tag, path, tree })
+    let query = query_of(alloc, path, calls)?;
+    Ok(Line::Step(Step::Listen { seat, query }))
 }
 
-// Values that the server sends on several listens.
-fn parts_step(alloc: Global, parts: &[PartWords<'_>]) -> Result<Step, LineError>
-    ensures ok { IfOk result (λ step. line_in (form.Parts (as_parts parts.now)) ≡ makes step) }
-    ensures fault { IfErr result (λ e. (line_in (form.Parts (as_parts parts.now)) ≡ Err e)
-        ⊎ (e ≡ LineError.NoMemory)) }
+// A write of a seat.
+fn write(alloc: Global, seat: u64, written: Written<'_>) -> Result<Line, LineError>
+    ensures ok { IfOk result (λ line. line_in (form.Write seat (as_written written.entry)) ≡ Ok line) }
+    ensures fault { IfErr result (λ e.
+        (line_in (form.Write seat (as_written written.entry)) ≡ Err e) ⊎ (e ≡ LineError.NoMemory)) }
 {
-    let parts = parts_read(alloc, parts)?;
-    Ok(Step::Push { parts })
+    let action = action_of(alloc, written)?;
+    Ok(Line::Step(Step::Write { seat, action }))
 }
 
 // A write that a seat asks for at the end of the connection.
-fn run_at_end(alloc: Global, seat: u64, written: Written<'_>) -> Result<Step, LineError>
-    ensures ok { IfOk result (λ step. line_in (form.OnDisconnect seat (as_written written.entry))
-        ≡ makes step) }
+fn run_at_end(alloc: Global, seat: u64, written: Written<'_>) -> Result<Line, LineError>
+    ensures ok { IfOk result (λ line. line_in (form.OnDisconnect seat (as_written written.entry))
+        ≡ Ok line) }
     ensures fault { IfErr result (λ e.
         (line_in (form.OnDisconnect seat (as_written written.entry)) ≡ Err e)
         ⊎ (e ≡ LineError.NoMemory)) }
 {
     let ending = Ending::Run(action_of(alloc, written)?);
-    Ok(Step::OnDisconnect { seat, ending })
+    Ok(Line::Step(Step::OnDisconnect { seat, ending }))
 }
 
-// The step by which a seat asks that nothing be done there any more at the end of the connection.
-fn cancel_at_end(alloc: Global, seat: u64, path: &str) -> Result<Step, LineError>
-    ensures ok { IfOk result (λ step. line_in (form.CancelDisconnect seat path.now) ≡ makes step) }
+// A seat asks that nothing be done there any more at the end of the connection.
+fn cancel_at_end(alloc: Global, seat: u64, path: &str) -> Result<Line, LineError>
+    ensures ok { IfOk result (λ line. line_in (form.CancelDisconnect seat path.now) ≡ Ok line) }
     ensures fault { IfErr result (λ e. (line_in (form.CancelDisconnect seat path.now) ≡ Err e)
         ⊎ (e ≡ LineError.NoMemory)) }
 {
     let ending = Ending::Cancel(path_of(alloc, path)?);
-    Ok(Step::OnDisconnect { seat, ending })
+    Ok(Line::Step(Step::OnDisconnect { seat, ending }))
 }
 
-// The step of a line that asks for one, or what else it asks for. Its words are looked at in
-// their order, so that a line with several faults is refused by the first.
+// A value that the server sends at a path.
+fn data(alloc: Global, tag: u64, path: &str, value: &Value) -> Result<Line, LineError>
+    ensures ok { IfOk result (λ line. line_in (form.Data tag path.now (data_of value.now))
+        ≡ Ok line) }
+    ensures fault { IfErr result (λ e. (line_in (form.Data tag path.now (data_of value.now)) ≡ Err e)
+        ⊎ (e ≡ LineError.NoMemory)) }
+{
+    let path = path_of(alloc, path)?;
+    let tree = tree_of(alloc, value)?;
+    Ok(Line::Step(Step::Data { tag, path, tree }))
+}
+
+// Values that the server sends at several paths.
+fn merge(alloc: Global, tag: u64, entries: &BTreeMap<String, Value>) -> Result<Line, LineError>
+    ensures ok { IfOk result (λ line. line_in (form.Merge tag (members_view entries.now.entries))
+        ≡ Ok line) }
+    ensures fault { IfErr result (λ e.
+        (line_in (form.Merge tag (members_view entries.now.entries)) ≡ Err e)
+        ⊎ (e ≡ LineError.NoMemory)) }
+{
+    let entries = entries_of(alloc, entries)?;
+    Ok(Line::Step(Step::DataMerge { tag, entries }))
+}
+
+// Values that the server sends on several listens.
+fn parts(alloc: Global, words: &[PartWords<'_>]) -> Result<Line, LineError>
+    ensures ok { IfOk result (λ line. line_in (form.Parts (as_parts words.now)) ≡ Ok line) }
+    ensures fault { IfErr result (λ e. (line_in (form.Parts (as_parts words.now)) ≡ Err e)
+        ⊎ (e ≡ LineError.NoMemory)) }
+{
+    let parts = parts_read(alloc, words)?;
+    Ok(Line::Step(Step::Push { parts }))
+}
+
+// A request that the server refuses.
+fn refused(alloc: Global, id: u64, why: &str) -> Result<Line, LineError>
+    ensures ok { IfOk result (λ line. line_in (form.Refused id why.now) ≡ Ok line) }
+    ensures fault { IfErr result (λ e. e ≡ LineError.NoMemory) }
+{
+    let why = reason_of(alloc, why)?;
+    Ok(Line::Step(Step::Refused { id, why }))
+}
+
+// A listen that the server ends.
+fn revoked(alloc: Global, tag: u64, why: &str) -> Result<Line, LineError>
+    ensures ok { IfOk result (λ line. line_in (form.Revoked tag why.now) ≡ Ok line) }
+    ensures fault { IfErr result (λ e. e ≡ LineError.NoMemory) }
+{
+    let why = reason_of(alloc, why)?;
+    Ok(Line::Step(Step::Revoked { tag, why }))
+}
+
+// What a line of a form asks for. Its words are looked at in their order, so that a line with several
+// faults is refused by the first.
 fn line_of(alloc: Global, form: Form<'_>) -> Result<Line, LineError>
     ensures ok { IfOk result (λ line. line_in (as_form form.entry) ≡ Ok line) }
     ensures fault { IfErr result (λ e. (line_in (as_form form.entry) ≡ Err e)
         ⊎ (e ≡ LineError.NoMemory)) }
 {
-    let step = match form {
-        Form::Listen { seat, path, calls } => {
-            let query = query_of(alloc, path, calls)?;
-            Step::Listen { seat, query }
-        }
-        Form::Unlisten { seat, listener } => Step::Unlisten { seat, listener },
-        Form::Write { seat, written } => {
-            let action = action_of(alloc, written)?;
-            Step::Write { seat, action }
-        }
-        Form::OnDisconnect { seat, written } => run_at_end(alloc, seat, written)?,
-        Form::CancelDisconnect { seat, path } => cancel_at_end(alloc, seat, path)?,
-        Form::Close { seat } => Step::CloseSeat { seat },
-        Form::Data { tag, path, value } => data_step(alloc, tag, path, value)?,
-        Form::Merge { tag, entries } => {
-            let entries = entries_of(alloc, entries)?;
-            Step::DataMerge { tag, entries }
-        }
-        Form::Parts { parts } => parts_step(alloc, &parts)?,
-        Form::Accepted { id } => Step::Accepted { id },
-        Form::Refused { id, why } => {
-            let why = reason_of(alloc, why)?;
-            Step::Refused { id, why }
-        }
-        Form::Revoked { tag, why } => {
-            let why = reason_of(alloc, why)?;
-            Step::Revoked { tag, why }
-        }
-        Form::Server { text } => served(alloc, text)?,
-        Form::Connected => Step::Connected,
-        Form::Disconnected => Step::Disconnected,
-        Form::Out => return Ok(Line::Out),
-        Form::Cover => return Ok(Line::Cover),
-        Form::View { listener } => return Ok(Line::View(listener)),
-        Form::Push { now_ms, random } => return Ok(Line::Push { now_ms, random }),
-    };
-    Ok(Line::Step(step))
+    match form {
+        Form::Listen { seat, path, calls } => listen(alloc, seat, path, calls),
+        Form::Unlisten { seat, listener } => Ok(Line::Step(Step::Unlisten { seat, listener })),
+        Form::Write { seat, written } => write(alloc, seat, written),
+        Form::OnDisconnect { seat, written } => run_at_end(alloc, seat, written),
+        Form::CancelDisconnect { seat, path } => cancel_at_end(alloc, seat, path),
+        Form::Close { seat } => Ok(Line::Step(Step::CloseSeat { seat })),
+        Form::Data { tag, path, value } => data(alloc, tag, path, value),
+        Form::Merge { tag, entries } => merge(alloc, tag, entries),
+        Form::Parts { parts: words } => parts(alloc, &words),
+        Form::Accepted { id } => Ok(Line::Step(Step::Accepted { id })),
+        Form::Refused { id, why } => refused(alloc, id, why),
+        Form::Revoked { tag, why } => revoked(alloc, tag, why),
+        Form::Server { text } => served(alloc, text),
+        Form::Connected => Ok(Line::Step(Step::Connected)),
+        Form::Disconnected => Ok(Line::Step(Step::Disconnected)),
+        Form::Out => Ok(Line::Out),
+        Form::Cover => Ok(Line::Cover),
+        Form::View { listener } => Ok(Line::View(listener)),
+        Form::Push { now_ms, random } => Ok(Line::Push { now_ms, random }),
+    }
 }
 
 // The line that a JSON value is.

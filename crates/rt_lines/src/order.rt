@@ -3,11 +3,12 @@ ghost use Rattle.std.specs.Prelude.{◌≡◌, ◌⊎◌, IfOk, IfErr, Some, Non
 ghost use Rattle.serde_json.specs.View.{view as data_of};
 ghost use Rattle.rt_lines.specs.Forms as form;
 ghost use Rattle.rt_lines.specs.Orders.{order_in, order_named, order_of_bytes, order_of_data, times_in};
-ghost use Rattle.rt_lines.specs.inside.FormView.{as_form, views};
+ghost use Rattle.rt_lines.specs.inside.FormView.{as_calls, as_form, as_written, views};
 
+use crate::call::Call as QueryCall;
 use crate::draft::query_of;
 use crate::error::LineError;
-use crate::form::{Form, named};
+use crate::form::{Form, Written, named};
 use crate::line::value_of;
 use crate::reading::{action_of, path_of};
 use crate::word::parts_of;
@@ -45,32 +46,77 @@ fn times_of(words: &[Value]) -> Option<u64>
     }
 }
 
+// A listen of a seat.
+fn listen(
+    alloc: Global,
+    seat: u64,
+    path: &str,
+    calls: Vec<QueryCall<'_>>,
+) -> Result<Order, LineError>
+    ensures ok { IfOk result (λ order. order_in (form.Listen seat path.now (as_calls calls.entry.items))
+        ≡ Ok order) }
+    ensures fault { IfErr result (λ e.
+        (order_in (form.Listen seat path.now (as_calls calls.entry.items)) ≡ Err e)
+        ⊎ (e ≡ LineError.NoMemory)) }
+{
+    let query = query_of(alloc, path, calls)?;
+    let call = Call::Listen { query };
+    Ok(Order::Seat { seat, call })
+}
+
+// A write of a seat.
+fn write(alloc: Global, seat: u64, written: Written<'_>) -> Result<Order, LineError>
+    ensures ok { IfOk result (λ order. order_in (form.Write seat (as_written written.entry))
+        ≡ Ok order) }
+    ensures fault { IfErr result (λ e.
+        (order_in (form.Write seat (as_written written.entry)) ≡ Err e) ⊎ (e ≡ LineError.NoMemory)) }
+{
+    let action = action_of(alloc, written)?;
+    let call = Call::Write { action };
+    Ok(Order::Seat { seat, call })
+}
+
+// A write that a seat asks for at the end of the connection.
+fn run_at_end(alloc: Global, seat: u64, written: Written<'_>) -> Result<Order, LineError>
+    ensures ok { IfOk result (λ order. order_in (form.OnDisconnect seat (as_written written.entry))
+        ≡ Ok order) }
+    ensures fault { IfErr result (λ e.
+        (order_in (form.OnDisconnect seat (as_written written.entry)) ≡ Err e)
+        ⊎ (e ≡ LineError.NoMemory)) }
+{
+    let ending = Ending::Run(action_of(alloc, written)?);
+    let call = Call::OnDisconnect { ending };
+    Ok(Order::Seat { seat, call })
+}
+
+// A seat asks that nothing be done there any more at the end of the connection.
+fn cancel_at_end(alloc: Global, seat: u64, path: &str) -> Result<Order, LineError>
+    ensures ok { IfOk result (λ order. order_in (form.CancelDisconnect seat path.now) ≡ Ok order) }
+    ensures fault { IfErr result (λ e. (order_in (form.CancelDisconnect seat path.now) ≡ Err e)
+        ⊎ (e ≡ LineError.NoMemory)) }
+{
+    let ending = Ending::Cancel(path_of(alloc, path)?);
+    let call = Call::OnDisconnect { ending };
+    Ok(Order::Seat { seat, call })
+}
+
 // The order that a line of a script's form is.
 fn order_of(alloc: Global, form: Form<'_>) -> Result<Order, LineError>
     ensures ok { IfOk result (λ order. order_in (as_form form.entry) ≡ Ok order) }
     ensures fault { IfErr result (λ e. (order_in (as_form form.entry) ≡ Err e)
         ⊎ (e ≡ LineError.NoMemory)) }
 {
-    let (seat, call) = match form {
-        Form::Listen { seat, path, calls } => {
-            let query = query_of(alloc, path, calls)?;
-            (seat, Call::Listen { query })
+    match form {
+        Form::Listen { seat, path, calls } => listen(alloc, seat, path, calls),
+        Form::Unlisten { seat, listener } => {
+            let call = Call::Unlisten { listener };
+            Ok(Order::Seat { seat, call })
         }
-        Form::Unlisten { seat, listener } => (seat, Call::Unlisten { listener }),
-        Form::Write { seat, written } => {
-            let action = action_of(alloc, written)?;
-            (seat, Call::Write { action })
-        }
-        Form::OnDisconnect { seat, written } => {
-            let ending = Ending::Run(action_of(alloc, written)?);
-            (seat, Call::OnDisconnect { ending })
-        }
-        Form::CancelDisconnect { seat, path } => {
-            let ending = Ending::Cancel(path_of(alloc, path)?);
-            (seat, Call::OnDisconnect { ending })
-        }
-        Form::Close { seat } => return Ok(Order::Close { seat }),
-        Form::Cover => return Ok(Order::Cover),
+        Form::Write { seat, written } => write(alloc, seat, written),
+        Form::OnDisconnect { seat, written } => run_at_end(alloc, seat, written),
+        Form::CancelDisconnect { seat, path } => cancel_at_end(alloc, seat, path),
+        Form::Close { seat } => Ok(Order::Close { seat }),
+        Form::Cover => Ok(Order::Cover),
         Form::Data { .. }
         | Form::Merge { .. }
         | Form::Parts { .. }
@@ -82,9 +128,8 @@ fn order_of(alloc: Global, form: Form<'_>) -> Result<Order, LineError>
         | Form::Disconnected
         | Form::Out
         | Form::View { .. }
-        | Form::Push { .. } => return Err(LineError::Bad),
-    };
-    Ok(Order::Seat { seat, call })
+        | Form::Push { .. } => Err(LineError::Bad),
+    }
 }
 
 // The order of that name.
