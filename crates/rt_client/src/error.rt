@@ -17,7 +17,9 @@ pub enum ClientError {
     /// A seat of another client, or one that is closed.
     #[error("a seat of another client, or a closed one")]
     WrongSeat,
-    /// The seat's ring has no room for what waits and the receipt.
+    /// The seat's ring has no room for what waits and the receipt. The call was not made, and nothing of it
+    /// is kept: a write is lost unless it is made again, once the seat has taken items. `try_call` hands
+    /// the call back for that.
     #[error("the mailbox is full")]
     MailboxFull,
     /// More seats than a client has.
