@@ -46,9 +46,16 @@ def run(words, folder, **given):
 
 # ---- functions of a file
 
-IMPL = r"impl(?:<.*?>)? (?:(?:\w+::)*(?P<trait>\w+)(?:<(?:\w+::)*(?P<of>\w+).*>)? for )?(?P<lent>&(?:'\w+ )?)?(?:\w+::)*(?P<type>\w+)"
+IMPL = r"impl(?:<(?P<given>.*?)>)? (?:(?:\w+::)*(?P<trait>\w+)(?:<(?:\w+::)*(?P<of>\w+).*>)? for )?(?P<lent>&(?:'\w+ )?)?(?:\w+::)*(?P<type>\w+)(?:<(?P<args>[^{\n]*)>)?"
 HEAD = re.compile(rf'(?m)^(?:{IMPL}|(?P<indent> *)(?:pub(?:\(\w+\))? )?(?:const )?(?:extern "C" )?fn (?P<name>\w+))')
 CYCLE = re.compile(r"#\[cycle\((\w+)\)\]\n(?: *#\[.*\]\n)*\Z")
+
+
+def types_in(given, args):
+    """The names in the arguments of a type, in order; none where they are what the impl is given, and so stand for any type."""
+    names = re.findall(r"(?<!')\b[A-Za-z]\w*", args)
+    free = re.findall(r"(?:^|,)\s*'?(?:const )?(\w+)", given)
+    return [] if set(names) <= set(free) else names
 
 
 def functions_in(path, text):
@@ -61,6 +68,8 @@ def functions_in(path, text):
             # where a reference to the type has the trait, Ref stands before them
             lent, trait = "Ref" if it["lent"] else "", it["trait"] if it["trait"] != "Drop" else ""
             owner = f"{lent}{it['type']}{trait or ''}{it['of'] or ''}"
+            if not it["trait"]:
+                owner = "+".join([owner, *types_in(it["given"] or "", it["args"] or "")])
         elif it["indent"]:
             yield f"{owner}::{it['name']}", it.start()
         else:

@@ -91,6 +91,8 @@ class Functions(unittest.TestCase):
     def test_names(self):
         names = [name for name, _ in bodies.functions_in("src/lane.rt", CODE)]
         self.assertEqual(names, ["Lane::has_room", "Lane::put", "Lane::drop", "ErrorFromFault::from", "lane::filled"])
+        code = "impl<S: Read + Drop, K: Keys> Socket<Paced<S>, K> {\n    fn left(&self) {\n    }\n}\nimpl<S, K> Socket<S, K> {\n    fn right(&self) {\n    }\n}\n"
+        self.assertEqual([name for name, _ in bodies.functions_in("src/socket.rt", code)], ["Socket+Paced+S+K::left", "Socket::right"])
         self.assertEqual([name for name, _ in bodies.functions_in("src/lib.rt", "pub fn run() {\n}\n")], ["run"])
         self.assertEqual([name for name, _ in bodies.functions_in("src/lib.rt", 'pub extern "C" fn run() {\n}\n')], ["run"])
         self.assertEqual([name for name, _ in bodies.functions_in("src/steps/mod.rt", "fn kind() {\n}\n")], ["steps::kind"])
