@@ -4,9 +4,9 @@
 use baseline::bench;
 use baseline::core::{Core, Limits, Outcome, Report, Step, Write};
 use baseline::key::Path;
-use baseline::query::{Limit, Query};
-use baseline::tree::Tree;
-use serde_json::Value;
+use baseline::query::{Bound, Index, Limit, Query};
+use baseline::tree::{Leaf, Tree};
+use serde_json::{Map, Value};
 use std::{env, fs, process};
 
 /// How often a text is read or written.
@@ -24,13 +24,20 @@ fn tree(word: &Value) -> Tree {
     Tree::from_value(word).expect("a tree")
 }
 
+fn entries(value: &Map<String, Value>) -> Vec<(Path, Tree)> {
+    value.iter().map(|(at, value)| (Path::parse(at).expect("a path"), tree(value))).collect()
+}
+
 fn query(at: &Value, calls: &[Value]) -> Query {
     let mut draft = Query::at(path(at));
+    let key = |word: &Value| Some(Leaf::Text(word.as_str().expect("a text").into()));
     for call in calls {
-        let count = number(&call[1]) as u32;
         match call[0].as_str() {
-            Some("limitToFirst") => draft.limit(Limit::First(count)),
-            Some("limitToLast") => draft.limit(Limit::Last(count)),
+            Some("limitToFirst") => draft.limit(Limit::First(number(&call[1]) as u32)),
+            Some("limitToLast") => draft.limit(Limit::Last(number(&call[1]) as u32)),
+            Some("orderByKey") => draft.order(Index::Key),
+            Some("startAt") => draft.bound(Bound::StartAt, key(&call[1]), None),
+            Some("endAt") => draft.bound(Bound::EndAt, key(&call[1]), None),
             _ => panic!("a call that no workload has: {call}"),
         }
         .expect("one call of each kind");
@@ -54,6 +61,11 @@ fn step(line: &str) -> Step {
             seat: number(seat),
             write: Write::Put { path: path(at), tree: tree(value) },
         },
+        ("update", [seat, Value::Object(value)]) => Step::Write {
+            seat: number(seat),
+            write: Write::Merge { entries: entries(value) },
+        },
+        ("merge", [tag, Value::Object(value)]) => Step::DataMerge { tag: number(tag), entries: entries(value) },
         ("data", [tag, at, value]) => Step::Data { tag: number(tag), path: path(at), tree: tree(value) },
         ("ok", [id]) => Step::Accepted { id: number(id) },
         _ => panic!("a line that no workload has: {line}"),
