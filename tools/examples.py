@@ -1,5 +1,6 @@
 #!/usr/bin/env python3
 """The examples of kaltewi's page: each stands word for word in one of the programs of examples/calls and examples/link, which are proved and run.
+So does what the page of a library begins with, crates/NAME/README.md, in one of these programs or in the console.
 
 Usage: tools/examples.py            says what is wrong with them, and fails where anything is
        tools/examples.py --write    writes each item of each example as the program has it; an item's first words, as 'fn path', do for a new one
@@ -9,16 +10,25 @@ Usage: tools/examples.py            says what is wrong with them, and fails wher
   quotes    each item of it, a function, a type or an impl, is word for word one of the module of the same name, in the first program that has
             such a module, without its comment
   calls     each public call with a `///` of a type that is handed on is made in an example, but for `copy`, which all types have alike
+  crates    behind the heading of a library's page, but for those of OPEN, stands a block of ```rust: items of a program, one of which names what
+            the crate makes public
 """
 import os
 import re
 import sys
 
 import names
-from pages import read, sources
+from pages import crates, read, sources
 
 ROOT = os.path.realpath(f"{os.path.dirname(os.path.realpath(__file__))}/..")
 PAGE, PROGRAMS = "crates/kaltewi/src", ("examples/calls", "examples/link")
+QUOTED = (*PROGRAMS, "crates/rt_console/src")
+UNQUOTED = {"kaltewi", "rt_tests", "rt_ffi"}  # the door has its own page, and the calls of rt_ffi are made from C
+OPEN = set(
+    "rt_input rt_handle rt_chain rt_links rt_store rt_writes rt_cache rt_forms rt_cover rt_view rt_parts rt_hub rt_turns rt_serve rt_socket rt_lines"
+    " rt_script rt_words rt_drive rt_foreign".split()
+)  # no program of examples/ names these by themselves
+FIRST = re.compile(r"\A# \w+\n\n```rust\n(.*?)^```$", re.M | re.S)
 BLOCK = re.compile(r"(?m)^/// ```rust\n((?:^///.*\n)*?)^/// ```\n")
 HANDED_ON = re.compile(r"(?m)((?:^///.*\n)*)^pub use (?:(\w+)::)(?:\{([^}]*)\}|(\w+));")
 HEAD = re.compile(r"(?:pub(?:\(crate\))? )?((?:fn|struct|enum|const|trait) \w+|impl.*? for \w+)")
@@ -120,6 +130,44 @@ def wrong_root(page):
     yield from (f"lib: {it} of {module} is not handed on" for module, it in sorted(has - given))
 
 
+def libraries(root):
+    """The libraries whose pages begin with an example."""
+    return [it for it in crates(root) if os.path.isfile(f"{root}/crates/{it}/src/lib.rt") and it not in UNQUOTED | OPEN]
+
+
+def quotable(root):
+    """The items of all programs that pages of crates quote, by their first words, each as it stands in one of them."""
+    files, found = [f"{root}/{at}/{it}" for at in QUOTED if os.path.isdir(f"{root}/{at}") for it in sorted(os.listdir(f"{root}/{at}"))], {}
+    for it in files:
+        for key, item in items(read(it)).items() if it.endswith((".rt", ".rt.txt")) else []:
+            found.setdefault(key, set()).add(item)
+    return found
+
+
+def quoted_anew(page, made):
+    """A library's page with each item of its first block as the only program has it that has one of that name."""
+    block = FIRST.match(page)
+    if not block:
+        return page
+    its = [next(iter(made[key])) if len(made.get(key, ())) == 1 else item for key, item in items(block[1]).items()]
+    return page[: block.start(1)] + "\n\n".join(its) + "\n" + page[block.end(1) :]
+
+
+def wrong_crates(root):
+    """The libraries whose pages don't begin with items of a program, or with such as don't name what is theirs."""
+    made = quotable(root)
+    for it in libraries(root):
+        page = f"{root}/crates/{it}/README.md"
+        block = FIRST.match(read(page)) if os.path.isfile(page) else None
+        its = items(block[1]) if block else {}
+        if not its or "\n\n".join(its.values()) != block[1].strip("\n"):
+            yield f"{it}: its page begins with no items of a program"
+        elif not all(item in made.get(key, ()) for key, item in its.items()):
+            yield f"{it}: what its page begins with is not so in a program"
+        elif not any(names.Crate(f"{root}/crates/{it}").has(word) for word in set(re.findall(r"\w+", block[1]))):
+            yield f"{it}: what its page begins with names nothing of it"
+
+
 def wrong_of(root):
     """What is wrong, and how many examples there are."""
     page = modules(root)
@@ -127,7 +175,7 @@ def wrong_of(root):
     for module, text in page.items():
         if module != "lib":
             wrong += [*wrong_quotes(module, text, program(root, module)), *wrong_names(module, text)]
-    return wrong, sum(len(blocks(it)) for it in page.values())
+    return [*wrong, *wrong_crates(root)], sum(len(blocks(it)) for it in page.values()) + len(libraries(root))
 
 
 def written(text, made):
@@ -145,6 +193,11 @@ def main():
         for module, text in modules(ROOT).items():
             with open(f"{ROOT}/{PAGE}/{module}.rt", "w", encoding="utf-8") as it:
                 it.write(text if module == "lib" else written(text, program(ROOT, module)))
+        made = quotable(ROOT)
+        for crate in libraries(ROOT):
+            page = read(f"{ROOT}/crates/{crate}/README.md")
+            with open(f"{ROOT}/crates/{crate}/README.md", "w", encoding="utf-8") as it:
+                it.write(quoted_anew(page, made))
     elif sys.argv[1:]:
         print(__doc__.strip())
         sys.exit(2)

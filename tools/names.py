@@ -1,17 +1,17 @@
 #!/usr/bin/env python3
-"""The public names that the specification asks for (tools/names.txt): each stands in its crate, or where docs/DECISIONS.md says that it stands.
+"""The public names that the specification asks for (tools/names.txt): each stands in its crate, or where docs/RULES.md says that it stands.
 
 Usage: tools/names.py     says which names are missing, and fails where one is
 
 A type or a function is there where the crate's root makes it public, or hands it on from a crate below; a call, a variant or a constant of a
-type where the type's own crate has it. `homes` names what stands in another crate, or has another name, and is a part of docs/DECISIONS.md.
+type where the type's own crate has it. `homes` names what stands in another crate, or has another name, and is a part of docs/RULES.md.
 """
 import os
 import re
 import sys
 
 ROOT = os.path.realpath(f"{os.path.dirname(os.path.realpath(__file__))}/..")
-LIST, DECISIONS = "tools/names.txt", "docs/DECISIONS.md"
+LIST, RULES = "tools/names.txt", "docs/RULES.md"
 HEADING = "## Names"
 
 
@@ -36,7 +36,7 @@ def asked(text):
 
 
 def homes(text):
-    """What the table under the heading of docs/DECISIONS.md says: by the name that is asked for, as 'crate::Type' or 'crate::Type::name', what stands for it."""
+    """What the table under the heading of docs/RULES.md says: by the name that is asked for, as 'crate::Type' or 'crate::Type::name', what stands for it."""
     part = text.partition(f"{HEADING}\n")[2].partition("\n## ")[0]
     rows = re.findall(r"(?m)^\| `([\w:]+)` \| `([\w:]+)` \|", part)
     return dict(rows)
@@ -75,7 +75,7 @@ class Crate:
 
 def missing(root):
     """The names that are missing, each as 'crate::Type::name'."""
-    crates, of, stands = {}, asked(read(f"{root}/{LIST}")), homes(read(f"{root}/{DECISIONS}"))
+    crates, of, stands = {}, asked(read(f"{root}/{LIST}")), homes(read(f"{root}/{RULES}"))
 
     def crate(name):
         if name not in crates:

@@ -1,5 +1,5 @@
 #!/usr/bin/env python3
-"""What the pages keep to: README.md, CONTRIBUTING.md, CHANGELOG.md and those of docs/.
+"""What the pages keep to: README.md, CONTRIBUTING.md, CHANGELOG.md, those of docs/ and of crates/.
 
 Usage: tools/pages.py            says which lines don't keep to the rules, and fails where there is one
        tools/pages.py --arrows   writes the arrows of docs/ARCHITECTURE.md as crates.txt and the sources have them
@@ -9,12 +9,18 @@ Usage: tools/pages.py            says which lines don't keep to the rules, and f
   paragraphs  and items of a list have less than 6 lines of 110 characters
   dates       stand in docs/BENCHMARKS.md and docs/GATE.md alone, which have figures, and once in each
   cells       of the tables of docs/BENCHMARKS.md are all filled, each from the run that its script made
-  PROOFS.md   has at most 150 lines, none over 400 characters, and no word of how long anything took; what its table names as a contract
-              of a crate stands in the crate's src/
+  language    a sentence has one `that` or `what`, and no participle stands before its verb and its subject ("noted is which"); on all pages but
+              those of UNLEARNED
+  heads       a page begins with words in italics that say for whom it is, as `*For users: ..*`; but for HEADLESS
+  PROOFS.md   has at most 240 lines, none over 400 characters, and no word of how long anything took; a promise of its table is a sentence of at most
+              25 words, and what stands there as a contract of a crate stands in the crate's src/. "What is neither" names each public function
+              without a clause
   MODEL.md    has one definition a line, and so no item or cell of two sentences or with a semicolon; names each file of definitions in the
               section of its crate, but for `Errors`
   arrows      docs/ARCHITECTURE.md has for each crate what crates.txt has, but for the two crates of errors: behind a solid arrow what its
               code names, behind a dotted one what its contracts alone name; and a row that says what the crate holds
+  definitions a row of a table of docs/ARCHITECTURE.md that ends with a file of crates/, as `rt_low/specs/Low.antt`, begins with words that this has;
+              each file or folder of a crate that docs/GLOSSARY.md names behind it, as `rt_low`, `specs/Low.antt`, is there
 
 docs/THEOREM.md, which ./theorem writes, has the words of the sources: it is asked for dates alone.
 """
@@ -26,9 +32,13 @@ import sys
 ROOT = os.path.realpath(f"{os.path.dirname(os.path.realpath(__file__))}/..")
 WORDS, LINES, COLUMNS = 40, 6, 110
 WRITTEN = "docs/THEOREM.md"
-ARCHITECTURE, MODEL, BENCHMARKS = "docs/ARCHITECTURE.md", "docs/MODEL.md", "docs/BENCHMARKS.md"
+ARCHITECTURE, MODEL, BENCHMARKS, GLOSSARY = "docs/ARCHITECTURE.md", "docs/MODEL.md", "docs/BENCHMARKS.md", "docs/GLOSSARY.md"
 WITH_FIGURES = (BENCHMARKS, "docs/GATE.md")
-PROOFS, PROOFS_LINES, PROOFS_COLUMNS = "docs/PROOFS.md", 150, 400
+PROOFS, PROOFS_LINES, PROOFS_COLUMNS, PROMISE_WORDS = "docs/PROOFS.md", 240, 400, 25
+UNLEARNED = {"CHANGELOG.md", "docs/BENCHMARKS.md", "docs/GUIDE.md", "docs/MODEL.md", WRITTEN}
+HEADLESS = {"README.md", "CHANGELOG.md", "docs/GUIDE.md", WRITTEN}
+TOLD = re.compile(r"(?i)(?<![\w'-])(?:that|what)(?![\w'-])")
+TURNED = re.compile(r"(?i)(?:^|[,;:] )(?:and |or )?(?:noted|taken out|told|sent|kept|shown|handed over|passed over) (?:is|are|was|were) (?:which|what|who|whether|the|just|all)\b")
 OF_ERRORS = {"thiserror", "anyhow"}
 MONTHS = "January February March April May June July August September October November December".split()
 DATE = re.compile(rf"\b\d{{1,2}}\.? (?:{'|'.join(MONTHS)})\b|\b(?:{'|'.join(MONTHS)}) \d{{1,2}}\b(?! ?to)|\b20\d\d-\d\d-\d\d\b")
@@ -41,7 +51,9 @@ def read(file):
 
 
 def pages(root):
-    return ["README.md", "CONTRIBUTING.md", "CHANGELOG.md", *(f"docs/{it}" for it in sorted(os.listdir(f"{root}/docs")) if it.endswith(".md"))]
+    """The pages, those of the crates last."""
+    found = ["README.md", "CONTRIBUTING.md", "CHANGELOG.md", *(f"docs/{it}" for it in sorted(os.listdir(f"{root}/docs")) if it.endswith(".md"))]
+    return found + [f"crates/{it}/README.md" for it in crates(root) if os.path.isfile(f"{root}/crates/{it}/README.md")]
 
 
 # ---- texts of a page
@@ -91,6 +103,22 @@ def wrong_texts(name, page):
             yield f"{name}:{number}: a paragraph of {lines} lines: {text[:40]} .."
 
 
+def wrong_language(name, page):
+    """The sentences that tell two things by `that` or `what`, or whose subject stands behind its participle and its verb."""
+    for number, kind, text in texts(page):
+        for words in sentences(text, kind):
+            said = " ".join(words)
+            if len(TOLD.findall(said)) > 1 or TURNED.search(said):
+                yield f"{name}:{number}: a sentence to be said anew: {said[:60]} .."
+
+
+def wrong_head(name, page):
+    """The pages whose first words, behind the heading and the text that a crate's page begins with, don't say for whom they are."""
+    said = [text for _, kind, text in texts(page) if kind != "heading"]
+    if not said or not said[0].startswith("*For "):
+        yield f"{name}:1: its first words don't say for whom it is"
+
+
 def wrong_dates(name, page):
     found = [(number, it[0]) for number, line in enumerate(page.splitlines(), 1) for it in DATE.finditer(line)]
     for number, date in found[1:] if name in WITH_FIGURES else found:
@@ -114,6 +142,48 @@ def wrong_proofs(name, page):
             yield f"{name}:{number}: {len(line)} characters, more than {PROOFS_COLUMNS}"
         for it in DURATION.finditer(line):
             yield f"{name}:{number}: how long something takes: {it[0]}"
+
+
+def wrong_promises(page):
+    """The promises of the table of contracts that are no sentence of so many words."""
+    for number, line in enumerate(page.splitlines(), 1):
+        cells = [it.strip() for it in re.split(r"(?<!\\)\|", line.strip().strip("|"))] if line.startswith("|") else []
+        words = sum(bool(re.search(r"\w", it)) for it in cells[1].split()) if len(cells) == 3 else 0
+        if words > PROMISE_WORDS:
+            yield f"{PROOFS}:{number}: a promise of {words} words: {cells[1][:40]} .."
+
+
+FUNCTION = re.compile(r"(?m)^( *)pub (?:const )?(?:unsafe )?fn (\w+)")
+IMPL = re.compile(r"(?m)^impl(?:<[^{\n]*?>)? (?:[\w:<>, ]+ for )?(\w+)")
+
+
+def head_of(lines, indent):
+    """The head of a function that begins on the first of these lines, down to the brace that opens its body."""
+    found = []
+    for line in lines:
+        found.append(line)
+        if line == f"{indent}{{" or (len(found) == 1 and line.endswith("{")) or line.endswith(("{}", ";")):
+            break
+    return "\n".join(found)
+
+
+def without_clause(text):
+    """The public functions of a source that promise nothing, each as Type::name, or by its name alone."""
+    text = re.sub(r"(?m)//.*$", "", text)
+    for it in FUNCTION.finditer(text):
+        if "ensures" not in head_of(text[it.start() :].splitlines(), it[1]):
+            type_ = [one[1] for one in IMPL.finditer(text[: it.start()])] if it[1] else []
+            yield f"{type_[-1]}::{it[2]}" if type_ else it[2]
+
+
+def wrong_neither(root, page):
+    """The public functions without a clause that "What is neither" doesn't name, by their types and their names."""
+    part = page.partition("\n## What is neither\n")[2].partition("\n## ")[0]
+    named = set(re.findall(r"\w+", " ".join(re.findall(r"`([^`]*)`", part))))
+    for crate in crates(root):
+        for file in sources(root, crate):
+            lost = [it for it in without_clause(read(file)) if not set(it.split("::")) <= named]
+            yield from (f"{PROOFS}: {crate} has {it} without a clause, and 'What is neither' doesn't name it" for it in lost)
 
 
 def named_contracts(page):
@@ -212,16 +282,35 @@ def wrong_rows(root):
     yield from (f"{ARCHITECTURE}: no row says what {it} holds" for it in crates(root) if f"\n| `{it}` |" not in page)
 
 
+def wrong_definitions(root, page):
+    """The words of a table that aren't in the file of crates/ that their row ends with."""
+    for words, file in re.findall(r"(?m)^\| ((?:`\w+`(?:, )?)+) \|.*\| `(\w+/[\w/.]+)` \|$", page):
+        text = read(f"{root}/crates/{file}") if os.path.isfile(f"{root}/crates/{file}") else ""
+        lost = [it for it in re.findall(r"\w+", words) if not re.search(rf"\b{it}\b", text)]
+        if lost:
+            yield f"{ARCHITECTURE}: crates/{file} has no {' '.join(lost)}"
+
+
+def wrong_glossary(root, page):
+    """The files of crates that a glossary names and that aren't there."""
+    for crate, file in re.findall(r"`(\w+)`, `((?:specs|src)/[\w/.]*)`", page):
+        if not os.path.exists(f"{root}/crates/{crate}/{file}"):
+            yield f"{GLOSSARY}: there is no crates/{crate}/{file}"
+
+
 def wrong_of(root):
     """What is wrong, and how many pages there are."""
-    wrong, names = [*wrong_arrows(root), *wrong_rows(root), *wrong_model(root)], pages(root)
+    wrong, names = [*wrong_arrows(root), *wrong_rows(root), *wrong_model(root), *wrong_definitions(root, read(f"{root}/{ARCHITECTURE}"))], pages(root)
     for name in names:
         page = read(f"{root}/{name}")
         wrong += [] if name == WRITTEN else wrong_texts(name, page)
         wrong += wrong_dates(name, page)
-        wrong += [*wrong_proofs(name, page), *wrong_names(root, page)] if name == PROOFS else []
+        wrong += [] if name in UNLEARNED else wrong_language(name, page)
+        wrong += [] if name in HEADLESS else wrong_head(name, page)
+        wrong += [*wrong_proofs(name, page), *wrong_names(root, page), *wrong_promises(page), *wrong_neither(root, page)] if name == PROOFS else []
         wrong += wrong_lines(name, page) if name == MODEL else []
         wrong += wrong_cells(name, page) if name == BENCHMARKS else []
+        wrong += wrong_glossary(root, page) if name == GLOSSARY else []
     return wrong, len(names)
 
 

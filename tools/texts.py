@@ -7,6 +7,7 @@ import tempfile
 
 import comments
 import examples
+import layers
 import names
 import pages
 import spoken
@@ -48,6 +49,12 @@ def theorem_part():
 def pages_part():
     clock, (wrong, count) = Clock(), pages.wrong_of(ROOT)
     part(f"{count} pages keep to their rules", "; ".join(wrong[:5]), clock)
+
+
+def layers_part():
+    """The picture of the layers is that of crates.txt."""
+    wrong, count = layers.wrong_of(ROOT)
+    part(f"the picture of {count} layers is current", some_of(wrong, count))
 
 
 def names_part():
@@ -128,9 +135,9 @@ def guide_part():
 
 
 def examples_part():
-    """The examples of kaltewi's page."""
+    """The examples of kaltewi's page, and those that pages of libraries begin with."""
     wrong, count = examples.wrong_of(ROOT)
-    part(f"{count} examples of kaltewi's page are as they are proved", some_of(wrong, count))
+    part(f"{count} examples of the pages of kaltewi and of the libraries are as they are proved", some_of(wrong, count))
 
 
 def comments_part():

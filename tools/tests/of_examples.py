@@ -130,6 +130,28 @@ class Quotes(unittest.TestCase):
             self.assertEqual(examples.program(room, "told"), {})
 
 
+class Crates(unittest.TestCase):
+    def wrong(self, page):
+        with tempfile.TemporaryDirectory() as room:
+            files(room, {"crates.txt": "rt_low:\nrt_program: rt_low\nkaltewi: rt_low\n", "crates/rt_low/src/lib.rt": "pub fn low() {\n}\n", "crates/rt_low/README.md": page})
+            files(room, {"crates/rt_program/src/main.rt": "fn main() {}\n", f"{examples.QUOTED[0]}/lows.rt.txt": "// It.\nfn calls() {\n    low();\n}\n\nfn other() {}\n"})
+            return list(examples.wrong_crates(room))
+
+    def test_crates(self):
+        page = "# rt_low\n\n```rust\nfn calls() {\n    low();\n}\n```\n\n*For users.*\n"
+        self.assertEqual(self.wrong(page), [])
+        self.assertEqual(self.wrong(page.replace("low();", "low()")), ["rt_low: what its page begins with is not so in a program"])
+        self.assertEqual(self.wrong(page.replace("fn calls() {\n    low();\n}", "fn other() {}")), ["rt_low: what its page begins with names nothing of it"])
+        for other in ("# rt_low\n\n*For users.*\n", page.replace("fn calls", "let calls")):
+            self.assertEqual(self.wrong(other), ["rt_low: its page begins with no items of a program"])
+
+    def test_quoted_anew(self):
+        page = "# rt_low\n\n```rust\nfn calls() {\n    low();\n}\n\nfn other() {}\n```\n\n*For users.*\n"
+        made = {"fn calls": {"fn calls() {\n    high();\n}"}, "fn other": {"fn other() {}", "fn other() {\n}"}}
+        self.assertEqual(examples.quoted_anew(page, made), page.replace("low()", "high()"))
+        self.assertEqual(examples.quoted_anew("# rt_low\n\n*For users.*\n", made), "# rt_low\n\n*For users.*\n")
+
+
 class Names(unittest.TestCase):
     def test_names(self):
         self.assertEqual(list(examples.wrong_names("trees", PAGE)), [])

@@ -1,4 +1,4 @@
-"""What tools/names.py reads: lists of names, the table of docs/DECISIONS.md, the public names of a crate."""
+"""What tools/names.py reads: lists of names, the table of docs/RULES.md, the public names of a crate."""
 import os
 import sys
 import tempfile
@@ -38,7 +38,7 @@ impl Low {
     pub fn low(&self) {}
 }
 """
-DECISIONS = """## Names
+RULES = """## Names
 
 | Asked for | Stands as | Why |
 |---|---|---|
@@ -56,7 +56,7 @@ class Names(unittest.TestCase):
                 "crates/rt_top/src/part.rt": PART,
                 "crates/rt_low/src/lib.rt": LOW,
                 "tools/names.txt": asked,
-                "docs/DECISIONS.md": DECISIONS,
+                "docs/RULES.md": RULES,
             }.items():
                 os.makedirs(os.path.dirname(f"{room}/{file}"), exist_ok=True)
                 with open(f"{room}/{file}", "w", encoding="utf-8") as it:

@@ -74,7 +74,7 @@ class Rules(unittest.TestCase):
             self.assertEqual(len(list(pages.wrong_dates("docs/PROOFS.md", text))), 1, text)
             self.assertEqual(list(pages.wrong_dates("docs/GATE.md", text)), [])
             self.assertEqual(len(list(pages.wrong_dates("docs/GATE.md", f"{text}\n{text}"))), 1)
-        self.assertEqual(list(pages.wrong_dates("docs/DECISIONS.md", "December 1993 to May 2109, 1,048,576 and 4-5")), [])
+        self.assertEqual(list(pages.wrong_dates("docs/RULES.md", "December 1993 to May 2109, 1,048,576 and 4-5")), [])
 
     def test_cells(self):
         table = "| part | proved | ratio |\n| --- | --- | --- |\n| put | 1.2 | 1.8 |\n"
@@ -86,8 +86,30 @@ class Rules(unittest.TestCase):
     def test_proofs(self):
         self.assertEqual(list(pages.wrong_proofs("docs/PROOFS.md", "x" * 400)), [])
         self.assertEqual(len(list(pages.wrong_proofs("docs/PROOFS.md", "x" * 401))), 1)
-        self.assertEqual(len(list(pages.wrong_proofs("docs/PROOFS.md", "x\n" * 151))), 1)
+        self.assertEqual(len(list(pages.wrong_proofs("docs/PROOFS.md", "x\n" * 241))), 1)
         self.assertEqual(len(list(pages.wrong_proofs("docs/PROOFS.md", "it took 12 minutes"))), 1)
+
+    def test_language(self):
+        for text in ("It says that it is so.", "What is so? That is so.", "`that what that` is code", "*that and what are quoted*", "that's and somewhat"):
+            self.assertEqual(list(pages.wrong_language("it.md", text)), [], text)
+        for text in ("That it says is what it is.", "It is done, and noted is which it was.", "Taken out are the first of them."):
+            self.assertEqual(len(list(pages.wrong_language("it.md", text))), 1, text)
+
+    def test_head(self):
+        self.assertEqual(list(pages.wrong_head("it.md", "# It\n\n*For users: it.* More.\n")), [])
+        for text in ("# It\n\nFor users.\n", "# It\n", "# It\n\nFirst.\n\n*For users.*\n"):
+            self.assertEqual(len(list(pages.wrong_head("it.md", text))), 1, text)
+
+    def test_promises(self):
+        row = lambda count: f"| Crate | Promise | Contract |\n|---|---|---|\n| `rt_low` | {words(count)} | `low` |\n"
+        self.assertEqual(list(pages.wrong_promises(row(25))), [])
+        self.assertEqual(len(list(pages.wrong_promises(row(26)))), 1)
+        self.assertEqual(list(pages.wrong_promises(f"| two | {words(30)} |\n")), [])
+
+    def test_without_clause(self):
+        text = "pub fn a() -> u8\n    ensures { result ≡ 1 }\n{\n    1\n}\n\npub fn b() {\n    ensures();\n}\n\nfn c() {\n}\n\nimpl Low {\n"
+        text += "    // pub fn d() {}\n    pub fn e(\n        &self,\n    ) -> u8\n    {\n        2\n    }\n\n    pub const fn f() -> u8\n        ensures one { result ≡ 1 }\n    {\n        1\n    }\n}\n"
+        self.assertEqual(list(pages.without_clause(text)), ["b", "Low::e"])
 
     def test_one_definition_a_line(self):
         for text in ("- `A`: what it is (`a; b`).", "| a | what it is. | `A` |", "A paragraph. It may go on; so it does."):
@@ -130,6 +152,24 @@ class Arrows(unittest.TestCase):
         root = self.made("rt_low\n")
         page = "| `rt_low` | it is so | `low` |\n| | and so | `low`, `high` |\n"
         self.assertEqual(list(pages.wrong_names(root, page)), ["docs/PROOFS.md:2: rt_low has no high"])
+
+    def test_neither(self):
+        root = self.made("rt_low\n")
+        named = lambda text: list(pages.wrong_neither(root, f"# It\n\n## What is neither\n\n{text}\n\n## More\n\n`low`\n"))
+        self.assertEqual(named("There is `low`."), [])
+        self.assertEqual(named("There is none."), ["docs/PROOFS.md: rt_low has low without a clause, and 'What is neither' doesn't name it"])
+
+    def test_definitions(self):
+        root = self.made("rt_low\n")
+        wrong = lambda row: list(pages.wrong_definitions(root, f"| Word | It | File |\n|---|---|---|\n{row}\n"))
+        self.assertEqual(wrong("| `low`, `fn` | it | `rt_low/src/lib.rt` |"), [])
+        self.assertEqual(wrong("| `low`, `high` | it | `rt_low/src/lib.rt` |"), ["docs/ARCHITECTURE.md: crates/rt_low/src/lib.rt has no high"])
+        self.assertEqual(wrong("| `low` | it | `rt_low/src/low.rt` |"), ["docs/ARCHITECTURE.md: crates/rt_low/src/low.rt has no low"])
+
+    def test_glossary(self):
+        root = self.made("rt_low\n")
+        self.assertEqual(list(pages.wrong_glossary(root, "| low | It. | `rt_low`, `src/lib.rt`; `rt_low`, `src/` |")), [])
+        self.assertEqual(list(pages.wrong_glossary(root, "| low | It. | `rt_low`, `specs/Low.antt` |")), ["docs/GLOSSARY.md: there is no crates/rt_low/specs/Low.antt"])
 
     def test_rows(self):
         wrong = list(pages.wrong_rows(self.made("rt_low\n```\n\n| `rt_low` | it |\n| `rt_top` | it |\n```text\n")))
