@@ -1,10 +1,13 @@
+pub mod ActionLaws
 pub mod BundleLaws
 pub mod Numbers
 pub mod OrderLaws
 pub mod PartLaws
 pub mod PartsRising
+pub mod PlaceLaws
 pub mod Places
 pub mod PushedLaws
 pub mod RunLaws
+pub mod StandingLaws
 pub mod ToOne
 pub mod VersionLaws

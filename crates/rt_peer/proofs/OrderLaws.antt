@@ -28,25 +28,11 @@ use Rattle.rt_peer.specs.laws.Orders.{ListensRise, ListensAreOfKnown}
 use Rattle.rt_peer.specs.laws.Orders.{ActionsRise, ActionsAreOfKnown}
 use Rattle.rt_peer.proofs.Numbers.{IsLeastFree, free_from-fold, least_free_from, rises-filter}
 use Rattle.rt_peer.proofs.Numbers.{rises-in_place}
-use Rattle.rt_peer.proofs.Places.{all-in_place, filter_with, known-in_place, pairs-in_place, pairs-map}
+use Rattle.rt_peer.proofs.ActionLaws.{rises_added, rises_dropped}
+use Rattle.rt_peer.proofs.PlaceLaws.{rises_kept}
+use Rattle.rt_peer.proofs.Places.{all-in_place, filter_with, known-in_place}
 
 -- ---- pairs of numbers in order
-
-lex_through : (a b c d e f : ℕ) → (nat_lt a c || a == c && nat_lt b d) ≡ true
-    → (nat_lt c e || c == e && nat_lt d f) ≡ true → (nat_lt a e || a == e && nat_lt b f) ≡ true
-lex_through a b c d e f h k = grind (arith, nat_tests)
-
-lex_other : (a b c d : ℕ) → (nat_lt a c || a == c && nat_lt b d) ≡ false
-    → (c == a && d == b) ≡ false → (nat_lt c a || c == a && nat_lt d b) ≡ true
-lex_other a b c d h k = grind (arith, nat_tests)
-
-lex_not_back : (a b c d : ℕ) → (nat_lt a c || a == c && nat_lt b d) ≡ true
-    → (nat_lt c a || c == a && nat_lt d b) ≡ false
-lex_not_back a b c d h = grind (arith, nat_tests)
-
-lex_not_through : (a b c d e f : ℕ) → (nat_lt c a || c == a && nat_lt d b) ≡ false
-    → (nat_lt e c || e == c && nat_lt f d) ≡ false → (nat_lt e a || e == a && nat_lt f b) ≡ false
-lex_not_through a b c d e f h k = grind (arith, nat_tests)
 
 other_number : (k n m : ℕ) → not (k == n) ≡ true → (m == k) ≡ true → not (m == n) ≡ true
 other_number k n m h e = grind (arith, nat_tests)
@@ -103,28 +89,17 @@ listens : (p : Peer) (n tag : ℕ) (q : Query) → is_known p.connections n ≡ 
 listens p n tag q known h =
     let l : Listen = record { connection = n; tag = tag; query = q } in
     let others = filter (λ m. not (is_at n tag m)) p.listens in
-    let R : Listen → Listen → Type 0 = λ a b. is_before a b ≡ true in
     record {
       numbers = h.numbers;
       newer = h.newer;
       newer_known = h.newer_known;
-      listens = pairs-in_place R is_before l others
-          (AllPairs-filter R (λ m. not (is_at n tag m)) p.listens h.listens)
-          (filter_with (λ m. not (is_at n tag m)) (λ m. is_known p.connections m.connection ≡ true)
-          (λ m. is_before l m ≡ false → is_before m l ≡ true) p.listens h.listens_known
-          (λ m e k b. lex_other n tag m.connection m.tag b (not_true (is_at n tag m) e)))
-          (λ m b. b)
-          (λ a b before after. lex_through a.connection a.tag n tag b.connection b.tag before after);
+      listens = rises_kept l p.listens h.listens;
       listens_known = all-in_place (λ m. is_known p.connections m.connection ≡ true) is_before l others
           (All-filter (λ m. not (is_at n tag m)) (λ m. is_known p.connections m.connection ≡ true)
           p.listens h.listens_known) known;
       actions = h.actions;
       actions_known = h.actions_known;
     }
-  where
-    not_true : (b : Bool) → not b ≡ true → b ≡ false
-    not_true true e = sym e
-    not_true false e = refl
 
 unlistens : (p : Peer) (n tag : ℕ) → Keeps p
     → Keeps (record p { listens = filter (λ l. not (is_at n tag l)) p.listens })
@@ -154,53 +129,19 @@ defers : (p : Peer) (n id : ℕ) (entries : List Assignment) → is_known p.conn
     → Keeps (deferred p n id entries).0
 defers p n id entries known h =
     let x : Deferred = record { connection = n; id = id; entries = entries } in
-    let R : Deferred → Deferred → Type 0 = λ a b. runs_before b a ≡ false in
     record {
       numbers = h.numbers;
       newer = h.newer;
       newer_known = h.newer_known;
       listens = h.listens;
       listens_known = h.listens_known;
-      actions = pairs-in_place R runs_before x p.actions h.actions
-          (λ i d lt b. b)
-          (λ a b. lex_not_back n id a.connection a.id b)
-          (λ a b before after.
-          lex_not_through a.connection a.id n id b.connection b.id before after);
+      actions = rises_added x p.actions h.actions;
       actions_known = all-in_place (λ a. is_known p.connections a.connection ≡ true) runs_before x
           p.actions h.actions_known known;
     }
 
--- what is taken out of an action changes neither its connection nor its number
-still_after : (n : ℕ) (path : Path) (a b : Deferred) → runs_before b a ≡ false
-    → runs_before (without_below n path b) (without_below n path a) ≡ false
-still_after n path a b h =
-    ap (λ c. nat_lt c (without_below n path a).connection
-    || c == (without_below n path a).connection
-    && nat_lt (without_below n path b).id (without_below n path a).id) (same_connection b)
-    ∙ ap (λ c. nat_lt b.connection c
-    || b.connection == c && nat_lt (without_below n path b).id (without_below n path a).id)
-    (same_connection a)
-    ∙ ap (λ i. nat_lt b.connection a.connection
-    || b.connection == a.connection && nat_lt i (without_below n path a).id) (same_id b)
-    ∙ ap (λ i. nat_lt b.connection a.connection
-    || b.connection == a.connection && nat_lt b.id i) (same_id a)
-    ∙ h
-  where
-    same_connection : (x : Deferred) → (without_below n path x).connection ≡ x.connection
-    same_connection x =
-        elim (x.connection == n) as (λ c. (let y : Deferred = if c
-        then record x { entries = filter (λ e. not (is_at_or_above path e.0)) x.entries }
-        else x in y.connection) ≡ x.connection) [ true ↦ refl | false ↦ refl ]
-
-    same_id : (x : Deferred) → (without_below n path x).id ≡ x.id
-    same_id x =
-        elim (x.connection == n) as (λ c. (let y : Deferred = if c
-        then record x { entries = filter (λ e. not (is_at_or_above path e.0)) x.entries }
-        else x in y.id) ≡ x.id) [ true ↦ refl | false ↦ refl ]
-
 drops : (p : Peer) (n : ℕ) (path : Path) → Keeps p → Keeps (dropped p n path)
 drops p n path h =
-    let R : Deferred → Deferred → Type 0 = λ a b. runs_before b a ≡ false in
     let Known : Deferred → Type 0 = λ a. is_known p.connections a.connection ≡ true in
     record {
       numbers = h.numbers;
@@ -208,8 +149,7 @@ drops p n path h =
       newer_known = h.newer_known;
       listens = h.listens;
       listens_known = h.listens_known;
-      actions = AllPairs-filter R has_entries (map (without_below n path) p.actions)
-          (pairs-map R (without_below n path) (still_after n path) p.actions h.actions);
+      actions = rises_dropped n path p.actions h.actions;
       actions_known = All-filter has_entries Known (map (without_below n path) p.actions)
           (All-map Known (without_below n path) p.actions
           (λ i d lt. still_known _ (h.actions_known i d lt)));

@@ -1,6 +1,6 @@
 // What is to be done when connections end.
-ghost use Rattle.std.specs.Prelude.{◌≡◌, ◌==◌, not, map, IfOk};
-ghost use Rattle.std.specs.List.{All, filter};
+ghost use Rattle.std.specs.Prelude.{◌≡◌, ◌≤◌, ◌==◌, [], false, length, not, map, IfOk, OnOk};
+ghost use Rattle.std.specs.List.{All, AllPairs, filter, insert};
 ghost use Rattle.rt_tree.specs.Assignments.{is_at_or_above};
 ghost use Rattle.rt_writes.specs.Writes.{IsShallow};
 ghost use Rattle.rt_peer.specs.Peers.{in_place, runs_before};
@@ -10,6 +10,7 @@ use rt_tree::{Path, Tree};
 use rt_writes::Entries;
 use std::alloc::{AllocError, Global};
 use std::marker::Model;
+use std::mem;
 
 // What is to be done when a connection ends: whose it is, the number of the request, and its entries,
 // which may be put.
@@ -118,45 +119,82 @@ fn entries_apart(
     Ok(Entries::of(left))
 }
 
-// The actions that this one does not run before, and those that it does.
-fn parted_by(
-    alloc: Global,
-    actions: Vec<Deferred>,
-    action: &Deferred,
-) -> Result<(Vec<Deferred>, Vec<Deferred>), AllocError>
-    ensures front { IfOk result (λ parts. parts.0.items
-        ≡ filter (λ a. not (runs_before action.now a)) actions.items) }
-    ensures behind { IfOk result (λ parts. parts.1.items
-        ≡ filter (runs_before action.now) actions.items) }
-{
-    let mut front = Vec::new(alloc);
-    let mut behind = Vec::new(alloc);
-    for other in actions {
-        if action.runs_before(&other) {
-            behind.push(other)?;
-        } else {
-            front.push(other)?;
-        }
-    }
-    Ok((front, behind))
+// What is to be done when connections end, by connection and then by number.
+pub(crate) struct Actions {
+    items: Vec<Deferred>,
 }
 
-// The actions with another one, behind those of its number.
-pub(crate) fn with_action(
-    alloc: Global,
-    actions: Vec<Deferred>,
-    action: Deferred,
-) -> Result<Vec<Deferred>, AllocError>
-    ensures { IfOk result (λ all. all.items ≡ in_place runs_before action actions.items) }
+impl Drop for Actions {
+    fn drop(self) {
+        let Actions { items: _ } = self;
+    }
+}
+
+impl Model for Actions {
+    ghost use Rattle.std.specs.Prelude.{◌≡◌, false, List};
+    ghost use Rattle.std.specs.List.{AllPairs};
+    ghost use Rattle.rt_peer.specs.Peers.{Deferred, runs_before};
+
+    ghost Value = { List Deferred };
+
+    ghost view = { λ a. a.items.items };
+
+    ghost invariant = { λ a. AllPairs (λ a b. runs_before b a ≡ false) a.items.items };
+}
+
+impl Actions {
+    pub(crate) fn new(alloc: Global) -> Actions
+        ensures { result ≡ [] }
+    {
+        Actions {
+            items: Vec::new(alloc),
+        }
+    }
+
+    // Adds an action, behind those of its number.
+    pub(crate) fn add(&mut self, action: Deferred) -> Result<(), AllocError>
+        ensures { OnOk result (self.new ≡ in_place runs_before action self.old) }
+    {
+        let place = place_behind(&self.items, &action);
+        self.items.insert(place, action)?;
+        Ok(())
+    }
+
+    // Takes out what the connection's actions have at and below the path.
+    pub(crate) fn drop_below(&mut self, connection: u64, path: &Path) -> Result<(), AllocError>
+        ensures { OnOk result (self.new
+            ≡ filter has_entries (map (without_below connection path.now) self.old)) }
+    {
+        let alloc = *self.items.allocator();
+        let items = mem::replace(&mut self.items, Vec::new(alloc));
+        self.items = without_entries_below(alloc, items, connection, path)?;
+        Ok(())
+    }
+
+    // Takes out the actions of the connection.
+    pub(crate) fn take_of(&mut self, connection: u64) -> Result<Vec<Deferred>, AllocError>
+        ensures own { IfOk result (λ own. own.items ≡ filter (λ a. a.connection == connection) self.old) }
+        ensures others { OnOk result (self.new ≡ filter (λ a. not (a.connection == connection)) self.old) }
+    {
+        let alloc = *self.items.allocator();
+        let items = mem::replace(&mut self.items, Vec::new(alloc));
+        let (own, others) = parted(alloc, items, connection)?;
+        self.items = others;
+        Ok(own)
+    }
+}
+
+// The place behind all actions that this one does not run before, by halving.
+fn place_behind(actions: &[Deferred], action: &Deferred) -> usize
+    requires { AllPairs (λ a b. runs_before b a ≡ false) actions.now }
+    ensures place { insert actions.now result action.now ≡ in_place runs_before action.now actions.now }
+    ensures within { result ≤ length actions.now }
 {
-    let (mut all, mut behind) = parted_by(alloc, actions, &action)?;
-    all.push(action)?;
-    all.append(&mut behind)?;
-    Ok(all)
+    actions.partition_point(|other| !action.runs_before(other))
 }
 
 // The actions without what the connection's have at and below the path.
-pub(crate) fn without_entries_below(
+fn without_entries_below(
     alloc: Global,
     actions: Vec<Deferred>,
     connection: u64,
@@ -176,7 +214,7 @@ pub(crate) fn without_entries_below(
 }
 
 // The actions of the connection, and the others.
-pub(crate) fn parted(
+fn parted(
     alloc: Global,
     actions: Vec<Deferred>,
     connection: u64,

@@ -1,8 +1,11 @@
 // What listens are sent when a write changes what they show.
 ghost use Rattle.std.specs.Prelude.{◌≡◌, IfOk};
-ghost use Rattle.std.specs.List.{list_any};
+ghost use Rattle.std.specs.List.{list_all, list_any};
 ghost use Rattle.rt_tree.specs.Assignments.{is_at_or_above};
-ghost use Rattle.rt_peer.specs.Pushes.{is_changed, parts_below, parts_message, push_of, pushes};
+ghost use Rattle.rt_tree.specs.PathTree.{sub};
+ghost use Rattle.rt_tree.specs.Trees.{tree_eq};
+ghost use Rattle.rt_peer.specs.Pushes.{is_changed, parts_below, parts_message, push_of, pushes, written};
+ghost use Rattle.rt_peer.specs.inside.Standing.{leaves_part, stands, tells_apart};
 
 use crate::listen::Listen;
 use crate::sent::Sent;
@@ -12,25 +15,84 @@ use rt_wire::ServerMessage;
 use rt_writes::Entries;
 use std::alloc::{AllocError, Global};
 
-// Whether the listen shows something else after a write than before.
-fn is_changed(
-    alloc: Global,
-    before: &Tree,
-    after: &Tree,
-    listen: &Listen,
-) -> Result<bool, AllocError>
-    ensures { IfOk result (λ b. b ≡ is_changed before.now after.now listen.now) }
-{
-    let old = seen(alloc, &listen.query, before)?;
-    let new = seen(alloc, &listen.query, after)?;
-    Ok(old != new)
-}
-
 // Whether an entry is at or above the path.
 fn is_any_above(entries: &[(Path, Tree)], path: &Path) -> bool
     ensures { result ≡ list_any (λ a. is_at_or_above a.0 path.now) entries.now }
 {
     entries.iter().any(|entry| entry.0.is_prefix_of(path))
+}
+
+// Whether the tree has just this part at the path.
+fn has_part(tree: &Tree, path: &Path, part: &Tree) -> bool
+    ensures { result ≡ tree_eq (sub tree.now path.now) part.now }
+{
+    match tree.get(path) {
+        Some(there) => there == part,
+        None => part.is_null(),
+    }
+}
+
+// Whether an entry, where it is at or below the path, writes what the tree has there.
+fn stands(tree: &Tree, path: &Path, entry: &(Path, Tree)) -> bool
+    ensures { result ≡ stands tree.now path.now entry.now }
+{
+    !path.is_prefix_of(&entry.0) || has_part(tree, &entry.0, &entry.1)
+}
+
+// Whether the entries at and below the path write what the tree has there.
+fn all_stand(tree: &Tree, path: &Path, entries: &[(Path, Tree)]) -> bool
+    ensures { result ≡ list_all (stands tree.now path.now) entries.now }
+{
+    entries.iter().all(|entry| stands(tree, path, entry))
+}
+
+// Whether no entry is above the path, and those at or below it write what the tree has there: then the part
+// at the path stays as it is. Costs by the entries.
+fn leaves_part(tree: &Tree, path: &Path, entries: &[(Path, Tree)]) -> bool
+    ensures { result ≡ leaves_part tree.now path.now entries.now }
+{
+    !is_any_above(entries, path) && all_stand(tree, path, entries)
+}
+
+// Whether the two trees have the same at the path.
+fn is_same_at(before: &Tree, after: &Tree, path: &Path) -> bool
+    ensures { result ≡ tree_eq (sub before.now path.now) (sub after.now path.now) }
+{
+    match after.get(path) {
+        Some(part) => has_part(before, path, part),
+        None => before.get(path).is_none(),
+    }
+}
+
+// Whether the two trees differ where an entry at or below the path writes. Costs by the entries.
+fn differ_below(before: &Tree, after: &Tree, path: &Path, entries: &[(Path, Tree)]) -> bool
+    ensures { result ≡ list_any (tells_apart before.now after.now path.now) entries.now }
+{
+    entries.iter().any(|entry| path.is_prefix_of(&entry.0) && !is_same_at(before, after, &entry.0))
+}
+
+// Whether the listen shows something else after a write than before. All that it shows is compared only where
+// an entry is above its path, or it is filtered and an entry changes something there.
+fn is_changed(
+    alloc: Global,
+    before: &Tree,
+    after: &Tree,
+    entries: &[(Path, Tree)],
+    listen: &Listen,
+) -> Result<bool, AllocError>
+    requires { after.now ≡ written before.now entries.now }
+    ensures { IfOk result (λ b. b ≡ is_changed before.now after.now listen.now) }
+{
+    let path = listen.query.path();
+    if leaves_part(before, path, entries) {
+        return Ok(false);
+    }
+    if !listen.query.is_filtered() && differ_below(before, after, path, entries) {
+        return Ok(true);
+    }
+    let old = seen(alloc, &listen.query, before)?;
+    let new = seen(alloc, &listen.query, after)?;
+    Ok(old != new)
 }
 
 // The entries below the path, each with what stands there.
@@ -91,12 +153,13 @@ pub(crate) fn push_all(
     entries: &[(Path, Tree)],
     listens: &[Listen],
 ) -> Result<Vec<Sent>, AllocError>
+    requires { after.now ≡ written before.now entries.now }
     ensures { IfOk result (λ sent. sent.items
         ≡ pushes before.now after.now entries.now listens.now) }
 {
     let mut sent = Vec::new(alloc);
     for listen in listens {
-        if is_changed(alloc, before, after, listen)? {
+        if is_changed(alloc, before, after, entries, listen)? {
             let message = push_of(alloc, after, entries, listen)?;
             sent.push(Sent {
                 to: listen.connection,

@@ -14,8 +14,8 @@ ghost use Rattle.rt_wire.specs.declared.request.Ending.TheVariants as Ending;
 
 use crate::bundles::bundle;
 use crate::connections::{Connections, mark, remove_number};
-use crate::deferred::{Deferred, parted, with_action, without_entries_below};
-use crate::listen::{Listen, remove_listen, remove_listens_of, with_listen};
+use crate::deferred::{Actions, Deferred};
+use crate::listen::{Listen, Listens};
 use crate::pushes::push_all;
 use crate::sent::Sent;
 use crate::shown::{put_all, seen};
@@ -25,7 +25,6 @@ use rt_wire::{Action, Asked, ClientMessage, Ending, Reason, ServerMessage, some_
 use rt_writes::Entries;
 use std::alloc::{AllocError, Global};
 use std::marker::Model;
-use std::mem;
 
 // The tree, the denied paths, the known connections and those that read version 2, their listens by
 // connection and tag, and what is to be done when they end, by connection and number.
@@ -34,8 +33,8 @@ pub(crate) struct State {
     denied: Vec<Path>,
     connections: Connections,
     newer: Vec<u64>,
-    listens: Vec<Listen>,
-    actions: Vec<Deferred>,
+    listens: Listens,
+    actions: Actions,
 }
 
 impl Drop for State {
@@ -61,8 +60,8 @@ impl Model for State {
       denied = a.denied.items;
       connections = a.connections;
       newer = a.newer.items;
-      listens = a.listens.items;
-      actions = a.actions.items;
+      listens = a.listens;
+      actions = a.actions;
     } };
 }
 
@@ -76,8 +75,8 @@ impl State {
             denied,
             connections: Connections::new(alloc),
             newer: Vec::new(alloc),
-            listens: Vec::new(alloc),
-            actions: Vec::new(alloc),
+            listens: Listens::new(alloc),
+            actions: Actions::new(alloc),
         }
     }
 
@@ -147,17 +146,12 @@ impl State {
     fn keep(&mut self, connection: u64, tag: u64, query: &Query) -> Result<(), AllocError>
         ensures { OnOk result (self.new ≡ kept self.old connection tag query.now) }
     {
-        let alloc = self.alloc();
         let query = query.copy()?;
-        self.unlisten(connection, tag);
-        let listens = mem::replace(&mut self.listens, Vec::new(alloc));
-        let listen = Listen {
+        self.listens.keep(Listen {
             connection,
             tag,
             query,
-        };
-        self.listens = with_listen(alloc, listens, listen)?;
-        Ok(())
+        })
     }
 
     // A listen begins, or is revoked.
@@ -180,7 +174,7 @@ impl State {
     fn unlisten(&mut self, connection: u64, tag: u64)
         ensures { self.new ≡ (unlistened self.old connection tag).0 }
     {
-        remove_listen(&mut self.listens, connection, tag);
+        self.listens.remove(connection, tag);
     }
 
     // Puts the entries into the tree, and adds what the listens are sent.
@@ -195,7 +189,7 @@ impl State {
         let alloc = self.alloc();
         let before = self.tree.copy(alloc)?;
         put_all(alloc, &mut self.tree, entries)?;
-        let pushes = push_all(alloc, &before, &self.tree, entries, &self.listens)?;
+        let pushes = push_all(alloc, &before, &self.tree, entries, self.listens.as_slice())?;
         let mut told = bundle(alloc, &self.newer, pushes)?;
         sent.append(&mut told)?;
         Ok(())
@@ -228,11 +222,8 @@ impl State {
         ensures peer { OnOk result (self.new ≡ (deferred self.old connection id entries).0) }
         ensures sent { IfOk result (λ sent. sent.items ≡ (deferred self.old connection id entries).1) }
     {
-        let alloc = self.alloc();
-        let actions = mem::replace(&mut self.actions, Vec::new(alloc));
-        let action = Deferred::new(connection, id, entries);
-        self.actions = with_action(alloc, actions, action)?;
-        one(alloc, connection, ServerMessage::Accepted { id })
+        self.actions.add(Deferred::new(connection, id, entries))?;
+        one(self.alloc(), connection, ServerMessage::Accepted { id })
     }
 
     // What is to be done at and below the path is dropped.
@@ -244,8 +235,7 @@ impl State {
         if self.is_denied(path) {
             return refuse(alloc, connection, id, "denied");
         }
-        let actions = mem::replace(&mut self.actions, Vec::new(alloc));
-        self.actions = without_entries_below(alloc, actions, connection, path)?;
+        self.actions.drop_below(connection, path)?;
         one(alloc, connection, ServerMessage::Accepted { id })
     }
 
@@ -335,14 +325,10 @@ impl State {
         ensures peer { OnOk result (self.new ≡ ended self.old connection) }
         ensures actions { IfOk result (λ own. own.items ≡ actions_of self.old connection) }
     {
-        let alloc = self.alloc();
         self.connections.remove(connection);
         remove_number(&mut self.newer, connection);
-        remove_listens_of(&mut self.listens, connection);
-        let actions = mem::replace(&mut self.actions, Vec::new(alloc));
-        let (own, others) = parted(alloc, actions, connection)?;
-        self.actions = others;
-        Ok(own)
+        self.listens.remove_of(connection);
+        self.actions.take_of(connection)
     }
 
     // Ends a connection, and runs its actions.
