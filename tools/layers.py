@@ -23,7 +23,7 @@ LAYERS = {
     "core": "rt_world rt_parts rt_sync",
     "client": "rt_mail rt_snapshots rt_client",
     "server": "rt_peer rt_hub rt_turns",
-    "sockets": "rt_socket rt_serve rt_link rt_emulate",
+    "sockets": "rt_socket rt_serve rt_link rt_journal rt_emulate",
     "console": "rt_lines rt_script rt_drive rt_watch rt_words rt_commands rt_console",
     "other languages": "rt_handle rt_foreign rt_ffi",
     "door and tests": "kaltewi rt_tests rt_calls rt_stress",

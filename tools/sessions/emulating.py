@@ -81,6 +81,10 @@ def ok(number):
     return (TEXT, {"id": number, "k": "ok"})
 
 
+def no(number, why):
+    return (TEXT, {"id": number, "k": "no", "why": why})
+
+
 def put(number, path, value):
     return {"id": number, "k": "put", "path": path, "value": value}
 
@@ -151,16 +155,65 @@ def strays_are_told(program, _room):
         must("a ping", client.stream.read(4), b"\x8a\x02hi")
         must("a denied write", client.ask(put(1234, "/s/x", 1), 1), [(TEXT, {"id": 1234, "k": "no", "why": "denied"})])
         must("a denied listen", client.ask({**LISTEN, "path": "/t"}, 1), [(TEXT, {"k": "revoke", "tag": 1, "why": "denied"})])
-        long = {"id": 2, "k": "put", "path": "/a", "value": "y" * 65_537}
+        long = put(2, "/a", "y" * 65_537)
         say(client, long)
-        must("a write behind one that can't be read", client.ask(put(3, "/a", 1), 1), [ok(3)])
+        must("a text that is too long", [client.text()], [no(2, "bad value: a text must have at most 65536 bytes")])
+        must("a write behind one that can't be taken", client.ask(put(3, "/a", 1), 1), [ok(3)])
         client.frame(CLOSE, b"\x0f\xa0bye")
         must("a close with a code", client.stream.read(), b"\x88\x05\x0f\xa0bye")
         it.tells("connection 1 ends: the client closed it with 4000")
         must("how it ends", it.end(), (0, b""))
-        for part in ("passed over: 1 NotJson", "a binary message is passed over", "passed over: 4 BadTree", '"k":"no"', '"k":"revoke"'):
+        shown = 'passed over: 4 BadTree: {"id":2,"k":"put","path":"/a","value":"yyy'
+        for part in ("passed over: 1 NotJson: x", "a binary message is passed over", shown, '"k":"no"', '"k":"revoke"'):
             it.tells("connection 1", part, seconds=1)
-        must("how many messages to it are told", sum("is sent" in line for line in it.told()), 2)
+        must("how many messages to it are told", sum("is sent" in line for line in it.told()), 3)
+
+
+# what can't be taken, and what is said of it, or nothing
+KEY = "a key must have at least one byte, and no control character and none of . $ # [ ] /"
+WHOLE = "a number must be whole, from -9007199254740991 to 9007199254740991"
+ANSWERED = [
+    (put(1, "/a/y", 1.5), f"bad value: {WHOLE}"),
+    (put(2, "/a/y", {"x": {"z": 9_007_199_254_740_992}}), f"bad value: {WHOLE}"),
+    ({"id": 3, "k": "od-put", "path": "/a", "value": {"b": {"c.d": 1}}}, f"bad value: {KEY}"),
+    (put(4, "/a", {"k" * 769: 1}), "bad value: a key must have at most 768 bytes"),
+    (put(5, "/a#", 1.5), f"bad path: {KEY}"),
+    (put(6, "/a" * 33, 1), "bad path: a path must have at most 32 keys, and no value may stand deeper"),
+    (put(7, 7, 1), "bad path: it must be a text"),
+    ({"id": 8, "k": "put", "path": "/a"}, "bad value: there must be one"),
+    ({"id": 9, "k": "merge", "entries": {"/a": 1.5, "/b$": 1}}, f"bad entries: {KEY}"),
+    ({"id": 10, "k": "od-merge", "entries": {"/a": 1, "/b": [0.5]}}, f"bad entries: {WHOLE}"),
+    ({"id": 11, "k": "merge", "entries": []}, "bad entries: it must be an object with a member"),
+    ({"id": 12, "k": "od-cancel", "path": "/a]"}, f"bad path: {KEY}"),
+    (put(13, "/a", list(range(65_536))), "bad value: a value must have at most 65536 values in it"),
+]
+UNANSWERED = [
+    {"id": 1, "k": "putt", "path": "/a", "value": 1.5},
+    {"id": 0, "k": "put", "path": "/a", "value": 1.5},
+    {"id": 1.5, "k": "put", "path": "/a", "value": 1.5},
+    {"k": "put", "path": "/a", "value": 1.5},
+    {"k": "listen", "path": 1, "tag": 1},
+    {"k": "hello", "version": 0},
+    '{"id":1,"k":"put","path":"/a","value":1.5',
+]
+
+
+def bad_requests_are_answered(program, _room):
+    """A request that can't be taken is answered with what is wrong and where, in order; what is none is passed over, and nothing changes."""
+    with Emulator(program, "--tree", '{"a":1}') as it:
+        client, other = Client(it.port), Client(it.port)
+        must("a listen", other.ask(LISTEN, 1), [data("/a", 1)])
+        for text, why in ANSWERED:
+            say(client, text)
+            must(f"the answer to {compact(text)[:80]}", client.text(), no(text["id"], why))
+        for text in UNANSWERED:
+            say(client, text)
+        for text, _ in ANSWERED[:4]:
+            say(client, text)
+        must("answers behind what is passed over", [client.text() for _ in range(4)], [no(text["id"], why) for text, why in ANSWERED[:4]])
+        must("a write behind them", client.ask(put(14, "/a", 2), 1), [ok(14)])
+        must("what another is sent of all that", other.text(), data("/a", 2))
+        must("how it ends", it.end(), (0, b""))
 
 
 def versions_are_kept_apart(program, _room):
@@ -199,9 +252,9 @@ def broken_ones_are_told_why(program, _room):
         must("what the others are sent at its end", other.stream.read(), b"\x88\x02\x03\xe9")
 
 
-def answered(stream, *origins):
-    """How the answer to a handshake begins that names these origins."""
-    lines = ["GET / HTTP/1.1", "Host: x", "Upgrade: websocket", "Connection: Upgrade", "Sec-WebSocket-Version: 13"]
+def answered(stream, *origins, target="/"):
+    """How the answer to a handshake begins that asks for that target and names these origins."""
+    lines = [f"GET {target} HTTP/1.1", "Host: x", "Upgrade: websocket", "Connection: Upgrade", "Sec-WebSocket-Version: 13"]
     lines += ["Sec-WebSocket-Key: dGhlIHNhbXBsZSBub25jZQ==", *(f"Origin: {origin}" for origin in origins), "", ""]
     stream.sendall("\r\n".join(lines).encode())
     return stream.recv(12)
@@ -221,6 +274,25 @@ def origins_are_asked_for(program, _room):
         must("how it ends", it.end(), (0, b""))
     with Emulator(program) as it, socket.create_connection(("127.0.0.1", it.port), timeout=SECONDS) as stream:
         must("a page of no place", answered(stream, "null"), b"HTTP/1.1 403")
+
+
+OTHER_PROTOCOL = "a Firebase SDK speaks another protocol than this server, which speaks that of docs/FORMATS.md"
+
+
+def sdks_are_refused(program, _room):
+    """The handshake of a Firebase SDK is refused at once, with one line that says why; another at the same path is not."""
+    sdks = ["/.ws?v=5&ns=demo-default-rtdb", "/.ws?ls=ab&p=1:2:web:3&v=5", "/.ws?ns=demo"]
+    others = ["/.ws", "/.ws?v=55", "/?v=5&ns=demo"]
+    with Emulator(program) as it:
+        for target, status in [*((target, 400) for target in sdks), *((target, 101) for target in others)]:
+            with socket.create_connection(("127.0.0.1", it.port), timeout=SECONDS) as stream:
+                must(f"a handshake at {target}", answered(stream, target=target), b"HTTP/1.1 %d" % status)
+                if status == 400:
+                    rest = b"".join(iter(lambda: stream.recv(4096), b""))
+                    must(f"the last line of its answer, and its end, at {target}", rest.split(b"\r\n\r\n")[-1].decode(), OTHER_PROTOCOL)
+        it.tells(f"is no WebSocket: {OTHER_PROTOCOL}")
+        must("how it ends", it.end(), (0, b""))
+    must("how many lines say so", sum(OTHER_PROTOCOL in line for line in it.told()), len(sdks))
 
 
 def writers_that_go_are_heard(program, _room):
@@ -337,52 +409,37 @@ def descriptors_come_back(program, _room):
 
 
 def file_is_kept(program, room):
-    """The tree is written while it runs and at the end, and read again, also where it is large or the process is killed."""
+    """The tree is written at the end, and read again, also where it is large or the process is killed."""
     file = f"{room}/tree.json"
     with Emulator(program, "--file", file, "--tree", '{"first":1}') as it:
         client = Client(it.port)
         must("a write", asked(client, put(1, "/a", 5)), ok(1))
         must("what is asked for the end", asked(client, {"id": 2, "k": "od-put", "path": "/end", "value": True}), ok(2))
-        wait_for_file(file, {"first": 1, "a": 5})
         must("a write then", asked(client, put(3, "/a", 6)), ok(3))
         must("how it ends", it.end(), (0, b""))
-        must("what the file has", tree_in(file), {"first": 1, "a": 6, "end": True})
+    must("what the file has", tree_in(file), {"first": 1, "a": 6, "end": True})
     with Emulator(program, "--file", file, "--tree", '{"other":1}') as it:
         must("what is read again", shown(it.port), {"first": 1, "a": 6, "end": True})
         client = Client(it.port)
         many = {f"k{n}": n for n in range(40_000)}
         must("a large write", asked(client, put(1, "/b", many)), ok(1))
         must("another", asked(client, put(2, "/c", many)), ok(2))
-        wait_for_file(file, {"first": 1, "a": 6, "end": True, "b": many, "c": many})
         it.ran.send_signal(signal.SIGKILL)
         it.ran.wait(SECONDS)
     with Emulator(program, "--file", file) as it:
         must("what is there after a kill", len(shown(it.port, "/c")), 40_000)
         must("how it ends", it.end(), (0, b""))
+    must("what the file has then", tree_in(file), {"first": 1, "a": 6, "end": True, "b": many, "c": many})
     with open(file, "w", encoding="utf-8") as out:
         out.write('{"a":{"x":1},"b":[2]}')
     with Emulator(program, "--file", file) as it:
         must("what is there of a file that somebody else wrote", shown(it.port), {"a": {"x": 1}, "b": {"0": 2}})
         must("how it ends", it.end(), (0, b""))
-    with open(file, "w", encoding="utf-8") as out:
-        out.write("[1")
-    ran = subprocess.run([program, "emulate", str(free_port()), "--file", file], stdin=subprocess.DEVNULL, capture_output=True, timeout=SECONDS)
-    must("a file that is no JSON", (ran.returncode, ran.stdout, ran.stderr[:60].split(b":")[0]), (1, b"", b"kaltewi"))
-    must("what it keeps", open(file, encoding="utf-8").read(), "[1")
 
 
 def tree_in(file):
     with open(file, encoding="utf-8") as it:
         return json.load(it)
-
-
-def wait_for_file(file, tree):
-    until = time.monotonic() + 20
-    while time.monotonic() < until:
-        if os.path.exists(file) and tree_in(file) == tree:
-            return
-        time.sleep(0.05)
-    raise Wrong("the file is not written while it runs")
 
 
 def it_ends(program, _room):
@@ -483,9 +540,11 @@ def thousand_clients(program, _room, count=1_000):
 SESSIONS = [
     clients_see_each_other,
     strays_are_told,
+    bad_requests_are_answered,
     versions_are_kept_apart,
     broken_ones_are_told_why,
     origins_are_asked_for,
+    sdks_are_refused,
     writers_that_go_are_heard,
     slow_ones_are_ended,
     floods_hold_nobody_up,

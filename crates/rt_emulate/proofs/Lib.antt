@@ -1,2 +1,2 @@
 mod Behind
-mod Members
+mod Parameters

@@ -1,13 +1,15 @@
 -- What an emulator is to do.
-use Rattle.std.specs.Prelude.{ℕ, List, Option}
+use Rattle.std.specs.Prelude.{ℕ, Bool, List, Option}
 use Rattle.rt_tree.specs.PathTree.{Path, PathTree}
 
 -- the port, after how many connections that have gone it ends, the first tree, the file that the tree is
--- kept in, the paths that are denied, and the origins of other machines whose pages may connect
+-- kept in, whether what is written is on the disk before anybody hears of it, the paths that are denied, and
+-- the origins of other machines whose pages may connect
 pub record Emulation : Type 0 where
   pub port : ℕ
   pub count : Option ℕ
   pub tree : PathTree
   pub file : Option (List ℕ)
+  pub is_synced : Bool
   pub denied : List Path
   pub origins : List (List ℕ)

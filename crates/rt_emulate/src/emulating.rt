@@ -11,6 +11,7 @@ pub struct Emulating {
     pub(crate) count: Option<u16>,
     pub(crate) tree: Tree,
     pub(crate) file: Option<String>,
+    pub(crate) is_synced: bool,
     pub(crate) denied: Vec<Path>,
     pub(crate) origins: Vec<String>,
 }
@@ -22,6 +23,7 @@ impl Drop for Emulating {
             count: _,
             tree: _,
             file: _,
+            is_synced: _,
             denied: _,
             origins: _,
         } = self;
@@ -39,6 +41,7 @@ impl Model for Emulating {
       count = e.count;
       tree = e.tree;
       file = option_map string_bytes e.file;
+      is_synced = e.is_synced;
       denied = e.denied.items;
       origins = map string_bytes e.origins.items;
     } };
@@ -46,14 +49,15 @@ impl Model for Emulating {
 
 impl Emulating {
     /// A tree is served at the port of 127.0.0.1, until so many connections have gone, if that is given.
-    /// The first tree is that of the file, where there is one, and the tree is kept in it. The paths are
-    /// denied, as at [`rt_peer::Peer::new`], and web pages of these origins may connect, beside those of
-    /// this machine.
+    /// The first tree is that of the file, where there is one, and the tree is kept in it: where that is
+    /// synced, each write is on the disk before anybody hears of it. The paths are denied, as at
+    /// [`rt_peer::Peer::new`], and web pages of these origins may connect, beside those of this machine.
     pub fn new(
         port: u16,
         count: Option<u16>,
         tree: Tree,
         file: Option<String>,
+        is_synced: bool,
         denied: Vec<Path>,
         origins: Vec<String>,
     ) -> Emulating
@@ -62,6 +66,7 @@ impl Emulating {
           count = count;
           tree = tree;
           file = option_map string_bytes file;
+          is_synced = is_synced;
           denied = denied.items;
           origins = map string_bytes origins.items;
         } }
@@ -71,6 +76,7 @@ impl Emulating {
             count,
             tree,
             file,
+            is_synced,
             denied,
             origins,
         }
@@ -86,6 +92,7 @@ impl Emulating {
             count: _,
             tree: first,
             file: _,
+            is_synced: _,
             denied: paths,
             origins: all,
         } = self;

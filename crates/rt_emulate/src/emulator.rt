@@ -3,18 +3,23 @@ use crate::edge::{Edge, LISTENER, Stopper, WAKER};
 use crate::emulating::Emulating;
 use crate::fault::EmulateFault;
 use crate::guests::Guests;
-use crate::kept::Kept;
+use crate::halt::Halt;
+use crate::keeper::{Keeper, say};
 use crate::telling;
 use mio::net::TcpStream;
 use rt_hub::{Bounds, Hub};
 use rt_input::Log;
-use rt_peer::PeerError;
-use std::alloc::{AllocError, AllocGlobal, Global};
+use rt_journal::Journal;
+use rt_tree::Tree;
+use std::alloc::{AllocGlobal, Global};
+use std::fs::File;
 use std::io;
 use std::io::ErrorKind;
 use std::net::{Net, SocketAddr};
+use std::random::RandomSource;
 use std::rt::{Clock, Files};
 use std::sync::Wait;
+use std::thread::Threads;
 
 // How many that connect are let in at once.
 const MOST_ACCEPTED: usize = 256;
@@ -27,7 +32,6 @@ pub struct Emulator {
     alloc: Global,
     edge: Edge,
     guests: Guests<TcpStream>,
-    kept: Option<Kept>,
     count: Option<u16>,
     // How many milliseconds have passed since the start.
     now: u64,
@@ -43,7 +47,6 @@ impl Drop for Emulator {
             alloc: _,
             edge: _,
             guests: _,
-            kept: _,
             count: _,
             now: _,
             has_visitor: _,
@@ -52,27 +55,37 @@ impl Drop for Emulator {
     }
 }
 
-// Where the tree is kept, which is read first, if there is a file.
-fn keep<Y: Files + AllocGlobal>(
+// The journal of the file that the tree is kept in, if there is one. Its tree is the first one then.
+fn journal_of<Y, L>(
     system: &Y,
-    alloc: Global,
     emulating: &mut Emulating,
-) -> Result<Option<Kept>, EmulateFault> {
+    log: &mut L,
+) -> Result<Option<Journal>, EmulateFault>
+where
+    Y: Files<File = File> + RandomSource + AllocGlobal,
+    L: Log,
+{
     let Some(file) = emulating.file.take() else {
         return Ok(None);
     };
-    let kept = Kept::of(alloc, file)?;
-    if let Some(tree) = kept.read(system, alloc)? {
-        emulating.tree = tree;
-    }
-    Ok(Some(kept))
+    let first = std::mem::replace(&mut emulating.tree, Tree::null());
+    let is_synced = emulating.is_synced;
+    let (journal, tree, notice) = Journal::open(system, file, first, is_synced)?.into_parts();
+    emulating.tree = tree;
+    say(&journal, notice, log);
+    Ok(Some(journal))
 }
 
 // Nobody has come yet to what is served.
-fn guests_of(alloc: Global, emulating: Emulating, is_telling: bool) -> Guests<TcpStream> {
+fn guests_of(
+    alloc: Global,
+    emulating: Emulating,
+    journal: Option<Journal>,
+    is_telling: bool,
+) -> Guests<TcpStream> {
     let (tree, denied, origins) = emulating.into_parts();
     let hub = Hub::new(alloc, tree, denied, Bounds::full());
-    Guests::new(alloc, hub, origins, is_telling)
+    Guests::new(alloc, hub, Keeper::new(journal), origins, is_telling)
 }
 
 impl Emulator {
@@ -80,25 +93,29 @@ impl Emulator {
     ///
     /// # Errors
     ///
-    /// `Unread` where the file can't be read, `NoTree` where it has no tree, `NotBound` where the port
-    /// can't be bound, `NotWaited` where the system has nothing to wait with, each with the reason;
-    /// `NoMemory` where memory is lacking.
-    pub fn open<R: Net, Y: Files + Clock + AllocGlobal, L: Log>(
+    /// `NotKept` where the file can't be read or written, has no tree, or is another emulator's, `NotBound`
+    /// where the port can't be bound, `NotWaited` where the system has nothing to wait with, each with the
+    /// reason; `NoMemory` where memory is lacking.
+    pub fn open<R, Y, L>(
         rt: &R,
         system: &Y,
         mut emulating: Emulating,
         log: &mut L,
-    ) -> Result<Emulator, EmulateFault> {
+    ) -> Result<Emulator, EmulateFault>
+    where
+        R: Net,
+        Y: Files<File = File> + RandomSource + Clock + AllocGlobal,
+        L: Log,
+    {
         let alloc = system.alloc();
         let (port, count) = (emulating.port, emulating.count);
-        let kept = keep(system, alloc, &mut emulating)?;
         let edge = Edge::open(rt, system, alloc, port)?;
+        let journal = journal_of(system, &mut emulating, log)?;
         telling::listening(alloc, log, port);
         Ok(Emulator {
             alloc,
             edge,
-            guests: guests_of(alloc, emulating, log.is_on()),
-            kept,
+            guests: guests_of(alloc, emulating, journal, log.is_on()),
             count,
             now: 0,
             has_visitor: false,
@@ -127,17 +144,14 @@ impl Emulator {
         if !self.guests.is_idle() || (self.has_visitor && self.retry_at.is_none()) {
             return Some(0);
         }
-        let kept_at = match &self.kept {
-            Some(kept) => kept.next_at(),
-            None => None,
-        };
+        let kept_at = self.guests.kept_at(self.now);
         let next = sooner(sooner(self.guests.next_alarm(), self.retry_at), kept_at)?;
         Some(next.saturating_sub(self.now))
     }
 
     // Lets in who waits to be let in. Where that fails, it is tried again once a guest has gone or a
     // second has passed.
-    fn let_in<L: Log>(&mut self, log: &mut L) -> Result<(), PeerError> {
+    fn let_in<L: Log>(&mut self, log: &mut L) -> Result<(), Halt> {
         for _ in 0..MOST_ACCEPTED {
             match self.edge.accept() {
                 Ok((stream, from)) => {
@@ -178,7 +192,7 @@ impl Emulator {
         mut stream: TcpStream,
         from: SocketAddr,
         log: &mut L,
-    ) -> Result<(), PeerError> {
+    ) -> Result<(), Halt> {
         let _at_once = stream.set_nodelay(true);
         match self.edge.listen_to(&mut stream, self.guests.next_place()) {
             Ok(()) => self.guests.add(stream, from, self.now),
@@ -190,7 +204,7 @@ impl Emulator {
     }
 
     // Takes what happened, and answers whether it is to stop.
-    fn take(&mut self) -> Result<bool, PeerError> {
+    fn take(&mut self) -> Result<bool, Halt> {
         let mut stops = false;
         for event in self.edge.events() {
             let token = event.token();
@@ -206,7 +220,7 @@ impl Emulator {
     }
 
     // Those that have come have their turns.
-    fn turn<L: Log>(&mut self, log: &mut L) -> Result<(), PeerError> {
+    fn turn<L: Log>(&mut self, log: &mut L) -> Result<(), Halt> {
         let gone = self.guests.gone();
         let is_time = match self.retry_at {
             Some(at) => at <= self.now,
@@ -227,18 +241,6 @@ impl Emulator {
         Ok(())
     }
 
-    // Writes the tree to its file, if it is time.
-    fn write<Y: Files, L: Log>(&mut self, system: &Y, log: &mut L) -> Result<(), AllocError> {
-        let is_changed = self.guests.take_changed();
-        let Some(kept) = &mut self.kept else {
-            return Ok(());
-        };
-        if is_changed {
-            kept.note_change();
-        }
-        kept.write(system, self.alloc, self.guests.tree(), self.now, log)
-    }
-
     // Whether as many connections have gone as are served.
     fn is_done(&self) -> bool {
         match self.count {
@@ -249,58 +251,70 @@ impl Emulator {
 
     // Takes what happened, does all that can be done now without waiting, and answers whether it is to
     // stop.
-    fn work<L: Log>(&mut self, log: &mut L) -> Result<bool, PeerError> {
+    fn work<R, Y, L>(&mut self, rt: &R, system: &Y, log: &mut L) -> Result<bool, Halt>
+    where
+        R: Threads,
+        Y: Files<File = File> + RandomSource,
+        L: Log,
+    {
         let stops = self.take()?;
         self.turn(log)?;
+        self.guests.keep(rt, system, self.now, log)?;
         Ok(stops || self.is_done())
     }
 
     // Serves until it is to stop.
-    fn serve<R: Wait, Y: Files + Clock, L: Log>(
-        &mut self,
-        rt: &R,
-        system: &Y,
-        log: &mut L,
-    ) -> Result<(), EmulateFault> {
+    fn serve<R, Y, L>(&mut self, rt: &R, system: &Y, log: &mut L) -> Result<(), EmulateFault>
+    where
+        R: Wait + Threads,
+        Y: Files<File = File> + RandomSource + Clock,
+        L: Log,
+    {
         for _ in rt.forever() {
             let patience = self.patience();
             if let Err(why) = self.edge.wait(patience) {
                 return Err(EmulateFault::NotWaited(why));
             }
             self.tick(system);
-            let stops = self.work(log)?;
-            self.write(system, log)?;
-            if stops {
-                return Ok(());
+            match self.work(rt, system, log) {
+                Ok(false) => {}
+                Ok(true) => return Ok(()),
+                Err(halt) => return Err(self.guests.fault_of(halt)),
             }
         }
         unreachable!()
     }
 
-    // All go, what they asked for at their end is run, and the tree is written.
-    fn finish<Y: Files, L: Log>(&mut self, system: &Y, log: &mut L) -> Result<(), EmulateFault> {
+    // All go, what they asked for at their end is run, and the tree's file has it all.
+    fn end<R, Y, L>(&mut self, rt: &R, system: &Y, log: &mut L) -> Result<(), Halt>
+    where
+        R: Threads,
+        Y: Files<File = File> + RandomSource,
+        L: Log,
+    {
         self.guests.remove_all(log)?;
-        match &mut self.kept {
-            Some(kept) => kept.write_last(system, self.alloc, self.guests.tree()),
-            None => Ok(()),
-        }
+        self.guests.close(rt, system, log)
     }
 
     /// Serves who connects until it is told to stop, or as many connections have gone as it is to serve.
-    /// Then all connections are ended, and the tree is written to its file.
+    /// Then all connections are ended, and the tree is written to its file. What is accepted before stands
+    /// in the file's journal by the time that its client hears of it.
     ///
     /// # Errors
     ///
-    /// `NotWaited` where the system can't be waited for, `Unwritten` where the file can't be written at
-    /// the end, each with the reason; `NoMemory` where memory is lacking.
-    pub fn run<R: Wait, Y: Files + Clock, L: Log>(
-        mut self,
-        rt: &R,
-        system: &Y,
-        log: &mut L,
-    ) -> Result<(), EmulateFault> {
+    /// `NotWaited` where the system can't be waited for, `NotKept` where the file or its journal can't be
+    /// written, each with the reason; `NoMemory` where memory is lacking.
+    pub fn run<R, Y, L>(mut self, rt: &R, system: &Y, log: &mut L) -> Result<(), EmulateFault>
+    where
+        R: Wait + Threads,
+        Y: Files<File = File> + RandomSource + Clock,
+        L: Log,
+    {
         self.serve(rt, system, log)?;
-        self.finish(system, log)
+        match self.end(rt, system, log) {
+            Ok(()) => Ok(()),
+            Err(halt) => Err(self.guests.fault_of(halt)),
+        }
     }
 }
 

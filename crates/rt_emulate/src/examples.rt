@@ -1,5 +1,6 @@
 // Worked rows.
 ghost use Rattle.rt_emulate.specs.laws.Examples.{AllowedOnes, LocalOnes, NotAllowedOnes, OtherOnes};
+ghost use Rattle.rt_emulate.specs.laws.Examples.{OthersAreNoSdks, SdksAreKnown};
 
 /// Pages of this machine may connect, at any port, and those that are allowed; no others.
 pub fn origin_examples()
@@ -7,4 +8,10 @@ pub fn origin_examples()
     ensures others { OtherOnes }
     ensures allowed { AllowedOnes }
     ensures not_allowed { NotAllowedOnes }
+{}
+
+/// What a Firebase SDK asks for is known by its path and its query; nothing else is taken for it.
+pub fn protocol_examples()
+    ensures sdks { SdksAreKnown }
+    ensures others { OthersAreNoSdks }
 {}

@@ -1,10 +1,9 @@
 // Why an emulator ends early, or does not begin.
 ghost use Rattle.std.specs.Prelude.{◌≡◌};
-ghost use Rattle.rt_emulate.specs.Faults.{code_of, name_of};
+ghost use Rattle.rt_emulate.specs.Faults.{code_of, name_of, of_journal};
 ghost use Rattle.rt_emulate.specs.declared.fault.EmulateFault.TheVariants.{NoMemory};
 
-use rt_peer::PeerError;
-use rt_tree::TreeError;
+use rt_journal::JournalFault;
 use std::alloc::{AllocError, AllocFailed};
 use std::{fmt, io};
 use thiserror::Error;
@@ -16,12 +15,8 @@ pub enum EmulateFault {
     NotBound { port: u16, why: io::Error },
     #[error("connections can't be waited for: {0}")]
     NotWaited(io::Error),
-    #[error("the tree's file {file} can't be read: {why}")]
-    Unread { file: String, why: io::Error },
-    #[error("the tree's file {file} has no tree: {why}")]
-    NoTree { file: String, why: TreeError },
-    #[error("the tree's file {file} can't be written: {why}")]
-    Unwritten { file: String, why: io::Error },
+    #[error("{0}")]
+    NotKept(JournalFault),
     #[error("out of memory")]
     NoMemory,
 }
@@ -31,9 +26,7 @@ impl Drop for EmulateFault {
         match self {
             EmulateFault::NotBound { port: _, why: _ }
             | EmulateFault::NotWaited(_)
-            | EmulateFault::Unread { file: _, why: _ }
-            | EmulateFault::NoTree { file: _, why: _ }
-            | EmulateFault::Unwritten { file: _, why: _ }
+            | EmulateFault::NotKept(_)
             | EmulateFault::NoMemory => {}
         }
     }
@@ -46,17 +39,15 @@ impl fmt::Debug for EmulateFault {
 }
 
 impl EmulateFault {
-    /// The number of the fault, from 1 to 6.
+    /// The number of the fault, from 1 to 4.
     pub fn code(&self) -> u8
         ensures { result ≡ code_of self.now }
     {
         match self {
             EmulateFault::NotBound { .. } => 1,
             EmulateFault::NotWaited(_) => 2,
-            EmulateFault::Unread { .. } => 3,
-            EmulateFault::NoTree { .. } => 4,
-            EmulateFault::Unwritten { .. } => 5,
-            EmulateFault::NoMemory => 6,
+            EmulateFault::NotKept(_) => 3,
+            EmulateFault::NoMemory => 4,
         }
     }
 
@@ -67,9 +58,7 @@ impl EmulateFault {
         match self {
             EmulateFault::NotBound { .. } => "NotBound",
             EmulateFault::NotWaited(_) => "NotWaited",
-            EmulateFault::Unread { .. } => "Unread",
-            EmulateFault::NoTree { .. } => "NoTree",
-            EmulateFault::Unwritten { .. } => "Unwritten",
+            EmulateFault::NotKept(_) => "NotKept",
             EmulateFault::NoMemory => "NoMemory",
         }
     }
@@ -91,15 +80,17 @@ impl<T: Drop> From<AllocFailed<T>> for EmulateFault {
     }
 }
 
-// What a hub is asked for is refused only where memory lacks: its connections are those that it named.
-impl From<PeerError> for EmulateFault {
-    ghost from_gives = { λ _ e. e ≡ NoMemory };
+impl From<JournalFault> for EmulateFault {
+    ghost from_gives = { λ fault e. e ≡ of_journal fault };
 
-    fn from(error: PeerError) -> EmulateFault {
-        match error {
-            PeerError::Failed | PeerError::NoMemory | PeerError::UnknownConnection => {
-                EmulateFault::NoMemory
-            }
+    fn from(fault: JournalFault) -> EmulateFault {
+        match &fault {
+            JournalFault::NoMemory => EmulateFault::NoMemory,
+            JournalFault::Locked { .. }
+            | JournalFault::Unread { .. }
+            | JournalFault::NoTree { .. }
+            | JournalFault::BadLine { .. }
+            | JournalFault::Unwritten { .. } => EmulateFault::NotKept(fault),
         }
     }
 }

@@ -1,22 +1,27 @@
 // Those that have come, over one hub.
 use crate::broken::Broken;
 use crate::ending::Ending;
+use crate::fault::EmulateFault;
 use crate::guest::{Guest, Shaking, Stage, Talk};
+use crate::halt::Halt;
+use crate::keeper::Keeper;
 use crate::origin::Origins;
 use crate::silence::{Due, HANDSHAKE_MS, SILENCE_MS, Silence};
 use crate::socket::Socket;
 use crate::telling;
 use rt_hub::Hub;
 use rt_input::Log;
-use rt_peer::PeerError;
-use rt_tree::Tree;
-use rt_turns::{Handed, Turn, hand_over, leave, take_turn};
+use rt_turns::{Handed, Notes, Turn, hand_over, leave, take_turn};
 use slab::Slab;
 use std::alloc::Global;
 use std::cmp::Reverse;
 use std::collections::BinaryHeap;
+use std::fs::File;
 use std::io::{Read, Write};
 use std::net::SocketAddr;
+use std::random::RandomSource;
+use std::rt::Files;
+use std::thread::Threads;
 use tungstenite::{Error, HandshakeError};
 
 // How many messages of one guest are taken in one turn.
@@ -52,8 +57,8 @@ pub(crate) struct Guests<S: Read + Write + Drop> {
     ready: Vec<usize>,
     // Those to whom what waits is handed over next.
     noted: Vec<usize>,
-    // The connections to which something was sent.
-    told: Vec<u64>,
+    // What turns leave to be done.
+    notes: Notes,
     // How many texts were sent since what waits was handed over.
     sent: usize,
     // When guests are looked at, the next one first.
@@ -61,7 +66,7 @@ pub(crate) struct Guests<S: Read + Write + Drop> {
     // How many have come, and how many connections have gone.
     came: u64,
     gone: u64,
-    is_changed: bool,
+    keeper: Keeper,
 }
 
 impl<S: Read + Write + Drop> Drop for Guests<S> {
@@ -75,12 +80,12 @@ impl<S: Read + Write + Drop> Drop for Guests<S> {
             places: _,
             ready: _,
             noted: _,
-            told: _,
+            notes: _,
             sent: _,
             alarms: _,
             came: _,
             gone: _,
-            is_changed: _,
+            keeper: _,
         } = self;
     }
 }
@@ -90,6 +95,7 @@ impl<S: Read + Write + Drop> Guests<S> {
     pub(crate) fn new(
         alloc: Global,
         hub: Hub,
+        keeper: Keeper,
         allowed: Vec<String>,
         is_telling: bool,
     ) -> Guests<S> {
@@ -102,24 +108,13 @@ impl<S: Read + Write + Drop> Guests<S> {
             places: Vec::new(alloc),
             ready: Vec::new(alloc),
             noted: Vec::new(alloc),
-            told: Vec::new(alloc),
+            notes: Notes::new(alloc),
             sent: 0,
             alarms: BinaryHeap::new(alloc),
             came: 0,
             gone: 0,
-            is_changed: false,
+            keeper,
         }
-    }
-
-    /// The tree as it is.
-    pub(crate) fn tree(&self) -> &Tree {
-        self.hub.tree()
-    }
-
-    /// Whether a message came or a connection ended since this was asked last, so that the tree may have
-    /// changed.
-    pub(crate) fn take_changed(&mut self) -> bool {
-        std::mem::replace(&mut self.is_changed, false)
     }
 
     /// How many there are.
@@ -138,29 +133,29 @@ impl<S: Read + Write + Drop> Guests<S> {
     }
 
     /// One comes, to the next place.
-    pub(crate) fn add(&mut self, stream: S, from: SocketAddr, now: u64) -> Result<(), PeerError> {
+    pub(crate) fn add(&mut self, stream: S, from: SocketAddr, now: u64) -> Result<(), Halt> {
         let Ok(origins) = Origins::of(self.alloc, self.allowed.as_slice()) else {
-            return Err(PeerError::NoMemory);
+            return Err(Halt::NoMemory);
         };
         let serial = self.came;
         let guest = Guest::new(self.alloc, stream, origins, from, serial, now);
         let Ok(place) = self.all.insert(guest) else {
-            return Err(PeerError::NoMemory);
+            return Err(Halt::NoMemory);
         };
         self.came = self.came.saturating_add(1);
         self.set_alarm(now.saturating_add(HANDSHAKE_MS), serial, place)?;
         self.get_ready(place)
     }
 
-    fn set_alarm(&mut self, at: u64, serial: u64, place: usize) -> Result<(), PeerError> {
+    fn set_alarm(&mut self, at: u64, serial: u64, place: usize) -> Result<(), Halt> {
         match self.alarms.push(Reverse((at, serial, place))) {
             Ok(()) => Ok(()),
-            Err(_) => Err(PeerError::NoMemory),
+            Err(_) => Err(Halt::NoMemory),
         }
     }
 
     // The guest at that place has a turn next.
-    fn get_ready(&mut self, place: usize) -> Result<(), PeerError> {
+    fn get_ready(&mut self, place: usize) -> Result<(), Halt> {
         let Some(guest) = self.all.get_mut(place) else {
             return Ok(());
         };
@@ -172,7 +167,7 @@ impl<S: Read + Write + Drop> Guests<S> {
     }
 
     // What waits for the guest at that place is handed over next.
-    fn note(&mut self, place: usize) -> Result<(), PeerError> {
+    fn note(&mut self, place: usize) -> Result<(), Halt> {
         let Some(guest) = self.all.get_mut(place) else {
             return Ok(());
         };
@@ -184,14 +179,14 @@ impl<S: Read + Write + Drop> Guests<S> {
     }
 
     // Notes those to whose connections something was sent.
-    fn note_told(&mut self) -> Result<(), PeerError> {
-        let told = std::mem::replace(&mut self.told, Vec::new(self.alloc));
+    fn note_told(&mut self) -> Result<(), Halt> {
+        let told = std::mem::replace(&mut self.notes.told, Vec::new(self.alloc));
         self.sent = self.sent.saturating_add(told.len());
         self.note_each(told.as_slice())
     }
 
     // Notes the guests of these connections.
-    fn note_each(&mut self, connections: &[u64]) -> Result<(), PeerError> {
+    fn note_each(&mut self, connections: &[u64]) -> Result<(), Halt> {
         for connection in connections {
             if let Some(place) = place_of(self.places.as_slice(), *connection) {
                 self.note(place)?;
@@ -207,7 +202,7 @@ impl<S: Read + Write + Drop> Guests<S> {
         is_readable: bool,
         is_writable: bool,
         now: u64,
-    ) -> Result<(), PeerError> {
+    ) -> Result<(), Halt> {
         let Some(guest) = self.all.get_mut(place) else {
             return Ok(());
         };
@@ -237,13 +232,13 @@ impl<S: Read + Write + Drop> Guests<S> {
     }
 
     /// Each that is ready has a turn, and what waits is handed over.
-    pub(crate) fn turn_all<L: Log>(&mut self, log: &mut L) -> Result<(), PeerError> {
+    pub(crate) fn turn_all<L: Log>(&mut self, log: &mut L) -> Result<(), Halt> {
         let ready = std::mem::replace(&mut self.ready, Vec::new(self.alloc));
         self.turn_each(ready.as_slice(), log)
     }
 
     // The guests at these places have a turn, and what waits is handed over.
-    fn turn_each<L: Log>(&mut self, places: &[usize], log: &mut L) -> Result<(), PeerError> {
+    fn turn_each<L: Log>(&mut self, places: &[usize], log: &mut L) -> Result<(), Halt> {
         for place in places {
             match self.turn(*place, log)? {
                 Turned::Idle => {}
@@ -255,7 +250,7 @@ impl<S: Read + Write + Drop> Guests<S> {
     }
 
     // The guest at that place has a turn.
-    fn turn<L: Log>(&mut self, place: usize, log: &mut L) -> Result<Turned, PeerError> {
+    fn turn<L: Log>(&mut self, place: usize, log: &mut L) -> Result<Turned, Halt> {
         let Some(guest) = self.all.get_mut(place) else {
             return Ok(Turned::Idle);
         };
@@ -278,7 +273,7 @@ impl<S: Read + Write + Drop> Guests<S> {
         from: SocketAddr,
         mut shaking: Shaking<S>,
         log: &mut L,
-    ) -> Result<Turned, PeerError> {
+    ) -> Result<Turned, Halt> {
         shaking.get_mut().await_message();
         match shaking.handshake() {
             Ok(socket) => self.open(place, Socket::new(self.alloc, socket, self.is_telling), log),
@@ -301,7 +296,7 @@ impl<S: Read + Write + Drop> Guests<S> {
         place: usize,
         socket: Socket<S>,
         log: &mut L,
-    ) -> Result<Turned, PeerError> {
+    ) -> Result<Turned, Halt> {
         let Some(guest) = self.all.get_mut(place) else {
             return Ok(Turned::Idle);
         };
@@ -317,7 +312,7 @@ impl<S: Read + Write + Drop> Guests<S> {
     }
 
     // Takes what the guest at that place has to say in its turn.
-    fn listen_to<L: Log>(&mut self, place: usize, log: &mut L) -> Result<Turned, PeerError> {
+    fn listen_to<L: Log>(&mut self, place: usize, log: &mut L) -> Result<Turned, Halt> {
         for _ in 0..TURN_MESSAGES {
             if let Some(turned) = self.take_one(place, log)? {
                 return Ok(turned);
@@ -333,7 +328,7 @@ impl<S: Read + Write + Drop> Guests<S> {
     }
 
     // Takes the next message of the guest at that place. Answers what became of its turn, if it is over.
-    fn take_one<L: Log>(&mut self, place: usize, log: &mut L) -> Result<Option<Turned>, PeerError> {
+    fn take_one<L: Log>(&mut self, place: usize, log: &mut L) -> Result<Option<Turned>, Halt> {
         let Some(guest) = self.all.get_mut(place) else {
             return Ok(Some(Turned::Idle));
         };
@@ -346,7 +341,7 @@ impl<S: Read + Write + Drop> Guests<S> {
             &mut talk.socket,
             talk.connection,
             1,
-            &mut self.told,
+            &mut self.notes,
             log,
         )?;
         match turn {
@@ -355,26 +350,61 @@ impl<S: Read + Write + Drop> Guests<S> {
                 Ok(Some(if is_spent { Turned::More } else { Turned::Idle }))
             }
             Turn::More => {
+                let connection = talk.connection;
                 if talk.socket.was_binary() {
-                    telling::binary_passed_over(self.alloc, log, talk.connection);
+                    telling::binary_passed_over(self.alloc, log, connection);
                 }
-                self.is_changed = true;
+                self.keep_accepted(connection)?;
                 self.note_told()?;
-                Ok(None)
+                self.answer(place)
             }
             Turn::Ended => Ok(Some(Turned::Ends(talk.socket.ending()))),
         }
     }
 
+    // Keeps the requests of the connection that were accepted.
+    fn keep_accepted(&mut self, connection: u64) -> Result<(), Halt> {
+        if self.notes.accepted.is_empty() {
+            return Ok(());
+        }
+        let accepted = std::mem::replace(&mut self.notes.accepted, Vec::new(self.alloc));
+        self.keeper.note(connection, accepted.as_slice())
+    }
+
+    // Sends the guest at that place what it is answered for requests that can't be taken. Answers what
+    // became of its turn, if it is over: it reads nothing, and more waits for it than may.
+    fn answer(&mut self, place: usize) -> Result<Option<Turned>, Halt> {
+        if self.notes.answers.is_empty() {
+            return Ok(None);
+        }
+        let answers = std::mem::replace(&mut self.notes.answers, Vec::new(self.alloc));
+        self.answer_by(place, answers.as_slice())
+    }
+
+    // Sends these texts to the guest at that place.
+    fn answer_by(&mut self, place: usize, texts: &[String]) -> Result<Option<Turned>, Halt> {
+        let Some(guest) = self.all.get_mut(place) else {
+            return Ok(None);
+        };
+        let Stage::Open(talk) = &mut guest.stage else {
+            return Ok(None);
+        };
+        match talk.socket.answer(texts) {
+            Ok(true) => Ok(None),
+            Ok(false) => Ok(Some(Turned::Ends(Ending::Over))),
+            Err(_) => Err(Halt::NoMemory),
+        }
+    }
+
     // Hands over to all that are noted.
-    fn hand_over_all<L: Log>(&mut self, log: &mut L) -> Result<(), PeerError> {
+    fn hand_over_all<L: Log>(&mut self, log: &mut L) -> Result<(), Halt> {
         self.sent = 0;
         let noted = std::mem::replace(&mut self.noted, Vec::new(self.alloc));
         self.hand_over_each(noted.as_slice(), log)
     }
 
     // Hands over to the guests at these places.
-    fn hand_over_each<L: Log>(&mut self, places: &[usize], log: &mut L) -> Result<(), PeerError> {
+    fn hand_over_each<L: Log>(&mut self, places: &[usize], log: &mut L) -> Result<(), Halt> {
         for place in places {
             if let Some(guest) = self.all.get_mut(*place) {
                 guest.is_noted = false;
@@ -387,11 +417,7 @@ impl<S: Read + Write + Drop> Guests<S> {
     }
 
     // Hands over to the guest at that place what waits for it. Answers why it goes, if it does.
-    fn hand_over_to<L: Log>(
-        &mut self,
-        place: usize,
-        log: &mut L,
-    ) -> Result<Option<Ending>, PeerError> {
+    fn hand_over_to<L: Log>(&mut self, place: usize, log: &mut L) -> Result<Option<Ending>, Halt> {
         let Some(guest) = self.all.get_mut(place) else {
             return Ok(None);
         };
@@ -404,8 +430,10 @@ impl<S: Read + Write + Drop> Guests<S> {
         if talk.is_blocked {
             return Ok(None);
         }
+        // What it hears of is kept before.
+        self.keeper.append()?;
         let Ok(handed) = hand_over(&mut self.hub, &mut talk.socket, talk.connection) else {
-            return Err(PeerError::NoMemory);
+            return Err(Halt::NoMemory);
         };
         let refusals = talk.socket.take_refusals();
         telling::refused(self.alloc, log, talk.connection, refusals);
@@ -423,7 +451,7 @@ impl<S: Read + Write + Drop> Guests<S> {
     }
 
     // The guest at that place goes.
-    fn remove<L: Log>(&mut self, place: usize, why: Ending, log: &mut L) -> Result<(), PeerError> {
+    fn remove<L: Log>(&mut self, place: usize, why: Ending, log: &mut L) -> Result<(), Halt> {
         let Some(guest) = self.all.try_remove(place) else {
             return Ok(());
         };
@@ -438,21 +466,16 @@ impl<S: Read + Write + Drop> Guests<S> {
     }
 
     // The connection ends.
-    fn leave<L: Log>(
-        &mut self,
-        connection: u64,
-        why: Ending,
-        log: &mut L,
-    ) -> Result<(), PeerError> {
+    fn leave<L: Log>(&mut self, connection: u64, why: Ending, log: &mut L) -> Result<(), Halt> {
         telling::ended(self.alloc, log, connection, why);
-        leave(&mut self.hub, connection, &mut self.told)?;
+        leave(&mut self.hub, connection, &mut self.notes.told)?;
         self.gone = self.gone.saturating_add(1);
-        self.is_changed = true;
+        self.keeper.note_end(connection)?;
         self.note_told()
     }
 
     /// Looks at each guest whose alarm rings.
-    pub(crate) fn ring_all<L: Log>(&mut self, now: u64, log: &mut L) -> Result<(), PeerError> {
+    pub(crate) fn ring_all<L: Log>(&mut self, now: u64, log: &mut L) -> Result<(), Halt> {
         for _ in 0..u64::MAX {
             match self.next_alarm() {
                 Some(at) if at <= now => {}
@@ -472,7 +495,7 @@ impl<S: Read + Write + Drop> Guests<S> {
         serial: u64,
         now: u64,
         log: &mut L,
-    ) -> Result<(), PeerError> {
+    ) -> Result<(), Halt> {
         let Some(guest) = self.all.get_mut(place) else {
             return Ok(());
         };
@@ -493,14 +516,53 @@ impl<S: Read + Write + Drop> Guests<S> {
         }
     }
 
+    /// Makes the tree's file anew, as far as that is due.
+    pub(crate) fn keep<R, Y, L>(
+        &mut self,
+        rt: &R,
+        system: &Y,
+        now: u64,
+        log: &mut L,
+    ) -> Result<(), Halt>
+    where
+        R: Threads,
+        Y: Files<File = File> + RandomSource,
+        L: Log,
+    {
+        self.keeper.append()?;
+        self.keeper.turn(rt, system, self.hub.tree(), now, log);
+        Ok(())
+    }
+
+    /// When something of the tree's file is due.
+    pub(crate) fn kept_at(&self, now: u64) -> Option<u64> {
+        self.keeper.next_at(now)
+    }
+
+    /// What was accepted stands in the tree's file from now on.
+    pub(crate) fn close<R, Y, L>(&mut self, rt: &R, system: &Y, log: &mut L) -> Result<(), Halt>
+    where
+        R: Threads,
+        Y: Files<File = File> + RandomSource,
+        L: Log,
+    {
+        self.keeper.append()?;
+        self.keeper.close(rt, system, self.hub.tree(), log)
+    }
+
+    /// Why turns ended early, as it is said.
+    pub(crate) fn fault_of(&mut self, halt: Halt) -> EmulateFault {
+        self.keeper.fault_of(halt)
+    }
+
     /// All go.
-    pub(crate) fn remove_all<L: Log>(&mut self, log: &mut L) -> Result<(), PeerError> {
+    pub(crate) fn remove_all<L: Log>(&mut self, log: &mut L) -> Result<(), Halt> {
         let places = self.all_places()?;
         self.stop_each(places.as_slice(), log)
     }
 
     // The places of all.
-    fn all_places(&self) -> Result<Vec<usize>, PeerError> {
+    fn all_places(&self) -> Result<Vec<usize>, Halt> {
         let mut places = Vec::new(self.alloc);
         for (place, _) in self.all.iter() {
             push(&mut places, place)?;
@@ -509,7 +571,7 @@ impl<S: Read + Write + Drop> Guests<S> {
     }
 
     // The guests at these places go.
-    fn stop_each<L: Log>(&mut self, places: &[usize], log: &mut L) -> Result<(), PeerError> {
+    fn stop_each<L: Log>(&mut self, places: &[usize], log: &mut L) -> Result<(), Halt> {
         for place in places {
             self.remove(*place, Ending::Stopped, log)?;
         }
@@ -523,19 +585,19 @@ fn unshaken<L: Log>(
     from: SocketAddr,
     why: Error,
     log: &mut L,
-) -> Result<Turned, PeerError> {
+) -> Result<Turned, Halt> {
     telling::no_socket(alloc, log, from, &why);
     if Broken::of(why).lacks_memory() {
-        Err(PeerError::NoMemory)
+        Err(Halt::NoMemory)
     } else {
         Ok(Turned::Ends(Ending::Refused))
     }
 }
 
-fn push(places: &mut Vec<usize>, place: usize) -> Result<(), PeerError> {
+fn push(places: &mut Vec<usize>, place: usize) -> Result<(), Halt> {
     match places.push(place) {
         Ok(()) => Ok(()),
-        Err(_) => Err(PeerError::NoMemory),
+        Err(_) => Err(Halt::NoMemory),
     }
 }
 
@@ -546,7 +608,7 @@ fn place_of(places: &[usize], connection: u64) -> Option<usize> {
 }
 
 // From now on the connection's guest has that place.
-fn set_place(places: &mut Vec<usize>, connection: u64, place: usize) -> Result<(), PeerError> {
+fn set_place(places: &mut Vec<usize>, connection: u64, place: usize) -> Result<(), Halt> {
     let Some(before) = connection.checked_sub(1) else {
         return Ok(());
     };

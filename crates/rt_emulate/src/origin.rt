@@ -5,9 +5,14 @@ ghost use Rattle.std.specs.List.{list_all, list_any};
 ghost use Rattle.std.specs.Str.{bytes_eq};
 ghost use Rattle.rt_emulate.specs.Origins.{is_local, is_page_of, is_port, may_connect};
 
+use crate::protocol::is_of_sdk;
 use http::{HeaderValue, Request, Response, StatusCode};
 use std::alloc::{AllocError, Global};
 use tungstenite::handshake::server::{Callback, ErrorResponse};
+
+// What a Firebase SDK is answered.
+const OTHER_PROTOCOL: &str =
+    "a Firebase SDK speaks another protocol than this server, which speaks that of docs/FORMATS.md";
 
 // Whether there are digits alone.
 fn are_digits(text: &[u8]) -> bool
@@ -110,6 +115,13 @@ impl Origins {
         }
     }
 
+    // What is answered where that is why a handshake doesn't come about.
+    fn answer(&self, status: StatusCode, why: Result<String, AllocError>) -> ErrorResponse {
+        let mut answer = Response::new(self.alloc, why.ok());
+        *answer.status_mut() = status;
+        answer
+    }
+
     // What a page that is refused is answered.
     fn refusal(&self, origin: Option<&HeaderValue>) -> ErrorResponse {
         let origin = match origin {
@@ -117,9 +129,13 @@ impl Origins {
             None => "that",
         };
         let why = format!(in self.alloc; "a page of {origin} may not connect");
-        let mut answer = Response::new(self.alloc, why.ok());
-        *answer.status_mut() = StatusCode::FORBIDDEN;
-        answer
+        self.answer(StatusCode::FORBIDDEN, why)
+    }
+
+    // What a Firebase SDK is answered.
+    fn other_protocol(&self) -> ErrorResponse {
+        let why = String::from_str(self.alloc, OTHER_PROTOCOL);
+        self.answer(StatusCode::BAD_REQUEST, why)
     }
 }
 
@@ -129,6 +145,9 @@ impl Callback for Origins {
         request: &Request<()>,
         response: Response<()>,
     ) -> Result<Response<()>, ErrorResponse> {
+        if is_of_sdk(request.uri().path(), request.uri().query()) {
+            return Err(self.other_protocol());
+        }
         let mut origins = request.headers().get_all("origin").into_iter();
         let first = origins.next();
         if origins.next().is_none() && self.allows(first) {

@@ -211,6 +211,30 @@ impl<S: Read + Write + Drop> Socket<S> {
         }
     }
 
+    // Writes a text, as far as the stream takes it, and answers what came between.
+    fn write(&mut self, text: &str) -> Result<Option<Broken>, AllocError> {
+        if self.is_telling && is_refusal(text) {
+            self.keep_refusal(text)?;
+        }
+        let message = Message::text(self.alloc, text)?;
+        match done(self.socket.write(message)) {
+            Ok(()) => Ok(None),
+            Err(Broken::NoMemory) => Err(AllocError),
+            Err(why) => Ok(Some(why)),
+        }
+    }
+
+    /// Sends these texts, as far as the stream takes them, and answers whether there was room for what it
+    /// doesn't take for now.
+    pub(crate) fn answer(&mut self, texts: &[String]) -> Result<bool, AllocError> {
+        for text in texts {
+            if let Some(Broken::Full) = self.write(text.as_str())? {
+                return Ok(false);
+            }
+        }
+        Ok(true)
+    }
+
     // Keeps a refusal, to be told.
     fn keep_refusal(&mut self, text: &str) -> Result<(), AllocError> {
         let text = String::from_str(self.alloc, text)?;
@@ -244,15 +268,10 @@ impl<S: Read + Write + Drop> Door for Socket<S> {
     }
 
     fn put(&mut self, text: &str) -> Result<bool, AllocError> {
-        if self.is_telling && is_refusal(text) {
-            self.keep_refusal(text)?;
-        }
-        let message = Message::text(self.alloc, text)?;
-        match done(self.socket.write(message)) {
-            Ok(()) => Ok(true),
-            Err(Broken::NoMemory) => Err(AllocError),
+        match self.write(text)? {
+            None => Ok(true),
             // What would block is taken all the same.
-            Err(why) => Ok(why.would_block()),
+            Some(why) => Ok(why.would_block()),
         }
     }
 

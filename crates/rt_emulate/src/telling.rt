@@ -106,11 +106,9 @@ pub(crate) fn not_accepted<L: Log>(alloc: Global, log: &mut L, why: &io::Error) 
     }
 }
 
-pub(crate) fn not_written<L: Log>(alloc: Global, log: &mut L, file: &str, why: &io::Error) {
+// What is to be said of the tree's file.
+pub(crate) fn of_file<L: Log>(log: &mut L, line: Result<String, AllocError>) {
     if log.is_on() {
-        tell(
-            log,
-            format!(in alloc; "the tree can't be written to {file}: {why}"),
-        );
+        tell(log, line);
     }
 }

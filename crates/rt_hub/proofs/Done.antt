@@ -190,14 +190,14 @@ ended b (Some p) q had mid has n sent slice same lined known told now gone put =
           ∙ sym (leaves p.connections n k);
     })
 
--- to whom something was sent
-pub took_receivers : {R E : Type 0} (items : R → List ℕ) (r : Result R E) (o : Option Peer) (n : ℕ)
-    (m : ClientMessage) (sent slice : List Sent) → slice ≡ sent → fault o n ≡ None
-    → IfSome o (λ p. sent ≡ (answered p n m).1) → IfOk r (λ told. items told ≡ receivers slice)
-    → IfOk r (λ told. IfSome o (λ p. items told ≡ receivers (outcome p (Message n m)).1))
-took_receivers items r None n m sent slice same known is e = if_ok r (λ told h. tt) e
-took_receivers items r (Some p) n m sent slice same known is e =
-    if_ok r (λ told h. h ∙ ap receivers (same ∙ is ∙ ap (λ (x : Outcome). x.1) (is_message p n m known))) e
+-- what is seen of what was sent, as to whom it was
+pub took_seen : {R E X : Type 0} (is_seen : R → X) (seen : List Sent → X) (r : Result R E) (o : Option Peer)
+    (n : ℕ) (m : ClientMessage) (sent slice : List Sent) → slice ≡ sent → fault o n ≡ None
+    → IfSome o (λ p. sent ≡ (answered p n m).1) → IfOk r (λ answer. is_seen answer ≡ seen slice)
+    → IfOk r (λ answer. IfSome o (λ p. is_seen answer ≡ seen (outcome p (Message n m)).1))
+took_seen is_seen seen r None n m sent slice same known is e = if_ok r (λ answer h. tt) e
+took_seen is_seen seen r (Some p) n m sent slice same known is e =
+    if_ok r (λ answer h. h ∙ ap seen (same ∙ is ∙ ap (λ (x : Outcome). x.1) (is_message p n m known))) e
 
 pub ended_receivers : {R E : Type 0} (items : R → List ℕ) (r : Result R E) (o : Option Peer) (n : ℕ)
     (sent slice : List Sent) → slice ≡ sent → fault o n ≡ None

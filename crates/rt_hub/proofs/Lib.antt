@@ -1,5 +1,6 @@
 mod Bytes
 mod Done
+mod Judged
 mod Known
 mod Places
 mod Served

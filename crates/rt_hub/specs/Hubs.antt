@@ -15,6 +15,7 @@ use Rattle.rt_hub.specs.declared.bounds.Bounds.{Bounds}
 use Rattle.rt_hub.specs.declared.hub.Taken.{Taken}
 use Rattle.rt_hub.specs.declared.hub.Taken.TheVariants.{Message as TookMessage, PassedOver}
 use Rattle.rt_hub.specs.Lines.{Line, empty_line, line_of, texts_to, with_texts, without_first}
+use Rattle.rt_hub.specs.Verdicts.{verdict_of}
 
 -- a peer, what may wait for each of its connections, and what does, by the numbers of the connections
 pub record Hub : Type 0 where
@@ -66,11 +67,13 @@ TakesText old n (Err why) new = new ≡ old
 abbrev pub receivers : List Sent → List ℕ
 receivers sent = map (λ s. s.to) sent
 
--- what is answered to a text: to whom something was sent, or why it is no message
+-- what is answered to a text: what became of it and to whom something was sent, or why it is no message
 abbrev pub IsTaken : Peer → ℕ → Result ClientMessage WireError → Taken → Type 0
-IsTaken p n (Ok message) (TookMessage told) = told.items ≡ receivers (outcome p (Message n message)).1
+IsTaken p n (Ok message) (TookMessage verdict told) =
+    (verdict ≡ verdict_of message (outcome p (Message n message)).1)
+    × (told.items ≡ receivers (outcome p (Message n message)).1)
 IsTaken p n (Ok message) (PassedOver e) = ⊥
-IsTaken p n (Err why) (TookMessage told) = ⊥
+IsTaken p n (Err why) (TookMessage verdict told) = ⊥
 IsTaken p n (Err why) (PassedOver e) = e ≡ why
 
 -- ---- what waits is handed over

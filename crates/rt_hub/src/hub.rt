@@ -8,10 +8,12 @@ ghost use Rattle.rt_peer.specs.Peers.{least_free};
 ghost use Rattle.rt_peer.specs.Runs.{Connect, Message, Disconnect, outcome};
 ghost use Rattle.rt_hub.specs.Hubs.{IsHanded, IsMade, IsTaken, TakesText, first_of, line_in, new_hub};
 ghost use Rattle.rt_hub.specs.Hubs.{receivers, refused_as};
+ghost use Rattle.rt_hub.specs.Verdicts.{verdict_of};
 
 use crate::bounds::Bounds;
 use crate::calls::{answer, begin, end};
 use crate::lines::{Lines, has_line, is_over, next_of};
+use crate::verdict::Verdict;
 use rt_peer::{Peer, PeerError};
 use rt_tree::{Path, Tree};
 use rt_wire::{ClientMessage, WireError};
@@ -21,9 +23,9 @@ use std::marker::Model;
 /// What came of a text.
 #[derive(Debug, Drop)]
 pub enum Taken {
-    /// It is a message: to whom something was sent for it, in order, a connection as often as it was sent
-    /// something.
-    Message(Vec<u64>),
+    /// It is a message: what became of it, and to whom something was sent for it, in order, a connection
+    /// as often as it was sent something.
+    Message(Verdict, Vec<u64>),
     /// It is no message of a client, and why.
     PassedOver(WireError),
 }
@@ -113,16 +115,22 @@ impl Hub {
         Ok(())
     }
 
-    // Takes a message of a known connection, and answers to whom something was sent.
-    fn answer(&mut self, connection: u64, message: ClientMessage) -> Result<Vec<u64>, PeerError>
+    // Takes a message of a known connection, and answers what became of it, and to whom something was sent.
+    fn answer(
+        &mut self,
+        connection: u64,
+        message: ClientMessage,
+    ) -> Result<(Verdict, Vec<u64>), PeerError>
         requires { refused_as self.old connection ≡ None }
         ensures made { OnOk result (IsMade self.old (Message connection message) self.new) }
-        ensures told { IfOk result (λ told. IfSome self.old (λ h.
-            told.items ≡ receivers (outcome h.peer (Message connection message)).1)) }
+        ensures judged { IfOk result (λ answer. IfSome self.old (λ h.
+            answer.0 ≡ verdict_of message (outcome h.peer (Message connection message)).1)) }
+        ensures told { IfOk result (λ answer. IfSome self.old (λ h.
+            answer.1.items ≡ receivers (outcome h.peer (Message connection message)).1)) }
         ensures gives_up { OnErr result (self.new ≡ None) }
         ensures memory { IfErr result (λ e. e ≡ PeerError.NoMemory) }
     {
-        let told = answer(
+        let answer = answer(
             &mut self.peer,
             &mut self.lines,
             self.alloc,
@@ -130,8 +138,8 @@ impl Hub {
             connection,
             message,
         );
-        match told {
-            Ok(told) => Ok(told),
+        match answer {
+            Ok(answer) => Ok(answer),
             Err(_) => {
                 self.has_failed = true;
                 Err(PeerError::NoMemory)
@@ -140,7 +148,8 @@ impl Hub {
     }
 
     /// Takes a text of the connection. Where it is a message of a client, what the peer sends for it is put
-    /// behind what waits for those that it is sent to; where it is none, nothing changes.
+    /// behind what waits for those that it is sent to, and whether it is a request that was accepted is
+    /// answered; where it is none, nothing changes.
     ///
     /// # Errors
     ///
@@ -159,7 +168,10 @@ impl Hub {
     {
         self.check(connection)?;
         match ClientMessage::read(self.alloc, words) {
-            Ok(message) => Ok(Taken::Message(self.answer(connection, message)?)),
+            Ok(message) => {
+                let (verdict, told) = self.answer(connection, message)?;
+                Ok(Taken::Message(verdict, told))
+            }
             Err(WireError::NoMemory) => Err(PeerError::NoMemory),
             Err(
                 why @ (WireError::NotJson

@@ -22,8 +22,10 @@ mod hub;
 mod laws;
 mod line;
 mod lines;
+mod verdict;
 
 pub use bounds::{Bounds, MAX_WAITING_BYTES, MAX_WAITING_MESSAGES};
 pub use examples::line_examples;
 pub use hub::{Hub, Taken};
-pub use laws::queue_law;
+pub use laws::{queue_law, verdict_law};
+pub use verdict::{Verdict, When};

@@ -43,7 +43,7 @@ fn count(hub: &mut Hub, connection: u64) -> usize {
 
 fn is_passed_over(taken: &Taken) -> bool {
     match taken {
-        Taken::Message(_) => false,
+        Taken::Message(_, _) => false,
         Taken::PassedOver(_) => true,
     }
 }

@@ -5,7 +5,7 @@ use rt_hub::{Bounds, Hub};
 use rt_input::Silent;
 use rt_peer::PeerError;
 use rt_tree::Tree;
-use rt_turns::{Door, Flushed, Handed, Heard, Turn, hand_over, leave, take_turn};
+use rt_turns::{Door, Flushed, Handed, Heard, Notes, Turn, hand_over, leave, take_turn};
 use std::alloc::{AllocError, Global};
 use std::collections::VecDeque;
 use std::process::Abort;
@@ -16,6 +16,14 @@ const MEMORY: &str = "memory";
 const LISTEN: &str = "{\"k\":\"listen\",\"path\":\"/a\",\"tag\":1}";
 
 const PUT: &str = "{\"k\":\"put\",\"id\":1,\"path\":\"/a\",\"value\":7}";
+
+const AT_END: &str = "{\"k\":\"od-cancel\",\"id\":2,\"path\":\"/a\"}";
+
+// It can't be taken.
+const WRONG: &str = "{\"k\":\"put\",\"id\":3,\"path\":\"/a\"}";
+
+// It is refused: its entries overlap.
+const TWICE: &str = "{\"k\":\"merge\",\"id\":4,\"entries\":{\"/a\":1,\"/a/b\":2}}";
 
 // A door in memory: what it is to give, and what it has taken. It takes so many texts before it fails, and
 // blocks where more than so many are not on their way.
@@ -114,14 +122,8 @@ fn opened(rt: &impl Abort, alloc: Global) -> (Hub, Memory) {
     (hub, door)
 }
 
-fn turn(
-    rt: &impl Abort,
-    hub: &mut Hub,
-    door: &mut Memory,
-    most: usize,
-    told: &mut Vec<u64>,
-) -> Turn {
-    take_turn(door.alloc, hub, door, 1, most, told, &mut Silent).expect(rt, MEMORY)
+fn turn(rt: &impl Abort, hub: &mut Hub, door: &mut Memory, most: usize, notes: &mut Notes) -> Turn {
+    take_turn(door.alloc, hub, door, 1, most, notes, &mut Silent).expect(rt, MEMORY)
 }
 
 fn handed(rt: &impl Abort, hub: &mut Hub, door: &mut Memory) -> Handed {
@@ -131,11 +133,11 @@ fn handed(rt: &impl Abort, hub: &mut Hub, door: &mut Memory) -> Handed {
 #[test]
 fn texts_go_both_ways(rt: HostRuntime) {
     let (mut hub, mut door) = opened(&rt, rt.alloc());
-    let mut told = Vec::new(rt.alloc());
-    assert_eq!(rt; turn(&rt, &mut hub, &mut door, 2, &mut told), Turn::More);
-    assert_eq!(rt; told.as_slice(), [1].as_slice());
-    assert_eq!(rt; turn(&rt, &mut hub, &mut door, 2, &mut told), Turn::Idle);
-    assert_eq!(rt; told.as_slice(), [1, 1, 1].as_slice());
+    let mut notes = Notes::new(rt.alloc());
+    assert_eq!(rt; turn(&rt, &mut hub, &mut door, 2, &mut notes), Turn::More);
+    assert_eq!(rt; notes.told.as_slice(), [1].as_slice());
+    assert_eq!(rt; turn(&rt, &mut hub, &mut door, 2, &mut notes), Turn::Idle);
+    assert_eq!(rt; notes.told.as_slice(), [1, 1, 1].as_slice());
     assert_eq!(rt; handed(&rt, &mut hub, &mut door), Handed::Drained);
     assert_eq!(rt; door.taken.len(), 3);
 }
@@ -143,8 +145,8 @@ fn texts_go_both_ways(rt: HostRuntime) {
 #[test]
 fn a_door_blocks(rt: HostRuntime) {
     let (mut hub, mut door) = opened(&rt, rt.alloc());
-    let mut told = Vec::new(rt.alloc());
-    assert_eq!(rt; turn(&rt, &mut hub, &mut door, 9, &mut told), Turn::Idle);
+    let mut notes = Notes::new(rt.alloc());
+    assert_eq!(rt; turn(&rt, &mut hub, &mut door, 9, &mut notes), Turn::Idle);
     door.flushes = 0;
     assert_eq!(rt; handed(&rt, &mut hub, &mut door), Handed::Blocked);
     assert_eq!(rt; door.taken.len(), 0);
@@ -158,17 +160,29 @@ fn a_door_blocks(rt: HostRuntime) {
 #[test]
 fn a_door_fails_and_ends(rt: HostRuntime) {
     let (mut hub, mut door) = opened(&rt, rt.alloc());
-    let mut told = Vec::new(rt.alloc());
+    let mut notes = Notes::new(rt.alloc());
     door.most = 1;
     door.ends = true;
-    assert_eq!(rt; turn(&rt, &mut hub, &mut door, 9, &mut told), Turn::Ended);
+    assert_eq!(rt; turn(&rt, &mut hub, &mut door, 9, &mut notes), Turn::Ended);
     assert_eq!(rt; handed(&rt, &mut hub, &mut door), Handed::Failed);
     assert_eq!(rt; door.taken.len(), 1);
-    told.clear();
-    leave(&mut hub, 1, &mut told).expect(&rt, MEMORY);
-    assert!(rt; told.is_empty());
+    notes.told.clear();
+    leave(&mut hub, 1, &mut notes.told).expect(&rt, MEMORY);
+    assert!(rt; notes.told.is_empty());
     assert_eq!(rt;
-        leave(&mut hub, 1, &mut told).err(),
+        leave(&mut hub, 1, &mut notes.told).err(),
         Some(PeerError::UnknownConnection)
     );
+}
+
+#[test]
+fn requests_are_noted(rt: HostRuntime) {
+    let (mut hub, mut door) = opened(&rt, rt.alloc());
+    for text in [AT_END, WRONG, TWICE] {
+        door.say(&rt, text);
+    }
+    let mut notes = Notes::new(rt.alloc());
+    assert_eq!(rt; turn(&rt, &mut hub, &mut door, 9, &mut notes), Turn::Idle);
+    assert_eq!(rt; notes.accepted.len(), 2);
+    assert_eq!(rt; notes.answers.len(), 1);
 }

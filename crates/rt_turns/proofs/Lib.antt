@@ -1,4 +1,6 @@
+mod Faults
 mod Handing
 mod Hearing
 mod Joining
+mod Members
 mod Taking

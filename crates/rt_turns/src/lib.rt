@@ -2,22 +2,29 @@
 //! opens no socket and waits for nothing.
 //!
 //! ```text
-//! take_turn(alloc, &mut hub, &mut door, connection, 64, &mut told, log)?; // takes 64 messages at most
-//! hand_over(&mut hub, &mut door, connection)?;                  // gives it what waits, until it blocks
-//! leave(&mut hub, connection, &mut told)?;                      // it ends
+//! let mut notes = Notes::new(alloc);
+//! take_turn(alloc, &mut hub, &mut door, connection, 64, &mut notes, log)?; // takes 64 messages
+//! hand_over(&mut hub, &mut door, connection)?;                             // gives it what waits
+//! leave(&mut hub, connection, &mut notes.told)?;                           // it ends
 //! ```
 //!
-//! `told` then has the connections to which something was sent. What a door gives and takes is seen by
-//! contracts where it is known, as the bytes of std's readers and writers are (`specs/Doors.antt`).
+//! The notes then have the connections to which something was sent, what this one is answered for requests
+//! that can't be taken, and those that were accepted. What a door gives and takes is seen by contracts where
+//! it is known, as the bytes of std's readers and writers are (`specs/Doors.antt`).
 #![tactic(auto)]
 
 mod door;
+mod examples;
 mod hand;
 mod leaving;
+mod notes;
+mod refusal;
 mod take;
 mod telling;
 
 pub use door::{Door, Flushed, Heard};
+pub use examples::{others_are_not_answered, refusals_say_why};
 pub use hand::{Handed, ROUNDS, hand_over};
 pub use leaving::leave;
+pub use notes::{Accepted, Notes};
 pub use take::{Turn, take_turn};

@@ -13,9 +13,8 @@ fn tell<L: Log>(log: &mut L, line: Result<String, AllocError>) {
     }
 }
 
-// The line of a text that was taken: what it begins with, each control character as a blank.
-fn taken_line(alloc: Global, connection: u64, text: &str) -> Result<String, AllocError> {
-    let mut line = format!(in alloc; "connection {connection}: ")?;
+// Puts what a text begins with behind a line, each control character as a blank.
+fn show(line: &mut String, text: &str) -> Result<(), AllocError> {
     for character in text.chars().take(SHOWN) {
         line.push(if character.is_control() {
             ' '
@@ -26,6 +25,28 @@ fn taken_line(alloc: Global, connection: u64, text: &str) -> Result<String, Allo
     if text.len() > SHOWN {
         line.push_str("..")?;
     }
+    Ok(())
+}
+
+// The line of a text that was taken.
+fn taken_line(alloc: Global, connection: u64, text: &str) -> Result<String, AllocError> {
+    let mut line = format!(in alloc; "connection {connection}: ")?;
+    show(&mut line, text)?;
+    Ok(line)
+}
+
+// The line of a text that was passed over.
+fn passed_line(
+    alloc: Global,
+    connection: u64,
+    why: WireError,
+    text: &str,
+) -> Result<String, AllocError> {
+    let (code, name) = (why.code(), why.name());
+    let mut line = format!(in alloc;
+        "connection {connection}: a text is passed over: {code} {name}: "
+    )?;
+    show(&mut line, text)?;
     Ok(line)
 }
 
@@ -35,12 +56,14 @@ pub(crate) fn taken<L: Log>(alloc: Global, log: &mut L, connection: u64, text: &
     }
 }
 
-pub(crate) fn passed_over<L: Log>(alloc: Global, log: &mut L, connection: u64, why: WireError) {
+pub(crate) fn passed_over<L: Log>(
+    alloc: Global,
+    log: &mut L,
+    connection: u64,
+    why: WireError,
+    text: &str,
+) {
     if log.is_on() {
-        let (code, name) = (why.code(), why.name());
-        let line = format!(in alloc;
-            "connection {connection}: a text is passed over: {code} {name}"
-        );
-        tell(log, line);
+        tell(log, passed_line(alloc, connection, why, text));
     }
 }

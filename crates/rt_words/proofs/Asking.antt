@@ -1,5 +1,5 @@
 -- What words ask for, and why they make no command.
-use Rattle.std.proofs.Common.{◌≡◌, ℕ, true, false, List, [], ◌∷◌, Option, Some, None, Result, Ok, Err}
+use Rattle.std.proofs.Common.{◌≡◌, ℕ, Bool, true, false, List, [], ◌∷◌, Option, Some, None, Result, Ok, Err}
 use Rattle.std.proofs.Common.{inl, inr, refl, sym, subst, ap, ap₂, ◌∙◌, codes}
 use Rattle.std.specs.Borrow.{Bor}
 use Rattle.std.specs.Prelude.{◌⊎◌, Box, IfOk, IfSome, IsErrAnd, is_some, if◌then◌else◌, option_map, option_and_then}
@@ -22,7 +22,7 @@ use Rattle.rt_tree.specs.Path.{path_fault, path_keys}
 use Rattle.rt_tree.specs.PathTree.{Path, PathTree}
 use Rattle.rt_tree.specs.declared.error.TreeError.{TreeError}
 use Rattle.rt_words.specs.Words.{Gives, GivesWork, all_texts, count_of, denied_of, emulate_of, emulation_of}
-use Rattle.rt_words.specs.Words.{live_of, number_of, other_of, path_of, paths_of, serving_of, tree_of, watch_of}
+use Rattle.rt_words.specs.Words.{flag_of, live_of, number_of, other_of, path_of, paths_of, serving_of, tree_of, watch_of}
 use Rattle.rt_words.specs.Words.{watching_of, work_of}
 use Rattle.rt_words.specs.declared.words.Asked.{Asked}
 use Rattle.rt_words.specs.declared.words.Serving.{Serving}
@@ -144,26 +144,29 @@ asked_of rows tree denied = record {
   count = count_of (number_of (one_of (codes "count") rows));
   tree = tree;
   file = first_of (codes "file") rows;
+  is_synced = flag_of (one_of (codes "sync") rows);
   denied = denied;
   origins = all_texts (codes "origin") rows;
 }
 
 pub asked_by : (rows : List Row) (port : ℕ) (count : Option ℕ) (tree : PathTree) (file : Option (List ℕ))
-    (denied : List Path) (origins : List (List ℕ))
+    (is_synced : Bool) (denied : List Path) (origins : List (List ℕ))
     → port ≡ number_of (one_of (codes "PORT") rows)
     → count ≡ count_of (number_of (one_of (codes "count") rows))
     → tree_of (first_of (codes "tree") rows) ≡ Some tree → file ≡ first_of (codes "file") rows
+    → is_synced ≡ flag_of (one_of (codes "sync") rows)
     → paths_of (all_texts (codes "deny") rows) ≡ Some denied → origins ≡ all_texts (codes "origin") rows
     → ◌≡◌ {A = Option Emulation} (emulation_of rows) (Some (record {
       port = port;
       count = count;
       tree = tree;
       file = file;
+      is_synced = is_synced;
       denied = denied;
       origins = origins;
     }))
-asked_by rows port count tree file denied origins p n t f d o =
-    rw (p, n, f, o)
+asked_by rows port count tree file is_synced denied origins p n t f s d o =
+    rw (p, n, f, s, o)
     (ap (option_and_then (λ tree. option_map (asked_of rows tree) (paths_of (all_texts (codes "deny") rows)))) t
     ∙ ap (option_map (asked_of rows tree)) d)
 

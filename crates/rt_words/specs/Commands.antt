@@ -65,6 +65,10 @@ gone_rule = record count_rule { defaults = [] }
 abbrev pub file_rule : Rule
 file_rule = record (new_rule (codes "file")) { long = Some (codes "file"); value_names = 1 }
 
+-- `--sync`
+abbrev pub sync_rule : Rule
+sync_rule = record (new_rule (codes "sync")) { long = Some (codes "sync"); action = Some SetTrue }
+
 -- `--deny PATH`, several times
 abbrev pub denies_rule : Rule
 denies_rule = record deny_rule { action = Some Append }
@@ -92,11 +96,15 @@ quiet_rule = record (new_rule (codes "quiet")) {
   action = Some SetTrue;
 }
 
--- `emulate PORT [--tree JSON] [--file FILE] [--deny PATH].. [--origin TEXT].. [--count N] [--no-input] [-q]`
+-- `emulate PORT [--tree JSON] [--file FILE] [--sync] [--deny PATH]..`
+abbrev pub begun_app : App
+begun_app = with_rule (with_rule (with_rule (with_rule (with_rule (new_app (codes "emulate")) port_rule) tree_rule)
+    file_rule) sync_rule) denies_rule
+
+-- and behind that `[--origin TEXT].. [--count N] [--no-input] [-q] [-v]`
 abbrev pub emulate_app : App
-emulate_app = with_rule (with_rule (with_rule (with_rule (with_rule (with_rule (with_rule (with_rule
-    (new_app (codes "emulate")) port_rule) tree_rule) file_rule) denies_rule) origin_rule) gone_rule)
-    no_input_rule) quiet_rule
+emulate_app = with_rule (with_rule (with_rule (with_rule (with_rule begun_app origin_rule) gone_rule)
+    no_input_rule) quiet_rule) verbose_rule
 
 -- `connect PORT [-v]`
 abbrev pub connect_app : App

@@ -71,6 +71,10 @@ all_texts name rows = unwrap_or (all_of name rows) []
 abbrev pub count_of : ℕ → Option ℕ
 count_of n = if n == 0 then None else Some n
 
+-- whether a flag was given, by the text that stands for it
+abbrev pub flag_of : Option (List ℕ) → Bool
+flag_of text = option_map_or (λ t. bytes_eq t (codes "true")) text false
+
 -- what the entries of `emulate` ask for, none where its tree or one of its paths is refused
 abbrev pub emulation_of : List Row → Option Emulation
 emulation_of rows =
@@ -79,6 +83,7 @@ emulation_of rows =
       count = count_of (number_of (one_of (codes "count") rows));
       tree = tree;
       file = first_of (codes "file") rows;
+      is_synced = flag_of (one_of (codes "sync") rows);
       denied = denied;
       origins = all_texts (codes "origin") rows;
     }) (paths_of (all_texts (codes "deny") rows))) (tree_of (first_of (codes "tree") rows))
@@ -99,10 +104,6 @@ other_of None = Script
 other_of (Some (name, rows)) =
     if bytes_eq name (codes "connect") then Connect (number_of (one_of (codes "PORT") rows))
     else watch_of (Some (name, rows))
-
--- whether a flag was given, by the text that stands for it
-abbrev pub flag_of : Option (List ℕ) → Bool
-flag_of text = option_map_or (λ t. bytes_eq t (codes "true")) text false
 
 -- what `emulate` asks for, and that it ends with its input, but where it is to have none
 abbrev pub emulate_of : List Row → Option Work

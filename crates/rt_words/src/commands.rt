@@ -2,10 +2,11 @@
 ghost use Rattle.std.specs.Prelude.{◌≡◌, false, IfOk};
 ghost use Rattle.clap.specs.Words.{app_of, new_app, rule_of};
 ghost use Rattle.clap.specs.declared.builder.command.Command.TheViews.{out-Command as fields_of};
-ghost use Rattle.rt_words.specs.Commands.{base_app, connect_app, console_app, count_rule, deny_rule};
-ghost use Rattle.rt_words.specs.Commands.{denies_rule, emulate_app, file_rule, gone_rule, no_input_rule};
-ghost use Rattle.rt_words.specs.Commands.{origin_rule, port_rule, quiet_rule, script_app, serve_app};
-ghost use Rattle.rt_words.specs.Commands.{idle_rule, tree_rule, verbose_rule, watch_app, whole};
+ghost use Rattle.rt_words.specs.Commands.{base_app, begun_app, connect_app, console_app, count_rule};
+ghost use Rattle.rt_words.specs.Commands.{denies_rule, deny_rule, emulate_app, file_rule, gone_rule};
+ghost use Rattle.rt_words.specs.Commands.{idle_rule, no_input_rule, origin_rule, port_rule, quiet_rule};
+ghost use Rattle.rt_words.specs.Commands.{script_app, serve_app, sync_rule, tree_rule, verbose_rule};
+ghost use Rattle.rt_words.specs.Commands.{watch_app, whole};
 
 use clap::builder::ValueParser;
 use clap::{Arg, ArgAction, Command, value_parser};
@@ -120,9 +121,10 @@ is sent at once to all that listen there.
 It ends with its standard input, at the end of a file or at Ctrl-D, or once N connections have gone. Then
 all connections are ended, and what they asked for at their end is done. In the background, where there is
 no input, --no-input lets it go on until a signal ends it.
-With --file the tree is that of FILE, where there is one, else that of --tree. What has changed is written to
-FILE.new, which then takes FILE's place: a second after the change at most, and at the end. So Ctrl-C loses a
-second at most. A tree of any size is read again.
+With --file the tree is that of FILE, where there is one, else that of --tree. What is accepted stands in
+FILE.log before its client hears of it, so a kill loses nothing of that; with --sync nor does a loss of power.
+Where something was written FILE is made anew, from time to time and at the end. A second emulator on the same
+file is refused. A file that another program changed is left as it is, and the tree goes to FILE.new.
 A web page of another machine is refused, as its browser says by the handshake's Origin, unless --origin
 allows it.
 A client that doesn't read is ended once more than 10000 messages or 16777216 bytes wait for it, and so is
@@ -139,6 +141,9 @@ The first tree, where FILE has none; null where it is left out. Write -5 as --tr
 
 const FILE: &str = "\
 The file that the tree is read from at first, and written to. Write -a as --file=-a";
+
+const SYNC: &str = "\
+Has each write on the disk before its client hears of it, so that a loss of power loses none either";
 
 const ORIGIN: &str = "\
 An origin whose pages may connect, such as https://app.example; may be given several times";
@@ -235,6 +240,18 @@ fn quiet_arg<'a>(alloc: Global) -> Arg<'a>
         .help("Says nothing on standard error but why it ends early")
 }
 
+// `-v`, `--verbose`, of `emulate`, which says what happens without it too
+fn said_arg<'a>(alloc: Global) -> Arg<'a>
+    ensures rule { rule_of result ≡ verbose_rule }
+    ensures local { result.global ≡ false }
+{
+    Arg::new(alloc, "verbose")
+        .short('v')
+        .long("verbose")
+        .action(ArgAction::SetTrue)
+        .help("Says on standard error what happens, as it does without this word")
+}
+
 // `--no-input`
 fn no_input_arg<'a>(alloc: Global) -> Arg<'a>
     ensures rule { rule_of result ≡ no_input_rule }
@@ -267,6 +284,17 @@ fn file_arg<'a>(alloc: Global) -> Arg<'a>
         .long("file")
         .value_name("FILE")
         .help(FILE)
+}
+
+// `--sync`
+fn sync_arg<'a>(alloc: Global) -> Arg<'a>
+    ensures rule { rule_of result ≡ sync_rule }
+    ensures local { result.global ≡ false }
+{
+    Arg::new(alloc, "sync")
+        .long("sync")
+        .action(ArgAction::SetTrue)
+        .help(SYNC)
 }
 
 // `--deny PATH`, several times
@@ -304,9 +332,9 @@ fn first_tree_arg<'a>(alloc: Global) -> Arg<'a>
         .help(FIRST_TREE)
 }
 
-// `emulate`
-pub(crate) fn emulate_command<'a>(alloc: Global) -> Result<Command<'a>, AllocError>
-    ensures app { IfOk result (λ command. app_of command ≡ emulate_app) }
+// `emulate`, with the words that say what it serves
+fn begun_command<'a>(alloc: Global) -> Result<Command<'a>, AllocError>
+    ensures app { IfOk result (λ command. app_of command ≡ begun_app) }
     ensures local { IfOk result (λ command. (fields_of command).has_globals ≡ false) }
 {
     let command = Command::new(alloc, "emulate")
@@ -315,11 +343,23 @@ pub(crate) fn emulate_command<'a>(alloc: Global) -> Result<Command<'a>, AllocErr
         .arg(port_arg(alloc))?
         .arg(first_tree_arg(alloc))?
         .arg(file_arg(alloc))?
-        .arg(denies_arg(alloc))?
+        .arg(sync_arg(alloc))?
+        .arg(denies_arg(alloc))?;
+    Ok(command)
+}
+
+// `emulate`
+pub(crate) fn emulate_command<'a>(alloc: Global) -> Result<Command<'a>, AllocError>
+    ensures app { IfOk result (λ command. app_of command ≡ emulate_app) }
+    ensures local { IfOk result (λ command. (fields_of command).has_globals ≡ false) }
+{
+    let begun = begun_command(alloc)?;
+    let command = begun
         .arg(origin_arg(alloc))?
         .arg(gone_arg(alloc))?
         .arg(no_input_arg(alloc))?
-        .arg(quiet_arg(alloc))?;
+        .arg(quiet_arg(alloc))?
+        .arg(said_arg(alloc))?;
     Ok(command)
 }
 
@@ -399,15 +439,14 @@ pub(crate) fn console_command<'a>(alloc: Global) -> Result<Command<'a>, AllocErr
 {
     let base = base_command(alloc)?;
     let script = script_command(alloc)?;
+    let command = base.subcommand(script)?;
     let serve = serve_command(alloc)?;
+    let command = command.subcommand(serve)?;
     let emulate = emulate_command(alloc)?;
+    let command = command.subcommand(emulate)?;
     let connect = connect_command(alloc)?;
+    let command = command.subcommand(connect)?;
     let watch = watch_command(alloc)?;
-    let command = base
-        .subcommand(script)?
-        .subcommand(serve)?
-        .subcommand(emulate)?
-        .subcommand(connect)?
-        .subcommand(watch)?;
+    let command = command.subcommand(watch)?;
     Ok(command)
 }

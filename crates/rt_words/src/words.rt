@@ -283,10 +283,11 @@ fn read_emulating(alloc: Global, entries: &ArgMatches<'_>) -> Result<Emulating, 
     let tree = read_tree(alloc, Server::Emulate, text(entries, "tree"))?;
     let denied = read_denies(alloc, entries)?;
     let file = copy_of(alloc, text(entries, "file"))?;
+    let is_synced = flag(entries, "sync");
     let origins = read_origins(alloc, entries)?;
     let port = number(entries, "PORT");
     let count = read_count(entries, "count");
-    Ok(Emulating::new(port, count, tree, file, denied, origins))
+    Ok(Emulating::new(port, count, tree, file, is_synced, denied, origins))
 }
 
 // What the entries of `serve` ask for.

@@ -1,7 +1,9 @@
--- Origins that the prover judges, as browsers write them, and such as none writes.
-use Rattle.std.specs.Prelude.{◌≡◌, List, [], ◌∷◌, ℕ, true, false, codes}
+-- Handshakes that the prover judges: origins as browsers write them, and such as none writes; what a Firebase
+-- SDK asks for, and what it doesn't.
+use Rattle.std.specs.Prelude.{◌≡◌, List, [], ◌∷◌, ℕ, true, false, Some, None, codes}
 use Rattle.std.specs.List.{list_all, list_any}
 use Rattle.rt_emulate.specs.Origins.{is_local, may_connect}
+use Rattle.rt_emulate.specs.Protocols.{is_of_sdk}
 
 -- pages of this machine, at any port
 abbrev pub local_ones : List (List ℕ)
@@ -35,3 +37,23 @@ abbrev pub NotAllowedOnes : Type 0
 NotAllowedOnes =
     list_any (λ origin. may_connect origin (app ∷ []))
     (codes "https://app.example:1" ∷ codes "http://app.example" ∷ codes "null" ∷ []) ≡ false
+
+-- what a Firebase SDK asks for: the version stands first, or behind other parameters, or a database is named
+abbrev pub sdk_queries : List (List ℕ)
+sdk_queries =
+    codes "v=5&ns=demo" ∷ codes "v=5" ∷ codes "ns=demo&v=5" ∷ codes "ls=ab&p=1:2:web:3&v=5&ns=x" ∷ codes "a&ns="
+    ∷ []
+
+-- what is no parameter of its
+abbrev pub other_queries : List (List ℕ)
+other_queries = codes "v=6" ∷ codes "v=55" ∷ codes "av=5" ∷ codes "ans=x" ∷ codes "v=5%26" ∷ codes "&" ∷ [] ∷ []
+
+abbrev pub SdksAreKnown : Type 0
+SdksAreKnown = list_all (λ query. is_of_sdk (codes "/.ws") (Some query)) sdk_queries ≡ true
+
+-- another query, another path, and no query
+abbrev pub OthersAreNoSdks : Type 0
+OthersAreNoSdks =
+    (list_any (λ query. is_of_sdk (codes "/.ws") (Some query)) other_queries ≡ false)
+    × (list_any (λ path. is_of_sdk path (Some (codes "v=5&ns=demo"))) (codes "/" ∷ codes "/.wsx" ∷ codes "/a/.ws" ∷ [])
+    ≡ false) × (is_of_sdk (codes "/.ws") None ≡ false)

@@ -5,5 +5,5 @@ use Rattle.rt_turns.proofs.take.take_turn.Given as goal
 abbrev pub invariant-loop : goal.invariant-loop
 invariant-loop g l =
     Hears l.counter l.connection l.initial.hub l.hub (g.D.Door.remaining l.initial.door)
-    (g.D.Door.remaining l.door) l.initial.told.items l.told.items
+    (g.D.Door.remaining l.door) l.initial.notes l.notes
     × (g.D.Door.contents l.door ≡ g.D.Door.contents l.initial.door)

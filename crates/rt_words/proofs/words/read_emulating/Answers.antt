@@ -7,7 +7,7 @@ use Rattle.rt_words.proofs.words.read_emulating.Goals as goal
 pub returns : goal.returns
 returns c =
     let rows = rows_of (found_of c.args.entries.now) in
-    asked_by rows _ _ _ _ _ _ c.number-port.ensures c.read_count-count.ensures
+    asked_by rows _ _ _ _ _ _ _ c.number-port.ensures c.read_count-count.ensures
     (ap tree_of (sym c.text.ensures) ∙ c.in_ok-tree.ensures)
-    (c.in_ok-file.ensures ∙ c.text-2.ensures) c.in_ok-denied.ensures c.in_ok-origins.ensures
+    (c.in_ok-file.ensures ∙ c.text-2.ensures) c.flag-is_synced.ensures c.in_ok-denied.ensures c.in_ok-origins.ensures
     ∙ ap Some (sym c.new.ensures)

@@ -1,0 +1,148 @@
+// Who keeps what was accepted.
+use crate::fault::EmulateFault;
+use crate::halt::Halt;
+use crate::telling;
+use rt_hub::When;
+use rt_input::Log;
+use rt_journal::{Journal, JournalFault, Noted, Notice};
+use rt_tree::Tree;
+use rt_turns::Accepted;
+use std::fs::File;
+use std::random::RandomSource;
+use std::rt::Files;
+use std::thread::Threads;
+
+/// Keeps what was accepted, in the journal of the tree's file, where there is a file.
+pub(crate) struct Keeper {
+    journal: Option<Journal>,
+    // Why it can't be kept any more.
+    fault: Option<JournalFault>,
+}
+
+impl Drop for Keeper {
+    fn drop(self) {
+        let Keeper {
+            journal: _,
+            fault: _,
+        } = self;
+    }
+}
+
+// What kind of request is noted.
+fn noted(when: When) -> Noted {
+    match when {
+        When::Now => Noted::Write,
+        When::AtEnd => Noted::AtEnd,
+    }
+}
+
+// Notes these requests of the connection.
+fn note_each(journal: &mut Journal, connection: u64, all: &[Accepted]) -> Result<(), Halt> {
+    for one in all {
+        journal.note(connection, noted(one.when), one.text.as_str())?;
+    }
+    Ok(())
+}
+
+/// Says what is to be said of the tree's file.
+pub(crate) fn say<L: Log>(journal: &Journal, notice: Option<Notice>, log: &mut L) {
+    if let Some(notice) = notice {
+        telling::of_file(log, journal.line(notice));
+    }
+}
+
+impl Keeper {
+    pub(crate) fn new(journal: Option<Journal>) -> Keeper {
+        Keeper {
+            journal,
+            fault: None,
+        }
+    }
+
+    /// Notes these requests of the connection, which were accepted.
+    pub(crate) fn note(&mut self, connection: u64, all: &[Accepted]) -> Result<(), Halt> {
+        match &mut self.journal {
+            Some(journal) => note_each(journal, connection, all),
+            None => Ok(()),
+        }
+    }
+
+    /// Notes that the connection ended.
+    pub(crate) fn note_end(&mut self, connection: u64) -> Result<(), Halt> {
+        match &mut self.journal {
+            Some(journal) => Ok(journal.note_end(connection)?),
+            None => Ok(()),
+        }
+    }
+
+    // Keeps why it can't be kept any more.
+    fn fail(&mut self, fault: JournalFault) -> Halt {
+        self.fault = Some(fault);
+        Halt::Unkept
+    }
+
+    /// What is noted stands in the journal from now on.
+    pub(crate) fn append(&mut self) -> Result<(), Halt> {
+        let Some(journal) = &mut self.journal else {
+            return Ok(());
+        };
+        match journal.append() {
+            Ok(()) => Ok(()),
+            Err(fault) => Err(self.fail(fault)),
+        }
+    }
+
+    /// Makes the file anew, of that tree, as far as that is due.
+    pub(crate) fn turn<R, Y, L>(&mut self, rt: &R, system: &Y, tree: &Tree, now: u64, log: &mut L)
+    where
+        R: Threads,
+        Y: Files<File = File> + RandomSource,
+        L: Log,
+    {
+        if let Some(journal) = &mut self.journal {
+            let notice = journal.turn(rt, system, tree, now);
+            say(journal, notice, log);
+        }
+    }
+
+    /// When its next turn is to come; none where nothing is due.
+    pub(crate) fn next_at(&self, now: u64) -> Option<u64> {
+        match &self.journal {
+            Some(journal) => journal.next_at(now),
+            None => None,
+        }
+    }
+
+    /// The file is that tree from now on, and its journal goes.
+    pub(crate) fn close<R, Y, L>(
+        &mut self,
+        rt: &R,
+        system: &Y,
+        tree: &Tree,
+        log: &mut L,
+    ) -> Result<(), Halt>
+    where
+        R: Threads,
+        Y: Files<File = File> + RandomSource,
+        L: Log,
+    {
+        let Some(journal) = &mut self.journal else {
+            return Ok(());
+        };
+        match journal.close(rt, system, tree) {
+            Ok(notice) => {
+                say(journal, notice, log);
+                Ok(())
+            }
+            Err(fault) => Err(self.fail(fault)),
+        }
+    }
+
+    /// Why turns ended early, as it is said.
+    pub(crate) fn fault_of(&mut self, halt: Halt) -> EmulateFault {
+        match (halt, self.fault.take()) {
+            (Halt::Unkept, Some(fault)) => EmulateFault::from(fault),
+            (Halt::Unkept, None) | (Halt::NoMemory, _) => EmulateFault::NoMemory,
+        }
+    }
+}

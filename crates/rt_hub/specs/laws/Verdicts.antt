@@ -1,0 +1,40 @@
+-- Which requests are accepted.
+use Rattle.std.specs.Prelude.{◌≡◌, true, ℕ, if◌then◌else◌, List, Option, Some, None}
+use Rattle.rt_wire.specs.declared.request.Ending.TheVariants.{Run, Cancel}
+use Rattle.rt_wire.specs.declared.request.Asked.TheVariants as Asks
+use Rattle.rt_wire.specs.declared.client.ClientMessage.{ClientMessage}
+use Rattle.rt_wire.specs.declared.client.ClientMessage.TheVariants.{Hello, Listen, Unlisten, Ask}
+use Rattle.rt_peer.specs.Peers.{Peer, is_denied, is_known}
+use Rattle.rt_peer.specs.Calls.{entries_of, refusal}
+use Rattle.rt_peer.specs.Runs.{Message, outcome}
+use Rattle.rt_hub.specs.declared.verdict.Verdict.{Verdict}
+use Rattle.rt_hub.specs.declared.verdict.Verdict.TheVariants.{Accepted, Refused, NoRequest}
+use Rattle.rt_hub.specs.declared.verdict.When.{When}
+use Rattle.rt_hub.specs.declared.verdict.When.TheVariants.{Now, AtEnd}
+use Rattle.rt_hub.specs.Verdicts.{verdict_of}
+
+-- on a request with entries, by why they are refused, if they are
+abbrev pub unless_why : When → Option (List ℕ) → Verdict
+unless_why when None = Accepted when
+unless_why when (Some why) = Refused
+
+-- on a message
+abbrev pub judged : Peer → ClientMessage → Verdict
+judged p (Hello version) = NoRequest
+judged p (Listen tag query) = NoRequest
+judged p (Unlisten tag) = NoRequest
+judged p (Ask id (Asks.Now action)) = unless_why Now (refusal p.denied (entries_of action))
+judged p (Ask id (Asks.AtDisconnect (Run action))) = unless_why AtEnd (refusal p.denied (entries_of action))
+judged p (Ask id (Asks.AtDisconnect (Cancel path))) = if is_denied p.denied path then Refused else Accepted AtEnd
+
+-- what is sent for a message of a known connection says so
+abbrev pub RequestsAreJudged : Type 0
+RequestsAreJudged =
+    (p : Peer) (n : ℕ) (message : ClientMessage) → is_known p.connections n ≡ true
+    → verdict_of message (outcome p (Message n message)).1 ≡ judged p message
+
+-- and what is refused leaves the peer as it was
+abbrev pub RefusedChangesNothing : Type 0
+RefusedChangesNothing =
+    (p : Peer) (n : ℕ) (message : ClientMessage) → judged p message ≡ Refused
+    → (outcome p (Message n message)).0 ≡ p

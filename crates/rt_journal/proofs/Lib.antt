@@ -1,0 +1,8 @@
+mod Crosses
+mod Kept
+mod MapCrosses
+mod Members
+mod Pieces
+mod ReadBack
+mod Texts
+mod Written

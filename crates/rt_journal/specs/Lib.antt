@@ -1,0 +1,12 @@
+-- What a reader has to believe: the definitions that public contracts name. In reading order:
+--     Entries   what a journal's lines are, and what is read of them
+--     Replays   what the replay of a journal does
+--     Books     what is noted of a journal, and what it begins anew with
+--     Faults    the numbers and names of faults
+-- laws/ has what is stated for callers, and rows that the prover computes (Examples).
+pub mod Books
+pub mod Due
+pub mod Entries
+pub mod Faults
+pub mod laws
+pub mod Replays

@@ -1,0 +1,219 @@
+// Where a tree's file stands, and what stands beside it.
+use std::alloc::{AllocError, AllocGlobal, Global};
+use std::fs::{File, Metadata, OpenOptions, Permissions};
+use std::io::ErrorKind;
+use std::os::fd::AsFd;
+use std::os::unix::fs::{MetadataExt, OpenOptionsExt, PermissionsExt, fchown};
+use std::path::Path;
+use std::random::RandomSource;
+use std::rt::Files;
+use std::{fs, io};
+
+// How many symbolic links are followed, as by the system.
+const MOST_LINKS: usize = 40;
+
+// Who may read and write a file that is being made, and one that has no older one.
+const OWNER_ALONE: u32 = 0o600;
+
+const AS_ASKED: u32 = 0o666;
+
+// What stands in a name by chance between the name that it stands beside and its digits.
+const MARK: &str = ".kaltewi-";
+
+// How many digits it has.
+const DIGITS: usize = 16;
+
+// The part of a mode that says who may do what.
+const RIGHTS: u32 = 0o7777;
+
+/// A tree's file, its journal, and where the tree goes if another program changed the file.
+pub(crate) struct Place {
+    pub(crate) file: String,
+    pub(crate) log: String,
+    pub(crate) new: String,
+}
+
+impl Drop for Place {
+    fn drop(self) {
+        let Place {
+            file: _,
+            log: _,
+            new: _,
+        } = self;
+    }
+}
+
+impl Place {
+    pub(crate) fn of(alloc: Global, file: String) -> Result<Place, AllocError> {
+        let log = format!(in alloc; "{file}.log")?;
+        let new = format!(in alloc; "{file}.new")?;
+        Ok(Place { file, log, new })
+    }
+}
+
+// What the link of that name leads to.
+fn behind_link<Y: Files>(system: &Y, alloc: Global, name: &str) -> io::Result<String> {
+    let target = system.read_link(alloc, name)?;
+    match Path::new(name).parent() {
+        Some(folder) => Ok(folder.join(alloc, &target)?.into_string()),
+        None => Ok(target.into_string()),
+    }
+}
+
+// Whether the name is a link's.
+fn is_link<Y: Files>(system: &Y, name: &str) -> io::Result<bool> {
+    match fs::symlink_metadata(system, name) {
+        Ok(metadata) => Ok(metadata.is_symlink()),
+        Err(why) if why.kind() == ErrorKind::NotFound => Ok(false),
+        Err(why) => Err(why),
+    }
+}
+
+/// The name of the file itself, where that name may be a link's.
+pub(crate) fn resolved<Y: Files>(system: &Y, alloc: Global, name: &str) -> io::Result<String> {
+    let mut name = String::from_str(alloc, name)?;
+    for _ in 0..MOST_LINKS {
+        if !is_link(system, name.as_str())? {
+            return Ok(name);
+        }
+        name = behind_link(system, alloc, name.as_str())?;
+    }
+    Err(io::Error::from(ErrorKind::FilesystemLoop))
+}
+
+// A name beside a file that nobody can foretell.
+fn name_by_chance<Y: RandomSource>(system: &Y, alloc: Global, file: &str) -> io::Result<String> {
+    let mut bytes = [0; 8];
+    system.fill_bytes(&mut bytes)?;
+    let number = u64::from_le_bytes(bytes);
+    Ok(format!(in alloc; "{file}{MARK}{number:016x}")?)
+}
+
+// Gives a file the owner and the rights of another.
+fn dress(file: &File, like: &Metadata) -> io::Result<()> {
+    let own = file.metadata()?;
+    if own.uid() != like.uid() || own.gid() != like.gid() {
+        fchown(file.as_fd(), Some(like.uid()), Some(like.gid()))?;
+    }
+    file.set_permissions(Permissions::from_mode(like.mode() & RIGHTS))
+}
+
+// A new file of that name, which was there neither as a file nor as a link.
+fn made<Y: Files<File = File>>(system: &Y, name: &str, mode: u32) -> io::Result<File> {
+    let mut options = OpenOptions::new();
+    options.read(true).append(true).create_new(true).mode(mode);
+    options.open(system, name)
+}
+
+/// A new file beside that one, under a name by chance, with the owner and the rights of the other, if there
+/// is one. Answers its name too.
+pub(crate) fn made_beside<Y: Files<File = File> + RandomSource>(
+    system: &Y,
+    alloc: Global,
+    file: &str,
+    like: Option<&Metadata>,
+) -> io::Result<(File, String)> {
+    let name = name_by_chance(system, alloc, file)?;
+    let Some(like) = like else {
+        return Ok((made(system, name.as_str(), AS_ASKED)?, name));
+    };
+    let made = made(system, name.as_str(), OWNER_ALONE)?;
+    match dress(&made, like) {
+        Ok(()) => Ok((made, name)),
+        Err(why) => {
+            let _gone = fs::remove_file(system, name.as_str());
+            Err(why)
+        }
+    }
+}
+
+// The folder of a file, and its name there.
+fn parted(file: &str) -> (&str, &str) {
+    match file.rsplit_once('/') {
+        Some((folder, name)) => (if folder.is_empty() { "/" } else { folder }, name),
+        None => (".", file),
+    }
+}
+
+/// Waits until the disk has what the folder of a file holds.
+pub(crate) fn sync_folder<Y: Files<File = File>>(system: &Y, file: &str) -> io::Result<()> {
+    let (folder, _) = parted(file);
+    File::open(system, folder)?.sync_all()
+}
+
+// Whether these are the digits of a name by chance.
+fn are_digits(digits: &str) -> bool {
+    for digit in digits.as_bytes() {
+        if !digit.is_ascii_hexdigit() {
+            return false;
+        }
+    }
+    digits.len() == DIGITS
+}
+
+// Whether that is a name by chance beside a file of the other name, or beside its journal.
+fn is_by_chance(name: &str, own: &str) -> bool {
+    let Some(rest) = name.strip_prefix(own) else {
+        return false;
+    };
+    let rest = rest.strip_prefix(".log").unwrap_or(rest);
+    match rest.strip_prefix(MARK) {
+        Some(digits) => are_digits(digits),
+        None => false,
+    }
+}
+
+/// Takes away what stands under names by chance beside a file and its journal: whoever made it was killed
+/// meanwhile. Nobody else may have the journal.
+pub(crate) fn take_leavings<Y: Files + AllocGlobal>(system: &Y, file: &str) {
+    let (folder, own) = parted(file);
+    let Ok(entries) = fs::read_dir(&system, folder) else {
+        return;
+    };
+    for entry in entries {
+        if let Ok(entry) = entry {
+            if is_by_chance(entry.file_name(), own) {
+                let _gone = fs::remove_file(system, entry.path());
+            }
+        }
+    }
+}
+
+/// What the plain file of that name is; none where there is none.
+pub(crate) fn plain_at<Y: Files>(system: &Y, name: &str) -> io::Result<Option<Metadata>> {
+    match metadata_at(system, name)? {
+        Some(there) if there.is_file() => Ok(Some(there)),
+        Some(_) | None => Ok(None),
+    }
+}
+
+// Whether the file may be written.
+fn may_write<Y: Files<File = File>>(system: &Y, file: &str) -> io::Result<()> {
+    let mut options = OpenOptions::new();
+    options.write(true);
+    let _open = options.open(system, file)?;
+    Ok(())
+}
+
+/// Whether the file may be written, and a new one be made beside it with its owner and its rights.
+pub(crate) fn may_make<Y: Files<File = File> + RandomSource>(
+    system: &Y,
+    alloc: Global,
+    file: &str,
+) -> io::Result<()> {
+    let like = plain_at(system, file)?;
+    if like.is_some() {
+        may_write(system, file)?;
+    }
+    let (_made, name) = made_beside(system, alloc, file, like.as_ref())?;
+    fs::remove_file(system, name.as_str())
+}
+
+/// What the file of that name is; none where there is none.
+pub(crate) fn metadata_at<Y: Files>(system: &Y, name: &str) -> io::Result<Option<Metadata>> {
+    match fs::symlink_metadata(system, name) {
+        Ok(metadata) => Ok(Some(metadata)),
+        Err(why) if why.kind() == ErrorKind::NotFound => Ok(None),
+        Err(why) => Err(why),
+    }
+}
