@@ -63,7 +63,7 @@ pub use errors::{
 };
 pub use ids::{PushIds, ids_are_keys, keys_rise};
 pub use link::{
-    Answer, Bell, Connection, Link, LinkEnd, LinkFault, Linked, Lost, Passed, Turn,
+    Answer, Answered, Bell, Connection, Link, LinkEnd, LinkFault, Linked, Lost, Passed, Turn,
     link_crossing_law,
 };
 pub use messages::{Asked, ClientMessage, Part, Parts, Peer, Reason, Sent, ServerMessage};

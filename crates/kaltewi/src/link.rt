@@ -75,6 +75,32 @@
 ///     linked.wait_answer(rt, seat, request)
 /// }
 ///
+/// fn nothing_heard(alloc: Global) -> (Mirror, Answered) {
+///     (Mirror::new(alloc), Answered::none())
+/// }
+///
+/// fn write_heard(
+///     rt: &impl Wait,
+///     linked: &Linked,
+///     seat: &mut Seat,
+///     heard: &mut Mirror,
+///     answers: &mut Answered,
+///     (path, tree): (Path, Tree),
+/// ) -> Result<Done, ClientError> {
+///     let action = Action::Put { path, tree };
+///     linked.call(rt, seat, heard, answers, Call::Write { action })
+/// }
+///
+/// fn wait_for_all<R: Wait + Clock>(
+///     rt: &R,
+///     linked: &Linked,
+///     seat: &mut Seat,
+///     heard: &mut Mirror,
+///     answers: &mut Answered,
+/// ) -> Result<usize, ClientError> {
+///     linked.wait_answers(rt, seat, heard, answers, Duration::from_secs(10))
+/// }
+///
 /// fn remove_and_ring(
 ///     rt: &impl Wait,
 ///     linked: &Linked,
@@ -90,7 +116,7 @@
 ///     link.passed_over()
 /// }
 /// ```
-pub use rt_link::{Answer, Link, LinkEnd, LinkFault, Linked};
+pub use rt_link::{Answer, Answered, Link, LinkEnd, LinkFault, Linked};
 
 /// What wakes a link, for a thread that makes no call.
 ///

@@ -1,3 +1,4 @@
 pub mod Crosses
 pub mod Leaving
 pub mod Taken
+pub mod Told

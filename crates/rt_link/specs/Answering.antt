@@ -1,16 +1,26 @@
--- What an item says of a request.
-use Rattle.std.specs.Prelude.{◌≡◌, ◌==◌, ℕ, List, [], ◌∷◌, if◌then◌else◌, Option, Some, None}
+-- What an item says of a request, and what a seat's items say of all of them.
+use Rattle.std.specs.Prelude.{◌≡◌, ◌⊎◌, ◌==◌, ◌+◌, ℕ, min, List, [], ◌∷◌, ◌++◌, if◌then◌else◌}
+use Rattle.std.specs.Prelude.{Option, Some, None, IsTrue, is_some}
+use Rattle.std.specs.List.{fold}
 use Rattle.rt_wire.specs.declared.reason.Reason.{Reason}
+use Rattle.rt_world.specs.declared.call.Call.{Call}
 use Rattle.rt_mail.specs.declared.item.Item.{Item}
 use Rattle.rt_mail.specs.declared.item.Item.TheVariants as item
+use Rattle.rt_mail.specs.Mailbox.{Known, known_of}
+use Rattle.rt_client.specs.declared.done.Done.{Done}
+use Rattle.rt_client.specs.declared.error.ClientError.{ClientError}
+use Rattle.rt_client.specs.declared.error.ClientError.TheVariants as client
 use Rattle.rt_client.specs.Calls.{Seated}
+use Rattle.rt_client.specs.Delivery.{emptied}
+use Rattle.rt_client.specs.Waiting.{IsDone, IsUnmade}
 use Rattle.rt_link.specs.declared.answering.Answer.{Answer}
-use Rattle.rt_link.specs.declared.answering.Answer.TheVariants.{Done, Refused}
+use Rattle.rt_link.specs.declared.answering.Answer.TheVariants as answer
+use Rattle.rt_link.specs.declared.hearing.Answered.{Answered}
 
 -- the server has done it, or refuses it for a reason
 abbrev pub settled_by : Option Reason → Answer
-settled_by None = Done
-settled_by (Some why) = Refused why
+settled_by None = answer.Done
+settled_by (Some why) = answer.Refused why
 
 -- an item says of a request how it is settled, or nothing
 abbrev pub answer_in : Item → ℕ → Option Answer
@@ -19,7 +29,7 @@ answer_in (item.Batch batch) request = None
 answer_in (item.Settled id why) request = if id == request then Some (settled_by why) else None
 answer_in (item.Cancelled listener why) request = None
 
--- so the first of these
+-- the first of some items says so, or nothing
 abbrev pub first_answer : List Item → ℕ → Option Answer
 first_answer [] request = None
 first_answer (i ∷ is) request = answer_in i request
@@ -27,3 +37,65 @@ first_answer (i ∷ is) request = answer_in i request
 -- a seat stays the same one: what its ring holds may change
 abbrev pub IsSameSeat : Seated → Seated → Type 0
 IsSameSeat old new = (new.client ≡ old.client) × (new.number ≡ old.number)
+
+-- ---- what a seat is told is heard
+
+-- before any answer
+abbrev pub none_answered : Answered
+none_answered = record { done = 0; refused = 0 }
+
+-- one more, as far as a count of 64 bits goes
+abbrev pub one_more : ℕ → ℕ
+one_more count = min (count + 1) 18446744073709551615
+
+-- what an item adds: a request that is settled is done, or refused; no other item answers one
+abbrev pub tallied : Answered → Item → Answered
+tallied a (item.Receipt receipt) = a
+tallied a (item.Batch batch) = a
+tallied a (item.Settled id None) = record a { done = one_more a.done }
+tallied a (item.Settled id (Some why)) = record a { refused = one_more a.refused }
+tallied a (item.Cancelled listener why) = a
+
+-- a mirror that has not failed takes all that the seat's ring held, and then what came, in order; each is
+-- counted, and the ring is empty
+pub record HearsAll (old : Seated) (mirror : Option Known) (had : Answered) (new : Seated)
+    (heard : Option Known) (has : Answered) : Type 0 where
+  pub came : List Item
+  pub known : Known
+  pub works : mirror ≡ Some known
+  pub knows : heard ≡ Some (known_of known (old.ring.items ++ came))
+  pub counted : has ≡ fold tallied had (old.ring.items ++ came)
+  pub seat : new ≡ emptied old
+
+-- so it is, or nothing is heard
+abbrev pub Hears : Seated → Option Known → Answered → Seated → Option Known → Answered → Type 0
+Hears old mirror had new heard has =
+    ((new ≡ old) × (heard ≡ mirror) × (has ≡ had)) ⊎ HearsAll old mirror had new heard has
+
+-- why no more is heard: the client or the mirror has failed, or the seat is closed or another client's; or
+-- memory lacks for an item, and the mirror fails
+abbrev pub RefusesHearing : Seated → Option Known → Answered → ClientError → Seated → Option Known
+    → Answered → Type 0
+RefusesHearing old mirror had client.Failed new heard has = Hears old mirror had new heard has
+RefusesHearing old mirror had client.WrongSeat new heard has = Hears old mirror had new heard has
+RefusesHearing old mirror had client.MailboxFull new heard has = ⊥
+RefusesHearing old mirror had client.TooManySeats new heard has = ⊥
+RefusesHearing old mirror had (client.Core why) new heard has = ⊥
+RefusesHearing old mirror had client.NoMemory new heard has =
+    IsTrue (is_some mirror) × (heard ≡ None) × IsSameSeat old new
+
+-- ---- a call behind what is heard
+
+-- the call is made, of the seat as it is then
+pub record IsDoneBehind (old : Seated) (mirror : Option Known) (had : Answered) (c : Call) (done : Done)
+    (new : Seated) (heard : Option Known) (has : Answered) : Type 0 where
+  pub behind : Seated
+  pub hears : Hears old mirror had behind heard has
+  pub made : IsDone behind c done new
+
+-- or it is refused
+pub record IsUnmadeBehind (old : Seated) (mirror : Option Known) (had : Answered) (c : Call)
+    (why : ClientError) (new : Seated) (heard : Option Known) (has : Answered) : Type 0 where
+  pub behind : Seated
+  pub hears : Hears old mirror had behind heard has
+  pub refused : IsUnmade behind c why new

@@ -3,7 +3,7 @@
 --     Turning    what a turn of a connection leaves to be done
 --     Carrying   where a connection stands, and what a turn and a close make of that
 --     Keeping    a link, and how long it waits between the connections that it keeps
---     Answering  what an item says of a request
+--     Answering  what an item says of a request, and what a seat's items say of all of them
 -- laws/ has what goes to threads (Crossing). What a wire gives and takes, and how long a silent server is waited
 -- for, is of rt_socket.
 pub mod Answering

@@ -1,2 +1,3 @@
 -- What only the proofs of this crate need.
 pub mod Counts
+pub mod Trials

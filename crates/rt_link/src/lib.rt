@@ -7,6 +7,7 @@
 //! linked.set(rt, &mut seats[0], path, tree)?;              // in any thread: calls, and wakes the link
 //! linked.client.wait(rt, &mut seats[0])?;                  // sleeps until the seat is told something
 //! link.keep(rt, alloc, &linked, random, address)?;         // in one thread, again and again: a connection
+//! linked.wait_answers(rt, &mut seats[0], &mut mirror, &mut answers, most)?;   // before one ends
 //! linked.stop(rt);                                         // until it is told to stop
 //! ```
 //!
@@ -23,6 +24,7 @@ mod answering;
 mod connection;
 mod crossing;
 mod error;
+mod hearing;
 mod link;
 mod linked;
 mod taking;
@@ -32,6 +34,7 @@ pub use answering::Answer;
 pub use connection::{Connection, Turn};
 pub use crossing::link_crossing_law;
 pub use error::LinkFault;
+pub use hearing::Answered;
 pub use link::{Link, LinkEnd};
 pub use linked::{Bell, Linked};
 pub use rt_socket::{

@@ -214,7 +214,9 @@ impl Linked {
     }
 
     /// Waits until the server has answered a request of the seat, and says what became of it. What else the
-    /// seat is told until then is passed over, so who listens too has a further seat for its requests.
+    /// seat is told until then is passed over, the answers of its other requests too. So who listens has a
+    /// further seat for its requests, and who makes several before one is answered takes
+    /// [`Linked::wait_answers`].
     ///
     /// # Errors
     ///
