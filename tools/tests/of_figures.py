@@ -16,7 +16,7 @@ def loaded(path):
 
 
 gate_table, benchmarks, workspace = loaded("tools/gate_table"), loaded("benchmarks/run"), loaded("tools/workspace")
-beside = loaded("benchmarks/beside")
+beside, dear = loaded("benchmarks/beside"), loaded("tools/dear")
 import proving
 
 SAID = """ok      805 wrong bodies apply, 43 of them central
@@ -28,6 +28,28 @@ FAILED  central wrong bodies refused: not judged: rt_tree/x (9.5 processor minut
 in all 82.2 processor minutes, 45.5 by the clock
 43 passed, 1 failed
 """
+
+
+MODULES = """12.0 Rattle-rt_map-proofs.row.Row.get_mut.Lts.oantt 3.10 900
+10.0 Rattle-rt_map-specs.contracts.row.oantt 1.00 50
+15.5 Rattle-rt_map-proofs.row.Row.get_mut.Proof.oantt 5.00 100
+16.0 Rattle-rt_map-proofs.tree.+put.Lts-Tree-put_at-2-0.oantt 5.60 70
+16.2 Rattle-rt_map-proofs.tree.+put.Tie.oantt 5.70 30
+"""
+
+
+class Dear(unittest.TestCase):
+    def test_what_a_module_took_is_its_functions(self):
+        whole, found = dear.table(MODULES.splitlines(), 3)
+        self.assertAlmostEqual(whole, 6.2)
+        self.assertEqual([it for _, _, it, _ in found], ["row.Row.get_mut", "tree.+put:Tree-put_at", "tree.+put"])
+        self.assertEqual(found[0][:2], (5.5, 1000))
+        self.assertEqual(found[0][3], {"Lts": 2.0, "Proof": 3.5})
+
+    def test_a_crate_has_its_line(self):
+        whole, line = dear.row("rt_map", MODULES.splitlines())
+        self.assertAlmostEqual(whole, 6.2)
+        self.assertEqual(line, "| `rt_map` | 6 | 100 | `Row::get_mut` 6, `Tree::put_at` 0, `+put` 0 |\n")
 
 
 class Figures(unittest.TestCase):

@@ -1,4 +1,5 @@
 pub mod AddLaws
+pub mod AnyLaws
 pub mod ApartLaws
 pub mod ByPathLaws
 pub mod ChangeLaws

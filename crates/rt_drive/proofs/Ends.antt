@@ -1,15 +1,21 @@
 -- What is passed over, message by message.
 use Rattle.std.proofs.Common.{◌≡◌, ℕ, ◌+◌, ◌<◌, ◌≤◌, ◌++◌, ◌∷◌, [], List, length, Result, Ok, Err, arith}
-use Rattle.std.proofs.Common.{inl, inr, refl, subst}
-use Rattle.std.specs.Prelude.{IfOk}
+use Rattle.std.proofs.Common.{inl, inr, refl, subst, sym, Option, Some, None}
+use Rattle.std.specs.Prelude.{IfOk, IfErr, IfSome, OnOk}
+use Rattle.std.specs.declared.alloc.AllocError.{AllocError}
+use Rattle.tungstenite.specs.Connection.{Effect}
+use Rattle.tungstenite.specs.Failure.{WriteFails}
+use Rattle.tungstenite.specs.declared.error.Error.{Error}
+use Rattle.websocket.specs.declared.error.Error.{Error as FrameError}
 use Rattle.std.proofs.lemmas.List.{length-append}
 use Rattle.tungstenite.specs.Socket.{Socket}
 use Rattle.rt_drive.specs.declared.lost.Lost.{Lost}
-use Rattle.rt_drive.specs.declared.lost.Lost.TheVariants.{Kept}
+use Rattle.rt_drive.specs.declared.lost.Lost.TheVariants.{Failed, Kept}
 use Rattle.rt_drive.specs.declared.socket.Heard.TheVariants as heard
 use Rattle.rt_drive.specs.declared.socket.Told.{Told}
-use Rattle.rt_drive.specs.Ending.{Ends, Passes, PassesOver, SaysClose}
+use Rattle.rt_drive.specs.Ending.{Ends, IsUnsent, Passes, PassesOver, SaysClose}
 use Rattle.rt_drive.specs.Hearing.{HearsAfter, Known}
+use Rattle.rt_drive.specs.inside.Sent.{IsUnsentBy}
 
 -- one message more is passed over
 passes_more : {S : Type 0} (k : Known S) (pings n m : ℕ) (a b c : Socket S) (came : List Told) (told : Told)
@@ -74,3 +80,25 @@ pub ends_so : {S E : Type 0} (k : Known S) (most pings : ℕ) (old mid new : Soc
     → IfOk r (λ why. Ends k most pings old why new)
 ends_so k most pings old mid new (Ok why) says h = inr (mid, says, h)
 ends_so k most pings old mid new (Err e) says h = tt
+
+some_lost : (why : Lost) → Some why ≡ None → ⊥
+some_lost why e = cc
+
+none_lost : (why : Lost) → None ≡ Some why → ⊥
+none_lost why e = cc
+
+-- what was to be sent is sent where nothing is lost
+pub sent_so : (P : Type 0) (sent : Result Unit Error) (r : Result (Option Lost) AllocError) → IfOk r (IsUnsentBy sent)
+    → OnOk sent P → IfOk r (λ lost. lost ≡ None → P)
+sent_so P sent (Err e) h p = tt
+sent_so P (Ok done) (Ok lost) h p = λ _. p
+sent_so P (Err e) (Ok None) h p = absurd (none_lost (Failed e) h)
+sent_so P (Err e) (Ok (Some why)) h p = λ same. absurd (some_lost why same)
+
+-- and else the error is why
+pub unsent_so : (step : Result Effect FrameError) (sent : Result Unit Error) (r : Result (Option Lost) AllocError)
+    → IfOk r (IsUnsentBy sent) → IfErr sent (WriteFails step) → IfOk r (λ lost. IfSome lost (IsUnsent step))
+unsent_so step sent (Err e) h p = tt
+unsent_so step sent (Ok None) h p = tt
+unsent_so step (Ok done) (Ok (Some why)) h p = absurd (some_lost why h)
+unsent_so step (Err e) (Ok (Some why)) h p = subst (λ o. IfSome o (IsUnsent step)) (sym h) p

@@ -36,7 +36,6 @@ use std::sync::Wait;
 
 // A client with its seats, its connection, which is gone once it has failed or ended, how many pings and
 // pongs may still come while the line is done, and what was printed and is not written yet.
-#[derive(Drop)]
 struct Driven<'a, R, S, N> {
     rt: &'a R,
     alloc: Global,
@@ -45,6 +44,20 @@ struct Driven<'a, R, S, N> {
     link: Option<Link<S, N>>,
     pings: u32,
     printed: String,
+}
+
+impl<'a, R, S: Drop, N: Drop> Drop for Driven<'a, R, S, N> {
+    fn drop(self) {
+        let Driven {
+            rt: _,
+            alloc: _,
+            client: _,
+            seats: _,
+            link: _,
+            pings: _,
+            printed: _,
+        } = self;
+    }
 }
 
 impl<'a, R: Wait, S: Read + Write + Drop, N: RandomSource + Drop> Driven<'a, R, S, N> {
@@ -188,7 +201,9 @@ impl<'a, R: Wait, S: Read + Write + Drop, N: RandomSource + Drop> Driven<'a, R, 
             return Ok(());
         };
         let messages = take_messages(self.alloc, &mut self.client.shared.lock(self.rt))?;
-        match link.send_all(messages.as_slice(), &mut self.pings)? {
+        let sent = link.send_all(messages.as_slice(), &mut self.pings);
+        drop(messages);
+        match sent? {
             None => Ok(()),
             Some(why) => self.lose_link(&why, log),
         }
@@ -220,7 +235,9 @@ impl<'a, R: Wait, S: Read + Write + Drop, N: RandomSource + Drop> Driven<'a, R, 
                 Ok(true)
             }
             Heard::Ended(why) => {
-                self.lose_link(&why, log)?;
+                let lost = self.lose_link(&why, log);
+                drop(why);
+                lost?;
                 Ok(false)
             }
         }

@@ -17,11 +17,20 @@ use std::io::{Read, Write};
 use std::random::RandomSource;
 
 // A connection that stands.
-#[derive(Drop)]
 pub(crate) struct Link<S, N> {
     alloc: Global,
     socket: Socket<S, N>,
     ahead: Ahead,
+}
+
+impl<S: Drop, N: Drop> Drop for Link<S, N> {
+    fn drop(self) {
+        let Link {
+            alloc: _,
+            socket: _,
+            ahead: _,
+        } = self;
+    }
 }
 
 // Notes what a text answers. One that is no message answers nothing.
@@ -36,6 +45,16 @@ fn note(alloc: Global, ahead: &mut Ahead, words: &str) -> Result<(), AllocError>
         ) => {}
     }
     Ok(())
+}
+
+// Notes what was heard of the socket.
+fn note_heard(alloc: Global, ahead: &mut Ahead, heard: &Heard) -> Result<(), AllocError>
+    ensures { OnOk result (ahead.new ≡ heard_by heard.now ahead.old) }
+{
+    match heard {
+        Heard::Told(Told::Text(words)) => note(alloc, ahead, words.as_str()),
+        Heard::Told(Told::Binary) | Heard::Ended(_) => Ok(()),
+    }
 }
 
 impl<S: Read + Write + Drop, N: RandomSource + Drop> Link<S, N> {
@@ -55,11 +74,13 @@ impl<S: Read + Write + Drop, N: RandomSource + Drop> Link<S, N> {
         ensures { IfOk result (λ heard. self.new.ahead ≡ heard_by heard self.old.ahead) }
     {
         let heard = hear(&mut self.socket, pings)?;
-        match &heard {
-            Heard::Told(Told::Text(words)) => note(self.alloc, &mut self.ahead, words.as_str())?,
-            Heard::Told(Told::Binary) | Heard::Ended(_) => {}
+        match note_heard(self.alloc, &mut self.ahead, &heard) {
+            Ok(()) => Ok(heard),
+            Err(lacking) => {
+                drop(heard);
+                Err(lacking)
+            }
         }
-        Ok(heard)
     }
 
     // The next message of the server: one that was read ahead, if there is one.

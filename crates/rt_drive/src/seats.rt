@@ -83,11 +83,15 @@ pub(crate) fn make_call(
         × Calls shared.old seats.old.items number call text shared.new seats.new.items) }
 {
     let Some(place) = place_of(seats, number) else {
+        drop(call);
         return write_why(out, ClientError::WrongSeat);
     };
     match &mut seats[place] {
         Some(seat) => call_open(out, shared, seat, call),
-        None => write_why(out, ClientError::WrongSeat),
+        None => {
+            drop(call);
+            write_why(out, ClientError::WrongSeat)
+        }
     }
 }
 
@@ -101,10 +105,13 @@ fn close_open(out: &mut String, shared: &mut Shared, seat: Seat) -> Result<Optio
             write_outcome(out, Outcome::Done, None)?;
             Ok(None)
         }
-        Err(unclosed) => {
-            write_why(out, unclosed.why)?;
-            Ok(Some(unclosed.seat))
-        }
+        Err(unclosed) => match write_why(out, unclosed.why) {
+            Ok(()) => Ok(Some(unclosed.seat)),
+            Err(lacking) => {
+                drop(unclosed);
+                Err(lacking)
+            }
+        },
     }
 }
 
@@ -134,7 +141,11 @@ pub(crate) fn show_cover(out: &mut String, alloc: Global, shared: &Shared) -> Re
         × Shows shared.now text) }
 {
     match shared.cover() {
-        Ok(kept) => write_cover(out, alloc, kept.as_slice()),
+        Ok(kept) => {
+            let written = write_cover(out, alloc, kept.as_slice());
+            drop(kept);
+            written
+        }
         Err(why) => write_why(out, why),
     }
 }
@@ -261,7 +272,9 @@ fn tell_ring(out: &mut String, alloc: Global, seat: &mut Seat) -> Result<bool, A
 {
     let mut any = false;
     'items: while let Some(item) = seat.next() {
-        write_item(out, alloc, &item)?;
+        let written = write_item(out, alloc, &item);
+        drop(item);
+        written?;
         any = true;
     }
     Ok(any)

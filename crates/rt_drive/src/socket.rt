@@ -6,9 +6,10 @@ ghost use Rattle.tungstenite.specs.Socket.{Writes};
 ghost use Rattle.rt_input.specs.Counted.{known_output};
 ghost use Rattle.rt_drive.specs.Ahead.{byte_count};
 ghost use Rattle.rt_drive.specs.Ending.{Ends, IsUnsent, PassesOver};
-ghost use Rattle.rt_drive.specs.Hearing.{AnswersIf, Hears, HearsAfter, closed_by, heard_from, heard_of};
-ghost use Rattle.rt_drive.specs.Hearing.{is_close, is_spent, known};
+ghost use Rattle.rt_drive.specs.Hearing.{AnswersIf, Hears, HearsAfter, closed_by, heard_error, heard_of};
+ghost use Rattle.rt_drive.specs.Hearing.{is_spent, known};
 ghost use Rattle.rt_drive.specs.Opening.{IsOpened, ends_it, is_end};
+ghost use Rattle.rt_drive.specs.inside.Sent.{IsUnsentBy};
 
 use crate::lost::Lost;
 use rt_input::{Counted, MAX_MESSAGE_BYTES};
@@ -56,6 +57,16 @@ pub(crate) enum Heard {
     Ended(Lost),
 }
 
+// Why a handshake does not come about; want of memory ends a run.
+fn unopened(why: Error) -> Result<Lost, AllocError>
+    ensures { IfOk result (λ lost. is_end lost ≡ false) }
+{
+    match why {
+        Error::OutOfMemory => Err(AllocError),
+        why => Ok(Lost::NoHandshake(why)),
+    }
+}
+
 // The socket of a stream, or why the handshake does not come about. At most MAX_MESSAGE_BYTES are read for
 // one message, which may be as long.
 pub(crate) fn opened<S: Read + Write + Drop, N: RandomSource + Drop>(
@@ -67,21 +78,26 @@ pub(crate) fn opened<S: Read + Write + Drop, N: RandomSource + Drop>(
     ensures why { IfOk result (λ opened. IfErr opened (λ why. is_end why ≡ false)) }
 {
     // The address is one, so that only memory can lack.
-    let Ok(request) = request_of(alloc, ADDRESS) else {
-        return Err(AllocError);
+    let request = match request_of(alloc, ADDRESS) {
+        Ok(request) => request,
+        Err(why) => {
+            drop(why);
+            return Err(AllocError);
+        }
     };
     let stream = Counted::new(stream, MAX_MESSAGE_BYTES);
     match tungstenite::client(alloc, random, request, stream) {
-        Ok((mut socket, _response)) => {
+        Ok((mut socket, response)) => {
+            drop(response);
             let limits = WebSocketConfig::default()
                 .max_message_size(Some(MAX_MESSAGE_BYTES))
                 .max_frame_size(Some(MAX_MESSAGE_BYTES));
             socket.set_config(limits);
             Ok(Ok(socket))
         }
-        Err(HandshakeError::Failure(Error::OutOfMemory)) => Err(AllocError),
-        Err(HandshakeError::Failure(why)) => Ok(Err(Lost::NoHandshake(why))),
-        Err(HandshakeError::Interrupted(_)) => {
+        Err(HandshakeError::Failure(why)) => Ok(Err(unopened(why)?)),
+        Err(HandshakeError::Interrupted(handshake)) => {
+            drop(handshake);
             Ok(Err(Lost::NoHandshake(Error::HandshakeIncomplete)))
         }
     }
@@ -111,25 +127,14 @@ fn told_by(message: Message) -> Option<Heard>
     }
 }
 
-// What a read of the socket says; none for a ping or a pong.
-fn heard_from(read: Result<Message, Error>) -> Result<Option<Heard>, AllocError>
-    ensures heard { result ≡ heard_from read }
+// What an error of a read says; want of memory ends a run.
+fn heard_error(why: Error) -> Result<Option<Heard>, AllocError>
+    ensures heard { result ≡ heard_error why }
     ensures end { IfOk result (λ heard. IfSome heard (λ h. ends_it h ≡ true)) }
 {
-    match read {
-        Ok(message) => Ok(told_by(message)),
-        Err(Error::OutOfMemory) => Err(AllocError),
-        Err(why) => Ok(Some(Heard::Ended(Lost::Failed(why)))),
-    }
-}
-
-// Whether a read gave a close.
-fn is_close(read: &Result<Message, Error>) -> bool
-    ensures { result ≡ is_close read.now }
-{
-    match read {
-        Ok(message) => message.is_close(),
-        Err(_) => false,
+    match why {
+        Error::OutOfMemory => Err(AllocError),
+        why => Ok(Some(Heard::Ended(Lost::Failed(why)))),
     }
 }
 
@@ -154,9 +159,13 @@ fn read<S: Read + Write + Drop, N: RandomSource + Drop>(
     ensures unspent { IfOk result (λ heard. IfSome heard (λ h. is_spent h ≡ false)) }
     ensures end { IfOk result (λ heard. IfSome heard (λ h. ends_it h ≡ true)) }
 {
-    let read = socket.read();
-    answer_close(socket, is_close(&read));
-    heard_from(read)
+    match socket.read() {
+        Ok(message) => {
+            answer_close(socket, message.is_close());
+            Ok(told_by(message))
+        }
+        Err(why) => heard_error(why),
+    }
 }
 
 // The next message of the socket. Pings and pongs are passed over, so many of them: with the last the
@@ -192,7 +201,20 @@ pub(crate) fn hear<S: Read + Write + Drop, N: RandomSource + Drop>(
     hear_on(socket, pings)
 }
 
+// Why what was to be sent is not sent, if it is not; want of memory ends a run.
+fn unsent_by(sent: Result<(), Error>) -> Result<Option<Lost>, AllocError>
+    ensures unsent { IfOk result (IsUnsentBy sent) }
+    ensures end { IfOk result (λ lost. IfSome lost (λ why. is_end why ≡ true)) }
+{
+    match sent {
+        Ok(()) => Ok(None),
+        Err(Error::OutOfMemory) => Err(AllocError),
+        Err(why) => Ok(Some(Lost::Failed(why))),
+    }
+}
+
 // Sends a text, and answers why it could not be sent, if it could not.
+#[tactic(auto, using(crate::proofs::Ends::sent_so, crate::proofs::Ends::unsent_so))]
 pub(crate) fn send<S: Read + Write + Drop, N: RandomSource + Drop>(
     alloc: Global,
     socket: &mut Socket<S, N>,
@@ -205,14 +227,11 @@ pub(crate) fn send<S: Read + Write + Drop, N: RandomSource + Drop>(
     ensures why { IfOk result (λ lost.
         IfSome lost (IsUnsent (write_step socket.old.conn (text_content text.now)))) }
 {
-    match socket.send(Message::text(alloc, text)?) {
-        Ok(()) => Ok(None),
-        Err(Error::OutOfMemory) => Err(AllocError),
-        Err(why) => Ok(Some(Lost::Failed(why))),
-    }
+    unsent_by(socket.send(Message::text(alloc, text)?))
 }
 
 // Says that the client goes, and answers why that could not be said, if it could not.
+#[tactic(auto, using(crate::proofs::Ends::sent_so, crate::proofs::Ends::unsent_so))]
 fn say_close<S: Read + Write + Drop, N: RandomSource + Drop>(
     socket: &mut Socket<S, N>,
 ) -> Result<Option<Lost>, AllocError>
@@ -222,11 +241,7 @@ fn say_close<S: Read + Write + Drop, N: RandomSource + Drop>(
     ensures why { IfOk result (λ lost. IfSome lost (IsUnsent (close_step socket.old.conn None))) }
     ensures end { IfOk result (λ lost. IfSome lost (λ why. is_end why ≡ true)) }
 {
-    match socket.close(None) {
-        Ok(()) => Ok(None),
-        Err(Error::OutOfMemory) => Err(AllocError),
-        Err(why) => Ok(Some(Lost::Failed(why))),
-    }
+    unsent_by(socket.close(None))
 }
 
 // Passes over what the server still sends, up to its close or the end of the stream, and answers how the

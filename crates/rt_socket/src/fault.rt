@@ -79,11 +79,11 @@ impl SocketFault {
     }
 }
 
-/// What an error of a WebSocket says. The error ends here, and nothing else does.
-pub fn fault_of(error: SocketError) -> SocketFault
-    ensures { result ≡ fault_of error }
+// What an error of a WebSocket says, which stays.
+fn seen(error: &SocketError) -> SocketFault
+    ensures { result ≡ fault_of error.now }
 {
-    match &error {
+    match error {
         SocketError::ConnectionClosed => SocketFault::ConnectionClosed,
         SocketError::AlreadyClosed => SocketFault::AlreadyClosed,
         SocketError::Io(why) => SocketFault::Io(*why),
@@ -101,4 +101,13 @@ pub fn fault_of(error: SocketError) -> SocketFault
         SocketError::Refused(response) => SocketFault::Status(response.status()),
         SocketError::OutOfMemory => SocketFault::OutOfMemory,
     }
+}
+
+/// What an error of a WebSocket says. The error ends here, and nothing else does.
+pub fn fault_of(error: SocketError) -> SocketFault
+    ensures { result ≡ fault_of error }
+{
+    let fault = seen(&error);
+    drop(error);
+    fault
 }

@@ -1,7 +1,8 @@
 // The lines of the calls and messages that are made by chance.
 
 use crate::chance::Chance;
-use std::alloc::{AllocError, Global};
+use std::alloc::AllocError;
+use std::fmt::Write;
 
 const PATHS: [&str; 10] = [
     "/g/a", "/g/b", "/g/c", "/g/d/x", "/h", "/h/y", "/g", "/g/10", "/", "/k/a",
@@ -48,33 +49,35 @@ const PUSHED: [&str; 7] = [
 // The most listeners that a seat asks for.
 const LISTENERS: usize = 4;
 
-// The line of a seat's next call.
-pub(crate) fn call(
-    alloc: Global,
+// Writes the line of a seat's next call.
+pub(crate) fn write_call(
+    out: &mut String,
     chance: &mut Chance,
     place: u64,
     listeners: &[u64],
-) -> Result<String, AllocError> {
+) -> Result<(), AllocError> {
     let (path, other) = (chance.of(&PATHS), chance.of(&PATHS));
     let (value, next) = (chance.of(&VALUES), chance.of(&VALUES));
     let listener = chance.number(listeners).unwrap_or(chance.below(9));
     let is_full = listeners.len() >= LISTENERS;
     match chance.below(16) {
-        0..=4 => format!(in alloc; "[\"set\",{place},\"{path}\",{value}]"),
+        0..=4 => write!(out, "[\"set\",{place},\"{path}\",{value}]"),
         5 | 6 => {
-            format!(in alloc; "[\"update\",{place},{{\"{path}\":{value},\"{other}\":{next}}}]")
-        }
-        7 => format!(in alloc; "[\"remove\",{place},\"{path}\"]"),
-        8..=10 if !is_full => format!(in alloc; "[\"listen\",{place},{}]", chance.of(&ASKED)),
-        8..=11 => format!(in alloc; "[\"unlisten\",{place},{listener}]"),
-        12 => format!(in alloc; "[\"unlisten\",{place},{}]", chance.below(40)),
-        13 => format!(in alloc; "[\"onDisconnect\",{place},\"set\",\"{path}\",{value}]"),
-        14 => {
-            format!(in alloc;
-                "[\"onDisconnect\",{place},\"update\",{{\"{path}\":{value},\"{other}\":{next}}}]"
+            write!(
+                out,
+                "[\"update\",{place},{{\"{path}\":{value},\"{other}\":{next}}}]"
             )
         }
-        _ => format!(in alloc; "[\"onDisconnect\",{place},\"cancel\",\"{path}\"]"),
+        7 => write!(out, "[\"remove\",{place},\"{path}\"]"),
+        8..=10 if !is_full => write!(out, "[\"listen\",{place},{}]", chance.of(&ASKED)),
+        8..=11 => write!(out, "[\"unlisten\",{place},{listener}]"),
+        12 => write!(out, "[\"unlisten\",{place},{}]", chance.below(40)),
+        13 => write!(out, "[\"onDisconnect\",{place},\"set\",\"{path}\",{value}]"),
+        14 => write!(
+            out,
+            "[\"onDisconnect\",{place},\"update\",{{\"{path}\":{value},\"{other}\":{next}}}]"
+        ),
+        _ => write!(out, "[\"onDisconnect\",{place},\"cancel\",\"{path}\"]"),
     }
 }
 
@@ -95,28 +98,30 @@ impl Pushed {
         }
     }
 
-    // Its line, on the listen with that tag and path.
-    pub(crate) fn line(&self, alloc: Global, tag: u64, path: &str) -> Result<String, AllocError> {
+    // Writes its line, on the listen with that tag and path.
+    pub(crate) fn write(&self, out: &mut String, tag: u64, path: &str) -> Result<(), AllocError> {
         let (value, next) = (self.value, self.next);
         match self.kind {
-            0 | 1 => format!(in alloc; "[\"data\",{tag},\"{path}\",{value}]"),
-            2 => format!(in alloc; "[\"data\",{tag},\"{path}/a\",{value}]"),
-            3 => format!(in alloc;
+            0 | 1 => write!(out, "[\"data\",{tag},\"{path}\",{value}]"),
+            2 => write!(out, "[\"data\",{tag},\"{path}/a\",{value}]"),
+            3 => write!(
+                out,
                 "[\"merge\",{tag},{{\"{path}/b\":{value},\"{path}/c\":{next}}}]"
             ),
-            _ => format!(in alloc; "[\"merge\",{tag},{{\"{path}\":{value}}}]"),
+            _ => write!(out, "[\"merge\",{tag},{{\"{path}\":{value}}}]"),
         }
     }
 
-    // The line of both of its values as one step, each on a listen with that tag and path.
-    pub(crate) fn parts(
+    // Writes the line of both of its values as one step, each on a listen with that tag and path.
+    pub(crate) fn write_parts(
         &self,
-        alloc: Global,
+        out: &mut String,
         (tag, path): (u64, &str),
         (other, below): (u64, &str),
-    ) -> Result<String, AllocError> {
+    ) -> Result<(), AllocError> {
         let (value, next) = (self.value, self.next);
-        format!(in alloc;
+        write!(
+            out,
             "[\"parts\",[[{tag},{{\"{path}\":{value}}}],[{other},{{\"{below}/a\":{next}}}]]]"
         )
     }

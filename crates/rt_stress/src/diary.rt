@@ -6,7 +6,7 @@ use rt_lines::{
 };
 use rt_mail::{Item, Receipt};
 use rt_snapshots::Snapshots;
-use rt_world::CoreError;
+use rt_world::{CoreError, Outcome};
 use std::alloc::{AllocError, Global};
 use std::fmt::Write;
 use std::sync::atomic::{AtomicU64, Ordering};
@@ -14,12 +14,16 @@ use std::sync::atomic::{AtomicU64, Ordering};
 // The steps that a thread made, each with its number and what it was answered; what its seat was told, a
 // line for each receipt and else as the console prints it; what it knows of its listeners, and which these
 // are by what it was told.
+//
+// Where memory lacks for a line, or a call is refused that must not be, the diary is lost: its thread
+// gives up, and nothing that it holds is printed. So what writes in it has no way out.
 #[derive(Drop)]
 pub(crate) struct Diary {
     pub(crate) alloc: Global,
     pub(crate) steps: String,
     pub(crate) heard: String,
     pub(crate) listeners: Vec<u64>,
+    pub(crate) is_lost: bool,
     snapshots: Snapshots,
 }
 
@@ -36,30 +40,40 @@ impl Diary {
             steps: String::new(alloc),
             heard: String::new(alloc),
             listeners: Vec::new(alloc),
+            is_lost: false,
             snapshots: Snapshots::new(alloc),
         }
     }
 
+    // It is lost from now on, unless all is well.
+    pub(crate) fn need(&mut self, is_well: bool) {
+        self.is_lost = self.is_lost || !is_well;
+    }
+
+    // Writes the number of the next step, and the line that asks for it: whether it did.
+    fn begin(&mut self, tickets: &AtomicU64, line: &str) -> bool {
+        write!(self.steps, "{}\t{line}\t", ticket(tickets)).is_ok()
+    }
+
     // A step was made, which that line asks for.
-    pub(crate) fn made(
-        &mut self,
-        tickets: &AtomicU64,
-        line: &str,
-        done: Done,
-    ) -> Result<(), AllocError> {
-        write!(self.steps, "{}\t{line}\t", ticket(tickets))?;
-        write_outcome(&mut self.steps, done.outcome, done.given)
+    pub(crate) fn made(&mut self, tickets: &AtomicU64, line: &str, done: Done) {
+        let is_written = self.begin(tickets, line)
+            && write_outcome(&mut self.steps, done.outcome, done.given).is_ok();
+        self.need(is_written);
     }
 
     // The core refused it.
-    pub(crate) fn refused(
-        &mut self,
-        tickets: &AtomicU64,
-        line: &str,
-        why: CoreError,
-    ) -> Result<(), AllocError> {
-        write!(self.steps, "{}\t{line}\t", ticket(tickets))?;
-        write_refused(&mut self.steps, "core", why.code(), why.name())
+    pub(crate) fn refused(&mut self, tickets: &AtomicU64, line: &str, why: CoreError) {
+        let is_written = self.begin(tickets, line)
+            && write_refused(&mut self.steps, "core", why.code(), why.name()).is_ok();
+        self.need(is_written);
+    }
+
+    // The seat of that number was closed.
+    pub(crate) fn closed(&mut self, tickets: &AtomicU64, seat: u64) {
+        let is_begun = write!(self.steps, "{}\t[\"close\",{seat}]\t", ticket(tickets)).is_ok();
+        let is_written = is_begun && write_outcome(&mut self.steps, Outcome::Done, None).is_ok();
+        self.need(is_written);
     }
 
     fn forget(&mut self, listener: u64) {
@@ -69,7 +83,8 @@ impl Diary {
     fn signed(&mut self, receipt: &Receipt) -> Result<(), AllocError> {
         match receipt {
             Receipt::Listened { listener, .. } => {
-                self.listeners.push(*listener)?;
+                let is_kept = self.listeners.push(*listener).is_ok();
+                self.need(is_kept);
                 writeln!(self.heard, "listened {listener}")
             }
             Receipt::Unlistened { listener } => {
@@ -82,9 +97,9 @@ impl Diary {
     }
 
     // The seat was told that.
-    pub(crate) fn told(&mut self, item: &Item) -> Result<(), AllocError> {
-        self.snapshots.take(item)?;
-        match item {
+    pub(crate) fn told(&mut self, item: &Item) {
+        let is_taken = self.snapshots.take(item).is_ok();
+        let written = match item {
             Item::Receipt(receipt) => self.signed(receipt),
             Item::Batch(batch) => write_batch(&mut self.heard, self.alloc, batch),
             Item::Settled { id, why } => write_settled(&mut self.heard, self.alloc, *id, why),
@@ -92,20 +107,28 @@ impl Diary {
                 self.forget(*listener);
                 write_cancelled(&mut self.heard, self.alloc, *listener, why)
             }
+        };
+        self.need(is_taken && written.is_ok());
+    }
+
+    // Writes what a listener shows, as the console prints a view: whether it did.
+    fn write_shown(&self, out: &mut String, listener: u64) -> bool {
+        let Some(snapshot) = self.snapshots.get(listener) else {
+            return write_view(out, self.alloc, None).is_ok();
+        };
+        match snapshot.shown() {
+            Ok(shown) => write_view(out, self.alloc, shown.as_ref()).is_ok(),
+            Err(_) => false,
         }
     }
 
-    // What its listeners show, each as the console prints a view, behind a line with its number.
-    pub(crate) fn views(&self) -> Result<String, AllocError> {
-        let mut out = String::new(self.alloc);
+    // Writes what each of its listeners shows, behind a line with its number: whether it did.
+    pub(crate) fn write_views(&self, out: &mut String) -> bool {
         for listener in self.listeners.as_slice() {
-            writeln!(out, "view {listener}")?;
-            let shown = match self.snapshots.get(*listener) {
-                Some(snapshot) => snapshot.shown()?,
-                None => None,
-            };
-            write_view(&mut out, self.alloc, shown.as_ref())?;
+            if writeln!(out, "view {listener}").is_err() || !self.write_shown(out, *listener) {
+                return false;
+            }
         }
-        Ok(out)
+        true
     }
 }

@@ -3,7 +3,6 @@
 use crate::basket::{Basket, Often};
 use crate::chance::Chance;
 use crate::diary::Diary;
-use anyhow::{Result, anyhow};
 use rt_client::{Client, Seat, Shared, deliver};
 use std::sync::Wait;
 
@@ -11,15 +10,15 @@ use std::sync::Wait;
 pub(crate) const MOST: u64 = 1_000_000;
 
 // Takes so many items at most from the ring: how many.
-pub(crate) fn take(seat: &mut Seat, diary: &mut Diary, most: u64) -> Result<u64> {
+pub(crate) fn take(seat: &mut Seat, diary: &mut Diary, most: u64) -> u64 {
     for count in 0..most {
         let Some(item) = seat.next() else {
-            return Ok(count);
+            return count;
         };
-        diary.told(&item)?;
+        diary.told(&item);
         drop(item);
     }
-    Ok(most)
+    most
 }
 
 // Settles the seat, and takes so many items at most.
@@ -29,20 +28,22 @@ pub(crate) fn settle<R: Wait>(
     seat: &mut Seat,
     diary: &mut Diary,
     most: u64,
-) -> Result<u64> {
-    client.shared.lock(rt).settle(seat)?;
-    take(seat, diary, most)
+) {
+    let settled = client.shared.lock(rt).settle(seat);
+    diary.need(settled.is_ok());
+    let _count = take(seat, diary, most);
 }
 
 // Takes all that waits, under the lock.
-pub(crate) fn take_all(shared: &mut Shared, seat: &mut Seat, diary: &mut Diary) -> Result<()> {
+pub(crate) fn take_all(shared: &mut Shared, seat: &mut Seat, diary: &mut Diary) {
     for _ in 0..MOST {
-        shared.settle(seat)?;
-        if take(seat, diary, MOST)? == 0 {
-            return Ok(());
+        diary.need(shared.settle(seat).is_ok());
+        if take(seat, diary, MOST) == 0 {
+            return;
         }
     }
-    Err(anyhow!("there is always more"))
+    // There is always more.
+    diary.need(false);
 }
 
 // A delivery of a few turns, which ends at the latest where it was woken a few times.
@@ -53,17 +54,19 @@ fn have_delivered<R: Wait>(
     diary: &mut Diary,
     room: usize,
     turns: u64,
-) -> Result<()> {
-    let mut basket = Basket::new(diary.alloc, room)?;
-    deliver(rt, client, seat, &mut basket, &Often::new(turns), turns)?;
+) {
+    let Ok(mut basket) = Basket::new(diary.alloc, room) else {
+        return diary.need(false);
+    };
+    let delivered = deliver(rt, client, seat, &mut basket, &Often::new(turns), turns);
+    diary.need(delivered.is_ok());
     for _ in 0..room {
         let Some(item) = basket.next() else {
-            return Ok(());
+            return;
         };
-        diary.told(&item)?;
+        diary.told(&item);
         drop(item);
     }
-    Ok(())
 }
 
 // Hears in one way or another, or not at all. A ring has that room.
@@ -74,34 +77,29 @@ pub(crate) fn hear<R: Wait>(
     diary: &mut Diary,
     chance: &mut Chance,
     room: usize,
-) -> Result<()> {
+) {
     let few = chance.below(6);
     match chance.below(8) {
-        0 | 1 => {
-            settle(rt, client, seat, diary, few)?;
-        }
+        0 | 1 => settle(rt, client, seat, diary, few),
         2 => {
-            take(seat, diary, few)?;
+            let _count = take(seat, diary, few);
         }
-        3 => have_delivered(rt, client, seat, diary, room.saturating_mul(3), 2)?,
+        3 => have_delivered(rt, client, seat, diary, room.saturating_mul(3), 2),
         4 => std::thread::yield_now(),
         _ => {}
     }
-    Ok(())
 }
 
 // Sleeps until it is told to stop, and hears all.
-pub(crate) fn hear_on<R: Wait>(
-    rt: &R,
-    client: &Client,
-    seat: &mut Seat,
-    diary: &mut Diary,
-) -> Result<()> {
+pub(crate) fn hear_on<R: Wait>(rt: &R, client: &Client, seat: &mut Seat, diary: &mut Diary) {
     for _ in rt.forever() {
-        if !client.wait(rt, seat)? {
-            return Ok(());
+        match client.wait(rt, seat) {
+            Ok(true) => {
+                let _count = take(seat, diary, MOST);
+            }
+            Ok(false) => return,
+            Err(_) => return diary.need(false),
         }
-        take(seat, diary, MOST)?;
     }
     unreachable!()
 }

@@ -8,6 +8,7 @@ use anyhow::{Result, anyhow};
 use rt_client::{Client, Seat, crossing_law};
 use rt_world::Limits;
 use std::alloc::{AllocError, Global};
+use std::fmt::Write;
 use std::io::Print;
 use std::sync::Wait;
 use std::sync::atomic::AtomicU64;
@@ -57,6 +58,7 @@ impl Run {
             seat,
             chance: Chance::new(self.seed, place),
             diary: Diary::new(self.alloc),
+            line: String::new(self.alloc),
         }
     }
 
@@ -86,26 +88,60 @@ fn work<R: Wait>(
     }
 }
 
-fn word_of(end: Option<End>) -> &'static str {
+fn word_of(end: End, is_lost: bool) -> &'static str {
+    if is_lost {
+        return "lost";
+    }
     match end {
-        Some(End::Open) => "open",
-        Some(End::Emptied) => "emptied",
-        Some(End::Left) => "left",
-        Some(End::Served) => "served",
-        None => "lost",
+        End::Open => "open",
+        End::Emptied => "emptied",
+        End::Left => "left",
+        End::Served => "served",
     }
 }
 
 // What a thread wrote down, behind the seed, its place and how it ended; nothing where memory lacks for it.
 fn report(run: Run, ended: &Ended) -> Option<String> {
     let Ended { place, diary, end } = ended;
-    let views = diary.views().ok()?;
-    let (seed, word) = (run.seed, word_of(*end));
-    let text = format!(in run.alloc;
-        "== {seed} {place} {word}\n-- steps\n{}-- heard\n{}-- views\n{views}",
+    let (seed, word) = (run.seed, word_of(*end, diary.is_lost));
+    let mut text = String::new(run.alloc);
+    let begun = write!(
+        text,
+        "== {seed} {place} {word}\n-- steps\n{}-- heard\n{}-- views\n",
         diary.steps, diary.heard
     );
-    text.ok()
+    if begun.is_ok() && diary.write_views(&mut text) {
+        Some(text)
+    } else {
+        None
+    }
+}
+
+// Does all jobs at once, each in a thread: what each wrote down.
+fn play_all<R: Threads + Wait + Sync>(
+    rt: &R,
+    run: Run,
+    client: &Client,
+    jobs: Vec<Job>,
+) -> Result<Vec<Option<String>>, AllocError> {
+    // For the prover: what may go to another thread.
+    crossing_law();
+    let (tickets, talking) = (AtomicU64::new(0), AtomicU64::new(ROOMS.len() as u64));
+    thread::map_vec(
+        rt,
+        jobs,
+        &|job| report(run, &work(rt, run, client, job, &tickets, &talking)),
+    )
+}
+
+fn print_all<R: Print>(rt: &R, reports: &[Option<String>]) -> Result<()> {
+    for report in reports {
+        match report {
+            Some(text) => println!(rt; "{text}")?,
+            None => return Err(anyhow!("no memory for what a thread wrote down")),
+        }
+    }
+    Ok(())
 }
 
 // A run of a seed, each of whose threads calls so often: each prints what it wrote down.
@@ -115,21 +151,12 @@ pub(crate) fn play<R: Threads + Wait + Print + Sync>(
     seed: u64,
     calls: u64,
 ) -> Result<()> {
-    // For the prover: what may go to another thread.
-    crossing_law();
     let run = Run { alloc, seed, calls };
     let (client, seats) = Client::open(alloc, 1, &ROOMS, Limits::full())?;
-    let (tickets, talking) = (AtomicU64::new(0), AtomicU64::new(ROOMS.len() as u64));
-    let reports = thread::map_vec(
-        rt,
-        jobs(alloc, seats)?,
-        &|job| report(run, &work(rt, run, &client, job, &tickets, &talking)),
-    )?;
-    for text in reports {
-        let Some(text) = text else {
-            return Err(anyhow!("no memory for what a thread wrote down"));
-        };
-        println!(rt; "{text}")?;
-    }
-    Ok(())
+    let reports = match jobs(alloc, seats) {
+        Ok(jobs) => play_all(rt, run, &client, jobs),
+        Err(error) => Err(error),
+    };
+    drop(client);
+    print_all(rt, reports?.as_slice())
 }

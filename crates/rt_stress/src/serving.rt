@@ -4,10 +4,11 @@ use crate::chance::Chance;
 use crate::choosing::Pushed;
 use crate::diary::Diary;
 use crate::talking::{End, Ended, step_in};
-use anyhow::{Result, anyhow};
 use rt_client::{Client, ClientError, Done, Shared};
 use rt_wire::{ClientMessage, ServerMessage};
 use rt_world::{Outcome, Step};
+use std::alloc::AllocError;
+use std::fmt::Write;
 use std::sync::Wait;
 use std::sync::atomic::{AtomicU64, Ordering};
 use std::thread;
@@ -19,11 +20,12 @@ struct Listen {
     path: String,
 }
 
-// What the server was asked for, and not answered yet.
+// What the server was asked for, and not answered yet; and the line of its next step.
 #[derive(Drop)]
 pub(crate) struct Server {
     chance: Chance,
     pub(crate) diary: Diary,
+    line: String,
     listens: Vec<Listen>,
     asked: Vec<u64>,
     is_connected: bool,
@@ -35,48 +37,66 @@ impl Server {
         Server {
             chance,
             diary,
+            line: String::new(alloc),
             listens: Vec::new(alloc),
             asked: Vec::new(alloc),
             is_connected: false,
         }
     }
 
+    // Keeps a listen that it was asked for: whether it did.
+    fn keep(&mut self, tag: u64, path: Result<String, AllocError>) -> bool {
+        let Ok(mut path) = path else {
+            return false;
+        };
+        if path.as_str() == "/" {
+            path.clear();
+        }
+        self.listens.push(Listen { tag, path }).is_ok()
+    }
+
     // Takes a message of the client.
-    fn hears(&mut self, message: ClientMessage) -> Result<()> {
-        match message {
-            ClientMessage::Hello { version: _ } => {}
+    fn hears(&mut self, message: ClientMessage) {
+        let is_kept = match message {
+            ClientMessage::Hello { version: _ } => true,
             ClientMessage::Listen { tag, query } => {
-                let mut path = query.path().text()?;
+                let path = query.path().text();
                 drop(query);
-                if path.as_str() == "/" {
-                    path.clear();
-                }
-                self.listens.push(Listen { tag, path })?;
+                self.keep(tag, path)
             }
-            ClientMessage::Unlisten { tag } => self.listens.retain(|it| it.tag != tag),
+            ClientMessage::Unlisten { tag } => {
+                self.listens.retain(|it| it.tag != tag);
+                true
+            }
             ClientMessage::Ask { id, asked } => {
                 drop(asked);
-                self.asked.push(id)?;
+                self.asked.push(id).is_ok()
             }
-        }
-        Ok(())
+        };
+        self.diary.need(is_kept);
     }
 
-    // The line of what is sent on one of the listens, if there is one.
-    fn push(&mut self) -> Result<Option<String>> {
+    // ---- the line of its next step: each says whether there is one
+
+    // There is one, for which memory may have lacked.
+    fn has(&mut self, written: Result<(), AllocError>) -> bool {
+        self.diary.need(written.is_ok());
+        true
+    }
+
+    // What is sent on one of the listens.
+    fn push(&mut self) -> bool {
         let place = self.chance.below(self.listens.len() as u64) as usize;
         let pushed = Pushed::by(&mut self.chance);
-        match self.listens.get(place) {
-            Some(listen) => {
-                let path = listen.path.as_str();
-                Ok(Some(pushed.line(self.diary.alloc, listen.tag, path)?))
-            }
-            None => Ok(None),
-        }
+        let Some(listen) = self.listens.get(place) else {
+            return false;
+        };
+        let written = pushed.write(&mut self.line, listen.tag, listen.path.as_str());
+        self.has(written)
     }
 
-    // The line of what is sent on two of the listens at once, if there are two.
-    fn push_parts(&mut self) -> Result<Option<String>> {
+    // What is sent on two of the listens at once.
+    fn push_parts(&mut self) -> bool {
         let place = self.chance.below(self.listens.len() as u64) as usize;
         let pushed = Pushed::by(&mut self.chance);
         let (first, second) = (
@@ -84,42 +104,46 @@ impl Server {
             self.listens.get(place.wrapping_add(1)),
         );
         let (Some(first), Some(second)) = (first, second) else {
-            return Ok(None);
+            return false;
         };
         let first = (first.tag, first.path.as_str());
         let second = (second.tag, second.path.as_str());
-        Ok(Some(pushed.parts(self.diary.alloc, first, second)?))
+        let written = pushed.write_parts(&mut self.line, first, second);
+        self.has(written)
     }
 
-    // The line of an answer to one of the requests, if there is one.
-    fn answer(&mut self) -> Result<Option<String>> {
+    // An answer to one of the requests.
+    fn answer(&mut self) -> bool {
         let Some(id) = self.chance.number(self.asked.as_slice()) else {
-            return Ok(None);
+            return false;
         };
         self.asked.retain(|it| *it != id);
-        if self.chance.once_in(3) {
-            return Ok(Some(format!(in self.diary.alloc; "[\"no\",{id},\"denied\"]")?));
-        }
-        Ok(Some(format!(in self.diary.alloc; "[\"ok\",{id}]")?))
+        let written = if self.chance.once_in(3) {
+            write!(self.line, "[\"no\",{id},\"denied\"]")
+        } else {
+            write!(self.line, "[\"ok\",{id}]")
+        };
+        self.has(written)
     }
 
-    // The line of the end of one of the listens, if there is one.
-    fn revoke(&mut self) -> Result<Option<String>> {
+    // The end of one of the listens.
+    fn revoke(&mut self) -> bool {
         let place = self.chance.below(self.listens.len() as u64) as usize;
-        if place >= self.listens.len() {
-            return Ok(None);
-        }
-        let tag = self.listens[place].tag;
-        Ok(Some(format!(in self.diary.alloc; "[\"revoke\",{tag},\"gone\"]")?))
+        let Some(listen) = self.listens.get(place) else {
+            return false;
+        };
+        let written = write!(self.line, "[\"revoke\",{},\"gone\"]", listen.tag);
+        self.has(written)
     }
 
-    // The line of a connection that begins or ends.
-    fn turn(&mut self, word: &str) -> Result<Option<String>> {
-        Ok(Some(format!(in self.diary.alloc; "[\"{word}\"]")?))
+    // A connection that begins or ends.
+    fn turn(&mut self, word: &str) -> bool {
+        let written = write!(self.line, "[\"{word}\"]");
+        self.has(written)
     }
 
-    // The line of what it does by chance.
-    fn choose(&mut self) -> Result<Option<String>> {
+    // What it does by chance.
+    fn choose(&mut self) -> bool {
         match self.chance.below(64) {
             0..=19 => self.push(),
             20..=23 => self.push_parts(),
@@ -127,71 +151,79 @@ impl Server {
             45 | 46 => self.revoke(),
             47 => self.turn("disconnected"),
             48..=52 => self.turn("connected"),
-            _ => Ok(None),
+            _ => false,
         }
     }
 
-    // The line of what it still has to do once nobody talks: to be connected, and to answer.
-    fn end(&mut self) -> Result<Option<String>> {
-        if !self.is_connected {
-            return self.turn("connected");
+    // What it still has to do once nobody talks: to be connected, and to answer.
+    fn end(&mut self) -> bool {
+        if self.is_connected {
+            self.answer()
+        } else {
+            self.turn("connected")
         }
-        self.answer()
     }
+
+    // ---- its steps
 
     // What was asked on a connection that has ended is asked anew on the next one.
-    fn is_made(&mut self, line: &str) {
-        if line == "[\"connected\"]" {
+    fn is_made(&mut self) {
+        if self.line.as_str() == "[\"connected\"]" {
             self.is_connected = true;
         }
-        if line == "[\"disconnected\"]" {
+        if self.line.as_str() == "[\"disconnected\"]" {
             self.is_connected = false;
             self.listens.clear();
             self.asked.clear();
         }
     }
 
-    // Makes the step that the line asks for, and writes it down under the lock.
-    fn make<R: Wait>(
-        &mut self,
-        rt: &R,
-        client: &Client,
-        tickets: &AtomicU64,
-        line: &str,
-    ) -> Result<()> {
-        let step = step_in(self.diary.alloc, line)?;
-        let mut shared = client.shared.lock(rt);
-        match served(&mut shared, step) {
+    // Writes down what the step of the line was answered.
+    fn answered(&mut self, tickets: &AtomicU64, answer: Result<Outcome, ClientError>) {
+        match answer {
             Ok(outcome) => {
                 let done = Done {
                     outcome,
                     given: None,
                 };
-                self.diary.made(tickets, line, done)?;
-                self.is_made(line);
+                self.diary.made(tickets, self.line.as_str(), done);
+                self.is_made();
             }
-            Err(ClientError::Core(why)) => self.diary.refused(tickets, line, why)?,
+            Err(ClientError::Core(why)) => self.diary.refused(tickets, self.line.as_str(), why),
             Err(
-                why @ (ClientError::Failed
+                ClientError::Failed
                 | ClientError::WrongSeat
                 | ClientError::MailboxFull
                 | ClientError::TooManySeats
-                | ClientError::NoMemory),
-            ) => return Err(anyhow!("{why}")),
+                | ClientError::NoMemory,
+            ) => self.diary.need(false),
         }
+    }
+
+    // Makes the step that the line asks for, and writes it down under the lock.
+    fn make<R: Wait>(&mut self, rt: &R, client: &Client, tickets: &AtomicU64) {
+        let Some(step) = step_in(self.diary.alloc, self.line.as_str()) else {
+            return self.diary.need(false);
+        };
+        let mut shared = client.shared.lock(rt);
+        let answer = served(&mut shared, step);
+        self.answered(tickets, answer);
         client.notify(shared);
-        Ok(())
     }
 
     // Takes the first message that is to be sent: whether there was one.
-    fn take<R: Wait>(&mut self, rt: &R, client: &Client) -> Result<bool> {
-        let taken = client.shared.lock(rt).take_outgoing()?;
+    fn take<R: Wait>(&mut self, rt: &R, client: &Client) -> bool {
+        let taken = client.shared.lock(rt).take_outgoing();
         match taken {
-            Some(message) => {
-                self.hears(message)?;
-                Ok(true)
+            Ok(Some(message)) => {
+                self.hears(message);
+                true
             }
-            None => Ok(false),
+            Ok(None) => false,
+            Err(_) => {
+                self.diary.need(false);
+                false
+            }
         }
     }
 
@@ -203,7 +235,7 @@ impl Server {
         tickets: &AtomicU64,
         talking: &AtomicU64,
         most: u64,
-    ) -> Result<()> {
+    ) {
         let mut steps = 0u64;
         for _ in rt.forever() {
             let is_over = talking.load(Ordering::SeqCst) == 0;
@@ -213,15 +245,19 @@ impl Server {
                 thread::yield_now();
                 continue;
             }
-            let has_taken = self.take(rt, client)?;
-            let line = if is_over { self.end()? } else { self.choose()? };
-            match line {
-                Some(line) => {
-                    steps = steps.wrapping_add(1);
-                    self.make(rt, client, tickets, line.as_str())?;
-                }
-                None if is_over && !has_taken => return Ok(()),
-                None => client.wake(rt),
+            let has_taken = self.take(rt, client);
+            self.line.clear();
+            let has_line = if is_over { self.end() } else { self.choose() };
+            if has_line {
+                steps = steps.wrapping_add(1);
+                self.make(rt, client, tickets);
+            } else if is_over && !has_taken {
+                return;
+            } else {
+                client.wake(rt);
+            }
+            if self.diary.is_lost {
+                return;
             }
         }
         unreachable!()
@@ -261,17 +297,12 @@ pub(crate) fn work<R: Wait>(
     most: u64,
 ) -> Ended {
     let mut server = server;
-    let served = server.serve(rt, client, tickets, talking, most);
+    server.serve(rt, client, tickets, talking, most);
     client.stop(rt);
-    let end = if served.is_ok() {
-        Some(End::Served)
-    } else {
-        None
-    };
     let Server { diary, .. } = server;
     Ended {
         place: 0,
         diary,
-        end,
+        end: End::Served,
     }
 }

@@ -4,16 +4,15 @@ use crate::chance::Chance;
 use crate::choosing;
 use crate::diary::Diary;
 use crate::hearing::{MOST, hear, hear_on, settle, take_all};
-use anyhow::{Result, anyhow};
 use rt_client::{Call, Client, ClientError, Done, Seat, Uncalled, try_call};
-use rt_lines::Line;
-use rt_world::{Outcome, Step};
+use rt_lines::{Line, Order};
+use rt_world::Step;
 use std::alloc::Global;
 use std::sync::Wait;
 use std::sync::atomic::{AtomicU64, Ordering};
 
-// A thread's own: its place, which is the number of its seat too, its seat, whose ring has that room, and
-// what it writes down.
+// A thread's own: its place, which is the number of its seat too, its seat, whose ring has that room, what
+// it writes down, and the line of its next call.
 #[derive(Drop)]
 pub(crate) struct Worker {
     pub(crate) place: u64,
@@ -21,6 +20,7 @@ pub(crate) struct Worker {
     pub(crate) seat: Seat,
     pub(crate) chance: Chance,
     pub(crate) diary: Diary,
+    pub(crate) line: String,
 }
 
 // How a thread ended: its seat is open and has heard all; it had heard all when it was closed; it had
@@ -33,42 +33,58 @@ pub(crate) enum End {
     Served,
 }
 
-// What a thread leaves, with no end where it gave up.
+// What a thread leaves. One whose diary is lost gave up.
 #[derive(Drop)]
 pub(crate) struct Ended {
     pub(crate) place: u64,
     pub(crate) diary: Diary,
-    pub(crate) end: Option<End>,
+    pub(crate) end: End,
 }
 
-// The step that a line asks for.
-pub(crate) fn step_in(alloc: Global, line: &str) -> Result<Step> {
+// The step that a line asks for; nothing where it asks for none, or memory lacks.
+pub(crate) fn step_in(alloc: Global, line: &str) -> Option<Step> {
     match Line::read(alloc, line.as_bytes()) {
-        Ok(Line::Step(step)) => Ok(step),
+        Ok(Line::Step(step)) => Some(step),
         Ok(other) => {
             drop(other);
-            Err(anyhow!("the line asks for no step"))
+            None
         }
-        Err(error) => Err(anyhow!("the line is refused: {error}")),
+        Err(_) => None,
     }
 }
 
-// The call that a line asks for.
-fn call_in(alloc: Global, line: &str) -> Result<Call> {
-    match step_in(alloc, line)? {
-        Step::Listen { query, .. } => Ok(Call::Listen { query }),
-        Step::Unlisten { listener, .. } => Ok(Call::Unlisten { listener }),
-        Step::Write { action, .. } => Ok(Call::Write { action }),
-        Step::OnDisconnect { ending, .. } => Ok(Call::OnDisconnect { ending }),
-        Step::Data { .. }
-        | Step::DataMerge { .. }
-        | Step::Push { .. }
-        | Step::Accepted { .. }
-        | Step::Refused { .. }
-        | Step::Revoked { .. }
-        | Step::Connected
-        | Step::Disconnected
-        | Step::CloseSeat { .. } => Err(anyhow!("the line is no call")),
+// The call that a line asks for, in the same way.
+fn call_in(alloc: Global, line: &str) -> Option<Call> {
+    match Order::read(alloc, line.as_bytes()) {
+        Ok(Order::Seat { call, .. }) => Some(call),
+        Ok(other) => {
+            drop(other);
+            None
+        }
+        Err(_) => None,
+    }
+}
+
+impl Worker {
+    // Writes down what the call of the line was answered; hands it back where the mailbox is full.
+    fn answered(&mut self, tickets: &AtomicU64, answer: Result<Done, Uncalled>) -> Option<Call> {
+        let Uncalled { call, why } = match answer {
+            Ok(done) => {
+                self.diary.made(tickets, self.line.as_str(), done);
+                return None;
+            }
+            Err(uncalled) => uncalled,
+        };
+        match why {
+            ClientError::MailboxFull => return call,
+            ClientError::Core(why) => self.diary.refused(tickets, self.line.as_str(), why),
+            ClientError::Failed
+            | ClientError::WrongSeat
+            | ClientError::TooManySeats
+            | ClientError::NoMemory => self.diary.need(false),
+        }
+        drop(call);
+        None
     }
 }
 
@@ -78,67 +94,50 @@ fn attempt<R: Wait>(
     client: &Client,
     worker: &mut Worker,
     tickets: &AtomicU64,
-    line: &str,
     call: Call,
-) -> Result<Option<Call>> {
+) -> Option<Call> {
     let mut shared = client.shared.lock(rt);
-    let back = match try_call(&mut shared, &mut worker.seat, call) {
-        Ok(done) => {
-            worker.diary.made(tickets, line, done)?;
-            None
-        }
-        Err(Uncalled { call, why }) => match why {
-            ClientError::MailboxFull => call,
-            ClientError::Core(why) => {
-                drop(call);
-                worker.diary.refused(tickets, line, why)?;
-                None
-            }
-            ClientError::Failed
-            | ClientError::WrongSeat
-            | ClientError::TooManySeats
-            | ClientError::NoMemory => {
-                drop(call);
-                return Err(anyhow!("{why}"));
-            }
-        },
-    };
+    let answer = try_call(&mut shared, &mut worker.seat, call);
+    let back = worker.answered(tickets, answer);
     client.notify(shared);
-    Ok(back)
+    back
 }
 
 // Makes the call that the line asks for, once its mailbox has room.
-fn make<R: Wait>(
-    rt: &R,
-    client: &Client,
-    worker: &mut Worker,
-    tickets: &AtomicU64,
-    line: &str,
-) -> Result<()> {
-    let mut call = call_in(worker.diary.alloc, line)?;
+fn make<R: Wait>(rt: &R, client: &Client, worker: &mut Worker, tickets: &AtomicU64) {
+    let mut due = call_in(worker.diary.alloc, worker.line.as_str());
+    worker.diary.need(due.is_some());
     for _ in 0..MOST {
-        match attempt(rt, client, worker, tickets, line, call)? {
-            None => return Ok(()),
-            Some(back) => call = back,
+        let Some(call) = due else {
+            return;
+        };
+        due = attempt(rt, client, worker, tickets, call);
+        if due.is_some() {
+            settle(rt, client, &mut worker.seat, &mut worker.diary, MOST);
         }
-        settle(rt, client, &mut worker.seat, &mut worker.diary, MOST)?;
     }
-    Err(anyhow!("there is never room"))
+    // There is never room.
+    worker.diary.need(false);
+    drop(due);
 }
 
 // So many calls, and what is heard between them.
-fn talk<R: Wait>(
-    rt: &R,
-    client: &Client,
-    worker: &mut Worker,
-    tickets: &AtomicU64,
-    calls: u64,
-) -> Result<()> {
-    let alloc = worker.diary.alloc;
+fn talk<R: Wait>(rt: &R, client: &Client, worker: &mut Worker, tickets: &AtomicU64, calls: u64) {
     for _ in 0..calls {
-        let listeners = worker.diary.listeners.as_slice();
-        let line = choosing::call(alloc, &mut worker.chance, worker.place, listeners)?;
-        make(rt, client, worker, tickets, line.as_str())?;
+        if worker.diary.is_lost {
+            return;
+        }
+        worker.line.clear();
+        let Worker {
+            place,
+            chance,
+            diary,
+            line,
+            ..
+        } = worker;
+        let written = choosing::write_call(line, chance, *place, diary.listeners.as_slice());
+        diary.need(written.is_ok());
+        make(rt, client, worker, tickets);
         let Worker {
             room,
             seat,
@@ -146,9 +145,8 @@ fn talk<R: Wait>(
             diary,
             ..
         } = worker;
-        hear(rt, client, seat, diary, chance, *room)?;
+        hear(rt, client, seat, diary, chance, *room);
     }
-    Ok(())
 }
 
 // Closes a seat, which has heard all before or has not, and writes that down under the lock.
@@ -160,23 +158,16 @@ fn close<R: Wait>(
     diary: &mut Diary,
     tickets: &AtomicU64,
     is_emptied: bool,
-) -> Result<()> {
-    let line = format!(in diary.alloc; "[\"close\",{place}]")?;
+) {
     let mut seat = seat;
     let mut shared = client.shared.lock(rt);
     if is_emptied {
-        take_all(&mut shared, &mut seat, diary)?;
+        take_all(&mut shared, &mut seat, diary);
     }
-    if let Err(refused) = shared.close_seat(seat) {
-        return Err(anyhow!("{}", refused.why));
-    }
-    let done = Done {
-        outcome: Outcome::Done,
-        given: None,
-    };
-    diary.made(tickets, line.as_str(), done)?;
+    let closed = shared.close_seat(seat);
+    diary.need(closed.is_ok());
+    diary.closed(tickets, place);
     client.notify(shared);
-    Ok(())
 }
 
 // Ends a seat in one of the three ways. Others may still talk.
@@ -189,30 +180,29 @@ fn finish<R: Wait>(
 ) -> Ended {
     let Worker {
         place,
-        room: _,
         seat,
         chance,
         diary,
+        ..
     } = worker;
     let (mut chance, mut diary, mut seat) = (chance, diary, seat);
-    let (made, end) = match chance.below(3) {
+    let end = match chance.below(3) {
         0 => {
-            let made = close(rt, client, seat, place, &mut diary, tickets, true);
+            close(rt, client, seat, place, &mut diary, tickets, true);
             talking.fetch_sub(1, Ordering::SeqCst);
-            (made, End::Emptied)
+            End::Emptied
         }
         1 => {
-            let made = close(rt, client, seat, place, &mut diary, tickets, false);
+            close(rt, client, seat, place, &mut diary, tickets, false);
             talking.fetch_sub(1, Ordering::SeqCst);
-            (made, End::Left)
+            End::Left
         }
         _ => {
             talking.fetch_sub(1, Ordering::SeqCst);
-            let made = hear_on(rt, client, &mut seat, &mut diary);
-            (made, End::Open)
+            hear_on(rt, client, &mut seat, &mut diary);
+            End::Open
         }
     };
-    let end = if made.is_ok() { Some(end) } else { None };
     Ended { place, diary, end }
 }
 
@@ -226,21 +216,6 @@ pub(crate) fn work<R: Wait>(
     calls: u64,
 ) -> Ended {
     let mut worker = worker;
-    if talk(rt, client, &mut worker, tickets, calls).is_ok() {
-        return finish(rt, client, worker, tickets, talking);
-    }
-    talking.fetch_sub(1, Ordering::SeqCst);
-    let Worker {
-        place,
-        room: _,
-        seat,
-        chance: _,
-        diary,
-    } = worker;
-    drop(seat);
-    Ended {
-        place,
-        diary,
-        end: None,
-    }
+    talk(rt, client, &mut worker, tickets, calls);
+    finish(rt, client, worker, tickets, talking)
 }

@@ -9,7 +9,7 @@ ghost use Rattle.rt_view.specs.inside.Alone.{told_alone, told_there};
 ghost use Rattle.rt_view.specs.inside.Ranged.{HasEach};
 ghost use Rattle.rt_view.specs.inside.Windows.{before, shown_in};
 
-use crate::change::{Change, copy_key};
+use crate::change::{Change, copy_key, removed};
 use crate::kind::Kind;
 use crate::position::Position;
 use crate::window::Window;
@@ -28,9 +28,7 @@ fn push_gone(
         ++ option_map_or (λ t. Removed key.now t ∷ []) (option_copied old.entry) []) }
 {
     if let Some(old) = old {
-        let key = key.copy()?;
-        let old = old.copy(alloc)?;
-        changes.push(Change::Removed { key, old })?;
+        changes.push(removed(alloc, key, old)?)?;
     }
     Ok(())
 }

@@ -14,7 +14,7 @@ ghost use Rattle.rt_view.specs.inside.Kept.{removed_of, shown_by};
 ghost use Rattle.rt_view.specs.inside.Telling.{AreSeen, IsFit, IsSeen, IsSeenIn, given_of, keys_in};
 ghost use Rattle.rt_view.specs.declared.window.Window.{Window};
 
-use crate::change::Change;
+use crate::change::{Change, removed};
 use crate::change_list::ChangeList;
 use crate::kind::Kind;
 use crate::place::{drop_child, put_child};
@@ -36,9 +36,7 @@ fn push_removed(
     ensures { OnOk result (changes.new.items ≡ changes.old.items ++ map removed_of gone.now.entries) }
 {
     for (position, old) in gone {
-        let key = position.key().copy()?;
-        let old = old.copy(alloc)?;
-        changes.push(Change::Removed { key, old })?;
+        changes.push(removed(alloc, position.key(), old)?)?;
     }
     Ok(())
 }

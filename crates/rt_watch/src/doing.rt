@@ -38,6 +38,7 @@ fn do_order(
         seats.new.items) }
 {
     if !is_done(&order) {
+        drop(order);
         write_bad_line(out, number)?;
         return Ok(false);
     }

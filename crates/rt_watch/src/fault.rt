@@ -8,12 +8,12 @@ use crate::lines::End;
 use rt_input::ConsoleError;
 use rt_link::{LinkFault, Lost};
 use std::alloc::{AllocError, AllocFailed};
-use std::io;
 use std::net::SocketAddr;
+use std::{fmt, io};
 use thiserror::Error;
 
 /// Why a run ends early, or does not begin.
-#[derive(Debug, Drop, Error)]
+#[derive(Drop, Error)]
 pub enum WatchFault {
     /// Nothing listens there, or the stream failed before the handshake was done.
     #[error("{address}: {why}")]
@@ -24,6 +24,13 @@ pub enum WatchFault {
     /// The reader or the writer failed, or memory is lacking.
     #[error("{0}")]
     Ended(ConsoleError),
+}
+
+impl fmt::Debug for WatchFault {
+    // In its words.
+    fn fmt<W: fmt::Write>(&self, f: &mut fmt::Formatter<W>) -> fmt::Result {
+        fmt::Display::fmt(self, f)
+    }
 }
 
 impl WatchFault {

@@ -1,5 +1,5 @@
 use Rattle.std.proofs.Common.{rules, ◌≡◌, string_bytes}
-use Rattle.rt_drive.proofs.Driving.{ended_text, told_text}
+use Rattle.rt_drive.proofs.Driving.{told_text}
 use Rattle.rt_drive.proofs.driven.Driven.take_heard.Goals as goal
 
 pub returns-in_ok-settle-in-Told-clause-printed : goal.returns-in_ok-settle-in-Told-clause-printed
@@ -10,8 +10,3 @@ returns-in_ok-settle-in-Told-clause-printed g c =
     c.args.self.now.seats.items c.take.new.self.seats.items c.in-Told.is same
     c.in_ok-take-in-Told.ensures.printed.1 c.in_ok-take-in-Told.ensures.printed.2
     c.in_ok-settle-in-Told.ensures.printed
-
-pub returns-in_ok-lose_link-in-Ended-clause-printed : goal.returns-in_ok-lose_link-in-Ended-clause-printed
-returns-in_ok-lose_link-in-Ended-clause-printed g c =
-    ended_text (string_bytes c.args.self.now.printed) (string_bytes c.lose_link.new.self.printed) c.args.heard
-    c.in-Ended.why c.args.self.now.seats.items c.in-Ended.is c.in_ok-lose_link-in-Ended.ensures.printed

@@ -1,0 +1,23 @@
+-- Lists that are gone over for whether any in them is so.
+use Rattle.std.proofs.Common.{◌≡◌, ℕ, ◌+◌, ◌<◌, Bool, true, false, ◌||◌, List, ◌∷◌, length, drop, get_or, refl, sym, ap, ◌∙◌}
+use Rattle.std.specs.List.{list_any}
+use Rattle.std.proofs.lemmas.List.{drop_more}
+
+or_assoc : (a b c : Bool) → ((a || b) || c) ≡ (a || (b || c))
+or_assoc true b c = refl
+or_assoc false b c = refl
+
+-- one more of those that are left is told of
+pub any_at : {X : Type 0} (f : X → Bool) (done new all : Bool) (xs : List X) (i : ℕ) (d : X)
+    → i < length xs → new ≡ (done || f (get_or xs i d))
+    → (done || list_any f (drop i xs)) ≡ all → (new || list_any f (drop (i + 1) xs)) ≡ all
+any_at f done new all xs i d lt told inv =
+    ap (λ b. b || list_any f (drop (i + 1) xs)) told
+    ∙ or_assoc done (f (get_or xs i d)) (list_any f (drop (i + 1) xs))
+    ∙ ap (λ z. done || list_any f z) (sym (drop_more xs i d lt))
+    ∙ inv
+
+pub any_more : {X : Type 0} (f : X → Bool) (done new all : Bool) (xs : List X) (i : ℕ) (x : X)
+    → i < length xs → x ≡ get_or xs i x → new ≡ (done || f x)
+    → (done || list_any f (drop i xs)) ≡ all → (new || list_any f (drop (i + 1) xs)) ≡ all
+any_more f done new all xs i x lt is told inv = any_at f done new all xs i x lt (told ∙ ap (λ y. done || f y) is) inv
