@@ -3,7 +3,8 @@
 The library is built over what rt ci proved. A C program with include/kaltewi.h, compiled with warnings as errors and with the sanitizers of
 addresses and of undefined behaviour, runs each script row, and prints what the console prints. Another runs each script of tests/scripts/ once for
 each growth that it asks for, with that growth refused, and a third makes each call of a client so. The tests of the bindings run where their
-languages are there, and the chat of bindings/rust over the console's emulate; where one is not, the part says so."""
+languages are there, and the chat of bindings/rust over the console's emulate; where one is not, the part says so. The module for bindings/js is made from
+what the same run of rt lib compiles (tools/web_parts.py)."""
 import os
 import shutil
 import subprocess
@@ -12,6 +13,7 @@ import sys
 sys.path.insert(0, f"{os.path.dirname(os.path.realpath(__file__))}/sessions")
 import library
 import spoken
+import web_parts
 from bodies import over_proved
 from cutting import Wrong
 from emulating import Emulator
@@ -46,7 +48,7 @@ def said(words, **more):
 def why_not_built(copy, room):
     """What keeps the library from being built, if anything does. It is proved once more, as rt ci keeps no archive, over what that proved."""
     folder, flags = over_proved(ROOT, CRATE, crates(), copy, room, "staticlib")
-    return said(["rt", "lib", *flags], cwd=folder) or ("" if os.path.isfile(archives(room)[0]) else "rt lib made no archive")
+    return said([web_parts.keeping(room), "lib", *flags], cwd=folder) or ("" if os.path.isfile(archives(room)[0]) else "rt lib made no archive")
 
 
 def compiled(name, libraries, room):
@@ -142,10 +144,14 @@ def wrong_chat(program, chat):
         return str(why)
 
 
+def consoles(copy):
+    """The builds of the console, if there are any."""
+    return builds_of(copy, "rt_console") if os.path.isdir(f"{copy}/crates/rt_console/out") else []
+
+
 def chat_part(copy, chat):
     """The chat of bindings/rust beside the console, where that is built."""
-    folder = f"{copy}/crates/rt_console/out"
-    programs = builds_of(copy, "rt_console") if os.path.isdir(folder) else []
+    programs = consoles(copy)
     if not programs:
         print("       Rust: the console is not built, so the chat of bindings/rust is not tried")
         return
@@ -177,6 +183,7 @@ def foreign_parts(copy, room):
         python_part(room)
         rust_part(copy, room)
         guide_part(copy, room)
+        web_parts.web_parts(room, consoles(copy), f"{copy}/crates/example_rooms/out/example_rooms")
 
 
 def main():

@@ -23,7 +23,7 @@ sys.dont_write_bytecode = True
 from bodies import over_proved, read, write
 from keeping import end_hint
 from parts import ROOT, crates
-from telling import end_if_asked, minutes, note_end, say
+from telling import end_if_asked, minutes, note_end, say, why_none
 
 CRATE, NAME, TELL = "rt_ffi", "libkaltewi", 30
 HEADER = f"{ROOT}/include/kaltewi.h"
@@ -136,8 +136,8 @@ def as_program(folder):
     return list(calls)
 
 
-def kit_beside(room):
-    """A folder with all of the toolchain by links, but for its compiler: one that keeps what it compiles."""
+def kit_beside(room, compiler=CLANG):
+    """A folder with all of the toolchain by links, but for its compiler: this one, which keeps what it compiles."""
     own, other = kit(), f"{room}/kit"
     for folder, names in (("", os.listdir(own)), ("bin", os.listdir(f"{own}/bin")), ("toolchain", os.listdir(f"{own}/toolchain")), ("toolchain/bin", os.listdir(f"{own}/toolchain/bin"))):
         os.makedirs(f"{other}/{folder}")
@@ -146,7 +146,7 @@ def kit_beside(room):
                 os.symlink(f"{own}/{folder}/{name}", f"{other}/{folder}/{name}")
     for name in ("rt", "rtlib.py"):
         shutil.copy(f"{own}/bin/{name}", f"{other}/bin/{name}")
-    write(f"{other}/toolchain/bin/clang", CLANG.replace("ROOM", room).replace("KIT", own))
+    write(f"{other}/toolchain/bin/clang", compiler.replace("ROOM", room).replace("KIT", own))
     os.chmod(f"{other}/toolchain/bin/clang", 0o755)
     return other
 
@@ -172,7 +172,7 @@ def unproved(room):
     said = waited_for(rt, "the library is being compiled without its proofs", room)
     if not os.path.isfile(f"{room}/compiled"):
         sys.stderr.write(said)
-        raise Stop("it was not compiled: see above" if "error" in said else "the toolchain compiled nothing where it was looked for: it lies in another way than is known here")
+        raise Stop(why_none(said))
     named(room, calls)
     return [f"{room}/named.o", f"{kit()}/c/liblibc_c.a", f"{kit()}/c/libos_c.a"]
 
