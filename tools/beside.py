@@ -80,6 +80,7 @@ def central_parts(copy):
 
 def console_parts(copy):
     import breaking
+    import growth
     import lacking
     import rows
     import sockets
@@ -92,6 +93,7 @@ def console_parts(copy):
     breaking.streams_part(copy)
     sockets.sockets_parts(copy)
     lacking.refusals_part(copy, [rows.CONSOLE])
+    growth.growth_part(copy)
 
 
 def main():
