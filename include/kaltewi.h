@@ -98,8 +98,9 @@ kw_status kw_client_error(kw_client *client, uint32_t *code, uint8_t *out, size_
 
    KW_DONE, and the number of the new listener or request; KW_BAD_TEXT where a text is no UTF-8, a query no JSON, or
    entries no JSON object; KW_REFUSED where a path, a tree, a query or the core refuses it; KW_WRONG_SEAT;
-   KW_MAILBOX_FULL where the ring has no room for what waits and the receipt: take items by kw_client_next first. On
-   all but KW_DONE the number is 0 and, but for a want of memory, nothing has changed. */
+   KW_MAILBOX_FULL where the ring has no room for what waits and the receipt: take items by kw_client_next first, and
+   make the call again, for a write that is not made again is lost. On all but KW_DONE the number is 0 and, but for a
+   want of memory, nothing has changed. */
 
 /* Registers a listener, which the seat is told of from then on. The query is the member `q` of the message that listens,
    as {"limit":["last",2],"order":"/score"}; one of no bytes listens to all of the path. */

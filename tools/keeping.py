@@ -20,7 +20,7 @@ import sys
 import time
 
 sys.dont_write_bytecode = True
-from telling import end_if_asked, minutes, note_end, say
+from telling import end_if_asked, is_mute, minutes, note_end, say, why_none
 
 LOOK, TELL = 0.01, 30  # seconds
 KEPT, NOT_MADE, NOT_KEPT = 0, 1, 3
@@ -149,6 +149,8 @@ def make(folder, room, stamp, kept):
     if is_there or "run=ended " in said:
         return NOT_KEPT
     sys.stderr.write(said)
+    if is_mute(said):
+        say(why_none(said))
     return NOT_MADE
 
 

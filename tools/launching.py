@@ -28,7 +28,7 @@ ci)
     echo "rt: rt_tree proved"
     exit
     ;;
-doc) exec "$STAND_IN_FOR" doc ;;
+doc) [ -z "${STAND_IN_LIES-}" ] || { echo "$STAND_IN_LIES/page"; exit; }; exec "$STAND_IN_FOR" doc ;;
 lib)
     [ -z "${STAND_IN_FAILS-}" ] || { echo "a goal of the library"; exit 1; }
     mkdir -p out
@@ -38,7 +38,7 @@ lib)
 try) ;;
 *) exit 9 ;;
 esac
-[ -z "${STAND_IN_FAILS-}" ] || { echo "error: no program" >&2; echo "run=none proved=no" >&2; exit 2; }
+[ -z "${STAND_IN_FAILS-}" ] || { [ "$STAND_IN_FAILS" = silently ] || echo "error: no program" >&2; echo "run=none proved=no" >&2; exit 2; }
 if [ -n "${STAND_IN_IS_OTHER-}" ]; then # one that runs no program below TMPDIR
     echo "${@: -1}"
     cat
@@ -80,6 +80,12 @@ def lines_in_order(crates, last):
     return [line for line in lines if line.partition(":")[0].split()[0] in wanted]
 
 
+def hear():
+    """In a run's process: it hears each signal. The gate passes over SIGINT itself where a shell began it behind `&`, and over SIGHUP behind nohup."""
+    for it in (signal.SIGINT, signal.SIGTERM, signal.SIGHUP):
+        signal.signal(it, signal.SIG_DFL)
+
+
 class Runs:
     """Runs of the launcher in a copy of the repository, and what is wrong with them."""
 
@@ -116,7 +122,7 @@ class Runs:
     def begun(self, *words, environment=(), **given):
         """A run of the launcher over the stand-in that goes on."""
         streams = {"stdin": subprocess.DEVNULL, "stdout": subprocess.PIPE, "stderr": subprocess.PIPE, **given}
-        return subprocess.Popen([f"{self.copy}/kaltewi", *words], env={**os.environ, **self.stand_in, **dict(environment)}, **streams)
+        return subprocess.Popen([f"{self.copy}/kaltewi", *words], env={**os.environ, **self.stand_in, **dict(environment)}, preexec_fn=hear, **streams)
 
     def holds(self, name, is_so):
         self.count += 1
@@ -153,6 +159,7 @@ def wrong_of(copy, script, out):
         other_runs(runs, script)
         build_runs(runs)
         library_runs(runs)
+        module_runs(runs)
         no_place_runs(runs, script)
         return runs.wrong, runs.count
 
@@ -188,11 +195,14 @@ def without_runs(runs, script):
     none = "program: none is built of the sources as they are; './kaltewi build' makes the proved one, and any command an unproved one\n"
     runs.says("a version without a program", ["--version"], b"", 0, version_of(runs, "a stand-in for the toolchain", none), environment=runs.stand_in)
     runs.says("another word", ["try"], script, 2, b"", "there is no command 'try'", environment=runs.stand_in)
-    runs.says("a word behind lib", ["lib", "x"], script, 2, b"", "no other word than --unproved", environment=runs.stand_in)
+    for words in (["lib", "x"], ["lib", "--web", "x"], ["lib", "--web", "--web"]):
+        runs.says(" ".join(words), words, script, 2, b"", "no other words than --web and --unproved", environment=runs.stand_in)
     for environment, line in (({"PATH": ""}, "is not on the PATH"), ({**runs.stand_in, "TMPDIR": "/nowhere"}, "TMPDIR=/nowhere")):
         runs.says(line, ["script"], script, 1, b"", line, environment=environment)
     lines = (UNPROVED, "error: no program", "run=none", "did not come about")
     runs.says("no program can be made", ["connect", "8080"], script, 1, b"", *lines, environment=runs.fails)
+    lines = (UNPROVED, "run=none proved=no", "rt itself ended before it had compiled anything", "did not come about")
+    runs.says("rt try is ended", ["connect", "8080"], script, 1, b"", *lines, environment={**runs.fails, "STAND_IN_FAILS": "silently"})
 
 
 def kept_runs(runs, script):
@@ -308,6 +318,29 @@ def library_runs(runs):
     runs.says("the version of both", ["--version"], b"", 0, told)
     os.utime(f"{runs.copy}/crates/rt_ffi/src/lib.rt")
     runs.says("its version, once a source is newer", ["--version"], b"", 0, version_of(runs, "a stand-in for the toolchain", "program: proved\n"))
+
+
+def module_runs(runs):
+    """Where wasm-opt is not there, and where the toolchain lies in another way or compiles nothing, one line says why no module is made."""
+    few, other = f"{runs.room}/few", f"{runs.room}/other"
+    for folder in (few, f"{other}/toolchain/bin", f"{other}/bin"):
+        os.makedirs(folder)
+    for it in ("readlink", "dirname"):
+        os.symlink(shutil.which(it), f"{few}/{it}")
+    for it in ("rt", "librt_ffi.a"):
+        shutil.copy(f"{runs.room}/bin/{it}", f"{other}/bin/{it}")
+    write(f"{other}/bin/rtlib.py", "")
+    lies, last = {"STAND_IN_LIES": other}, "the module was not made"
+    runs.says("a module without wasm-opt", ["lib", "--web"], b"", 1, b"", "'wasm-opt' is not on the PATH: it is in Debian's package binaryen", environment={"PATH": few})
+    write(f"{runs.room}/bin/wasm-opt", "#!/bin/bash\nexit 9\n")
+    os.chmod(f"{runs.room}/bin/wasm-opt", 0o755)
+    first = ("the module is made over what is proved", "rt_map was proved before", "rt_tree is proved")
+    runs.says("a module of a strange toolchain", ["lib", "--web"], b"", 1, b"", *first, "has no toolchain/bin/clang", last, environment={**runs.stand_in, **lies})
+    for it in ("clang", "ld.lld"):
+        shutil.copy(f"{runs.room}/bin/wasm-opt", f"{other}/toolchain/bin/{it}")
+    lines = (*first, "a goal of the library", "rt lib made no archive", last)
+    runs.says("a module that is not proved", ["lib", "--web"], b"", 1, b"", *lines, environment={**runs.fails, **lies, "STAND_IN_FAILS_AT": "lib"})
+    runs.says("a module of nothing", ["lib", "--web"], b"", 1, b"", *first, "the toolchain compiled nothing where it was looked for", last, environment={**runs.stand_in, **lies})
 
 
 def no_place_runs(runs, script):

@@ -78,7 +78,7 @@ class WrongSeat(Error):
 
 
 class MailboxFull(Error):
-    """The seat's ring has no room for what waits and the receipt: take items first."""
+    """The seat's ring has no room for what waits and the receipt: take items first. The call was not made, so a write is lost unless it is made again."""
 
 
 class TooManySeats(Error):

@@ -22,7 +22,7 @@ pub enum Error {
     },
     /// The client has no such seat.
     WrongSeat,
-    /// The seat's ring has no room for what waits and the receipt: take items first.
+    /// The seat's ring has no room for what waits and the receipt: take items first. The call was not made, so a write is lost unless it is made again.
     MailboxFull,
     /// More than 64.
     TooManySeats,
