@@ -1,6 +1,7 @@
 #!/usr/bin/env python3
 """The examples of kaltewi's page: each stands word for word in one of the programs of examples/calls and examples/link, which are proved and run.
-So does what the page of a library begins with, crates/NAME/README.md, in one of these programs or in the console.
+So does what the page of each library begins with, crates/NAME/README.md, in one of these programs, in examples/crates, in examples/chat or in the
+console; the page of rt_ffi begins with lines of C.
 
 Usage: tools/examples.py            says what is wrong with them, and fails where anything is
        tools/examples.py --write    writes each item of each example as the program has it; an item's first words, as 'fn path', do for a new one
@@ -10,8 +11,8 @@ Usage: tools/examples.py            says what is wrong with them, and fails wher
   quotes    each item of it, a function, a type or an impl, is word for word one of the module of the same name, in the first program that has
             such a module, without its comment
   calls     each public call with a `///` of a type that is handed on is made in an example, but for `copy`, which all types have alike
-  crates    behind the heading of a library's page, but for those of OPEN, stands a block of ```rust: items of a program, one of which names what
-            the crate makes public
+  crates    behind the heading of a library's page stands a block of ```rust: items of a program, one of which names what the crate makes public;
+            of rt_ffi a block of ```c, as it stands in a program of bindings/c
 """
 import os
 import re
@@ -22,13 +23,11 @@ from pages import crates, read, sources
 
 ROOT = os.path.realpath(f"{os.path.dirname(os.path.realpath(__file__))}/..")
 PAGE, PROGRAMS = "crates/kaltewi/src", ("examples/calls", "examples/link")
-QUOTED = (*PROGRAMS, "crates/rt_console/src")
-UNQUOTED = {"kaltewi", "rt_tests", "rt_ffi"}  # the door has its own page, and the calls of rt_ffi are made from C
-OPEN = set(
-    "rt_input rt_handle rt_chain rt_links rt_store rt_writes rt_cache rt_forms rt_cover rt_view rt_parts rt_hub rt_turns rt_serve rt_socket rt_lines"
-    " rt_script rt_words rt_drive rt_foreign".split()
-)  # no program of examples/ names these by themselves
+QUOTED = (*PROGRAMS, "examples/crates", "examples/chat", "crates/rt_console/src")
+UNQUOTED = {"rt_tests", "rt_ffi"}  # rt_tests has no call, and those of rt_ffi are made from C
+IN_C = {"rt_ffi": "bindings/c/first.c"}
 FIRST = re.compile(r"\A# \w+\n\n```rust\n(.*?)^```$", re.M | re.S)
+FIRST_IN_C = re.compile(r"\A# \w+\n\n```c\n(.*?)^```$", re.M | re.S)
 BLOCK = re.compile(r"(?m)^/// ```rust\n((?:^///.*\n)*?)^/// ```\n")
 HANDED_ON = re.compile(r"(?m)((?:^///.*\n)*)^pub use (?:(\w+)::)(?:\{([^}]*)\}|(\w+));")
 HEAD = re.compile(r"(?:pub(?:\(crate\))? )?((?:fn|struct|enum|const|trait) \w+|impl.*? for \w+)")
@@ -132,7 +131,7 @@ def wrong_root(page):
 
 def libraries(root):
     """The libraries whose pages begin with an example."""
-    return [it for it in crates(root) if os.path.isfile(f"{root}/crates/{it}/src/lib.rt") and it not in UNQUOTED | OPEN]
+    return [it for it in crates(root) if os.path.isfile(f"{root}/crates/{it}/src/lib.rt") and it not in UNQUOTED]
 
 
 def quotable(root):
@@ -168,6 +167,14 @@ def wrong_crates(root):
             yield f"{it}: what its page begins with names nothing of it"
 
 
+def wrong_in_c(root):
+    """The libraries for C whose pages don't begin with lines of their program."""
+    for it, file in IN_C.items():
+        block = FIRST_IN_C.match(read(f"{root}/crates/{it}/README.md"))
+        if not block or block[1] not in read(f"{root}/{file}"):
+            yield f"{it}: its page doesn't begin with lines of {file}"
+
+
 def wrong_of(root):
     """What is wrong, and how many examples there are."""
     page = modules(root)
@@ -175,7 +182,8 @@ def wrong_of(root):
     for module, text in page.items():
         if module != "lib":
             wrong += [*wrong_quotes(module, text, program(root, module)), *wrong_names(module, text)]
-    return [*wrong, *wrong_crates(root)], sum(len(blocks(it)) for it in page.values()) + len(libraries(root))
+    wrong += [*wrong_crates(root), *wrong_in_c(root)]
+    return wrong, sum(len(blocks(it)) for it in page.values()) + len(libraries(root)) + len(IN_C)
 
 
 def written(text, made):

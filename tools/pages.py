@@ -9,12 +9,14 @@ Usage: tools/pages.py            says which lines don't keep to the rules, and f
   paragraphs  and items of a list have less than 6 lines of 110 characters
   dates       stand in docs/BENCHMARKS.md and docs/GATE.md alone, which have figures, and once in each
   cells       of the tables of docs/BENCHMARKS.md are all filled, each from the run that its script made
-  language    a sentence has one `that` or `what`, and no participle stands before its verb and its subject ("noted is which"); on all pages but
-              those of UNLEARNED
-  heads       a page begins with words in italics that say for whom it is, as `*For users: ..*`; but for HEADLESS
+  language    a sentence has one `that` or `what`, no participle stands before its verb and its subject ("noted is which"), and a noun stands
+              where "those", "these", "ones" or "one that" would stand for it
+  heads       a page begins with words in italics that say for whom it is, as `*For users: ..*`
   PROOFS.md   has at most 240 lines, none over 400 characters, and no word of how long anything took; a promise of its table is a sentence of at most
               25 words, and what stands there as a contract of a crate stands in the crate's src/. "What is neither" names each public function
               without a clause
+  COSTS.md    has a row with the name of each public function of the core, the client and the peer, and of nothing else, in the section of its crate;
+              and a row for each kind of step
   MODEL.md    has one definition a line, and so no item or cell of two sentences or with a semicolon; names each file of definitions in the
               section of its crate, but for `Errors`
   arrows      docs/ARCHITECTURE.md has for each crate what crates.txt has, but for the two crates of errors: behind a solid arrow what its
@@ -22,7 +24,7 @@ Usage: tools/pages.py            says which lines don't keep to the rules, and f
   definitions a row of a table of docs/ARCHITECTURE.md that ends with a file of crates/, as `rt_low/specs/Low.antt`, begins with words that this has;
               each file or folder of a crate that docs/GLOSSARY.md names behind it, as `rt_low`, `specs/Low.antt`, is there
 
-docs/THEOREM.md, which ./theorem writes, has the words of the sources: it is asked for dates alone.
+docs/THEOREM.md, which ./theorem writes, has the words of the sources: it is asked for its head and for dates alone.
 """
 import math
 import os
@@ -35,10 +37,12 @@ WRITTEN = "docs/THEOREM.md"
 ARCHITECTURE, MODEL, BENCHMARKS, GLOSSARY = "docs/ARCHITECTURE.md", "docs/MODEL.md", "docs/BENCHMARKS.md", "docs/GLOSSARY.md"
 WITH_FIGURES = (BENCHMARKS, "docs/GATE.md")
 PROOFS, PROOFS_LINES, PROOFS_COLUMNS, PROMISE_WORDS = "docs/PROOFS.md", 240, 400, 25
-UNLEARNED = {"CHANGELOG.md", "docs/BENCHMARKS.md", "docs/GUIDE.md", "docs/MODEL.md", WRITTEN}
-HEADLESS = {"README.md", "CHANGELOG.md", "docs/GUIDE.md", WRITTEN}
+COSTS, COSTED = "docs/COSTS.md", ("rt_sync", "rt_client", "rt_peer")
+STEPS = "crates/rt_world/src/step.rt"
 TOLD = re.compile(r"(?i)(?<![\w'-])(?:that|what)(?![\w'-])")
 TURNED = re.compile(r"(?i)(?:^|[,;:] )(?:and |or )?(?:noted|taken out|told|sent|kept|shown|handed over|passed over) (?:is|are|was|were) (?:which|what|who|whether|the|just|all)\b")
+BEHIND = "that|which|who|whose|of|is|are|was|were|has|have|in|at|with|to|from|by|for|above|below|behind|before|beside|and|or|alone|too"
+PRONOUN = re.compile(rf"(?i)(?<![\w'-])(?:(?:those|these)(?= (?:{BEHIND})\b|[.,;:)]|$)|ones(?![\w'-])|one(?= (?:that|which|who|whose)\b))")
 OF_ERRORS = {"thiserror", "anyhow"}
 MONTHS = "January February March April May June July August September October November December".split()
 DATE = re.compile(rf"\b\d{{1,2}}\.? (?:{'|'.join(MONTHS)})\b|\b(?:{'|'.join(MONTHS)}) \d{{1,2}}\b(?! ?to)|\b20\d\d-\d\d-\d\d\b")
@@ -104,11 +108,11 @@ def wrong_texts(name, page):
 
 
 def wrong_language(name, page):
-    """The sentences that tell two things by `that` or `what`, or whose subject stands behind its participle and its verb."""
+    """The sentences that tell two things by `that` or `what`, whose subject stands behind its participle and its verb, or that lack a noun."""
     for number, kind, text in texts(page):
         for words in sentences(text, kind):
             said = " ".join(words)
-            if len(TOLD.findall(said)) > 1 or TURNED.search(said):
+            if len(TOLD.findall(said)) > 1 or TURNED.search(said) or PRONOUN.search(said):
                 yield f"{name}:{number}: a sentence to be said anew: {said[:60]} .."
 
 
@@ -167,13 +171,17 @@ def head_of(lines, indent):
     return "\n".join(found)
 
 
-def without_clause(text):
-    """The public functions of a source that promise nothing, each as Type::name, or by its name alone."""
+def public_functions(text):
+    """The public functions of a source, each as Type::name, or by its name alone, with its head."""
     text = re.sub(r"(?m)//.*$", "", text)
     for it in FUNCTION.finditer(text):
-        if "ensures" not in head_of(text[it.start() :].splitlines(), it[1]):
-            type_ = [one[1] for one in IMPL.finditer(text[: it.start()])] if it[1] else []
-            yield f"{type_[-1]}::{it[2]}" if type_ else it[2]
+        type_ = [one[1] for one in IMPL.finditer(text[: it.start()])] if it[1] else []
+        yield f"{type_[-1]}::{it[2]}" if type_ else it[2], head_of(text[it.start() :].splitlines(), it[1])
+
+
+def without_clause(text):
+    """The public functions of a source that promise nothing."""
+    yield from (name for name, head in public_functions(text) if "ensures" not in head)
 
 
 def wrong_neither(root, page):
@@ -203,6 +211,27 @@ def wrong_names(root, page):
         lost = [it for it in words if not re.search(rf"\b{it}\b", texts.get(crate, ""))]
         if lost:
             yield f"{PROOFS}:{number}: {crate} has no {' '.join(lost)}"
+
+
+def first_cells(section, head):
+    """The names in the first column of the tables with that head: one behind another of a type is of this type too."""
+    rows = re.findall(rf"(?m)^\| {head} \|.*\n((?:\|.*\n)*)", section)
+    for cell in (row.split("|")[1] for table in rows for row in table.splitlines()):
+        type_ = ""
+        for it in re.findall(r"`([^`]+)`", cell):
+            type_, name = it.split("::") if "::" in it else (type_, it)
+            yield f"{type_}::{name}" if type_ else name
+
+
+def wrong_costs(root, page):
+    """The public functions of the core, the client and the peer, and the kinds of steps, whose cost the page doesn't say, or says of none that is there."""
+    sections = {crate: "".join(it for it in page.split("\n## ") if f"`{crate}`" in it.partition("\n")[0]) for crate in COSTED}
+    due = {crate: [name for file in sources(root, crate) for name, _ in public_functions(read(file))] for crate in COSTED}
+    steps = re.findall(r"(?m)^    (\w+)(?: \{|,)", read(f"{root}/{STEPS}").partition("pub enum Step {")[2].partition("\n}")[0])
+    said = [(crate, [*first_cells(sections[crate], "Call")], due[crate]) for crate in COSTED]
+    for crate, has, wanted in [*said, ("Step", [*first_cells(page, "Step")], steps)]:
+        yield from (f"{COSTS}: no row of {crate} has {it}" for it in wanted if it not in has)
+        yield from (f"{COSTS}: {crate} has no {it}" for it in has if it not in wanted)
 
 
 def wrong_lines(name, page):
@@ -303,11 +332,10 @@ def wrong_of(root):
     wrong, names = [*wrong_arrows(root), *wrong_rows(root), *wrong_model(root), *wrong_definitions(root, read(f"{root}/{ARCHITECTURE}"))], pages(root)
     for name in names:
         page = read(f"{root}/{name}")
-        wrong += [] if name == WRITTEN else wrong_texts(name, page)
-        wrong += wrong_dates(name, page)
-        wrong += [] if name in UNLEARNED else wrong_language(name, page)
-        wrong += [] if name in HEADLESS else wrong_head(name, page)
+        wrong += [] if name == WRITTEN else [*wrong_texts(name, page), *wrong_language(name, page)]
+        wrong += [*wrong_dates(name, page), *wrong_head(name, page)]
         wrong += [*wrong_proofs(name, page), *wrong_names(root, page), *wrong_promises(page), *wrong_neither(root, page)] if name == PROOFS else []
+        wrong += wrong_costs(root, page) if name == COSTS else []
         wrong += wrong_lines(name, page) if name == MODEL else []
         wrong += wrong_cells(name, page) if name == BENCHMARKS else []
         wrong += wrong_glossary(root, page) if name == GLOSSARY else []

@@ -11,6 +11,7 @@ import layers
 import names
 import pages
 import spoken
+import way
 import workspaces
 from bodies import read, run
 from parts import ROOT, Clock, crates, part, some_of
@@ -55,6 +56,12 @@ def layers_part():
     """The picture of the layers is that of crates.txt."""
     wrong, count = layers.wrong_of(ROOT)
     part(f"the picture of {count} layers is current", some_of(wrong, count))
+
+
+def way_part():
+    """The picture of the way of a step names functions that are there."""
+    wrong, count = way.wrong_of(ROOT)
+    part(f"the picture of the way of a step, by {count} functions, is current", some_of(wrong, range(count)))
 
 
 def names_part():

@@ -145,6 +145,14 @@ class Crates(unittest.TestCase):
         for other in ("# rt_low\n\n*For users.*\n", page.replace("fn calls", "let calls")):
             self.assertEqual(self.wrong(other), ["rt_low: its page begins with no items of a program"])
 
+    def test_in_c(self):
+        (crate, file), begin = next(iter(examples.IN_C.items())), "\n\n```c\n"
+        with tempfile.TemporaryDirectory() as room:
+            files(room, {f"crates/{crate}/README.md": f"# {crate}{begin}    open();\n    close();\n```\n\n*For users.*\n", file: "    open();\n    close();\n}\n"})
+            self.assertEqual(list(examples.wrong_in_c(room)), [])
+            files(room, {file: "    open();\n}\n"})
+            self.assertEqual(list(examples.wrong_in_c(room)), [f"{crate}: its page doesn't begin with lines of {file}"])
+
     def test_quoted_anew(self):
         page = "# rt_low\n\n```rust\nfn calls() {\n    low();\n}\n\nfn other() {}\n```\n\n*For users.*\n"
         made = {"fn calls": {"fn calls() {\n    high();\n}"}, "fn other": {"fn other() {}", "fn other() {\n}"}}

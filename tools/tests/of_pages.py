@@ -92,7 +92,11 @@ class Rules(unittest.TestCase):
     def test_language(self):
         for text in ("It says that it is so.", "What is so? That is so.", "`that what that` is code", "*that and what are quoted*", "that's and somewhat"):
             self.assertEqual(list(pages.wrong_language("it.md", text)), [], text)
+        for text in ("These lists are in order.", "Each of these two is one.", "One of the lists, one by one.", "`those of these` is code"):
+            self.assertEqual(list(pages.wrong_language("it.md", text)), [], text)
         for text in ("That it says is what it is.", "It is done, and noted is which it was.", "Taken out are the first of them."):
+            self.assertEqual(len(list(pages.wrong_language("it.md", text))), 1, text)
+        for text in ("The words are those of a page.", "It has a list, and looks at these.", "The new ones come last.", "A list, or one that is empty."):
             self.assertEqual(len(list(pages.wrong_language("it.md", text))), 1, text)
 
     def test_head(self):
@@ -123,6 +127,25 @@ class Rules(unittest.TestCase):
             list(pages.named_contracts(page)),
             [(3, "rt_low", ["Low", "new"]), (3, "rt_low", ["put"]), (3, "rt_low", ["ok"]), (3, "rt_low", ["laws"]), (4, "rt_low", ["low"])],
         )
+
+
+class Costs(unittest.TestCase):
+    def wrong(self, old, new):
+        """What is wrong with docs/COSTS.md with a text in place of another."""
+        page = pages.read(f"{ROOT}/{pages.COSTS}")
+        self.assertEqual(page.count(old), 1, old)
+        return list(pages.wrong_costs(ROOT, page.replace(old, new)))
+
+    def test_rows(self):
+        self.assertEqual(self.wrong("# What calls cost\n", "# What calls cost\n"), [])
+        self.assertEqual(self.wrong("| `Core::view` |", "| a look |"), ["docs/COSTS.md: no row of rt_sync has Core::view"])
+        self.assertEqual(self.wrong("| `Peer::connect` |", "| `Peer::join` |"), ["docs/COSTS.md: no row of rt_peer has Peer::connect", "docs/COSTS.md: rt_peer has no Peer::join"])
+        self.assertEqual(self.wrong("| `turn`, `deliver` |", "| `turn` |"), ["docs/COSTS.md: no row of rt_client has deliver"])
+        self.assertEqual(self.wrong("| `Revoked` |", "| an end |"), ["docs/COSTS.md: no row of Step has Revoked"])
+
+    def test_types(self):
+        table = "| Call | Cost |\n|---|---|\n| `run` | it |\n| `Low::a`, `b`, `Mid::c` | `d` |\n\n| Word | It |\n|---|---|\n| `e` | it |\n"
+        self.assertEqual(list(pages.first_cells(table, "Call")), ["run", "Low::a", "Low::b", "Mid::c"])
 
 
 class Arrows(unittest.TestCase):

@@ -86,7 +86,7 @@ class Definitions(unittest.TestCase):
         for file in glob.glob(f"{ROOT}/crates/*/specs/**/*.antt", recursive=True):
             for name, it in Module(file).definitions.items():
                 with self.subTest(f"{os.path.relpath(file, ROOT)}, {name}"):
-                    words = list(terms_of(re.sub(r'"[^"]*"', "", it.text)))
+                    words = list(terms_of(re.sub(r'"(?:[^"\\]|\\.)*"', "", it.text)))
                     for opens, closes in zip(OPEN, CLOSE):
                         self.assertEqual(words.count(opens), words.count(closes))
 

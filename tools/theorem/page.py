@@ -36,41 +36,34 @@ def fenced(text):
 
 TOP = """# The theorem
 
-This page has what one has to believe of the headline, and nothing else: its contract, and each \
-definition that this rests on, behind those that it names. `./theorem` writes it from the sources, \
-and the gate fails where it is not current.
+*For readers who check the headline: its contract, and each definition that it rests on.* A definition stands behind the definitions that it names. `./theorem` \
+writes this page from the sources, and the gate fails if the page is not current.
 
 {headline}
 
 ## The contract
 
-The gate proves it of the code (`{file}`):
+The gate proves this contract of the code (`{file}`):
 
 {contract}
-`old` is a value before the call, `new` after it, and `items` a `Vec`'s list. `OnErr` says what \
-holds where the result is an `Err`, and `IfErr` and `IfOk` what holds of the value in it. A core is seen as \
-`Some w`, where w is its world, and as `None` once it has lacked memory: it answers Failed from \
-then on, and never has a world again. So `answered` says what each run does, and `headline` \
-what those do in which memory is not lacking.
+`old` is a value before the call, `new` the value after it, and `items` the list of a `Vec`. `OnErr` speaks of a result that is an `Err`; `IfErr` and `IfOk` \
+speak of the value in the result. A core is seen as `Some w`, where w is its world, and as `None` once it has lacked memory. From then on it answers Failed, and \
+never has a world again. So `answered` tells of each run, and `headline` of the runs in which memory is not lacking.
 
 ## How to read the definitions
 
-`specs/` has definitions, in the language antt. A function from A to B has the type `A → B`, and \
-the first of its clauses that fits decides. `(x : A) → B` says B of each x, `(x : A) × B` of \
-some x; `×` is and, `⊎` or, `⊥` false and `Unit` true; a record of facts holds where each field \
-does. A definition whose type is a fact (`T ..`, an equation) is a proof: its signature alone \
-stands here. Some things are said by laws, in place of how they are computed: parts of trees by \
-their leaves, and tests of equality by the pairs that they tell (`Tells`). So is the order in which \
-windows are listed: it is total and ties only equal queries, and which it is no call tells.
+`specs/` has definitions, in the language antt. A function from A to B has the type `A → B`, and the first clause that fits decides. `(x : A) → B` says B of each \
+x, and `(x : A) × B` of some x. `×` is and, `⊎` is or, `⊥` is false and `Unit` is true. A record of facts holds if each field holds. A definition whose type is a \
+fact (`T ..`, an equation) is a proof, and only its signature stands here.
 
-`src/` has types and constants of Rust, without their attributes. A definition sees an enum as its \
-variants, a struct as its fields, a number as one of `ℕ` or `ℤ`, and a `Vec` as a record of its \
-list. It sees a type with an `impl Model` as the `Value` that this names, whatever its private \
-fields are, so that they are left out.
+Some definitions are given by laws, in place of their code: parts of trees by their leaves, and tests of equality by the pairs that they tell (`Tells`). So is the \
+order of windows in their list: it is total and ties only equal queries, and no call tells more of it.
 
-A word that is defined nowhere above its use is the toolchain's: the list at the end has each of \
-these with its file, below KIT, the folder that `rt doc` names. Where several things on the page \
-have one name, the line under a file's heading says which is meant.
+`src/` has types and constants of Rust, without their attributes. A definition sees an enum as its variants, a struct as its fields, a number as one of `ℕ` or \
+`ℤ`, and a `Vec` as a record of its list. A type with an `impl Model` is seen as the `Value` there; its private fields are left out.
+
+A word without a definition above its use is the toolchain's. The list at the end has each such word with its file, below KIT, the folder that `rt doc` names. If \
+several things on the page have one name, the line under a file's heading tells which is meant.
 """
 
 
