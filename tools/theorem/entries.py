@@ -15,7 +15,7 @@ BY_LAWS = {
     ("rt_tree", "tree_eq"): ("specs/laws/TreeEq.antt", ("tree_eq_tells",)),
     ("rt_query", "query_eq"): ("specs/laws/QueryEq.antt", ("query_eq_tells",)),
     ("rt_query", "shown_eq"): ("specs/laws/QueryEq.antt", ("shown_eq_tells",)),
-    ("rt_cache", "query_cmp"): ("proofs/QueryOrders.antt", ("queries_total", "exact_queries")),
+    ("rt_query", "query_cmp"): ("specs/laws/QueryOrder.antt", ("queries_total", "exact_queries")),
 }
 
 

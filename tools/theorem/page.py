@@ -57,7 +57,7 @@ x, and `(x : A) × B` of some x. `×` is and, `⊎` is or, `⊥` is false and `U
 fact (`T ..`, an equation) is a proof, and only its signature stands here.
 
 Some definitions are given by laws, in place of their code: parts of trees by their leaves, and tests of equality by the pairs that they tell (`Tells`). So is the \
-order of windows in their list: it is total and ties only equal queries, and no call tells more of it.
+order of queries, by which windows are listed: it is total and ties only equal queries, and nothing here rests on more of it.
 
 `src/` has types and constants of Rust, without their attributes. A definition sees an enum as its variants, a struct as its fields, a number as one of `ℕ` or \
 `ℤ`, and a `Vec` as a record of its list. A type with an `impl Model` is seen as the `Value` there; its private fields are left out.

@@ -13,7 +13,7 @@ use Rattle.rt_tree.specs.TreeEq.{both_first, both_second}
 use Rattle.rt_query.specs.Queries.{Query, is_filtered}
 use Rattle.rt_query.specs.Supply.{does_supply}
 use Rattle.rt_query.specs.laws.SupplyLaws.{supplied_is_filtered}
-use Rattle.rt_cache.specs.QueryOrder.{query_cmp}
+use Rattle.rt_query.specs.QueryOrder.{query_cmp}
 use Rattle.rt_cache.specs.Brought.{Window, Brought, region_part, window_of, source, base, knows, child_base, is_without_window, is_another_at, may_move}
 use Rattle.rt_cache.specs.Recover.{in_query_order}
 use Rattle.rt_cache.specs.declared.region.Region.{Region}
@@ -21,7 +21,7 @@ use Rattle.rt_cache.specs.declared.window.Window as inside
 use Rattle.rt_cache.specs.inside.Held.{pairs_of, entries_of, held}
 use Rattle.rt_cache.specs.inside.Sources.{source_among}
 use Rattle.rt_cache.proofs.Listing.{find-listed}
-use Rattle.rt_cache.proofs.QueryOrders.{exact_queries}
+use Rattle.rt_query.specs.laws.QueryOrder.{exact_queries}
 use Rattle.rt_cache.proofs.Sources.{find_none, found_all, has_it, of_part, of_window, region_base, window_base, source_kept, source_window, knows_by, any_kept}
 use Rattle.rt_cache.proofs.Stays.{Windows, AreFiltered}
 

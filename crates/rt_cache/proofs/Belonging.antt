@@ -25,7 +25,7 @@ use Rattle.rt_query.specs.laws.Paths.{is_at_or_above-trans}
 use Rattle.rt_query.specs.laws.QueryEq.{query_eq_tells}
 use Rattle.rt_query.specs.laws.NeededLaws.{Contains-filter, Contains-from_filter, supplies_trans}
 use Rattle.rt_query.specs.laws.SupplyLaws.{form_filtered, supplied_has_path, supply_unfiltered}
-use Rattle.rt_cache.specs.QueryOrder.{query_cmp}
+use Rattle.rt_query.specs.QueryOrder.{query_cmp}
 use Rattle.rt_cache.specs.Brought.{Window, Brought, nothing_brought, with_form, is_supplied, may_put, region_part, region_put, window_of, window_pushed, windows_pushed, knows, push_plain, push}
 use Rattle.rt_cache.specs.Canonical.{IsCanonical, FitsLevels, Belongs}
 use Rattle.rt_cache.specs.Recover.{reaches, regions_kept, in_query_order, is_among, cut, is_lost, heirs, handed_on, recover}
@@ -40,7 +40,7 @@ use Rattle.rt_cache.proofs.Heirs.{IsHeir, left_forms, handed_heirs}
 use Rattle.rt_cache.proofs.Listing.{listed_sorted}
 use Rattle.rt_cache.proofs.Places.{or_left, or_right}
 use Rattle.rt_cache.proofs.Pushes.{push_of_plain, push_of_filtered}
-use Rattle.rt_cache.proofs.QueryOrders.{queries_total}
+use Rattle.rt_query.specs.laws.QueryOrder.{queries_total}
 use Rattle.rt_cache.proofs.RecoverLaws.{left_reached, left_registered, pushed_reached, pushed_registered, pushed_windows_all, listed_all}
 use Rattle.rt_cache.proofs.RunLaws.{never, any_under, step_known}
 use Rattle.rt_cache.proofs.Sources.{AreApart, found_there, there_found, apart_at, apart_found, knows_by, knew_by}

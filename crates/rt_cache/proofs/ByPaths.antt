@@ -138,7 +138,7 @@ alike q xs ys len same up k d low high =
     let within : k + 1 < length xs = omega (arith, len, high) in
     (λ i. is_lt (path_cmp (same (k + 1) d within i).path (same k d (omega (arith, within)) i).path)) ∙ up k d low within
 
-set_alike : {X : Type 0} (q : X → Query) (xs : List X) (n : ℕ) (d new : X) → n < length xs → q new ≡ q (get_or xs n d)
+pub set_alike : {X : Type 0} (q : X → Query) (xs : List X) (n : ℕ) (d new : X) → n < length xs → q new ≡ q (get_or xs n d)
     → (k : ℕ) (c : X) → k < length xs → q (get_or (set xs n new) k c) ≡ q (get_or xs k c)
 set_alike q [] n d new lt e k c l = absurd (omega arith)
 set_alike q (x ∷ xs) zero d new lt e zero c l = e
@@ -150,7 +150,7 @@ set_alike q (x ∷ xs) (suc n) d new lt e (suc k) c l = set_alike q xs n d new (
 pub by_path-set : {X : Type 0} (q : X → Query) (xs : List X) (n : ℕ) (d new : X) → n < length xs → q new ≡ q (get_or xs n d) → AreByPath q xs → AreByPath q (set xs n new)
 by_path-set q xs n d new lt e up = alike q xs (set xs n new) (length-set xs n new) (set_alike q xs n d new lt e) up
 
-turned : (o : Ordering) → is_lt o ≡ true → is_lt (ordering_reverse o) ≡ false
+pub turned : (o : Ordering) → is_lt o ≡ true → is_lt (ordering_reverse o) ≡ false
 turned Less e = refl
 turned Equal e = refl
 turned Greater e = absurd (true≢false (sym e))

@@ -14,7 +14,7 @@ use Rattle.rt_query.specs.Needed.{Supplies, needed}
 use Rattle.rt_query.specs.laws.NeededLaws.{Contains-filter, Contains-from_filter, passes-from_filter, needed_fewest, IsForm}
 use Rattle.rt_query.specs.laws.QueryEq.{query_eq_tells}
 use Rattle.rt_query.specs.laws.SupplyLaws.{form_filtered}
-use Rattle.rt_cache.specs.QueryOrder.{query_cmp}
+use Rattle.rt_query.specs.QueryOrder.{query_cmp}
 use Rattle.rt_cache.specs.Brought.{Window, Brought, Base, region_part, window_of, base, knows}
 use Rattle.rt_cache.specs.Canonical.{IsCanonical, Belongs}
 use Rattle.rt_cache.specs.Recover.{reaches, regions_kept, is_among, cut, is_lost, heirs, window_left, handed_on, recover}
@@ -24,7 +24,7 @@ use Rattle.rt_cache.proofs.Heirs.{heir_is}
 use Rattle.rt_cache.proofs.Keeping.{find-both, find-for_each}
 use Rattle.rt_cache.proofs.Listing.{find-listed}
 use Rattle.rt_cache.proofs.Moves.{IsBrought, IsChange}
-use Rattle.rt_cache.proofs.QueryOrders.{exact_queries}
+use Rattle.rt_query.specs.laws.QueryOrder.{exact_queries}
 use Rattle.rt_cache.proofs.RecoverLaws.{left_registered}
 use Rattle.rt_cache.proofs.RunLaws.{never}
 use Rattle.rt_cache.proofs.Sources.{found_all, apart_found}

@@ -19,7 +19,7 @@ use Rattle.rt_query.specs.Supply.{does_supply}
 use Rattle.rt_query.specs.laws.NeededLaws.{Contains-filter, Contains-from_filter, passes-from_filter}
 use Rattle.rt_query.specs.laws.QueryEq.{query_eq_tells}
 use Rattle.rt_query.specs.laws.SupplyLaws.{supply_filtered, supplied_has_path}
-use Rattle.rt_cache.specs.QueryOrder.{query_cmp}
+use Rattle.rt_query.specs.QueryOrder.{query_cmp}
 use Rattle.rt_cache.specs.Brought.{Window, Brought, Base, nothing_brought, is_supplied, may_put, region_part, region_put, window_of, window_pushed, windows_beside, windows_pushed, base, knows, push_plain, push}
 use Rattle.rt_cache.specs.Canonical.{IsCanonical, Belongs}
 use Rattle.rt_cache.specs.Recover.{reaches, regions_kept, is_among, cut, is_lost, heirs, window_left, handed_on, recover}
@@ -40,7 +40,7 @@ use Rattle.rt_cache.proofs.Keeping.{find-both, find-for_each}
 use Rattle.rt_cache.proofs.Listing.{find-listed}
 use Rattle.rt_cache.proofs.Places.{or_left, or_right, or_true, or_false, unseen}
 use Rattle.rt_cache.proofs.Pushes.{push_of_plain, push_of_filtered}
-use Rattle.rt_cache.proofs.QueryOrders.{queries_total, exact_queries, tie_is_eq}
+use Rattle.rt_query.specs.laws.QueryOrder.{queries_total, exact_queries, tie_is_eq}
 use Rattle.rt_cache.proofs.RunLaws.{never, run_known, step_known, held_part, nothing_canonical}
 use Rattle.rt_cache.proofs.Sources.{there_found, knew_by, knows_by, of_part, of_window, region_base, window_base, own_source, no_source, has_it, find_passes, found_all}
 use Rattle.rt_cache.proofs.Stays.{Windows, push_stays}

@@ -12,7 +12,7 @@ use Rattle.std.proofs.lemmas.List.Sorted.{sorted_far}
 use Rattle.rt_query.specs.Queries.{Query}
 use Rattle.rt_query.specs.QueryEq.{query_eq}
 use Rattle.rt_query.specs.laws.QueryEq.{query_eq_tells}
-use Rattle.rt_cache.specs.QueryOrder.{query_cmp}
+use Rattle.rt_query.specs.QueryOrder.{query_cmp}
 use Rattle.rt_cache.specs.Brought.{Window, window_of}
 use Rattle.rt_cache.specs.Recover.{in_query_order, is_among}
 use Rattle.rt_cache.specs.declared.window.Window as inside
@@ -20,7 +20,7 @@ use Rattle.rt_cache.specs.inside.ByPath.{by_query, AreByPath}
 use Rattle.rt_cache.specs.inside.Held.{seen_window, entries_of}
 use Rattle.rt_cache.proofs.ByPaths.{query_ranks}
 use Rattle.rt_cache.proofs.Listing.{Listed, listed_is, listed_sorted, find-listed}
-use Rattle.rt_cache.proofs.QueryOrders.{queries_total, exact_queries, tie_is_eq}
+use Rattle.rt_query.specs.laws.QueryOrder.{queries_total, exact_queries, tie_is_eq}
 
 -- ---- one taken out
 

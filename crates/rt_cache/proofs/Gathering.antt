@@ -21,7 +21,7 @@ use Rattle.rt_query.specs.laws.NeededLaws.{Contains-filter}
 use Rattle.rt_query.specs.laws.QueryEq.{query_eq_tells}
 use Rattle.rt_query.specs.laws.RangeLaws.{taken_in}
 use Rattle.rt_query.specs.laws.SupplyLaws.{same_tests, supply_filtered, supplied_has_path}
-use Rattle.rt_cache.specs.QueryOrder.{query_cmp}
+use Rattle.rt_query.specs.QueryOrder.{query_cmp}
 use Rattle.rt_cache.specs.Recover.{in_query_order, is_among}
 use Rattle.rt_cache.specs.declared.region.Region.{Region}
 use Rattle.rt_cache.specs.declared.registered.Form.{Form}

@@ -13,7 +13,7 @@ use Rattle.rt_query.specs.Queries.{Query, is_filtered}
 use Rattle.rt_query.specs.Supply.{does_supply}
 use Rattle.rt_query.specs.Needed.{needed}
 use Rattle.rt_query.specs.laws.SupplyLaws.{same_tests, supplied_has_path}
-use Rattle.rt_cache.specs.QueryOrder.{query_cmp}
+use Rattle.rt_query.specs.QueryOrder.{query_cmp}
 use Rattle.rt_cache.specs.Brought.{Window, Brought, region_part, base, knows}
 use Rattle.rt_cache.specs.Recover.{reaches, regions_kept, in_query_order, is_among, cut, is_lost, heirs, window_left, handed_on}
 use Rattle.rt_cache.specs.declared.region.Region.{Region}

@@ -8,13 +8,13 @@ use Rattle.std.specs.FinMap as map_of
 use Rattle.std.proofs.lemmas.List.Elements.{All-cons, All-head, All-tail}
 use Rattle.rt_query.specs.Queries.{Query, is_filtered}
 use Rattle.rt_query.specs.QueryEq.{query_eq}
-use Rattle.rt_cache.specs.QueryOrder.{query_cmp}
+use Rattle.rt_query.specs.QueryOrder.{query_cmp}
 use Rattle.rt_cache.specs.Brought.{Window}
 use Rattle.rt_cache.specs.Recover.{in_query_order, is_among}
 use Rattle.rt_cache.specs.declared.window.Window as inside
 use Rattle.rt_cache.specs.inside.Held.{seen_window, entry_of, entries_of, for_each}
 use Rattle.rt_cache.proofs.Listing.{Listed}
-use Rattle.rt_cache.proofs.QueryOrders.{queries_total, exact_queries, tie_is_eq}
+use Rattle.rt_query.specs.laws.QueryOrder.{queries_total, exact_queries, tie_is_eq}
 use Rattle.rt_cache.proofs.Stays.{AreFiltered, filtered-put}
 
 -- what is found of the queries' windows

@@ -15,19 +15,21 @@ use Rattle.rt_tree.specs.Assignments.{is_at_or_above, have_overlap}
 use Rattle.rt_tree.specs.TreeEq.{both_first, both_second, both}
 use Rattle.rt_query.specs.Queries.{Query, is_filtered}
 use Rattle.rt_query.specs.QueryEq.{query_eq}
+use Rattle.rt_query.specs.QueryOrder.{query_cmp}
 use Rattle.rt_cache.specs.Brought.{region_part}
 use Rattle.rt_cache.specs.Recover.{reaches, regions_kept, is_among}
 use Rattle.rt_cache.specs.declared.by_path.Lent.{Lent}
 use Rattle.rt_cache.specs.declared.region.Region.{Region}
 use Rattle.rt_cache.specs.declared.spans.Span.{Span}
 use Rattle.rt_cache.specs.declared.window.Window.{Window}
-use Rattle.rt_cache.specs.inside.ByPath.{AreByPath}
+use Rattle.rt_cache.specs.inside.ByPath.{AreByQuery}
 use Rattle.rt_cache.specs.inside.Cuts.{parts_left, IsCut}
 use Rattle.rt_cache.specs.inside.Handing.{lent_queries, window_queries, is_alike, is_region_lost, AreThose}
 use Rattle.rt_cache.specs.inside.Held.{pair_of, pairs_of}
 use Rattle.rt_cache.specs.inside.Spans.{have_place}
 use Rattle.rt_cache.proofs.Among.{any_with, of_among}
-use Rattle.rt_cache.proofs.ByPaths.{any_map, by_path-filter}
+use Rattle.rt_cache.proofs.ByPaths.{any_map}
+use Rattle.rt_cache.proofs.ByQueries.{by_query-filter}
 use Rattle.rt_cache.proofs.Cuts.{part_any}
 use Rattle.rt_cache.proofs.Parts.{all_dropped, held_by, held_at, of_not}
 
@@ -42,15 +44,15 @@ nothing_left [] e = refl
 nothing_left (x ∷ xs) e = absurd (omega (arith, e))
 
 -- in order by what they give
-pub by_path-mapped : {X : Type 0} (q : X → Query) (xs : List X) → AreByPath q xs → AreByPath (λ (x : Query). x) (map q xs)
-by_path-mapped q [] up k d low high = absurd (omega (arith, high))
-by_path-mapped q (x ∷ xs) up k d low high =
+pub by_query-mapped : {X : Type 0} (q : X → Query) (xs : List X) → AreByQuery q xs → AreByQuery (λ (x : Query). x) (map q xs)
+by_query-mapped q [] up k d low high = absurd (omega (arith, high))
+by_query-mapped q (x ∷ xs) up k d low high =
     let there : k + 1 < length (x ∷ xs) = subst (λ n. k + 1 < n) (same_length q (x ∷ xs)) high in
-    (λ i. is_lt (path_cmp (get_or-map q (x ∷ xs) (k + 1) x d there i).path (get_or-map q (x ∷ xs) k x d (omega (arith, there)) i).path)) ∙ up k x low there
+    (λ i. is_lt (query_cmp (get_or-map q (x ∷ xs) (k + 1) x d there i) (get_or-map q (x ∷ xs) k x d (omega (arith, there)) i))) ∙ up k x low there
 
-pub by_path-from_mapped : {X : Type 0} (q : X → Query) (xs : List X) → AreByPath (λ (x : Query). x) (map q xs) → AreByPath q xs
-by_path-from_mapped q xs up k d low high =
-    sym (λ i. is_lt (path_cmp (get_or-map q xs (k + 1) d (q d) high i).path (get_or-map q xs k d (q d) (omega (arith, high)) i).path))
+pub by_query-from_mapped : {X : Type 0} (q : X → Query) (xs : List X) → AreByQuery (λ (x : Query). x) (map q xs) → AreByQuery q xs
+by_query-from_mapped q xs up k d low high =
+    sym (λ i. is_lt (query_cmp (get_or-map q xs (k + 1) d (q d) high i) (get_or-map q xs k d (q d) (omega (arith, high)) i)))
     ∙ up k (q d) low (subst (λ n. k + 1 < n) (sym (same_length q xs)) high)
 
 pub all-from_mapped : {X Y : Type 0} (P : Y → Type 0) (f : X → Y) (xs : List X) → All P (map f xs) → All (λ x. P (f x)) xs
@@ -186,10 +188,10 @@ none_lost were filtered kept rs ss ps listed apart cut clear q f m =
 -- ---- those that lose what they had
 
 pub losing_order : (test : Query → Bool) (forms losing : List Lent) → lent_queries losing ≡ filter test (lent_queries forms)
-    → AreByPath (λ (l : Lent). l.query.now) forms → AreByPath (λ (l : Lent). l.query.now) losing
+    → AreByQuery (λ (l : Lent). l.query.now) forms → AreByQuery (λ (l : Lent). l.query.now) losing
 losing_order test forms losing e up =
-    by_path-from_mapped (λ (l : Lent). l.query.now) losing
-    (subst (AreByPath (λ (x : Query). x)) (sym e) (by_path-filter (λ (x : Query). x) test (lent_queries forms) (by_path-mapped (λ (l : Lent). l.query.now) forms up)))
+    by_query-from_mapped (λ (l : Lent). l.query.now) losing
+    (subst (AreByQuery (λ (x : Query). x)) (sym e) (by_query-filter (λ (x : Query). x) test (lent_queries forms) (by_query-mapped (λ (l : Lent). l.query.now) forms up)))
 
 pub losing_filtered : (here rest : Query → Bool) (forms losing : List Lent) → lent_queries losing ≡ filter (λ q. here q && (is_filtered q && rest q)) (lent_queries forms)
     → All (λ (l : Lent). is_filtered l.query.now ≡ true) losing

@@ -24,7 +24,7 @@ use Rattle.rt_tree.specs.TreeEq.{both_first, both_second}
 use Rattle.rt_query.specs.Queries.{Query, is_filtered}
 use Rattle.rt_query.specs.Supply.{does_supply}
 use Rattle.rt_query.specs.laws.SupplyLaws.{supplied_has_path}
-use Rattle.rt_cache.specs.QueryOrder.{query_cmp}
+use Rattle.rt_query.specs.QueryOrder.{query_cmp}
 use Rattle.rt_cache.specs.Brought.{Window, Brought, Base, region_part, region_put, window_of}
 use Rattle.rt_cache.specs.Brought.{window_pushed, windows_pushed, push_plain, push, base, base_child}
 use Rattle.rt_cache.specs.Brought.{child_base}
@@ -39,7 +39,7 @@ use Rattle.rt_cache.specs.declared.spans.Span.{Span}
 use Rattle.rt_cache.specs.inside.Spans.{has_place, have_place}
 use Rattle.rt_cache.proofs.Heirs.{heir_is, handed_all}
 use Rattle.rt_cache.proofs.Pushes.{push_of_filtered, push_of_plain}
-use Rattle.rt_cache.proofs.QueryOrders.{exact_queries}
+use Rattle.rt_query.specs.laws.QueryOrder.{exact_queries}
 use Rattle.rt_cache.proofs.RecoverLaws.{All-filter_map, All-flat_map, with_all, listed_all}
 use Rattle.rt_cache.proofs.RecoverLaws.{pushed_all, pushed_windows_all}
 use Rattle.rt_cache.proofs.Sources.{found_all, find_passes, has_it, of_window, region_base, window_base}

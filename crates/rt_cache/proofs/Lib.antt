@@ -1,8 +1,10 @@
 pub mod Among
+pub mod Apart
 pub mod Bases
 pub mod Belonging
 pub mod ByListens
 pub mod ByPaths
+pub mod ByQueries
 pub mod Changes
 pub mod Changing
 pub mod Cuts
@@ -24,7 +26,6 @@ pub mod Moves
 pub mod Parts
 pub mod Places
 pub mod Pushes
-pub mod QueryOrders
 pub mod RecoverLaws
 pub mod Removing
 pub mod RunLaws
@@ -36,4 +37,5 @@ pub mod Strips
 pub mod Suppliers
 pub mod Under
 pub mod Unmoved
+pub mod Unsupplied
 pub mod WindowPushes

@@ -12,12 +12,12 @@ use Rattle.std.specs.FinMap.Entries.{is_sorted-put, is_sorted-where_key, find-pu
 use Rattle.rt_query.specs.Queries.{Query}
 use Rattle.rt_query.specs.QueryEq.{query_eq}
 use Rattle.rt_query.specs.laws.QueryEq.{query_eq_tells}
-use Rattle.rt_cache.specs.QueryOrder.{query_cmp}
+use Rattle.rt_query.specs.QueryOrder.{query_cmp}
 use Rattle.rt_cache.specs.Brought.{Window}
 use Rattle.rt_cache.specs.Recover.{in_query_order}
 use Rattle.rt_cache.specs.declared.window.Window as inside
 use Rattle.rt_cache.specs.inside.Held.{seen_window, entries_of}
-use Rattle.rt_cache.proofs.QueryOrders.{queries_total, exact_queries, tie_is_eq}
+use Rattle.rt_query.specs.laws.QueryOrder.{queries_total, exact_queries, tie_is_eq}
 
 abbrev pub Listed : Type 0
 Listed = List (Query × Window)

@@ -19,7 +19,7 @@ use Rattle.rt_query.specs.Queries.{Query, is_filtered}
 use Rattle.rt_query.specs.Needed.{needed}
 use Rattle.rt_query.specs.Supply.{does_supply}
 use Rattle.rt_tree.specs.TreeEq.{both_first, both_second}
-use Rattle.rt_cache.specs.QueryOrder.{query_cmp}
+use Rattle.rt_query.specs.QueryOrder.{query_cmp}
 use Rattle.rt_cache.specs.Brought.{Window, Brought, nothing_brought, region_part, region_put}
 use Rattle.rt_cache.specs.Brought.{window_of, window_pushed, windows_beside, windows_pushed, push_plain, push, knows}
 use Rattle.rt_cache.specs.Canonical.{IsCanonical}
@@ -32,7 +32,7 @@ use Rattle.rt_cache.proofs.Among.{among}
 use Rattle.rt_cache.proofs.Changes.{recover_stays}
 use Rattle.rt_cache.proofs.Heirs.{left_forms, handed_heirs}
 use Rattle.rt_cache.proofs.Listing.{listed_is}
-use Rattle.rt_cache.proofs.QueryOrders.{exact_queries}
+use Rattle.rt_query.specs.laws.QueryOrder.{exact_queries}
 use Rattle.rt_cache.proofs.Sources.{knows_by, knew_by}
 use Rattle.rt_cache.proofs.Stays.{beside_all, push_stays}
 

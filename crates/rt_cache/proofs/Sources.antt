@@ -21,7 +21,7 @@ use Rattle.rt_query.specs.Supply.{does_supply}
 use Rattle.rt_query.specs.laws.NeededLaws.{supplies_itself}
 use Rattle.rt_query.specs.laws.QueryEq.{query_eq_tells}
 use Rattle.rt_query.specs.laws.SupplyLaws.{same_tests, form_filtered}
-use Rattle.rt_cache.specs.QueryOrder.{query_cmp}
+use Rattle.rt_query.specs.QueryOrder.{query_cmp}
 use Rattle.rt_cache.specs.Brought.{Window, Brought, Base, region_part, window_of, source, base, knows}
 use Rattle.rt_cache.specs.Recover.{in_query_order}
 use Rattle.rt_cache.specs.declared.window.Window as inside
@@ -30,7 +30,7 @@ use Rattle.rt_cache.specs.inside.Sources.{source_among, HaveForms}
 use Rattle.rt_cache.proofs.Among.{any_with}
 use Rattle.rt_cache.proofs.ByPaths.{any_at, any_map}
 use Rattle.rt_cache.proofs.Listing.{Listed, find-listed}
-use Rattle.rt_cache.proofs.QueryOrders.{queries_total, exact_queries, tie_is_eq}
+use Rattle.rt_query.specs.laws.QueryOrder.{queries_total, exact_queries, tie_is_eq}
 
 -- ---- lists
 

@@ -12,13 +12,13 @@ use Rattle.std.proofs.lemmas.List.Elements.{All-cons, All-head, All-tail, All-fi
 use Rattle.rt_tree.specs.PathTree.{Path, PathTree, path_cmp, paths_total, strip, sub}
 use Rattle.rt_tree.specs.Assignments.{Assignment, is_at_or_above, do_overlap, have_overlap}
 use Rattle.rt_query.specs.Queries.{Query, is_filtered}
-use Rattle.rt_cache.specs.QueryOrder.{query_cmp}
+use Rattle.rt_query.specs.QueryOrder.{query_cmp}
 use Rattle.rt_query.specs.QueryEq.{query_eq}
 use Rattle.rt_query.specs.Supply.{does_supply}
 use Rattle.rt_cache.specs.Brought.{Window, Brought, region_part, region_put, window_of, window_pushed, windows_beside, windows_pushed, push_plain, push}
 use Rattle.rt_cache.specs.Canonical.{IsCanonical}
 use Rattle.rt_cache.proofs.Places.{or_left, or_right, or_false}
-use Rattle.rt_cache.proofs.QueryOrders.{queries_total}
+use Rattle.rt_query.specs.laws.QueryOrder.{queries_total}
 
 abbrev pub Regions : Type 0
 Regions = List (Path × PathTree)

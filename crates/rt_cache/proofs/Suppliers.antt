@@ -18,7 +18,7 @@ use Rattle.rt_query.specs.Supply.{does_supply}
 use Rattle.rt_query.specs.laws.NeededLaws.{supplies_itself}
 use Rattle.rt_query.specs.laws.QueryEq.{query_eq_tells}
 use Rattle.rt_query.specs.laws.SupplyLaws.{same_tests, form_filtered, supplied_has_path}
-use Rattle.rt_cache.specs.QueryOrder.{query_cmp}
+use Rattle.rt_query.specs.QueryOrder.{query_cmp}
 use Rattle.rt_cache.specs.Brought.{Window, is_another_at}
 use Rattle.rt_cache.specs.Recover.{in_query_order}
 use Rattle.rt_cache.specs.declared.registered.Form.{Form}
@@ -45,32 +45,9 @@ no_other f q h = at (does_supply f q) refl
     at false e = ap (λ b. not (query_eq f q) && b) e ∙ and_no (not (query_eq f q))
     at true e = absurd (h e)
 
--- a filtered query supplies none of a path in front, and is supplied by none of one
-pub none_in_front : (f q : Query) → is_filtered f ≡ true → is_lt (path_cmp f.path q.path) ≡ true → is_other_supplier f q ≡ false
-none_in_front f q filtered before = no_other f q (λ e. not_itself q.path f.path before (supplied_has_path f q filtered e))
-
+-- a filtered query supplies none of a path in front
 pub supplies_none_in_front : (f q : Query) → is_filtered f ≡ true → is_lt (path_cmp q.path f.path) ≡ true → is_other_supplier f q ≡ false
 supplies_none_in_front f q filtered before = no_other f q (λ e. not_itself f.path q.path before (sym (supplied_has_path f q filtered e)))
-
--- none so far passes a test, nor the next
-pub none_more : {X : Type 0} (test : X → Bool) (xs : List X) (from n : ℕ) (x : X) → n < length xs → test (get_or xs n x) ≡ false
-    → ((k : ℕ) (d : X) → from ≤ k → k < n → test (get_or xs k d) ≡ false) → (k : ℕ) (d : X) → from ≤ k → k < n + 1 → test (get_or xs k d) ≡ false
-none_more test xs from n x lt here before k d le h =
-    below_more (λ j. from ≤ j → test (get_or xs j d) ≡ false) n (λ j g l. before j d l g) (λ l. ap test (get_or_default xs n d x lt) ∙ here) k h le
-
--- where one stands of a path behind, no other supplier is left
-pub none_left : {X : Type 0} (q : X → Query) (of : Query) (xs : List X) (from n : ℕ) → AreByPath q xs → All (λ x. is_filtered (q x) ≡ true) xs → n < length xs
-    → ((d : X) → is_lt (path_cmp (q (get_or xs n d)).path of.path) ≡ false)
-    → ((d : X) → path_eq of.path (q (get_or xs n d)).path ≡ false)
-    → ((k : ℕ) (d : X) → from ≤ k → k < n → is_other_supplier (q (get_or xs k d)) of ≡ false)
-    → (k : ℕ) (d : X) → from ≤ k → k < length xs → is_other_supplier (q (get_or xs k d)) of ≡ false
-none_left {X = X} q of xs from n up filtered within not_before other before k d le lt = at (nat_lt k n) refl
-  where
-    at : (b : Bool) → nat_lt k n ≡ b → is_other_supplier (q (get_or xs k d)) of ≡ false
-    at true e = before k d le (ltb-true k n e)
-    at false e = no_other (q (get_or xs k d)) of (λ s.
-        path_behind q of.path xs n up within not_before (λ x a b. true≢false (sym (neither_before of.path (q (get_or xs n x)).path b a) ∙ other x))
-        k d (ltb-false k n e) lt (supplied_has_path (q (get_or xs k d)) of (filtered k d lt) s))
 
 -- what stands at another path is no other query of this one's
 pub other_path : (q f : Query) → (f.path ≡ q.path → ⊥) → is_another_at q f ≡ false
@@ -99,27 +76,6 @@ another_left {X = X} q of xs n up within not_before other before = none_of (λ x
         at false e = other_path of (q (get_or xs k d)) (λ s.
             path_behind q of.path xs n up within not_before (λ x a b. true≢false (sym (neither_before (q (get_or xs n x)).path of.path a b) ∙ other x))
             k d (ltb-false k n e) lt s)
-
--- one is found from where the path stands, or there is none
-pub other_found : {X : Type 0} (q : X → Query) (of : Query) (xs : List X) (from : ℕ) (o : Option ℕ) → All (λ x. is_filtered (q x) ≡ true) xs → from ≤ length xs
-    → AllWithin (λ (x : X). is_lt (path_cmp (q x).path of.path) ≡ true) xs 0 from
-    → IfSome o (λ n. (from ≤ n) × (n < length xs))
-    → IfSome o (λ n. (d : X) → is_other_supplier (q (get_or xs n d)) of ≡ true)
-    → IfNone o ((k : ℕ) (d : X) → from ≤ k → k < length xs → is_other_supplier (q (get_or xs k d)) of ≡ false)
-    → is_some o ≡ list_any (λ x. is_other_supplier (q x) of) xs
-other_found {X = X} q of xs from None filtered up_to front within own none = sym (none_of (λ x. is_other_supplier (q x) of) xs all)
-  where
-    all : (k : ℕ) (d : X) → k < length xs → is_other_supplier (q (get_or xs k d)) of ≡ false
-    all k d lt = at (nat_lt k from) refl
-      where
-        at : (b : Bool) → nat_lt k from ≡ b → is_other_supplier (q (get_or xs k d)) of ≡ false
-        at true e = none_in_front (q (get_or xs k d)) of (filtered k d lt) (front k d (omega arith) (ltb-true k from e))
-        at false e = none k d (ltb-false k from e) lt
-other_found {X = X} q of xs from (Some n) filtered up_to front within own none = sym (one xs within.1 own)
-  where
-    one : (ys : List X) → n < length ys → ((d : X) → is_other_supplier (q (get_or ys n d)) of ≡ true) → list_any (λ x. is_other_supplier (q x) of) ys ≡ true
-    one [] lt h = absurd (omega (arith, lt))
-    one (y ∷ ys) lt h = any_at (λ x. is_other_supplier (q x) of) (y ∷ ys) n y lt (h y)
 
 -- what is the query, or another one that supplies it, is what supplies it
 pub supplier_is : {X : Type 0} (q : X → Query) (of : Query) (xs : List X) → All (λ x. is_filtered (q x) ≡ true) xs
@@ -193,16 +149,6 @@ found_filtered_form ws f filtered e =
     let a = Any-from_list_any (λ (w : inside.Window). query_eq w.query f) ws
     (any_map entry_of (λ (x : Query × Window). query_eq x.0 f) ws ∙ sym (any_found f (entries_of ws)) ∙ e) in
     ap is_filtered (sym ((query_eq_tells (a.1).query f).0 a.4)) ∙ All-contains (λ (w : inside.Window). is_filtered w.query ≡ true) ws a.1 filtered (a.0, a.2, a.3)
-
-pub before_none : (q : Query) (ws : List inside.Window) (from n : ℕ) → All (λ (w : inside.Window). is_filtered w.query ≡ true) ws → n ≤ length ws
-    → AllWithin (λ (w : inside.Window). is_lt (path_cmp (w.query).path q.path) ≡ true) ws 0 from
-    → ((k : ℕ) (d : inside.Window) → from ≤ k → k < n → is_other_supplier (get_or ws k d).query q ≡ false)
-    → (k : ℕ) (d : inside.Window) → k < n → is_other_supplier (get_or ws k d).query q ≡ false
-before_none q ws from n filtered up_to front before k d lt = at (nat_lt k from) refl
-  where
-    at : (b : Bool) → nat_lt k from ≡ b → is_other_supplier (get_or ws k d).query q ≡ false
-    at true e = none_in_front (get_or ws k d).query q (filtered k d (omega (arith, lt, up_to))) (front k d (omega arith) (ltb-true k from e))
-    at false e = before k d (ltb-false k from e) lt
 
 module _ (registered : List Query) (ws : List inside.Window) (q : Query) (n : ℕ) (h : HaveForms registered (in_query_order (entries_of ws)))
     (none : map_of.find query_cmp q (entries_of ws) ≡ None) (within : n < length ws)

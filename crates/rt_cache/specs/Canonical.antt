@@ -8,7 +8,7 @@ use Rattle.rt_tree.specs.declared.limits.TheConstants.{MAX_LEVELS}
 use Rattle.rt_tree.specs.Assignments.{is_at_or_above, have_overlap}
 use Rattle.rt_query.specs.Queries.{Query, is_filtered}
 use Rattle.rt_query.specs.Supply.{does_supply}
-use Rattle.rt_cache.specs.QueryOrder.{query_cmp}
+use Rattle.rt_query.specs.QueryOrder.{query_cmp}
 use Rattle.rt_cache.specs.Brought.{Window, Brought}
 use Rattle.rt_cache.specs.Recover.{reaches}
 

@@ -10,7 +10,7 @@ use Rattle.rt_query.specs.Queries.{Query, is_filtered}
 use Rattle.rt_query.specs.QueryEq.{query_eq}
 pub use Rattle.rt_query.specs.Apart.{plain_spots, do_plains_overlap}
 use Rattle.rt_query.specs.Needed.{needed}
-use Rattle.rt_cache.specs.QueryOrder.{query_cmp}
+use Rattle.rt_query.specs.QueryOrder.{query_cmp}
 use Rattle.rt_cache.specs.Brought.{Window, Brought, Base, source, base, knows}
 
 -- whether a plain listen is at or above p

@@ -10,7 +10,7 @@ ghost use Rattle.rt_query.specs.Queries.{Query};
 ghost use Rattle.rt_query.specs.Supply.{form};
 ghost use Rattle.rt_cache.specs.Canonical.{IsCanonical, Belongs};
 ghost use Rattle.rt_cache.specs.Recover.{do_plains_overlap, recover, without_places, EndsForms};
-ghost use Rattle.rt_cache.specs.inside.ByPath.{AreByPath, query_of};
+ghost use Rattle.rt_cache.specs.inside.ByPath.{AreByQuery, query_of};
 ghost use Rattle.rt_cache.specs.inside.Held.{pairs_of, held};
 ghost use Rattle.rt_cache.specs.Brought.{nothing_brought, base, base_child, knows, push_plain};
 ghost use Rattle.rt_cache.specs.Brought.{with_form, may_put, push, is_without_window, source, may_move};
@@ -31,9 +31,9 @@ use std::marker::Model;
 /// which are the known children of filtered queries.
 ///
 /// Regions stand in the order of their paths, and none is at or above another, so that the one at
-/// or above a path is found by halving. Windows stand in the order of their queries' paths, so that
-/// those of a path are found by halving too. A tree that a call doesn't touch is neither copied nor
-/// walked, and all parts that are handed out are shared copies. Each form, region and window stands in
+/// or above a path is found by halving. Windows stand in the order of their queries, so that the one
+/// of a query is found by halving, and one that supplies it too. A tree that a call doesn't touch is
+/// neither copied nor walked, and all parts that are handed out are shared copies. Each form, region and window stands in
 /// memory of its own, so that a list moves a pointer to it and no more.
 pub struct Brought {
     registered: Forms,
@@ -57,14 +57,14 @@ impl Model for Brought {
     ghost Value = { what.Brought };
 
     ghost use Rattle.rt_cache.specs.Canonical.{IsCanonical, FitsLevels, Belongs};
-    ghost use Rattle.rt_cache.specs.inside.ByPath.{AreByPath, query_of};
+    ghost use Rattle.rt_cache.specs.inside.ByPath.{AreByQuery, query_of};
     ghost use Rattle.rt_cache.specs.inside.Held.{held, AreShort};
 
     ghost view = { λ a. held a.registered a.regions.items a.windows.items };
 
     ghost invariant = { λ a. IsCanonical (held a.registered a.regions.items a.windows.items)
         × FitsLevels (held a.registered a.regions.items a.windows.items)
-        × AreByPath query_of a.windows.items
+        × AreByQuery query_of a.windows.items
         × Belongs (held a.registered a.regions.items a.windows.items)
         × AreShort a.registered };
 }
@@ -80,8 +80,8 @@ fn put_plain(
     requires levels { length path.now + levels tree.now ≤ MAX_LEVELS }
     requires sorted { T (map_of.is_sorted path_cmp (pairs_of regions.old.items)) }
     requires apart { have_overlap (pairs_of regions.old.items) ≡ false }
-    requires windows { AreByPath query_of windows.old.items }
-    ensures order { AreByPath query_of windows.new.items }
+    requires windows { AreByQuery query_of windows.old.items }
+    ensures order { AreByQuery query_of windows.new.items }
     ensures ok { (fs : List Query) → OnOk result (held fs regions.new.items windows.new.items
         ≡ push_plain (held fs regions.old.items windows.old.items) (path.now, tree.now)) }
     ensures err { (fs : List Query) → OnErr result (held fs regions.new.items windows.new.items
@@ -151,9 +151,9 @@ impl Brought {
     /// where there is none ([`Brought::lacks_window`]): the push is stale and changes nothing.
     ///
     /// Finds the region by halving, where keys that the path shares with all regions that are left
-    /// are not compared again, or the window by halving, where it goes over those of its path alone,
+    /// are not compared again, or the window by halving,
     /// and then costs by the path and the tree that is put. A new window moves a pointer of each of those
-    /// behind it. A push that begins a region finds those that it takes in by
+    /// behind it. A push at the path of a filtered query looks at each window of that path. A push that begins a region finds those that it takes in by
     /// halving, drops them, and moves a pointer of each of the regions and windows behind it. No other
     /// tree is walked.
     ///
@@ -179,8 +179,7 @@ impl Brought {
     /// Whether something is brought for the query: a region at or above its path, or a window whose
     /// form supplies it.
     ///
-    /// Finds the region by halving, and where there is none the window, of those of its path. Builds no
-    /// tree, and takes no memory.
+    /// Finds the region by halving, and where there is none a window. Builds no tree, and takes no memory.
     pub fn knows(&self, query: &Query) -> bool
         ensures known { result ≡ knows self.now query.now }
         ensures canonical { IsCanonical self.now }
@@ -192,8 +191,8 @@ impl Brought {
     /// Whether a push on the listen of this query at the path would be stale, for want of a window:
     /// [`Brought::put`] would give `Ok(false)`, whatever the tree.
     ///
-    /// Finds the window by halving, of those of its path, if the query is filtered and the path is not
-    /// its own. Takes no memory.
+    /// Finds the window by halving, if the query is filtered and the path is not its own. Takes no
+    /// memory.
     pub fn lacks_window(&self, query: &Query, path: &Path) -> bool
         ensures { (u : PathTree) → result ≡ is_without_window self.now query.now (path.now, u) }
     {
@@ -284,7 +283,7 @@ impl Brought {
     /// the form has a window and no limit, and another window stands at its path. Where no form of a
     /// listener that ends may, no query gets another form's window instead of one that it had.
     ///
-    /// Finds the windows of the path by halving, and goes over these alone. Takes no memory.
+    /// Finds the window, and the first of the path, by halving. Takes no memory.
     pub fn may_move(&self, form: &Query) -> bool
         ensures { result ≡ may_move self.now form.now }
     {
@@ -308,8 +307,9 @@ impl Brought {
     /// paths that halving meets, and no tree. For each plain listen kept it finds by halving the region
     /// above it and whether that is lost. It sorts the registered forms by path, without copying one,
     /// and looks for the form of each window by halving. For each registered filtered form it finds by
-    /// halving the region above it, and goes over the windows and the losing forms of its path. It
-    /// copies only the parts and the windows that are handed on. For each row of lost regions, and for
+    /// halving the region above it and the windows that supply it, and goes over these. Of the forms that
+    /// lose something it finds the widest by halving. It copies only the parts and the windows that are
+    /// handed on. For each row of lost regions, and for
     /// each part or window, a pointer of each of those behind is moved; where none is lost, no region is
     /// touched.
     ///
@@ -342,8 +342,8 @@ impl Brought {
     /// Finds what these forms and listens name by halving: the regions at and under each plain one, the
     /// region above each listen that begins, the window of each form that ends. Of the filtered forms it
     /// looks at those at or under a region that is lost, and at those of the path of a form without limit
-    /// that ends and has a window. Of the windows it looks at those of these paths. It sorts the forms that
-    /// end, and those that it looks at, by path. It copies only the parts
+    /// that ends and has a window. Of the windows it looks at those that supply one of these. It sorts
+    /// the forms that end, and those that it looks at, by query. It copies only the parts
     /// and the windows that are handed on, and moves pointers to what stands behind.
     ///
     /// An `Err` is want of memory, and changes nothing.

@@ -1,21 +1,22 @@
 // What has a query, in the order of the paths: those of one path stand together, and are found by
-// halving.
+// halving. Where they stand in the order of the queries, so is one of them.
 ghost use Rattle.std.specs.Prelude.{◌≡◌, ℕ, ◌+◌, ◌<◌, ◌≤◌, ◌&&◌, Bool, true, false, not, is_some, length, map};
 ghost use Rattle.std.specs.Prelude.{slice_index_or, IfOk, IfSome, IfNone};
 ghost use Rattle.std.specs.List.{list_any, All};
 ghost use Rattle.std.specs.List.Sorted.{IsPartitionPoint};
-ghost use Rattle.std.specs.Ordering.{is_lt};
+ghost use Rattle.std.specs.Ordering.{is_lt, is_gt};
 ghost use Rattle.rt_tree.specs.PathTree.{path_cmp};
 ghost use Rattle.rt_tree.specs.Assignments.{is_at_or_above};
 ghost use Rattle.rt_query.specs.Queries.{Query, is_filtered};
 ghost use Rattle.rt_query.specs.QueryEq.{query_eq};
+ghost use Rattle.rt_query.specs.QueryOrder.{query_cmp, unlimited};
 ghost use Rattle.rt_query.specs.Supply.{does_supply};
 ghost use Rattle.rt_cache.specs.Brought.{is_another_at};
-ghost use Rattle.rt_cache.specs.inside.ByPath.{AreByPath, is_other_supplier};
+ghost use Rattle.rt_cache.specs.inside.ByPath.{AreByPath, AreByQuery, AreApart, is_other_supplier};
 ghost use Rattle.rt_cache.specs.inside.Spans.{has_place};
 
 use crate::spans::Span;
-use rt_query::Query;
+use rt_query::{Query, query_cmp, unlimited_cmp};
 use rt_tree::Path;
 use std::alloc::{AllocError, Global};
 
@@ -87,9 +88,26 @@ pub(crate) fn span_under<T: HasQuery>(items: &[T], path: &Path) -> Span
     }
 }
 
-// Where the first of the query stands. Goes over those of its path alone.
+// Whether its query stands before this one.
+fn is_before_query<T: HasQuery>(item: &T, query: &Query) -> bool
+    ensures { result ≡ is_lt (query_cmp (T.query_of item.now) query.now) }
+{
+    query_cmp(item.query(), query).is_lt()
+}
+
+// Where the first stands that is not before the query, by halving.
+pub(crate) fn first_of<T: HasQuery>(items: &[T], query: &Query) -> usize
+    requires { AreByQuery T.query_of items.now }
+    ensures within { result ≤ length items.now }
+    ensures point { IsPartitionPoint (λ x. is_lt (query_cmp (T.query_of x) query.now) ≡ true)
+        (λ x. is_lt (query_cmp (T.query_of x) query.now) ≡ false) items.now result }
+{
+    items.partition_point(|item| is_before_query(item, query))
+}
+
+// Where the first of the query stands, by halving.
 pub(crate) fn place_of<T: HasQuery>(items: &[T], query: &Query) -> Option<usize>
-    requires { AreByPath T.query_of items.now }
+    requires { AreByQuery T.query_of items.now }
     ensures known { is_some result ≡ list_any (λ x. query_eq (T.query_of x) query.now) items.now }
     ensures within { IfSome result (λ n. n < length items.now) }
     ensures own { IfSome result (λ n. (d : T)
@@ -97,18 +115,15 @@ pub(crate) fn place_of<T: HasQuery>(items: &[T], query: &Query) -> Option<usize>
     ensures first { IfSome result (λ n. (k : ℕ) (d : T) → k < n
         → query_eq (T.query_of (slice_index_or items.now k d)) query.now ≡ false) }
 {
-    let mut place = first_from(items, query.path());
-    while place < items.len() {
-        let other = items[place].query();
-        if other == query {
-            return Some(place);
-        }
-        if other.path() != query.path() {
-            return None;
-        }
-        place += 1;
+    let place = first_of(items, query);
+    if place == items.len() {
+        return None;
     }
-    None
+    if items[place].query() == query {
+        Some(place)
+    } else {
+        None
+    }
 }
 
 // Whether a query is another one, and supplies this one.
@@ -118,52 +133,84 @@ pub(crate) fn is_other_supplier(other: &Query, query: &Query) -> bool
     other != query && other.supplies(query)
 }
 
-// Where the first stands, from a place on, of another query that supplies this one. Goes over those of
-// its path alone: what is filtered supplies no other path.
-pub(crate) fn other_supplier_from<T: HasQuery>(
-    items: &[T],
-    from: usize,
-    query: &Query,
-) -> Option<usize>
-    requires order { AreByPath T.query_of items.now }
+// Whether it stands, in the order of queries, up to where the query would without its limit.
+fn is_up_to<T: HasQuery>(item: &T, query: &Query) -> bool
+    ensures { result ≡ not (is_gt (query_cmp (T.query_of item.now) (unlimited query.now))) }
+{
+    !unlimited_cmp(item.query(), query).is_gt()
+}
+
+// How many stand up to where the query would without its limit, by halving.
+fn count_up_to<T: HasQuery>(items: &[T], query: &Query) -> usize
+    requires { AreByQuery T.query_of items.now }
+    ensures within { result ≤ length items.now }
+    ensures point { IsPartitionPoint
+        (λ x. not (is_gt (query_cmp (T.query_of x) (unlimited query.now))) ≡ true)
+        (λ x. not (is_gt (query_cmp (T.query_of x) (unlimited query.now))) ≡ false) items.now result }
+{
+    items.partition_point(|item| is_up_to(item, query))
+}
+
+// Where the last stands of another query that supplies this one. Of these queries none supplies another:
+// so where lower cuts rise, upper cuts rise too, and the last that begins no later than the query ends
+// last. It alone is asked.
+pub(crate) fn last_supplier<T: HasQuery>(items: &[T], query: &Query) -> Option<usize>
+    requires order { AreByQuery T.query_of items.now }
     requires filtered { All (λ x. is_filtered (T.query_of x) ≡ true) items.now }
-    requires reached { (k : ℕ) (d : T) → from ≤ k → k < length items.now
-        → is_lt (path_cmp (T.query_of (slice_index_or items.now k d)).path query.now.path) ≡ false }
-    ensures within { IfSome result (λ n. (from ≤ n) × (n < length items.now)) }
+    requires apart { AreApart T.query_of items.now }
+    ensures within { IfSome result (λ n. n < length items.now) }
     ensures own { IfSome result (λ n. (d : T)
         → is_other_supplier (T.query_of (slice_index_or items.now n d)) query.now ≡ true) }
-    ensures first { IfSome result (λ n. (k : ℕ) (d : T) → from ≤ k → k < n
+    ensures last { IfSome result (λ n. (k : ℕ) (d : T) → n + 1 ≤ k → k < length items.now
         → is_other_supplier (T.query_of (slice_index_or items.now k d)) query.now ≡ false) }
-    ensures none { IfNone result ((k : ℕ) (d : T) → from ≤ k → k < length items.now
+    ensures none { IfNone result ((k : ℕ) (d : T) → k < length items.now
         → is_other_supplier (T.query_of (slice_index_or items.now k d)) query.now ≡ false) }
 {
-    let mut place = from;
-    while place < items.len() {
-        let other = items[place].query();
-        if query.path() != other.path() {
-            return None;
-        }
-        if is_other_supplier(other, query) {
-            return Some(place);
-        }
-        place += 1;
+    let count = count_up_to(items, query);
+    if count == 0 {
+        return None;
     }
-    None
+    let place = count - 1;
+    if is_other_supplier(items[place].query(), query) {
+        Some(place)
+    } else {
+        None
+    }
 }
 
-// Whether another query of these supplies this one.
-pub(crate) fn has_other_supplier<T: HasQuery>(items: &[T], query: &Query) -> bool
-    requires order { AreByPath T.query_of items.now }
+// Whether the last that supplies the query is the only one: the one in front of it doesn't.
+pub(crate) fn is_only_supplier<T: HasQuery>(items: &[T], last: usize, query: &Query) -> bool
+    requires order { AreByQuery T.query_of items.now }
     requires filtered { All (λ x. is_filtered (T.query_of x) ≡ true) items.now }
+    requires apart { AreApart T.query_of items.now }
+    requires within { last < length items.now }
+    requires own { (d : T)
+        → is_other_supplier (T.query_of (slice_index_or items.now last d)) query.now ≡ true }
+    ensures { result ≡ true → (k : ℕ) (d : T) → k < last
+        → is_other_supplier (T.query_of (slice_index_or items.now k d)) query.now ≡ false }
+{
+    if last == 0 {
+        return true;
+    }
+    let place = last - 1;
+    !is_other_supplier(items[place].query(), query)
+}
+
+// Whether another query of these supplies this one. None of them supplies another.
+pub(crate) fn has_other_supplier<T: HasQuery>(items: &[T], query: &Query) -> bool
+    requires order { AreByQuery T.query_of items.now }
+    requires filtered { All (λ x. is_filtered (T.query_of x) ≡ true) items.now }
+    requires apart { AreApart T.query_of items.now }
     ensures { result ≡ list_any (λ x. is_other_supplier (T.query_of x) query.now) items.now }
 {
-    other_supplier_from(items, first_from(items, query.path()), query).is_some()
+    last_supplier(items, query).is_some()
 }
 
-// Whether the query is one of these, or one of them supplies it.
+// Whether the query is one of these, or one of them supplies it. None of them supplies another.
 pub(crate) fn has_supplier<T: HasQuery>(items: &[T], query: &Query) -> bool
-    requires order { AreByPath T.query_of items.now }
+    requires order { AreByQuery T.query_of items.now }
     requires filtered { All (λ x. is_filtered (T.query_of x) ≡ true) items.now }
+    requires apart { AreApart T.query_of items.now }
     ensures { result ≡ list_any (λ x. does_supply (T.query_of x) query.now) items.now }
 {
     place_of(items, query).is_some() || has_other_supplier(items, query)
@@ -178,7 +225,7 @@ fn is_another(other: &Query, query: &Query) -> bool
 
 // Whether another query stands at the query's path. Goes over those of its path alone.
 pub(crate) fn has_another_at<T: HasQuery>(items: &[T], query: &Query) -> bool
-    requires { AreByPath T.query_of items.now }
+    requires { AreByQuery T.query_of items.now }
     ensures { result ≡ list_any (λ x. is_another_at query.now (T.query_of x)) items.now }
 {
     let mut place = first_from(items, query.path());
@@ -225,16 +272,16 @@ pub(crate) fn lend<'a, T: HasQuery>(
     Ok(lent)
 }
 
-// Their queries in the order of their paths.
-pub(crate) fn in_path_order<'a, T: HasQuery>(
+// Their queries in order.
+pub(crate) fn in_query_order<'a, T: HasQuery>(
     alloc: Global,
     items: &'a [T],
 ) -> Result<Vec<Lent<'a>>, AllocError>
-    ensures order { IfOk result (λ lent. AreByPath (λ l. l.query.now) lent.items) }
+    ensures order { IfOk result (λ lent. AreByQuery (λ l. l.query.now) lent.items) }
     ensures same { IfOk result (λ lent. (p : Query → Bool)
         → list_any (λ l. p l.query.now) lent.items ≡ list_any (λ x. p (T.query_of x)) items.now) }
 {
     let mut lent = lend(alloc, items)?;
-    lent.sort_unstable_by(|one, other| one.query.path().cmp(other.query.path()));
+    lent.sort_unstable_by(|one, other| query_cmp(one.query, other.query));
     Ok(lent)
 }

@@ -13,7 +13,10 @@ ghost use Rattle.rt_query.specs.Supply.{does_supply};
 ghost use Rattle.rt_cache.specs.Brought.{base};
 ghost use Rattle.rt_cache.specs.Recover.{in_query_order, window_left, handed_on};
 ghost use Rattle.rt_cache.specs.declared.registered.Form.{Form};
-ghost use Rattle.rt_cache.specs.inside.ByPath.{AreByPath, query_of};
+ghost use Rattle.rt_cache.specs.inside.ByPath.{AreByPath, AreByQuery, AreApart, query_of, is_other_supplier};
+ghost use Rattle.rt_query.specs.QueryOrder.{query_cmp, unlimited};
+ghost use Rattle.std.specs.Ordering.{is_gt};
+ghost use Rattle.rt_cache.specs.declared.window.Window.{Window};
 ghost use Rattle.rt_cache.specs.inside.Cuts.{IsCut};
 ghost use Rattle.rt_cache.specs.inside.Handing.{lent_queries, window_queries, is_region_lost};
 ghost use Rattle.rt_cache.specs.inside.Handing.{is_alike, is_staying, staying_of, is_window_lost, is_loser};
@@ -25,15 +28,14 @@ ghost use Rattle.rt_cache.specs.inside.Sources.{HaveForms, AreBeside};
 ghost use Rattle.rt_cache.specs.inside.Spans.{has_place};
 
 use crate::by_path::{
-    HasQuery, Lent, first_behind, first_from, has_other_supplier, has_supplier, in_path_order,
-    place_of, span_under,
+    HasQuery, Lent, first_behind, first_from, has_other_supplier, has_supplier, in_query_order,
+    is_other_supplier, last_supplier, place_of, span_under,
 };
 use crate::region::BoxedRegion;
 use crate::regions::{part_at, place_above};
 use crate::registered::{BoxedForm, Forms};
 use crate::spans::{Span, is_within};
-use crate::trees::children_alone;
-use crate::window::{BoxedWindow, Window};
+use crate::window::BoxedWindow;
 use crate::windows::{place_of_source, place_of_window};
 use rt_query::Query;
 use rt_tree::Path;
@@ -69,47 +71,95 @@ fn is_alike(one: bool, other: bool) -> bool
     if one { other } else { !other }
 }
 
-// Whether a window is of one of those, or of one that is not, and its query supplies this one.
-fn is_staying_supplier(other: &Query, those: &[Lent<'_>], among: bool, query: &Query) -> bool
-    requires those { AreByPath (λ l. l.query.now) those.now }
-    ensures { result ≡ (does_supply other.now query.now && is_staying (lent_queries those.now) among other.now) }
+// Whether a window is of one of those, or of one that is not.
+fn is_staying(query: &Query, those: &[Lent<'_>], among: bool) -> bool
+    requires those { AreByQuery (λ l. l.query.now) those.now }
+    ensures { result ≡ is_staying (lent_queries those.now) among query.now }
 {
-    other.supplies(query) && is_alike(place_of(those, other).is_some(), among)
+    is_alike(place_of(those, query).is_some(), among)
 }
 
-// Whether a window that stays supplies the query. Goes over those of its path alone: what is filtered
-// supplies no other path.
+// Whether a window is of one of those, or of one that is not, and its query supplies this one.
+fn is_staying_supplier(other: &Query, those: &[Lent<'_>], among: bool, query: &Query) -> bool
+    requires those { AreByQuery (λ l. l.query.now) those.now }
+    ensures { result ≡ (does_supply other.now query.now && is_staying (lent_queries those.now) among other.now) }
+{
+    other.supplies(query) && is_staying(other, those, among)
+}
+
+// How many windows stand up to the last that supplies the query as another one: none where there is none.
+fn count_to_supplier(windows: &[BoxedWindow], query: &Query) -> usize
+    requires order { AreByQuery query_of windows.now }
+    requires filtered { All (λ w. is_filtered w.query ≡ true) windows.now }
+    requires apart { AreApart query_of windows.now }
+    ensures within { result ≤ length windows.now }
+    ensures up_to { (k : ℕ) (d : Window) → k < result
+        → is_gt (query_cmp (slice_index_or windows.now k d).query (unlimited query.now)) ≡ false }
+    ensures behind { (k : ℕ) (d : Window) → result ≤ k → k < length windows.now
+        → is_other_supplier (slice_index_or windows.now k d).query query.now ≡ false }
+{
+    match last_supplier(windows, query) {
+        Some(last) => last + 1,
+        None => 0,
+    }
+}
+
+// Whether a window that stays is of another query that supplies this one. Those that supply it stand one
+// behind another: goes over these alone.
+fn has_other_staying(
+    windows: &[BoxedWindow],
+    those: &[Lent<'_>],
+    among: bool,
+    query: &Query,
+) -> bool
+    requires order { AreByQuery query_of windows.now }
+    requires filtered { All (λ w. is_filtered w.query ≡ true) windows.now }
+    requires apart { AreApart query_of windows.now }
+    requires those { AreByQuery (λ l. l.query.now) those.now }
+    ensures { result ≡ list_any (λ w. is_other_supplier w.query query.now
+        && is_staying (lent_queries those.now) among w.query) windows.now }
+{
+    let mut left = count_to_supplier(windows, query);
+    while left > 0 {
+        let place = left - 1;
+        let other = windows[place].query();
+        if !is_other_supplier(other, query) {
+            return false;
+        }
+        if is_staying(other, those, among) {
+            return true;
+        }
+        left = place;
+    }
+    false
+}
+
+// Whether a window that stays supplies the query. Where its own is there, no other one does.
 fn has_staying_supplier(
     windows: &[BoxedWindow],
     those: &[Lent<'_>],
     among: bool,
     query: &Query,
 ) -> bool
-    requires order { AreByPath query_of windows.now }
+    requires order { AreByQuery query_of windows.now }
     requires filtered { All (λ w. is_filtered w.query ≡ true) windows.now }
-    requires those { AreByPath (λ l. l.query.now) those.now }
+    requires apart { AreApart query_of windows.now }
+    requires those { AreByQuery (λ l. l.query.now) those.now }
     ensures { result ≡ list_any (λ f. does_supply f query.now)
         (staying_of (lent_queries those.now) among (window_queries windows.now)) }
 {
-    let mut place = first_from(windows, query.path());
-    while place < windows.len() {
-        let other = windows[place].query();
-        if other.path() != query.path() {
-            return false;
-        }
-        if is_staying_supplier(other, those, among, query) {
-            return true;
-        }
-        place += 1;
+    match place_of(windows, query) {
+        Some(place) => is_staying_supplier(windows[place].query(), those, among, query),
+        None => has_other_staying(windows, those, among, query),
     }
-    false
 }
 
 // Whether a window supplies the query, and none of those that stay.
 fn loses_window(windows: &[BoxedWindow], those: &[Lent<'_>], among: bool, query: &Query) -> bool
-    requires order { AreByPath query_of windows.now }
+    requires order { AreByQuery query_of windows.now }
     requires filtered { All (λ w. is_filtered w.query ≡ true) windows.now }
-    requires those { AreByPath (λ l. l.query.now) those.now }
+    requires apart { AreApart query_of windows.now }
+    requires those { AreByQuery (λ l. l.query.now) those.now }
     ensures { result ≡ is_window_lost (window_queries windows.now)
         (staying_of (lent_queries those.now) among (window_queries windows.now)) query.now }
 {
@@ -133,9 +183,10 @@ fn loses(
     requires apart { have_overlap (pairs_of regions.now) ≡ false }
     requires parts_sorted { T (map_of.is_sorted path_cmp (pairs_of parts.now)) }
     requires parts_apart { have_overlap (pairs_of parts.now) ≡ false }
-    requires order { AreByPath query_of windows.now }
+    requires order { AreByQuery query_of windows.now }
     requires filtered { All (λ w. is_filtered w.query ≡ true) windows.now }
-    requires those { AreByPath (λ l. l.query.now) those.now }
+    requires windows_apart { AreApart query_of windows.now }
+    requires those { AreByQuery (λ l. l.query.now) those.now }
     ensures { (kept : List Query) → IsCut kept regions.now lost.now parts.now
         → result ≡ (is_staying (lent_queries those.now) among form.now
         && is_loser kept (pairs_of regions.now) (window_queries windows.now)
@@ -144,7 +195,7 @@ fn loses(
     if !form.is_filtered() {
         return false;
     }
-    if !is_alike(place_of(those, form).is_some(), among) {
+    if !is_staying(form, those, among) {
         return false;
     }
     if loses_region(regions, lost, parts, form) {
@@ -168,9 +219,10 @@ fn losers<'a>(
     requires apart { have_overlap (pairs_of regions.now) ≡ false }
     requires parts_sorted { T (map_of.is_sorted path_cmp (pairs_of parts.now)) }
     requires parts_apart { have_overlap (pairs_of parts.now) ≡ false }
-    requires order { AreByPath query_of windows.now }
+    requires order { AreByQuery query_of windows.now }
     requires filtered { All (λ w. is_filtered w.query ≡ true) windows.now }
-    requires those { AreByPath (λ l. l.query.now) those.now }
+    requires windows_apart { AreApart query_of windows.now }
+    requires those { AreByQuery (λ l. l.query.now) those.now }
     ensures { (kept : List Query) → IsCut kept regions.now lost.now parts.now
         → IfOk result (λ lent. lent_queries lent.items
         ≡ filter (λ q. is_staying (lent_queries those.now) among q
@@ -186,15 +238,16 @@ fn losers<'a>(
     Ok(lent)
 }
 
-// Of these queries, those that no other of them supplies.
+// Of these queries, those that no other of them supplies. In their order what supplies one stands in front
+// of it, and so does one that none supplies: so each is asked of those that are left so far.
 fn unsupplied<'a>(alloc: Global, queries: &[Lent<'a>]) -> Result<Vec<Lent<'a>>, AllocError>
-    requires order { AreByPath (λ l. l.query.now) queries.now }
+    requires order { AreByQuery (λ l. l.query.now) queries.now }
     requires filtered { All (λ l. is_filtered l.query.now ≡ true) queries.now }
     ensures { IfOk result (λ lent. lent_queries lent.items ≡ needed (lent_queries queries.now)) }
 {
     let mut lent = Vec::new(alloc);
     for one in queries {
-        if !has_other_supplier(queries, one.query) {
+        if !has_other_supplier(&lent, one.query) {
             lent.push(Lent { query: one.query })?;
         }
     }
@@ -211,30 +264,20 @@ fn window_of(
 ) -> Result<Option<BoxedWindow>, AllocError>
     requires sorted { T (map_of.is_sorted path_cmp (pairs_of regions.now)) }
     requires apart { have_overlap (pairs_of regions.now) ≡ false }
-    requires order { AreByPath query_of windows.now }
+    requires order { AreByQuery query_of windows.now }
     requires belongs { HaveForms registered.now (in_query_order (entries_of windows.now)) }
     ensures { IfOk result (λ left. option_map entry_of left ≡ option_map (λ w. (query.now, w))
         (window_left (base (held registered.now regions.now windows.now) query.now))) }
 {
     if let Some(place) = place_above(regions, query.path()) {
         let part = part_at(alloc, &regions[place], query.path())?;
-        let own = Window {
-            query: query.copy()?,
-            children: children_alone(alloc, &part)?,
-            is_whole: true,
-        };
-        return Ok(Some(BoxedWindow::new(alloc, own)?));
+        return Ok(Some(BoxedWindow::over(alloc, query, &part, true)?));
     }
     let Some(place) = place_of_source(windows, registered, query) else {
         return Ok(None);
     };
     let window = windows[place].window();
-    let own = Window {
-        query: query.copy()?,
-        children: children_alone(alloc, &window.children)?,
-        is_whole: window.is_whole,
-    };
-    Ok(Some(BoxedWindow::new(alloc, own)?))
+    Ok(Some(BoxedWindow::over(alloc, query, &window.children, window.is_whole)?))
 }
 
 // The windows of the heirs.
@@ -247,7 +290,7 @@ fn hand_on(
 ) -> Result<Vec<BoxedWindow>, AllocError>
     requires sorted { T (map_of.is_sorted path_cmp (pairs_of regions.now)) }
     requires apart { have_overlap (pairs_of regions.now) ≡ false }
-    requires order { AreByPath query_of windows.now }
+    requires order { AreByQuery query_of windows.now }
     requires belongs { HaveForms registered.now (in_query_order (entries_of windows.now)) }
     ensures { IfOk result (λ handed. entries_of handed.items
         ≡ handed_on (held registered.now regions.now windows.now) (lent_queries heirs.now)) }
@@ -262,7 +305,7 @@ fn hand_on(
 }
 
 // The windows that a change of cover hands on, after which there are registered, of all forms, the filtered
-// ones among those, or the ones that are not. These forms, which stand by their paths, are the ones of them
+// ones among those, or the ones that are not. These forms, which stand in order, are the ones of them
 // that lose something, and others, if any.
 pub(crate) fn windows_handed(
     alloc: Global,
@@ -279,11 +322,11 @@ pub(crate) fn windows_handed(
     requires apart { have_overlap (pairs_of regions.now) ≡ false }
     requires parts_sorted { T (map_of.is_sorted path_cmp (pairs_of parts.now)) }
     requires parts_apart { have_overlap (pairs_of parts.now) ≡ false }
-    requires order { AreByPath query_of windows.now }
+    requires order { AreByQuery query_of windows.now }
     requires belongs { HaveForms were.now (in_query_order (entries_of windows.now)) }
     requires beside { AreBeside (pairs_of regions.now) (in_query_order (entries_of windows.now)) }
-    requires forms { AreByPath (λ l. l.query.now) forms.now }
-    requires those { AreByPath (λ l. l.query.now) those.now }
+    requires forms { AreByQuery (λ l. l.query.now) forms.now }
+    requires those { AreByQuery (λ l. l.query.now) those.now }
     requires cut { (kept : List Query) × IsCut kept regions.now lost.now parts.now }
     ensures { (registered kept all : List Query) → IsCut kept regions.now lost.now parts.now
         → AreThose registered all (lent_queries those.now) among (window_queries windows.now)
@@ -363,7 +406,7 @@ fn lend_lost<'a>(
 
 // Whether the window of a form that ends may be that of another: it has one, and no limit.
 fn hands_on(windows: &[BoxedWindow], form: &Query) -> bool
-    requires order { AreByPath query_of windows.now }
+    requires order { AreByQuery query_of windows.now }
     ensures { result ≡ hands_on windows.now form.now }
 {
     form.limit().is_none() && place_of_window(windows, form).is_some()
@@ -381,7 +424,7 @@ fn is_last_at(lent: &[Lent<'_>], path: &Path) -> bool
 
 // Whether the window of a form that ends may be that of another, and the last that is lent isn't of its path.
 fn has_new_path(windows: &[BoxedWindow], lent: &[Lent<'_>], form: &Query) -> bool
-    requires { AreByPath query_of windows.now }
+    requires { AreByQuery query_of windows.now }
     ensures new { result ≡ true → hands_on windows.now form.now ≡ true }
     ensures old { result ≡ false → hands_on windows.now form.now ≡ true
         → list_any (λ q. path_eq q.path form.now.path) (lent_queries lent.now) ≡ true }
@@ -412,7 +455,7 @@ fn lend_beside<'a>(
     ended: &[Lent<'_>],
     forms: &'a [BoxedForm],
 ) -> Result<Vec<Lent<'a>>, AllocError>
-    requires windows { AreByPath query_of windows.now }
+    requires windows { AreByQuery query_of windows.now }
     requires order { AreByPath form_query forms.now }
     ensures { IfOk result (λ lent. AreLentOf (is_beside_one windows.now (lent_queries ended.now)) forms.now []
         lent.items) }
@@ -441,7 +484,7 @@ pub(crate) fn windows_of_ended(
     requires apart { have_overlap (pairs_of regions.now) ≡ false }
     requires parts_sorted { T (map_of.is_sorted path_cmp (pairs_of parts.now)) }
     requires parts_apart { have_overlap (pairs_of parts.now) ≡ false }
-    requires order { AreByPath query_of windows.now }
+    requires order { AreByQuery query_of windows.now }
     requires belongs { HaveForms were.now (in_query_order (entries_of windows.now)) }
     requires beside { AreBeside (pairs_of regions.now) (in_query_order (entries_of windows.now)) }
     requires cut { (kept : List Query) × IsCut kept regions.now lost.now parts.now }
@@ -451,10 +494,10 @@ pub(crate) fn windows_of_ended(
         (entries_of handed.items)) }
 {
     let filtered = were.filtered();
-    let those = in_path_order(alloc, ended)?;
+    let those = in_query_order(alloc, ended)?;
     let mut lent = lend_beside(alloc, windows, &those, filtered)?;
     lend_lost(&mut lent, regions, lost, filtered)?;
-    let forms = in_path_order(alloc, &lent)?;
+    let forms = in_query_order(alloc, &lent)?;
     windows_handed(
         alloc, regions, lost, parts, windows, were, &forms, &those, false,
     )

@@ -12,7 +12,7 @@ ghost use Rattle.rt_query.specs.QueryEq.{query_eq};
 ghost use Rattle.rt_cache.specs.Recover.{reaches, with_regions};
 ghost use Rattle.rt_cache.specs.Recover.{do_plains_overlap, in_query_order, recover};
 ghost use Rattle.rt_cache.specs.Recover.{EndsForms};
-ghost use Rattle.rt_cache.specs.inside.ByPath.{AreByPath, query_of};
+ghost use Rattle.rt_cache.specs.inside.ByPath.{AreByQuery, query_of};
 ghost use Rattle.rt_cache.specs.inside.Held.{pair_of, pairs_of, entries_of, held};
 ghost use Rattle.rt_cache.specs.inside.Held.{AreShort};
 ghost use Rattle.rt_cache.specs.inside.Sources.{HaveForms, AreBeside};
@@ -20,7 +20,7 @@ ghost use Rattle.rt_cache.specs.inside.Cuts.{part_below, IsCut};
 ghost use Rattle.rt_cache.specs.inside.Spans.{have_place, AreInOrder, without, AreLost};
 ghost use Rattle.rt_cache.specs.declared.region.Region.{Region};
 
-use crate::by_path::{HasQuery, Lent, in_path_order, place_of};
+use crate::by_path::{HasQuery, Lent, in_query_order, place_of};
 use crate::handing::{windows_handed, windows_of_ended};
 use crate::region::BoxedRegion;
 use crate::regions::{insert, part_at, place_above, region_of, remove_span, span_under};
@@ -195,11 +195,11 @@ fn in_order(alloc: Global, regions: Vec<BoxedRegion>) -> Result<Vec<BoxedRegion>
     Ok(sorted)
 }
 
-// The windows of these queries, which stand by their paths.
+// The windows of these queries, which stand in order.
 fn retain_registered(windows: &mut Vec<BoxedWindow>, registered: &[Lent<'_>])
-    requires order { AreByPath query_of windows.old.items }
-    requires registered { AreByPath (λ l. l.query.now) registered.now }
-    ensures order { AreByPath query_of windows.new.items }
+    requires order { AreByQuery query_of windows.old.items }
+    requires registered { AreByQuery (λ l. l.query.now) registered.now }
+    ensures order { AreByQuery query_of windows.new.items }
     ensures left { windows.new.items ≡ filter (λ w. list_any (λ l. query_eq l.query.now w.query)
         registered.now) windows.old.items }
     ensures len { vec_len windows.new ≤ vec_len windows.old }
@@ -220,11 +220,11 @@ pub(crate) fn change_cover(
     requires sorted { T (map_of.is_sorted path_cmp (pairs_of regions.old.items)) }
     requires apart { have_overlap (pairs_of regions.old.items) ≡ false }
     requires kept { do_plains_overlap kept.now ≡ false }
-    requires windows { AreByPath query_of windows.old.items }
+    requires windows { AreByQuery query_of windows.old.items }
     requires forms { HaveForms were.now (in_query_order (entries_of windows.old.items)) }
     requires beside { AreBeside (pairs_of regions.old.items)
         (in_query_order (entries_of windows.old.items)) }
-    ensures order { AreByPath query_of windows.new.items }
+    ensures order { AreByQuery query_of windows.new.items }
     ensures ok { OnOk result (held registered.now regions.new.items windows.new.items
         ≡ recover registered.now kept.now (held were.now regions.old.items windows.old.items)) }
     ensures listens { OnOk result (AreShort kept.now) }
@@ -234,7 +234,7 @@ pub(crate) fn change_cover(
     let alloc = *regions.allocator();
     let lost = spans_lost(alloc, regions, kept)?;
     let parts = parts_left(alloc, regions, &lost, kept)?;
-    let forms = in_path_order(alloc, registered)?;
+    let forms = in_query_order(alloc, registered)?;
     let handed = windows_handed(
         alloc, regions, &lost, &parts, windows, were, &forms, &forms, true,
     )?;
@@ -258,13 +258,13 @@ pub(crate) fn end_forms(
 ) -> Result<(), AllocError>
     requires sorted { T (map_of.is_sorted path_cmp (pairs_of regions.old.items)) }
     requires apart { have_overlap (pairs_of regions.old.items) ≡ false }
-    requires windows { AreByPath query_of windows.old.items }
+    requires windows { AreByQuery query_of windows.old.items }
     requires forms { HaveForms were.now (in_query_order (entries_of windows.old.items)) }
     requires beside { AreBeside (pairs_of regions.old.items)
         (in_query_order (entries_of windows.old.items)) }
     requires ends { (registered kept : List Query) × All (Contains were.now) registered
         × EndsForms ended.now begun.now were.now registered kept (pairs_of regions.old.items) }
-    ensures order { AreByPath query_of windows.new.items }
+    ensures order { AreByQuery query_of windows.new.items }
     ensures ok { (registered kept : List Query) → All (Contains were.now) registered
         → EndsForms ended.now begun.now were.now registered kept (pairs_of regions.old.items)
         → OnOk result (held registered regions.new.items windows.new.items

@@ -1,9 +1,9 @@
 // A window.
 ghost use Rattle.std.specs.Prelude.{◌≡◌, false, IfOk, OnOk, OnErr};
-ghost use Rattle.rt_tree.specs.PathTree.{put};
+ghost use Rattle.rt_tree.specs.PathTree.{put, children_alone};
 
 use crate::by_path::HasQuery;
-use crate::trees::put_at;
+use crate::trees::{children_alone, put_at};
 use rt_query::Query;
 use rt_tree::{Key, Tree};
 use std::alloc::{AllocError, Global};
@@ -54,10 +54,24 @@ impl HasQuery for BoxedWindow {
 }
 
 impl BoxedWindow {
-    // The window, in memory of its own.
-    pub(crate) fn new(alloc: Global, window: Window) -> Result<BoxedWindow, AllocError>
-        ensures { IfOk result (λ boxed. boxed ≡ window) }
+    // The window of a query over the children of a tree, in memory of its own.
+    pub(crate) fn over(
+        alloc: Global,
+        query: &Query,
+        tree: &Tree,
+        is_whole: bool,
+    ) -> Result<BoxedWindow, AllocError>
+        ensures { IfOk result (λ boxed. boxed ≡ record {
+          query = query.now;
+          children = children_alone tree.now;
+          is_whole = is_whole;
+        }) }
     {
+        let window = Window {
+            query: query.copy()?,
+            children: children_alone(alloc, tree)?,
+            is_whole,
+        };
         Ok(BoxedWindow {
             window: Box::new(alloc, window)?,
         })

@@ -1,4 +1,4 @@
-// Windows of filtered queries, in the order of the paths.
+// Windows of filtered queries, in the order of the queries.
 ghost use Rattle.std.specs.Prelude.{◌≡◌, ℕ, ◌+◌, ◌<◌, ◌≤◌, ◌++◌, length, IfOk, IfSome, IfNone, OnOk};
 ghost use Rattle.std.specs.Prelude.{vec_len, vec_capacity, if◌then◌else◌};
 ghost use Rattle.std.specs.Prelude.{IsOk, OnErr, Some, None, is_some, not, true, false, slice_index_or};
@@ -9,31 +9,32 @@ ghost use Rattle.std.specs.FinMap as map_of;
 ghost use Rattle.rt_tree.specs.PathTree.{levels, strip, children_alone, put};
 ghost use Rattle.rt_tree.specs.Assignments.{is_at_or_above};
 ghost use Rattle.rt_query.specs.QueryEq.{query_eq};
-ghost use Rattle.rt_cache.specs.QueryOrder.{query_cmp};
+ghost use Rattle.rt_query.specs.QueryOrder.{query_cmp};
 ghost use Rattle.rt_query.specs.Queries.{Query, is_filtered};
 ghost use Rattle.rt_query.specs.Supply.{does_supply};
 ghost use Rattle.rt_cache.specs.Recover.{in_query_order, is_among};
-ghost use Rattle.rt_cache.specs.inside.ByPath.{AreByPath, query_of, is_other_supplier};
+ghost use Rattle.rt_cache.specs.inside.ByPath.{AreByPath, AreByQuery, query_of, is_other_supplier};
 ghost use Rattle.rt_cache.specs.inside.Listed.{form_query, queries_of};
 ghost use Rattle.rt_cache.specs.inside.Held.{seen_window, entries_of, pushed_windows, is_taken};
 ghost use Rattle.rt_cache.specs.inside.Sources.{source_among, HaveForms};
 ghost use Rattle.rt_cache.specs.declared.window.Window.{Window};
 
 use crate::by_path::{
-    HasQuery, first_from, is_other_supplier, other_supplier_from, place_of, span_under,
+    HasQuery, first_from, first_of, is_only_supplier, is_other_supplier, last_supplier, place_of,
+    span_under,
 };
 use crate::paths::rest_of;
 use crate::registered::{BoxedForm, Forms};
 use crate::spans::Span;
 use crate::trees::children_alone;
-use crate::window::{BoxedWindow, Window};
+use crate::window::BoxedWindow;
 use rt_query::Query;
 use rt_tree::{MAX_LEVELS, Path, Tree};
 use std::alloc::{AllocError, Global};
 
-// Where the window of the query stands, by halving. Goes over the windows of its path alone.
+// Where the window of the query stands, by halving.
 pub(crate) fn place_of_window(windows: &[BoxedWindow], query: &Query) -> Option<usize>
-    requires { AreByPath query_of windows.now }
+    requires { AreByQuery query_of windows.now }
     ensures known { is_some result
         ≡ is_some (map_of.find query_cmp query.now (entries_of windows.now)) }
     ensures none { IfNone result (map_of.find query_cmp query.now (entries_of windows.now) ≡ None) }
@@ -46,26 +47,26 @@ pub(crate) fn place_of_window(windows: &[BoxedWindow], query: &Query) -> Option<
     place_of(windows, query)
 }
 
-// The window in its place, in front of the others of its path. There is room for it.
+// The window in its place by its query. There is room for it.
 fn insert_window(windows: &mut Vec<BoxedWindow>, window: BoxedWindow)
-    requires order { AreByPath query_of windows.old.items }
+    requires order { AreByQuery query_of windows.old.items }
     requires room { vec_len windows.old < vec_capacity windows.old }
-    ensures order { AreByPath query_of windows.new.items }
+    ensures order { AreByQuery query_of windows.new.items }
     ensures listed { in_query_order (entries_of windows.new.items)
         ≡ map_of.put query_cmp window.query (seen_window window) (in_query_order
         (entries_of windows.old.items)) }
     ensures len { vec_len windows.new ≤ vec_len windows.old + 1 }
     ensures room { vec_capacity windows.old ≤ vec_capacity windows.new }
 {
-    let place = first_from(windows, window.query().path());
+    let place = first_of(windows, window.query());
     let _in_reserved_room = windows.insert(place, window);
 }
 
 // The window in place of the one of its query, if there is one. There is room for it.
 fn put_window(windows: &mut Vec<BoxedWindow>, window: BoxedWindow)
-    requires order { AreByPath query_of windows.old.items }
+    requires order { AreByQuery query_of windows.old.items }
     requires room { vec_len windows.old < vec_capacity windows.old }
-    ensures order { AreByPath query_of windows.new.items }
+    ensures order { AreByQuery query_of windows.new.items }
     ensures listed { in_query_order (entries_of windows.new.items)
         ≡ map_of.put query_cmp window.query (seen_window window) (in_query_order
         (entries_of windows.old.items)) }
@@ -80,9 +81,9 @@ fn put_window(windows: &mut Vec<BoxedWindow>, window: BoxedWindow)
 
 // Each of the windows in its place, for which there is room. Of two of one query the first stays.
 pub(crate) fn put_windows(windows: &mut Vec<BoxedWindow>, mut more: Vec<BoxedWindow>)
-    requires order { AreByPath query_of windows.old.items }
+    requires order { AreByQuery query_of windows.old.items }
     requires room { vec_len windows.old + vec_len more ≤ vec_capacity windows.old }
-    ensures order { AreByPath query_of windows.new.items }
+    ensures order { AreByQuery query_of windows.new.items }
     ensures listed { in_query_order (entries_of windows.new.items)
         ≡ in_query_order (entries_of more.items ++ entries_of windows.old.items) }
 {
@@ -98,29 +99,22 @@ pub(crate) fn replace(
     query: &Query,
     tree: &Tree,
 ) -> Result<(), AllocError>
-    requires { AreByPath query_of windows.old.items }
-    ensures order { AreByPath query_of windows.new.items }
+    requires { AreByQuery query_of windows.old.items }
+    ensures order { AreByQuery query_of windows.new.items }
     ensures ok { OnOk result (in_query_order (entries_of windows.new.items)
         ≡ map_of.put query_cmp query.now
         (record { children = children_alone tree.now; is_whole = false }) (in_query_order
         (entries_of windows.old.items))) }
     ensures err { OnErr result (windows.new.items ≡ windows.old.items) }
 {
-    let children = children_alone(alloc, tree)?;
     match place_of_window(windows, query) {
         Some(place) => {
+            let children = children_alone(alloc, tree)?;
             let window = &mut windows[place];
             window.refill(children);
         }
         None => {
-            let window = BoxedWindow::new(
-                alloc,
-                Window {
-                    query: query.copy()?,
-                    children,
-                    is_whole: false,
-                },
-            )?;
+            let window = BoxedWindow::over(alloc, query, tree, false)?;
             windows.reserve(1)?;
             insert_window(windows, window);
         }
@@ -159,8 +153,8 @@ fn remove_span(windows: &mut Vec<BoxedWindow>, span: Span)
 
 // The windows that are not at or under the path, which are found by halving.
 pub(crate) fn remove_under(windows: &mut Vec<BoxedWindow>, path: &Path)
-    requires { AreByPath query_of windows.old.items }
-    ensures order { AreByPath query_of windows.new.items }
+    requires { AreByQuery query_of windows.old.items }
+    ensures order { AreByQuery query_of windows.new.items }
     ensures left { in_query_order (entries_of windows.new.items)
         ≡ filter (λ w. not (is_at_or_above path.now w.0.path)) (in_query_order
         (entries_of windows.old.items)) }
@@ -171,8 +165,8 @@ pub(crate) fn remove_under(windows: &mut Vec<BoxedWindow>, path: &Path)
 
 // The windows but for that of the query.
 fn remove_query(windows: &mut Vec<BoxedWindow>, query: &Query)
-    requires { AreByPath query_of windows.old.items }
-    ensures order { AreByPath query_of windows.new.items }
+    requires { AreByQuery query_of windows.old.items }
+    ensures order { AreByQuery query_of windows.new.items }
     ensures left { (x : Query) → map_of.find query_cmp x (entries_of windows.new.items)
         ≡ (if query_eq query.now x then None
         else map_of.find query_cmp x (entries_of windows.old.items)) }
@@ -186,8 +180,8 @@ fn remove_query(windows: &mut Vec<BoxedWindow>, query: &Query)
 
 // The windows but for those of these queries.
 pub(crate) fn remove_queries(windows: &mut Vec<BoxedWindow>, queries: &[Query])
-    requires { AreByPath query_of windows.old.items }
-    ensures order { AreByPath query_of windows.new.items }
+    requires { AreByQuery query_of windows.old.items }
+    ensures order { AreByQuery query_of windows.new.items }
     ensures left { in_query_order (entries_of windows.new.items)
         ≡ filter (λ w. not (is_among queries.now w.0)) (in_query_order
         (entries_of windows.old.items)) }
@@ -202,9 +196,9 @@ pub(crate) fn remove_queries(windows: &mut Vec<BoxedWindow>, queries: &[Query])
 // The windows but for those of other queries that this one supplies. Goes over those of its path alone:
 // what is filtered supplies no other path.
 fn remove_supplied(windows: &mut Vec<BoxedWindow>, query: &Query)
-    requires order { AreByPath query_of windows.old.items }
+    requires order { AreByQuery query_of windows.old.items }
     requires filtered { is_filtered query.now ≡ true }
-    ensures order { AreByPath query_of windows.new.items }
+    ensures order { AreByQuery query_of windows.new.items }
     ensures left { in_query_order (entries_of windows.new.items)
         ≡ filter (λ w. query_eq w.0 query.now || not (does_supply query.now w.0)) (in_query_order
         (entries_of windows.old.items)) }
@@ -225,7 +219,7 @@ fn remove_supplied(windows: &mut Vec<BoxedWindow>, query: &Query)
 
 // Where the window of the form stands, if it supplies the query.
 fn place_supplying(windows: &[BoxedWindow], form: &Query, query: &Query) -> Option<usize>
-    requires { AreByPath query_of windows.now }
+    requires { AreByQuery query_of windows.now }
     ensures known { is_some result ≡ (does_supply form.now query.now
         && is_some (map_of.find query_cmp form.now (entries_of windows.now))) }
     ensures within { IfSome result (λ n. n < length windows.now) }
@@ -243,7 +237,7 @@ fn place_supplying(windows: &[BoxedWindow], form: &Query, query: &Query) -> Opti
 // Where the window stands that is brought for the query, by going over these filtered forms, of those of
 // its path alone.
 fn place_of_first(windows: &[BoxedWindow], forms: &[BoxedForm], query: &Query) -> Option<usize>
-    requires order { AreByPath query_of windows.now }
+    requires order { AreByQuery query_of windows.now }
     requires filtered { All (λ w. is_filtered w.query ≡ true) windows.now }
     requires forms { AreByPath form_query forms.now }
     ensures within { IfSome result (λ n. n < length windows.now) }
@@ -269,14 +263,14 @@ fn place_of_first(windows: &[BoxedWindow], forms: &[BoxedForm], query: &Query) -
 }
 
 // Where the window stands that is brought for the query: that of the first registered form that
-// supplies it and has one. Its own is the only one where it has one. Goes over the windows of its path,
-// and where several of them supply it over the filtered forms of its path.
+// supplies it and has one. Its own is the only one where it has one. Found by halving, and where several
+// windows supply the query by going over the filtered forms of its path.
 pub(crate) fn place_of_source(
     windows: &[BoxedWindow],
     registered: &Forms,
     query: &Query,
 ) -> Option<usize>
-    requires order { AreByPath query_of windows.now }
+    requires order { AreByQuery query_of windows.now }
     requires belongs { HaveForms registered.now (in_query_order (entries_of windows.now)) }
     ensures within { IfSome result (λ n. n < length windows.now) }
     ensures source { IfSome result (λ n. (d : Window) → source_among (entries_of windows.now) registered.now
@@ -288,12 +282,11 @@ pub(crate) fn place_of_source(
     if let Some(place) = place_of_window(windows, query) {
         return Some(place);
     }
-    let from = first_from(windows, query.path());
-    let Some(first) = other_supplier_from(windows, from, query) else {
+    let Some(last) = last_supplier(windows, query) else {
         return None;
     };
-    if other_supplier_from(windows, first + 1, query).is_none() {
-        return Some(first);
+    if is_only_supplier(windows, last, query) {
+        return Some(last);
     }
     place_of_first(windows, registered.filtered(), query)
 }
@@ -309,9 +302,9 @@ pub(crate) fn push(
 ) -> Result<bool, AllocError>
     requires under { is_at_or_above query.now.path path.now ≡ true }
     requires levels { length path.now + levels tree.now ≤ MAX_LEVELS }
-    requires order { AreByPath query_of windows.old.items }
+    requires order { AreByQuery query_of windows.old.items }
     requires filtered { is_filtered query.now ≡ true }
-    ensures order { AreByPath query_of windows.new.items }
+    ensures order { AreByQuery query_of windows.new.items }
     ensures ok { OnOk result (in_query_order (entries_of windows.new.items)
         ≡ pushed_windows query.now (path.now, tree.now) (in_query_order
         (entries_of windows.old.items))) }

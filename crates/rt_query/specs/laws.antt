@@ -5,6 +5,7 @@ pub mod Needed
 pub mod NeededLaws
 pub mod Paths
 pub mod QueryEq
+pub mod QueryOrder
 pub mod RangeLaws
 pub mod Ranges
 pub mod Rows

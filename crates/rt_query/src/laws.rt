@@ -10,6 +10,7 @@ ghost use Rattle.rt_query.specs.laws.Bounding.{
 };
 ghost use Rattle.rt_query.specs.laws.Select.{SelectHasKeysOnce, UnfilteredShowsAll};
 ghost use Rattle.rt_query.specs.laws.QueryEq.{EqualityTells};
+ghost use Rattle.rt_query.specs.laws.QueryOrder.{QueriesAreOrdered};
 ghost use Rattle.rt_query.specs.laws.Ranges.{WiderHasAll, TakesInOnward, TakesInOneWay};
 ghost use Rattle.rt_query.specs.laws.Needed.{SuppliesItself, SuppliesOnward, SuppliesOneWay};
 ghost use Rattle.rt_query.specs.laws.Needed.{NeededAreFewest};
@@ -31,6 +32,11 @@ pub fn row_laws()
 /// The tests of equality tell exactly the equal queries, and the equal views.
 pub fn equality_laws()
     ensures { EqualityTells }
+{}
+
+/// The order of queries is total, and only equal queries tie.
+pub fn order_laws()
+    ensures { QueriesAreOrdered }
 {}
 
 /// What a bound keeps of a range: the entries on its side of what it names.

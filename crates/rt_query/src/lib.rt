@@ -19,6 +19,7 @@ mod error;
 mod examples;
 mod laws;
 mod limit;
+mod order;
 mod query;
 mod row;
 mod shown;
@@ -28,8 +29,11 @@ pub use error::QueryError;
 pub use examples::{
     bound_examples, order_examples, range_examples, refusal_examples, supply_examples,
 };
-pub use laws::{bound_laws, equality_laws, range_laws, row_laws, select_laws, supply_laws};
+pub use laws::{
+    bound_laws, equality_laws, order_laws, range_laws, row_laws, select_laws, supply_laws,
+};
 pub use limit::Limit;
+pub use order::{query_cmp, unlimited_cmp};
 pub use query::Query;
 pub use row::Row;
 pub use shown::Shown;

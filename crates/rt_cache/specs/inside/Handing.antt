@@ -6,7 +6,7 @@ use Rattle.rt_tree.specs.PathTree.{Path, PathTree, path_eq}
 use Rattle.rt_tree.specs.Assignments.{is_at_or_above}
 use Rattle.rt_query.specs.Queries.{Query, is_filtered}
 use Rattle.rt_query.specs.Supply.{does_supply}
-use Rattle.rt_cache.specs.QueryOrder.{query_cmp}
+use Rattle.rt_query.specs.QueryOrder.{query_cmp}
 use Rattle.rt_cache.specs.Brought as what
 use Rattle.rt_cache.specs.Brought.{Brought, region_part}
 use Rattle.rt_cache.specs.Recover.{regions_kept, heirs, cut, handed_on, is_among}

@@ -94,7 +94,7 @@ taken_in q r t =
       uppers = both_second (a && b && c && d && e && f) g t;
     }
 
-takes_in-when : (q r : Query) → IsTakenIn q r → takes_in q r ≡ true
+pub takes_in-when : (q r : Query) → IsTakenIn q r → takes_in q r ≡ true
 takes_in-when q r h =
     both _ _ (both _ _ (both _ _ (both _ _ (both _ _ (both _ _ h.outer h.inner) ((path_eq_tells q.path r.path).1 h.paths)) ((index_eq_tells q.index r.index).1 h.orders)) (ap not h.unlimited)) h.lowers) h.uppers
 
@@ -112,7 +112,7 @@ takes_in-trans q r s t u =
       uppers = upper-trans q.range.upper r.range.upper s.range.upper a.uppers b.uppers;
     })
 
-no_limit : (o : Option Limit) → is_some o ≡ false → o ≡ None
+pub no_limit : (o : Option Limit) → is_some o ≡ false → o ≡ None
 no_limit None e = refl
 no_limit (Some l) e = absurd (true≢false e)
 

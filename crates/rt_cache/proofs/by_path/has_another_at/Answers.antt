@@ -6,6 +6,7 @@ use Rattle.rt_tree.specs.PathTree.{path_cmp, path_eq}
 use Rattle.rt_query.specs.QueryEq.{query_eq}
 use Rattle.rt_cache.specs.Brought.{is_another_at}
 use Rattle.rt_cache.proofs.ByPaths.{before_more, any_at, none_of}
+use Rattle.rt_cache.proofs.ByQueries.{by_paths}
 use Rattle.rt_cache.proofs.Suppliers.{in_front, another_left}
 use Rattle.rt_cache.proofs.by_path.has_another_at.Goals as goal
 
@@ -40,7 +41,7 @@ returns-then-ne g c =
     let within : c.loop-place.place < length xs = search rules in
     let at : item ≡ get_or xs c.loop-place.place item = search rules in
     let other : path_eq (q item).path (c.args.query.now).path ≡ false = search rules in
-    sym (another_left q c.args.query.now xs c.loop-place.place c.requires within
+    sym (another_left q c.args.query.now xs c.loop-place.place (by_paths q xs c.requires) within
     (λ d. c.loop-place.invariant.2 c.loop-place.place d (omega arith) within)
     (at_read xs (λ x. path_eq (q x).path (c.args.query.now).path ≡ false) c.loop-place.place item within at other) c.loop-place.invariant.1)
 
@@ -60,3 +61,6 @@ returns g c =
     let xs = c.args.items.now in
     let done : length xs ≤ c.loop-place.place = search rules in
     sym (none_of (λ x. is_another_at c.args.query.now (q x)) xs (λ k d lt. c.loop-place.invariant.1 k d (omega (arith, lt, done))))
+
+pub first_from-place-requires : goal.first_from-place-requires
+first_from-place-requires g c = by_paths g.T.HasQuery.query_of c.args.items.now c.requires

@@ -1,59 +1,22 @@
-use Rattle.std.proofs.Common.{rules, ◌≡◌, ◌<◌, ◌≤◌, sym, subst, arith, length, get_or, true, false}
-use Rattle.std.proofs.lemmas.List.Elements.{at_read}
-use Rattle.std.specs.List.Sorted.{IsPartitionPoint}
-use Rattle.std.specs.Ordering.{is_lt}
-use Rattle.rt_tree.specs.PathTree.{path_cmp, path_eq}
+use Rattle.std.proofs.Common.{rules, ◌≡◌, ◌<◌, sym, arith, length, get_or, false}
 use Rattle.rt_query.specs.QueryEq.{query_eq}
-use Rattle.rt_cache.proofs.ByPaths.{before_other, before_more, any_at, none_of, none_behind}
+use Rattle.rt_cache.proofs.ByQueries.{none_unless_here, none_behind_all, lesser_other}
 use Rattle.rt_cache.proofs.by_path.place_of.Goals as goal
 
-pub loop-place-init : goal.loop-place-init
-loop-place-init g c =
-    let q = g.T.HasQuery.query_of in
-    let xs = c.args.items.now in
-    let point : IsPartitionPoint (λ x. is_lt (path_cmp (q x).path (c.args.query.now).path) ≡ true) (λ x. is_lt (path_cmp (q x).path (c.args.query.now).path) ≡ false) xs c.first_from-place.result =
-    subst (λ z. IsPartitionPoint (λ x. is_lt (path_cmp (q x).path z) ≡ true) (λ x. is_lt (path_cmp (q x).path z) ≡ false) xs c.first_from-place.result) c.path.ensures c.first_from-place.ensures.point in (
-      c.first_from-place.ensures.within,
-      λ k d lt. before_other (q (get_or xs k d)) c.args.query.now (point.0 k d (omega arith) lt),
-      λ k d le lt. point.1 k d le lt,
-    )
+pub returns-then-place-items-clause-known : goal.returns-then-place-items-clause-known
+returns-then-place-items-clause-known g c =
+    let all : c.first_of-place.result ≡ length c.args.items.now = search rules in
+    sym (none_behind_all g.T.HasQuery.query_of c.args.query.now c.args.items.now c.first_of-place.result c.first_of-place.ensures.point all)
 
-pub loop-place-preserved : goal.loop-place-preserved
-loop-place-preserved g c =
+pub returns-then-eq-clause-first : goal.returns-then-eq-clause-first
+returns-then-eq-clause-first g c = λ k d lt.
+    lesser_other (g.T.HasQuery.query_of (get_or c.args.items.now k d)) c.args.query.now (c.first_of-place.ensures.point.0 k d (omega arith) lt)
+
+pub returns-else-eq-clause-known : goal.returns-else-eq-clause-known
+returns-else-eq-clause-known g c =
     let q = g.T.HasQuery.query_of in
     let xs = c.args.items.now in
     let item = c.index-items-place.result in
-    let within : c.loop-place.place < length xs = search rules in
-    let other : query_eq (q (get_or xs c.loop-place.place item)) c.args.query.now ≡ false = search rules in (
-      omega (arith, within),
-      before_more (λ x. query_eq (q x) c.args.query.now) xs c.loop-place.place item within other c.loop-place.invariant.1,
-      λ k d le lt. c.loop-place.invariant.2 k d (omega (arith, le)) lt,
-    )
-
-pub returns-then-eq-clause-known : goal.returns-then-eq-clause-known
-returns-then-eq-clause-known g c =
-    let q = g.T.HasQuery.query_of in
-    let xs = c.args.items.now in
-    let item = c.index-items-place.result in
-    let within : c.loop-place.place < length xs = search rules in
-    let own : query_eq (q (get_or xs c.loop-place.place item)) c.args.query.now ≡ true = search rules in
-    sym (any_at (λ x. query_eq (q x) c.args.query.now) xs c.loop-place.place item within own)
-
-pub returns-then-ne-clause-known : goal.returns-then-ne-clause-known
-returns-then-ne-clause-known g c =
-    let q = g.T.HasQuery.query_of in
-    let xs = c.args.items.now in
-    let item = c.index-items-place.result in
-    let within : c.loop-place.place < length xs = search rules in
-    let at : item ≡ get_or xs c.loop-place.place item = search rules in
-    let other : path_eq (q item).path (c.args.query.now).path ≡ false = search rules in
-    sym (none_behind q c.args.query.now xs c.loop-place.place c.requires within c.loop-place.invariant.1
-    (λ d. c.loop-place.invariant.2 c.loop-place.place d (omega arith) within)
-    (at_read xs (λ x. path_eq (q x).path (c.args.query.now).path ≡ false) c.loop-place.place item within at other))
-
-pub returns-clause-known : goal.returns-clause-known
-returns-clause-known g c =
-    let q = g.T.HasQuery.query_of in
-    let xs = c.args.items.now in
-    let done : length xs ≤ c.loop-place.place = search rules in
-    sym (none_of (λ x. query_eq (q x) c.args.query.now) xs (λ k d lt. c.loop-place.invariant.1 k d (omega (arith, lt, done))))
+    let within : c.first_of-place.result < length xs = search rules in
+    let other : query_eq (q (get_or xs c.first_of-place.result item)) c.args.query.now ≡ false = search rules in
+    sym (none_unless_here q c.args.query.now xs c.first_of-place.result item c.requires c.first_of-place.ensures.point within other)

@@ -1,11 +1,11 @@
 use Rattle.std.proofs.Common.{rules, ◌≡◌, ◌∙◌, ◌<◌, ℕ, ap, sym, length, get_or, refl, true, false, Some, None}
 use Rattle.std.specs.FinMap as map_of
 use Rattle.std.specs.Option.{option_map}
-use Rattle.rt_tree.specs.PathTree.{strip, sub, children_alone}
+use Rattle.rt_tree.specs.PathTree.{strip, sub}
 use Rattle.rt_tree.specs.Assignments.{is_at_or_above}
 use Rattle.rt_query.specs.QueryEq.{query_eq}
 use Rattle.rt_query.specs.laws.QueryEq.{query_eq_tells}
-use Rattle.rt_cache.specs.QueryOrder.{query_cmp}
+use Rattle.rt_query.specs.QueryOrder.{query_cmp}
 use Rattle.rt_cache.specs.Brought.{region_part}
 use Rattle.rt_cache.specs.Recover.{window_left}
 use Rattle.rt_cache.specs.declared.region.Region.{Region}
@@ -28,10 +28,7 @@ returns-in-Some c =
     let seen : region_part (pairs_of c.args.regions.now) (c.args.query.now).path ≡ Some c.in_ok-part.part =
     part_is (c.args.query.now).path c.args.regions.now c.in-Some.place region c.requires.apart within above
     ∙ ap (λ (r : Region). option_map (sub r.tree) (strip r.path (c.args.query.now).path)) (sym at) ∙ sym part in
-    let query : c.in_ok-copy.field-0 ≡ c.args.query.now = search rules in
-    let children : c.in_ok-children_alone.field-0 ≡ children_alone c.in_ok-part.part = search rules in
-    (λ i. Some (entry_of (c.in_ok-new.ensures i)))
-    ∙ (λ i. Some (query i, record { children = children i; is_whole = true }))
+    (λ i. Some (entry_of (c.in_ok-over.ensures i)))
     ∙ ap (λ x. option_map (λ w. (c.args.query.now, w)) (window_left x)) (sym (part_found c.args.registered.now c.args.regions.now c.args.windows.now c.args.query.now (Some c.in_ok-part.part) seen refl))
 
 pub returns-in_default-place_of_source : goal.returns-in_default-place_of_source
@@ -50,9 +47,6 @@ returns c =
     let first : (k : ℕ) → k < c.in-Some-place_of_source.place → query_eq (get_or c.args.windows.now k window).query (get_or c.args.windows.now c.in-Some-place_of_source.place window).query ≡ false = search rules in
     let found : map_of.find query_cmp (get_or c.args.windows.now c.in-Some-place_of_source.place window).query (entries_of c.args.windows.now) ≡ Some (seen_window window) =
     find-at (get_or c.args.windows.now c.in-Some-place_of_source.place window).query c.args.windows.now c.in-Some-place_of_source.place window within first ((query_eq_tells (get_or c.args.windows.now c.in-Some-place_of_source.place window).query (get_or c.args.windows.now c.in-Some-place_of_source.place window).query).1 refl) ∙ ap (λ (w : Window). Some (seen_window w)) (sym at) in
-    let query : c.in_ok-copy-2.field-0 ≡ c.args.query.now = search rules in
-    let children : c.in_ok-children_alone-2.field-0 ≡ children_alone window.children = search rules in
-    (λ i. Some (entry_of (c.in_ok-new-2.ensures i)))
-    ∙ (λ i. Some (query i, record { children = children i; is_whole = window.is_whole }))
+    (λ i. Some (entry_of (c.in_ok-over-2.ensures i)))
     ∙ ap (λ x. option_map (λ w. (c.args.query.now, w)) (window_left x))
     (sym (window_found c.args.registered.now c.args.regions.now c.args.windows.now c.args.query.now _ none source ∙ ap (option_map of_window) found))

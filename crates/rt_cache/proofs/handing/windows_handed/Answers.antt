@@ -5,16 +5,17 @@ use Rattle.std.proofs.lemmas.List.Sorted.{list_any-IsPermutation}
 use Rattle.rt_query.specs.Queries.{Query, is_filtered}
 use Rattle.rt_query.specs.QueryEq.{query_eq}
 use Rattle.rt_query.specs.Needed.{needed}
-use Rattle.rt_cache.specs.QueryOrder.{query_cmp}
+use Rattle.rt_query.specs.QueryOrder.{query_cmp}
 use Rattle.rt_cache.specs.Brought.{Brought}
 use Rattle.rt_cache.specs.Recover.{is_among, cut, heirs}
 use Rattle.rt_cache.specs.declared.by_path.Lent.{Lent}
 use Rattle.rt_cache.specs.declared.region.Region.{Region}
 use Rattle.rt_cache.specs.declared.window.Window.{Window}
-use Rattle.rt_cache.specs.inside.ByPath.{AreByPath}
+use Rattle.rt_cache.specs.inside.ByPath.{AreByQuery}
 use Rattle.rt_cache.specs.inside.Handing.{lent_queries, window_queries, is_staying, staying_of, is_region_lost, is_window_lost, is_loser}
 use Rattle.rt_cache.specs.inside.Held.{pairs_of, held}
 use Rattle.rt_cache.proofs.Among.{any_passing}
+use Rattle.rt_cache.proofs.Apart.{windows_apart}
 use Rattle.rt_cache.proofs.Gathering.{losers_gathered}
 use Rattle.rt_cache.proofs.HandLaws.{heirs_are, handed_alike}
 use Rattle.rt_cache.proofs.Lending.{among_lent, of_ok, losing_order, losing_filtered}
@@ -25,13 +26,16 @@ use Rattle.rt_cache.proofs.handing.windows_handed.Goals as goal
 pub losers-requires-clause-filtered : goal.losers-requires-clause-filtered
 losers-requires-clause-filtered c = all_kept (λ q. is_filtered q ≡ true) c.args.windows.now c.requires.belongs.filtered
 
+pub losers-requires-clause-windows_apart : goal.losers-requires-clause-windows_apart
+losers-requires-clause-windows_apart c = windows_apart c.args.were.now c.args.windows.now c.requires.belongs
+
 pub unsupplied-requires-clause-order : goal.unsupplied-requires-clause-order
 unsupplied-requires-clause-order c =
     let kept : List Query = c.requires.cut.0 in
     let those : List Query = lent_queries c.args.those.now in
     let windows : List Query = window_queries c.args.windows.now in
     let test : Query → Bool = λ q. is_staying those c.args.among q && is_loser kept (pairs_of c.args.regions.now) windows (staying_of those c.args.among windows) q in
-    subst (AreByPath (λ (l : Lent). l.query.now)) (sym c.deref.ensures.value)
+    subst (AreByQuery (λ (l : Lent). l.query.now)) (sym c.deref.ensures.value)
     (losing_order test c.args.forms.now c.in_ok-losing.losing.items (of_ok c.losers.result c.in_ok-losing.losing _ c.in_ok-losing.was (c.losers.ensures kept c.requires.cut.1)) c.requires.forms)
 
 pub unsupplied-requires-clause-filtered : goal.unsupplied-requires-clause-filtered

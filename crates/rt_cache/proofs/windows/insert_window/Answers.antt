@@ -2,36 +2,36 @@ use Rattle.std.proofs.Common.{rules, ◌≡◌, ◌∙◌, ◌≤◌, ℕ, List,
 use Rattle.std.specs.List.{insert}
 use Rattle.std.specs.List.Sorted.{IsPartitionPoint}
 use Rattle.std.specs.Ordering.{is_lt}
-use Rattle.rt_tree.specs.PathTree.{Path, path_cmp}
 use Rattle.rt_query.specs.Queries.{Query}
+use Rattle.rt_query.specs.QueryOrder.{query_cmp}
 use Rattle.rt_cache.specs.Recover.{in_query_order}
 use Rattle.rt_cache.specs.declared.window.Window.{Window}
-use Rattle.rt_cache.specs.inside.ByPath.{AreByPath, query_of}
+use Rattle.rt_cache.specs.inside.ByPath.{AreByQuery, query_of}
 use Rattle.rt_cache.specs.inside.Held.{entries_of}
-use Rattle.rt_cache.proofs.ByPaths.{before_other, by_path-insert}
+use Rattle.rt_cache.proofs.ByQueries.{lesser_other, by_query-insert}
 use Rattle.rt_cache.proofs.Listing.{listed-insert}
 use Rattle.rt_cache.proofs.windows.insert_window.Goals as goal
 
--- so many stand before the path
-abbrev StandsAt : List Window → Path → ℕ → Type 0
-StandsAt ws p n = IsPartitionPoint (λ (w : Window). is_lt (path_cmp (w.query).path p) ≡ true) (λ (w : Window). is_lt (path_cmp (w.query).path p) ≡ false) ws n
+-- so many stand before the query
+abbrev StandsAt : List Window → Query → ℕ → Type 0
+StandsAt ws q n = IsPartitionPoint (λ (w : Window). is_lt (query_cmp w.query q) ≡ true) (λ (w : Window). is_lt (query_cmp w.query q) ≡ false) ws n
 
 pub returns-clause-order : goal.returns-clause-order
 returns-clause-order c =
     let old : List Window = c.args.windows.now.items in
-    let place : ℕ = c.first_from-place.result in
+    let place : ℕ = c.first_of-place.result in
     let items : c.insert-in_reserved_room.new.self.items ≡ insert old place c.args.window = search rules in
-    let point : StandsAt old (c.args.window.query).path place =
-    subst (λ (p : Path). StandsAt old p place) (c.path.ensures ∙ ap (λ (q : Query). q.path) c.query.ensures) (subst (λ (ws : List Window). StandsAt ws c.path.result.now place) c.deref.ensures.value c.first_from-place.ensures.point) in
-    subst (λ (ws : List Window). AreByPath query_of ws) (sym items) (by_path-insert query_of old place c.args.window c.requires.order point)
+    let point : StandsAt old c.args.window.query place =
+    subst (λ (q : Query). StandsAt old q place) c.query.ensures (subst (λ (ws : List Window). StandsAt ws c.query.result.now place) c.deref.ensures.value c.first_of-place.ensures.point) in
+    subst (λ (ws : List Window). AreByQuery query_of ws) (sym items) (by_query-insert query_of old place c.args.window c.requires.order point)
 
 pub returns-clause-listed : goal.returns-clause-listed
 returns-clause-listed c =
     let old : List Window = c.args.windows.now.items in
-    let place : ℕ = c.first_from-place.result in
+    let place : ℕ = c.first_of-place.result in
     let items : c.insert-in_reserved_room.new.self.items ≡ insert old place c.args.window = search rules in
-    let point : StandsAt old (c.args.window.query).path place =
-    subst (λ (p : Path). StandsAt old p place) (c.path.ensures ∙ ap (λ (q : Query). q.path) c.query.ensures) (subst (λ (ws : List Window). StandsAt ws c.path.result.now place) c.deref.ensures.value c.first_from-place.ensures.point) in
-    let within : place ≤ length old = subst (λ (ws : List Window). place ≤ length ws) c.deref.ensures.value c.first_from-place.ensures.within in
+    let point : StandsAt old c.args.window.query place =
+    subst (λ (q : Query). StandsAt old q place) c.query.ensures (subst (λ (ws : List Window). StandsAt ws c.query.result.now place) c.deref.ensures.value c.first_of-place.ensures.point) in
+    let within : place ≤ length old = subst (λ (ws : List Window). place ≤ length ws) c.deref.ensures.value c.first_of-place.ensures.within in
     ap (λ ws. in_query_order (entries_of ws)) items
-    ∙ listed-insert old place c.args.window within (λ k d lt. before_other _ c.args.window.query (point.0 k d (omega arith) lt))
+    ∙ listed-insert old place c.args.window within (λ k d lt. lesser_other _ c.args.window.query (point.0 k d (omega arith) lt))

@@ -1,24 +1,24 @@
 use Rattle.std.proofs.Common.{rules, ◌≡◌, ◌∙◌, ℕ, ◌+◌, ◌<◌, ◌≤◌, arith, length, get_or, ap, sym, subst, List, Some, None, true, false, is_some, ◌&&◌, Bool, IfSome, IfNone}
 use Rattle.std.specs.FinMap as map_of
 use Rattle.std.specs.List.{find, All}
-use Rattle.std.specs.List.Sorted.{IsPartitionPoint}
-use Rattle.std.specs.Ordering.{is_lt}
-use Rattle.rt_tree.specs.PathTree.{Path, path_cmp, path_eq, path_eq-same}
+use Rattle.rt_tree.specs.PathTree.{Path, path_eq, path_eq-same}
 use Rattle.rt_tree.specs.TreeEq.{both_second, both}
 use Rattle.rt_query.specs.Queries.{Query, is_filtered}
 use Rattle.rt_query.specs.QueryEq.{query_eq}
 use Rattle.rt_query.specs.Supply.{does_supply}
 use Rattle.rt_query.specs.laws.QueryEq.{query_eq_tells}
-use Rattle.rt_cache.specs.QueryOrder.{query_cmp}
+use Rattle.rt_query.specs.QueryOrder.{query_cmp}
 use Rattle.rt_cache.specs.Recover.{in_query_order}
 use Rattle.rt_cache.specs.declared.window.Window.{Window}
-use Rattle.rt_cache.specs.inside.ByPath.{query_of, is_other_supplier}
+use Rattle.rt_cache.specs.inside.ByPath.{is_other_supplier}
 use Rattle.rt_cache.specs.inside.Held.{entries_of}
 use Rattle.rt_cache.specs.inside.Listed.{queries_of}
 use Rattle.rt_cache.specs.inside.Sources.{source_among}
+use Rattle.rt_cache.proofs.Apart.{windows_apart}
+use Rattle.rt_cache.proofs.ByPaths.{none_of}
 use Rattle.rt_cache.proofs.Listing.{find-listed}
 use Rattle.rt_cache.proofs.Sources.{all_kept, has_it, source_kept, own_source}
-use Rattle.rt_cache.proofs.Suppliers.{other_found, before_none, first_alone, one_source, without_source, found_filtered_form, supplies_of_path}
+use Rattle.rt_cache.proofs.Suppliers.{first_alone, one_source, without_source, found_filtered_form, supplies_of_path}
 use Rattle.rt_cache.proofs.windows.place_of_source.Goals as goal
 
 pub returns-in-Some-clause-source : goal.returns-in-Some-clause-source
@@ -39,69 +39,48 @@ returns-in-Some-clause-first c = λ k d lt.
     let first : (j : ℕ) (e : Window) → j < c.in-Some.place → query_eq (get_or ws j e).query q ≡ false = search rules in
     ap (query_eq (get_or ws k d).query) ((query_eq_tells (get_or ws c.in-Some.place d).query q).0 own) ∙ first k d lt
 
-pub other_supplier_from-requires-clause-filtered : goal.other_supplier_from-requires-clause-filtered
-other_supplier_from-requires-clause-filtered c = all_kept (λ q. is_filtered q ≡ true) c.args.windows.now c.requires.belongs.filtered
+pub last_supplier-requires-clause-filtered : goal.last_supplier-requires-clause-filtered
+last_supplier-requires-clause-filtered c = all_kept (λ q. is_filtered q ≡ true) c.args.windows.now c.requires.belongs.filtered
 
-pub other_supplier_from-requires-clause-reached : goal.other_supplier_from-requires-clause-reached
-other_supplier_from-requires-clause-reached c =
-    let ws : List Window = c.args.windows.now in
-    let q : Query = c.args.query.now in
-    let point : IsPartitionPoint (λ (x : Window). is_lt (path_cmp (x.query).path q.path) ≡ true) (λ (x : Window). is_lt (path_cmp (x.query).path q.path) ≡ false) ws c.first_from-from.result =
-    subst (λ z. IsPartitionPoint (λ (x : Window). is_lt (path_cmp (x.query).path z) ≡ true) (λ (x : Window). is_lt (path_cmp (x.query).path z) ≡ false) ws c.first_from-from.result) c.path.ensures c.first_from-from.ensures.point in
-    λ k d le lt. point.1 k d le lt
+pub last_supplier-requires-clause-apart : goal.last_supplier-requires-clause-apart
+last_supplier-requires-clause-apart c = windows_apart c.args.registered.now c.args.windows.now c.requires.belongs
 
-pub returns-in_default-other_supplier_from-clause-none : goal.returns-in_default-other_supplier_from-clause-none
-returns-in_default-other_supplier_from-clause-none c =
+pub returns-in_default-last_supplier-clause-none : goal.returns-in_default-last_supplier-clause-none
+returns-in_default-last_supplier-clause-none c =
     let ws : List Window = c.args.windows.now in
     let q : Query = c.args.query.now in
     let none : map_of.find query_cmp q (entries_of ws) ≡ None = search rules in
-    let point : IsPartitionPoint (λ (x : Window). is_lt (path_cmp (x.query).path q.path) ≡ true) (λ (x : Window). is_lt (path_cmp (x.query).path q.path) ≡ false) ws c.first_from-from.result =
-    subst (λ z. IsPartitionPoint (λ (x : Window). is_lt (path_cmp (x.query).path z) ≡ true) (λ (x : Window). is_lt (path_cmp (x.query).path z) ≡ false) ws c.first_from-from.result) c.path.ensures c.first_from-from.ensures.point in
-    let nothing : is_some c.other_supplier_from.result ≡ false = search rules in
-    without_source c.args.registered.now ws q c.requires.belongs none
-    (sym (other_found query_of q ws c.first_from-from.result c.other_supplier_from.result (all_kept (λ x. is_filtered x ≡ true) ws c.requires.belongs.filtered) c.first_from-from.ensures.within point.0
-    c.other_supplier_from.ensures.within c.other_supplier_from.ensures.own c.other_supplier_from.ensures.none) ∙ nothing)
+    let no_other : (k : ℕ) (d : Window) → k < length ws → is_other_supplier (get_or ws k d).query q ≡ false = search rules in
+    without_source c.args.registered.now ws q c.requires.belongs none (none_of (λ (w : Window). is_other_supplier w.query q) ws no_other)
 
-pub other_supplier_from-requires-2-clause-filtered : goal.other_supplier_from-requires-2-clause-filtered
-other_supplier_from-requires-2-clause-filtered c = all_kept (λ q. is_filtered q ≡ true) c.args.windows.now c.requires.belongs.filtered
+pub is_only_supplier-requires-clause-filtered : goal.is_only_supplier-requires-clause-filtered
+is_only_supplier-requires-clause-filtered c = all_kept (λ q. is_filtered q ≡ true) c.args.windows.now c.requires.belongs.filtered
 
-pub other_supplier_from-requires-2-clause-reached : goal.other_supplier_from-requires-2-clause-reached
-other_supplier_from-requires-2-clause-reached c =
+pub is_only_supplier-requires-clause-apart : goal.is_only_supplier-requires-clause-apart
+is_only_supplier-requires-clause-apart c = windows_apart c.args.registered.now c.args.windows.now c.requires.belongs
+
+pub returns-then-is_only_supplier-clause-source : goal.returns-then-is_only_supplier-clause-source
+returns-then-is_only_supplier-clause-source c =
     let ws : List Window = c.args.windows.now in
     let q : Query = c.args.query.now in
-    let point : IsPartitionPoint (λ (x : Window). is_lt (path_cmp (x.query).path q.path) ≡ true) (λ (x : Window). is_lt (path_cmp (x.query).path q.path) ≡ false) ws c.first_from-from.result =
-    subst (λ z. IsPartitionPoint (λ (x : Window). is_lt (path_cmp (x.query).path z) ≡ true) (λ (x : Window). is_lt (path_cmp (x.query).path z) ≡ false) ws c.first_from-from.result) c.path.ensures c.first_from-from.ensures.point in
-    let from : c.first_from-from.result ≤ c.in-Some-other_supplier_from.first = search rules in
-    λ k d le lt. point.1 k d (omega (arith, le, from)) lt
-
-pub returns-then-is_none-clause-source : goal.returns-then-is_none-clause-source
-returns-then-is_none-clause-source c =
-    let ws : List Window = c.args.windows.now in
-    let q : Query = c.args.query.now in
-    let first : ℕ = c.in-Some-other_supplier_from.first in
+    let last : ℕ = c.in-Some-last_supplier.last in
     let none : map_of.find query_cmp q (entries_of ws) ≡ None = search rules in
-    let point : IsPartitionPoint (λ (x : Window). is_lt (path_cmp (x.query).path q.path) ≡ true) (λ (x : Window). is_lt (path_cmp (x.query).path q.path) ≡ false) ws c.first_from-from.result =
-    subst (λ z. IsPartitionPoint (λ (x : Window). is_lt (path_cmp (x.query).path z) ≡ true) (λ (x : Window). is_lt (path_cmp (x.query).path z) ≡ false) ws c.first_from-from.result) c.path.ensures c.first_from-from.ensures.point in
-    let within : first < length ws = search rules in
-    let own : (d : Window) → is_other_supplier (get_or ws first d).query q ≡ true = search rules in
-    let between : (k : ℕ) (d : Window) → c.first_from-from.result ≤ k → k < first → is_other_supplier (get_or ws k d).query q ≡ false = search rules in
-    let behind : (k : ℕ) (d : Window) → first + 1 ≤ k → k < length ws → is_other_supplier (get_or ws k d).query q ≡ false = search rules in
-    one_source c.args.registered.now ws q first c.requires.belongs none within own
-    (before_none q ws c.first_from-from.result first (all_kept (λ x. is_filtered x ≡ true) ws c.requires.belongs.filtered) (omega (arith, within)) point.0 between) behind
+    let within : last < length ws = search rules in
+    let own : (d : Window) → is_other_supplier (get_or ws last d).query q ≡ true = search rules in
+    let before : (k : ℕ) (d : Window) → k < last → is_other_supplier (get_or ws k d).query q ≡ false = search rules in
+    let behind : (k : ℕ) (d : Window) → last + 1 ≤ k → k < length ws → is_other_supplier (get_or ws k d).query q ≡ false = search rules in
+    one_source c.args.registered.now ws q last c.requires.belongs none within own before behind
 
-pub returns-then-is_none-clause-first : goal.returns-then-is_none-clause-first
-returns-then-is_none-clause-first c =
+pub returns-then-is_only_supplier-clause-first : goal.returns-then-is_only_supplier-clause-first
+returns-then-is_only_supplier-clause-first c =
     let ws : List Window = c.args.windows.now in
     let q : Query = c.args.query.now in
-    let first : ℕ = c.in-Some-other_supplier_from.first in
+    let last : ℕ = c.in-Some-last_supplier.last in
     let none : map_of.find query_cmp q (entries_of ws) ≡ None = search rules in
-    let point : IsPartitionPoint (λ (x : Window). is_lt (path_cmp (x.query).path q.path) ≡ true) (λ (x : Window). is_lt (path_cmp (x.query).path q.path) ≡ false) ws c.first_from-from.result =
-    subst (λ z. IsPartitionPoint (λ (x : Window). is_lt (path_cmp (x.query).path z) ≡ true) (λ (x : Window). is_lt (path_cmp (x.query).path z) ≡ false) ws c.first_from-from.result) c.path.ensures c.first_from-from.ensures.point in
-    let within : first < length ws = search rules in
-    let own : (d : Window) → is_other_supplier (get_or ws first d).query q ≡ true = search rules in
-    let between : (k : ℕ) (d : Window) → c.first_from-from.result ≤ k → k < first → is_other_supplier (get_or ws k d).query q ≡ false = search rules in
-    first_alone c.args.registered.now ws q first c.requires.belongs none within own
-    (before_none q ws c.first_from-from.result first (all_kept (λ x. is_filtered x ≡ true) ws c.requires.belongs.filtered) (omega (arith, within)) point.0 between)
+    let within : last < length ws = search rules in
+    let own : (d : Window) → is_other_supplier (get_or ws last d).query q ≡ true = search rules in
+    let before : (k : ℕ) (d : Window) → k < last → is_other_supplier (get_or ws k d).query q ≡ false = search rules in
+    first_alone c.args.registered.now ws q last c.requires.belongs none within own before
 
 pub place_of_first-requires-clause-filtered : goal.place_of_first-requires-clause-filtered
 place_of_first-requires-clause-filtered c = all_kept (λ q. is_filtered q ≡ true) c.args.windows.now c.requires.belongs.filtered

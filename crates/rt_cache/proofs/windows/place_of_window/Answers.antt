@@ -1,6 +1,6 @@
 use Rattle.std.proofs.Common.{◌∙◌}
 use Rattle.std.specs.FinMap as map_of
-use Rattle.rt_cache.specs.QueryOrder.{query_cmp}
+use Rattle.rt_query.specs.QueryOrder.{query_cmp}
 use Rattle.rt_cache.specs.inside.Held.{entries_of}
 use Rattle.rt_cache.proofs.Listing.{found_any, none_unless}
 use Rattle.rt_cache.proofs.windows.place_of_window.Goals as goal

@@ -1,7 +1,7 @@
 use Rattle.std.proofs.Common.{rules, ◌≡◌, ◌∙◌, ◌&&◌, ap, sym, true, false, is_some}
 use Rattle.std.specs.FinMap as map_of
 use Rattle.rt_query.specs.Supply.{does_supply}
-use Rattle.rt_cache.specs.QueryOrder.{query_cmp}
+use Rattle.rt_query.specs.QueryOrder.{query_cmp}
 use Rattle.rt_cache.specs.inside.Held.{entries_of}
 use Rattle.rt_cache.proofs.windows.place_supplying.Goals as goal
 

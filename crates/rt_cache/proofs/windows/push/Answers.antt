@@ -9,10 +9,12 @@ use Rattle.rt_tree.specs.Assignments.{is_at_or_above}
 use Rattle.rt_query.specs.QueryEq.{query_eq}
 use Rattle.rt_query.specs.laws.QueryEq.{query_eq_tells}
 use Rattle.rt_query.specs.Queries.{Query}
-use Rattle.rt_cache.specs.QueryOrder.{query_cmp}
+use Rattle.rt_query.specs.QueryOrder.{query_cmp}
 use Rattle.rt_cache.specs.Recover.{in_query_order}
 use Rattle.rt_cache.specs.declared.window.Window.{Window}
+use Rattle.rt_cache.specs.inside.ByPath.{query_of}
 use Rattle.rt_cache.specs.inside.Held.{seen_window, entry_of, entries_of}
+use Rattle.rt_cache.proofs.ByQueries.{by_query-set}
 use Rattle.rt_cache.proofs.Listing.{listed-set}
 use Rattle.rt_cache.proofs.WindowPushes.{on_err_of, pushed_own, taken_own, pushed_none, taken_none, pushed_some, taken_some, none_listed, window_listed, entries_of-set}
 use Rattle.rt_cache.proofs.windows.push.Goals as goal
@@ -60,6 +62,13 @@ returns-in_err-put_into_window-clause-err c =
     let same : entry_of c.put_into_window.new.window ≡ entry_of old =
     λ i. (c.put_into_window.ensures.query i, record { children = tree i; is_whole = c.put_into_window.ensures.mark i }) in
     on_err_of _ _ (ap in_query_order (entries_of-set c.args.windows.now.items c.in-Some.place old c.put_into_window.new.window within (same ∙ ap entry_of at)))
+
+pub returns-clause-order : goal.returns-clause-order
+returns-clause-order c =
+    let old : Window = c.index_mut.result.now in
+    let within : c.in-Some.place < length c.args.windows.now.items = search rules in
+    let at : old ≡ get_or c.args.windows.now.items c.in-Some.place old = search rules in
+    by_query-set query_of c.args.windows.now.items c.in-Some.place old c.put_into_window.new.window within (c.put_into_window.ensures.query ∙ ap query_of at) c.requires.order
 
 pub returns-clause-ok : goal.returns-clause-ok
 returns-clause-ok c =

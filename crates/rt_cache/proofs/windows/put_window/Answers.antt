@@ -3,7 +3,7 @@ use Rattle.rt_query.specs.QueryEq.{query_eq}
 use Rattle.rt_query.specs.laws.QueryEq.{query_eq_tells}
 use Rattle.rt_cache.specs.declared.window.Window.{Window}
 use Rattle.rt_cache.specs.inside.ByPath.{query_of}
-use Rattle.rt_cache.proofs.ByPaths.{by_path-set}
+use Rattle.rt_cache.proofs.ByQueries.{by_query-set}
 use Rattle.rt_cache.proofs.Listing.{listed-set}
 use Rattle.rt_cache.proofs.windows.put_window.Goals as goal
 
@@ -13,7 +13,7 @@ returns-in-Some-clause-order c =
     let new : Window = c.args.window in
     let within : c.in-Some.place < length old = search rules in
     let own : query_eq (get_or old c.in-Some.place new).query new.query ≡ true = search rules in
-    by_path-set query_of old c.in-Some.place new new within (sym ((query_eq_tells (get_or old c.in-Some.place new).query new.query).0 own)) c.requires.order
+    by_query-set query_of old c.in-Some.place new new within (sym ((query_eq_tells (get_or old c.in-Some.place new).query new.query).0 own)) c.requires.order
 
 pub returns-in-Some-clause-listed : goal.returns-in-Some-clause-listed
 returns-in-Some-clause-listed c =

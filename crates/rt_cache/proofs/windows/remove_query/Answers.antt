@@ -4,11 +4,12 @@ use Rattle.std.specs.FinMap as map_of
 use Rattle.rt_query.specs.Queries.{Query}
 use Rattle.rt_query.specs.QueryEq.{query_eq}
 use Rattle.rt_query.specs.laws.QueryEq.{query_eq_tells}
-use Rattle.rt_cache.specs.QueryOrder.{query_cmp}
+use Rattle.rt_query.specs.QueryOrder.{query_cmp}
 use Rattle.rt_cache.specs.declared.window.Window.{Window}
-use Rattle.rt_cache.specs.inside.ByPath.{AreByPath, query_of}
+use Rattle.rt_cache.specs.inside.ByPath.{AreByQuery, query_of}
 use Rattle.rt_cache.specs.inside.Held.{entries_of}
-use Rattle.rt_cache.proofs.Forgetting.{by_path-remove, find-remove}
+use Rattle.rt_cache.proofs.Forgetting.{find-remove}
+use Rattle.rt_cache.proofs.ByQueries.{by_query-remove}
 use Rattle.rt_cache.proofs.windows.remove_query.Goals as goal
 
 pub loop-place-preserved : goal.loop-place-preserved
@@ -17,7 +18,7 @@ loop-place-preserved c =
     let within : c.in-Some.place < length old = search rules in
     let own : (d : Window) → query_eq (get_or old c.in-Some.place d).query c.args.query.now ≡ true = search rules in
     let left : c.remove.new.self.items ≡ remove old c.in-Some.place = search rules in (
-      subst (λ (ws : List Window). AreByPath query_of ws) (sym left) (by_path-remove query_of old c.in-Some.place c.loop-place.invariant.0),
+      subst (λ (ws : List Window). AreByQuery query_of ws) (sym left) (by_query-remove query_of old c.in-Some.place c.loop-place.invariant.0),
       λ x e. ap (λ (ws : List Window). map_of.find query_cmp x (entries_of ws)) left
           ∙ find-remove x c.args.query.now old c.in-Some.place within own e ∙ c.loop-place.invariant.1 x e,
       omega (arith, c.remove.ensures.len, c.loop-place.invariant.2),

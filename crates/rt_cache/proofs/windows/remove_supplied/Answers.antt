@@ -7,9 +7,9 @@ use Rattle.std.proofs.lemmas.List.Elements.{at_read}
 use Rattle.rt_tree.specs.PathTree.{Path, path_cmp, path_eq}
 use Rattle.rt_query.specs.Queries.{Query}
 use Rattle.rt_cache.specs.declared.window.Window.{Window}
-use Rattle.rt_cache.specs.inside.ByPath.{AreByPath, query_of, is_other_supplier}
+use Rattle.rt_cache.specs.inside.ByPath.{AreByPath, AreByQuery, query_of, is_other_supplier}
 use Rattle.rt_cache.proofs.ByPaths.{before_more, none_of_path_left}
-use Rattle.rt_cache.proofs.Forgetting.{by_path-remove}
+use Rattle.rt_cache.proofs.ByQueries.{by_paths, by_query-remove}
 use Rattle.rt_cache.proofs.Stamps.{filter-remove_none}
 use Rattle.rt_cache.proofs.Suppliers.{supplied_of_path, supplies_none_in_front, left_beside}
 use Rattle.rt_cache.proofs.windows.remove_supplied.Goals as goal
@@ -39,7 +39,7 @@ loop-place-preserved-then-is_other_supplier c =
     let supplied : is_other_supplier q (get_or ws n item).query ≡ true = search rules in
     let left : c.remove.new.self.items ≡ remove ws n = search rules in
     let fewer : length (remove ws n) + 1 ≡ length ws = length-remove ws n within in (
-      subst (λ (xs : List Window). AreByPath query_of xs) (sym left) (by_path-remove query_of ws n c.loop-place.invariant.0),
+      subst (λ (xs : List Window). AreByQuery query_of xs) (sym left) (by_query-remove query_of ws n c.loop-place.invariant.0),
       omega (arith, ap length left, fewer, within),
       λ k d lt. ap (λ (xs : List Window). is_other_supplier q (get_or xs k d).query) left
           ∙ ap (λ (w : Window). is_other_supplier q w.query) (get_or-remove_below ws n d k lt within) ∙ c.loop-place.invariant.2 k d lt,
@@ -74,7 +74,7 @@ returns-then-ne-clause-left c =
     let at : item ≡ get_or ws c.loop-place.place item = search rules in
     let other : path_eq (item.query).path q.path ≡ false = search rules in
     left_beside q c.args.windows.now.items ws
-    (none_of_path_left query_of q.path (λ (w : Window). is_other_supplier q w.query) ws c.loop-place.place (λ k d lt. supplied_of_path q (get_or ws k d).query c.requires.filtered) c.loop-place.invariant.0 within c.loop-place.invariant.2
+    (none_of_path_left query_of q.path (λ (w : Window). is_other_supplier q w.query) ws c.loop-place.place (λ k d lt. supplied_of_path q (get_or ws k d).query c.requires.filtered) (by_paths query_of ws c.loop-place.invariant.0) within c.loop-place.invariant.2
     (λ d. c.loop-place.invariant.3 c.loop-place.place d (omega arith) within)
     (at_read ws (λ (w : Window). path_eq (w.query).path q.path ≡ false) c.loop-place.place item within at other)) c.loop-place.invariant.4
 
@@ -83,3 +83,6 @@ returns-clause-left c =
     let ws : List Window = c.loop-place.windows.items in
     let done : length ws ≤ c.loop-place.place = search rules in
     left_beside c.args.query.now c.args.windows.now.items ws (λ k d lt. c.loop-place.invariant.2 k d (omega (arith, lt, done))) c.loop-place.invariant.4
+
+pub first_from-place-requires : goal.first_from-place-requires
+first_from-place-requires c = subst (λ (ws : List Window). AreByPath query_of ws) (sym c.deref.ensures.value) (by_paths query_of c.args.windows.now.items c.requires.order)

@@ -7,7 +7,7 @@ use Rattle.rt_tree.specs.PathTree.{strip, sub, levels}
 use Rattle.rt_tree.specs.declared.limits.TheConstants.{MAX_KEYS, MAX_LEVELS}
 use Rattle.rt_tree.specs.Assignments.{is_at_or_above}
 use Rattle.rt_query.specs.QueryEq.{query_eq}
-use Rattle.rt_cache.specs.QueryOrder.{query_cmp}
+use Rattle.rt_query.specs.QueryOrder.{query_cmp}
 use Rattle.rt_cache.specs.Brought.{Brought, region_part, base}
 use Rattle.rt_cache.specs.declared.region.Region.{Region}
 use Rattle.rt_cache.specs.declared.window.Window.{Window}

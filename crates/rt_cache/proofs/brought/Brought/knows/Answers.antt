@@ -4,7 +4,10 @@ use Rattle.rt_query.specs.Queries.{is_filtered}
 use Rattle.rt_query.specs.Supply.{does_supply}
 use Rattle.rt_cache.specs.Brought.{region_part, knows}
 use Rattle.rt_cache.specs.declared.window.Window.{Window}
-use Rattle.rt_cache.specs.inside.Held.{pairs_of}
+use Rattle.rt_cache.specs.inside.ByPath.{AreApart, query_of}
+use Rattle.rt_cache.specs.inside.Held.{pairs_of, held}
+use Rattle.rt_cache.proofs.Apart.{windows_apart}
+use Rattle.rt_cache.proofs.Belonging.{have_forms}
 use Rattle.rt_cache.proofs.Bases.{knows_found}
 use Rattle.rt_cache.proofs.Sources.{all_kept}
 use Rattle.rt_cache.proofs.brought.Brought.knows.Goals as goal
@@ -12,6 +15,11 @@ use Rattle.rt_cache.proofs.brought.Brought.knows.Goals as goal
 pub has_supplier-requires-clause-filtered : goal.has_supplier-requires-clause-filtered
 has_supplier-requires-clause-filtered c =
     subst (All (λ (w : Window). is_filtered w.query ≡ true)) (sym c.deref-else-is_some.ensures.value) (all_kept (λ q. is_filtered q ≡ true) c.self.inside.windows.items c.self.invariant.0.filtered)
+
+pub has_supplier-requires-clause-apart : goal.has_supplier-requires-clause-apart
+has_supplier-requires-clause-apart c =
+    subst (AreApart query_of) (sym c.deref-else-is_some.ensures.value)
+    (windows_apart c.self.inside.registered c.self.inside.windows.items (have_forms (held c.self.inside.registered c.self.inside.regions.items c.self.inside.windows.items) c.self.invariant.0 c.self.invariant.3))
 
 pub returns-then-is_some-clause-known : goal.returns-then-is_some-clause-known
 returns-then-is_some-clause-known c =

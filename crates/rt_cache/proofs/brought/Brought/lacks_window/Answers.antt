@@ -2,7 +2,7 @@ use Rattle.std.proofs.Common.{rules, ◌≡◌, ◌∙◌, ap, not, is_some, tru
 use Rattle.std.specs.FinMap as map_of
 use Rattle.rt_tree.specs.PathTree.{path_eq}
 use Rattle.rt_query.specs.Queries.{is_filtered}
-use Rattle.rt_cache.specs.QueryOrder.{query_cmp}
+use Rattle.rt_query.specs.QueryOrder.{query_cmp}
 use Rattle.rt_cache.specs.Brought.{is_without_window}
 use Rattle.rt_cache.specs.inside.Held.{entries_of}
 use Rattle.rt_cache.proofs.Bases.{lacks_found}
