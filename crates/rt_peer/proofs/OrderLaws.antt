@@ -1,5 +1,5 @@
 -- The orders that a peer's connections, listens and actions stand in.
-use Rattle.std.proofs.Common.{◌≡◌, ℕ, ◌+◌, ◌<◌, ◌≤◌, ◌==◌, ◌&&◌, Bool, true, false, not, ◌||◌}
+use Rattle.std.proofs.Common.{◌≡◌, ℕ, ◌+◌, ◌<◌, ◌≤◌, ◌==◌, Bool, true, false, not, ◌||◌}
 use Rattle.std.proofs.Common.{nat_lt, List, [], ◌∷◌, Option, Some, None, codes, refl, sym, ap, subst, ◌∙◌}
 use Rattle.std.proofs.Common.{arith, cond, map, nat_le, zero, suc, if◌then◌else◌}
 use Rattle.std.specs.List.{All, AllPairs, filter}

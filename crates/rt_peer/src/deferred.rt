@@ -1,10 +1,14 @@
 // What is to be done when connections end.
-ghost use Rattle.std.specs.Prelude.{◌≡◌, ◌≤◌, ◌==◌, [], false, length, not, map, IfOk, OnOk};
+ghost use Rattle.std.specs.Prelude.{◌≡◌, ◌≤◌, ◌==◌, [], true, false, length, not, map, nat_le, nat_lt, take};
+ghost use Rattle.std.specs.Prelude.{if◌then◌else◌};
+ghost use Rattle.std.specs.List.Sorted.{IsPartitionPoint};
+ghost use Rattle.std.specs.Prelude.{IfOk, OnOk};
 ghost use Rattle.std.specs.List.{All, AllPairs, filter, insert};
 ghost use Rattle.rt_tree.specs.Assignments.{is_at_or_above};
 ghost use Rattle.rt_writes.specs.Writes.{IsShallow};
 ghost use Rattle.rt_peer.specs.Peers.{in_place, runs_before};
 ghost use Rattle.rt_peer.specs.Calls.{has_entries, without_below};
+ghost use Rattle.rt_peer.specs.Turns.{without_first};
 
 use rt_tree::{Path, Tree};
 use rt_writes::Entries;
@@ -171,6 +175,35 @@ impl Actions {
         Ok(())
     }
 
+    // Takes out the first actions of the connection, so many at most, and answers whether none is left. Where
+    // they stand is found by halving.
+    pub(crate) fn take_some(
+        &mut self,
+        connection: u64,
+        most: usize,
+    ) -> Result<(Vec<Deferred>, bool), AllocError>
+        ensures own { IfOk result (λ taken. taken.0.items
+            ≡ take most (filter (λ a. a.connection == connection) self.old)) }
+        ensures last { IfOk result (λ taken. taken.1
+            ≡ nat_le (length (filter (λ a. a.connection == connection) self.old)) most) }
+        ensures rest { OnOk result (self.new
+            ≡ without_first (λ a. a.connection == connection) most self.old) }
+    {
+        let alloc = *self.items.allocator();
+        let mut items = mem::replace(&mut self.items, Vec::new(alloc));
+        let (taken, is_last) = take_first(&mut items, connection, most)?;
+        self.items = items;
+        Ok((taken, is_last))
+    }
+
+    // How many the connection has, by halving.
+    pub(crate) fn count_of(&self, connection: u64) -> usize
+        ensures { result ≡ length (filter (λ a. a.connection == connection) self.now) }
+    {
+        let first = first_of(&self.items, connection);
+        count_of(&self.items[first..], connection)
+    }
+
     // Takes out the actions of the connection.
     pub(crate) fn take_of(&mut self, connection: u64) -> Result<Vec<Deferred>, AllocError>
         ensures own { IfOk result (λ own. own.items ≡ filter (λ a. a.connection == connection) self.old) }
@@ -182,6 +215,56 @@ impl Actions {
         self.items = others;
         Ok(own)
     }
+}
+
+// Where the connection's actions begin, by halving.
+fn first_of(actions: &[Deferred], connection: u64) -> usize
+    requires { AllPairs (λ a b. runs_before b a ≡ false) actions.now }
+    ensures within { result ≤ length actions.now }
+    ensures point { IsPartitionPoint (λ a. nat_lt a.connection connection ≡ true)
+        (λ a. nat_lt a.connection connection ≡ false) actions.now result }
+{
+    actions.partition_point(|action| action.connection < connection)
+}
+
+// How many of those from there on are the connection's, by halving.
+fn count_of(actions: &[Deferred], connection: u64) -> usize
+    requires order { AllPairs (λ a b. runs_before b a ≡ false) actions.now }
+    requires from { All (λ a. nat_lt a.connection connection ≡ false) actions.now }
+    ensures within { result ≤ length actions.now }
+    ensures point { IsPartitionPoint (λ a. (a.connection == connection) ≡ true)
+        (λ a. (a.connection == connection) ≡ false) actions.now result }
+{
+    actions.partition_point(|action| action.connection == connection)
+}
+
+// Takes out the first actions of the connection, so many at most, and answers whether none is left.
+fn take_first(
+    actions: &mut Vec<Deferred>,
+    connection: u64,
+    most: usize,
+) -> Result<(Vec<Deferred>, bool), AllocError>
+    requires { AllPairs (λ a b. runs_before b a ≡ false) actions.old.items }
+    ensures own { IfOk result (λ taken. taken.0.items
+        ≡ take most (filter (λ a. a.connection == connection) actions.old.items)) }
+    ensures last { IfOk result (λ taken. taken.1
+        ≡ nat_le (length (filter (λ a. a.connection == connection) actions.old.items)) most) }
+    ensures rest { OnOk result (actions.new.items
+        ≡ without_first (λ a. a.connection == connection) most actions.old.items) }
+{
+    let first = first_of(actions.as_slice(), connection);
+    let mut taken = actions.split_off(first)?;
+    let own = count_of(taken.as_slice(), connection);
+    let mut rest = taken.split_off(lesser(own, most))?;
+    actions.append(&mut rest)?;
+    Ok((taken, own <= most))
+}
+
+// The lesser of two.
+fn lesser(a: usize, b: usize) -> usize
+    ensures { result ≡ if nat_le a b then a else b }
+{
+    if a <= b { a } else { b }
 }
 
 // The place behind all actions that this one does not run before, by halving.

@@ -4,6 +4,7 @@ ghost use Rattle.rt_peer.specs.laws.Orders.{ConnectionsRise, ListensAreOfKnown, 
 ghost use Rattle.rt_peer.specs.laws.Orders.{NextIsLeastFree};
 ghost use Rattle.rt_peer.specs.laws.Pushed.{EndsAreByVersion, MessagesAreByVersion, PartsRise};
 ghost use Rattle.rt_peer.specs.laws.Runs.{TreeIsWhatWasWritten};
+ghost use Rattle.rt_peer.specs.laws.Turns.{LastTurnIsEnd, TurnThenEndIsEnd, TurnsRunSoMany};
 ghost use Rattle.rt_peer.specs.laws.Versions.{BeginsOlder, NewerAreKnown, NewerRise, VersionIsToldLast};
 
 /// After any calls the tree is that of before, with each write of a known connection that was not
@@ -47,4 +48,12 @@ pub fn versions_law()
     ensures known { AfterAnyCalls NewerAreKnown }
     ensures begins { AfterAnyCalls BeginsOlder }
     ensures told { VersionIsToldLast }
+{}
+
+/// The end of a connection in turns, with no other call between them, leaves what its end at once leaves, and
+/// sends what that sends, in the same order. Each turn but the last runs as many requests as it may.
+pub fn turns_law()
+    ensures same { TurnThenEndIsEnd }
+    ensures last { LastTurnIsEnd }
+    ensures so_many { TurnsRunSoMany }
 {}

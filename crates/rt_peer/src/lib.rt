@@ -13,15 +13,18 @@
 
 mod bundles;
 mod connections;
+mod counts;
 mod deferred;
 mod error;
 mod examples;
+mod held;
 mod laws;
 mod listen;
 mod peer;
 mod pushes;
 mod sent;
 mod shown;
+mod spots;
 mod state;
 
 pub use error::PeerError;
@@ -29,6 +32,7 @@ pub use examples::{
     order_examples, peer_pushes_parts, push_refutations, run_examples, sent_examples,
     version_refutations,
 };
-pub use laws::{connections_law, orders_law, pushes_law, run_law, versions_law};
+pub use held::Held;
+pub use laws::{connections_law, orders_law, pushes_law, run_law, turns_law, versions_law};
 pub use peer::Peer;
 pub use sent::Sent;

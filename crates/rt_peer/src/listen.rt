@@ -1,94 +1,78 @@
-// The listens of connections, found by halving.
-ghost use Rattle.std.specs.Prelude.{◌≡◌, ◌≤◌, ◌==◌, true, length, not, [], OnOk};
-ghost use Rattle.std.specs.List.{AllPairs, filter};
-ghost use Rattle.rt_peer.specs.Peers.{in_place, is_at, is_before};
-ghost use Rattle.rt_peer.specs.inside.Places.{comes_before, does_stand, place};
+// The listens of connections, found by owner and by path.
+ghost use Rattle.std.specs.Prelude.{◌≡◌, ◌==◌, ◌∷◌, true, false, not, length, [], IfOk, IfSome, IfNone, OnOk};
+ghost use Rattle.std.specs.List.{All, AllPairs, filter, list_any};
+ghost use Rattle.rt_peer.specs.Peers.{Listen, in_place, is_at, is_before};
+ghost use Rattle.rt_peer.specs.inside.Spots.{is_concerned, listen_of, owner_of, spot_of, has_owner, Stand};
 
+use crate::counts::{count_of, lower, raise};
+use crate::spots::{Owner, Spot, concerned, spot_at};
 use rt_query::Query;
+use rt_tree::{Path, Tree};
 use std::alloc::{AllocError, Global};
+use std::collections::{BTreeMap, BTreeSet};
 use std::marker::Model;
 
-// A listen: whose it is, its tag, and the query that is listened to.
-pub(crate) struct Listen {
-    pub(crate) connection: u64,
-    pub(crate) tag: u64,
-    pub(crate) query: Query,
-}
-
-impl Drop for Listen {
-    fn drop(self) {
-        let Listen {
-            connection: _,
-            tag: _,
-            query: _,
-        } = self;
-    }
-}
-
-impl Model for Listen {
-    ghost use Rattle.rt_peer.specs.Peers.{Listen};
-
-    ghost Value = { Listen };
-
-    ghost view = { λ a. record { connection = a.connection; tag = a.tag; query = a.query } };
-}
-
-impl Listen {
-    // Whether it comes before the connection's listen with that tag: by connection, and then by tag.
-    fn comes_before(&self, connection: u64, tag: u64) -> bool
-        ensures { result ≡ comes_before connection tag self.now }
-    {
-        self.connection < connection || self.connection == connection && self.tag < tag
-    }
-
-    // Whether it is that connection's listen with that tag.
-    fn is_at(&self, connection: u64, tag: u64) -> bool
-        ensures { result ≡ is_at connection tag self.now }
-    {
-        self.connection == connection && self.tag == tag
-    }
-}
-
-// The first place at which no listen stands that comes before, by halving.
-fn place_of(listens: &[Listen], connection: u64, tag: u64) -> usize
-    requires { AllPairs (λ l m. is_before l m ≡ true) listens.now }
-    ensures first { result ≡ place connection tag listens.now }
-    ensures within { result ≤ length listens.now }
+// Adds where the owner's listen stands.
+fn add_spot(spots: &mut BTreeSet<Spot>, query: &Query, owner: Owner) -> Result<(), AllocError>
+    ensures kept { (l : Listen) → Stand spots.old.keys l → Stand spots.new.keys l }
+    ensures added { OnOk result (Stand spots.new.keys (listen_of (owner, query.now))) }
 {
-    listens.partition_point(|listen| listen.comes_before(connection, tag))
+    let spot = spot_at(query.path(), owner)?;
+    spots.insert(spot)?;
+    Ok(())
 }
 
-// Whether the connection's listen with that tag stands at the place.
-fn stands_at(listens: &[Listen], place: usize, connection: u64, tag: u64) -> bool
-    ensures { result ≡ does_stand listens.now place connection tag }
+// Takes out where the owner's listen at the path stands. Where memory is missing it stays, and leads to
+// nothing.
+fn take_spot(spots: &mut BTreeSet<Spot>, path: &Path, owner: Owner)
+    ensures { (l : Listen) → is_at owner.connection owner.tag l ≡ false
+        → Stand spots.old.keys l → Stand spots.new.keys l }
 {
-    match listens.get(place) {
-        Some(listen) => listen.is_at(connection, tag),
-        None => false,
+    match spot_at(path, owner) {
+        Ok(spot) => {
+            spots.remove(&spot);
+        }
+        Err(_) => {}
     }
 }
 
-// The listens of all connections, by connection and then by tag.
+// The first owner that a connection can be.
+fn first_owner(connection: u64) -> Owner
+    ensures { result ≡ record { connection = connection; tag = 0 } }
+{
+    Owner { connection, tag: 0 }
+}
+
+// The queries that are listened to, by owner, where they stand by path, and how many each connection has.
 pub(crate) struct Listens {
-    items: Vec<Listen>,
+    by_owner: BTreeMap<Owner, Query>,
+    spots: BTreeSet<Spot>,
+    counts: BTreeMap<u64, usize>,
 }
 
 impl Drop for Listens {
     fn drop(self) {
-        let Listens { items: _ } = self;
+        let Listens {
+            by_owner: _,
+            spots: _,
+            counts: _,
+        } = self;
     }
 }
 
 impl Model for Listens {
-    ghost use Rattle.std.specs.Prelude.{◌≡◌, true, List};
-    ghost use Rattle.std.specs.List.{AllPairs};
-    ghost use Rattle.rt_peer.specs.Peers.{Listen, is_before};
+    ghost use Rattle.std.specs.Prelude.{List};
+    ghost use Rattle.rt_peer.specs.Peers.{Listen};
+    ghost use Rattle.rt_peer.specs.inside.Counts.{AreCounted};
+    ghost use Rattle.rt_peer.specs.inside.Spots.{AllStand, AreByOwner, listens_of};
 
     ghost Value = { List Listen };
 
-    ghost view = { λ a. a.items.items };
+    ghost view = { λ a. listens_of a.by_owner.entries };
 
-    ghost invariant = { λ a. AllPairs (λ l m. is_before l m ≡ true) a.items.items };
+    ghost invariant = { λ a. AreByOwner a.by_owner.entries
+        × AllStand a.spots.keys (listens_of a.by_owner.entries)
+        × AreCounted a.counts.entries (listens_of a.by_owner.entries) };
 }
 
 impl Listens {
@@ -96,45 +80,93 @@ impl Listens {
         ensures { result ≡ [] }
     {
         Listens {
-            items: Vec::new(alloc),
+            by_owner: BTreeMap::new(alloc),
+            spots: BTreeSet::new(alloc),
+            counts: BTreeMap::new(alloc),
         }
     }
 
-    pub(crate) fn as_slice(&self) -> &[Listen]
-        ensures { result.now ≡ self.now }
+    // That owner's query.
+    pub(crate) fn get(&self, owner: &Owner) -> Option<&Query>
+        ensures some { IfSome result (λ q. filter (is_at owner.now.connection owner.now.tag) self.now
+            ≡ listen_of (owner.now, q.now) ∷ []) }
+        ensures none { IfNone result
+            (filter (is_at owner.now.connection owner.now.tag) self.now ≡ []) }
     {
-        self.items.as_slice()
+        self.by_owner.get(owner)
+    }
+
+    // The owners of the listens at, above and below the entries' paths, in order. Costs by the entries, the
+    // keys of their paths and what is found, each times a logarithm.
+    pub(crate) fn concerned(
+        &self,
+        alloc: Global,
+        entries: &[(Path, Tree)],
+    ) -> Result<BTreeSet<Owner>, AllocError>
+        ensures all { IfOk result (λ found. All (λ l. is_concerned entries.now (spot_of l) ≡ true
+            → has_owner found.keys (owner_of l) ≡ true) self.now) }
+        ensures rise { AllPairs (λ l m. is_before l m ≡ true) self.now }
+    {
+        concerned(alloc, &self.spots, entries)
     }
 
     // Keeps a listen, in the place of the connection's older one with its tag.
-    pub(crate) fn keep(&mut self, listen: Listen) -> Result<(), AllocError>
-        ensures { OnOk result (self.new ≡ in_place is_before listen
-            (filter (λ l. not (is_at listen.connection listen.tag l)) self.old)) }
+    pub(crate) fn keep(&mut self, owner: Owner, query: Query) -> Result<(), AllocError>
+        ensures { OnOk result (self.new ≡ in_place is_before (listen_of (owner, query))
+            (filter (λ l. not (is_at owner.connection owner.tag l)) self.old)) }
     {
-        let (connection, tag) = (listen.connection, listen.tag);
-        let place = place_of(&self.items, connection, tag);
-        if stands_at(&self.items, place, connection, tag) {
-            self.items[place] = listen;
-            return Ok(());
-        }
-        self.items.insert(place, listen)?;
-        Ok(())
-    }
-
-    // Takes out the connection's listen with that tag, if there is one.
-    pub(crate) fn remove(&mut self, connection: u64, tag: u64)
-        ensures { self.new ≡ filter (λ l. not (is_at connection tag l)) self.old }
-    {
-        let place = place_of(&self.items, connection, tag);
-        if stands_at(&self.items, place, connection, tag) {
-            self.items.remove(place);
+        self.remove(owner);
+        add_spot(&mut self.spots, &query, owner)?;
+        raise(&mut self.counts, owner.connection)?;
+        match self.by_owner.insert(owner, query) {
+            Ok(_) => Ok(()),
+            Err(_) => {
+                lower(&mut self.counts, owner.connection);
+                Err(AllocError)
+            }
         }
     }
 
-    // Takes out the connection's listens.
+    // Takes out the owner's listen, if there is one.
+    pub(crate) fn remove(&mut self, owner: Owner)
+        ensures { self.new ≡ filter (λ l. not (is_at owner.connection owner.tag l)) self.old }
+    {
+        match self.by_owner.remove(&owner) {
+            Some(query) => {
+                take_spot(&mut self.spots, query.path(), owner);
+                lower(&mut self.counts, owner.connection);
+            }
+            None => {}
+        }
+    }
+
+    // How many the connection has.
+    pub(crate) fn count_of(&self, connection: u64) -> usize
+        ensures { result ≡ length (filter (λ l. l.connection == connection) self.now) }
+    {
+        count_of(&self.counts, connection)
+    }
+
+    // The first owner that is the connection, if there is one. Found by a search.
+    fn first_of(&self, connection: u64) -> Option<Owner>
+        ensures some { IfSome result (λ o. (o.connection ≡ connection)
+            × (list_any (is_at o.connection o.tag) self.now ≡ true)) }
+        ensures none { IfNone result (All (λ l. (l.connection == connection) ≡ false) self.now) }
+    {
+        let from = first_owner(connection);
+        match self.by_owner.range(from..).next() {
+            Some((owner, _)) if owner.connection == connection => Some(*owner),
+            Some(_) => None,
+            None => None,
+        }
+    }
+
+    // Takes out the connection's listens. Costs by these.
     pub(crate) fn remove_of(&mut self, connection: u64)
         ensures { self.new ≡ filter (λ l. not (l.connection == connection)) self.old }
     {
-        self.items.retain(|listen| listen.connection != connection);
+        while let Some(first) = self.first_of(connection) {
+            self.remove(first);
+        }
     }
 }

@@ -1,11 +1,14 @@
 // The peer.
-ghost use Rattle.std.specs.Prelude.{◌≡◌, ◌<◌, ◌≤◌, ◌⊎◌, ◌↔◌, ℕ, true, false, IfOk, IfErr, IfSome};
-ghost use Rattle.std.specs.Prelude.{OnErr, Some, None, Ok, Err};
+ghost use Rattle.std.specs.Prelude.{◌≡◌, ◌==◌, ◌<◌, ◌≤◌, ◌⊎◌, ◌↔◌, ℕ, length, true, false};
+ghost use Rattle.std.specs.Prelude.{IfOk, IfErr, IfSome, OnErr, Some, None, Ok, Err};
 ghost use Rattle.std.specs.Result.{result_err};
 ghost use Rattle.rt_peer.specs.Peers.{is_known, least_free, new_peer};
-ghost use Rattle.rt_peer.specs.Calls.{answered, connected, disconnected, fault};
+ghost use Rattle.std.specs.List.{filter};
+ghost use Rattle.rt_peer.specs.Calls.{actions_of, answered, connected, disconnected, fault};
+ghost use Rattle.rt_peer.specs.Turns.{is_last_turn, turned};
 
 use crate::error::PeerError;
+use crate::held::Held;
 use crate::sent::Sent;
 use crate::state::State;
 use rt_tree::{Path, Tree};
@@ -58,6 +61,17 @@ impl Peer {
         ensures { IfSome self.now (λ p. result.now ≡ p.tree) }
     {
         self.state.tree()
+    }
+
+    /// How many listens and actions the connection has: none where it is not known.
+    ///
+    /// Costs by a logarithm. So a server may ask before each message, and bound what one connection holds.
+    pub fn held(&self, connection: u64) -> Held
+        ensures listens { IfSome self.now
+            (λ p. result.listens ≡ length (filter (λ l. l.connection == connection) p.listens)) }
+        ensures actions { IfSome self.now (λ p. result.actions ≡ length (actions_of p connection)) }
+    {
+        self.state.held(connection)
     }
 
     /// Begins a connection, with the least number from 1 that no known connection has.
@@ -174,6 +188,39 @@ impl Peer {
         self.check(connection)?;
         match self.state.disconnect(connection) {
             Ok(sent) => Ok(sent),
+            Err(_) => {
+                self.has_failed = true;
+                Err(PeerError::NoMemory)
+            }
+        }
+    }
+
+    /// A turn of the connection's end, for a server that has others to serve meanwhile.
+    ///
+    /// The connection's listens are dropped. The first of what it asked for at its end is run as at
+    /// [`Peer::disconnect`], so many requests at most. Gives what is to be sent, in order, and whether it
+    /// was the last turn: then the connection has ended, and its number is free. Until then this is called
+    /// again, or [`Peer::disconnect`] is.
+    ///
+    /// # Errors
+    ///
+    /// As [`Peer::message`].
+    pub fn end_some(&mut self, connection: u64, most: usize) -> Result<(Vec<Sent>, bool), PeerError>
+        ensures sent { IfOk result (λ turn. IfSome self.old
+            (λ p. turn.0.items ≡ (turned p connection most).1)) }
+        ensures last { IfOk result (λ turn. IfSome self.old
+            (λ p. turn.1 ≡ is_last_turn p connection most)) }
+        ensures kept { IfOk result (λ _. IfSome self.old
+            (λ p. self.new ≡ Some (turned p connection most).0)) }
+        ensures refused { IfSome (fault self.old connection)
+            (λ e. (result ≡ Err e) × (self.new ≡ self.old)) }
+        ensures fault { IfErr result (λ e. (fault self.old connection ≡ Some e)
+            ⊎ (e ≡ PeerError.NoMemory)) }
+        ensures gives_up { result ≡ Err PeerError.NoMemory → self.new ≡ None }
+    {
+        self.check(connection)?;
+        match self.state.end_some(connection, most) {
+            Ok(turn) => Ok(turn),
             Err(_) => {
                 self.has_failed = true;
                 Err(PeerError::NoMemory)

@@ -1,15 +1,19 @@
 // What listens are sent when a write changes what they show.
-ghost use Rattle.std.specs.Prelude.{◌≡◌, IfOk};
-ghost use Rattle.std.specs.List.{list_all, list_any};
+ghost use Rattle.std.specs.Prelude.{◌≡◌, ◌++◌, ◌∷◌, [], not, IfOk, OnOk};
+ghost use Rattle.std.specs.List.{filter, list_all, list_any};
 ghost use Rattle.rt_tree.specs.Assignments.{is_at_or_above};
 ghost use Rattle.rt_tree.specs.PathTree.{sub};
 ghost use Rattle.rt_tree.specs.Trees.{tree_eq};
-ghost use Rattle.rt_peer.specs.Pushes.{is_changed, parts_below, parts_message, push_of, pushes, written};
+ghost use Rattle.rt_peer.specs.Peers.{is_at};
+ghost use Rattle.rt_peer.specs.Pushes.{parts_below, parts_message, push_of, pushes, seen, written};
+ghost use Rattle.rt_peer.specs.inside.Spots.{listen_of};
 ghost use Rattle.rt_peer.specs.inside.Standing.{leaves_part, stands, tells_apart};
 
-use crate::listen::Listen;
+use crate::listen::Listens;
 use crate::sent::Sent;
 use crate::shown::{part_at, seen};
+use crate::spots::Owner;
+use rt_query::Query;
 use rt_tree::{Path, Tree};
 use rt_wire::ServerMessage;
 use rt_writes::Entries;
@@ -71,27 +75,28 @@ fn differ_below(before: &Tree, after: &Tree, path: &Path, entries: &[(Path, Tree
     entries.iter().any(|entry| path.is_prefix_of(&entry.0) && !is_same_at(before, after, &entry.0))
 }
 
-// Whether the listen shows something else after a write than before. All that it shows is compared only where
+// Whether the query shows something else after a write than before. All that it shows is compared only where
 // an entry is above its path, or it is filtered and an entry changes something there.
 fn is_changed(
     alloc: Global,
     before: &Tree,
     after: &Tree,
     entries: &[(Path, Tree)],
-    listen: &Listen,
+    query: &Query,
 ) -> Result<bool, AllocError>
     requires { after.now ≡ written before.now entries.now }
-    ensures { IfOk result (λ b. b ≡ is_changed before.now after.now listen.now) }
+    ensures { IfOk result (λ b. b
+        ≡ not (tree_eq (seen query.now before.now) (seen query.now after.now))) }
 {
-    let path = listen.query.path();
+    let path = query.path();
     if leaves_part(before, path, entries) {
         return Ok(false);
     }
-    if !listen.query.is_filtered() && differ_below(before, after, path, entries) {
+    if !query.is_filtered() && differ_below(before, after, path, entries) {
         return Ok(true);
     }
-    let old = seen(alloc, &listen.query, before)?;
-    let new = seen(alloc, &listen.query, after)?;
+    let old = seen(alloc, query, before)?;
+    let new = seen(alloc, query, after)?;
     Ok(old != new)
 }
 
@@ -125,17 +130,18 @@ fn parts_message(tag: u64, mut parts: Vec<(Path, Tree)>) -> ServerMessage
     ServerMessage::Data { tag, path, tree }
 }
 
-// What the listen is sent once the entries have made the tree.
+// What the owner's listen is sent once the entries have made the tree.
 fn push_of(
     alloc: Global,
     tree: &Tree,
     entries: &[(Path, Tree)],
-    listen: &Listen,
+    owner: &Owner,
+    query: &Query,
 ) -> Result<ServerMessage, AllocError>
-    ensures { IfOk result (λ message. message ≡ push_of tree.now entries.now listen.now) }
+    ensures { IfOk result (λ message. message
+        ≡ push_of tree.now entries.now (listen_of (owner.now, query.now))) }
 {
-    let query = &listen.query;
-    let tag = listen.tag;
+    let tag = owner.tag;
     if !query.is_filtered() && !is_any_above(entries, query.path()) {
         let parts = parts_below(alloc, tree, query.path(), entries)?;
         return Ok(parts_message(tag, parts));
@@ -145,27 +151,67 @@ fn push_of(
     Ok(ServerMessage::Data { tag, path, tree })
 }
 
-// What the listens are sent once the entries have made one tree of the other.
+// Adds what the owner's listen is sent, if it shows something else after the write than before.
+fn push_one(
+    alloc: Global,
+    before: &Tree,
+    after: &Tree,
+    entries: &[(Path, Tree)],
+    owner: &Owner,
+    query: &Query,
+    sent: &mut Vec<Sent>,
+) -> Result<(), AllocError>
+    requires { after.now ≡ written before.now entries.now }
+    ensures { OnOk result (sent.new.items ≡ sent.old.items
+        ++ pushes before.now after.now entries.now (listen_of (owner.now, query.now) ∷ [])) }
+{
+    if is_changed(alloc, before, after, entries, query)? {
+        let message = push_of(alloc, after, entries, owner, query)?;
+        sent.push(Sent {
+            to: owner.connection,
+            message,
+        })?;
+    }
+    Ok(())
+}
+
+// Adds what that owner's listen is sent, if there is one.
+fn push_owned(
+    alloc: Global,
+    before: &Tree,
+    after: &Tree,
+    entries: &[(Path, Tree)],
+    listens: &Listens,
+    owner: &Owner,
+    sent: &mut Vec<Sent>,
+) -> Result<(), AllocError>
+    requires { after.now ≡ written before.now entries.now }
+    ensures { OnOk result (sent.new.items ≡ sent.old.items ++ pushes before.now after.now entries.now
+        (filter (is_at owner.now.connection owner.now.tag) listens.now)) }
+{
+    match listens.get(owner) {
+        Some(query) => push_one(alloc, before, after, entries, owner, query, sent),
+        None => Ok(()),
+    }
+}
+
+// What the listens are sent once the entries have made one tree of the other. Only those are looked at that
+// stand at, above or below an entry's path.
 pub(crate) fn push_all(
     alloc: Global,
     before: &Tree,
     after: &Tree,
     entries: &[(Path, Tree)],
-    listens: &[Listen],
+    listens: &Listens,
 ) -> Result<Vec<Sent>, AllocError>
     requires { after.now ≡ written before.now entries.now }
     ensures { IfOk result (λ sent. sent.items
         ≡ pushes before.now after.now entries.now listens.now) }
 {
     let mut sent = Vec::new(alloc);
-    for listen in listens {
-        if is_changed(alloc, before, after, entries, listen)? {
-            let message = push_of(alloc, after, entries, listen)?;
-            sent.push(Sent {
-                to: listen.connection,
-                message,
-            })?;
-        }
+    let owners = listens.concerned(alloc, entries)?;
+    for owner in owners.iter() {
+        push_owned(alloc, before, after, entries, listens, owner, &mut sent)?;
     }
     Ok(sent)
 }

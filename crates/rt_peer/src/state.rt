@@ -1,6 +1,7 @@
 // What a peer holds.
-ghost use Rattle.std.specs.Prelude.{◌≡◌, ◌++◌, ◌<◌, ◌≤◌, ℕ, true, false, IfOk, OnOk};
-ghost use Rattle.std.specs.List.{All, list_any};
+ghost use Rattle.std.specs.Prelude.{◌≡◌, ◌++◌, ◌==◌, ◌<◌, ◌≤◌, ℕ, true, false, length, not, if◌then◌else◌};
+ghost use Rattle.std.specs.Prelude.{IfOk, OnOk};
+ghost use Rattle.std.specs.List.{All, filter, list_any};
 ghost use Rattle.std.specs.Option.{option_copied};
 ghost use Rattle.rt_writes.specs.Writes.{IsShallow};
 ghost use Rattle.rt_wire.specs.declared.server.ServerMessage.TheVariants as ServerMessage;
@@ -9,16 +10,19 @@ ghost use Rattle.rt_peer.specs.Pushes.{bundled, pushes, pushes_after, tree_after
 ghost use Rattle.rt_peer.specs.Calls.{actions_of, answered, asked as outcome, cancelled, connected};
 ghost use Rattle.rt_peer.specs.Calls.{deferred, disconnected, ended, greeted, is_bad, kept, listened};
 ghost use Rattle.rt_peer.specs.Calls.{one, refusal, unlistened, wrote};
+ghost use Rattle.rt_peer.specs.Turns.{first_actions, is_last_turn, turn_begun, turned};
 ghost use Rattle.rt_wire.specs.declared.request.Asked.TheVariants as Asked;
 ghost use Rattle.rt_wire.specs.declared.request.Ending.TheVariants as Ending;
 
 use crate::bundles::bundle;
 use crate::connections::{Connections, mark, remove_number};
 use crate::deferred::{Actions, Deferred};
-use crate::listen::{Listen, Listens};
+use crate::held::Held;
+use crate::listen::Listens;
 use crate::pushes::push_all;
 use crate::sent::Sent;
 use crate::shown::{put_all, seen};
+use crate::spots::Owner;
 use rt_query::Query;
 use rt_tree::{Path, Tree};
 use rt_wire::{Action, Asked, ClientMessage, Ending, Reason, ServerMessage, some_stands_too_deep};
@@ -97,6 +101,18 @@ impl State {
         self.connections.contains(connection)
     }
 
+    // How many listens and actions the connection has.
+    pub(crate) fn held(&self, connection: u64) -> Held
+        ensures listens { result.listens
+            ≡ length (filter (λ l. l.connection == connection) self.now.listens) }
+        ensures actions { result.actions ≡ length (actions_of self.now connection) }
+    {
+        Held {
+            listens: self.listens.count_of(connection),
+            actions: self.actions.count_of(connection),
+        }
+    }
+
     // A new connection, with the least free number.
     pub(crate) fn connect(&mut self) -> Result<u64, AllocError>
         ensures number { IfOk result (λ n. n ≡ least_free self.old.connections) }
@@ -147,11 +163,7 @@ impl State {
         ensures { OnOk result (self.new ≡ kept self.old connection tag query.now) }
     {
         let query = query.copy()?;
-        self.listens.keep(Listen {
-            connection,
-            tag,
-            query,
-        })
+        self.listens.keep(Owner { connection, tag }, query)
     }
 
     // A listen begins, or is revoked.
@@ -174,7 +186,7 @@ impl State {
     fn unlisten(&mut self, connection: u64, tag: u64)
         ensures { self.new ≡ (unlistened self.old connection tag).0 }
     {
-        self.listens.remove(connection, tag);
+        self.listens.remove(Owner { connection, tag });
     }
 
     // Puts the entries into the tree, and adds what the listens are sent.
@@ -189,7 +201,7 @@ impl State {
         let alloc = self.alloc();
         let before = self.tree.copy(alloc)?;
         put_all(alloc, &mut self.tree, entries)?;
-        let pushes = push_all(alloc, &before, &self.tree, entries, self.listens.as_slice())?;
+        let pushes = push_all(alloc, &before, &self.tree, entries, &self.listens)?;
         let mut told = bundle(alloc, &self.newer, pushes)?;
         sent.append(&mut told)?;
         Ok(())
@@ -320,15 +332,69 @@ impl State {
         Ok(())
     }
 
+    // A connection that ends reads nothing any more, and has no listens.
+    fn leave(&mut self, connection: u64)
+        ensures { self.new ≡ record self.old {
+          newer = filter (λ m. not (m == connection)) self.old.newer;
+          listens = filter (λ l. not (l.connection == connection)) self.old.listens;
+        } }
+    {
+        remove_number(&mut self.newer, connection);
+        self.listens.remove_of(connection);
+    }
+
     // Forgets a connection and its listens, and gives its actions.
     fn forget(&mut self, connection: u64) -> Result<Vec<Deferred>, AllocError>
         ensures peer { OnOk result (self.new ≡ ended self.old connection) }
         ensures actions { IfOk result (λ own. own.items ≡ actions_of self.old connection) }
     {
-        self.connections.remove(connection);
-        remove_number(&mut self.newer, connection);
-        self.listens.remove_of(connection);
+        self.leave(connection);
+        self.free_at_last(connection, true);
         self.actions.take_of(connection)
+    }
+
+    // Its number is free where its last turn begins.
+    fn free_at_last(&mut self, connection: u64, is_last: bool)
+        ensures { self.new ≡ record self.old {
+          connections = if is_last then filter (λ m. not (m == connection)) self.old.connections
+              else self.old.connections;
+        } }
+    {
+        if is_last {
+            self.connections.remove(connection);
+        }
+    }
+
+    // A turn begins: gives the first actions, so many at most, and whether it is the last turn.
+    fn begin_turn(
+        &mut self,
+        connection: u64,
+        most: usize,
+    ) -> Result<(Vec<Deferred>, bool), AllocError>
+        ensures peer { OnOk result (self.new ≡ turn_begun self.old connection most) }
+        ensures first { IfOk result (λ turn. turn.0.items ≡ first_actions self.old connection most) }
+        ensures last { IfOk result (λ turn. turn.1 ≡ is_last_turn self.old connection most) }
+    {
+        self.leave(connection);
+        let (first, is_last) = self.actions.take_some(connection, most)?;
+        self.free_at_last(connection, is_last);
+        Ok((first, is_last))
+    }
+
+    // A turn of a connection's end: runs so many of its actions at most, and answers whether it was the last.
+    pub(crate) fn end_some(
+        &mut self,
+        connection: u64,
+        most: usize,
+    ) -> Result<(Vec<Sent>, bool), AllocError>
+        ensures peer { OnOk result (self.new ≡ (turned self.old connection most).0) }
+        ensures sent { IfOk result (λ turn. turn.0.items ≡ (turned self.old connection most).1) }
+        ensures last { IfOk result (λ turn. turn.1 ≡ is_last_turn self.old connection most) }
+    {
+        let (first, is_last) = self.begin_turn(connection, most)?;
+        let mut sent = Vec::new(self.alloc());
+        self.run_all(&mut sent, &first)?;
+        Ok((sent, is_last))
     }
 
     // Ends a connection, and runs its actions.

@@ -1,36 +1,39 @@
-use Rattle.std.proofs.Common.{◌≡◌, Bool, true, false, List, sym, ap, ◌∙◌}
+use Rattle.std.proofs.Common.{◌≡◌, Bool, true, false, not, List, sym, ap, ◌∙◌}
 use Rattle.std.specs.List.{list_any}
 use Rattle.rt_tree.specs.PathTree.{Path, PathTree}
+use Rattle.rt_tree.specs.Trees.{tree_eq}
 use Rattle.rt_tree.specs.Assignments.{Assignment}
-use Rattle.rt_query.specs.Queries.{is_filtered}
+use Rattle.rt_query.specs.Queries.{Query, is_filtered}
 use Rattle.rt_peer.specs.Peers.{Listen}
-use Rattle.rt_peer.specs.Pushes.{is_changed, written}
+use Rattle.rt_peer.specs.Pushes.{is_changed, seen, written}
 use Rattle.rt_peer.specs.inside.Standing.{leaves_part, tells_apart}
 use Rattle.rt_peer.proofs.StandingLaws.{changed, unchanged}
 use Rattle.rt_peer.proofs.pushes.is_changed.Goals as goal
 
-same : (t u : PathTree) (es : List Assignment) (k l : Listen) (p : Path) (b : Bool) → k ≡ l
-    → p ≡ k.query.path → u ≡ written t es → b ≡ leaves_part t p es → b ≡ true → false ≡ is_changed t u l
-same t u es k l p b v at made e f =
-    let here : p ≡ l.query.path = at ∙ ap (λ m. m.query.path) v in
-    sym (ap (λ w. is_changed t w l) made
-    ∙ unchanged t es l (ap (λ q. leaves_part t q es) (sym here) ∙ sym e ∙ f))
+-- anybody's listen of the query
+abbrev any : Query → Listen
+any q = record { connection = 0; tag = 0; query = q }
 
-apart : (t u : PathTree) (es : List Assignment) (k l : Listen) (p : Path) (b d : Bool) → k ≡ l
-    → p ≡ k.query.path → b ≡ is_filtered k.query → b ≡ false → d ≡ list_any (tells_apart t u p) es → d ≡ true
-    → true ≡ is_changed t u l
-apart t u es k l p b d v at e f g h =
-    let here : p ≡ l.query.path = at ∙ ap (λ m. m.query.path) v in
-    sym (changed t u es l (ap (λ m. is_filtered m.query) (sym v) ∙ sym e ∙ f)
-    (ap (λ q. list_any (tells_apart t u q) es) (sym here) ∙ sym g ∙ h))
+same : (t u : PathTree) (es : List Assignment) (q : Query) (p : Path) (b : Bool) → p ≡ q.path → u ≡ written t es
+    → b ≡ leaves_part t p es → b ≡ true → false ≡ not (tree_eq (seen q t) (seen q u))
+same t u es q p b at made e f =
+    sym (ap (λ w. is_changed t w (any q)) made
+    ∙ unchanged t es (any q) (ap (λ r. leaves_part t r es) (sym at) ∙ sym e ∙ f))
+
+apart : (t u : PathTree) (es : List Assignment) (q : Query) (p : Path) (b d : Bool) → p ≡ q.path
+    → b ≡ is_filtered q → b ≡ false → d ≡ list_any (tells_apart t u p) es → d ≡ true
+    → true ≡ not (tree_eq (seen q t) (seen q u))
+apart t u es q p b d at e f g h =
+    sym (changed t u es (any q) (sym e ∙ f)
+    (ap (λ r. list_any (tells_apart t u r) es) (sym at) ∙ sym g ∙ h))
 
 pub returns-then-leaves_part : goal.returns-then-leaves_part
 returns-then-leaves_part c =
-    same c.args.before.now c.args.after.now c.args.entries.now _ c.args.listen.now c.path-path.result.now _
-    c.listen.view_is c.path-path.ensures c.requires c.leaves_part.ensures c.if-leaves_part.true
+    same c.args.before.now c.args.after.now c.args.entries.now c.args.query.now c.path-path.result.now _
+    c.path-path.ensures c.requires c.leaves_part.ensures c.if-leaves_part.true
 
 pub returns-then-differ_below : goal.returns-then-differ_below
 returns-then-differ_below c =
-    apart c.args.before.now c.args.after.now c.args.entries.now _ c.args.listen.now c.path-path.result.now _ _
-    c.listen.view_is c.path-path.ensures c.is_filtered.ensures c.if-not-is_filtered.true c.differ_below.ensures
+    apart c.args.before.now c.args.after.now c.args.entries.now c.args.query.now c.path-path.result.now _ _
+    c.path-path.ensures c.is_filtered.ensures c.if-not-is_filtered.true c.differ_below.ensures
     c.if-differ_below.true

@@ -1,8 +1,10 @@
-use Rattle.std.proofs.Common.{◌≡◌, ◌++◌, drop}
+use Rattle.std.proofs.Common.{◌≡◌, ◌++◌}
+use Rattle.std.specs.List.{flat_map}
 use Rattle.rt_peer.specs.Pushes.{pushes}
+use Rattle.rt_peer.proofs.FoundLaws.{owned_pushes}
 use Rattle.rt_peer.proofs.pushes.push_all.Given as goal
 
-abbrev pub invariant-loop-listen : goal.invariant-loop-listen
-invariant-loop-listen l =
-    l.sent.items ++ pushes l.before l.after l.entries (drop l.listen-index l.listens)
+abbrev pub invariant-loop-owner : goal.invariant-loop-owner
+invariant-loop-owner l =
+    l.sent.items ++ flat_map (owned_pushes l.before l.after l.entries l.listens) l.owner-iterator
     ≡ pushes l.before l.after l.entries l.listens

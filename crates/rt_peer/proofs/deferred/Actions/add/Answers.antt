@@ -1,4 +1,4 @@
-use Rattle.std.proofs.Common.{rules, ◌≡◌, List, sym, ap, subst, ◌∙◌}
+use Rattle.std.proofs.Common.{rules, ◌≡◌, List, sym, subst, ◌∙◌}
 use Rattle.std.specs.List.{AllPairs, insert}
 use Rattle.rt_peer.specs.Peers.{Deferred, in_place, runs_before}
 use Rattle.rt_peer.proofs.ActionLaws.{RunAfter, rises_added}

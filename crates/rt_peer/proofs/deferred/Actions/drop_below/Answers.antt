@@ -1,6 +1,5 @@
-use Rattle.std.proofs.Common.{◌≡◌, List, map, sym, ap, subst, ◌∙◌}
+use Rattle.std.proofs.Common.{map, sym, ap, subst, ◌∙◌}
 use Rattle.std.specs.List.{AllPairs, filter}
-use Rattle.rt_peer.specs.Peers.{Deferred}
 use Rattle.rt_peer.specs.Calls.{has_entries, without_below}
 use Rattle.rt_peer.proofs.ActionLaws.{RunAfter, rises_dropped}
 use Rattle.rt_peer.proofs.deferred.Actions.drop_below.Goals as goal

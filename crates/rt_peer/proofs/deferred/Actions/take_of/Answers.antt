@@ -1,4 +1,4 @@
-use Rattle.std.proofs.Common.{◌≡◌, ◌==◌, List, not, sym, ap, subst, ◌∙◌}
+use Rattle.std.proofs.Common.{◌==◌, List, not, sym, ap, subst, ◌∙◌}
 use Rattle.std.specs.List.{AllPairs, filter}
 use Rattle.std.proofs.lemmas.List.Kept.{AllPairs-filter}
 use Rattle.rt_peer.specs.Peers.{Deferred}

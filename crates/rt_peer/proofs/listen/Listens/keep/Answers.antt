@@ -1,70 +1,62 @@
-use Rattle.std.proofs.Common.{rules, ◌≡◌, ℕ, Bool, true, false, List, slice_set, not, sym, ap, subst, ◌∙◌}
-use Rattle.std.specs.List.{AllPairs, filter, insert}
+use Rattle.std.proofs.Common.{◌≡◌, not, [], List, ap, subst, sym, refl, ◌∙◌}
+use Rattle.std.specs.List.{filter}
 use Rattle.rt_peer.specs.Peers.{Listen, in_place, is_at, is_before}
-use Rattle.rt_peer.specs.inside.Places.{does_stand, place}
-use Rattle.rt_peer.proofs.PlaceLaws.{Rise, kept_new, kept_there, rises_kept}
+use Rattle.rt_peer.specs.declared.spots.Owner.{Owner}
+use Rattle.rt_peer.specs.inside.Counts.{AreCounted}
+use Rattle.rt_peer.specs.inside.Spots.{AllStand, listen_of, listens_of}
+use Rattle.rt_peer.proofs.CountLaws.{counted_put, put_back}
+use Rattle.rt_peer.proofs.ListenLaws.{none_left, stand_put, stand_still}
+use Rattle.rt_peer.proofs.OwnedLaws.{put_alone}
 use Rattle.rt_peer.proofs.listen.Listens.keep.Goals as goal
 
-abbrev kept : Listen → List Listen → List Listen
-kept x ls = in_place is_before x (filter (λ l. not (is_at x.connection x.tag l)) ls)
-
--- the place that was found, and what stands there
-at_place : (x y : Listen) (ls xs : List Listen) (i : ℕ) → y ≡ x → xs ≡ ls
-    → i ≡ place y.connection y.tag xs → i ≡ place x.connection x.tag ls
-at_place x y ls xs i v e g = g ∙ ap (λ z. place z.connection z.tag xs) v ∙ ap (place x.connection x.tag) e
-
-stood_there : (x y : Listen) (ls ys : List Listen) (i : ℕ) (b d : Bool) → y ≡ x → ys ≡ ls
-    → i ≡ place x.connection x.tag ls → b ≡ does_stand ys i y.connection y.tag → b ≡ d
-    → does_stand ls (place x.connection x.tag ls) x.connection x.tag ≡ d
-stood_there x y ls ys i b d v f at h k =
-    ap (λ j. does_stand ls j x.connection x.tag) (sym at) ∙ ap (λ l. does_stand l i x.connection x.tag) (sym f)
-    ∙ ap (λ z. does_stand ys i z.connection z.tag) (sym v) ∙ sym h ∙ k
-
--- the list with the listen where one stands
-there : (x y : Listen) (ls xs ys : List Listen) (i : ℕ) (b : Bool) → AllPairs Rise ls → y ≡ x → xs ≡ ls
-    → ys ≡ ls → i ≡ place y.connection y.tag xs → b ≡ does_stand ys i y.connection y.tag → b ≡ true
-    → slice_set ls i x ≡ kept x ls
-there x y ls xs ys i b rise v e f g h k =
-    let at = at_place x y ls xs i v e g in
-    ap (λ j. slice_set ls j x) at ∙ kept_there x ls rise (stood_there x y ls ys i b true v f at h k)
-
--- the list with the listen where none stands
-new : (x y : Listen) (ls xs ys : List Listen) (i : ℕ) (b : Bool) → AllPairs Rise ls → y ≡ x → xs ≡ ls
-    → ys ≡ ls → i ≡ place y.connection y.tag xs → b ≡ does_stand ys i y.connection y.tag → b ≡ false
-    → insert ls i x ≡ kept x ls
-new x y ls xs ys i b rise v e f g h k =
-    let at = at_place x y ls xs i v e g in
-    ap (λ j. insert ls j x) at ∙ kept_new x ls rise (stood_there x y ls ys i b false v f at h k)
+-- none of the owner is among those that are left
+none_now : (o : Owner) (ls left old : List Listen) → ls ≡ left → left ≡ filter (λ l. not (is_at o.connection o.tag l)) old
+    → filter (is_at o.connection o.tag) ls ≡ []
+none_now o ls left old v e = ap (filter (is_at o.connection o.tag)) (v ∙ e) ∙ none_left o.connection o.tag old
 
 pub invariant_of-self : goal.invariant_of-self
-invariant_of-self c =
-    let x = c.args.listen in
-    let ls = c.self.inside.items.items in
-    subst (AllPairs Rise) (sym (there x _ ls _ _ c.place_of-place.result _ c.self.invariant c.listen.view_is
-    c.deref.ensures.value c.deref-2.ensures.value c.place_of-place.ensures.first c.stands_at.ensures
-    c.if-stands_at.true)) (rises_kept x ls c.self.invariant)
+invariant_of-self c = (
+  c.self.invariant.0,
+  stand_still (listens_of c.self.inside.by_owner.entries) c.self.inside.spots.keys c.add_spot.new.spots.keys c.add_spot.ensures.kept c.self.invariant.1,
+  c.self.invariant.2,
+)
 
-pub returns-then-stands_at : goal.returns-then-stands_at
-returns-then-stands_at c =
-    let x = c.args.listen in
-    there x _ c.self.inside.items.items _ _ c.place_of-place.result _ c.self.invariant c.listen.view_is
-    c.deref.ensures.value c.deref-2.ensures.value c.place_of-place.ensures.first c.stands_at.ensures
-    c.if-stands_at.true ∙ ap (kept x) c.self.view_is
+pub invariant_of-self-in_err-raise : goal.invariant_of-self-in_err-raise
+invariant_of-self-in_err-raise c = (
+  c.self.invariant.0,
+  stand_still (listens_of c.self.inside.by_owner.entries) c.self.inside.spots.keys c.add_spot.new.spots.keys c.add_spot.ensures.kept c.self.invariant.1,
+  λ n. c.in_err-raise.ensures.err n ∙ c.self.invariant.2 n,
+)
 
-pub invariant_of-self-2 : goal.invariant_of-self-2
-invariant_of-self-2 c =
-    let x = c.args.listen in
-    let ls = c.self.inside.items.items in
-    let put : c.insert.new.self.items ≡ insert ls c.place_of-place.result x = search rules in
-    subst (AllPairs Rise) (sym (put ∙ new x _ ls _ _ c.place_of-place.result _ c.self.invariant c.listen.view_is
-    c.deref.ensures.value c.deref-2.ensures.value c.place_of-place.ensures.first c.stands_at.ensures
-    c.if-stands_at.false)) (rises_kept x ls c.self.invariant)
+pub invariant_of-self-in-Ok : goal.invariant_of-self-in-Ok
+invariant_of-self-in-Ok c =
+    let o = c.args.owner in
+    let x = listen_of (o, c.args.query) in
+    let ls = listens_of c.self.inside.by_owner.entries in
+    let all : listens_of c.insert.new.self.entries ≡ in_place is_before x ls =
+    put_alone o c.args.query c.self.inside.by_owner.entries c.insert.new.self.entries ls c.self.invariant.0 refl
+    (none_now o ls _ c.args.self.now c.self.view_is c.remove.ensures) c.in-Ok.ensures.entries in (
+      c.insert.ensures.ordered,
+      subst (AllStand c.add_spot.new.spots.keys) (sym all)
+          (stand_put x ls c.self.inside.spots.keys c.add_spot.new.spots.keys c.add_spot.ensures.kept c.in_ok-add_spot.ensures.added c.self.invariant.1),
+      subst (AreCounted c.raise.new.counts.entries) (sym all)
+          (counted_put x c.self.inside.counts.entries c.raise.new.counts.entries ls c.self.invariant.2 c.in_ok-raise.ensures.ok),
+    )
 
-pub returns : goal.returns
-returns c =
-    let x = c.args.listen in
-    let ls = c.self.inside.items.items in
-    let put : c.insert.new.self.items ≡ insert ls c.place_of-place.result x = search rules in
-    put ∙ new x _ ls _ _ c.place_of-place.result _ c.self.invariant c.listen.view_is
-    c.deref.ensures.value c.deref-2.ensures.value c.place_of-place.ensures.first c.stands_at.ensures
-    c.if-stands_at.false ∙ ap (kept x) c.self.view_is
+pub invariant_of-self-in-Err : goal.invariant_of-self-in-Err
+invariant_of-self-in-Err c =
+    let ls = listens_of c.self.inside.by_owner.entries in
+    let same : listens_of c.insert.new.self.entries ≡ ls = ap listens_of c.in-Err.ensures.err in (
+      c.insert.ensures.ordered,
+      subst (AllStand c.add_spot.new.spots.keys) (sym same)
+          (stand_still ls c.self.inside.spots.keys c.add_spot.new.spots.keys c.add_spot.ensures.kept c.self.invariant.1),
+      subst (AreCounted c.lower.new.counts.entries) (sym same)
+          (λ n. put_back c.args.owner.connection c.self.inside.counts.entries c.raise.new.counts.entries c.lower.new.counts.entries c.in_ok-raise.ensures.ok c.lower.ensures n ∙ c.self.invariant.2 n),
+    )
+
+pub returns-in-Ok : goal.returns-in-Ok
+returns-in-Ok c =
+    let o = c.args.owner in
+    put_alone o c.args.query c.self.inside.by_owner.entries c.insert.new.self.entries _ c.self.invariant.0 c.self.view_is
+    (none_now o _ _ c.args.self.now refl c.remove.ensures) c.in-Ok.ensures.entries
+    ∙ ap (in_place is_before (listen_of (o, c.args.query))) c.remove.ensures

@@ -1,0 +1,16 @@
+use Rattle.std.proofs.Common.{◌++◌, ap, sym, ◌∙◌, append-nil}
+use Rattle.std.proofs.lemmas.Result.{on_ok_weaker}
+use Rattle.rt_peer.specs.Pushes.{pushes}
+use Rattle.rt_peer.proofs.pushes.push_owned.Goals as goal
+
+pub returns-in-Some : goal.returns-in-Some
+returns-in-Some c =
+    on_ok_weaker c.push_one.result (λ h. h
+    ∙ ap (λ ls. c.args.sent.now.items ++ pushes c.args.before.now c.args.after.now c.args.entries.now ls)
+    (sym c.in-Some.ensures.some)) c.push_one.ensures
+
+pub returns-in-None : goal.returns-in-None
+returns-in-None c =
+    sym (append-nil c.args.sent.now.items)
+    ∙ ap (λ ls. c.args.sent.now.items ++ pushes c.args.before.now c.args.after.now c.args.entries.now ls)
+    (sym c.in-None.ensures.none)
