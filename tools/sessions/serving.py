@@ -102,6 +102,7 @@ def versions(port):
 
 # Frames that break the protocol, and the code of the close that they are answered by (RFC 6455, section 7.4.1).
 NO_MASK, MASK = b"", bytes(4)
+CROWD = b"[" + b"0," * 262_144 + b"0]"  # a comma or bracket more than a text may have
 BROKEN = {
     "a frame that is not masked": (bytes([TEXT, 1]) + NO_MASK + b"x", 1002),
     "a reserved bit": (bytes([0xC1, 0x80]) + MASK, 1002),
@@ -110,6 +111,7 @@ BROKEN = {
     "a part of no message": (bytes([LAST_PART, 0x80]) + MASK, 1002),
     "a text that is no UTF-8": (bytes([TEXT, 0x81]) + MASK + b"\xff", 1007),
     "a frame of more bytes than are read": (bytes([TEXT, 0x80 | 127]) + (1 << 28).to_bytes(8, "big") + MASK, 1009),
+    "a text of too many commas": (bytes([TEXT, 0x80 | 127]) + len(CROWD).to_bytes(8, "big") + MASK + CROWD, 1009),
 }
 
 

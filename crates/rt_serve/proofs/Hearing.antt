@@ -1,10 +1,12 @@
 -- What is heard is one text at most.
-use Rattle.std.proofs.Common.{◌≡◌, ℕ, [], Option, Some, None, Ok, Err, Result, inl, inr, arith}
+use Rattle.std.proofs.Common.{◌≡◌, ℕ, [], Option, Some, None, Ok, Err, Result, inl, inr, arith, true, false, if◌then◌else◌}
 use Rattle.std.specs.Prelude.{IfSome, OnOk, OnErr, ◌⊎◌}
+use Rattle.rt_wire.specs.Client.{client_message}
+use Rattle.rt_wire.specs.Crowds.{is_crowded}
 use Rattle.rt_peer.specs.Peers.{Peer}
 use Rattle.rt_peer.specs.Runs.{after_all}
 use Rattle.rt_serve.specs.Heard.{calls_of}
-use Rattle.rt_serve.specs.Sessions.{HasTaken}
+use Rattle.rt_serve.specs.Sessions.{HasTaken, call_of}
 use Rattle.rt_serve.specs.declared.heard.Heard.{Heard}
 use Rattle.rt_serve.specs.declared.heard.Heard.TheVariants.{Text, Binary, Nothing, Ended}
 use Rattle.rt_serve.proofs.Sessions.{text_taken}
@@ -12,7 +14,10 @@ use Rattle.rt_serve.proofs.Sessions.{text_taken}
 -- what was heard is one text at most
 heard_taken : (p : Peer) (q : Option Peer) (n : ℕ) (heard : Heard)
     → q ≡ Some (after_all p (calls_of n heard)) → HasTaken 1 n p q
-heard_taken p q n (Text words) e = text_taken p q n words e
+heard_taken p q n (Text words) e =
+    elim (is_crowded words) as (λ b. q ≡ Some (after_all p (if b then [] else call_of n (client_message words)))
+    → HasTaken 1 n p q)
+    [ true ↦ λ none. ([], omega arith, none) | false ↦ λ one. text_taken p q n words one ] e
 heard_taken p q n Binary e = ([], omega arith, e)
 heard_taken p q n Nothing e = ([], omega arith, e)
 heard_taken p q n (Ended end) e = ([], omega arith, e)

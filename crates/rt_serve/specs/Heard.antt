@@ -10,13 +10,14 @@ use Rattle.tungstenite.specs.declared.message.Message.{Message}
 use Rattle.tungstenite.specs.declared.message.Message.TheVariants as Kind
 use Rattle.rt_input.specs.Counted.{CountedStream}
 use Rattle.rt_wire.specs.Client.{client_message}
+use Rattle.rt_wire.specs.Crowds.{is_crowded}
 use Rattle.rt_peer.specs.Runs.{Call}
 use Rattle.rt_serve.specs.Broken.{broken_code, broken_of, lacks_memory}
 use Rattle.rt_serve.specs.declared.broken.Broken.{Broken}
 use Rattle.rt_serve.specs.declared.error.ServeError.{ServeError}
 use Rattle.rt_serve.specs.declared.error.ServeError.TheVariants.{NoMemory}
 use Rattle.rt_serve.specs.declared.heard.End.{End}
-use Rattle.rt_serve.specs.declared.heard.End.TheVariants.{Closed, Failed, TooMany}
+use Rattle.rt_serve.specs.declared.heard.End.TheVariants.{Closed, Failed, TooMany, Crowded}
 use Rattle.rt_serve.specs.declared.heard.Heard.{Heard}
 use Rattle.rt_serve.specs.declared.heard.Heard.TheVariants.{Text, Binary, Nothing, Ended}
 use Rattle.rt_serve.specs.Sessions.{call_of}
@@ -45,18 +46,27 @@ heard_of (Err e) = heard_broken (broken_of e)
 
 -- ---- why a connection ends
 
--- why it ends, where it does
+-- why it has ended by itself, where it has
 abbrev pub end_of : Heard → Option End
 end_of (Text words) = None
 end_of Binary = None
 end_of Nothing = None
 end_of (Ended end) = Some end
 
+-- why it ends, where it does: by itself, or with a text that has more commas and brackets than a
+-- message may have
+abbrev pub ended_by : Heard → Option End
+ended_by (Text words) = if is_crowded words then Some Crowded else None
+ended_by Binary = None
+ended_by Nothing = None
+ended_by (Ended end) = Some end
+
 -- the code that the client is told, where it is told why (RFC 6455, section 7.4.1)
 abbrev pub close_code_of : End → Option ℕ
 close_code_of (Closed code) = None
 close_code_of (Failed why) = broken_code why
 close_code_of TooMany = Some 1008
+close_code_of Crowded = Some 1009
 
 -- nothing more can be read of the socket
 abbrev pub is_over : {S : Type 0} → Socket (CountedStream S) → Bool
@@ -66,7 +76,7 @@ is_over s = not (can_read s.conn.state) || (s.stream.has_ended || s.stream.left 
 
 -- what it is to the peer
 abbrev pub calls_of : ℕ → Heard → List Call
-calls_of n (Text words) = call_of n (client_message words)
+calls_of n (Text words) = if is_crowded words then [] else call_of n (client_message words)
 calls_of n Binary = []
 calls_of n Nothing = []
 calls_of n (Ended end) = []

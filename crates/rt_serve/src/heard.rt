@@ -15,6 +15,8 @@ pub(crate) enum End {
     Failed(Broken),
     // There were as many messages as are taken.
     TooMany,
+    // A text has more commas and brackets than a message may have.
+    Crowded,
 }
 
 // What a read of the socket says.
@@ -35,7 +37,7 @@ impl Drop for Heard {
 }
 
 impl Heard {
-    // Why the connection ends, where it does.
+    // Why the connection has ended by itself, where it has.
     pub(crate) fn end(&self) -> Option<End>
         ensures { result ≡ end_of self.now }
     {
@@ -83,7 +85,7 @@ pub(crate) fn heard_from(read: Result<Message, Error>) -> Result<Heard, ServeErr
 
 impl End {
     // The code that RFC 6455 (section 7.4.1) has for the client, where it is told why: as at
-    // [`Broken::close_code`], or there were too many messages.
+    // [`Broken::close_code`], or there were too many messages, or too many values in one.
     pub(crate) fn close_code(self) -> Option<u16>
         ensures { result ≡ close_code_of self }
     {
@@ -91,6 +93,7 @@ impl End {
             End::Closed(_) => None,
             End::Failed(why) => why.close_code(),
             End::TooMany => Some(1008),
+            End::Crowded => Some(1009),
         }
     }
 }

@@ -7,7 +7,7 @@ ghost use Rattle.rt_peer.specs.Calls.{connected, fault};
 ghost use Rattle.rt_peer.specs.Runs.{after_all};
 ghost use Rattle.rt_input.specs.Counted.{known_output};
 ghost use Rattle.rt_serve.specs.Answers.{Tells, told};
-ghost use Rattle.rt_serve.specs.Heard.{calls_of, end_of, is_over};
+ghost use Rattle.rt_serve.specs.Heard.{calls_of, ended_by, is_over};
 ghost use Rattle.rt_serve.specs.Sessions.{call_of, HasServed, HasTaken, ServedIf};
 ghost use Rattle.rt_serve.specs.Handshakes.{is_done};
 
@@ -18,6 +18,7 @@ use crate::socket::{Handshake, Socket, close, hear, send_all, shake_hands};
 use crate::telling;
 use rt_input::{Log, MAX_MESSAGE_BYTES, Silent};
 use rt_peer::{Peer, PeerError};
+use rt_wire::is_crowded;
 use std::alloc::Global;
 use std::io::{Read, Write};
 
@@ -70,12 +71,15 @@ fn take_heard<S: Read + Write + Drop, L: Log>(
         ≡ Some (after_all p (calls_of connection heard.now)))) }
     ensures failed { IfSome peer.old (λ p. OnErr result ((peer.new ≡ None) ⊎ (peer.new ≡ peer.old)
         ⊎ (peer.new ≡ Some (after_all p (calls_of connection heard.now))))) }
-    ensures ends { IfOk result (λ end. end ≡ end_of heard.now) }
-    ensures still { IfSome (end_of heard.now) (λ _. socket.new ≡ socket.old) }
+    ensures ends { IfOk result (λ end. end ≡ ended_by heard.now) }
+    ensures still { IfSome (ended_by heard.now) (λ _. socket.new ≡ socket.old) }
     ensures memory { IfErr result (λ e. e ≡ ServeError.NoMemory) }
 {
     match heard {
         Heard::Text(words) => {
+            if is_crowded(words.as_str()) {
+                return Ok(Some(End::Crowded));
+            }
             if !take(alloc, peer, socket, connection, words.as_str(), log)? {
                 telling::not_sent(alloc, log, connection);
             }
@@ -102,7 +106,8 @@ fn take_next<S: Read + Write + Drop, L: Log>(
     ensures taken { IfSome peer.old (λ p. OnOk result (HasTaken 1 connection p peer.new)) }
     ensures failed { IfSome peer.old (λ p.
         OnErr result ((peer.new ≡ None) ⊎ HasTaken 1 connection p peer.new)) }
-    ensures over { IfOk result (λ end. IfSome end (λ _. is_over socket.new ≡ true)) }
+    ensures over { IfOk result (λ end. IfSome end (λ e.
+        (e ≡ End.Crowded) ⊎ (is_over socket.new ≡ true))) }
     ensures memory { IfErr result (λ e. e ≡ ServeError.NoMemory) }
 {
     let heard = hear(socket)?;
@@ -122,7 +127,8 @@ fn take_all<S: Read + Write + Drop, L: Log>(
     ensures taken { IfSome peer.old (λ p. OnOk result (HasTaken MAX_MESSAGES connection p peer.new)) }
     ensures failed { IfSome peer.old (λ p.
         OnErr result ((peer.new ≡ None) ⊎ HasTaken MAX_MESSAGES connection p peer.new)) }
-    ensures over { IfOk result (λ end. (end ≡ End.TooMany) ⊎ (is_over socket.new ≡ true)) }
+    ensures over { IfOk result (λ end.
+        (end ≡ End.TooMany) ⊎ (end ≡ End.Crowded) ⊎ (is_over socket.new ≡ true)) }
     ensures memory { IfErr result (λ e. e ≡ ServeError.NoMemory) }
 {
     for _ in 0..MAX_MESSAGES {
@@ -247,7 +253,8 @@ pub fn serve_logged<S: Read + Write + Drop, L: Log>(
 /// A text that is no message of a client, and a message that is no text, are passed over. The
 /// connection ends with the socket, where nothing more can be read of it, or after [`MAX_MESSAGES`]
 /// messages of any kind; it has failed too where more than [`MAX_MESSAGE_BYTES`] bytes are needed for
-/// one message. Where it can't be written to any more, what has come is still taken. A client that
+/// one message, and ends where a text has more than [`rt_wire::MAX_MARKS`] commas and
+/// opening brackets, which is not read. Where it can't be written to any more, what has come is still taken. A client that
 /// breaks the protocol, or sends too much, is told why by the code of a close. What the peer sends to
 /// other connections is not sent: one is served at a time.
 ///

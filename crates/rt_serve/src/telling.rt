@@ -3,7 +3,7 @@ use crate::broken::Broken;
 use crate::heard::End;
 use crate::serve::MAX_MESSAGES;
 use rt_input::Log;
-use rt_wire::WireError;
+use rt_wire::{MAX_MARKS, WireError};
 use std::alloc::{AllocError, Global};
 use std::fmt;
 
@@ -84,6 +84,10 @@ impl fmt::Display for End {
             End::TooMany => write!(
                 f,
                 "{MAX_MESSAGES} messages have come; it is closed with 1008"
+            ),
+            End::Crowded => write!(
+                f,
+                "a text has more than {MAX_MARKS} commas and brackets; it is closed with 1009"
             ),
         }
     }

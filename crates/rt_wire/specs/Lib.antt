@@ -15,5 +15,6 @@ pub mod Client
 pub mod ClientData
 pub mod Grammar
 pub mod ReadBack
+pub mod Crowds
 pub mod inside
 pub mod laws

@@ -10,6 +10,7 @@
 #![tactic(auto)]
 
 mod client;
+mod crowd;
 mod entries;
 mod error;
 pub mod examples;
@@ -26,8 +27,9 @@ mod server;
 mod writing;
 
 pub use client::ClientMessage;
+pub use crowd::is_crowded;
 pub use error::WireError;
-pub use limits::{MAX_NUMBER, MAX_REASON_BYTES, VERSION};
+pub use limits::{MAX_MARKS, MAX_NUMBER, MAX_REASON_BYTES, VERSION};
 pub use parts::{Part, Parts};
 pub use query_json::query_text;
 pub use reason::Reason;

@@ -7,6 +7,10 @@ pub const MAX_NUMBER: u64 = 9007199254740991;
 /// The most bytes that a reason has.
 pub const MAX_REASON_BYTES: usize = 65536;
 
+/// The most commas and opening brackets outside of texts that the text of a message has where it is taken
+/// from a socket.
+pub const MAX_MARKS: usize = 262144;
+
 /// The version of the messages: what a client tells the server that it reads. Version 2 has `hello` and
 /// `push`, which version 1 lacks.
 pub const VERSION: u64 = 2;
