@@ -1,3 +1,4 @@
+pub mod Counts
 pub mod HeldLaws
 pub mod IndexLaws
 pub mod KnownLaws

@@ -62,7 +62,7 @@ module _ (entries : List Assignment) (b : Brought) (writes : List Write) where
   AreDue pairs left ps = All (λ (p : Pair). list_any (λ n. p.0.number == n) left ≡ true → IsDue entries b writes pairs p) ps
 
   -- a listener that is renewed keeps its number
-  number_stays : (p : Pair) → number_of (refreshed entries b writes p) ≡ number_of p
+  pub number_stays : (p : Pair) → number_of (refreshed entries b writes p) ≡ number_of p
   number_stays p = elim (do_meet entries p.0.query.path) as (λ z. (cond z (renewed b writes p.0) p.0).number ≡ p.0.number) [
     | true ↦ kept p.0
     | false ↦ refl
@@ -117,13 +117,13 @@ module _ (entries : List Assignment) (b : Brought) (writes : List Write) where
   none_told [] = refl
   none_told (p ∷ ps) = none_told ps
 
-  abbrev met : Pair → Bool
+  abbrev pub met : Pair → Bool
   met p = do_meet entries p.0.query.path
 
   abbrev pub HaveMet : List ℕ → List Held → Type 0
   HaveMet numbers ls = All (λ (l : Held). do_meet entries l.query.path ≡ true → list_any (λ n. l.number == n) numbers ≡ true) ls
 
-  met_pairs : (numbers : List ℕ) (ls : List Held) → HaveMet numbers ls → All (λ (p : Pair). met p ≡ true → list_any (λ n. p.0.number == n) numbers ≡ true) (map pair_of ls)
+  pub met_pairs : (numbers : List ℕ) (ls : List Held) → HaveMet numbers ls → All (λ (p : Pair). met p ≡ true → list_any (λ n. p.0.number == n) numbers ≡ true) (map pair_of ls)
   met_pairs numbers [] h = λ k d lt. absurd (omega arith)
   met_pairs numbers (l ∷ ls) h = All-cons (λ (p : Pair). met p ≡ true → list_any (λ n. p.0.number == n) numbers ≡ true) (pair_of l) (map pair_of ls) (h 0 l (omega arith)) (met_pairs numbers ls (λ k d lt. h (suc k) d (omega arith)))
 
@@ -132,7 +132,7 @@ module _ (entries : List Assignment) (b : Brought) (writes : List Write) where
   own_pairs pairs [] h = λ k d lt. absurd (omega arith)
   own_pairs pairs (l ∷ ls) h = All-cons (λ (p : Pair). HasPairs entries pairs p.0.number p.0.query.path) (pair_of l) (map pair_of ls) (h 0 l (omega arith)) (own_pairs pairs ls (λ k d lt. h (suc k) d (omega arith)))
 
-  unmet : (p : Pair) → met p ≡ false → refreshed entries b writes p ≡ p
+  pub unmet : (p : Pair) → met p ≡ false → refreshed entries b writes p ≡ p
   unmet p e = λ i. (cond (e i) (renewed b writes p.0) p.0, cond (e i) (view_after entries b writes p.0.query p.1) p.1)
 
   untold : (p : Pair) → met p ≡ false → told_of p ≡ None

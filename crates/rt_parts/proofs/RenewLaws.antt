@@ -43,7 +43,7 @@ module _ (queries : List Query) (b : Brought) (writes : List Write) where
   primed l = record l { is_primed = true; view = Some (view_at b writes l.query) }
 
   -- a listener that is renewed keeps its number
-  number_stays : (p : Pair) → number_of (renewed_pair queries b writes p) ≡ number_of p
+  pub number_stays : (p : Pair) → number_of (renewed_pair queries b writes p) ≡ number_of p
   number_stays p = elim (is_among queries p.0.query) as (λ z. (cond z (renewed b writes p.0) p.0).number ≡ p.0.number) [
     | true ↦ kept p.0
     | false ↦ refl
@@ -84,17 +84,17 @@ module _ (queries : List Query) (b : Brought) (writes : List Write) where
   none_told [] = refl
   none_told (p ∷ ps) = none_told ps
 
-  abbrev of : Pair → Bool
+  abbrev pub of : Pair → Bool
   of p = is_among queries p.0.query
 
   abbrev pub HaveAll : List ℕ → List Held → Type 0
   HaveAll numbers ls = All (λ (l : Held). is_among queries l.query ≡ true → list_any (λ n. l.number == n) numbers ≡ true) ls
 
-  of_pairs : (numbers : List ℕ) (ls : List Held) → HaveAll numbers ls → All (λ (p : Pair). of p ≡ true → list_any (λ n. p.0.number == n) numbers ≡ true) (map pair_of ls)
+  pub of_pairs : (numbers : List ℕ) (ls : List Held) → HaveAll numbers ls → All (λ (p : Pair). of p ≡ true → list_any (λ n. p.0.number == n) numbers ≡ true) (map pair_of ls)
   of_pairs numbers [] h = λ k d lt. absurd (omega arith)
   of_pairs numbers (l ∷ ls) h = All-cons (λ (p : Pair). of p ≡ true → list_any (λ n. p.0.number == n) numbers ≡ true) (pair_of l) (map pair_of ls) (h 0 l (omega arith)) (of_pairs numbers ls (λ k d lt. h (suc k) d (omega arith)))
 
-  others : (p : Pair) → of p ≡ false → renewed_pair queries b writes p ≡ p
+  pub others : (p : Pair) → of p ≡ false → renewed_pair queries b writes p ≡ p
   others p e = λ i. (cond (e i) (renewed b writes p.0) p.0, cond (e i) (view_anew b writes p.0.query p.1) p.1)
 
   untold : (p : Pair) → of p ≡ false → told_pair p ≡ None

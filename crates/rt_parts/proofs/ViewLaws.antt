@@ -1,5 +1,5 @@
 -- A listener that is renewed, and what its seat is told.
-use Rattle.std.proofs.Common.{◌≡◌, true, false, cond, not, ◌&&◌, ◌||◌, List, [], refl, sym, ap, subst, ◌∙◌, Option, Some, None, is_some}
+use Rattle.std.proofs.Common.{◌≡◌, ℕ, true, false, cond, not, ◌&&◌, ◌||◌, List, [], refl, sym, ap, subst, ◌∙◌, Option, Some, None, is_some}
 use mathlib.Core.Bool.{true≢false}
 use Rattle.std.specs.Option.{option_map, option_map_or}
 use Rattle.rt_tree.specs.PathTree.{Key, PathTree}
@@ -70,7 +70,7 @@ module _ (b : Brought) (ws : List Write) (entries : List Assignment) (l : Held) 
       ap Some (sym (ap (λ t. cond t (touched v arrived) (taken v seen)) (λ i. not (low i) && (sym (stays_named entries b ws l.query named h v.tree) ∙ e) i)))
 
   module _ (stays : option_map_or (λ (v : View). stays_object v.tree named) l.view false ≡ true) (held : IsHeld l) (follow : FollowsNamed entries b ws (pair_of l))
-      (new : Held) (is : new ≡ record l { view = option_map (λ (v : View). touched v named) l.view }) where
+      {count : ℕ} (new : Held) (is : new ≡ record l { view = option_map (λ (v : View). touched v named) l.view; count = count }) where
     object_in : (v : View) → l.view ≡ Some v → stays_object v.tree named ≡ true
     object_in v e = sym (ap (λ o. option_map_or (λ (x : View). stays_object x.tree named) o false) e) ∙ stays
 
@@ -85,7 +85,7 @@ module _ (b : Brought) (ws : List Write) (entries : List Assignment) (l : Held) 
     new_is : (v : View) → l.view ≡ Some v → listener_of new ≡ seeing seen (listener_of l)
     new_is v e =
         let own : v.query ≡ l.query = (subst (IsViewOf l.query) e held.view).0 in
-        ap listener_of is ∙ (λ i. listener_of (record l { view = option_map (λ (x : View). touched x named) (e i) }))
+        ap listener_of is ∙ (λ i. listener_of (record l { view = option_map (λ (x : View). touched x named) (e i); count = count }))
         ∙ (λ i. record (listener_of l) { is_primed = true; view = Some (select (own i) (same_tree v e i)) })
 
     -- the listener is renewed

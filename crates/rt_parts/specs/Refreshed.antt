@@ -1,5 +1,5 @@
 -- What becomes of the view of a listener whose path an entry meets.
-use Rattle.std.specs.Prelude.{◌≡◌, Bool, true, not, ◌&&◌, if◌then◌else◌, List, Option, Some, None}
+use Rattle.std.specs.Prelude.{◌≡◌, ℕ, Bool, true, not, ◌&&◌, if◌then◌else◌, List, Option, Some, None}
 use Rattle.std.specs.List.{All, zip}
 use Rattle.rt_tree.specs.PathTree.{Key, PathTree}
 use Rattle.rt_tree.specs.Assignments.{Assignment}
@@ -11,7 +11,7 @@ use Rattle.rt_world.specs.Met.{do_meet}
 use Rattle.rt_world.specs.Touched.{children_at, children_named, is_covered}
 use Rattle.rt_world.specs.Views.{seen_over}
 use Rattle.rt_world.specs.World.{Listener}
-use Rattle.rt_parts.specs.Listeners.{Listeners, first_view_of}
+use Rattle.rt_parts.specs.Listeners.{Listeners, count_if, first_view_of}
 
 -- the children of the query's path that the entries name, as they are seen
 abbrev pub named_children : List Assignment → Brought → List Write → Query → List (Key × PathTree)
@@ -40,6 +40,11 @@ view_after entries b writes q (Some v) = Some (view_with entries b writes q v)
 abbrev pub view_met : List Assignment → Brought → List Write → Listener × Option View → Option View
 view_met entries b writes p =
     if do_meet entries p.0.query.path then view_after entries b writes p.0.query p.1 else p.1
+
+-- the count of such a listener goes on by what its view took anew; that of another one stays
+abbrev pub count_met : List Assignment → Brought → List Write → (Listener × Option View) × ℕ → ℕ
+count_met entries b writes t =
+    count_if (do_meet entries t.0.0.query.path) t.1 (view_met entries b writes t.0)
 
 -- where the view is touched, its tree with the named children put into it is what is seen
 abbrev pub FollowsNamed : List Assignment → Brought → List Write → Listener × Option View → Type 0

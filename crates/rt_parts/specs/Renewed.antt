@@ -1,5 +1,5 @@
 -- Listeners that are renewed for their queries, whatever entries a step has.
-use Rattle.std.specs.Prelude.{Bool, ◌&&◌, if◌then◌else◌, List, Option, Some, None}
+use Rattle.std.specs.Prelude.{ℕ, Bool, ◌&&◌, if◌then◌else◌, List, Option, Some, None}
 use Rattle.std.specs.List.{filter_map, list_any}
 use Rattle.rt_tree.specs.PathTree.{Path, path_eq}
 use Rattle.rt_query.specs.Queries.{Query, is_filtered}
@@ -14,7 +14,7 @@ use Rattle.rt_world.specs.After.{renewed}
 use Rattle.rt_world.specs.Met.{told}
 use Rattle.rt_world.specs.Views.{seen_over}
 use Rattle.rt_world.specs.World.{Listener}
-use Rattle.rt_parts.specs.Listeners.{first_view_of}
+use Rattle.rt_parts.specs.Listeners.{count_if, first_view_of}
 
 -- whether a listener has the query, which is filtered and of that path
 abbrev pub is_listened_at : List Listener → Path → Query → Bool
@@ -34,6 +34,11 @@ view_anew b writes q (Some v) = Some (taken v (seen_over (base b q) writes q))
 abbrev pub view_of : List Query → Brought → List Write → Listener × Option View → Option View
 view_of queries b writes p =
     if is_among queries p.0.query then view_anew b writes p.0.query p.1 else p.1
+
+-- its count goes on by what the view took anew, and that of another one stays
+abbrev pub count_of : List Query → Brought → List Write → (Listener × Option View) × ℕ → ℕ
+count_of queries b writes t =
+    count_if (is_among queries t.0.0.query) t.1 (view_of queries b writes t.0)
 
 -- the note of a listener of one of these queries
 abbrev pub told_of : List Query → Brought → List Write → Listener → Option Note

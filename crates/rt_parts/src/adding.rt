@@ -6,7 +6,7 @@ ghost use Rattle.rt_world.specs.After.{renewed};
 ghost use Rattle.rt_parts.specs.Listeners.{first_view_of, new_listener};
 ghost use Rattle.rt_parts.specs.inside.HeldView.{IsHeld, listener_of};
 
-use crate::held::Held;
+use crate::held::{Held, unprimed};
 use crate::views::renew;
 use rt_cache::Brought;
 use rt_query::Query;
@@ -32,12 +32,7 @@ pub(crate) fn first(
     ensures notes { OnOk result (notes.new.items ≡ notes.old.items
         ++ option_to_list (told brought.now pending.now (new_listener number seat query))) }
 {
-    let mut listener = Held {
-        number,
-        seat,
-        query,
-        view: None,
-    };
+    let mut listener = unprimed(number, seat, query);
     renew(alloc, &mut listener, brought, pending, notes)?;
     Ok(listener)
 }

@@ -1,6 +1,6 @@
 // The registered listeners.
 ghost use Rattle.std.specs.Prelude.{◌≡◌, ◌≢◌, ◌==◌, ◌↔◌, ◌&&◌, ◌<◌, ◌++◌, ◌∷◌, [], not, map};
-ghost use Rattle.std.specs.Prelude.{length, IsTrue, IsOk, IfOk, OnOk, OnErr, None, Err};
+ghost use Rattle.std.specs.Prelude.{ℕ, length, IsTrue, IsOk, IfOk, OnOk, OnErr, None, Err};
 ghost use Rattle.std.specs.List.{All, filter, find, list_any, position, zip};
 ghost use Rattle.std.specs.Option.{option_to_list};
 ghost use Rattle.rt_query.specs.Queries.{Query};
@@ -10,10 +10,10 @@ ghost use Rattle.rt_cache.specs.Recover.{is_among};
 ghost use Rattle.rt_world.specs.Answers.{view_before};
 ghost use Rattle.rt_world.specs.Met.{all_told, renewed_met, told};
 ghost use Rattle.rt_world.specs.After.{renewed};
-ghost use Rattle.rt_parts.specs.Listeners.{cancelled_note, first_view_of, new_listener};
+ghost use Rattle.rt_parts.specs.Listeners.{cancelled_note, counts_left, first_view_of, new_listener};
 ghost use Rattle.rt_parts.specs.Listeners.{no_listeners, views_left};
-ghost use Rattle.rt_parts.specs.Refreshed.{FollowNamed, view_met};
-ghost use Rattle.rt_parts.specs.Renewed.{all_told_of, is_listened_at, renewed_of, view_of};
+ghost use Rattle.rt_parts.specs.Refreshed.{FollowNamed, count_met, view_met};
+ghost use Rattle.rt_parts.specs.Renewed.{all_told_of, count_of, is_listened_at, renewed_of, view_of};
 
 use crate::adding::first;
 use crate::ending::{end_form, end_number, end_seat, tell_ends};
@@ -126,6 +126,9 @@ impl Listeners {
         ensures notes { OnOk result (notes.new.items ≡ notes.old.items
             ++ all_told entries.now brought.now pending.now self.old.listeners) }
         ensures gives_up { OnErr result (self.new ≡ no_listeners) }
+        ensures counts { OnOk result (self.new.counts
+            ≡ map (count_met entries.now brought.now pending.now)
+            (zip (zip self.old.listeners self.old.views) self.old.counts)) }
     {
         let alloc = *self.held.allocator();
         let mut held = replace(&mut self.held, Vec::new(alloc));
@@ -171,6 +174,9 @@ impl Listeners {
             ++ all_told_of queries.now brought.now pending.now self.old.listeners) }
         ensures gives_up { OnErr result (self.new ≡ no_listeners) }
         ensures none { queries.now ≡ [] → IsOk result }
+        ensures counts { OnOk result (self.new.counts
+            ≡ map (count_of queries.now brought.now pending.now)
+            (zip (zip self.old.listeners self.old.views) self.old.counts)) }
     {
         let alloc = *self.held.allocator();
         if queries.is_empty() {
@@ -216,6 +222,8 @@ impl Listeners {
         ensures notes { OnOk result (notes.new.items ≡ notes.old.items
             ++ option_to_list (told brought.now pending.now (new_listener number seat query))) }
         ensures unchanged { OnErr result (self.new ≡ self.old) }
+        ensures counts { OnOk result
+            ((count : ℕ) × (self.new.counts ≡ self.old.counts ++ count ∷ [])) }
     {
         let alloc = *self.held.allocator();
         let path = query.path().copy()?;
@@ -232,6 +240,7 @@ impl Listeners {
         ensures listeners { self.new.listeners
             ≡ filter (λ l. not (l.number == number)) self.old.listeners }
         ensures views { self.new.views ≡ views_left (λ l. not (l.number == number)) self.old }
+        ensures counts { self.new.counts ≡ counts_left (λ l. not (l.number == number)) self.old }
     {
         end_number(&mut self.held, &mut self.places, number);
     }
@@ -241,6 +250,7 @@ impl Listeners {
         ensures listeners { self.new.listeners
             ≡ filter (λ l. not (l.seat == seat)) self.old.listeners }
         ensures views { self.new.views ≡ views_left (λ l. not (l.seat == seat)) self.old }
+        ensures counts { self.new.counts ≡ counts_left (λ l. not (l.seat == seat)) self.old }
     {
         end_seat(&mut self.held, &mut self.places, seat);
     }
@@ -265,6 +275,8 @@ impl Listeners {
             ++ map (cancelled_note why.now)
             (filter (λ l. query_eq (form l.query) listened.now) self.old.listeners)) }
         ensures unchanged { OnErr result (self.new ≡ self.old) }
+        ensures counts { OnOk result (self.new.counts
+            ≡ counts_left (λ l. not (query_eq (form l.query) listened.now)) self.old) }
     {
         let alloc = *self.held.allocator();
         tell_ends(alloc, &self.held, listened, why, notes)?;

@@ -1,11 +1,11 @@
 // What is read of listeners.
-ghost use Rattle.std.specs.Prelude.{◌≡◌, ◌≢◌, ◌==◌, ◌++◌, ◌↔◌, IfOk, OnOk, OnErr, None, Err};
+ghost use Rattle.std.specs.Prelude.{◌≡◌, ◌≢◌, ◌==◌, ◌++◌, ◌↔◌, IfOk, OnOk, None, Err};
 ghost use Rattle.std.specs.List.{filter_map, find};
 ghost use Rattle.std.specs.Option.{option_and_then, option_to_list};
-ghost use Rattle.rt_parts.specs.inside.HeldView.{AreHeld, IsHeld, own_number, shown_in};
+ghost use Rattle.rt_parts.specs.inside.HeldView.{AreHeld, own_number, shown_in};
 
 use crate::error::ShownError;
-use crate::held::{Held, place_of};
+use crate::held::{Held, place_of, shown_of};
 use rt_query::Shown;
 use std::alloc::{AllocError, Global};
 
@@ -30,21 +30,6 @@ pub(crate) fn numbers_of(alloc: Global, held: &[Held], seat: u64) -> Result<Vec<
         push_own(&mut numbers, listener, seat)?;
     }
     Ok(numbers)
-}
-
-// What the listener's view shows, if it has one.
-fn shown_of(listener: &Held) -> Result<Option<Shown>, AllocError>
-    requires { IsHeld listener.now }
-    ensures shown { IfOk result (λ shown. shown ≡ shown_in listener.now.view) }
-    ensures memory { OnErr result (shown_in listener.now.view ≢ None) }
-{
-    match &listener.view {
-        Some(view) => match view.shown() {
-            Ok(shown) => Ok(Some(shown)),
-            Err(_) => Err(AllocError),
-        },
-        None => Ok(None),
-    }
 }
 
 // What the view of the listener of that number shows, if it has one.

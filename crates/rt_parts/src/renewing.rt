@@ -8,8 +8,10 @@ ghost use Rattle.rt_query.specs.Queries.{Query, is_filtered};
 ghost use Rattle.rt_query.specs.QueryEq.{query_eq};
 ghost use Rattle.rt_cache.specs.Recover.{is_among};
 ghost use Rattle.rt_parts.specs.Renewed.{all_told_of, told_of};
-ghost use Rattle.rt_parts.specs.inside.HeldView.{IsHeld, AreHeld, listener_of, listeners_of};
-ghost use Rattle.rt_parts.specs.inside.HeldView.{pair_of, renewal_told_at, renewed_at, renewed_pair};
+ghost use Rattle.rt_parts.specs.Listeners.{count_if};
+ghost use Rattle.rt_parts.specs.inside.HeldView.{IsHeld, AreHeld, counted_of, listener_of, listeners_of};
+ghost use Rattle.rt_parts.specs.inside.HeldView.{pair_of, renewal_counted, renewal_counted_at};
+ghost use Rattle.rt_parts.specs.inside.HeldView.{renewal_told_at, renewed_at, renewed_pair};
 ghost use Rattle.rt_parts.specs.inside.Placed.{AreInOrder, HaveAt};
 
 use crate::held::{Held, place_of};
@@ -140,6 +142,9 @@ fn renew_one(
     requires { IsHeld listener.old }
     ensures pair { OnOk result (pair_of listener.new
         ≡ renewed_pair queries.now brought.now pending.now (pair_of listener.old)) }
+    ensures count { OnOk result (listener.new.count
+        ≡ count_if (is_among queries.now listener.old.query) listener.old.count
+        listener.new.view) }
     ensures held { OnOk result (IsHeld listener.new) }
     ensures number { listener.new.number ≡ listener.old.number }
     ensures notes { OnOk result (notes.new.items ≡ notes.old.items ++ option_to_list
@@ -165,6 +170,9 @@ fn renew_number(
     ensures pairs { OnOk result (map pair_of listeners.new
         ≡ map (renewed_at number queries.now brought.now pending.now)
         (map pair_of listeners.old)) }
+    ensures counts { OnOk result (map counted_of listeners.new
+        ≡ map (renewal_counted_at number queries.now brought.now pending.now)
+        (map counted_of listeners.old)) }
     ensures held { OnOk result (AreHeld listeners.new) }
     ensures notes { OnOk result (notes.new.items ≡ notes.old.items
         ++ filter_map (renewal_told_at number queries.now brought.now pending.now)
@@ -193,6 +201,9 @@ pub(crate) fn renew_all(
         → list_any (λ n. l.number == n) numbers.now ≡ true) listeners.old }
     ensures pairs { OnOk result (map pair_of listeners.new
         ≡ map (renewed_pair queries.now brought.now pending.now) (map pair_of listeners.old)) }
+    ensures counts { OnOk result (map counted_of listeners.new
+        ≡ map (renewal_counted queries.now brought.now pending.now)
+        (map counted_of listeners.old)) }
     ensures held { OnOk result (AreHeld listeners.new) }
     ensures notes { OnOk result (notes.new.items ≡ notes.old.items
         ++ all_told_of queries.now brought.now pending.now (listeners_of listeners.old)) }

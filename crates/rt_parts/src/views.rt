@@ -1,33 +1,28 @@
 // The view of a listener, and what its seat is told.
-ghost use Rattle.std.specs.Prelude.{◌≡◌, ◌==◌, ◌≤◌, ◌<◌, ◌++◌, ◌||◌, true, false, map, IfOk, OnOk};
-ghost use Rattle.std.specs.Prelude.{Some};
+ghost use Rattle.std.specs.Prelude.{◌≡◌, ◌==◌, ◌<◌, ◌++◌, ◌||◌, true, false, map, OnOk};
 ghost use Rattle.std.specs.List.{All, AllPairs, filter_map, list_any, slice_get};
-ghost use Rattle.std.specs.Option.{option_map, option_map_or, option_to_list};
-ghost use Rattle.rt_tree.specs.PathTree.{levels};
+ghost use Rattle.std.specs.Option.{option_map_or, option_to_list};
 ghost use Rattle.rt_tree.specs.Assignments.{do_overlap, is_at_or_above};
-ghost use Rattle.rt_query.specs.Select.{select};
-ghost use Rattle.rt_view.specs.Changes.{changes};
 ghost use Rattle.rt_world.specs.Views.{is_known};
 ghost use Rattle.rt_world.specs.After.{renewed};
 ghost use Rattle.rt_world.specs.Answers.{batch_note};
-ghost use Rattle.rt_parts.specs.inside.HeldView.{IsHeld, AreHeld, listener_of, listeners_of};
-ghost use Rattle.rt_parts.specs.inside.HeldView.{pair_of, refreshed, refreshed_at, shown_in, told_at};
-ghost use Rattle.rt_parts.specs.inside.HeldView.{view_over};
+ghost use Rattle.rt_parts.specs.Listeners.{count_if, count_with};
+ghost use Rattle.rt_parts.specs.inside.HeldView.{IsHeld, AreHeld, counted_of, listener_of, listeners_of};
+ghost use Rattle.rt_parts.specs.inside.HeldView.{pair_of, recounted, recounted_at, refreshed};
+ghost use Rattle.rt_parts.specs.inside.HeldView.{refreshed_at, told_at};
 ghost use Rattle.rt_parts.specs.inside.Pairs.{AreUp, HasOwn, HasPairs, IsDue};
 ghost use Rattle.rt_parts.specs.Renewed.{view_anew};
 ghost use Rattle.rt_parts.specs.Refreshed.{FollowsNamed, view_after};
-ghost use Rattle.rt_view.specs.Views.{stays_object, touched};
-ghost use Rattle.rt_view.specs.Views.{told as told_of};
-ghost use Rattle.rt_world.specs.Met.{all_told, do_meet, seeing, told, told_met};
+ghost use Rattle.rt_world.specs.Met.{all_told, do_meet, told, told_met};
 ghost use Rattle.rt_world.specs.Touched.{is_covered};
 
-use crate::held::{Held, place_of};
+use crate::held::{Held, is_primed, place_of, show, stays_object, touch};
 use crate::met::own_of;
 use crate::named::named_children;
 use crate::seeing::{is_known, seen};
 use rt_cache::Brought;
-use rt_tree::{Key, MAX_KEYS, Path, Tree};
-use rt_view::{Batch, ChangeList, View};
+use rt_tree::{Path, Tree};
+use rt_view::{Batch, ChangeList};
 use rt_world::{Body, Note};
 use rt_writes::Pending;
 use std::alloc::{AllocError, Global};
@@ -37,31 +32,7 @@ fn is_due(listener: &Held, brought: &Brought, pending: &Pending) -> bool
     ensures { result ≡ ((listener_of listener.now).is_primed
         || is_known brought.now pending.now listener.now.query) }
 {
-    listener.view.is_some() || is_known(brought, pending, &listener.query)
-}
-
-// The listener sees that tree from now on: the changes of its view.
-fn show(alloc: Global, listener: &mut Held, seen: Tree) -> Result<ChangeList, AllocError>
-    requires { IsHeld listener.old }
-    ensures view { OnOk result (listener_of listener.new ≡ seeing seen (listener_of listener.old)) }
-    ensures held { OnOk result (IsHeld listener.new) }
-    ensures number { listener.new.number ≡ listener.old.number }
-    ensures taken { OnOk result (listener.new.view
-        ≡ Some (view_over listener.old.query seen listener.old.view)) }
-    ensures changes { IfOk result (λ list. list
-        ≡ changes listener.old.query.index (shown_in listener.old.view)
-        (select listener.old.query seen)) }
-{
-    if let Some(view) = &mut listener.view {
-        return match view.renew(alloc, seen) {
-            Ok(changes) => Ok(changes),
-            Err(_) => Err(AllocError),
-        };
-    }
-    let query = listener.query.copy()?;
-    let (view, changes) = View::first(alloc, query, seen)?;
-    listener.view = Some(view);
-    Ok(changes)
+    is_primed(listener) || is_known(brought, pending, &listener.query)
 }
 
 // Tells the listener's seat of these changes, if there are any.
@@ -98,6 +69,8 @@ pub(crate) fn renew(
     ensures number { listener.new.number ≡ listener.old.number }
     ensures taken { OnOk result (listener.new.view
         ≡ view_anew brought.now pending.now listener.old.query listener.old.view) }
+    ensures count { OnOk result
+        (listener.new.count ≡ count_with listener.old.count listener.new.view) }
     ensures notes { OnOk result (notes.new.items ≡ notes.old.items
         ++ option_to_list (told brought.now pending.now (listener_of listener.old))) }
 {
@@ -107,43 +80,6 @@ pub(crate) fn renew(
     let seen = seen(brought, pending, &listener.query)?;
     let changes = show(alloc, listener, seen)?;
     tell(notes, listener, changes)
-}
-
-// Whether the listener's view stays an object once these children are put into it; without a view it
-// does not.
-fn stays_object(listener: &Held, named: &[(Key, Tree)]) -> bool
-    ensures { result ≡ option_map_or (λ v. stays_object v.tree named.now) listener.now.view false }
-{
-    match &listener.view {
-        Some(view) => view.stays_object(named),
-        None => false,
-    }
-}
-
-// Puts these children into the listener's view, which it has: the changes of the view.
-fn touch(
-    alloc: Global,
-    listener: &mut Held,
-    named: Vec<(Key, Tree)>,
-) -> Result<ChangeList, AllocError>
-    requires held { IsHeld listener.old }
-    requires levels { All (λ c. levels c.1 ≤ MAX_KEYS) named.items }
-    ensures listener { OnOk result (listener.new ≡ record listener.old {
-      view =
-          option_map (λ v. touched v named.items) listener.old.view;
-    }) }
-    ensures number { listener.new.number ≡ listener.old.number }
-    ensures changes { IfOk result (λ list. (v : View) → listener.old.view ≡ Some v
-        → list ≡ told_of v (touched v named.items)) }
-{
-    let Some(view) = &mut listener.view else {
-        drop(named);
-        return Err(AllocError);
-    };
-    match view.touch(alloc, named) {
-        Ok(changes) => Ok(changes),
-        Err(_) => Err(AllocError),
-    }
 }
 
 // Touches the view with the children that the entries name, if it stays an object; else takes it from
@@ -167,6 +103,8 @@ fn touch_or_renew(
     ensures number { listener.new.number ≡ listener.old.number }
     ensures taken { OnOk result (listener.new.view
         ≡ view_after entries.now brought.now pending.now listener.old.query listener.old.view) }
+    ensures count { OnOk result
+        (listener.new.count ≡ count_with listener.old.count listener.new.view) }
     ensures notes { OnOk result (notes.new.items ≡ notes.old.items
         ++ option_to_list (told brought.now pending.now (listener_of listener.old))) }
 {
@@ -247,6 +185,9 @@ fn refresh_one(
     requires follow { FollowsNamed entries.now brought.now pending.now (pair_of listener.old) }
     ensures pair { OnOk result (pair_of listener.new
         ≡ refreshed entries.now brought.now pending.now (pair_of listener.old)) }
+    ensures count { OnOk result (listener.new.count
+        ≡ count_if (do_meet entries.now listener.old.query.path) listener.old.count
+        listener.new.view) }
     ensures held { OnOk result (IsHeld listener.new) }
     ensures number { listener.new.number ≡ listener.old.number }
     ensures notes { OnOk result (notes.new.items ≡ notes.old.items ++ option_to_list
@@ -279,6 +220,9 @@ fn refresh_number(
     ensures pairs { OnOk result (map pair_of listeners.new
         ≡ map (refreshed_at number entries.now brought.now pending.now)
         (map pair_of listeners.old)) }
+    ensures counts { OnOk result (map counted_of listeners.new
+        ≡ map (recounted_at number entries.now brought.now pending.now)
+        (map counted_of listeners.old)) }
     ensures held { OnOk result (AreHeld listeners.new) }
     ensures notes { OnOk result (notes.new.items ≡ notes.old.items
         ++ filter_map (told_at number entries.now brought.now pending.now)
@@ -325,6 +269,8 @@ pub(crate) fn refresh(
         → list_any (λ n. l.number == n) numbers.now ≡ true) listeners.old }
     ensures pairs { OnOk result (map pair_of listeners.new
         ≡ map (refreshed entries.now brought.now pending.now) (map pair_of listeners.old)) }
+    ensures counts { OnOk result (map counted_of listeners.new
+        ≡ map (recounted entries.now brought.now pending.now) (map counted_of listeners.old)) }
     ensures held { OnOk result (AreHeld listeners.new) }
     ensures notes { OnOk result (notes.new.items ≡ notes.old.items
         ++ all_told entries.now brought.now pending.now (listeners_of listeners.old)) }

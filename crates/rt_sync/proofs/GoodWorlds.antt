@@ -1,14 +1,17 @@
 -- What holds of a core's world, before any step and after each.
 use Rattle.std.proofs.Common.{◌≡◌, Bool, true, false, drop, sym, subst, refl, Option, Some, None}
+use Rattle.std.specs.Option.{IfSome}
 use Rattle.rt_world.specs.declared.error.CoreError.{CoreError}
 use Rattle.rt_world.specs.declared.step.Step.{Step}
 use Rattle.rt_world.specs.World.{World}
 use Rattle.rt_world.specs.Refusals.{refusal, is_stale}
 use Rattle.rt_world.specs.Answers.{Answer, step}
-use Rattle.rt_world.specs.laws.Holds.{StaysSteady, StaysWithin, TakenIsSteady}
+use Rattle.rt_world.specs.Limited.{IsWithin}
+use Rattle.rt_world.specs.laws.Holds.{IsSteady, StaysSteady, StaysWithin, TakenIsSteady}
 use Rattle.rt_world.specs.laws.Refused.{RefusedIsNothing, StaleIsNothing, OtherIsMade}
-use Rattle.rt_sync.specs.Core.{without_first}
+use Rattle.rt_sync.specs.Core.{Held, without_first, world_in}
 use Rattle.rt_sync.specs.inside.Due.{IsGood}
+use Rattle.rt_sync.specs.inside.Viewed.{HoldsWell}
 
 -- what a step answers, and what stays so
 pub record Laws : Type 0 where
@@ -50,3 +53,12 @@ good_sent law w g =
         next_tag = within.next_tag;
       };
     }
+
+-- of a core that holds well the world is steady, and within its limits
+pub steady_in : (core : Option Held) → IfSome core HoldsWell → IfSome (world_in core) IsSteady
+steady_in None h = tt
+steady_in (Some k) h = record { sound = h.good.sound; called = h.good.called; reached = h.good.reached }
+
+pub within_in : (core : Option Held) → IfSome core HoldsWell → IfSome (world_in core) IsWithin
+within_in None h = tt
+within_in (Some k) h = h.good.within

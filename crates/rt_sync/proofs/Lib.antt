@@ -1,4 +1,5 @@
 pub mod AppliedAll
+pub mod Counted
 pub mod GoodWorlds
 pub mod LentEntries
 pub mod Listened

@@ -38,9 +38,9 @@ use Rattle.rt_world.specs.laws.Steps.{ChangesHaveNoEntries, ListenersStay, PushI
 use Rattle.rt_world.specs.laws.World.{changes_listeners}
 use Rattle.rt_world.specs.laws.Touch.{ElseFewAreSeen, SeenAreChildren, Stays, TouchIsEnough, UnmetAreSeen, UnnamedAreSeen}
 use Rattle.rt_sync.specs.Core.{Held, without_first}
-use Rattle.rt_sync.specs.Reads.{IsTurn, TurnsOnce, most_read, view_held}
+use Rattle.rt_sync.specs.Reads.{IsTurn, ReadsNamed, TurnsOnce, most_read, view_held}
 use Rattle.rt_sync.specs.inside.Due.{IsDue, settling}
-use Rattle.rt_sync.specs.inside.Viewed.{AreViewed, FollowsStep, HasViews, HasViewsBy, IsViewed, LeavesViews, Pairs, RefreshesViews, SameViews, ShowsSeen}
+use Rattle.rt_sync.specs.inside.Viewed.{ArePaired, HasViews, HasViewsBy, IsViewed, LeavesViews, Pairs, RefreshesViews, ShowsSeen, all_in}
 use Rattle.rt_sync.proofs.TagLaws.{other_number}
 use Rattle.rt_sync.proofs.Uncovered.{uncovered_unmoved, unmet_uncovered}
 
@@ -120,6 +120,11 @@ found_none (l ∷ ls) (v ∷ vs) number h =
 
 -- ---- what follows a step
 
+-- each listener has its view, and no more children were taken anew than are allowed
+pub record ShowsStep (h : Held) (s : Step) (k : Held) : Type 0 where
+  pub viewed : ArePaired k
+  pub reads : ReadsNamed h s k
+
 -- what is held of the listener comes from what was held of it
 abbrev Comes : Held → Step → World → Listener → Option View → Type 0
 Comes h s w m n = (v : Option View) × (view_held h m.number ≡ v) × IsTurn (length (children_of (seen w m.query))) (most_read h.world s w m.query) v n
@@ -132,7 +137,7 @@ same_turn : (first most : ℕ) (n : Option View) → IsTurn first most n n
 same_turn first most None = tt
 same_turn first most (Some v) = inl refl
 
-follows : (h : Held) (s : Step) (k : Held) → Rises (k.world).listeners → AreViewed k → ((m : Listener) (n : Option View) → In m n (k.world).listeners k.views → Comes h s k.world m n) → FollowsStep h s k
+follows : (h : Held) (s : Step) (k : Held) → Rises (k.world).listeners → ArePaired k → ((m : Listener) (n : Option View) → In m n (k.world).listeners k.views → Comes h s k.world m n) → ShowsStep h s k
 follows h s k rises viewed comes = record {
   viewed = viewed;
   reads = all_from (IsViewed k.world) (TurnsOnce h s k) (k.world).listeners k.views viewed (λ m n i.
@@ -145,13 +150,13 @@ follows h s k rises viewed comes = record {
 }
 
 -- where nothing changes
-pub unchanged : (h : Held) (s : Step) → IsSound h.world → AreViewed h → FollowsStep h s h
+pub unchanged : (h : Held) (s : Step) → IsSound h.world → ArePaired h → ShowsStep h s h
 unchanged h s sound viewed =
     follows h s h sound.rises viewed (λ m n i.
     (n, found_own (h.world).listeners h.views m n sound.rises i, same_turn (length (children_of (seen h.world m.query))) (most_read h.world s h.world m.query) n))
 
 -- the messages to be sent are in no view
-pub sent_viewed : (h : Held) → AreViewed h → AreViewed (record { world = without_first h.world; views = h.views })
+pub sent_viewed : (h : Held) → ArePaired h → ArePaired (record { world = without_first h.world; views = h.views; counts = h.counts })
 sent_viewed h viewed = pairs_from (IsViewed h.world) (IsViewed (without_first h.world)) (h.world).listeners h.views viewed (λ m n i. sent m n (pairs_at (IsViewed h.world) (h.world).listeners h.views viewed m n i))
   where
     sent : (m : Listener) (n : Option View) → IsViewed h.world m n → IsViewed (without_first h.world) m n
@@ -160,7 +165,7 @@ sent_viewed h viewed = pairs_from (IsViewed h.world) (IsViewed (without_first h.
 
 -- ---- listeners that stay, where the step has no entries
 
-module _ (law : UnnamedAreSeen) (h : Held) (s : Step) (k : Held) (sound : IsSound h.world) (called : IsCalled (h.world).brought) (reached : IsReached h.world) (free : refusal h.world s ≡ None) (is : k.world ≡ next h.world s) (rises : Rises (k.world).listeners) (viewed : AreViewed h) (none : entries_by h.world s ≡ []) where
+module _ (law : UnnamedAreSeen) (h : Held) (s : Step) (k : Held) (sound : IsSound h.world) (called : IsCalled (h.world).brought) (reached : IsReached h.world) (free : refusal h.world s ≡ None) (is : k.world ≡ next h.world s) (rises : Rises (k.world).listeners) (viewed : ArePaired h) (none : entries_by h.world s ≡ []) where
   stays_viewed : (m : Listener) (n : Option View) → Contains (listeners_after h.world s) m → is_moved (h.world).brought (next h.world s).brought m.query ≡ false → IsViewed h.world m n → IsViewed (next h.world s) m n
   stays_viewed m None there unmoved v = v
   stays_viewed m (Some u) there unmoved v =
@@ -178,23 +183,23 @@ module _ (law : UnnamedAreSeen) (h : Held) (s : Step) (k : Held) (sound : IsSoun
   )
 
 -- of those that pass
-left_aligned : (test : Listener → Bool) (P : Listener → Option View → Type 0) (ls : List Listener) (vs : List (Option View)) → Pairs P ls vs → AreAligned (filter test ls) (views_left test (record { listeners = ls; views = vs }))
+left_aligned : (test : Listener → Bool) (P : Listener → Option View → Type 0) (ls : List Listener) (vs : List (Option View)) → Pairs P ls vs → AreAligned (filter test ls) (views_left test (record { listeners = ls; views = vs; counts = [] }))
 left_aligned test P [] [] h = tt
 left_aligned test P [] (v ∷ vs) h = absurd h
 left_aligned test P (l ∷ ls) [] h = absurd h
 left_aligned test P (l ∷ ls) (v ∷ vs) h =
-    elim (test l) as (λ b. AreAligned (cond b (l ∷ filter test ls) (filter test ls)) (map (λ (c : ℕ × Option View). c.1) (cons_option (cond b (Some (l.number, v)) None) (views_where test (record { listeners = ls; views = vs }))))) [
+    elim (test l) as (λ b. AreAligned (cond b (l ∷ filter test ls) (filter test ls)) (map (λ (c : ℕ × Option View). c.1) (cons_option (cond b (Some (l.number, v)) None) (views_where test (record { listeners = ls; views = vs; counts = [] }))))) [
       | true ↦ (tt, left_aligned test P ls vs h.1)
       | false ↦ left_aligned test P ls vs h.1
     ]
 
 left_in : (test : Listener → Bool) (P : Listener → Option View → Type 0) (ls : List Listener) (vs : List (Option View)) → Pairs P ls vs → (m : Listener) (n : Option View)
-    → In m n (filter test ls) (views_left test (record { listeners = ls; views = vs })) → In m n ls vs
+    → In m n (filter test ls) (views_left test (record { listeners = ls; views = vs; counts = [] })) → In m n ls vs
 left_in test P [] [] h m n = λ i. absurd i
 left_in test P [] (v ∷ vs) h m n = λ i. absurd h
 left_in test P (l ∷ ls) [] h m n = λ i. absurd h
 left_in test P (l ∷ ls) (v ∷ vs) h m n =
-    elim (test l) as (λ b. In m n (cond b (l ∷ filter test ls) (filter test ls)) (map (λ (c : ℕ × Option View). c.1) (cons_option (cond b (Some (l.number, v)) None) (views_where test (record { listeners = ls; views = vs })))) → In m n (l ∷ ls) (v ∷ vs)) [
+    elim (test l) as (λ b. In m n (cond b (l ∷ filter test ls) (filter test ls)) (map (λ (c : ℕ × Option View). c.1) (cons_option (cond b (Some (l.number, v)) None) (views_where test (record { listeners = ls; views = vs; counts = [] })))) → In m n (l ∷ ls) (v ∷ vs)) [
       | true ↦ λ i. either i (λ j. left_in test P ls vs h.1 m n j)
       | false ↦ λ i. inr (left_in test P ls vs h.1 m n i)
     ]
@@ -257,7 +262,7 @@ pub record TouchLaws : Type 0 where
   pub touched : TouchIsEnough
   pub few : ElseFewAreSeen
 
-module _ (laws : TouchLaws) (law : UnnamedAreSeen) (h : Held) (s : Step) (k : Held) (sound : IsSound h.world) (called : IsCalled (h.world).brought) (reached : IsReached h.world) (free : refusal h.world s ≡ None) (is : k.world ≡ next h.world s) (rises : Rises (k.world).listeners) (viewed : AreViewed h) (none : entries_by h.world s ≡ []) where
+module _ (laws : TouchLaws) (law : UnnamedAreSeen) (h : Held) (s : Step) (k : Held) (sound : IsSound h.world) (called : IsCalled (h.world).brought) (reached : IsReached h.world) (free : refusal h.world s ≡ None) (is : k.world ≡ next h.world s) (rises : Rises (k.world).listeners) (viewed : ArePaired h) (none : entries_by h.world s ≡ []) where
   abbrev at_new : Brought
   at_new = (k.world).brought
 
@@ -330,8 +335,8 @@ module _ (laws : TouchLaws) (law : UnnamedAreSeen) (h : Held) (s : Step) (k : He
   pub passed_viewed : (test : Listener → Bool) → listeners_after h.world s ≡ filter test (h.world).listeners
       → (moved : List Query) → ((l : Listener) → Contains (filter test (h.world).listeners) l → is_among moved l.query ≡ is_moved (h.world).brought (k.world).brought l.query)
       → (k.world).listeners ≡ map (renewed_of moved at_new writes_new) (filter test (h.world).listeners)
-      → k.views ≡ map (view_of moved at_new writes_new) (zip (filter test (h.world).listeners) (views_left test (record { listeners = (h.world).listeners; views = h.views })))
-      → FollowsStep h s k
+      → k.views ≡ map (view_of moved at_new writes_new) (zip (filter test (h.world).listeners) (views_left test (all_in h)))
+      → ShowsStep h s k
   passed_viewed test after moved just ls vs =
       follows h s k rises (pairs_from (λ l v. Unit {0}) (IsViewed k.world) (k.world).listeners k.views aligned (λ m o i. (so m o i).0)) (λ m o i. (so m o i).1)
     where
@@ -339,7 +344,7 @@ module _ (laws : TouchLaws) (law : UnnamedAreSeen) (h : Held) (s : Step) (k : He
       left_ls = filter test (h.world).listeners
 
       left_vs : List (Option View)
-      left_vs = views_left test (record { listeners = (h.world).listeners; views = h.views })
+      left_vs = views_left test (all_in h)
 
       aligned : AreAligned (k.world).listeners k.views
       aligned =
@@ -375,7 +380,7 @@ more_in P (l ∷ ls) (v ∷ vs) x y h m n (inr i) = deeper (more_in P ls vs x y 
     deeper (inl j) = inl (inr j)
     deeper (inr e) = inr e
 
-module _ (law : UnnamedAreSeen) (h : Held) (s : Step) (seat : ℕ) (query : Query) (k : Held) (sound : IsSound h.world) (called : IsCalled (h.world).brought) (reached : IsReached h.world) (free : refusal h.world s ≡ None) (is : k.world ≡ next h.world s) (rises : Rises (k.world).listeners) (viewed : AreViewed h) (none : entries_by h.world s ≡ [])
+module _ (law : UnnamedAreSeen) (h : Held) (s : Step) (seat : ℕ) (query : Query) (k : Held) (sound : IsSound h.world) (called : IsCalled (h.world).brought) (reached : IsReached h.world) (free : refusal h.world s ≡ None) (is : k.world ≡ next h.world s) (rises : Rises (k.world).listeners) (viewed : ArePaired h) (none : entries_by h.world s ≡ [])
     (more : listeners_after h.world s ≡ (h.world).listeners ++ new_listener (h.world).next_listener seat query ∷ []) (still : (q : Query) → is_moved (h.world).brought (k.world).brought q ≡ false) where
   abbrev new : Listener
   new = new_listener (h.world).next_listener seat query
@@ -417,7 +422,7 @@ module _ (law : UnnamedAreSeen) (h : Held) (s : Step) (seat : ℕ) (query : Quer
       (subst (λ xs. Contains xs m) (sym more) (Contains-append_left (h.world).listeners (new ∷ []) m (in_contains (h.world).listeners h.views m n j))) (still m.query) j
   either m n (inr e) = subst (λ (p : Listener × Option View). BothNew p.0 p.1) (λ j. (e.0 j, e.1 j)) fresh
 
-  pub listened_viewed : (k.world).listeners ≡ (h.world).listeners ++ x ∷ [] → k.views ≡ h.views ++ y ∷ [] → FollowsStep h s k
+  pub listened_viewed : (k.world).listeners ≡ (h.world).listeners ++ x ∷ [] → k.views ≡ h.views ++ y ∷ [] → ShowsStep h s k
   listened_viewed ls vs =
       let there : (m : Listener) (n : Option View) → In m n (k.world).listeners k.views → BothNew m n = λ m n i.
       either m n (more_in (IsViewed h.world) (h.world).listeners h.views x y viewed m n (subst (λ (p : List Listener × List (Option View)). In m n p.0 p.1) (λ j. (ls j, vs j)) i)) in
@@ -437,7 +442,7 @@ length_at : (t : PathTree) (names : List Key) → length (children_at t names) �
 length_at t [] = refl
 length_at t (k ∷ names) = ap suc (length_at t names)
 
-module _ (laws : TouchLaws) (law : PushIsBrought) (h : Held) (s : Step) (sound : IsSound h.world) (called : IsCalled (h.world).brought) (reached : IsReached h.world) (free : refusal h.world s ≡ None) (quiet : changes_listeners s ≡ false) (after : listeners_after h.world s ≡ (h.world).listeners) (viewed : AreViewed h) where
+module _ (laws : TouchLaws) (law : PushIsBrought) (h : Held) (s : Step) (sound : IsSound h.world) (called : IsCalled (h.world).brought) (reached : IsReached h.world) (free : refusal h.world s ≡ None) (quiet : changes_listeners s ≡ false) (after : listeners_after h.world s ≡ (h.world).listeners) (viewed : ArePaired h) where
   abbrev v : World
   v = next h.world s
 
@@ -469,7 +474,7 @@ module _ (laws : TouchLaws) (law : PushIsBrought) (h : Held) (s : Step) (sound :
   abbrev Follows : Listener × Option View → Type 0
   Follows p = (u : View) → p.1 ≡ Some u → is_touched es b ws p.0.query u ≡ true → with_named u.tree (named_children es b ws p.0.query) ≡ seen v p.0.query
 
-  pub follow_named : FollowNamed es b ws (record { listeners = (h.world).listeners; views = h.views })
+  pub follow_named : FollowNamed es b ws (all_in h)
   follow_named =
       all_zip_from (IsViewed h.world) Follows (h.world).listeners h.views viewed (λ m n i. λ u e t.
       touched_seen m u (in_contains (h.world).listeners h.views m n i) (subst (IsViewed h.world m) e (pairs_at (IsViewed h.world) (h.world).listeners h.views viewed m n i)) t)
@@ -577,7 +582,7 @@ module _ (laws : TouchLaws) (law : PushIsBrought) (h : Held) (s : Step) (sound :
         ),
       )
 
-  pub met_viewed : (k : Held) → k.world ≡ v → Rises (k.world).listeners → (k.world).listeners ≡ map (renewed_met es b ws) (h.world).listeners → k.views ≡ map (view_met es b ws) (zip (h.world).listeners h.views) → FollowsStep h s k
+  pub met_viewed : (k : Held) → k.world ≡ v → Rises (k.world).listeners → (k.world).listeners ≡ map (renewed_met es b ws) (h.world).listeners → k.views ≡ map (view_met es b ws) (zip (h.world).listeners h.views) → ShowsStep h s k
   met_viewed k is rises ls vs =
       let from = came (k.world).listeners k.views ls vs in
       follows h s k rises
@@ -588,24 +593,15 @@ module _ (laws : TouchLaws) (law : PushIsBrought) (h : Held) (s : Step) (sound :
 
 -- ---- no entry meets any
 
-none_renewed : (b : Brought) (ws : List Write) (ls : List Listener) → ls ≡ map (renewed_met [] b ws) ls
+pub none_renewed : (b : Brought) (ws : List Write) (ls : List Listener) → ls ≡ map (renewed_met [] b ws) ls
 none_renewed b ws [] = refl
 none_renewed b ws (l ∷ ls) = ap (λ xs. l ∷ xs) (none_renewed b ws ls)
 
-none_met : (b : Brought) (ws : List Write) (P : Listener → Option View → Type 0) (ls : List Listener) (vs : List (Option View)) → Pairs P ls vs → vs ≡ map (view_met [] b ws) (zip ls vs)
+pub none_met : (b : Brought) (ws : List Write) (P : Listener → Option View → Type 0) (ls : List Listener) (vs : List (Option View)) → Pairs P ls vs → vs ≡ map (view_met [] b ws) (zip ls vs)
 none_met b ws P [] [] h = refl
 none_met b ws P [] (v ∷ vs) h = absurd h
 none_met b ws P (l ∷ ls) [] h = absurd h
 none_met b ws P (l ∷ ls) (v ∷ vs) h = ap (λ us. v ∷ us) (none_met b ws P ls vs h.1)
-
-pub same_refreshed : (h k : Held) → AreViewed h → SameViews h k → RefreshesViews h [] k
-same_refreshed h k viewed same =
-    let b : Brought = (k.world).brought in
-    let ws : List Write = pending (k.world).requests in
-    record {
-      listeners = same.listeners ∙ none_renewed b ws (h.world).listeners;
-      views = same.views ∙ none_met b ws (IsViewed h.world) (h.world).listeners h.views viewed;
-    }
 
 -- ---- each step, by its change of listeners
 
@@ -613,7 +609,7 @@ changes_so : (w : World) (o : Option (World → Change)) → is_some o ≡ is_so
 changes_so w None = refl
 changes_so w (Some c) = refl
 
-pub follow_step : TouchLaws → UnnamedAreSeen → PushIsBrought → StaysSound → ListenersStay → ChangesHaveNoEntries → (h : Held) (s : Step) (k : Held) → IsDue h.world s → AreViewed h → k.world ≡ next h.world s → HasViews h s k → FollowsStep h s k
+pub follow_step : TouchLaws → UnnamedAreSeen → PushIsBrought → StaysSound → ListenersStay → ChangesHaveNoEntries → (h : Held) (s : Step) (k : Held) → IsDue h.world s → ArePaired h → k.world ≡ next h.world s → HasViews h s k → ShowsStep h s k
 follow_step laws law push sounds stay bare h s k d viewed is has = at (change_by h.world s) refl has
   where
     rises : Rises (k.world).listeners
@@ -622,10 +618,10 @@ follow_step laws law push sounds stay bare h s k d viewed is has = at (change_by
     changes : (o : Option Change) → change_by h.world s ≡ o → changes_listeners s ≡ is_some o
     changes o e = changes_so h.world (kind s).change ∙ ap is_some e
 
-    left : (c : Change) → change_by h.world s ≡ Some c → LeavesViews h s k → FollowsStep h s k
+    left : (c : Change) → change_by h.world s ≡ Some c → LeavesViews h s k → ShowsStep h s k
     left c e has = passed_viewed laws law h s k d.good.sound d.good.called d.good.reached d.not_refused is rises viewed (bare h.world s (changes (Some c) e)) has.test has.left has.moved has.just has.listeners has.views
 
-    at : (o : Option Change) → change_by h.world s ≡ o → HasViewsBy o h s k → FollowsStep h s k
+    at : (o : Option Change) → change_by h.world s ≡ o → HasViewsBy o h s k → ShowsStep h s k
     at None e has =
         let entries : List Assignment = entries_by h.world s in
         met_viewed laws push h s d.good.sound d.good.called d.good.reached d.not_refused (changes None e) (stay h.world s (changes None e)) viewed k is rises
@@ -637,18 +633,18 @@ follow_step laws law push sounds stay bare h s k d viewed is has = at (change_by
 
 -- ---- before listeners are refreshed
 
-module _ (laws : TouchLaws) (law : PushIsBrought) (h : Held) (viewed : AreViewed h) where
+module _ (laws : TouchLaws) (law : PushIsBrought) (h : Held) (viewed : ArePaired h) where
   -- where views are touched over what is pushed and pending then, they show what is seen
   pub follows_at : (s : Step) → IsDue h.world s → changes_listeners s ≡ false → listeners_after h.world s ≡ (h.world).listeners
       → (entries : List Assignment) → entries ≡ entries_by h.world s → (b : Brought) → b ≡ pushed h.world s → (writes : List Write) → writes ≡ pending (requests_after h.world s)
-      → FollowNamed entries b writes (record { listeners = (h.world).listeners; views = h.views })
+      → FollowNamed entries b writes (all_in h)
   follows_at s d quiet after entries ee b be writes we =
       let brought : b ≡ (next h.world s).brought = be ∙ sym (law h.world s d.good.sound d.good.called d.good.reached d.not_refused quiet) in
-      subst (λ (p : List Assignment × Brought × List Write). FollowNamed p.0 p.1 p.2 (record { listeners = (h.world).listeners; views = h.views })) (λ i. (sym ee i, sym brought i, sym we i))
+      subst (λ (p : List Assignment × Brought × List Write). FollowNamed p.0 p.1 p.2 (all_in h)) (λ i. (sym ee i, sym brought i, sym we i))
       (follow_named laws law h s d.good.sound d.good.called d.good.reached d.not_refused quiet after viewed)
 
   pub follows_settled : (id : ℕ) (why : Option Reason) → IsDue h.world (settling id why)
       → (entries : List Assignment) → entries ≡ entries_settled h.world id → (rs : List Request) → rs ≡ filter (λ (r : Request). not (r.id == id)) (h.world).requests → (writes : List Write) → writes ≡ pending rs
-      → FollowNamed entries (h.world).brought writes (record { listeners = (h.world).listeners; views = h.views })
+      → FollowNamed entries (h.world).brought writes (all_in h)
   follows_settled id None d entries ee rs re writes we = follows_at (Step.Accepted id) d refl refl entries ee (h.world).brought refl writes (we ∙ ap pending re)
   follows_settled id (Some why) d entries ee rs re writes we = follows_at (Step.Refused id why) d refl refl entries ee (h.world).brought refl writes (we ∙ ap pending re)

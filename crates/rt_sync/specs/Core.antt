@@ -16,14 +16,16 @@ use Rattle.rt_world.specs.After.{kind}
 use Rattle.rt_world.specs.Refusals.{refusal, is_stale}
 use Rattle.rt_world.specs.Answers.{Answer, step, view_before}
 
--- a world, and of each of its listeners, in their order, the view that is held; none where it has none
+-- a world, and of each of its listeners, in their order, the view that is held, none where it has none,
+-- and how many children were taken anew for it, modulo 2^64, from wherever that count begins
 pub record Held : Type 0 where
   pub world : World
   pub views : List (Option View)
+  pub counts : List ℕ
 
 -- before any step
 abbrev pub empty_held : Limits → Held
-empty_held limits = record { world = empty_world limits; views = [] }
+empty_held limits = record { world = empty_world limits; views = []; counts = [] }
 
 -- the world of a core; none once it has lacked memory
 abbrev pub world_in : Option Held → Option World
@@ -32,6 +34,10 @@ world_in core = option_map (λ h. h.world) core
 -- and its views
 abbrev pub views_in : Option Held → List (Option View)
 views_in core = option_map_or (λ h. h.views) core []
+
+-- and the counts of its listeners
+abbrev pub counts_in : Option Held → List ℕ
+counts_in core = option_map_or (λ h. h.counts) core []
 
 -- why a core refuses a step, whether it is stale or not; one that has failed says so
 abbrev pub refusal_in : Option World → Step → Option CoreError

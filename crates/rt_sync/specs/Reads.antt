@@ -1,4 +1,4 @@
--- How many children of its views a step takes anew.
+-- How many children of its views a step takes anew, and how that is counted.
 use Rattle.std.specs.Prelude.{◌≡◌, ◌≤◌, ◌==◌, ◌||◌, ℕ, ◌+◌, ◌%◌, ◌^◌, ◌⊎◌, if◌then◌else◌, length}
 use Rattle.std.specs.Prelude.{Option, Some, None}
 use Rattle.std.specs.List.{All, find, zip}
@@ -49,3 +49,32 @@ ReadsNamed h s k = All (TurnsOnce h s k) (k.world).listeners
 -- and of a core that has not failed
 abbrev pub Reads : Option Held → Step → Option Held → Type 0
 Reads old s new = (h k : Held) → old ≡ Some h → new ≡ Some k → ReadsNamed h s k
+
+-- ---- what was taken anew is counted
+
+-- the count that is held of the listener of that number
+abbrev pub count_held : Held → ℕ → Option ℕ
+count_held h number =
+    option_map (λ p. p.1) (find (λ p. p.0.number == number) (zip h.world.listeners h.counts))
+
+-- a count goes on by what the view took anew, and stays where the view is as it was; that of a new
+-- listener begins anywhere. So no view stands for one that was thrown away: the count tells
+abbrev pub GoesOn : (old new : Option View) → (was is : Option ℕ) → Type 0
+GoesOn old new was None = ⊥
+GoesOn old new None (Some d) = old ≡ None
+GoesOn old None (Some c) (Some d) = d ≡ c
+GoesOn None (Some v) (Some c) (Some d) = d ≡ (c + v.reads) % 2 ^ 64
+GoesOn (Some u) (Some v) (Some c) (Some d) =
+    ((v ≡ u) × (d ≡ c))
+    ⊎ ((v.turns ≡ (u.turns + 1) % 2 ^ 64) × (d ≡ (c + v.reads) % 2 ^ 64))
+
+-- so does that of a listener
+abbrev pub IsCounted : Held → Held → Listener → Type 0
+IsCounted h k l =
+    GoesOn (view_held h l.number) (view_held k l.number) (count_held h l.number)
+    (count_held k l.number)
+
+-- so does each after a step of a core that has not failed
+abbrev pub Counts : Option Held → Option Held → Type 0
+Counts old new =
+    (h k : Held) → old ≡ Some h → new ≡ Some k → All (IsCounted h k) (k.world).listeners

@@ -1,2 +1,3 @@
 -- Laws stated for callers.
+pub mod Counting
 pub mod Runs

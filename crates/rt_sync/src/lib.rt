@@ -11,11 +11,14 @@
 //! ```
 #![tactic(auto)]
 
-ghost use Rattle.std.specs.Prelude.{◌≡◌, Some};
+ghost use Rattle.std.specs.Prelude.{◌≡◌, ◌↔◌, IsTrue, None, Some};
+ghost use Rattle.std.specs.Option.{IfSome};
+ghost use Rattle.rt_world.specs.Limited.{IsWithin};
 ghost use Rattle.rt_world.specs.World.{limits_from};
+ghost use Rattle.rt_world.specs.laws.Holds.{IsSteady};
 ghost use Rattle.rt_sync.specs.Core.{Applies, Covers, TakesOut, Views, empty_held};
-ghost use Rattle.rt_sync.specs.Core.{refusal_in, views_in, world_in};
-ghost use Rattle.rt_sync.specs.Reads.{Reads};
+ghost use Rattle.rt_sync.specs.Core.{counts_in, refusal_in, views_in, world_in};
+ghost use Rattle.rt_sync.specs.Reads.{Counts, Reads};
 
 mod applying;
 mod laws;
@@ -28,7 +31,7 @@ mod state;
 mod steps;
 mod told;
 
-pub use laws::run_law;
+pub use laws::{counting_law, run_law};
 pub use room::{NoRoom, Room};
 use rt_cover::KeptList;
 use rt_query::Shown;
@@ -80,6 +83,17 @@ impl Core {
         }
     }
 
+    /// Whether a step has lacked memory: the core answers nothing else from then on. Where none has, its
+    /// world is one between steps, as the laws of `rt_world` ask of theirs: steady, which says that it is
+    /// sound, and within its limits. Takes no memory.
+    pub fn has_failed(&self) -> bool
+        ensures failed { IsTrue result ↔ (self.now ≡ None) }
+        ensures steady { IfSome (world_in self.now) IsSteady }
+        ensures within { IfSome (world_in self.now) IsWithin }
+    {
+        self.state.is_none()
+    }
+
     /// Makes one step. Refused and stale steps change nothing; a step that lacks memory is not
     /// made, and the core has failed then. The end of a connection takes no memory, and lacks none.
     ///
@@ -89,6 +103,7 @@ impl Core {
     pub fn apply(&mut self, step: Step) -> Result<Report, CoreError>
         ensures made { Applies (world_in self.old) step result (world_in self.new) }
         ensures reads { Reads self.old step self.new }
+        ensures counts { Counts self.old self.new }
     {
         let Some(state) = self.state.take() else {
             return Err(CoreError::Failed);
@@ -148,6 +163,7 @@ impl Core {
     pub fn take_outgoing(&mut self) -> Option<ClientMessage>
         ensures sent { TakesOut (world_in self.old) result (world_in self.new) }
         ensures views { views_in self.new ≡ views_in self.old }
+        ensures counts { counts_in self.new ≡ counts_in self.old }
     {
         // For the prover: what holds between steps holds without the message.
         sending_law();

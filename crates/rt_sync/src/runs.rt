@@ -1,10 +1,8 @@
 // Many steps, one after another.
 ghost use Rattle.std.specs.Prelude.{◌≡◌, ◌≤◌, [], length, Some, IfErr, IfOk, IsOk, OnErr};
-ghost use Rattle.std.specs.Option.{IfSome};
 ghost use Rattle.rt_world.specs.World.{World};
 ghost use Rattle.rt_world.specs.Headline.{Headline};
 ghost use Rattle.rt_sync.specs.Core.{AppliesAll, world_in};
-ghost use Rattle.rt_sync.specs.inside.Viewed.{HoldsWell};
 
 use crate::Core;
 use crate::room::{NoRoom, Room};
@@ -41,15 +39,6 @@ impl Answers {
     }
 }
 
-impl Core {
-    // For the prover: what holds of a core between steps.
-    fn holds(&self)
-        ensures { IfSome self.now HoldsWell }
-    {
-        let _has_failed = self.state.is_none();
-    }
-}
-
 /// Makes the steps, one after another, and answers each in order. Where none lacked memory, the
 /// fewest listens are kept at each of them, and each listener's view is its query over what they
 /// brought, overlaid by the pending writes, and turns from the one before by what it is told.
@@ -78,8 +67,8 @@ pub fn run_in(room: Room, core: &mut Core, steps: Vec<Step>) -> Answers
         → world_in core.new ≡ Some v → Headline w steps.items result v }
 {
     // For the prover: what any steps lead to from a core between steps.
-    core.holds();
     holding_law();
+    let _has_failed = core.has_failed();
     let Room { mut items } = room;
     for step in steps {
         items.push_reserved(core.apply(step));

@@ -37,7 +37,11 @@ impl State {
     // Takes the first message out.
     pub(crate) fn take_outgoing(&mut self) -> Option<ClientMessage>
         ensures message { result ≡ first_message self.old.world.outgoing }
-        ensures rest { self.new ≡ record { world = without_first self.old.world; views = self.old.views } }
+        ensures rest { self.new ≡ record {
+          world = without_first self.old.world;
+          views = self.old.views;
+          counts = self.old.counts;
+        } }
     {
         self.outgoing.pop_front()
     }

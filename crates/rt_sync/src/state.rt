@@ -34,6 +34,7 @@ impl Model for State {
       world = world_of a.limits a.listeners.listeners a.requests a.brought a.cover
           a.is_connected a.outgoing.items a.given_listeners a.given_requests;
       views = a.listeners.views;
+      counts = a.listeners.counts;
     } };
 
     ghost invariant = { λ a. IsTied a.cover

@@ -133,7 +133,7 @@ pub fn tell_filtered(
         ≡ changes query.now.index (Some (shown_by query.now.index tree.old))
         (select query.now known.now)) }
 {
-    // The prover learns that each known child fits below a key.
+    // For the prover: each known child fits below a key.
     let _ = known.children();
     let mut changes = row_changes(alloc, query, window, seen)?;
     if changes.is_empty() {

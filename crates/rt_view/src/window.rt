@@ -213,7 +213,7 @@ impl Window {
         ensures crosses { IfOk result (λ turned. Refills turned (rest_in self.old)
             (without position.now (shown_in self.old)) (shown_in self.new)) }
     {
-        // The prover learns that all children rise.
+        // For the prover: all children rise.
         let _len = self.children.len(Half::Front);
         let half = self.children.remove(position);
         if !is_half(half_of(self.limit), half) {

@@ -17,8 +17,8 @@ use Rattle.rt_world.specs.Met.{renewed_met, told_met}
 use Rattle.rt_world.specs.World.{Listener, Reason}
 use Rattle.rt_parts.specs.declared.held.Held.{Held}
 use Rattle.rt_parts.specs.Listeners.{cancelled_note, Listeners}
-use Rattle.rt_parts.specs.Refreshed.{view_met}
-use Rattle.rt_parts.specs.Renewed.{renewed_of, told_of, view_of}
+use Rattle.rt_parts.specs.Refreshed.{count_met, view_met}
+use Rattle.rt_parts.specs.Renewed.{count_of, renewed_of, told_of, view_of}
 
 -- what a view shows
 abbrev pub shown_in : Option View → Option Shown
@@ -42,9 +42,14 @@ listeners_of held = map listener_of held
 abbrev pub views_of : List Held → List (Option View)
 views_of held = map (λ h. h.view) held
 
--- the listeners with their views
+-- and how many children were taken anew for each
+abbrev pub counts_of : List Held → List ℕ
+counts_of held = map (λ h. h.count) held
+
+-- the listeners with their views, and the counts
 abbrev pub all_of : List Held → Listeners
-all_of held = record { listeners = listeners_of held; views = views_of held }
+all_of held =
+    record { listeners = listeners_of held; views = views_of held; counts = counts_of held }
 
 -- a listener with its view
 abbrev pub pair_of : Held → Listener × Option View
@@ -60,6 +65,21 @@ abbrev pub refreshed_at : ℕ → List Assignment → Brought → List Write
     → Listener × Option View → Listener × Option View
 refreshed_at number entries b writes p =
     if p.0.number == number then refreshed entries b writes p else p
+
+-- a listener with its view and its count
+abbrev pub counted_of : Held → (Listener × Option View) × ℕ
+counted_of l = (pair_of l, l.count)
+
+-- the three after entries
+abbrev pub recounted : List Assignment → Brought → List Write
+    → (Listener × Option View) × ℕ → (Listener × Option View) × ℕ
+recounted entries b writes t = (refreshed entries b writes t.0, count_met entries b writes t)
+
+-- the same of the listener of that number alone
+abbrev pub recounted_at : ℕ → List Assignment → Brought → List Write
+    → (Listener × Option View) × ℕ → (Listener × Option View) × ℕ
+recounted_at number entries b writes t =
+    if t.0.0.number == number then recounted entries b writes t else t
 
 -- what its seat is told
 abbrev pub told_at : ℕ → List Assignment → Brought → List Write
@@ -77,6 +97,18 @@ abbrev pub renewed_at : ℕ → List Query → Brought → List Write
     → Listener × Option View → Listener × Option View
 renewed_at number queries b writes p =
     if p.0.number == number then renewed_pair queries b writes p else p
+
+-- the three renewed for these queries
+abbrev pub renewal_counted : List Query → Brought → List Write
+    → (Listener × Option View) × ℕ → (Listener × Option View) × ℕ
+renewal_counted queries b writes t =
+    (renewed_pair queries b writes t.0, count_of queries b writes t)
+
+-- the same of the listener of that number alone
+abbrev pub renewal_counted_at : ℕ → List Query → Brought → List Write
+    → (Listener × Option View) × ℕ → (Listener × Option View) × ℕ
+renewal_counted_at number queries b writes t =
+    if t.0.0.number == number then renewal_counted queries b writes t else t
 
 -- what its seat is told
 abbrev pub renewal_told_at : ℕ → List Query → Brought → List Write

@@ -1,7 +1,7 @@
 -- The views that are held, and the world that they show.
 use Rattle.std.specs.Prelude.{◌≡◌, ℕ, Bool, false, List, [], ◌∷◌, ◌++◌, map}
 use Rattle.std.specs.Prelude.{Option, Some, None}
-use Rattle.std.specs.List.{filter, zip, Contains}
+use Rattle.std.specs.List.{filter, zip, All, Contains}
 use Rattle.rt_tree.specs.Assignments.{Assignment}
 use Rattle.rt_query.specs.Queries.{Query}
 use Rattle.rt_cache.specs.Recover.{is_among, is_moved}
@@ -14,11 +14,11 @@ use Rattle.rt_world.specs.Covering.{change_by}
 use Rattle.rt_world.specs.Met.{renewed_met}
 use Rattle.rt_world.specs.Touched.{entries_by}
 use Rattle.rt_world.specs.laws.Touch.{HasSeen}
-use Rattle.rt_parts.specs.Listeners.{first_view_of, new_listener, views_left}
-use Rattle.rt_parts.specs.Refreshed.{view_met}
-use Rattle.rt_parts.specs.Renewed.{renewed_of, view_of}
+use Rattle.rt_parts.specs.Listeners.{Listeners, counts_left, first_view_of, new_listener, views_left}
+use Rattle.rt_parts.specs.Refreshed.{count_met, view_met}
+use Rattle.rt_parts.specs.Renewed.{count_of, renewed_of, view_of}
 use Rattle.rt_sync.specs.Core.{Held}
-use Rattle.rt_sync.specs.Reads.{ReadsNamed}
+use Rattle.rt_sync.specs.Reads.{IsCounted, ReadsNamed}
 use Rattle.rt_sync.specs.inside.Due.{IsGood}
 
 -- a view that is held of a listener: of its query, over a tree with the children that it sees
@@ -40,8 +40,24 @@ Pairs P (l ∷ ls) [] = ⊥
 Pairs P (l ∷ ls) (v ∷ vs) = P l v × Pairs P ls vs
 
 -- each listener has its view
-abbrev pub AreViewed : Held → Type 0
-AreViewed h = Pairs (IsViewed h.world) (h.world).listeners h.views
+abbrev pub ArePaired : Held → Type 0
+ArePaired h = Pairs (IsViewed h.world) (h.world).listeners h.views
+
+-- for each listener there is a count
+abbrev pub HaveCounts : List Listener → List ℕ → Type 0
+HaveCounts [] [] = Unit {0}
+HaveCounts [] (c ∷ cs) = ⊥
+HaveCounts (l ∷ ls) [] = ⊥
+HaveCounts (l ∷ ls) (c ∷ cs) = HaveCounts ls cs
+
+-- each listener has both
+pub record AreViewed (h : Held) : Type 0 where
+  pub pairs : ArePaired h
+  pub counted : HaveCounts (h.world).listeners h.counts
+
+-- the listeners with what is held of each
+abbrev pub all_in : Held → Listeners
+all_in h = record { listeners = (h.world).listeners; views = h.views; counts = h.counts }
 
 -- what holds between steps
 pub record HoldsWell (h : Held) : Type 0 where
@@ -54,6 +70,7 @@ pub record HoldsWell (h : Held) : Type 0 where
 pub record SameViews (h k : Held) : Type 0 where
   pub listeners : (k.world).listeners ≡ (h.world).listeners
   pub views : k.views ≡ h.views
+  pub counts : k.counts ≡ h.counts
 
 -- a new one comes last, with its first view where something is known for it
 pub record AddsView (h : Held) (seat : ℕ) (query : Query) (k : Held) : Type 0 where
@@ -63,6 +80,7 @@ pub record AddsView (h : Held) (seat : ℕ) (query : Query) (k : Held) : Type 0 
       (new_listener (h.world).next_listener seat query) ∷ []
   pub views : k.views
       ≡ h.views ++ first_view_of (k.world).brought (pending (k.world).requests) query ∷ []
+  pub counts : (count : ℕ) × (k.counts ≡ h.counts ++ count ∷ [])
 
 -- those whose paths an entry meets are renewed, child by child where that is enough
 pub record RefreshesViews (h : Held) (entries : List Assignment) (k : Held) : Type 0 where
@@ -71,6 +89,9 @@ pub record RefreshesViews (h : Held) (entries : List Assignment) (k : Held) : Ty
   pub views : k.views
       ≡ map (view_met entries (k.world).brought (pending (k.world).requests))
       (zip (h.world).listeners h.views)
+  pub counts : k.counts
+      ≡ map (count_met entries (k.world).brought (pending (k.world).requests))
+      (zip (zip (h.world).listeners h.views) h.counts)
 
 -- those that are left after the step stay; of them the moved ones are renewed, and no others
 pub record LeavesViews (h : Held) (s : Step) (k : Held) : Type 0 where
@@ -83,8 +104,10 @@ pub record LeavesViews (h : Held) (s : Step) (k : Held) : Type 0 where
       ≡ map (renewed_of moved (k.world).brought (pending (k.world).requests))
       (filter test (h.world).listeners)
   pub views : k.views ≡ map (view_of moved (k.world).brought (pending (k.world).requests))
-      (zip (filter test (h.world).listeners)
-      (views_left test (record { listeners = (h.world).listeners; views = h.views })))
+      (zip (filter test (h.world).listeners) (views_left test (all_in h)))
+  pub counts : k.counts ≡ map (count_of moved (k.world).brought (pending (k.world).requests))
+      (zip (zip (filter test (h.world).listeners) (views_left test (all_in h)))
+      (counts_left test (all_in h)))
 
 -- the new one of the step comes last, and none is moved
 pub record GainsView (h : Held) (s : Step) (query : Query) (k : Held) : Type 0 where
@@ -105,7 +128,9 @@ HasViewsBy (Some (Revoke tag)) h s k = LeavesViews h s k
 abbrev pub HasViews : Held → Step → Held → Type 0
 HasViews h s k = HasViewsBy (change_by h.world s) h s k
 
--- after a step each listener has its view, and no more children were taken anew than are allowed
+-- after a step each listener has its view, no more children were taken anew than are allowed, and these
+-- are counted
 pub record FollowsStep (h : Held) (s : Step) (k : Held) : Type 0 where
   pub viewed : AreViewed k
   pub reads : ReadsNamed h s k
+  pub counts : All (IsCounted h k) (k.world).listeners

@@ -2,6 +2,7 @@ use Rattle.std.proofs.Common.{◌≡◌, ◌++◌, true, false, OnOk, sym, ap, s
 use Rattle.std.specs.Option.{option_map_or, option_to_list}
 use Rattle.rt_view.specs.Views.{View, stays_object}
 use Rattle.rt_parts.specs.declared.held.Held.{Held}
+use Rattle.rt_parts.specs.Listeners.{count_with}
 use Rattle.rt_parts.proofs.PushLaws.{on_ok}
 use Rattle.rt_parts.proofs.ViewLaws.{anew_after, touched_after, touched_renewed, touched_told}
 use Rattle.rt_parts.proofs.views.touch_or_renew.Goals as goal
@@ -43,3 +44,8 @@ returns-clause-notes c =
 
 pub named_children-requires : goal.named_children-requires
 named_children-requires c = c.requires.own
+
+pub returns-clause-count : goal.returns-clause-count
+returns-clause-count c =
+    let is = c.in_ok-changes.ensures.listener in
+    on_ok c.tell.result c.tell.ensures (λ e. ap (λ (h : Held). h.count) is ∙ ap (λ (h : Held). count_with c.args.listener.now.count h.view) (sym is))

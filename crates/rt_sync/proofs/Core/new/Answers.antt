@@ -12,5 +12,5 @@ invariant_of-result c =
         reached = steady.reached;
         within = c.holding_law.ensures.empty _;
       };
-      viewed = tt;
+      viewed = record { pairs = tt; counted = tt };
     })

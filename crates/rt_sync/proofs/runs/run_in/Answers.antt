@@ -1,4 +1,4 @@
-use Rattle.std.proofs.Common.{◌≡◌, ◌≤◌, ◌+◌, List, [], ◌∷◌, length, ap, sym, subst, refl, append-nil, arith, Option, Some, None, ◌∙◌}
+use Rattle.std.proofs.Common.{◌≡◌, ◌≤◌, ◌+◌, List, [], ◌∷◌, length, ap, sym, subst, refl, append-nil, arith, Option, ◌∙◌}
 use Rattle.std.specs.Option.{IfSome}
 use Rattle.std.specs.Vec.{vec_capacity, vec_len}
 use Rattle.std.specs.Vec.Iter.{into_iter_items}
@@ -6,9 +6,8 @@ use Rattle.rt_world.specs.declared.step.Step.{Step}
 use Rattle.rt_world.specs.World.{World}
 use Rattle.rt_world.specs.Answers.{Answer}
 use Rattle.rt_world.specs.Headline.{Headline}
-use Rattle.rt_sync.specs.Core.{AppliesAll, Held, world_in}
-use Rattle.rt_sync.specs.inside.Due.{IsGood}
-use Rattle.rt_sync.specs.inside.Viewed.{HoldsWell}
+use Rattle.rt_world.specs.laws.Holds.{IsSteady}
+use Rattle.rt_sync.specs.Core.{AppliesAll, world_in}
 use Rattle.rt_sync.proofs.AppliedAll.{Continues, continues_more, makes_all}
 use Rattle.rt_sync.proofs.runs.run_in.Goals as goal
 
@@ -41,23 +40,11 @@ returns-clause-answered c =
     all_told (world_in c.args.core.now) (world_in c.loop-step.core) c.args.steps.items (into_iter_items c.loop-step.step-iterator) c.loop-step.items.items c.loop-step.invariant.1
     (sym c.loop-step.invariant.2 ∙ c.in-None.ensures.steps.0)
 
--- the world of a core that holds well
-good_world : (core : Option Held) → IfSome core HoldsWell → (w : World) → world_in core ≡ Some w → IsGood w
-good_world None h w e = cc
-good_world (Some k) h w e = subst IsGood (some_same k.world w e) h.good
-  where
-    or_else : World → Option World → World
-    or_else d None = d
-    or_else d (Some x) = x
-
-    some_same : (x y : World) → ◌≡◌ {A = Option World} (Some x) (Some y) → x ≡ y
-    some_same x y e = ap (or_else x) e
-
--- of a good world
+-- of a sound world
 pub returns-clause-headline : goal.returns-clause-headline
 returns-clause-headline c w v e f =
     let m = makes_all c.args.steps.items c.loop-step.items.items w v
     (subst (λ (x : Option World × Option World). AppliesAll x.0 c.args.steps.items c.loop-step.items.items x.1) (λ i. (e i, f i)) (returns-clause-answered c)) in
-    let good : IsGood w = good_world c.args.core.now c.holds.ensures w e in
+    let steady : IsSteady w = subst (λ o. IfSome o IsSteady) e c.has_failed-has_failed.ensures.steady in
     subst (λ (x : List Answer × World). Headline w c.args.steps.items x.0 x.1) (λ i. (sym m.answers i, sym m.world i))
-    (c.holding_law.ensures.headline w c.args.steps.items good.sound)
+    (c.holding_law.ensures.headline w c.args.steps.items steady.sound)

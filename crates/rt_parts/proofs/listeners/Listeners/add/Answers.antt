@@ -1,11 +1,12 @@
-use Rattle.std.proofs.Common.{◌≡◌, ◌<◌, ◌||◌, false, rules, ap, sym, subst, ◌∙◌}
+use Rattle.std.proofs.Common.{◌≡◌, ◌<◌, ◌||◌, ◌++◌, [], ◌∷◌, false, rules, ap, sym, subst, ◌∙◌}
 use Rattle.std.specs.List.{All, list_any}
 use Rattle.std.specs.Ordering.{is_eq}
 use Rattle.rt_world.specs.World.{Listener}
 use Rattle.rt_parts.specs.declared.places.Place.{Place}
-use Rattle.rt_parts.specs.Listeners.{new_listener}
-use Rattle.rt_parts.specs.inside.HeldView.{AreHeld}
+use Rattle.rt_parts.specs.Listeners.{Listeners, new_listener}
+use Rattle.rt_parts.specs.inside.HeldView.{AreHeld, counts_of}
 use Rattle.rt_parts.specs.inside.Placed.{IsIndex, placed, stand_cmp, stand_of}
+use Rattle.rt_parts.proofs.Counts.{counts_more}
 use Rattle.rt_parts.proofs.HeldLaws.{all_below, held_more}
 use Rattle.rt_parts.proofs.IndexLaws.{free_above, index_more}
 use Rattle.rt_parts.proofs.RefreshLaws.{placed_renewed}
@@ -31,3 +32,10 @@ invariant_of-self-2 c =
           (index_more c.self.inside.held.items c.self.inside.places.items c.insert_place.new.places.items c.in_ok-listener.listener c.self.invariant.1 c.insert_place.ensures.order
           (λ p. c.insert_place.ensures.same p ∙ (λ i. p (record { path = path i; number = c.args.number; seat = c.args.seat }) || list_any p (items i)) ∙ ap (λ x. p x || list_any p c.self.inside.places.items) (sym here))),
     )
+
+pub returns-clause-counts : goal.returns-clause-counts
+returns-clause-counts c = (
+  c.in_ok-listener.listener.count,
+  ap counts_of c.in_ok-push.ensures.items ∙ counts_more c.self.inside.held.items c.in_ok-listener.listener
+      ∙ ap (λ (all : Listeners). all.counts ++ c.in_ok-listener.listener.count ∷ []) c.self.view_is,
+)

@@ -3,8 +3,9 @@ use Rattle.std.specs.List.{filter, filter_map}
 use Rattle.rt_query.specs.QueryEq.{query_eq}
 use Rattle.rt_query.specs.Supply.{form}
 use Rattle.rt_world.specs.World.{Listener}
-use Rattle.rt_parts.specs.Listeners.{cancelled_note, views_left}
-use Rattle.rt_parts.specs.inside.HeldView.{views_of, ended_note, listener_of, listeners_of}
+use Rattle.rt_parts.specs.Listeners.{cancelled_note, counts_left, views_left}
+use Rattle.rt_parts.specs.inside.HeldView.{counts_of, views_of, ended_note, listener_of, listeners_of}
+use Rattle.rt_parts.proofs.Counts.{counts_filter}
 use Rattle.rt_parts.proofs.HeldLaws.{views_filter, listeners_filter, notes_ended}
 use Rattle.rt_parts.proofs.listeners.Listeners.cancel.Goals as goal
 
@@ -26,3 +27,8 @@ returns-clause-notes c =
     (ap (filter_map (λ h. ended_note c.args.listened.now c.args.why.now (listener_of h))) c.deref.ensures.value
     ∙ notes_ended c.args.listened.now c.args.why.now c.self.inside.held.items
     ∙ ap (λ all. map (cancelled_note c.args.why.now) (filter test all.listeners)) c.self.view_is)
+
+pub returns-clause-counts : goal.returns-clause-counts
+returns-clause-counts c =
+    let test : Listener → Bool = λ l. not (query_eq (form l.query) c.args.listened.now) in
+    ap counts_of c.end_form.ensures.left ∙ counts_filter test c.self.inside.held.items ∙ ap (counts_left test) c.self.view_is

@@ -6,12 +6,13 @@ use Rattle.rt_parts.specs.declared.held.Held.{Held}
 use Rattle.rt_parts.specs.inside.Pairs.{AreUp, HasPairs, HavePairs}
 use Rattle.rt_parts.specs.inside.Placed.{IsIndex}
 use Rattle.rt_parts.specs.Listeners.{Listeners}
-use Rattle.rt_parts.specs.Refreshed.{FollowNamed, FollowsNamed, view_met}
-use Rattle.rt_parts.specs.inside.HeldView.{all_of, AreHeld, listeners_of, pair_of, refreshed, views_of}
+use Rattle.rt_parts.specs.Refreshed.{FollowNamed, FollowsNamed, count_met, view_met}
+use Rattle.rt_parts.specs.inside.HeldView.{all_of, AreHeld, counted_of, counts_of, listeners_of, pair_of, recounted, refreshed, views_of}
+use Rattle.rt_parts.proofs.Counts.{all_counts}
 use Rattle.rt_parts.proofs.Loops.{all_listeners, all_views, zip_pairs}
 use Rattle.rt_parts.proofs.IndexLaws.{index_read}
 use Rattle.rt_parts.proofs.PairLaws.{have_pairs, met_number}
-use Rattle.rt_parts.proofs.RefreshLaws.{own_pairs, Pair, placed_same}
+use Rattle.rt_parts.proofs.RefreshLaws.{met, own_pairs, Pair, placed_same}
 use Rattle.rt_parts.proofs.listeners.Listeners.refresh.Goals as goal
 
 pub refresh-requires-clause-own : goal.refresh-requires-clause-own
@@ -84,3 +85,12 @@ returns-clause-views c =
     ∙ all_views c.args.entries.now c.args.brought.now c.args.pending.now c.self.inside.held.items c.refresh.new.listeners
     (c.in_ok-refresh.ensures.pairs ∙ ap (λ hs. map (refreshed c.args.entries.now c.args.brought.now c.args.pending.now) (map pair_of hs)) old)
     ∙ ap (λ (all : Listeners). map (view_met c.args.entries.now c.args.brought.now c.args.pending.now) (zip all.listeners all.views)) c.self.view_is
+
+pub returns-clause-counts : goal.returns-clause-counts
+returns-clause-counts c =
+    let long : length c.refresh.new.listeners ≡ c.replace-held.result.len = search rules in
+    let old : c.as_mut_slice.result.now ≡ c.self.inside.held.items = search rules in
+    ap counts_of (with_items_is c.replace-held.result c.refresh.new.listeners long)
+    ∙ all_counts (refreshed c.args.entries.now c.args.brought.now c.args.pending.now) (met c.args.entries.now c.args.brought.now c.args.pending.now) c.self.inside.held.items c.refresh.new.listeners
+    (c.in_ok-refresh.ensures.counts ∙ ap (λ hs. map (recounted c.args.entries.now c.args.brought.now c.args.pending.now) (map counted_of hs)) old)
+    ∙ ap (λ (all : Listeners). map (count_met c.args.entries.now c.args.brought.now c.args.pending.now) (zip (zip all.listeners all.views) all.counts)) c.self.view_is

@@ -9,10 +9,11 @@ use Rattle.rt_parts.specs.declared.held.Held.{Held}
 use Rattle.rt_parts.specs.declared.places.Place.{Place}
 use Rattle.rt_parts.specs.inside.Placed.{HaveNumbers, IsIndex}
 use Rattle.rt_parts.specs.Listeners.{Listeners}
-use Rattle.rt_parts.specs.Renewed.{all_told_of, renewed_of, view_of}
-use Rattle.rt_parts.specs.inside.HeldView.{AreHeld, listeners_of, pair_of, renewed_pair, views_of}
+use Rattle.rt_parts.specs.Renewed.{all_told_of, count_of, renewed_of, view_of}
+use Rattle.rt_parts.specs.inside.HeldView.{AreHeld, counted_of, counts_of, listeners_of, pair_of, renewal_counted, renewed_pair, views_of}
+use Rattle.rt_parts.proofs.Counts.{all_counts, none_counts}
 use Rattle.rt_parts.proofs.IndexLaws.{have_due, index_read}
-use Rattle.rt_parts.proofs.RenewLaws.{all_listeners, all_views, no_items, none_noted, none_renewed, none_viewed, path_of_among, placed_same}
+use Rattle.rt_parts.proofs.RenewLaws.{all_listeners, all_views, no_items, none_noted, none_renewed, none_viewed, of, path_of_among, placed_same}
 use Rattle.rt_parts.proofs.listeners.Listeners.renew.Goals as goal
 
 -- for no query nothing is done
@@ -80,3 +81,19 @@ returns-clause-views c =
     ∙ all_views c.args.queries.now c.args.brought.now c.args.pending.now c.self.inside.held.items c.renew_all.new.listeners
     (c.in_ok-renew_all.ensures.pairs ∙ ap (λ hs. map (renewed_pair c.args.queries.now c.args.brought.now c.args.pending.now) (map pair_of hs)) old)
     ∙ ap (λ (all : Listeners). map (view_of c.args.queries.now c.args.brought.now c.args.pending.now) (zip all.listeners all.views)) c.self.view_is
+
+pub returns-then-is_empty-clause-counts : goal.returns-then-is_empty-clause-counts
+returns-then-is_empty-clause-counts c =
+    let none : c.args.queries.now ≡ [] = no_items c.args.queries.now (sym c.is_empty.ensures ∙ c.if-is_empty.true) in
+    let held : (c.args.self.now).counts ≡ map (count_of [] c.args.brought.now c.args.pending.now) (zip (zip (c.args.self.now).listeners (c.args.self.now).views) (c.args.self.now).counts) =
+    subst (λ (all : Listeners). all.counts ≡ map (count_of [] c.args.brought.now c.args.pending.now) (zip (zip all.listeners all.views) all.counts)) c.self.view_is (none_counts c.args.brought.now c.args.pending.now c.self.inside.held.items) in
+    held ∙ ap (λ (qs : List Query). map (count_of qs c.args.brought.now c.args.pending.now) (zip (zip (c.args.self.now).listeners (c.args.self.now).views) (c.args.self.now).counts)) (sym none)
+
+pub returns-clause-counts : goal.returns-clause-counts
+returns-clause-counts c =
+    let long : length c.renew_all.new.listeners ≡ c.replace-held.result.len = search rules in
+    let old : c.as_mut_slice.result.now ≡ c.self.inside.held.items = search rules in
+    ap counts_of (with_items_is c.replace-held.result c.renew_all.new.listeners long)
+    ∙ all_counts (renewed_pair c.args.queries.now c.args.brought.now c.args.pending.now) (of c.args.queries.now c.args.brought.now c.args.pending.now) c.self.inside.held.items c.renew_all.new.listeners
+    (c.in_ok-renew_all.ensures.counts ∙ ap (λ hs. map (renewal_counted c.args.queries.now c.args.brought.now c.args.pending.now) (map counted_of hs)) old)
+    ∙ ap (λ (all : Listeners). map (count_of c.args.queries.now c.args.brought.now c.args.pending.now) (zip (zip all.listeners all.views) all.counts)) c.self.view_is

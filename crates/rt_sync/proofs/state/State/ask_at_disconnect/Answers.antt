@@ -4,7 +4,7 @@ use Rattle.rt_world.specs.declared.step.Step.{Step}
 use Rattle.rt_sync.specs.Core.{Held}
 use Rattle.rt_sync.specs.inside.Due.{IsDue}
 use Rattle.rt_world.specs.laws.Made.{asked_sent}
-use Rattle.rt_sync.proofs.Viewed.{same_refreshed}
+use Rattle.rt_sync.proofs.Counted.{same_refreshed}
 use Rattle.rt_sync.proofs.NextWorlds.{along, ask_made}
 use Rattle.rt_sync.proofs.state.State.ask_at_disconnect.Goals as goal
 
@@ -32,4 +32,4 @@ returns-clause-made c =
 pub returns-clause-views : goal.returns-clause-views
 returns-clause-views c =
     same_refreshed c.args.self _ c.requires.viewed
-    (record { listeners = ap (λ (h : Held). (h.world).listeners) c.state.view_is; views = ap (λ (h : Held). h.views) c.state.view_is })
+    (record { listeners = ap (λ (h : Held). (h.world).listeners) c.state.view_is; views = ap (λ (h : Held). h.views) c.state.view_is; counts = ap (λ (h : Held). h.counts) c.state.view_is })

@@ -7,13 +7,14 @@ use Rattle.rt_world.specs.declared.step.Step.{Step}
 use Rattle.rt_world.specs.World.{World, Listener, pending}
 use Rattle.rt_world.specs.Covering.{cover_in}
 use Rattle.rt_world.specs.steps.Closing.{numbers_of}
-use Rattle.rt_parts.specs.Listeners.{views_left}
-use Rattle.rt_parts.specs.Renewed.{all_told_of, renewed_of, view_of}
+use Rattle.rt_parts.specs.Listeners.{counts_left, views_left}
+use Rattle.rt_parts.specs.Renewed.{all_told_of, count_of, renewed_of, view_of}
 use Rattle.rt_sync.specs.Core.{Held}
 use Rattle.rt_sync.specs.declared.told.Told.{Told}
 use Rattle.rt_sync.specs.inside.Due.{IsDue, IsNext}
 use Rattle.rt_sync.specs.inside.Losing.{AreMoved, forms_at, HasLost}
 use Rattle.rt_sync.specs.inside.StateView.{world_of}
+use Rattle.rt_sync.specs.inside.Viewed.{all_in}
 use Rattle.rt_sync.proofs.Listened.{close_just, close_made, closed_is, IsJust, tied_next}
 use Rattle.rt_sync.proofs.LostForms.{lost_numbers, seat_rises, covered_rise}
 use Rattle.rt_sync.proofs.NextWorlds.{along}
@@ -117,8 +118,10 @@ returns-clause-views c =
     close_just state.limits state.listeners.listeners state.requests state.brought state.cover state.is_connected state.outgoing.items state.given_listeners state.given_requests
     c.following_law.ensures.cover d.good.sound c.state.invariant c.args.seat numbers (same ∙ c.in_ok-numbers.ensures) c.uncover.new.cover c.in_ok-delta.ensures.cover c.lose_ended.new.brought c.deref-4.result.now are in
     let left : c.close.new.self.listeners ≡ filter test ((c.args.self).world).listeners = c.close.ensures.listeners ∙ ap (λ (h : Held). filter test (h.world).listeners) c.state.view_is in
-    let views : c.close.new.self.views ≡ views_left test (record { listeners = ((c.args.self).world).listeners; views = (c.args.self).views }) =
-    c.close.ensures.views ∙ ap (λ (h : Held). views_left test (record { listeners = (h.world).listeners; views = h.views })) c.state.view_is in
+    let views : c.close.new.self.views ≡ views_left test (all_in c.args.self) =
+    c.close.ensures.views ∙ ap (λ (h : Held). views_left test (all_in h)) c.state.view_is in
+    let counts : c.close.new.self.counts ≡ counts_left test (all_in c.args.self) =
+    c.close.ensures.counts ∙ ap (λ (h : Held). counts_left test (all_in h)) c.state.view_is in
     record {
       test = test;
       left = refl;
@@ -128,4 +131,5 @@ returns-clause-views c =
           ∙ ap (λ (h : Held). is_moved (h.world).brought c.lose_ended.new.brought l.query) c.state.view_is;
       listeners = c.in_ok-renew.ensures.listeners ∙ (λ i. map (renewed_of c.deref-4.result.now c.lose_ended.new.brought (c.pending-pending.ensures i)) (left i));
       views = c.in_ok-renew.ensures.views ∙ (λ i. map (view_of c.deref-4.result.now c.lose_ended.new.brought (c.pending-pending.ensures i)) (zip (left i) (views i)));
+      counts = c.in_ok-renew.ensures.counts ∙ (λ i. map (count_of c.deref-4.result.now c.lose_ended.new.brought (c.pending-pending.ensures i)) (zip (zip (left i) (views i)) (counts i)));
     }

@@ -76,5 +76,6 @@ returns-clause-views c =
             ∙ (λ i. ((c.state.view_is i).world).listeners ++ renewed c.register.new.self (pending state.requests) (new_listener ((c.state.view_is i).world).next_listener c.args.seat c.args.query) ∷ []);
         views = c.in_ok-add.ensures.views ∙ ap (λ ws. state.listeners.views ++ first_view_of c.register.new.self ws c.args.query ∷ []) pend
             ∙ (λ i. (c.state.view_is i).views ++ first_view_of c.register.new.self (pending state.requests) c.args.query ∷ []);
+        counts = (c.in_ok-add.ensures.counts.0, c.in_ok-add.ensures.counts.1 ∙ (λ i. (c.state.view_is i).counts ++ c.in_ok-add.ensures.counts.0 ∷ []));
       };
     }

@@ -4,8 +4,8 @@ use Rattle.rt_cache.specs.Recover.{is_moved}
 use Rattle.rt_query.specs.QueryEq.{query_eq}
 use Rattle.rt_query.specs.Supply.{form}
 use Rattle.rt_cover.specs.State.{Cover, revoke_fault, listen_at}
-use Rattle.rt_parts.specs.Listeners.{cancelled_note, views_left}
-use Rattle.rt_parts.specs.Renewed.{all_told_of, renewed_of, view_of}
+use Rattle.rt_parts.specs.Listeners.{cancelled_note, counts_left, views_left}
+use Rattle.rt_parts.specs.Renewed.{all_told_of, count_of, renewed_of, view_of}
 use Rattle.rt_world.specs.declared.step.Step.{Step}
 use Rattle.rt_world.specs.World.{Listener, World}
 use Rattle.rt_world.specs.Covering.{cover_in}
@@ -14,6 +14,7 @@ use Rattle.rt_sync.specs.declared.told.Told.{Told}
 use Rattle.rt_sync.specs.inside.Due.{IsDue, IsNext}
 use Rattle.rt_sync.specs.inside.Losing.{AreMoved}
 use Rattle.rt_sync.specs.inside.StateView.{world_of}
+use Rattle.rt_sync.specs.inside.Viewed.{all_in}
 use Rattle.rt_sync.proofs.Listened.{IsJust, revoke_just, revoke_made, revoked_is, tied_next}
 use Rattle.rt_sync.proofs.LostForms.{lost_listen}
 use Rattle.rt_sync.proofs.NextWorlds.{along}
@@ -106,9 +107,12 @@ returns-clause-views c =
     (λ i. filter (λ (l : Listener). not (option_map_or (query_eq (form l.query)) (sym form_is i) false)) state.listeners.listeners)
     ∙ (λ i. filter (λ (l : Listener). not (is_cancelled (c.state.view_is i).world c.args.tag l)) ((c.state.view_is i).world).listeners) in
     let left : c.cancel.new.self.listeners ≡ filter test ((c.args.self).world).listeners = c.in_ok-cancel.ensures.listeners ∙ same in
-    let views : c.cancel.new.self.views ≡ views_left test (record { listeners = ((c.args.self).world).listeners; views = (c.args.self).views }) =
+    let views : c.cancel.new.self.views ≡ views_left test (all_in c.args.self) =
     c.in_ok-cancel.ensures.views ∙ (λ i. views_left (λ (l : Listener). not (option_map_or (query_eq (form l.query)) (sym form_is i) false)) state.listeners)
-    ∙ (λ i. views_left (λ (l : Listener). not (is_cancelled (c.state.view_is i).world c.args.tag l)) (record { listeners = ((c.state.view_is i).world).listeners; views = (c.state.view_is i).views })) in
+    ∙ (λ i. views_left (λ (l : Listener). not (is_cancelled (c.state.view_is i).world c.args.tag l)) (all_in (c.state.view_is i))) in
+    let counts : c.cancel.new.self.counts ≡ counts_left test (all_in c.args.self) =
+    c.in_ok-cancel.ensures.counts ∙ (λ i. counts_left (λ (l : Listener). not (option_map_or (query_eq (form l.query)) (sym form_is i) false)) state.listeners)
+    ∙ (λ i. counts_left (λ (l : Listener). not (is_cancelled (c.state.view_is i).world c.args.tag l)) (all_in (c.state.view_is i))) in
     record {
       test = test;
       left = refl;
@@ -118,4 +122,5 @@ returns-clause-views c =
           ∙ ap (λ (h : Held). is_moved (h.world).brought c.lose_ended.new.brought l.query) c.state.view_is;
       listeners = c.in_ok-renew.ensures.listeners ∙ (λ i. map (renewed_of c.deref.result.now c.lose_ended.new.brought (c.pending-pending.ensures i)) (left i));
       views = c.in_ok-renew.ensures.views ∙ (λ i. map (view_of c.deref.result.now c.lose_ended.new.brought (c.pending-pending.ensures i)) (zip (left i) (views i)));
+      counts = c.in_ok-renew.ensures.counts ∙ (λ i. map (count_of c.deref.result.now c.lose_ended.new.brought (c.pending-pending.ensures i)) (zip (zip (left i) (views i)) (counts i)));
     }

@@ -11,7 +11,7 @@ use Rattle.rt_world.specs.Met.{all_told, renewed_met}
 use Rattle.rt_sync.specs.Core.{Held}
 use Rattle.rt_sync.specs.inside.Due.{settling, IsDue}
 use Rattle.rt_sync.proofs.NextWorlds.{along, seat_left, settle_made, settled_entries, tied_after, w}
-use Rattle.rt_parts.specs.Refreshed.{view_met}
+use Rattle.rt_parts.specs.Refreshed.{count_met, view_met}
 use Rattle.rt_world.specs.Touched.{entries_settled}
 use Rattle.rt_sync.specs.inside.Viewed.{AreViewed}
 use Rattle.rt_sync.specs.inside.StateView.{world_of}
@@ -48,12 +48,12 @@ returns-clause-made c =
 pub refresh-requires : goal.refresh-requires
 refresh-requires c =
     let state = c.state.inside in
-    let old : Held = record { world = world_of state.limits state.listeners.listeners state.requests state.brought state.cover state.is_connected state.outgoing.items state.given_listeners state.given_requests; views = state.listeners.views } in
+    let old : Held = record { world = world_of state.limits state.listeners.listeners state.requests state.brought state.cover state.is_connected state.outgoing.items state.given_listeners state.given_requests; views = state.listeners.views; counts = state.listeners.counts } in
     let laws : TouchLaws = record { children = c.touch_law.ensures.children; unmet = c.touch_law.ensures.unmet; touched = c.touch_law.ensures.touched; few = c.touch_law.ensures.few } in
     let viewed : AreViewed old = subst AreViewed (sym c.state.view_is) c.requires.viewed in
     let d : IsDue old.world (settling c.args.id c.args.why) = subst (λ (v : Held). IsDue v.world (settling c.args.id c.args.why)) (sym c.state.view_is) c.requires.due in
     record {
-      follow = follows_settled laws c.brought_law.ensures.pushed old viewed c.args.id c.args.why d c.as_slice-entries.result.now
+      follow = follows_settled laws c.brought_law.ensures.pushed old viewed.pairs c.args.id c.args.why d c.as_slice-entries.result.now
           (c.as_slice-entries.ensures ∙ c.left_of-settled.ensures.entries ∙ ap (λ o. option_map_or (λ (x : Left). x.entries) o []) c.in_ok-taken.ensures.settled
           ∙ settled_entries (w state.limits state.listeners.listeners state.requests state.brought state.cover state.is_connected state.outgoing.items state.given_listeners state.given_requests) c.args.id c.args.why d.not_stale)
           c.settle.new.self c.in_ok-taken.ensures.left c.pending-pending.result.now c.pending-pending.ensures;
@@ -62,7 +62,7 @@ refresh-requires c =
 pub returns-clause-views : goal.returns-clause-views
 returns-clause-views c =
     let state = c.state.inside in
-    let old : Held = record { world = world_of state.limits state.listeners.listeners state.requests state.brought state.cover state.is_connected state.outgoing.items state.given_listeners state.given_requests; views = state.listeners.views } in
+    let old : Held = record { world = world_of state.limits state.listeners.listeners state.requests state.brought state.cover state.is_connected state.outgoing.items state.given_listeners state.given_requests; views = state.listeners.views; counts = state.listeners.counts } in
     let d : IsDue old.world (settling c.args.id c.args.why) = subst (λ (v : Held). IsDue v.world (settling c.args.id c.args.why)) (sym c.state.view_is) c.requires.due in
     let pend : c.pending-pending.result.now ≡ pending c.settle.new.self = c.pending-pending.ensures in
     let entries : c.as_slice-entries.result.now ≡ entries_settled old.world c.args.id = c.as_slice-entries.ensures ∙ c.left_of-settled.ensures.entries ∙ ap (λ o. option_map_or (λ (x : Left). x.entries) o []) c.in_ok-taken.ensures.settled
@@ -72,4 +72,6 @@ returns-clause-views c =
           ∙ (λ i. map (renewed_met (entries_settled (c.state.view_is i).world c.args.id) state.brought (pending c.settle.new.self)) ((c.state.view_is i).world).listeners);
       views = c.in_ok-refresh.ensures.views ∙ (λ i. map (view_met (entries i) state.brought (pend i)) (zip state.listeners.listeners state.listeners.views))
           ∙ (λ i. map (view_met (entries_settled (c.state.view_is i).world c.args.id) state.brought (pending c.settle.new.self)) (zip ((c.state.view_is i).world).listeners (c.state.view_is i).views));
+      counts = c.in_ok-refresh.ensures.counts ∙ (λ i. map (count_met (entries i) state.brought (pend i)) (zip (zip state.listeners.listeners state.listeners.views) state.listeners.counts))
+          ∙ (λ i. map (count_met (entries_settled (c.state.view_is i).world c.args.id) state.brought (pending c.settle.new.self)) (zip (zip ((c.state.view_is i).world).listeners (c.state.view_is i).views) (c.state.view_is i).counts));
     }

@@ -15,7 +15,7 @@ use Rattle.rt_sync.specs.Core.{Held}
 use Rattle.rt_sync.specs.inside.Due.{IsDue}
 use Rattle.rt_sync.specs.inside.StateView.{world_of}
 use Rattle.rt_sync.proofs.NextWorlds.{along, push_made, tied_after}
-use Rattle.rt_parts.specs.Refreshed.{view_met}
+use Rattle.rt_parts.specs.Refreshed.{count_met, view_met}
 use Rattle.rt_sync.specs.inside.Viewed.{AreViewed}
 use Rattle.rt_sync.proofs.Viewed.{TouchLaws, follows_at}
 use Rattle.rt_sync.proofs.state.State.take_push.Goals as goal
@@ -60,7 +60,7 @@ returns-clause-made c =
 pub refresh-requires : goal.refresh-requires
 refresh-requires c =
     let state = c.state.inside in
-    let old : Held = record { world = world_of state.limits state.listeners.listeners state.requests state.brought state.cover state.is_connected state.outgoing.items state.given_listeners state.given_requests; views = state.listeners.views } in
+    let old : Held = record { world = world_of state.limits state.listeners.listeners state.requests state.brought state.cover state.is_connected state.outgoing.items state.given_listeners state.given_requests; views = state.listeners.views; counts = state.listeners.counts } in
     let laws : TouchLaws = record { children = c.touch_law.ensures.children; unmet = c.touch_law.ensures.unmet; touched = c.touch_law.ensures.touched; few = c.touch_law.ensures.few } in
     let viewed : AreViewed old = subst AreViewed (sym c.state.view_is) c.requires.viewed in
     let s : Step = Step.Push c.args.parts in
@@ -68,7 +68,7 @@ refresh-requires c =
     let again : c.deref.result.now ≡ entries_pushed c.args.parts = c.deref.ensures.value ∙ c.in_ok-entries.ensures in
     let is = c.in_ok-put_parts.ensures ∙ ap (λ (parts : List Part). fold (λ (x : Brought) (p : Part). option_map_or (λ q. fold (push q) x p.1) (option_map (λ (k : Tagged). k.form) (listen_at state.cover p.0)) x) state.brought parts) c.as_slice.ensures in
     record {
-      follow = follows_at laws c.brought_law.ensures.pushed old viewed s d refl refl c.deref.result.now again c.put_parts.new.brought is c.pending-pending.result.now c.pending-pending.ensures;
+      follow = follows_at laws c.brought_law.ensures.pushed old viewed.pairs s d refl refl c.deref.result.now again c.put_parts.new.brought is c.pending-pending.result.now c.pending-pending.ensures;
     }
 
 pub returns-clause-views : goal.returns-clause-views
@@ -81,4 +81,6 @@ returns-clause-views c =
           ∙ (λ i. map (renewed_met (entries_pushed c.args.parts) c.put_parts.new.brought (pending state.requests)) ((c.state.view_is i).world).listeners);
       views = c.in_ok-refresh.ensures.views ∙ (λ i. map (view_met (entries i) c.put_parts.new.brought (pend i)) (zip state.listeners.listeners state.listeners.views))
           ∙ (λ i. map (view_met (entries_pushed c.args.parts) c.put_parts.new.brought (pending state.requests)) (zip ((c.state.view_is i).world).listeners (c.state.view_is i).views));
+      counts = c.in_ok-refresh.ensures.counts ∙ (λ i. map (count_met (entries i) c.put_parts.new.brought (pend i)) (zip (zip state.listeners.listeners state.listeners.views) state.listeners.counts))
+          ∙ (λ i. map (count_met (entries_pushed c.args.parts) c.put_parts.new.brought (pending state.requests)) (zip (zip ((c.state.view_is i).world).listeners (c.state.view_is i).views) (c.state.view_is i).counts));
     }

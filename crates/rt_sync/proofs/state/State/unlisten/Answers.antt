@@ -3,13 +3,14 @@ use Rattle.std.specs.List.{filter, zip, Contains}
 use Rattle.rt_cache.specs.Recover.{is_moved}
 use Rattle.rt_world.specs.declared.step.Step.{Step}
 use Rattle.rt_world.specs.World.{World, Listener}
-use Rattle.rt_parts.specs.Listeners.{views_left}
-use Rattle.rt_parts.specs.Renewed.{all_told_of, renewed_of, view_of}
+use Rattle.rt_parts.specs.Listeners.{counts_left, views_left}
+use Rattle.rt_parts.specs.Renewed.{all_told_of, count_of, renewed_of, view_of}
 use Rattle.rt_sync.specs.Core.{Held}
 use Rattle.rt_sync.specs.declared.told.Told.{Told}
 use Rattle.rt_sync.specs.inside.Due.{IsDue, IsNext}
 use Rattle.rt_sync.specs.inside.Losing.{AreMoved}
 use Rattle.rt_sync.specs.inside.StateView.{world_of}
+use Rattle.rt_sync.specs.inside.Viewed.{all_in}
 use Rattle.rt_sync.proofs.Listened.{IsJust, removed_is, unlisten_just, unlisten_made, tied_next}
 use Rattle.rt_sync.proofs.LostForms.{lost_numbers, one_rises}
 use Rattle.rt_sync.proofs.NextWorlds.{along}
@@ -83,8 +84,10 @@ returns-clause-views c =
     unlisten_just state.limits state.listeners.listeners state.requests state.brought state.cover state.is_connected state.outgoing.items state.given_listeners state.given_requests
     c.following_law.ensures.cover d.good.sound c.state.invariant c.args.seat c.args.listener c.uncover.new.cover c.in_ok-delta.ensures.cover c.lose_ended.new.brought c.deref.result.now are in
     let left : c.remove.new.self.listeners ≡ filter test ((c.args.self).world).listeners = c.remove.ensures.listeners ∙ ap (λ (h : Held). filter test (h.world).listeners) c.state.view_is in
-    let views : c.remove.new.self.views ≡ views_left test (record { listeners = ((c.args.self).world).listeners; views = (c.args.self).views }) =
-    c.remove.ensures.views ∙ ap (λ (h : Held). views_left test (record { listeners = (h.world).listeners; views = h.views })) c.state.view_is in
+    let views : c.remove.new.self.views ≡ views_left test (all_in c.args.self) =
+    c.remove.ensures.views ∙ ap (λ (h : Held). views_left test (all_in h)) c.state.view_is in
+    let counts : c.remove.new.self.counts ≡ counts_left test (all_in c.args.self) =
+    c.remove.ensures.counts ∙ ap (λ (h : Held). counts_left test (all_in h)) c.state.view_is in
     record {
       test = test;
       left = refl;
@@ -94,4 +97,5 @@ returns-clause-views c =
           ∙ ap (λ (h : Held). is_moved (h.world).brought c.lose_ended.new.brought l.query) c.state.view_is;
       listeners = c.in_ok-renew.ensures.listeners ∙ (λ i. map (renewed_of c.deref.result.now c.lose_ended.new.brought (c.pending-pending.ensures i)) (left i));
       views = c.in_ok-renew.ensures.views ∙ (λ i. map (view_of c.deref.result.now c.lose_ended.new.brought (c.pending-pending.ensures i)) (zip (left i) (views i)));
+      counts = c.in_ok-renew.ensures.counts ∙ (λ i. map (count_of c.deref.result.now c.lose_ended.new.brought (c.pending-pending.ensures i)) (zip (zip (left i) (views i)) (counts i)));
     }

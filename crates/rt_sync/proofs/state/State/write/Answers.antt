@@ -11,7 +11,7 @@ use Rattle.rt_world.specs.laws.Made.{asked_sent}
 use Rattle.rt_sync.proofs.LentEntries.{lent, not_lent}
 use Rattle.rt_sync.proofs.NextWorlds.{along, tied_after, write_made}
 use Rattle.std.specs.List.{zip}
-use Rattle.rt_parts.specs.Refreshed.{view_met}
+use Rattle.rt_parts.specs.Refreshed.{count_met, view_met}
 use Rattle.rt_sync.specs.inside.Viewed.{AreViewed}
 use Rattle.rt_sync.specs.inside.StateView.{world_of}
 use Rattle.rt_sync.proofs.Viewed.{TouchLaws, follows_at}
@@ -41,7 +41,7 @@ returns-clause-made c =
     let state = c.state.inside in
     let pend : c.pending-pending.result.now ≡ pending c.add.new.self = c.pending-pending.ensures in
     let entries = c.in-Some.entries.now in
-    let old : Held = record { world = world_of state.limits state.listeners.listeners state.requests state.brought state.cover state.is_connected state.outgoing.items state.given_listeners state.given_requests; views = state.listeners.views } in
+    let old : Held = record { world = world_of state.limits state.listeners.listeners state.requests state.brought state.cover state.is_connected state.outgoing.items state.given_listeners state.given_requests; views = state.listeners.views; counts = state.listeners.counts } in
     let d : IsDue old.world (Step.Write c.args.seat c.args.action) = subst (λ (v : Held). IsDue v.world (Step.Write c.args.seat c.args.action)) (sym c.state.view_is) c.requires.due in
     let found : Some c.in-Some.entries.now ≡ entries_at (state.given_requests + 1) c.pending-pending.result.now = search rules in
     let same : c.in-Some.entries.now ≡ entries_of c.args.action =
@@ -61,7 +61,7 @@ returns-clause-made c =
 pub unreachable-requires : goal.unreachable-requires
 unreachable-requires c =
     let state = c.state.inside in
-    let old : Held = record { world = world_of state.limits state.listeners.listeners state.requests state.brought state.cover state.is_connected state.outgoing.items state.given_listeners state.given_requests; views = state.listeners.views } in
+    let old : Held = record { world = world_of state.limits state.listeners.listeners state.requests state.brought state.cover state.is_connected state.outgoing.items state.given_listeners state.given_requests; views = state.listeners.views; counts = state.listeners.counts } in
     let d : IsDue old.world (Step.Write c.args.seat c.args.action) = subst (λ (v : Held). IsDue v.world (Step.Write c.args.seat c.args.action)) (sym c.state.view_is) c.requires.due in
     let found : ◌≡◌ {A = Option (List Assignment)} None (entries_at (state.given_requests + 1) c.pending-pending.result.now) = search rules in
     not_lent (pending state.requests) c.pending-pending.result.now (state.given_requests + 1) (entries_of c.args.action)
@@ -72,7 +72,7 @@ unreachable-requires c =
 pub refresh-requires : goal.refresh-requires
 refresh-requires c =
     let state = c.state.inside in
-    let old : Held = record { world = world_of state.limits state.listeners.listeners state.requests state.brought state.cover state.is_connected state.outgoing.items state.given_listeners state.given_requests; views = state.listeners.views } in
+    let old : Held = record { world = world_of state.limits state.listeners.listeners state.requests state.brought state.cover state.is_connected state.outgoing.items state.given_listeners state.given_requests; views = state.listeners.views; counts = state.listeners.counts } in
     let d : IsDue old.world (Step.Write c.args.seat c.args.action) = subst (λ (v : Held). IsDue v.world (Step.Write c.args.seat c.args.action)) (sym c.state.view_is) c.requires.due in
     let found : Some c.in-Some.entries.now ≡ entries_at (state.given_requests + 1) c.pending-pending.result.now = search rules in
     let same : c.in-Some.entries.now ≡ entries_of c.args.action =
@@ -83,7 +83,7 @@ refresh-requires c =
     let laws : TouchLaws = record { children = c.touch_law.ensures.children; unmet = c.touch_law.ensures.unmet; touched = c.touch_law.ensures.touched; few = c.touch_law.ensures.few } in
     let viewed : AreViewed old = subst AreViewed (sym c.state.view_is) c.requires.viewed in
     record {
-      follow = follows_at laws c.brought_law.ensures.pushed old viewed (Step.Write c.args.seat c.args.action) d refl refl c.in-Some.entries.now same state.brought refl
+      follow = follows_at laws c.brought_law.ensures.pushed old viewed.pairs (Step.Write c.args.seat c.args.action) d refl refl c.in-Some.entries.now same state.brought refl
           c.pending-pending.result.now (c.pending-pending.ensures ∙ ap pending c.in_ok-add.ensures.added);
     }
 
@@ -91,7 +91,7 @@ pub returns-clause-views : goal.returns-clause-views
 returns-clause-views c =
     let state = c.state.inside in
     let pend : c.pending-pending.result.now ≡ pending c.add.new.self = c.pending-pending.ensures in
-    let old : Held = record { world = world_of state.limits state.listeners.listeners state.requests state.brought state.cover state.is_connected state.outgoing.items state.given_listeners state.given_requests; views = state.listeners.views } in
+    let old : Held = record { world = world_of state.limits state.listeners.listeners state.requests state.brought state.cover state.is_connected state.outgoing.items state.given_listeners state.given_requests; views = state.listeners.views; counts = state.listeners.counts } in
     let d : IsDue old.world (Step.Write c.args.seat c.args.action) = subst (λ (v : Held). IsDue v.world (Step.Write c.args.seat c.args.action)) (sym c.state.view_is) c.requires.due in
     let found : Some c.in-Some.entries.now ≡ entries_at (state.given_requests + 1) c.pending-pending.result.now = search rules in
     let same : c.in-Some.entries.now ≡ entries_of c.args.action =
@@ -104,4 +104,6 @@ returns-clause-views c =
           ∙ (λ i. map (renewed_met (entries_of c.args.action) state.brought (pending c.add.new.self)) ((c.state.view_is i).world).listeners);
       views = c.in_ok-refresh.ensures.views ∙ (λ i. map (view_met (same i) state.brought (pend i)) (zip state.listeners.listeners state.listeners.views))
           ∙ (λ i. map (view_met (entries_of c.args.action) state.brought (pending c.add.new.self)) (zip ((c.state.view_is i).world).listeners (c.state.view_is i).views));
+      counts = c.in_ok-refresh.ensures.counts ∙ (λ i. map (count_met (same i) state.brought (pend i)) (zip (zip state.listeners.listeners state.listeners.views) state.listeners.counts))
+          ∙ (λ i. map (count_met (entries_of c.args.action) state.brought (pending c.add.new.self)) (zip (zip ((c.state.view_is i).world).listeners (c.state.view_is i).views) (c.state.view_is i).counts));
     }

@@ -1,6 +1,6 @@
 use Rattle.std.proofs.Common.{◌≡◌, Some, None, Option, sym, ap, ◌∙◌}
 use Rattle.rt_view.specs.Views.{View, told, touched}
-use Rattle.rt_parts.proofs.views.touch.Goals as goal
+use Rattle.rt_parts.proofs.held.touch.Goals as goal
 
 pub returns-in-Ok-clause-changes : goal.returns-in-Ok-clause-changes
 returns-in-Ok-clause-changes c = λ v e.

@@ -3,7 +3,7 @@ use Rattle.rt_query.specs.Select.{select}
 use Rattle.rt_view.specs.Changes.{changes}
 use Rattle.rt_view.specs.Views.{shown_of}
 use Rattle.rt_parts.specs.inside.HeldView.{IsViewOf, shown_in}
-use Rattle.rt_parts.proofs.views.show.Goals as goal
+use Rattle.rt_parts.proofs.held.show.Goals as goal
 
 pub returns-in-Ok-clause-changes : goal.returns-in-Ok-clause-changes
 returns-in-Ok-clause-changes c =
