@@ -1,10 +1,12 @@
--- What a wait makes of a seat.
-use Rattle.std.proofs.Common.{◌≡◌, true, false, [], take, not, refl, sym, ap, ◌∙◌, append-nil}
+-- What a wait makes of a seat, and what one for a message finds.
+use Rattle.std.proofs.Common.{◌≡◌, true, false, [], take, not, refl, sym, ap, ◌∙◌, append-nil, Option, Some, None, Result, Ok, Err, IfErr}
 use mathlib.Core.Bool.{true≢false}
+use Rattle.rt_wire.specs.declared.client.ClientMessage.{ClientMessage}
+use Rattle.rt_client.specs.declared.error.ClientError.{ClientError}
+use Rattle.rt_client.specs.declared.error.ClientError.TheVariants.{Failed}
 use Rattle.rt_client.specs.Lanes.{due}
 use Rattle.rt_client.specs.Calls.{Locked, Seated}
-use Rattle.rt_client.specs.Settling.{Settles}
-use Rattle.rt_client.specs.Waiting.{has_none, Awaits}
+use Rattle.rt_client.specs.Waiting.{has_none, IsSettled, Awaits, FindsMessage}
 
 -- its ring holds something
 pub already : (had : Seated) → true ≡ not (has_none had.ring.items) → Awaits had true had
@@ -13,14 +15,31 @@ already had e = record {
   seat = λ i. record had { ring = record (had.ring) { items = sym (append-nil had.ring.items) i } };
   told = e;
   held = λ some. refl;
+  settled = λ none. absurd (true≢false (e ∙ ap not none));
 }
 
 -- it holds nothing, and is settled
-pub settles : (old new : Locked) (had left : Seated) → false ≡ not (has_none had.ring.items) → Settles old had new left
+pub settles : (had left : Seated) → false ≡ not (has_none had.ring.items) → IsSettled had left
     → Awaits had (not (has_none left.ring.items)) left
-settles old new had left none s = record {
-  came = take (due had.ring s.hands.lane) s.hands.lane.waiting;
-  seat = s.seated ∙ ap (λ r. record had { ring = r }) s.hands.ring;
-  told = refl;
-  held = λ some. absurd (true≢false (sym (ap not some) ∙ sym none));
-}
+settles had left none s =
+    let hands = s.settles.hands in
+    record {
+      came = take (due had.ring hands.lane) hands.lane.waiting;
+      seat = s.settles.seated ∙ ap (λ r. record had { ring = r }) hands.ring;
+      told = refl;
+      held = λ some. absurd (true≢false (sym (ap not some) ∙ sym none));
+      settled = λ _. s;
+    }
+
+-- no message is found only where those who wait were told to stop, and so it is of what is left
+pub stopped_found : (old new : Locked) (answer : Result (Option ClientMessage) ClientError) → FindsMessage old (Some answer) new
+    → answer ≡ Ok None → new.stopped ≡ true
+stopped_found old new (Ok None) f is = ap (λ (l : Locked). l.stopped) f.0.locked ∙ f.1
+stopped_found old new (Ok (Some message)) f is = cc
+stopped_found old new (Err why) f is = cc
+
+-- and it is refused only where the client has failed
+pub failed_found : (old new : Locked) (answer : Result (Option ClientMessage) ClientError) → FindsMessage old (Some answer) new
+    → IfErr answer (λ e. e ≡ Failed)
+failed_found old new (Ok message) f = tt
+failed_found old new (Err why) f = f.0

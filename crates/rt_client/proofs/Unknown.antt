@@ -1,5 +1,5 @@
 -- Of a seat without a lane the core knows nothing, and it stays so.
-use Rattle.std.proofs.Common.{◌≡◌, ℕ, Bool, true, false, cond, ◌==◌, List, [], ◌∷◌, ◌++◌, refl, sym, ap, subst, ◌∙◌, replicate, Option, Some, None, Ok, Err}
+use Rattle.std.proofs.Common.{◌≡◌, ℕ, Bool, true, false, cond, ◌==◌, List, [], ◌∷◌, ◌++◌, drop, refl, sym, ap, subst, ◌∙◌, replicate, Option, Some, None, Ok, Err}
 use mathlib.Core.Bool.{true≢false}
 use Rattle.std.specs.List.{cons_option}
 use Rattle.std.specs.Option.{option_map, option_map_or}
@@ -11,11 +11,14 @@ use Rattle.rt_world.specs.declared.report.Note.{Note}
 use Rattle.rt_world.specs.declared.step.Step.{Step}
 use Rattle.rt_world.specs.Calls.{step_of}
 use Rattle.rt_world.specs.World.{World, empty_world}
-use Rattle.rt_world.specs.Refusals.{refusal}
+use Rattle.rt_world.specs.Refusals.{refusal, is_stale}
+use Rattle.rt_world.specs.Messages.{next}
 use Rattle.rt_world.specs.Answers.{Answer, step_by, step}
+use Rattle.rt_world.specs.Limited.{IsWithin}
 use Rattle.rt_world.specs.Sound.{IsSound}
 use Rattle.rt_sync.specs.Core.{without_first as without_sent}
-use Rattle.rt_world.specs.laws.Holds.{TakenIsSound}
+use Rattle.rt_world.specs.laws.Holds.{IsSteady, EmptyIsSteady, StaysSteady, EmptyIsWithin, StaysWithin}
+use Rattle.rt_world.specs.laws.Holds.{TakenIsSound, TakenIsSteady}
 use Rattle.rt_world.specs.laws.Steps.{StaysSound, WorldsAreSound}
 use Rattle.rt_mail.specs.declared.item.Item.TheVariants as item
 use Rattle.rt_mail.specs.declared.receipt.Receipt.{Receipt}
@@ -120,12 +123,26 @@ step_unknown one closed seat w s old sound none before gone =
       | false ↦ λ e. stays_unknown one seat w s old sound e (no_receipt seat w s none) before gone
     ] refl
 
-pub step_stays_whole : StaysSound → StepReflects → ClosedIsForgotten → StepStaysWhole
-step_stays_whole stays one closed old new s done whole none made =
+-- what holds of a world, and after each step that is not refused, holds after any step
+holds_by : (P : World → Type 0) (w : World) (s : Step) → (refusal w s ≡ None → P (next w s)) → P w → (o : Option CoreError) (b : Bool) → refusal w s ≡ o → P (step_by o b w s).0
+holds_by P w s made before (Some e) b is = before
+holds_by P w s made before None true is = before
+holds_by P w s made before None false is = made is
+
+steady_after : StaysSteady → (w : World) (s : Step) → IsSteady w → IsSteady (step w s).0
+steady_after stays w s steady = holds_by IsSteady w s (stays w s steady) steady (refusal w s) (is_stale w s) refl
+
+within_after : StaysWithin → (w : World) (s : Step) → IsSound w → IsWithin w → IsWithin (step w s).0
+within_after stays w s sound within = holds_by IsWithin w s (stays w s sound within) within (refusal w s) (is_stale w s) refl
+
+pub step_stays_whole : StaysSound → StaysSteady → StaysWithin → StepReflects → ClosedIsForgotten → StepStaysWhole
+step_stays_whole stays steady within one closed old new s done whole none made =
     let w = made.world in
     let same : whole.kept.world ≡ w = cc in
     let sound : IsSound w = subst IsSound same whole.kept.sound in
     record {
+      steady = λ v is. let after : (step w s).0 ≡ v = cc in subst IsSteady after (steady_after steady w s (whole.steady w made.core));
+      within = λ v is. let after : (step w s).0 ≡ v = cc in subst IsWithin after (within_after within w s sound (whole.within w made.core));
       kept = step_keeps stays one old new w s whole.kept made.core made.makes;
       unknown = λ v is seat gone.
           let after : (step w s).0 ≡ v = cc in
@@ -145,14 +162,16 @@ not_theirs seat own w s lanes lane r is stays none =
     clash : Some lane ≡ None → ⊥
     clash e = cc
 
-pub call_stays_whole : StaysSound → StepReflects → CallStaysWhole
-call_stays_whole stays one old new own had left c done whole called =
+pub call_stays_whole : StaysSound → StaysSteady → StaysWithin → StepReflects → CallStaysWhole
+call_stays_whole stays steady within one old new own had left c done whole called =
     let made = called.made in
     let w = made.world in
     let s = step_of own c in
     let same : whole.kept.world ≡ w = cc in
     let sound : IsSound w = subst IsSound same whole.kept.sound in
     record {
+      steady = λ v is. let after : (step w s).0 ≡ v = cc in subst IsSteady after (steady_after steady w s (whole.steady w made.core));
+      within = λ v is. let after : (step w s).0 ≡ v = cc in subst IsWithin after (within_after within w s sound (whole.within w made.core));
       kept = step_keeps stays one old new w s whole.kept made.core made.makes;
       unknown = λ v is seat gone.
           let after : (step w s).0 ≡ v = cc in
@@ -166,15 +185,19 @@ call_stays_whole stays one old new own had left c done whole called =
 
 -- ---- no step
 
-pub new_is_whole : WorldsAreSound → NewIsWhole
-new_is_whole sound limits lanes new = record {
+pub new_is_whole : WorldsAreSound → EmptyIsSteady → EmptyIsWithin → NewIsWhole
+new_is_whole sound steady within limits lanes new = record {
   kept = new_is_kept sound limits lanes new;
+  steady = λ v is. let same : empty_world limits ≡ v = cc in subst IsSteady same (steady limits);
+  within = λ v is. let same : empty_world limits ≡ v = cc in subst IsWithin same (within limits);
   unknown = λ v is seat none. let same : empty_world limits ≡ v = cc in ap (λ u. reflection u seat) (sym same);
 }
 
 pub settling_stays_whole : SettlingStaysWhole
 settling_stays_whole old new seat had left whole s = record {
   kept = settling_keeps old new seat had left whole.kept s;
+  steady = λ v is. whole.steady v (sym s.core ∙ is);
+  within = λ v is. whole.within v (sym s.core ∙ is);
   unknown = λ v is n gone. whole.unknown v (sym s.core ∙ is) n (before (seat == n) (lane_of old.lanes n) (sym (s.lanes n) ∙ gone));
 }
   where
@@ -182,9 +205,24 @@ settling_stays_whole old new seat had left whole s = record {
     before true o e = cc
     before false o e = e
 
-pub taking_stays_whole : TakenIsSound → TakingStaysWhole
-taking_stays_whole taken old new message whole t = record {
+within_sent : (w : World) → IsWithin w → IsWithin (without_sent w)
+within_sent w is = record {
+  listeners = is.listeners;
+  requests = is.requests;
+  next_listener = is.next_listener;
+  next_request = is.next_request;
+  next_tag = is.next_tag;
+}
+
+pub taking_stays_whole : TakenIsSound → TakenIsSteady → TakingStaysWhole
+taking_stays_whole taken steady old new message whole t = record {
   kept = taking_keeps taken old new message whole.kept t;
+  steady = λ v is.
+      let same : without_sent t.world ≡ v = at (sym (ap (λ (h : Held). h.core) t.left) ∙ is) in
+      subst IsSteady same (steady t.world (drop 1 t.world.outgoing) (whole.steady t.world t.core));
+  within = λ v is.
+      let same : without_sent t.world ≡ v = at (sym (ap (λ (h : Held). h.core) t.left) ∙ is) in
+      subst IsWithin same (within_sent t.world (whole.within t.world t.core));
   unknown = λ v is seat none.
       let same : without_sent t.world ≡ v = at (sym (ap (λ (h : Held). h.core) t.left) ∙ is) in
       ap (λ u. reflection u seat) (sym same)
@@ -204,6 +242,8 @@ opening_stays_whole old new seat whole free core changed = record {
     told = λ n lane e. told n lane (seat == n) refl (sym (changed n) ∙ e);
   };
   unknown = λ v is n gone. whole.unknown v (sym core ∙ is) n (before (seat == n) (lane_of old.lanes n) (sym (changed n) ∙ gone));
+  steady = λ v is. whole.steady v (sym core ∙ is);
+  within = λ v is. whole.within v (sym core ∙ is);
 }
   where
     before : (b : Bool) (o : Option Line) → cond b (Some new_lane) o ≡ None → o ≡ None

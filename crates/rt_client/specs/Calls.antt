@@ -1,6 +1,7 @@
 -- What calls make of a client's locked value and of the caller's seat.
 use Rattle.std.specs.Prelude.{◌≡◌, ◌≤◌, ℕ, length, [], ◌∷◌, ◌++◌, take, if◌then◌else◌, ◌==◌}
 use Rattle.std.specs.Prelude.{Bool, false, Option, Some, None, Ok, Err}
+use Rattle.std.specs.Option.{IfSome}
 use Rattle.rt_push.specs.PushIds.{Stamp}
 use Rattle.rt_world.specs.declared.call.Call.{Call}
 use Rattle.rt_world.specs.declared.error.CoreError.{CoreError}
@@ -20,7 +21,7 @@ use Rattle.rt_client.specs.declared.error.ClientError.TheVariants.{Failed, Wrong
 use Rattle.rt_client.specs.declared.error.ClientError.TheVariants.{TooManySeats, Core, NoMemory}
 use Rattle.rt_client.specs.Seats.{receipt_of}
 use Rattle.rt_client.specs.Lanes.{lane_of, signed_ring, HasRoom}
-use Rattle.rt_client.specs.Shared.{Held, MakesStep}
+use Rattle.rt_client.specs.Shared.{Held, IsWhole, MakesStep}
 
 -- ---- a client and its seats
 
@@ -57,6 +58,10 @@ pub record IsWrong (old : Locked) (seat : Seated) : Type 0 where
 pub record IsOpen (old : Locked) (before : Held) (seat : Seated) (lane : Line) : Type 0 where
   pub held : old.held ≡ Some before
   pub own : own_lane old before seat ≡ Some lane
+
+-- what the lock keeps: the client has failed, or what it holds is whole
+abbrev pub Keeps : Locked → Type 0
+Keeps locked = IfSome locked.held IsWhole
 
 -- nothing is changed
 abbrev pub IsSame : Locked → Seated → Locked → Seated → Type 0

@@ -9,7 +9,7 @@
 --     Viewing     what is shown of a listener
 --     Delivery    what is given to a sink or a mirror, and delivered over turns
 --     Opened      a client as it is opened, and its seats
---     Waiting     what a seat's thread waits for, and what it gets
+--     Waiting     what a seat's thread waits for, what it gets, and calls under the client's own lock
 -- laws/ has that what a seat is told keeps it up to date (Reflecting), that what the lock keeps is kept
 -- (Keeping), that a mirror follows a lane (Following), what snapshots show (Showing), what goes to threads
 -- (Crossing), and what the prover computes of literals (Examples, Telling);

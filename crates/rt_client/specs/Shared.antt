@@ -5,7 +5,9 @@ use Rattle.std.specs.Option.{option_map, option_map_or}
 use Rattle.rt_world.specs.declared.step.Step.{Step}
 use Rattle.rt_world.specs.World.{World}
 use Rattle.rt_world.specs.Answers.{Answer, step}
+use Rattle.rt_world.specs.Limited.{IsWithin}
 use Rattle.rt_world.specs.Sound.{IsSound}
+use Rattle.rt_world.specs.laws.Holds.{IsSteady}
 use Rattle.rt_mail.specs.declared.receipt.Receipt.{Receipt}
 use Rattle.rt_mail.specs.Mailbox.{Known, nothing_known, known_of}
 use Rattle.rt_mail.specs.Lanes.{Line, signed_lane}
@@ -43,10 +45,14 @@ abbrev pub AreUnknown : World → List (Option Line) → Type 0
 AreUnknown w lanes =
     (seat : ℕ) → lane_of lanes seat ≡ None → reflection w seat ≡ nothing_known
 
--- both of it, so that a seat can be opened where there is no lane
+-- both of it, so that a seat can be opened where there is no lane; and the world is one that steps lead to,
+-- as far as the laws of its steps ask for it: what the listens brought belongs to them, and no limit is
+-- passed
 pub record IsWhole (h : Held) : Type 0 where
   pub kept : IsKept h
   pub unknown : (w : World) → h.core ≡ Some w → AreUnknown w h.lanes
+  pub steady : (w : World) → h.core ≡ Some w → IsSteady w
+  pub within : (w : World) → h.core ≡ Some w → IsWithin w
 
 -- ---- a step
 

@@ -6,7 +6,7 @@ ghost use Rattle.rt_client.specs.laws.Keeping.{SettlingStaysWhole, TakingStaysWh
 ghost use Rattle.rt_client.specs.laws.Keeping.{OpeningStaysWhole};
 
 use crate::reflecting::reflection_law;
-use rt_world::{sending_law, sound_law};
+use rt_world::{holding_law, sending_law, sound_law, steady_law};
 
 /// Each open seat is told just what the core knows of it. So it is at first, after each step of which the
 /// seats' lanes take the receipt and the notes, where lanes hand over what waits, and where a message that
@@ -27,6 +27,8 @@ pub fn keeping_law()
 {
     // For the prover: what it rests on.
     sound_law();
+    steady_law();
+    holding_law();
     sending_law();
     reflection_law();
 }

@@ -23,7 +23,8 @@
 //!
 //! What the lock keeps, as the invariant of [`Shared`]: the client has failed, or its world holds what
 //! holds between steps, and what waits for each open seat, taken on from what was handed over to it, is
-//! just what the core knows of the seat.
+//! just what the core knows of the seat. Whoever has locked a client learns that by
+//! [`Shared::has_failed`], and so can use the laws of seats and of steps behind the lock.
 //!
 //! ```text
 //! let id = ids.next(now_ms, digits)?;                       // Ok(*b"-NjEtLV-------------")

@@ -1,7 +1,8 @@
 // What a client's lock keeps, and the steps on it.
-ghost use Rattle.std.specs.Prelude.{◌≡◌, None, IfOk, IfErr};
+ghost use Rattle.std.specs.Prelude.{◌≡◌, ◌↔◌, None, IsTrue, IfOk, IfErr};
 ghost use Rattle.rt_client.specs.Seats.{caller_of, closed_by};
 ghost use Rattle.rt_client.specs.Opened.{new_locked};
+ghost use Rattle.rt_client.specs.Calls.{HasFailed, Keeps};
 ghost use Rattle.rt_client.specs.Calls.{MakesOn, RefusesOn, MakesCall, RefusesCall, handed_back};
 
 use crate::done::Done;
@@ -78,6 +79,15 @@ impl Shared {
             held: Some(Held { core, lanes }),
             stopped: false,
         })
+    }
+
+    /// Whether the client has lacked memory, and so answers nothing else from then on. Whoever has just
+    /// locked a client learns here what the lock keeps; it takes no memory.
+    pub fn has_failed(&self) -> bool
+        ensures failed { IsTrue result ↔ HasFailed self.now }
+        ensures kept { Keeps self.now }
+    {
+        self.held.is_none()
     }
 }
 

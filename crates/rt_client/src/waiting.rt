@@ -2,11 +2,14 @@
 ghost use Rattle.std.specs.Prelude.{◌≡◌, ◌≢◌, ◌||◌, Ok, None, true, IfOk, OnOk, IfErr, IfSome};
 ghost use Rattle.std.specs.Sync.Mutex.{mutex_guard_value};
 ghost use Rattle.rt_client.specs.Delivery.{RefusesTurn};
-ghost use Rattle.rt_client.specs.Waiting.{is_due, IsSettled, Awaits};
+ghost use Rattle.rt_client.specs.Calls.{Keeps};
+ghost use Rattle.rt_client.specs.Waiting.{is_due, IsSettled, IsUnsettled, Awaits};
+ghost use Rattle.rt_client.specs.Waiting.{FindsMessage, IsFound, IsSent};
 ghost use Rattle.rt_client.specs.declared.error.ClientError.TheVariants.{Failed, NoMemory};
 
 use crate::client::Client;
 use crate::error::ClientError;
+use crate::locking::let_go;
 use crate::seat::Seat;
 use crate::shared::Shared;
 use rt_world::ClientMessage;
@@ -42,6 +45,20 @@ impl Shared {
     {
         self.stopped
     }
+
+    /// What [`Client::wait_outgoing`] answers: the first message that is to be sent, which is taken out, or
+    /// none where those who wait were told to stop. Nothing where it waits on, since neither is so.
+    pub fn try_outgoing(&mut self) -> Option<Result<Option<ClientMessage>, ClientError>>
+        ensures { FindsMessage self.old result self.new }
+    {
+        let is_stopped = self.is_stopped();
+        match self.take_outgoing() {
+            Ok(Some(message)) => Some(Ok(Some(message))),
+            Ok(None) if is_stopped => Some(Ok(None)),
+            Ok(None) => None,
+            Err(why) => Some(Err(why)),
+        }
+    }
 }
 
 // How long one waits.
@@ -53,12 +70,15 @@ impl Client {
 
     // Locks the client once something is there for the seat, or it was told to stop.
     fn lock_for<'a, R: Wait>(&'a self, rt: &R, seat: &Seat) -> MutexGuard<'a, Shared>
-        ensures { (is_due (mutex_guard_value result) seat.now || (mutex_guard_value result).stopped)
+        ensures due { (is_due (mutex_guard_value result) seat.now || (mutex_guard_value result).stopped)
             ≡ true }
+        ensures kept { Keeps (mutex_guard_value result) }
     {
         let mut shared = self.shared.lock(rt);
         for _ in rt.forever() {
             if shared.is_due(seat) || shared.is_stopped() {
+                // For the prover: what the lock keeps.
+                let _has_failed = shared.has_failed();
                 return shared;
             }
             shared = self.news.wait(rt, shared);
@@ -90,6 +110,7 @@ impl Client {
     }
 
     // Locks the client once a message is to be sent, which is taken out, or it was told to stop.
+    #[tactic(auto, using(crate::proofs::Awaited::stopped_found, crate::proofs::Awaited::failed_found))]
     fn lock_to_send<'a, R: Wait>(
         &'a self,
         rt: &R,
@@ -99,14 +120,15 @@ impl Client {
     )
         ensures stopped { result.0 ≡ Ok None → (mutex_guard_value result.1).stopped ≡ true }
         ensures refused { IfErr result.0 (λ e. e ≡ Failed) }
+        ensures found { IsFound result.0 (mutex_guard_value result.1) }
     {
         let mut shared = self.shared.lock(rt);
         for _ in rt.forever() {
-            let answer = shared.take_outgoing();
-            if !matches!(answer, Ok(None)) || shared.is_stopped() {
+            // For the prover: what the lock keeps.
+            let _has_failed = shared.has_failed();
+            if let Some(answer) = shared.try_outgoing() {
                 return (answer, shared);
             }
-            drop(answer);
             shared = self.news.wait(rt, shared);
         }
         unreachable!()
@@ -118,11 +140,12 @@ impl Client {
         ensures settled { OnOk result (IsSettled seat.old seat.new) }
         ensures refused { IfErr result (λ e. RefusesTurn seat.old e seat.new) }
         ensures memory { IfErr result (λ e. e ≢ NoMemory) }
+        ensures unsettled { IfErr result (λ e. IsUnsettled seat.old e seat.new) }
     {
         let mut shared = self.lock_for(rt, seat);
-        shared.settle(seat)?;
-        drop(shared);
-        Ok(())
+        let answer = shared.settle(seat);
+        let_go(shared);
+        answer
     }
 
     /// Waits until something is there for the seat, and settles it: whether its ring holds an item then.
@@ -137,6 +160,7 @@ impl Client {
         ensures there { IfOk result (λ there. Awaits seat.old there seat.new) }
         ensures refused { IfErr result (λ e. RefusesTurn seat.old e seat.new) }
         ensures memory { IfErr result (λ e. e ≢ NoMemory) }
+        ensures unsettled { IfErr result (λ e. IsUnsettled seat.old e seat.new) }
     {
         if seat.has_items() {
             return Ok(true);
@@ -146,16 +170,17 @@ impl Client {
     }
 
     /// Waits until a message is to be sent, and takes it out; none where those who wait were told to stop,
-    /// and none is to be sent.
+    /// and none is to be sent. Each time that it has the lock it makes [`Shared::try_outgoing`], once.
     ///
     /// # Errors
     ///
     /// Failed.
     pub fn wait_outgoing<R: Wait>(&self, rt: &R) -> Result<Option<ClientMessage>, ClientError>
         ensures refused { IfErr result (λ e. e ≡ Failed) }
+        ensures sent { IsSent result }
     {
         let (answer, shared) = self.lock_to_send(rt);
-        drop(shared);
+        let_go(shared);
         answer
     }
 }
@@ -163,16 +188,18 @@ impl Client {
 // Who wakes whom. Notices are counted while the lock is held: one who holds it knows that none is given
 // between a look and the sleep behind it.
 //
-// None of these three has a clause: what they do is done to an atomic, a condition and a locked value behind
-// a shared reference, of which a contract sees nothing. That a stop is kept is `Shared::stop`'s clause; that
+// What these three do is done to an atomic, a condition and a locked value behind a shared reference, of which
+// a contract sees nothing but what the lock takes back. That a stop is kept is `Shared::stop`'s clause; that
 // sleepers are woken the test `sleepers_are_woken` of `rt_tests` shows, which would not end without it.
 impl Client {
     /// Wakes whoever waits, and lets the lock go. Whoever locks the client by itself, and makes a call on
-    /// it, ends so.
-    pub fn notify(&self, shared: MutexGuard<'_, Shared>) {
+    /// it, ends so. Of the value that the lock takes back holds what it keeps.
+    pub fn notify(&self, shared: MutexGuard<'_, Shared>)
+        ensures { Keeps (mutex_guard_value shared.entry) }
+    {
         self.notices.fetch_add(1, Ordering::SeqCst);
         self.news.notify_all();
-        drop(shared);
+        let_go(shared);
     }
 
     /// Wakes whoever waits: deliveries ask their gates again.

@@ -10,10 +10,10 @@ returns c = record {
   handing = handing_keeps;
   settling = settling_keeps;
   taking = taking_keeps c.sending_law.ensures.sound;
-  whole = new_is_whole c.sound_law.ensures.worlds;
-  made = step_stays_whole c.sound_law.ensures.next c.reflection_law.ensures.step c.reflection_law.ensures.closed;
-  called = call_stays_whole c.sound_law.ensures.next c.reflection_law.ensures.step;
+  whole = new_is_whole c.sound_law.ensures.worlds c.steady_law.ensures.empty c.holding_law.ensures.empty;
+  made = step_stays_whole c.sound_law.ensures.next c.steady_law.ensures.next c.holding_law.ensures.within c.reflection_law.ensures.step c.reflection_law.ensures.closed;
+  called = call_stays_whole c.sound_law.ensures.next c.steady_law.ensures.next c.holding_law.ensures.within c.reflection_law.ensures.step;
   settled = settling_stays_whole;
-  taken = taking_stays_whole c.sending_law.ensures.sound;
+  taken = taking_stays_whole c.sending_law.ensures.sound c.sending_law.ensures.steady;
   opened = opening_stays_whole;
 }
