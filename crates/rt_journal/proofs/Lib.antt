@@ -2,6 +2,7 @@ mod Crosses
 mod Kept
 mod MapCrosses
 mod Members
+mod Noticed
 mod Pieces
 mod ReadBack
 mod Texts

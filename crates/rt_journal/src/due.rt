@@ -8,6 +8,9 @@ pub const LEAST_PAUSE_MS: u64 = 1_000;
 /// For so many bytes that a file has, a millisecond lies between it and the next one.
 pub const BYTES_A_MS: u64 = 4_096;
 
+/// How many milliseconds lie between two looks at a file that is being made.
+pub(crate) const POLL_MS: u64 = 50;
+
 /// When the file is made anew next, where it was made at that time, in milliseconds, and has so many bytes:
 /// after [`LEAST_PAUSE_MS`] at least, and later where it is large.
 pub(crate) fn due_after(now: u64, file: u64) -> u64

@@ -1,9 +1,16 @@
 // A tree's file, and the journal beside it.
-ghost use Rattle.std.specs.Prelude.{◌≡◌, [], OnOk};
-ghost use Rattle.rt_journal.specs.Books.{with_end, with_request};
+ghost use Rattle.std.specs.Prelude.{◌≡◌, ◌||◌, ◌&&◌, [], None, Some, false, true, not};
+ghost use Rattle.std.specs.Prelude.{if◌then◌else◌, is_some, nat_lt, IfOk, OnOk, string_bytes};
+ghost use Rattle.std.specs.Option.{option_map_or};
+ghost use Rattle.rt_tree.specs.PathTree.{is_null};
+ghost use Rattle.rt_journal.specs.Books.{new_book, with_end, with_request};
+ghost use Rattle.rt_journal.specs.Due.{due_after, is_due, next_at, postponed};
+ghost use Rattle.rt_journal.specs.Journals.{KeepsNotes, appended, notice_text};
+ghost use Rattle.rt_journal.specs.declared.notice.Notice.TheVariants.{TornLine};
+ghost use Rattle.rt_journal.specs.inside.Places.{names_in};
 
 use crate::book::{Book, Noted};
-use crate::due::due_after;
+use crate::due::{POLL_MS, due_after};
 use crate::entry::LineFault;
 use crate::fault::JournalFault;
 use crate::lock::{is_locked, locked};
@@ -26,9 +33,6 @@ use std::rt::Files;
 use std::thread::Threads;
 use std::{fs, io};
 
-// How many milliseconds lie between two looks at a file that is being made.
-const POLL_MS: u64 = 50;
-
 // What the numbers of a journal are.
 #[derive(Clone, Copy)]
 struct Standing {
@@ -46,7 +50,8 @@ struct Standing {
 
 /// A tree's file, and the journal beside it.
 ///
-/// A contract sees what is noted and not written yet, and what is to be done at the end of connections.
+/// A contract sees what is noted and not written yet, what is to be done at the end of connections, the names
+/// of the files, and what stands of the tree's file.
 pub struct Journal {
     alloc: Global,
     place: Place,
@@ -79,11 +84,24 @@ impl Drop for Journal {
 }
 
 impl Model for Journal {
-    ghost use Rattle.rt_journal.specs.Books.{Book};
+    ghost use Rattle.std.specs.Prelude.{is_some};
+    ghost use Rattle.std.specs.Option.{option_map_or};
+    ghost use Rattle.rt_journal.specs.Journals.{Journal};
+    ghost use Rattle.rt_journal.specs.inside.Places.{names_in};
 
-    ghost Value = { Book };
+    ghost Value = { Journal };
 
-    ghost view = { λ a. a.book };
+    ghost view = { λ a. record {
+      book = a.book;
+      names = names_in a.place;
+      standing = record {
+        bytes = option_map_or (λ s. s.length) a.standing.stamp 0;
+        is_making = is_some a.making;
+        is_changed = a.standing.is_changed;
+        is_foreign = a.standing.is_foreign;
+        due_at = a.standing.due_at;
+      };
+    } };
 }
 
 /// A journal that was opened.
@@ -107,7 +125,9 @@ impl Drop for Opened {
 
 impl Opened {
     /// The journal, the tree, and what is to be said.
-    pub fn into_parts(self) -> (Journal, Tree, Option<Notice>) {
+    pub fn into_parts(self) -> (Journal, Tree, Option<Notice>)
+        ensures { result ≡ (self.journal, self.tree, self.notice) }
+    {
         let Opened {
             journal,
             tree,
@@ -269,7 +289,15 @@ fn read_all<Y: Files<File = File> + RandomSource + AllocGlobal>(
 }
 
 // What the numbers of a journal are that was opened: so many bytes of it stand in whole lines.
-fn standing_of(stamp: Option<Stamp>, length: u64, is_synced: bool, tree: &Tree) -> Standing {
+fn standing_of(stamp: Option<Stamp>, length: u64, is_synced: bool, tree: &Tree) -> Standing
+    ensures { result ≡ record {
+      stamp = stamp;
+      due_at = option_map_or (λ s. due_after 0 s.length) stamp 0;
+      is_synced = is_synced;
+      is_changed = nat_lt 0 length || (not (is_some stamp) && not (is_null tree.now));
+      is_foreign = false;
+    } }
+{
     let due_at = match stamp {
         Some(stamp) => due_after(0, stamp.length),
         None => 0,
@@ -293,7 +321,12 @@ impl Journal {
         length: u64,
         standing: Standing,
         replayed: &Replayed,
-    ) -> Result<Journal, JournalFault> {
+    ) -> Result<Journal, JournalFault>
+        ensures book { IfOk result (λ journal. journal.book ≡ new_book) }
+        ensures names { IfOk result (λ journal. journal.names ≡ names_in place) }
+        ensures begun { IfOk result (λ journal. (journal.standing.is_making ≡ false)
+            × (journal.standing.is_foreign ≡ standing.is_foreign)) }
+    {
         if replayed.torn > 0 {
             if let Err(why) = log.set_len(length) {
                 return Err(JournalFault::unwritten(alloc, place.log.as_str(), why));
@@ -330,7 +363,11 @@ impl Journal {
         file: String,
         first: Tree,
         is_synced: bool,
-    ) -> Result<Opened, JournalFault> {
+    ) -> Result<Opened, JournalFault>
+        ensures book { IfOk result (λ opened. opened.journal.book ≡ new_book) }
+        ensures begun { IfOk result (λ opened. (opened.journal.standing.is_making ≡ false)
+            × (opened.journal.standing.is_foreign ≡ false)) }
+    {
         let alloc = system.alloc();
         let place = placed(system, alloc, file)?;
         let mut log = log_of(system, alloc, &place, is_synced)?;
@@ -349,7 +386,9 @@ impl Journal {
     /// An accepted request of a connection is noted, as it came. Where memory is lacking, the journal is not
     /// to be used any more.
     pub fn note(&mut self, connection: u64, noted: Noted, text: &str) -> Result<(), AllocError>
-        ensures { OnOk result (self.new ≡ with_request self.old connection noted text.now) }
+        ensures { OnOk result (self.new ≡ record (self.old) {
+          book = with_request self.old.book connection noted text.now;
+        }) }
     {
         self.book.note(connection, noted, text)
     }
@@ -357,14 +396,19 @@ impl Journal {
     /// A connection ended: that is noted where something was to be done at its end. Where memory is lacking,
     /// the journal is not to be used any more.
     pub fn note_end(&mut self, connection: u64) -> Result<(), AllocError>
-        ensures { OnOk result (self.new ≡ with_end self.old connection) }
+        ensures { OnOk result (self.new ≡ record (self.old) {
+          book = with_end self.old.book connection;
+        }) }
     {
         self.book.note_end(connection)
     }
 
     // Writes what is noted.
     fn write_lines(&mut self) -> io::Result<()>
-        ensures { OnOk result (self.new ≡ record (self.old) { lines = [] }) }
+        ensures { OnOk result (self.new ≡ record (self.old) {
+          book = record (self.old.book) { lines = [] };
+          standing = record (self.old.standing) { is_changed = true };
+        }) }
     {
         let lines = self.book.lines();
         if self.making.is_some() {
@@ -387,7 +431,7 @@ impl Journal {
     /// `Unwritten` where the journal can't be written: nobody may hear that what is noted was done.
     /// `NoMemory` where memory is lacking.
     pub fn append(&mut self) -> Result<(), JournalFault>
-        ensures { OnOk result (self.new ≡ record (self.old) { lines = [] }) }
+        ensures { OnOk result (self.new ≡ appended self.old) }
     {
         if self.book.is_empty() {
             return Ok(());
@@ -400,7 +444,9 @@ impl Journal {
 
     /// When [`Journal::turn`] is to be called next, if it is so late now, in milliseconds since the start;
     /// none where nothing of it is due.
-    pub fn next_at(&self, now: u64) -> Option<u64> {
+    pub fn next_at(&self, now: u64) -> Option<u64>
+        ensures { result ≡ next_at self.now.standing now }
+    {
         if self.making.is_some() {
             Some(now.saturating_add(POLL_MS))
         } else if self.standing.is_changed && !self.standing.is_foreign {
@@ -415,18 +461,24 @@ impl Journal {
     /// # Errors
     ///
     /// Where memory is lacking.
-    pub fn line(&self, notice: Notice) -> Result<String, AllocError> {
+    pub fn line(&self, notice: Notice) -> Result<String, AllocError>
+        ensures { IfOk result (λ line. string_bytes line ≡ notice_text notice self.now.names) }
+    {
         line_of(self.alloc, notice, &self.place)
     }
 
     // Whether the file is to be made anew.
-    fn is_due(&self, now: u64) -> bool {
+    fn is_due(&self, now: u64) -> bool
+        ensures { result ≡ is_due self.now.standing now }
+    {
         let standing = self.standing;
         standing.is_changed && !standing.is_foreign && standing.due_at <= now
     }
 
     // The file is made anew only after a pause.
-    fn postpone(&mut self, now: u64) {
+    fn postpone(&mut self, now: u64)
+        ensures { self.new ≡ record (self.old) { standing = postponed self.old.standing now } }
+    {
         let file = match self.standing.stamp {
             Some(stamp) => stamp.length,
             None => 0,
@@ -435,7 +487,9 @@ impl Journal {
     }
 
     // Makes a new file beside the file, with its rights and its owner, and keeps its name.
-    fn make<Y: Files<File = File> + RandomSource>(&mut self, system: &Y) -> io::Result<File> {
+    fn make<Y: Files<File = File> + RandomSource>(&mut self, system: &Y) -> io::Result<File>
+        ensures kept { KeepsNotes self.old self.new }
+    {
         let file = self.place.file.as_str();
         let like = plain_at(system, file)?;
         let (made, name) = made_beside(system, self.alloc, file, like.as_ref())?;
@@ -444,7 +498,9 @@ impl Journal {
     }
 
     // Takes away the new file.
-    fn unmake<Y: Files>(&mut self, system: &Y) {
+    fn unmake<Y: Files>(&mut self, system: &Y)
+        ensures { self.new ≡ self.old }
+    {
         let _gone = fs::remove_file(system, self.made.as_str());
     }
 
@@ -454,7 +510,9 @@ impl Journal {
         rt: &R,
         system: &Y,
         tree: &Tree,
-    ) -> io::Result<()> {
+    ) -> io::Result<()>
+        ensures kept { KeepsNotes self.old self.new }
+    {
         let tree = tree.copy(self.alloc)?;
         let anew = self.book.anew()?;
         let file = self.make(system)?;
@@ -474,7 +532,9 @@ impl Journal {
 
     // Puts the new file in the file's place, or beside it where another program changed the file. Answers
     // whether it is in its place.
-    fn put_in_place<Y: Files<File = File>>(&mut self, system: &Y) -> io::Result<bool> {
+    fn put_in_place<Y: Files<File = File>>(&mut self, system: &Y) -> io::Result<bool>
+        ensures kept { KeepsNotes self.old self.new }
+    {
         let file = self.place.file.as_str();
         if self.standing.is_foreign || stamp_at(system, file)? != self.standing.stamp {
             fs::rename(system, self.made.as_str(), self.place.new.as_str())?;
@@ -497,7 +557,9 @@ impl Journal {
         mut log: File,
         name: &str,
         anew: &[u8],
-    ) -> io::Result<()> {
+    ) -> io::Result<()>
+        ensures kept { KeepsNotes self.old self.new }
+    {
         if !is_locked(&log)? {
             return Err(io::Error::from(ErrorKind::WouldBlock));
         }
@@ -521,7 +583,9 @@ impl Journal {
         &mut self,
         system: &Y,
         anew: &[u8],
-    ) -> io::Result<()> {
+    ) -> io::Result<()>
+        ensures kept { KeepsNotes self.old self.new }
+    {
         let like = self.log.metadata()?;
         let log = self.place.log.as_str();
         let (made, name) = made_beside(system, self.alloc, log, Some(&like))?;
@@ -541,7 +605,9 @@ impl Journal {
         system: &Y,
         wrote: io::Result<()>,
         anew: &[u8],
-    ) -> io::Result<bool> {
+    ) -> io::Result<bool>
+        ensures kept { KeepsNotes self.old self.new }
+    {
         wrote?;
         if !self.put_in_place(system)? {
             return Ok(false);
@@ -558,7 +624,9 @@ impl Journal {
         system: &Y,
         making: Making,
         now: u64,
-    ) -> Option<Notice> {
+    ) -> Option<Notice>
+        ensures kept { KeepsNotes self.old self.new }
+    {
         let (wrote, anew) = making.wait(rt);
         let settled = self.settle(system, wrote, anew.as_slice());
         self.postpone(now);
@@ -581,7 +649,9 @@ impl Journal {
         system: &Y,
         tree: &Tree,
         now: u64,
-    ) -> Option<Notice> {
+    ) -> Option<Notice>
+        ensures kept { KeepsNotes self.old self.new }
+    {
         match self.making.take() {
             Some(making) if making.is_done() => self.finish(rt, system, making, now),
             Some(making) => {
@@ -603,7 +673,9 @@ impl Journal {
         &mut self,
         system: &Y,
         tree: &Tree,
-    ) -> io::Result<()> {
+    ) -> io::Result<()>
+        ensures kept { KeepsNotes self.old self.new }
+    {
         let mut file = self.make(system)?;
         let wrote = write_tree(self.alloc, &mut file, tree);
         let done = match wrote {
@@ -630,7 +702,9 @@ impl Journal {
         rt: &R,
         system: &Y,
         tree: &Tree,
-    ) -> Result<Option<Notice>, JournalFault> {
+    ) -> Result<Option<Notice>, JournalFault>
+        ensures kept { KeepsNotes self.old self.new }
+    {
         let is_said = self.standing.is_foreign;
         if let Some(making) = self.making.take() {
             let _said_at_the_end = self.finish(rt, system, making, 0);
@@ -650,7 +724,11 @@ impl Journal {
 }
 
 // A journal with what came of its replay.
-fn with_notice(journal: Journal, replayed: Replayed) -> Opened {
+fn with_notice(journal: Journal, replayed: Replayed) -> Opened
+    ensures journal { result.journal ≡ journal }
+    ensures tree { result.tree ≡ replayed.tree }
+    ensures notice { result.notice ≡ (if nat_lt 0 replayed.torn then Some TornLine else None) }
+{
     let notice = if replayed.torn > 0 {
         Some(Notice::TornLine)
     } else {

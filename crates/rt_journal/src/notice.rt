@@ -1,4 +1,8 @@
 // What is to be said of a tree's file.
+ghost use Rattle.std.specs.Prelude.{◌≡◌, IfOk, string_bytes};
+ghost use Rattle.rt_journal.specs.Journals.{notice_text};
+ghost use Rattle.rt_journal.specs.inside.Places.{names_in};
+
 use crate::place::Place;
 use std::alloc::{AllocError, Global};
 
@@ -14,7 +18,9 @@ pub enum Notice {
 }
 
 /// The line of a notice.
-pub(crate) fn line_of(alloc: Global, notice: Notice, place: &Place) -> Result<String, AllocError> {
+pub(crate) fn line_of(alloc: Global, notice: Notice, place: &Place) -> Result<String, AllocError>
+    ensures { IfOk result (λ line. string_bytes line ≡ notice_text notice (names_in place.now)) }
+{
     let (file, log, new) = (place.file.as_str(), place.log.as_str(), place.new.as_str());
     match notice {
         Notice::TornLine => format!(in alloc;

@@ -1,4 +1,8 @@
 // Where a tree's file stands, and what stands beside it.
+ghost use Rattle.std.specs.Prelude.{◌≡◌, IfOk, string_bytes};
+ghost use Rattle.rt_journal.specs.Journals.{names_of};
+ghost use Rattle.rt_journal.specs.inside.Places.{names_in};
+
 use std::alloc::{AllocError, AllocGlobal, Global};
 use std::fs::{File, Metadata, OpenOptions, Permissions};
 use std::io::ErrorKind;
@@ -44,7 +48,9 @@ impl Drop for Place {
 }
 
 impl Place {
-    pub(crate) fn of(alloc: Global, file: String) -> Result<Place, AllocError> {
+    pub(crate) fn of(alloc: Global, file: String) -> Result<Place, AllocError>
+        ensures { IfOk result (λ place. names_in place ≡ names_of (string_bytes file)) }
+    {
         let log = format!(in alloc; "{file}.log")?;
         let new = format!(in alloc; "{file}.new")?;
         Ok(Place { file, log, new })
@@ -62,10 +68,9 @@ fn behind_link<Y: Files>(system: &Y, alloc: Global, name: &str) -> io::Result<St
 
 // Whether the name is a link's.
 fn is_link<Y: Files>(system: &Y, name: &str) -> io::Result<bool> {
-    match fs::symlink_metadata(system, name) {
-        Ok(metadata) => Ok(metadata.is_symlink()),
-        Err(why) if why.kind() == ErrorKind::NotFound => Ok(false),
-        Err(why) => Err(why),
+    match metadata_at(system, name)? {
+        Some(there) => Ok(there.is_symlink()),
+        None => Ok(false),
     }
 }
 
@@ -163,6 +168,15 @@ fn is_by_chance(name: &str, own: &str) -> bool {
     }
 }
 
+// Takes away what stands there, if its name is one by chance.
+fn take_leaving<Y: Files>(system: &Y, path: Path<'_>, own: &str) {
+    if let Some(name) = path.file_name() {
+        if is_by_chance(name, own) {
+            let _gone = fs::remove_file(system, path);
+        }
+    }
+}
+
 /// Takes away what stands under names by chance beside a file and its journal: whoever made it was killed
 /// meanwhile. Nobody else may have the journal.
 pub(crate) fn take_leavings<Y: Files + AllocGlobal>(system: &Y, file: &str) {
@@ -172,9 +186,7 @@ pub(crate) fn take_leavings<Y: Files + AllocGlobal>(system: &Y, file: &str) {
     };
     for entry in entries {
         if let Ok(entry) = entry {
-            if is_by_chance(entry.file_name(), own) {
-                let _gone = fs::remove_file(system, entry.path());
-            }
+            take_leaving(system, entry.path(), own);
         }
     }
 }

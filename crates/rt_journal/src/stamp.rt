@@ -1,12 +1,12 @@
 // What tells whether a file was changed by another program.
+use crate::place::metadata_at;
 use std::fs::Metadata;
-use std::io::ErrorKind;
+use std::io;
 use std::os::unix::fs::MetadataExt;
 use std::rt::Files;
-use std::{fs, io};
 
 /// What a file was: which one, how long, and when it was changed.
-#[derive(Clone, Copy, Debug, PartialEq, Eq)]
+#[derive(Clone, Copy, PartialEq, Eq)]
 pub(crate) struct Stamp {
     pub(crate) node: u64,
     pub(crate) length: u64,
@@ -27,9 +27,8 @@ impl Stamp {
 
 /// What the file of that name is; none where there is none.
 pub(crate) fn stamp_at<Y: Files>(system: &Y, name: &str) -> io::Result<Option<Stamp>> {
-    match fs::symlink_metadata(system, name) {
-        Ok(metadata) => Ok(Some(Stamp::of(&metadata))),
-        Err(why) if why.kind() == ErrorKind::NotFound => Ok(None),
-        Err(why) => Err(why),
+    match metadata_at(system, name)? {
+        Some(there) => Ok(Some(Stamp::of(&there))),
+        None => Ok(None),
     }
 }

@@ -1,5 +1,9 @@
 // A stream of which only so much is read in one go.
-ghost use Rattle.std.specs.Prelude.{◌≡◌};
+ghost use Rattle.std.specs.Prelude.{◌≡◌, drop, length, min, IsErrAnd};
+ghost use Rattle.std.specs.Io.{ReadsAtMost, WritesAtMost};
+ghost use Rattle.std.specs.Io.KnownBytes.{Keeps, ReadConsumes, WriteAppends};
+ghost use Rattle.std.specs.IoError.{error_kind};
+ghost use Rattle.rt_socket.specs.Sockets.{Spends};
 
 use std::io;
 use std::io::{ErrorKind, Read, Write};
@@ -45,7 +49,22 @@ impl<S> Paced<S> {
 }
 
 impl<S: Read> Read for Paced<S> {
-    fn read(&mut self, into: &mut [u8]) -> io::Result<usize> {
+    ghost remaining = { λ p. S.remaining p.stream };
+
+    /// A read of the stream, of no more bytes than are left. Where none is left, or none is asked for, it
+    /// fails as a read that would have to wait, and reads nothing.
+    fn read(&mut self, into: &mut [u8]) -> io::Result<usize>
+        // What the stream gives, as at each reader.
+        ensures bound { ReadsAtMost result into.new }
+        ensures bytes { ReadConsumes (S.remaining self.old.stream) (S.remaining self.new.stream)
+            result into.new }
+
+        // What was left is what was given, and what is left now.
+        ensures left { Spends result self.old.left self.new.left }
+        ensures beyond { drop self.old.left into.new ≡ drop self.old.left into.old }
+        ensures spent { min (length into.old) self.old.left ≡ 0
+            → IsErrAnd result (λ e. error_kind e ≡ ErrorKind.WouldBlock) × (self.new ≡ self.old) }
+    {
         let most = into.len().min(self.left);
         if most == 0 {
             return Err(io::Error::from(ErrorKind::WouldBlock));
@@ -57,11 +76,22 @@ impl<S: Read> Read for Paced<S> {
 }
 
 impl<S: Write> Write for Paced<S> {
-    fn write(&mut self, bytes: &[u8]) -> io::Result<usize> {
+    ghost contents = { λ p. S.contents p.stream };
+
+    /// A write to the stream.
+    fn write(&mut self, bytes: &[u8]) -> io::Result<usize>
+        ensures bound { WritesAtMost result bytes.now }
+        ensures bytes { WriteAppends (S.contents self.old.stream) (S.contents self.new.stream) result
+            bytes.now }
+        ensures left { self.new.left ≡ self.old.left }
+    {
         self.stream.write(bytes)
     }
 
-    fn flush(&mut self) -> io::Result<()> {
+    fn flush(&mut self) -> io::Result<()>
+        ensures bytes { Keeps (S.contents self.old.stream) (S.contents self.new.stream) }
+        ensures left { self.new.left ≡ self.old.left }
+    {
         self.stream.flush()
     }
 }

@@ -1,11 +1,12 @@
 // A WebSocket as a wire.
 ghost use Rattle.std.specs.Prelude.{◌≡◌, [], None, Some, IfOk, IfSome};
 ghost use Rattle.tungstenite.specs.Connection.{close_step, write_step};
-ghost use Rattle.tungstenite.specs.Content.{ping};
-ghost use Rattle.tungstenite.specs.Socket.{Writes, close_of};
+ghost use Rattle.tungstenite.specs.Content.{ping, text as text_content};
+ghost use Rattle.tungstenite.specs.Socket.{Writes, Flushed as Flushes, close_of, content_of};
 ghost use Rattle.rt_socket.specs.Hearing.{fault_in, flushed_by, heard_fault, heard_from, heard_of};
 ghost use Rattle.rt_socket.specs.Hearing.{taken_by};
-ghost use Rattle.rt_socket.specs.Sockets.{IsSent, limits_for};
+ghost use Rattle.rt_socket.specs.Sockets.{GoesBehind, Hears, IsSent, limits_for};
+ghost use Rattle.rt_socket.specs.Wires.{said_by};
 ghost use Rattle.rt_socket.specs.declared.wire.Said.TheVariants.{Nothing};
 
 use crate::fault::{SocketFault, fault_of};
@@ -138,7 +139,9 @@ impl<S, K> Socket<S, K> {
 
 impl<S: Read + Write + Drop, K: MaskKeys + Drop> Socket<Paced<S>, K> {
     /// So many bytes may be read from now on.
-    pub fn allow(&mut self, most: usize) {
+    pub fn allow(&mut self, most: usize)
+        ensures { self.new.said ≡ self.old.said }
+    {
         self.socket.get_mut().allow(most);
     }
 
@@ -151,6 +154,25 @@ impl<S: Read + Write + Drop, K: MaskKeys + Drop> Socket<Paced<S>, K> {
 }
 
 impl<S: Read + Write + Drop, K: MaskKeys + Drop> Socket<S, K> {
+    // Writes a message, which is sent by a flush.
+    fn write(&mut self, message: Message) -> Result<Option<Lost>, AllocError>
+        ensures wrote { IfOk result (λ lost. lost ≡ None → Writes S.contents self.old.socket
+            self.new.socket (write_step self.old.socket.conn (content_of message))) }
+        ensures said { self.new.said ≡ self.old.said }
+    {
+        taken_by(self.socket.write(message))
+    }
+
+    // A close that was heard is answered by one, which waits to be sent.
+    fn send_behind(&mut self, heard: &Heard)
+        ensures sent { GoesBehind S.contents heard.now self.old.socket self.new.socket }
+        ensures said { self.new.said ≡ self.old.said }
+    {
+        if let Heard::Ended(_) = heard {
+            let _answered = fault_in(self.socket.flush());
+        }
+    }
+
     /// Asks the other side whether it is there.
     ///
     /// # Errors
@@ -160,7 +182,7 @@ impl<S: Read + Write + Drop, K: MaskKeys + Drop> Socket<S, K> {
         ensures asked { IfOk result (λ lost. lost ≡ None → Writes S.contents self.old.socket
             self.new.socket (write_step self.old.socket.conn (ping []))) }
     {
-        taken_by(self.socket.write(Message::Ping(Bytes::new())))
+        self.write(Message::Ping(Bytes::new()))
     }
 
     /// Says that this side goes, with a code and a reason or without. What is not sent of it is sent by a
@@ -181,22 +203,33 @@ impl<S: Read + Write + Drop, K: MaskKeys + Drop> Wire for Socket<S, K> {
 
     ghost said = { λ s. s.said };
 
-    fn hear(&mut self) -> Result<Heard, AllocError> {
+    /// What a read of the socket gives. At its end what waits to be sent is sent, as far as that goes.
+    fn hear(&mut self) -> Result<Heard, AllocError>
+        ensures said { IfOk result (λ heard. self.new.said ≡ said_by heard) }
+        ensures heard { Hears S.remaining S.contents self.old.socket result self.new.socket }
+    {
         let heard = heard_from(self.socket.read())?;
         self.said = heard.said();
-        if let Heard::Ended(_) = &heard {
-            // A close is answered by one, which waits to be sent.
-            let _answered = fault_in(self.socket.flush());
-        }
+        self.send_behind(&heard);
         Ok(heard)
     }
 
-    fn put(&mut self, text: &str) -> Result<Option<Lost>, AllocError> {
+    /// A text is written, and sent by a flush.
+    fn put(&mut self, text: &str) -> Result<Option<Lost>, AllocError>
+        ensures wrote { IfOk result (λ lost. lost ≡ None → Writes S.contents self.old.socket
+            self.new.socket (write_step self.old.socket.conn (text_content text.now))) }
+        ensures said { self.new.said ≡ self.old.said }
+    {
         let message = Message::text(self.alloc, text)?;
-        taken_by(self.socket.write(message))
+        self.write(message)
     }
 
-    fn flush(&mut self) -> Flushed {
+    /// What waits to be sent is sent, as far as that goes.
+    fn flush(&mut self) -> Flushed
+        ensures sent { Flushes S.contents self.old.socket self.new.socket }
+        ensures done { result ≡ Flushed.Done → self.new.socket.output ≡ [] }
+        ensures said { self.new.said ≡ self.old.said }
+    {
         flushed_by(self.socket.flush())
     }
 }

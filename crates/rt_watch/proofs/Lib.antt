@@ -3,3 +3,4 @@ mod Faulting
 mod Printed
 mod Queues
 mod Telling
+mod Turned

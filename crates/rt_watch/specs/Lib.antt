@@ -3,7 +3,9 @@
 --     Queued      the lines that wait to be done
 --     Pacing      what a turn leaves, when a run sleeps, and when it ends
 --     Faults      why a run ends early
+--     Rounds      what a round of a run does, and a turn of its connection
 pub mod Faults
 pub mod Pacing
 pub mod Queued
+pub mod Rounds
 pub mod Watching

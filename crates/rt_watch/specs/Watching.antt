@@ -48,6 +48,11 @@ abbrev pub bad_with : List (List ℕ) → ℕ → ℕ
 bad_with [] n = n
 bad_with (line ∷ lines) n = bad_with lines (counted (is_good_line line) n)
 
+-- lines are numbered on from there, also those that are empty
+abbrev pub numbered : List (List ℕ) → ℕ → ℕ
+numbered [] n = n
+numbered (line ∷ lines) n = numbered lines (one_more n)
+
 -- this is printed, and nothing else is done
 abbrev pub Prints : List ℕ → Locked → Seats → List ℕ → Locked → Seats → Type 0
 Prints says old seats text new left = (text ≡ says) × (new ≡ old) × (left ≡ seats)

@@ -1,5 +1,6 @@
 // The lines that wait between the thread that reads them and the one that does them.
 ghost use Rattle.std.specs.Prelude.{◌≡◌, map, not, false, true, Ok, IfOk, OnErr, OnOk};
+ghost use Rattle.std.specs.Sync.Mutex.{mutex_guard_value};
 ghost use Rattle.rt_watch.specs.Queued.{empty_queue, has_room, is_open, items_of, taken_out, with_line};
 
 use rt_link::Bell;
@@ -25,7 +26,7 @@ pub(crate) enum End {
 
 // Lines that wait, in order; how the input has ended, if it has; and whether nobody takes lines any more.
 #[derive(Drop)]
-struct Queue {
+pub(crate) struct Queue {
     lines: VecDeque<Vec<u8>>,
     // How many bytes they have, as far as it counts.
     bytes: usize,
@@ -154,9 +155,19 @@ impl Lines {
         self.bell.ring();
     }
 
-    // All that waits is taken.
-    pub(crate) fn take<R: Wait>(&self, rt: &R) -> Taken {
-        let taken = self.queue.lock(rt).take(self.alloc);
+    // Locks what waits.
+    pub(crate) fn lock<'a, R: Wait>(&'a self, rt: &R) -> MutexGuard<'a, Queue> {
+        self.queue.lock(rt)
+    }
+
+    // All that waits there is taken, and the lock let go.
+    pub(crate) fn take(&self, queue: MutexGuard<'_, Queue>) -> Taken
+        ensures lines { map items_of result.lines.items ≡ (mutex_guard_value queue.entry).lines }
+        ensures end { result.end ≡ (mutex_guard_value queue.entry).ended }
+    {
+        let mut queue = queue;
+        let taken = queue.take(self.alloc);
+        drop(queue);
         self.room.notify_all();
         taken
     }

@@ -3,25 +3,27 @@
 ghost use Rattle.std.specs.Prelude.{◌≡◌, ◌+◌, ◌<◌, ◌^◌, ℕ, List, [], if◌then◌else◌, map, string_bytes};
 ghost use Rattle.std.specs.Prelude.{true, is_some, IfOk, IfErr, OnOk};
 ghost use Rattle.std.specs.Io.KnownBytes as Io;
+ghost use Rattle.std.specs.Sync.Mutex.{mutex_guard_value};
 ghost use Rattle.rt_lines.specs.Orders.{order_of_bytes};
 ghost use Rattle.rt_lines.specs.inside.Appending.{Appends};
 ghost use Rattle.rt_drive.specs.Doing.{disconnected};
 ghost use Rattle.rt_drive.specs.Run.{one_more};
 ghost use Rattle.rt_watch.specs.Faults.{IsNoWriteFault, TellsWrite, after_end};
 ghost use Rattle.rt_watch.specs.Queued.{items_of};
+ghost use Rattle.rt_watch.specs.Rounds.{DoesLines};
 ghost use Rattle.rt_watch.specs.Watching.{PrintsDone, PrintsLine, PrintsLines, PrintsNews, bad_with, counted};
-ghost use Rattle.rt_watch.specs.Watching.{is_good, is_good_line};
+ghost use Rattle.rt_watch.specs.Watching.{is_good, is_good_line, numbered};
 
 use crate::doing::{do_line, tell_news, write_lost};
 use crate::fault::{WatchFault, after_input};
-use crate::lines::{End, Lines, Taken};
+use crate::lines::{End, Lines, Queue, Taken};
 use rt_drive::Seats;
 use rt_input::{Drain, Log, write_printed};
 use rt_lines::say_bad_line;
 use rt_link::{Linked, Lost, Passed};
 use std::alloc::{AllocError, Global};
 use std::collections::VecDeque;
-use std::sync::Wait;
+use std::sync::{MutexGuard, Wait};
 use std::time::{Clock, Instant};
 
 // The seats that lines call, how many lines were done and how many of them were bad, whether no more come,
@@ -101,6 +103,7 @@ impl Terminal {
         ensures printed { OnOk result ((text : List ℕ) × Appends self.old.printed self.new.printed text
             × PrintsLine bytes.now (one_more self.old.number) self.old.seats.items text
             self.new.seats.items) }
+        ensures ended { self.new.has_ended ≡ self.old.has_ended }
     {
         self.number = self.number.saturating_add(1);
         if bytes.is_empty() {
@@ -123,6 +126,9 @@ impl Terminal {
         ensures printed { OnOk result ((text : List ℕ) × Appends self.old.printed self.new.printed text
             × PrintsLines (map items_of lines.items) self.old.number self.old.seats.items text
             self.new.seats.items) }
+        ensures numbered { OnOk result
+            (self.new.number ≡ numbered (map items_of lines.items) self.old.number) }
+        ensures ended { self.new.has_ended ≡ self.old.has_ended }
     {
         'lines: while let Some(line) = lines.pop_front() {
             self.do_line(rt, linked, line.as_slice(), log)?;
@@ -134,6 +140,7 @@ impl Terminal {
     fn note_end(&mut self, end: Option<End>) -> Result<(), WatchFault>
         ensures ended { self.new.has_ended ≡ (if is_some end then true else self.old.has_ended) }
         ensures goes_on { result ≡ after_end end }
+        ensures rest { self.new ≡ record (self.old) { has_ended = self.new.has_ended } }
     {
         match end {
             None => Ok(()),
@@ -151,11 +158,13 @@ impl Terminal {
         rt: &R,
         linked: &Linked,
         lines: &Lines,
+        queue: MutexGuard<'_, Queue>,
         log: &mut L,
     ) -> Result<(), WatchFault>
-        ensures { IfErr result IsNoWriteFault }
+        ensures fault { IfErr result IsNoWriteFault }
+        ensures done { OnOk result (DoesLines (mutex_guard_value queue.entry) self.old self.new) }
     {
-        let Taken { lines, end } = lines.take(rt);
+        let Taken { lines, end } = lines.take(queue);
         if !lines.is_empty() || end.is_some() {
             self.quiet_since = Instant::now(rt)?;
         }
@@ -170,8 +179,10 @@ impl Terminal {
         linked: &Linked,
         passed: &[Passed],
     ) -> Result<(), AllocError>
-        ensures { OnOk result ((text : List ℕ) × Appends self.old.printed self.new.printed text
+        ensures printed { OnOk result ((text : List ℕ) × Appends self.old.printed self.new.printed text
             × PrintsNews passed.now self.old.seats.items text self.new.seats.items) }
+        ensures rest { self.new
+            ≡ record (self.old) { seats = self.new.seats; printed = self.new.printed } }
     {
         let mut shared = linked.client.shared.lock(rt);
         tell_news(
@@ -185,7 +196,8 @@ impl Terminal {
 
     // Prints that the connection is gone, and tells why.
     pub(crate) fn tell_lost<L: Log>(&mut self, why: &Lost, log: &mut L) -> Result<(), AllocError>
-        ensures { OnOk result (Appends self.old.printed self.new.printed disconnected) }
+        ensures printed { OnOk result (Appends self.old.printed self.new.printed disconnected) }
+        ensures rest { self.new ≡ record (self.old) { printed = self.new.printed } }
     {
         write_lost(&mut self.printed)?;
         if log.is_on() {
@@ -208,6 +220,8 @@ impl Terminal {
         ensures written { OnOk result (Io.Appends (D.contents writer.old) (D.contents writer.new)
             (string_bytes self.old.printed)) }
         ensures nothing_waits { OnOk result (string_bytes self.new.printed ≡ []) }
+        ensures rest { self.new
+            ≡ record (self.old) { printed = self.new.printed; quiet_since = self.new.quiet_since } }
     {
         if !self.printed.is_empty() {
             self.quiet_since = Instant::now(rt)?;

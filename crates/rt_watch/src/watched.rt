@@ -1,13 +1,17 @@
 // A client that is driven by lines, while what the server sends is printed.
-ghost use Rattle.std.specs.Prelude.{◌≡◌, ◌+◌, ◌<◌, ◌≤◌, ◌^◌, ℕ, List, Ok, Err, IfOk, IfErr, OnOk};
+ghost use Rattle.std.specs.Prelude.{◌≡◌, ◌≢◌, ◌+◌, ◌<◌, ◌≤◌, ◌^◌, ℕ, List, [], Ok, Err};
+ghost use Rattle.std.specs.Prelude.{IfOk, IfErr, OnOk};
+ghost use Rattle.std.specs.Sync.Mutex.{mutex_guard_value};
 ghost use Rattle.rt_lines.specs.inside.Appending.{Appends};
 ghost use Rattle.rt_drive.specs.Doing.{disconnected};
 ghost use Rattle.rt_watch.specs.Faults.{IsNoWriteFault, TellsWrite, of_link};
-ghost use Rattle.rt_watch.specs.Pacing.{left_by, millis_of};
+ghost use Rattle.rt_watch.specs.Pacing.{left_by, millis_of, next};
+ghost use Rattle.rt_watch.specs.Rounds.{DoesWaiting, EndsBy, IsNoted, IsTurned, NotesTurn, Rounds};
+ghost use Rattle.rt_watch.specs.Rounds.{WritesTurn, waited};
 ghost use Rattle.rt_watch.specs.Watching.{PrintsNews};
 
 use crate::fault::WatchFault;
-use crate::lines::Lines;
+use crate::lines::{Lines, Queue};
 use crate::pace::{Next, next_of};
 use crate::reading::feed;
 use crate::terminal::Terminal;
@@ -20,7 +24,7 @@ use rt_world::Limits;
 use std::alloc::{AllocError, Global};
 use std::net::{Net, SocketAddr};
 use std::random::RandomSource;
-use std::sync::{Arc, Wait};
+use std::sync::{Arc, MutexGuard, Wait};
 use std::thread::{Builder, JoinHandle, Threads};
 use std::time::{Clock, Duration, Instant};
 
@@ -96,6 +100,10 @@ impl<N: RandomSource + Drop> Watched<N> {
         ensures gone { self.new.standing ≡ Standing.Gone }
         ensures printed { OnOk result
             (Appends self.old.terminal.printed self.new.terminal.printed disconnected) }
+        ensures rest { self.new ≡ record (self.old) {
+          terminal = record (self.old.terminal) { printed = self.new.terminal.printed };
+          standing = self.new.standing;
+        } }
     {
         self.standing = Standing::Gone;
         self.terminal.tell_lost(why, log)
@@ -103,10 +111,17 @@ impl<N: RandomSource + Drop> Watched<N> {
 
     // Prints what the messages say that the client has taken.
     fn tell_news<R: Wait>(&mut self, rt: &R, linked: &Linked) -> Result<(), AllocError>
-        ensures { OnOk result ((text : List ℕ)
+        ensures printed { OnOk result ((text : List ℕ)
             × Appends self.old.terminal.printed self.new.terminal.printed text
             × PrintsNews self.old.connection.passed self.old.terminal.seats.items text
             self.new.terminal.seats.items) }
+        ensures rest { self.new ≡ record (self.old) {
+          terminal = record (self.old.terminal) {
+            seats = self.new.terminal.seats;
+            printed = self.new.terminal.printed;
+          };
+          connection = record (self.old.connection) { passed = [] };
+        } }
     {
         let passed = self.connection.take_passed();
         self.terminal.tell_news(rt, linked, passed.as_slice())
@@ -120,12 +135,29 @@ impl<N: RandomSource + Drop> Watched<N> {
         linked: &Linked,
         log: &mut L,
     ) -> Result<(), WatchFault>
-        ensures { IfErr result IsNoWriteFault }
+        ensures fault { IfErr result IsNoWriteFault }
+        ensures gone { self.old.standing ≡ Standing.Gone → (result ≡ Ok tt) × (self.new ≡ self.old) }
+        ensures turned { OnOk result (IsTurned self.old self.new) }
     {
         if self.standing == Standing::Gone {
             return Ok(());
         }
         let turn = self.connection.turn(rt, &linked.client)?;
+        self.note(rt, linked, turn, log)
+    }
+
+    // Prints what a turn's messages say, and notes what it leaves.
+    #[tactic(auto, using(crate::proofs::Faulting::faults))]
+    fn note<R: Wait, L: Log>(
+        &mut self,
+        rt: &R,
+        linked: &Linked,
+        turn: Turn,
+        log: &mut L,
+    ) -> Result<(), WatchFault>
+        ensures fault { IfErr result IsNoWriteFault }
+        ensures noted { OnOk result (NotesTurn turn self.old self.new) }
+    {
         if self.connection.is_open() {
             self.standing = Standing::Open;
         }
@@ -139,7 +171,17 @@ impl<N: RandomSource + Drop> Watched<N> {
     // Notes what a turn leaves.
     #[tactic(auto, using(crate::proofs::Faulting::faults))]
     fn leave<L: Log>(&mut self, turn: Turn, log: &mut L) -> Result<(), WatchFault>
-        ensures { IfErr result IsNoWriteFault }
+        ensures fault { IfErr result IsNoWriteFault }
+        ensures noted { OnOk result ((text : List ℕ)
+            × Appends self.old.terminal.printed self.new.terminal.printed text
+            × IsNoted (left_by turn) self.old.waits self.old.standing self.new.waits
+            self.new.standing text) }
+        ensures ends { IfErr result (EndsBy (left_by turn) self.old.address) }
+        ensures rest { self.new ≡ record (self.old) {
+          terminal = record (self.old.terminal) { printed = self.new.terminal.printed };
+          standing = self.new.standing;
+          waits = self.new.waits;
+        } }
     {
         match left_by(turn) {
             Left::Waits(most) => {
@@ -159,13 +201,54 @@ impl<N: RandomSource + Drop> Watched<N> {
         }
     }
 
-    // One round: lines are done once the connection stands or is gone, and it is carried on.
-    #[tactic(auto, using(crate::proofs::Faulting::faults))]
-    fn round<R: Wait + Clock, D: Drain, L: Log>(
+    // Does the lines that wait, once the connection has come about or is gone, and writes what is printed of
+    // them.
+    #[tactic(auto, using(crate::proofs::Turned::waits))]
+    fn do_waiting<R: Wait + Clock, D: Drain, L: Log>(
         &mut self,
         rt: &R,
         linked: &Linked,
         lines: &Lines,
+        queue: MutexGuard<'_, Queue>,
+        writer: &mut D,
+        log: &mut L,
+    ) -> Result<(), WatchFault>
+        requires { D.failures writer.old + 1 < 2 ^ 64 }
+        ensures ok { OnOk result (D.failures writer.new ≡ D.failures writer.old) }
+        ensures fault { IfErr result (λ e. TellsWrite e (D.failures writer.old) (D.failures writer.new)) }
+        ensures done { OnOk result (DoesWaiting (mutex_guard_value queue.entry) (D.contents writer.old)
+            (D.contents writer.new) self.old self.new) }
+    {
+        if self.standing == Standing::Opening {
+            return Ok(());
+        }
+        let done = self.terminal.do_lines(rt, linked, lines, queue, log);
+        self.terminal.write_out(rt, writer)?;
+        done
+    }
+
+    // What the run does next, which has done all that it could.
+    #[tactic(auto, using(crate::proofs::Faulting::faults))]
+    fn next<R: Clock>(&self, rt: &R, enough: Option<u64>) -> Result<Next, WatchFault>
+        ensures fault { IfErr result IsNoWriteFault }
+        ensures next { IfOk result (λ n. (quiet : ℕ)
+            × (n ≡ next (waited self.now.standing self.now.waits) self.now.terminal.has_ended quiet
+            enough)) }
+    {
+        let connection = match self.standing {
+            Standing::Opening | Standing::Open => Some(self.waits),
+            Standing::Gone => None,
+        };
+        let quiet = millis_of(self.terminal.quiet_since.elapsed(rt)?);
+        Ok(next_of(connection, self.terminal.has_ended, quiet, enough))
+    }
+
+    // Carries the connection on, writes what is printed of it, and says what the run does next.
+    #[tactic(auto, using(crate::proofs::Faulting::faults))]
+    fn go_on<R: Wait + Clock, D: Drain, L: Log>(
+        &mut self,
+        rt: &R,
+        linked: &Linked,
         enough: Option<u64>,
         writer: &mut D,
         log: &mut L,
@@ -173,12 +256,9 @@ impl<N: RandomSource + Drop> Watched<N> {
         requires { D.failures writer.old + 1 < 2 ^ 64 }
         ensures ok { OnOk result (D.failures writer.new ≡ D.failures writer.old) }
         ensures fault { IfErr result (λ e. TellsWrite e (D.failures writer.old) (D.failures writer.new)) }
+        ensures done { IfOk result (λ n. WritesTurn (D.contents writer.old) (D.contents writer.new)
+            enough self.old n self.new) }
     {
-        if self.standing != Standing::Opening {
-            let done = self.terminal.do_lines(rt, linked, lines, log);
-            self.terminal.write_out(rt, writer)?;
-            done?;
-        }
         let was = self.standing;
         let turned = self.turn(rt, linked, log);
         self.terminal.write_out(rt, writer)?;
@@ -186,12 +266,29 @@ impl<N: RandomSource + Drop> Watched<N> {
         if self.standing != was {
             return Ok(Next::GoOn);
         }
-        let connection = match self.standing {
-            Standing::Opening | Standing::Open => Some(self.waits),
-            Standing::Gone => None,
-        };
-        let quiet = millis_of(self.terminal.quiet_since.elapsed(rt)?);
-        Ok(next_of(connection, self.terminal.has_ended, quiet, enough))
+        self.next(rt, enough)
+    }
+
+    // One round: lines are done that wait, and the connection is carried on.
+    #[tactic(auto, using(crate::proofs::Faulting::faults))]
+    fn round<R: Wait + Clock, D: Drain, L: Log>(
+        &mut self,
+        rt: &R,
+        linked: &Linked,
+        lines: &Lines,
+        queue: MutexGuard<'_, Queue>,
+        enough: Option<u64>,
+        writer: &mut D,
+        log: &mut L,
+    ) -> Result<Next, WatchFault>
+        requires { D.failures writer.old + 1 < 2 ^ 64 }
+        ensures ok { OnOk result (D.failures writer.new ≡ D.failures writer.old) }
+        ensures fault { IfErr result (λ e. TellsWrite e (D.failures writer.old) (D.failures writer.new)) }
+        ensures done { IfOk result (λ n. Rounds (mutex_guard_value queue.entry) (D.contents writer.old)
+            (D.contents writer.new) enough self.old n self.new) }
+    {
+        self.do_waiting(rt, linked, lines, queue, writer, log)?;
+        self.go_on(rt, linked, enough, writer, log)
     }
 
     // What a run answers that ended so, and whose connection was closed so.
@@ -227,7 +324,8 @@ impl<N: RandomSource + Drop> Watched<N> {
         ensures fault { IfErr result (λ e. TellsWrite e (D.failures writer.old) (D.failures writer.new)) }
     {
         for _ in rt.forever() {
-            match self.round(rt, linked, lines, enough, writer, log)? {
+            let queue = lines.lock(rt);
+            match self.round(rt, linked, lines, queue, enough, writer, log)? {
                 Next::GoOn => {}
                 Next::Sleep(most) => link.wait(Duration::from_millis(most))?,
                 Next::End => return Ok(()),

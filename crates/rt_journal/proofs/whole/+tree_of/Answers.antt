@@ -4,7 +4,7 @@ use denote.Param.Weighed.{most}
 use Rattle.serde_json.proofs.value.Value.TheLaws.{the_size}
 use Rattle.serde_json.specs.View.{members_view}
 use Rattle.rt_tree.specs.Reading.{member_trees}
-use Rattle.rt_journal.proofs.Members.{all_members, next_member}
+use Rattle.rt_journal.proofs.Members.{all_read, next_member}
 use Rattle.rt_journal.proofs.whole.+tree_of.Goals as goal
 
 pub tree_of_members-loop-name-init : goal.tree_of_members-loop-name-init
@@ -29,3 +29,10 @@ tree_of_members-loop-name-preserved t c =
           c.in_ok-child.ensures.ok c.loop-name.invariant.0),
       omega (arith, c.loop-name.invariant.1, ap (λ es. most the_size (values_of es)) c.in-Some.ensures.steps),
     )
+
+pub tree_of_members-returns : goal.tree_of_members-returns
+tree_of_members-returns t c = record {
+  ok = all_read c.from_children.result (member_trees (members_view c.args.members.now.entries))
+      c.loop-name.children.items c.reverse.new.self.items c.loop-name.name-iterator c.in-None.ensures.steps.0
+      c.loop-name.invariant.0 c.reverse.ensures.items c.from_children.ensures.ok;
+}

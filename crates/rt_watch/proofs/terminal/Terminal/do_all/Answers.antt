@@ -3,8 +3,8 @@ use Rattle.std.specs.List.{slice_get}
 use Rattle.std.proofs.lemmas.List.{nil_from_length}
 use Rattle.rt_drive.specs.Run.{one_more}
 use Rattle.rt_watch.specs.Queued.{items_of}
-use Rattle.rt_watch.specs.Watching.{PrintsLine, bad_with, counted, is_good_line}
-use Rattle.rt_watch.proofs.Counting.{bad_first}
+use Rattle.rt_watch.specs.Watching.{PrintsLine, bad_with, counted, is_good_line, numbered}
+use Rattle.rt_watch.proofs.Counting.{bad_first, number_first}
 use Rattle.rt_watch.proofs.Printed.{ArePrinting, line_printed, lines_printed}
 use Rattle.rt_watch.proofs.terminal.Terminal.do_all.Goals as goal
 
@@ -38,6 +38,9 @@ lines-preserved g c =
             c.args.self.now.seats.items (h.1.0 ++ told.0) (map items_of ls) next.number next.seats.items)
             (sym rest) all,
       ),
+      h.2 ∙ number_first items line now.number next.number is c.in_ok-do_line.ensures.numbered
+          ∙ ap (λ ls. numbered (map items_of ls) next.number) (sym rest),
+      c.in_ok-do_line.ensures.ended ∙ h.3,
     )
 
 pub returns-clause-printed : goal.returns-clause-printed
