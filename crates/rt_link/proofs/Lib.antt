@@ -1,4 +1,5 @@
 pub mod Crosses
 pub mod Leaving
+pub mod Rounds
 pub mod Taken
 pub mod Told

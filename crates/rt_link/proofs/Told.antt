@@ -17,11 +17,11 @@ use Rattle.rt_client.specs.Calls.{Locked, Seated, handed_back}
 use Rattle.rt_client.specs.Delivery.{emptied, RefusesTurn}
 use Rattle.rt_client.specs.Settling.{RefusesSettle}
 use Rattle.rt_client.specs.declared.done.Done.{Done}
-use Rattle.rt_client.specs.Waiting.{IsDone, IsSettled, IsUnmade}
+use Rattle.rt_client.specs.Waiting.{IsDone, IsUnmade}
 use Rattle.rt_client.specs.declared.error.ClientError.{ClientError}
 use Rattle.rt_client.specs.declared.error.ClientError.TheVariants as client
 use Rattle.rt_link.specs.Answering.{tallied, Hears, HearsAll, IsSameSeat, RefusesHearing, IsDoneBehind, IsUnmadeBehind}
-use Rattle.rt_link.specs.inside.Trials.{tried_of, Tries}
+use Rattle.rt_link.specs.inside.Trials.{tried_of, IsSettled, Tries}
 use Rattle.rt_link.specs.declared.hearing.Answered.{Answered}
 
 -- ---- the items of a ring

@@ -78,6 +78,11 @@ Closes Open new = (new ≡ Closing) ⊎ (new ≡ Gone)
 Closes Closing new = new ≡ Closing
 Closes Gone new = new ≡ Gone
 
+-- where it stands then, the server told of it or not
+abbrev pub left_standing : Bool → Standing
+left_standing true = Closing
+left_standing false = Gone
+
 -- it is left, or gone
 abbrev pub IsLeft : Standing → Type 0
 IsLeft Shaking = ⊥

@@ -1,3 +1,4 @@
 -- What only the proofs of this crate need.
 pub mod Counts
+pub mod Rounds
 pub mod Trials

@@ -1,8 +1,10 @@
 // A connection of a client, from its handshake to its end.
 ghost use Rattle.std.specs.Prelude.{◌≡◌, [], IfOk, IfErr, OnOk};
 ghost use Rattle.rt_link.specs.Carrying.{Closes, Fails, GoesOn, PassesOver, Shakes, Turns};
+ghost use Rattle.rt_link.specs.Turning.{is_sent, AwaitsEnd, SeesOff};
+ghost use Rattle.rt_link.specs.inside.Rounds.{RefusesEnd};
 ghost use Rattle.rt_link.specs.declared.connection.Turn.TheVariants.{Ended};
-ghost use Rattle.rt_link.specs.Carrying.{begun, is_open, Closing, Gone, Open, Shaking};
+ghost use Rattle.rt_link.specs.Carrying.{begun, is_open, left_standing, standing_of, Closing, Gone, Open, Shaking};
 
 use crate::error::LinkFault;
 use crate::taking::Passed;
@@ -12,7 +14,7 @@ use rt_socket::{
     Batch, Flushed, Lost, Paced, Patience, Pause, Socket, Wire, for_end, for_handshake,
     for_silence, hear_all, limits, unopened,
 };
-use std::alloc::Global;
+use std::alloc::{AllocError, Global};
 use std::io::{Read, Write};
 use std::marker::Model;
 use std::random::RandomSource;
@@ -35,13 +37,59 @@ type Shaking<S, N> = MidHandshake<ClientHandshake<Paced<S>, RandomKeys<N>>>;
 type ClientSocket<S, N> = Socket<Paced<S>, RandomKeys<N>>;
 
 // Where a connection stands.
-#[derive(Drop)]
 enum Stage<S: Read + Write + Drop, N: RandomSource + Drop> {
     Shaking(Shaking<S, N>),
     Open(ClientSocket<S, N>),
     // The client has said that it goes.
     Closing(ClientSocket<S, N>),
     Gone,
+}
+
+impl<S: Read + Write + Drop, N: RandomSource + Drop> Drop for Stage<S, N> {
+    fn drop(self) {
+        match self {
+            Stage::Shaking(_) | Stage::Open(_) | Stage::Closing(_) | Stage::Gone => {}
+        }
+    }
+}
+
+// Goes on with a handshake: what is behind it, or why it fails.
+fn shake_on<S: Read + Write + Drop, N: RandomSource + Drop>(
+    alloc: Global,
+    mut mid: Shaking<S, N>,
+) -> Result<Result<Stage<S, N>, Lost>, AllocError> {
+    mid.get_mut().allow(TURN_BYTES);
+    match mid.handshake() {
+        Ok((socket, response)) => {
+            drop(response);
+            Ok(Ok(Stage::Open(Socket::new(alloc, socket))))
+        }
+        Err(HandshakeError::Interrupted(mid)) => Ok(Ok(Stage::Shaking(mid))),
+        Err(HandshakeError::Failure(why)) => Ok(Err(unopened(why)?)),
+    }
+}
+
+impl<S: Read + Write + Drop, N: RandomSource + Drop> Stage<S, N> {
+    // Goes on with the handshake, if that is where it is.
+    fn shaken(self, alloc: Global) -> Result<Result<Stage<S, N>, Lost>, AllocError> {
+        match self {
+            Stage::Shaking(mid) => shake_on(alloc, mid),
+            Stage::Open(socket) => Ok(Ok(Stage::Open(socket))),
+            Stage::Closing(socket) => Ok(Ok(Stage::Closing(socket))),
+            Stage::Gone => Ok(Ok(Stage::Gone)),
+        }
+    }
+
+    // The client has said that it goes.
+    fn into_closing(self) -> Stage<S, N>
+        ensures { standing_of self ≡ Open → standing_of result ≡ Closing }
+    {
+        match self {
+            Stage::Open(socket) | Stage::Closing(socket) => Stage::Closing(socket),
+            Stage::Shaking(mid) => Stage::Shaking(mid),
+            Stage::Gone => Stage::Gone,
+        }
+    }
 }
 
 /// What a turn of a connection leaves to be done.
@@ -121,6 +169,42 @@ fn shake_hands<S: Read + Write + Drop, N: RandomSource + Drop>(
     }
 }
 
+// Whether what a wire has taken is on its way, or will be.
+fn is_sent(flushed: Flushed) -> bool
+    ensures { result ≡ is_sent flushed }
+{
+    match &flushed {
+        Flushed::Done | Flushed::Blocked => true,
+        Flushed::Failed(_) => false,
+    }
+}
+
+// How long a server that is left is waited for, or that it is waited for no longer.
+fn still_there(patience: Patience, is_more: bool) -> Turn
+    ensures { AwaitsEnd patience is_more result }
+{
+    match patience {
+        Patience::Ping | Patience::GiveUp => Turn::Ended(Lost::Silent),
+        Patience::Wait(millis) => {
+            if is_more {
+                Turn::More
+            } else {
+                Turn::Idle(Duration::from_millis(millis))
+            }
+        }
+    }
+}
+
+// The same, by what became of what this side has still to send.
+fn flushed_off(flushed: Flushed, patience: Patience, is_more: bool) -> Turn
+    ensures { SeesOff flushed patience is_more result }
+{
+    match flushed {
+        Flushed::Done | Flushed::Blocked => still_there(patience, is_more),
+        Flushed::Failed(why) => Turn::Ended(why),
+    }
+}
+
 impl<S: Read + Write + Drop, N: RandomSource + Drop> Connection<S, N> {
     /// A connection over a stream that does not wait, and may not be connected yet. The URI is what the
     /// handshake names, as `ws://127.0.0.1/`.
@@ -184,56 +268,92 @@ impl<S: Read + Write + Drop, N: RandomSource + Drop> Connection<S, N> {
         ensures passed { OnOk result (PassesOver self.old self.new.passed) }
         ensures failed { IfErr result (λ e. Fails self.old.standing self.new.standing) }
     {
-        match std::mem::replace(&mut self.stage, Stage::Gone) {
-            Stage::Shaking(mid) => self.shake(rt, client, mid),
-            Stage::Open(socket) => {
-                self.stage = Stage::Open(socket);
-                self.carry(rt, client)
-            }
-            Stage::Closing(socket) => self.see_off(rt, socket),
+        match &self.stage {
+            Stage::Shaking(_) => self.shake(rt, client),
+            Stage::Open(_) => self.carry(rt, client),
+            Stage::Closing(_) => self.see_off(rt),
             Stage::Gone => Ok(Turn::NotOpened(Lost::Closed)),
         }
     }
 
     // Goes on with the handshake.
-    fn shake<R: Wait + Clock>(
-        &mut self,
-        rt: &R,
-        client: &Client,
-        mut mid: Shaking<S, N>,
-    ) -> Result<Turn, LinkFault>
-        ensures gone { self.old.standing ≡ Gone
-            → IfErr result (λ e. Fails Shaking self.new.standing) }
-        ensures stands { self.old.standing ≡ Gone
-            → IfOk result (λ turn. Shakes turn self.new.standing) }
+    fn shake<R: Wait + Clock>(&mut self, rt: &R, client: &Client) -> Result<Turn, LinkFault>
+        ensures failed { IfErr result (λ e. Fails Shaking self.new.standing) }
+        ensures stands { IfOk result (λ turn. Shakes turn self.new.standing) }
         ensures passed { self.new.passed ≡ self.old.passed }
     {
-        mid.get_mut().allow(TURN_BYTES);
-        match mid.handshake() {
-            Ok((socket, _response)) => {
-                client.connected(rt)?;
-                self.stage = Stage::Open(Socket::new(self.alloc, socket));
-                self.heard = Instant::now(rt)?;
-                Ok(Turn::More)
-            }
-            Err(HandshakeError::Interrupted(mid)) => self.await_hands(rt, mid),
-            Err(HandshakeError::Failure(why)) => Ok(Turn::NotOpened(unopened(why)?)),
+        let stage = std::mem::replace(&mut self.stage, Stage::Gone);
+        match stage.shaken(self.alloc)? {
+            Ok(stage) => self.shaken(rt, client, stage),
+            Err(why) => Ok(Turn::NotOpened(why)),
         }
     }
 
-    // The handshake goes on once more has come, or is given up.
-    fn await_hands<R: Clock>(&mut self, rt: &R, mid: Shaking<S, N>) -> Result<Turn, LinkFault>
-        ensures gone { IfErr result (λ e. self.new ≡ self.old) }
-        ensures stands { self.old.standing ≡ Gone
+    // The handshake is done, or is waited for.
+    fn shaken<R: Wait + Clock>(
+        &mut self,
+        rt: &R,
+        client: &Client,
+        stage: Stage<S, N>,
+    ) -> Result<Turn, LinkFault>
+        ensures failed { IfErr result (λ e. Fails Shaking self.new.standing) }
+        ensures stands { IfOk result (λ turn. Shakes turn self.new.standing) }
+        ensures passed { self.new.passed ≡ self.old.passed }
+    {
+        self.stage = stage;
+        match &self.stage {
+            Stage::Open(_) => self.open(rt, client),
+            Stage::Shaking(_) => self.await_hands(rt),
+            Stage::Closing(_) | Stage::Gone => {
+                self.stage = Stage::Gone;
+                Ok(Turn::NotOpened(Lost::Closed))
+            }
+        }
+    }
+
+    // The handshake is done: the client is told of the connection.
+    fn open<R: Wait + Clock>(&mut self, rt: &R, client: &Client) -> Result<Turn, LinkFault>
+        ensures failed { self.old.standing ≡ Open
+            → IfErr result (λ e. Fails Shaking self.new.standing) }
+        ensures stands { self.old.standing ≡ Open
             → IfOk result (λ turn. Shakes turn self.new.standing) }
         ensures passed { self.new.passed ≡ self.old.passed }
     {
-        match for_handshake(millis_since(rt, self.heard)?) {
-            Patience::Wait(millis) => {
-                self.stage = Stage::Shaking(mid);
-                Ok(Turn::Idle(Duration::from_millis(millis)))
+        if let Err(why) = client.connected(rt) {
+            self.stage = Stage::Gone;
+            return Err(LinkFault::Client(why));
+        }
+        self.heard = Instant::now(rt)?;
+        Ok(Turn::More)
+    }
+
+    // The handshake goes on once more has come, or is given up.
+    fn await_hands<R: Clock>(&mut self, rt: &R) -> Result<Turn, LinkFault>
+        ensures gone { IfErr result (λ e. self.new.standing ≡ Gone) }
+        ensures stands { self.old.standing ≡ Shaking
+            → IfOk result (λ turn. Shakes turn self.new.standing) }
+        ensures passed { self.new.passed ≡ self.old.passed }
+    {
+        match millis_since(rt, self.heard) {
+            Ok(silent) => Ok(self.wait_for(for_handshake(silent))),
+            Err(why) => {
+                self.stage = Stage::Gone;
+                Err(why)
             }
-            Patience::Ping | Patience::GiveUp => Ok(Turn::NotOpened(Lost::Late)),
+        }
+    }
+
+    // The handshake is waited for, where there is patience.
+    fn wait_for(&mut self, patience: Patience) -> Turn
+        ensures stands { self.old.standing ≡ Shaking → Shakes result self.new.standing }
+        ensures passed { self.new.passed ≡ self.old.passed }
+    {
+        match patience {
+            Patience::Wait(millis) => Turn::Idle(Duration::from_millis(millis)),
+            Patience::Ping | Patience::GiveUp => {
+                self.stage = Stage::Gone;
+                Turn::NotOpened(Lost::Late)
+            }
         }
     }
 
@@ -245,22 +365,30 @@ impl<S: Read + Write + Drop, N: RandomSource + Drop> Connection<S, N> {
         ensures failed { self.old.standing ≡ Open
             → IfErr result (λ e. Fails Open self.new.standing) }
     {
-        let Stage::Open(socket) = &mut self.stage else {
-            return Ok(Turn::NotOpened(Lost::Closed));
-        };
-        socket.allow(TURN_BYTES);
-        let pause = hear_turn(rt, self.alloc, client, socket, &mut self.passed)?;
-        let left = socket.left();
-        let sent = answer_turn(rt, self.alloc, client, socket, paced(pause, left))?;
-        if left < TURN_BYTES {
-            self.heard = Instant::now(rt)?;
-            self.is_asked = false;
-        }
-        match sent {
+        match self.exchange(rt, client)? {
             Sent::Done => self.be_patient(rt, client),
             Sent::More => Ok(Turn::More),
             Sent::Lost(why) => self.end(rt, client, why),
         }
+    }
+
+    // Reads, and sends what the client has to send.
+    fn exchange<R: Wait + Clock>(&mut self, rt: &R, client: &Client) -> Result<Sent, LinkFault>
+        ensures stands { self.new.standing ≡ self.old.standing }
+        ensures passed { OnOk result (PassesOver self.old self.new.passed) }
+    {
+        let now = Instant::now(rt)?;
+        let Stage::Open(socket) = &mut self.stage else {
+            return Ok(Sent::Lost(Lost::Closed));
+        };
+        socket.allow(TURN_BYTES);
+        let pause = hear_turn(rt, self.alloc, client, socket, &mut self.passed)?;
+        let left = socket.left();
+        if left < TURN_BYTES {
+            self.heard = now;
+            self.is_asked = false;
+        }
+        answer_turn(rt, self.alloc, client, socket, paced(pause, left))
     }
 
     // Says how long is to be waited for the server, or asks whether it is there, or gives it up.
@@ -297,47 +425,58 @@ impl<S: Read + Write + Drop, N: RandomSource + Drop> Connection<S, N> {
     }
 
     // The connection is gone, and the client is told of it.
+    #[tactic(auto, using(crate::proofs::Rounds::not_told))]
     fn end<R: Wait>(&mut self, rt: &R, client: &Client, why: Lost) -> Result<Turn, LinkFault>
         ensures gone { self.new ≡ record (self.old) { standing = Gone } }
         ensures ended { IfOk result (λ turn. turn ≡ Ended why) }
+        ensures refused { IfErr result RefusesEnd }
     {
         self.stage = Stage::Gone;
-        client.disconnected(rt)?;
-        Ok(Turn::Ended(why))
+        match client.disconnected(rt) {
+            Ok(_) => Ok(Turn::Ended(why)),
+            Err(fault) => {
+                drop(why);
+                Err(LinkFault::Client(fault))
+            }
+        }
     }
 
     // Passes over what the server still sends, until it goes too.
-    fn see_off<R: Clock>(
-        &mut self,
-        rt: &R,
-        mut socket: ClientSocket<S, N>,
-    ) -> Result<Turn, LinkFault>
-        ensures gone { IfErr result (λ e. self.new ≡ self.old) }
-        ensures stands { self.old.standing ≡ Gone
+    fn see_off<R: Clock>(&mut self, rt: &R) -> Result<Turn, LinkFault>
+        ensures gone { IfErr result (λ e. self.new.standing ≡ Gone) }
+        ensures stands { self.old.standing ≡ Closing
             → IfOk result (λ turn. GoesOn Closing turn self.new.standing) }
         ensures passed { self.new.passed ≡ self.old.passed }
     {
-        socket.allow(TURN_BYTES);
-        let Batch { messages, pause } = hear_all(self.alloc, &mut socket, BATCH)?;
-        drop(messages);
-        let is_more = match paced(pause, socket.left()) {
-            Pause::Ended(why) => return Ok(Turn::Ended(why)),
-            Pause::Idle => false,
-            Pause::More => true,
-        };
-        if let Flushed::Failed(why) = socket.flush() {
-            return Ok(Turn::Ended(why));
-        }
-        match for_end(millis_since(rt, self.heard)?) {
-            Patience::Ping | Patience::GiveUp => Ok(Turn::Ended(Lost::Silent)),
-            Patience::Wait(millis) => {
-                self.stage = Stage::Closing(socket);
-                if is_more {
-                    Ok(Turn::More)
-                } else {
-                    Ok(Turn::Idle(Duration::from_millis(millis)))
-                }
+        match self.hear_off(rt) {
+            Ok(Turn::Idle(most)) => Ok(Turn::Idle(most)),
+            Ok(Turn::More) => Ok(Turn::More),
+            Ok(Turn::NotOpened(why) | Turn::Ended(why)) => {
+                self.stage = Stage::Gone;
+                Ok(Turn::Ended(why))
             }
+            Err(why) => {
+                self.stage = Stage::Gone;
+                Err(why)
+            }
+        }
+    }
+
+    // Reads what the server still sends, and drops it. Says how long it is waited for, or why it is not.
+    fn hear_off<R: Clock>(&mut self, rt: &R) -> Result<Turn, LinkFault>
+        ensures { self.new ≡ self.old }
+    {
+        let patience = for_end(millis_since(rt, self.heard)?);
+        let Stage::Closing(socket) = &mut self.stage else {
+            return Ok(Turn::Ended(Lost::Closed));
+        };
+        socket.allow(TURN_BYTES);
+        let Batch { messages, pause } = hear_all(self.alloc, socket, BATCH)?;
+        drop(messages);
+        match paced(pause, socket.left()) {
+            Pause::Idle => Ok(flushed_off(socket.flush(), patience, false)),
+            Pause::More => Ok(flushed_off(socket.flush(), patience, true)),
+            Pause::Ended(why) => Ok(Turn::Ended(why)),
         }
     }
 
@@ -348,24 +487,37 @@ impl<S: Read + Write + Drop, N: RandomSource + Drop> Connection<S, N> {
     /// # Errors
     ///
     /// `Client` where the client has failed.
+    #[tactic(auto, using(crate::proofs::Leaving::left_so))]
     pub fn close<R: Wait + Clock>(&mut self, rt: &R, client: &Client) -> Result<(), LinkFault>
         ensures closes { Closes self.old.standing self.new.standing }
         ensures passed { self.new.passed ≡ self.old.passed }
     {
-        match std::mem::replace(&mut self.stage, Stage::Gone) {
-            Stage::Open(mut socket) => {
-                if let Flushed::Done | Flushed::Blocked = socket.close(None) {
-                    self.stage = Stage::Closing(socket);
-                }
+        match &mut self.stage {
+            Stage::Open(socket) => {
+                let is_said = is_sent(socket.close(None));
+                self.leave(is_said);
                 client.disconnected(rt)?;
                 self.heard = Instant::now(rt)?;
                 Ok(())
             }
-            Stage::Closing(socket) => {
-                self.stage = Stage::Closing(socket);
+            Stage::Shaking(_) => {
+                self.stage = Stage::Gone;
                 Ok(())
             }
-            Stage::Shaking(_) | Stage::Gone => Ok(()),
+            Stage::Closing(_) | Stage::Gone => Ok(()),
+        }
+    }
+
+    // The connection that stood is left, or gone where the server can't be told.
+    fn leave(&mut self, is_said: bool)
+        ensures left { self.old.standing ≡ Open → self.new.standing ≡ left_standing is_said }
+        ensures passed { self.new.passed ≡ self.old.passed }
+    {
+        let stage = std::mem::replace(&mut self.stage, Stage::Gone);
+        if is_said {
+            self.stage = stage.into_closing();
+        } else {
+            drop(stage);
         }
     }
 }

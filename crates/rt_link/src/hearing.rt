@@ -5,11 +5,10 @@ ghost use Rattle.std.specs.Option.{option_map};
 ghost use Rattle.rt_mail.specs.Mailbox.{known_of};
 ghost use Rattle.rt_mail.specs.Mirrors.{requests_in};
 ghost use Rattle.rt_client.specs.Delivery.{emptied, RefusesTurn};
-ghost use Rattle.rt_client.specs.Waiting.{IsSettled};
 ghost use Rattle.rt_client.specs.declared.error.ClientError.TheVariants.{MailboxFull, NoMemory};
 ghost use Rattle.rt_link.specs.Answering.{IsDoneBehind, IsSameSeat, IsUnmadeBehind, RefusesHearing};
 ghost use Rattle.rt_link.specs.Answering.{none_answered, one_more, tallied, HearsAll};
-ghost use Rattle.rt_link.specs.inside.Trials.{tried_of, Tries};
+ghost use Rattle.rt_link.specs.inside.Trials.{tried_of, IsSettled, Tries};
 
 use crate::connection::millis_since;
 use crate::linked::Linked;

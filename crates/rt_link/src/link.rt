@@ -3,7 +3,7 @@ ghost use Rattle.std.specs.Prelude.{◌≡◌, IfOk, OnOk};
 ghost use Rattle.rt_link.specs.Carrying.{IsLeft, begun, Gone};
 ghost use Rattle.rt_link.specs.inside.Counts.{counted};
 ghost use Rattle.rt_link.specs.Keeping.{PassesMore, WaitsBehind};
-ghost use Rattle.rt_link.specs.Turning.{next};
+ghost use Rattle.rt_link.specs.Turning.{left_by, next};
 
 use crate::connection::{Connection, Turn, millis_since};
 use crate::error::LinkFault;
@@ -61,6 +61,27 @@ fn next_of(turn: Turn, is_stopped: bool) -> Next
         Turn::More => Next::GoOn,
         Turn::NotOpened(why) => Next::End(LinkEnd::NotOpened(why)),
         Turn::Ended(why) => Next::End(LinkEnd::Ended(why)),
+    }
+}
+
+// What is done after a turn of a connection that is left.
+#[derive(Clone, Copy)]
+enum Parting {
+    // The next turn, at once.
+    GoOn,
+    // It sleeps, so long at most.
+    Sleep(Duration),
+    // It is gone.
+    Over,
+}
+
+fn left_by(turn: Turn) -> Parting
+    ensures { result ≡ left_by turn }
+{
+    match &turn {
+        Turn::Idle(most) => Parting::Sleep(*most),
+        Turn::More => Parting::GoOn,
+        Turn::NotOpened(_) | Turn::Ended(_) => Parting::Over,
     }
 }
 
@@ -223,6 +244,7 @@ impl Link {
     /// # Errors
     ///
     /// As of [`Connection::close`] and [`Connection::turn`].
+    #[tactic(auto, using(crate::proofs::Leaving::stays_left, crate::proofs::Leaving::over_is_gone, crate::proofs::Leaving::left_passes_nothing))]
     pub fn close<R: Wait + Clock, N: RandomSource + Drop>(
         &mut self,
         rt: &R,
@@ -235,11 +257,11 @@ impl Link {
     {
         connection.close(rt, client)?;
         for _ in rt.forever() {
-            match connection.turn(rt, client)? {
-                Turn::Idle(most) => self.wait(most)?,
-                Turn::More => {}
-                Turn::NotOpened(_) => return Ok(()),
-                Turn::Ended(_) => return Ok(()),
+            let turn = connection.turn(rt, client)?;
+            match left_by(turn) {
+                Parting::GoOn => {}
+                Parting::Sleep(most) => self.wait(most)?,
+                Parting::Over => return Ok(()),
             }
         }
         unreachable!()

@@ -1,14 +1,18 @@
 // What a turn of a connection reads, and what it sends.
-ghost use Rattle.std.specs.Prelude.{◌≡◌, ◌++◌, List, OnOk};
+ghost use Rattle.std.specs.Prelude.{◌≡◌, ◌++◌, List, IfOk, IfErr, OnOk};
+ghost use Rattle.std.specs.Sync.Mutex.{mutex_guard_value};
 ghost use Rattle.rt_link.specs.Turning.{is_there_more, paced};
 ghost use Rattle.rt_link.specs.declared.taking.Passed.{Passed};
+ghost use Rattle.rt_link.specs.inside.Rounds.{held_up, AnswersTurn, HearsTurn, RefusesAnswer, RefusesNext};
+ghost use Rattle.rt_link.specs.inside.Rounds.{RefusesTurn, SaysAll, SaysNext, SaysRound, SaysTurn};
 
 use crate::error::LinkFault;
 use crate::taking::{Passed, take_all, take_batch};
-use rt_client::Client;
+use rt_client::{Client, Shared};
 use rt_socket::{Batch, Flushed, Lost, Pause, Wire, hear_all, say_all};
-use std::alloc::Global;
-use std::sync::Wait;
+use rt_wire::ClientMessage;
+use std::alloc::{AllocError, Global};
+use std::sync::{MutexGuard, Wait};
 
 // How many messages are read, or taken out of the client, in one go.
 pub(crate) const BATCH: usize = 64;
@@ -51,6 +55,7 @@ fn is_there_more(sent: Sent) -> Sent
 }
 
 // Gives what the wire has to the client, and wakes whoever waits. Answers why no more is read now.
+#[tactic(auto, using(crate::proofs::Rounds::all_heard))]
 pub(crate) fn hear_turn<R: Wait, W: Wire>(
     rt: &R,
     alloc: Global,
@@ -58,8 +63,12 @@ pub(crate) fn hear_turn<R: Wait, W: Wire>(
     wire: &mut W,
     passed: &mut Vec<Passed>,
 ) -> Result<Pause, LinkFault>
+    ensures heard { IfOk result (λ pause. HearsTurn pause (W.said wire.new)
+        (W.remaining wire.old) (W.remaining wire.new) passed.old.items passed.new.items) }
     ensures noted { OnOk result ((more : List Passed)
         × (passed.new.items ≡ passed.old.items ++ more)) }
+    ensures refused { IfErr result (λ e. RefusesTurn e) }
+    ensures contents { W.contents wire.new ≡ W.contents wire.old }
 {
     let Batch { messages, pause } = hear_all(alloc, wire, BATCH)?;
     if !messages.is_empty() {
@@ -71,35 +80,86 @@ pub(crate) fn hear_turn<R: Wait, W: Wire>(
     Ok(pause)
 }
 
-// Gives the wire the next messages that the client has to send, where all that it has taken is on its way.
-fn say_round<R: Wait, W: Wire>(
-    rt: &R,
-    alloc: Global,
-    client: &Client,
-    wire: &mut W,
-) -> Result<Sent, LinkFault> {
-    match wire.flush() {
-        Flushed::Done => {}
-        Flushed::Blocked => return Ok(Sent::Done),
-        Flushed::Failed(why) => return Ok(Sent::Lost(why)),
+// What is left to be done for a wire, by what became of what it has taken; none where it can be given more.
+fn held_up(flushed: Flushed) -> Option<Sent>
+    ensures { result ≡ held_up flushed }
+{
+    match flushed {
+        Flushed::Done => None,
+        Flushed::Blocked => Some(Sent::Done),
+        Flushed::Failed(why) => Some(Sent::Lost(why)),
     }
-    let messages = take_batch(alloc, &mut client.shared.lock(rt), BATCH)?;
+}
+
+// Gives messages to the wire.
+fn say_batch<W: Wire>(
+    alloc: Global,
+    messages: Vec<ClientMessage>,
+    wire: &mut W,
+) -> Result<Sent, AllocError>
+    ensures said { IfOk result (λ sent.
+        SaysAll messages.items sent (W.contents wire.old) (W.contents wire.new)) }
+    ensures remaining { W.remaining wire.new ≡ W.remaining wire.old }
+{
     if messages.is_empty() {
         return Ok(Sent::Done);
     }
-    match say_all(alloc, wire, messages.as_slice())? {
+    let said = say_all(alloc, wire, messages.as_slice());
+    drop(messages);
+    match said? {
         Some(why) => Ok(Sent::Lost(why)),
         None => Ok(Sent::More),
     }
 }
 
+// Takes the next messages out of the locked client, lets it go, and gives them to the wire.
+#[tactic(auto, using(crate::proofs::Rounds::all_next))]
+fn say_next<W: Wire>(
+    alloc: Global,
+    shared: MutexGuard<'_, Shared>,
+    wire: &mut W,
+) -> Result<Sent, LinkFault>
+    ensures said { IfOk result (λ sent. SaysNext
+        (mutex_guard_value shared.entry) sent (W.contents wire.old) (W.contents wire.new)) }
+    ensures refused { IfErr result (λ e. RefusesNext (mutex_guard_value shared.entry) e) }
+    ensures remaining { W.remaining wire.new ≡ W.remaining wire.old }
+{
+    let mut shared = shared;
+    let messages = take_batch(alloc, &mut shared, BATCH);
+    drop(shared);
+    Ok(say_batch(alloc, messages?, wire)?)
+}
+
+// Gives the wire the next messages that the client has to send, where all that it has taken is on its way.
+#[tactic(auto, using(crate::proofs::Rounds::all_round))]
+fn say_round<R: Wait, W: Wire>(
+    rt: &R,
+    alloc: Global,
+    client: &Client,
+    wire: &mut W,
+) -> Result<Sent, LinkFault>
+    ensures said { IfOk result (λ sent. SaysRound sent (W.contents wire.old) (W.contents wire.new)) }
+    ensures refused { IfErr result (λ e. RefusesTurn e) }
+    ensures remaining { W.remaining wire.new ≡ W.remaining wire.old }
+{
+    match held_up(wire.flush()) {
+        Some(sent) => Ok(sent),
+        None => say_next(alloc, client.shared.lock(rt), wire),
+    }
+}
+
 // Sends what the client has to send, as far as the wire takes it.
+#[tactic(auto, using(crate::proofs::Rounds::all_turn))]
 fn say_turn<R: Wait, W: Wire>(
     rt: &R,
     alloc: Global,
     client: &Client,
     wire: &mut W,
-) -> Result<Sent, LinkFault> {
+) -> Result<Sent, LinkFault>
+    ensures said { IfOk result (λ sent. SaysTurn sent (W.contents wire.old) (W.contents wire.new)) }
+    ensures refused { IfErr result (λ e. RefusesTurn e) }
+    ensures remaining { W.remaining wire.new ≡ W.remaining wire.old }
+{
     for _ in 0..ROUNDS {
         match say_round(rt, alloc, client, wire)? {
             Sent::More => {}
@@ -112,13 +172,19 @@ fn say_turn<R: Wait, W: Wire>(
 
 // Sends what the client has to send, where the wire still gives something, and answers whether there may be
 // more of either.
+#[tactic(auto, using(crate::proofs::Rounds::more_answered))]
 pub(crate) fn answer_turn<R: Wait, W: Wire>(
     rt: &R,
     alloc: Global,
     client: &Client,
     wire: &mut W,
     pause: Pause,
-) -> Result<Sent, LinkFault> {
+) -> Result<Sent, LinkFault>
+    ensures said { IfOk result (λ sent.
+        AnswersTurn pause sent (W.contents wire.old) (W.contents wire.new)) }
+    ensures refused { IfErr result (λ e. RefusesAnswer pause e) }
+    ensures remaining { W.remaining wire.new ≡ W.remaining wire.old }
+{
     match pause {
         Pause::Ended(why) => Ok(Sent::Lost(why)),
         Pause::Idle => say_turn(rt, alloc, client, wire),

@@ -1,12 +1,19 @@
--- What one trial of a call makes of a seat.
+-- What a seat is where it is settled, and what one trial of a call makes of it.
 use Rattle.std.specs.Prelude.{◌≡◌, ◌≢◌, Option, Some, None}
 use Rattle.rt_world.specs.declared.call.Call.{Call}
 use Rattle.rt_client.specs.declared.error.ClientError.{ClientError}
 use Rattle.rt_client.specs.declared.error.ClientError.TheVariants as client
-use Rattle.rt_client.specs.Calls.{Seated}
+use Rattle.rt_client.specs.Calls.{Locked, Seated}
+use Rattle.rt_client.specs.Settling.{Settles}
 use Rattle.rt_client.specs.Waiting.{IsDone, IsUnmade}
 use Rattle.rt_link.specs.declared.hearing.Tried.{Tried}
 use Rattle.rt_link.specs.declared.hearing.Tried.TheVariants as tried
+
+-- the seat is settled, of the locked value that the lock gave
+pub record IsSettled (had left : Seated) : Type 0 where
+  pub old : Locked
+  pub new : Locked
+  pub settles : Settles old had new left
 
 -- what becomes of a call that was refused: it is tried again where it found no room, and came back
 abbrev pub tried_of : ClientError → Option Call → Tried
