@@ -1,2 +1,5 @@
+mod Alarms
 mod Behind
+mod Named
 mod Parameters
+mod Sockets

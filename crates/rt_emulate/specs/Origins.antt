@@ -5,6 +5,7 @@ use Rattle.std.specs.Char.{is_ascii_digit}
 use Rattle.std.specs.List.{list_all, list_any}
 use Rattle.std.specs.Option.{option_map_or}
 use Rattle.std.specs.Str.{bytes_eq}
+use Rattle.http.specs.FieldValue.{is_visible_text}
 
 -- no port, or a colon and digits
 abbrev pub is_port : List ℕ → Bool
@@ -34,3 +35,18 @@ is_local origin = list_any (λ place. is_page_of place origin) local_places
 -- a page that may connect, where these origins are allowed
 abbrev pub may_connect : List ℕ → List (List ℕ) → Bool
 may_connect origin allowed = is_local origin || list_any (λ one. bytes_eq one origin) allowed
+
+-- the text of an origin, if a browser may write it so
+abbrev pub visible_in : List ℕ → Option (List ℕ)
+visible_in origin = if is_visible_text origin then Some origin else None
+
+-- whether a handshake comes about that names no origin, as one of no web page, or this one
+abbrev pub allows : List (List ℕ) → Option (List ℕ) → Bool
+allows allowed None = true
+allows allowed (Some origin) = option_map_or (λ text. may_connect text allowed) (visible_in origin) false
+
+-- and one that names these: a browser names one at most
+abbrev pub allows_all : List (List ℕ) → List (List ℕ) → Bool
+allows_all allowed [] = allows allowed None
+allows_all allowed (origin ∷ []) = allows allowed (Some origin)
+allows_all allowed (origin ∷ other ∷ more) = false

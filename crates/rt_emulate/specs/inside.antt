@@ -1,1 +1,7 @@
+pub mod Alarms
+pub mod Endings
+pub mod Guests
+pub mod Keeping
+pub mod Places
 pub mod Silences
+pub mod Sockets

@@ -1,4 +1,8 @@
 // Why a socket failed.
+ghost use Rattle.std.specs.Prelude.{◌≡◌};
+ghost use Rattle.rt_emulate.specs.inside.Endings.{broken_code, broken_of, done_of, is_spent, lacks_memory};
+ghost use Rattle.rt_emulate.specs.inside.Endings.{of_stream, would_block};
+
 use std::io::ErrorKind;
 use std::{fmt, io};
 use tungstenite::Error;
@@ -23,13 +27,17 @@ pub(crate) enum Broken {
     Full,
     /// What a handshake alone fails by.
     Unshaken,
+    /// A text holds more than a message may.
+    Crowded,
     /// Memory lacks.
     NoMemory,
 }
 
 impl Broken {
     /// What an error of a socket says. The error ends here, and nowhere else.
-    pub(crate) fn of(error: Error) -> Broken {
+    pub(crate) fn of(error: Error) -> Broken
+        ensures { result ≡ broken_of error }
+    {
         match error {
             Error::Io(why) => Broken::Stream(why.kind(), why.raw_os_error()),
             Error::Protocol(why) => Broken::Protocol(why),
@@ -51,7 +59,9 @@ impl Broken {
     }
 
     /// How its stream failed, if that is why.
-    pub(crate) fn of_stream(self) -> Option<ErrorKind> {
+    pub(crate) fn of_stream(self) -> Option<ErrorKind>
+        ensures { result ≡ of_stream self }
+    {
         match self {
             Broken::Stream(kind, _) => Some(kind),
             Broken::Protocol(_)
@@ -61,33 +71,42 @@ impl Broken {
             | Broken::Used
             | Broken::Full
             | Broken::Unshaken
+            | Broken::Crowded
             | Broken::NoMemory => None,
         }
     }
 
     /// Whether memory lacks.
-    pub(crate) fn lacks_memory(self) -> bool {
+    pub(crate) fn lacks_memory(self) -> bool
+        ensures { result ≡ lacks_memory self }
+    {
         matches!(self, Broken::NoMemory)
     }
 
     /// Whether its stream would block.
-    pub(crate) fn would_block(self) -> bool {
-        self.of_stream() == Some(ErrorKind::WouldBlock)
+    pub(crate) fn would_block(self) -> bool
+        ensures { result ≡ would_block self }
+    {
+        matches!(self, Broken::Stream(ErrorKind::WouldBlock, _))
     }
 
     /// Whether as many bytes were read as are read in one turn.
-    pub(crate) fn is_spent(self) -> bool {
-        self.of_stream() == Some(ErrorKind::QuotaExceeded)
+    pub(crate) fn is_spent(self) -> bool
+        ensures { result ≡ is_spent self }
+    {
+        matches!(self, Broken::Stream(ErrorKind::QuotaExceeded, _))
     }
 
     /// The code that RFC 6455 (section 7.4.1) has for the client, where it is told why: it broke the
-    /// protocol, a text is no UTF-8, or a message has too many bytes.
-    pub(crate) fn close_code(self) -> Option<u16> {
+    /// protocol, a text is no UTF-8, or a message has too many bytes or holds too much.
+    pub(crate) fn close_code(self) -> Option<u16>
+        ensures { result ≡ broken_code self }
+    {
         match self {
             Broken::Protocol(ProtocolError::ResetWithoutClosingHandshake) => None,
             Broken::Protocol(_) => Some(1002),
             Broken::Utf8 => Some(1007),
-            Broken::Capacity(_) => Some(1009),
+            Broken::Capacity(_) | Broken::Crowded => Some(1009),
             Broken::Stream(_, _)
             | Broken::Closed
             | Broken::Used
@@ -99,7 +118,9 @@ impl Broken {
 }
 
 /// What came of a call of a socket that answers nothing.
-pub(crate) fn done(called: Result<(), Error>) -> Result<(), Broken> {
+pub(crate) fn done(called: Result<(), Error>) -> Result<(), Broken>
+    ensures { result ≡ done_of called }
+{
     match called {
         Ok(()) => Ok(()),
         Err(error) => Err(Broken::of(error)),
@@ -116,18 +137,20 @@ fn stream_error(kind: ErrorKind, number: Option<i32>) -> io::Error {
 
 impl fmt::Display for Broken {
     fn fmt<W: fmt::Write>(&self, f: &mut fmt::Formatter<W>) -> fmt::Result {
-        match self {
+        let words = match self {
             Broken::Stream(kind, number) => {
-                write!(f, "IO error: {}", stream_error(*kind, *number))
+                return write!(f, "IO error: {}", stream_error(*kind, *number));
             }
-            Broken::Protocol(why) => write!(f, "WebSocket protocol error: {why}"),
-            Broken::Utf8 => f.write_str("UTF-8 encoding error"),
-            Broken::Capacity(why) => write!(f, "Space limit exceeded: {why}"),
-            Broken::Closed => f.write_str("Connection closed normally"),
-            Broken::Used => f.write_str("Trying to work with closed connection"),
-            Broken::Full => f.write_str("Write buffer is full"),
-            Broken::Unshaken => f.write_str("Handshake not finished"),
-            Broken::NoMemory => f.write_str("Out of memory"),
-        }
+            Broken::Protocol(why) => return write!(f, "WebSocket protocol error: {why}"),
+            Broken::Utf8 => "UTF-8 encoding error",
+            Broken::Capacity(why) => return write!(f, "Space limit exceeded: {why}"),
+            Broken::Closed => "Connection closed normally",
+            Broken::Used => "Trying to work with closed connection",
+            Broken::Full => "Write buffer is full",
+            Broken::Unshaken => "Handshake not finished",
+            Broken::Crowded => "A text has more than 262144 commas and brackets",
+            Broken::NoMemory => "Out of memory",
+        };
+        f.write_str(words)
     }
 }

@@ -140,12 +140,16 @@ impl Edge {
         Ok(Stopper { waker })
     }
 
-    /// How many milliseconds have passed since the start, where the system says it.
-    pub(crate) fn passed<Y: Clock>(&self, system: &Y) -> Option<u64> {
+    /// How many milliseconds have passed since the start: as many as before, where the system says fewer or
+    /// doesn't say it.
+    pub(crate) fn now<Y: Clock>(&self, system: &Y, before: u64) -> u64 {
         let Ok(passed) = self.start.elapsed(system) else {
-            return None;
+            return before;
         };
-        u64::try_from(passed.as_millis()).ok()
+        match u64::try_from(passed.as_millis()) {
+            Ok(now) => before.max(now),
+            Err(_) => before,
+        }
     }
 
     /// Waits until something happens, for so many milliseconds at most; none: for ever.

@@ -1,4 +1,9 @@
 // The emulator: who connects is let in, and each has its turns.
+ghost use Rattle.std.specs.Prelude.{◌≡◌};
+ghost use Rattle.rt_emulate.specs.inside.Alarms.{patience};
+ghost use Rattle.rt_emulate.specs.inside.Guests.{IsPatience};
+
+use crate::alarm::sooner;
 use crate::edge::{Edge, LISTENER, Stopper, WAKER};
 use crate::emulating::Emulating;
 use crate::fault::EmulateFault;
@@ -31,7 +36,7 @@ const RETRY_MS: u64 = 1_000;
 pub struct Emulator {
     alloc: Global,
     edge: Edge,
-    guests: Guests<TcpStream>,
+    guests: Guests,
     count: Option<u16>,
     // How many milliseconds have passed since the start.
     now: u64,
@@ -76,13 +81,27 @@ where
     Ok(Some(journal))
 }
 
+// How many milliseconds may be waited, where something is next at that time; none: for ever. Nothing is
+// waited for where there is work now.
+fn patience(has_work: bool, next: Option<u64>, now: u64) -> Option<u64>
+    ensures { result ≡ patience has_work next now }
+{
+    if has_work {
+        return Some(0);
+    }
+    match next {
+        Some(at) => Some(at.saturating_sub(now)),
+        None => None,
+    }
+}
+
 // Nobody has come yet to what is served.
 fn guests_of(
     alloc: Global,
     emulating: Emulating,
     journal: Option<Journal>,
     is_telling: bool,
-) -> Guests<TcpStream> {
+) -> Guests {
     let (tree, denied, origins) = emulating.into_parts();
     let hub = Hub::new(alloc, tree, denied, Bounds::full());
     Guests::new(alloc, hub, Keeper::new(journal), origins, is_telling)
@@ -132,21 +151,18 @@ impl Emulator {
         Ok(self.edge.stopper()?)
     }
 
-    // Sees how late it is.
-    fn tick<Y: Clock>(&mut self, system: &Y) {
-        if let Some(now) = self.edge.passed(system) {
-            self.now = self.now.max(now);
-        }
-    }
-
     // How many milliseconds may be waited for events; none: for ever.
-    fn patience(&self) -> Option<u64> {
-        if !self.guests.is_idle() || (self.has_visitor && self.retry_at.is_none()) {
-            return Some(0);
-        }
-        let kept_at = self.guests.kept_at(self.now);
-        let next = sooner(sooner(self.guests.next_alarm(), self.retry_at), kept_at)?;
-        Some(next.saturating_sub(self.now))
+    fn patience(&self) -> Option<u64>
+        ensures { IsPatience self.entry.now result }
+    {
+        let present = &self.guests.present;
+        let has_work = !present.is_idle() || (self.has_visitor && self.retry_at.is_none());
+        let next = sooner(present.alarms.next(), self.retry_at);
+        patience(
+            has_work,
+            sooner(next, self.guests.kept_at(self.now)),
+            self.now,
+        )
     }
 
     // Lets in who waits to be let in. Where that fails, it is tried again once a guest has gone or a
@@ -194,7 +210,10 @@ impl Emulator {
         log: &mut L,
     ) -> Result<(), Halt> {
         let _at_once = stream.set_nodelay(true);
-        match self.edge.listen_to(&mut stream, self.guests.next_place()) {
+        match self
+            .edge
+            .listen_to(&mut stream, self.guests.present.all.vacant_key())
+        {
             Ok(()) => self.guests.add(stream, from, self.now),
             Err(why) => {
                 telling::not_accepted(self.alloc, log, &why);
@@ -213,7 +232,12 @@ impl Emulator {
             } else if token == WAKER {
                 stops = true;
             } else {
-                self.guests.wake(token.0, event.is_readable(), event.is_writable(), self.now)?;
+                self.guests.present.wake(
+                    token.0,
+                    event.is_readable(),
+                    event.is_writable(),
+                    self.now,
+                )?;
             }
         }
         Ok(stops)
@@ -221,7 +245,7 @@ impl Emulator {
 
     // Those that have come have their turns.
     fn turn<L: Log>(&mut self, log: &mut L) -> Result<(), Halt> {
-        let gone = self.guests.gone();
+        let gone = self.guests.gone;
         let is_time = match self.retry_at {
             Some(at) => at <= self.now,
             None => true,
@@ -229,10 +253,10 @@ impl Emulator {
         if self.has_visitor && is_time {
             self.let_in(log)?;
         }
-        let count = self.guests.len();
+        let count = self.guests.present.all.len();
         self.guests.turn_all(log)?;
         self.guests.ring_all(self.now, log)?;
-        if self.guests.len() < count || gone < self.guests.gone() {
+        if self.guests.present.all.len() < count || gone < self.guests.gone {
             // A descriptor is free again.
             if self.retry_at.is_some() {
                 self.retry_at = Some(self.now);
@@ -241,16 +265,9 @@ impl Emulator {
         Ok(())
     }
 
-    // Whether as many connections have gone as are served.
-    fn is_done(&self) -> bool {
-        match self.count {
-            Some(count) => self.guests.gone() >= u64::from(count),
-            None => false,
-        }
-    }
-
-    // Takes what happened, does all that can be done now without waiting, and answers whether it is to
-    // stop.
+    // Takes what happened, and does all that can be done now without waiting. Answers whether it has stopped,
+    // as it was told to, or since as many connections have gone as are served: then all go, what they asked for
+    // at their end is run, and the tree's file has it all.
     fn work<R, Y, L>(&mut self, rt: &R, system: &Y, log: &mut L) -> Result<bool, Halt>
     where
         R: Threads,
@@ -260,40 +277,15 @@ impl Emulator {
         let stops = self.take()?;
         self.turn(log)?;
         self.guests.keep(rt, system, self.now, log)?;
-        Ok(stops || self.is_done())
-    }
-
-    // Serves until it is to stop.
-    fn serve<R, Y, L>(&mut self, rt: &R, system: &Y, log: &mut L) -> Result<(), EmulateFault>
-    where
-        R: Wait + Threads,
-        Y: Files<File = File> + RandomSource + Clock,
-        L: Log,
-    {
-        for _ in rt.forever() {
-            let patience = self.patience();
-            if let Err(why) = self.edge.wait(patience) {
-                return Err(EmulateFault::NotWaited(why));
-            }
-            self.tick(system);
-            match self.work(rt, system, log) {
-                Ok(false) => {}
-                Ok(true) => return Ok(()),
-                Err(halt) => return Err(self.guests.fault_of(halt)),
-            }
+        let is_done = match self.count {
+            Some(count) => self.guests.gone >= u64::from(count),
+            None => false,
+        };
+        if stops || is_done {
+            self.guests.close(rt, system, log)?;
+            return Ok(true);
         }
-        unreachable!()
-    }
-
-    // All go, what they asked for at their end is run, and the tree's file has it all.
-    fn end<R, Y, L>(&mut self, rt: &R, system: &Y, log: &mut L) -> Result<(), Halt>
-    where
-        R: Threads,
-        Y: Files<File = File> + RandomSource,
-        L: Log,
-    {
-        self.guests.remove_all(log)?;
-        self.guests.close(rt, system, log)
+        Ok(false)
     }
 
     /// Serves who connects until it is told to stop, or as many connections have gone as it is to serve.
@@ -310,19 +302,18 @@ impl Emulator {
         Y: Files<File = File> + RandomSource + Clock,
         L: Log,
     {
-        self.serve(rt, system, log)?;
-        match self.end(rt, system, log) {
-            Ok(()) => Ok(()),
-            Err(halt) => Err(self.guests.fault_of(halt)),
+        for _ in rt.forever() {
+            let patience = self.patience();
+            if let Err(why) = self.edge.wait(patience) {
+                return Err(EmulateFault::NotWaited(why));
+            }
+            self.now = self.edge.now(system, self.now);
+            match self.work(rt, system, log) {
+                Ok(false) => {}
+                Ok(true) => return Ok(()),
+                Err(halt) => return Err(self.guests.fault_of(halt)),
+            }
         }
-    }
-}
-
-// The sooner of two times, where there are some.
-fn sooner(a: Option<u64>, b: Option<u64>) -> Option<u64> {
-    match (a, b) {
-        (Some(a), Some(b)) => Some(a.min(b)),
-        (Some(at), None) | (None, Some(at)) => Some(at),
-        (None, None) => None,
+        unreachable!()
     }
 }

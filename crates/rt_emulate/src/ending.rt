@@ -1,4 +1,7 @@
 // Why a guest goes.
+ghost use Rattle.std.specs.Prelude.{◌≡◌};
+ghost use Rattle.rt_emulate.specs.inside.Endings.{close_code, is_told};
+
 use crate::broken::Broken;
 use crate::silence::{HANDSHAKE_MS, SILENCE_MS};
 use rt_hub::{MAX_WAITING_BYTES, MAX_WAITING_MESSAGES};
@@ -25,13 +28,17 @@ pub(crate) enum Ending {
 
 impl Ending {
     /// Whether it was told before the guest goes.
-    pub(crate) fn is_told(self) -> bool {
+    pub(crate) fn is_told(self) -> bool
+        ensures { result ≡ is_told self }
+    {
         matches!(self, Ending::Refused)
     }
 
     /// The code that RFC 6455 (section 7.4.1) has for the client, where it is told why: as at
     /// [`Broken::close_code`], or all are ended.
-    pub(crate) fn close_code(self) -> Option<u16> {
+    pub(crate) fn close_code(self) -> Option<u16>
+        ensures { result ≡ close_code self }
+    {
         match self {
             Ending::Failed(why) => why.close_code(),
             Ending::Stopped => Some(1001),

@@ -1,29 +1,53 @@
 // One that has come: a stream, before and after its handshake.
+ghost use Rattle.std.specs.Prelude.{◌≡◌, IfOk, Some, None, false, if◌then◌else◌, is_some};
+ghost use Rattle.std.specs.Option.{option_copied_mut, option_map};
+ghost use Rattle.rt_hub.specs.Hubs.{IsMade};
+ghost use Rattle.rt_peer.specs.Runs.{Connect};
+ghost use Rattle.rt_emulate.specs.inside.Guests.{HandsAs, HearsAs, number_of, rung, silence_after, talk_of};
+ghost use Rattle.rt_emulate.specs.inside.Guests.{unblocked};
+
+use crate::broken::Broken;
 use crate::ending::Ending;
+use crate::halt::Halt;
 use crate::origin::Origins;
-use crate::silence::Silence;
+use crate::silence::{Due, SILENCE_MS, Silence};
 use crate::socket::{Socket, TURN_BYTES, limits};
-use rt_input::Counted;
+use crate::telling;
+use mio::net::TcpStream;
+use rt_hub::Hub;
+use rt_input::{Counted, Log};
+use rt_turns::{Handed, Notes, Turn, hand_over, take_turn};
 use std::alloc::Global;
-use std::io::{Read, Write};
 use std::net::SocketAddr;
 use tungstenite::handshake::server::ServerHandshake;
 use tungstenite::handshake::{MidHandshake, server};
+use tungstenite::{Error, HandshakeError};
+
+/// What became of a guest's turn.
+#[derive(Clone, Copy)]
+pub(crate) enum Turned {
+    /// Nothing more is there now.
+    Idle,
+    /// There may be more.
+    More,
+    /// It goes.
+    Ends(Ending),
+}
 
 /// A handshake that has begun.
-pub(crate) type Shaking<S> = MidHandshake<ServerHandshake<Counted<S>, Origins>>;
+pub(crate) type Shaking = MidHandshake<ServerHandshake<Counted<TcpStream>, Origins>>;
 
 /// How far a guest is.
-pub(crate) enum Stage<S: Read + Write + Drop> {
+pub(crate) enum Stage {
     /// It shakes hands.
-    Shaking(Shaking<S>),
+    Shaking(Shaking),
     /// It is a connection of the hub.
-    Open(Talk<S>),
+    Open(Talk),
     /// Its handshake has failed.
     Gone,
 }
 
-impl<S: Read + Write + Drop> Drop for Stage<S> {
+impl Drop for Stage {
     fn drop(self) {
         match self {
             Stage::Shaking(_) | Stage::Open(_) | Stage::Gone => {}
@@ -31,34 +55,26 @@ impl<S: Read + Write + Drop> Drop for Stage<S> {
     }
 }
 
-impl<S: Read + Write + Drop> Stage<S> {
+impl Stage {
     // Its handshake, if that is where it is.
-    fn into_shaking(self) -> Option<Shaking<S>> {
+    fn into_shaking(self) -> Option<Shaking> {
         match self {
             Stage::Shaking(shaking) => Some(shaking),
             Stage::Open(_) | Stage::Gone => None,
         }
     }
-
-    // Its connection, if it is one.
-    fn into_talk(self) -> Option<Talk<S>> {
-        match self {
-            Stage::Open(talk) => Some(talk),
-            Stage::Shaking(_) | Stage::Gone => None,
-        }
-    }
 }
 
 /// A guest's connection.
-pub(crate) struct Talk<S: Read + Write + Drop> {
-    /// Its number.
+pub(crate) struct Talk {
+    /// Its number; 0 until it has one.
     pub(crate) connection: u64,
-    pub(crate) socket: Socket<S>,
+    pub(crate) socket: Socket,
     /// Whether its stream takes nothing for now.
     pub(crate) is_blocked: bool,
 }
 
-impl<S: Read + Write + Drop> Drop for Talk<S> {
+impl Drop for Talk {
     fn drop(self) {
         let Talk {
             connection: _,
@@ -68,9 +84,76 @@ impl<S: Read + Write + Drop> Drop for Talk<S> {
     }
 }
 
-impl<S: Read + Write + Drop> Talk<S> {
+impl Talk {
+    /// Takes its next message. Answers what became of its turn, if it is over.
+    pub(crate) fn take<L: Log>(
+        &mut self,
+        alloc: Global,
+        hub: &mut Hub,
+        notes: &mut Notes,
+        log: &mut L,
+    ) -> Result<Option<Turned>, Halt>
+        ensures heard { IfOk result (λ turned. HearsAs turned self.old self.new hub.old hub.new
+            notes.old notes.new) }
+        ensures kept { self.new.connection ≡ self.old.connection }
+    {
+        match take_turn(alloc, hub, &mut self.socket, self.connection, 1, notes, log)? {
+            Turn::Idle => Ok(Some(if self.socket.is_spent {
+                Turned::More
+            } else {
+                Turned::Idle
+            })),
+            Turn::More => {
+                if self.socket.was_binary {
+                    telling::binary_passed_over(alloc, log, self.connection);
+                }
+                Ok(None)
+            }
+            Turn::Ended => Ok(Some(Turned::Ends(self.socket.ending()))),
+        }
+    }
+
+    /// Sends these texts. Answers what became of its turn, if it is over: it reads nothing, and more waits for
+    /// it than may.
+    pub(crate) fn answer(&mut self, texts: &[String]) -> Result<Option<Turned>, Halt> {
+        match self.socket.answer(texts) {
+            Ok(true) => Ok(None),
+            Ok(false) => Ok(Some(Turned::Ends(Ending::Over))),
+            Err(_) => Err(Halt::NoMemory),
+        }
+    }
+
+    /// Hands over what waits for it, and answers whether more may wait.
+    pub(crate) fn hand_over<L: Log>(
+        &mut self,
+        alloc: Global,
+        hub: &mut Hub,
+        log: &mut L,
+    ) -> Result<bool, Halt>
+        ensures handed { IfOk result (λ more. HandsAs more self.old self.new hub.old hub.new) }
+        ensures kept { self.new.connection ≡ self.old.connection }
+    {
+        let Ok(handed) = hand_over(hub, &mut self.socket, self.connection) else {
+            return Err(Halt::NoMemory);
+        };
+        telling::refused(alloc, log, self.connection, self.socket.take_refusals());
+        match handed {
+            Handed::Drained => {}
+            Handed::Blocked => self.is_blocked = true,
+            Handed::More => return Ok(true),
+            Handed::Failed => {
+                if self.socket.pass_over_writes() {
+                    telling::not_sent(alloc, log, self.connection);
+                }
+            }
+        }
+        Ok(false)
+    }
+
     // It ends, and its client is told why by a code, where there is one. Answers its number.
-    fn end(mut self, why: Ending) -> u64 {
+    fn end(&mut self, why: Ending) -> u64
+        ensures { result ≡ self.old.connection }
+    {
         if let Some(code) = why.close_code() {
             self.socket.close(code);
         }
@@ -79,8 +162,8 @@ impl<S: Read + Write + Drop> Talk<S> {
 }
 
 /// One that has come.
-pub(crate) struct Guest<S: Read + Write + Drop> {
-    pub(crate) stage: Stage<S>,
+pub(crate) struct Guest {
+    pub(crate) stage: Stage,
     /// Where it comes from.
     pub(crate) from: SocketAddr,
     /// How many came before it.
@@ -92,7 +175,7 @@ pub(crate) struct Guest<S: Read + Write + Drop> {
     pub(crate) is_noted: bool,
 }
 
-impl<S: Read + Write + Drop> Drop for Guest<S> {
+impl Drop for Guest {
     fn drop(self) {
         let Guest {
             stage: _,
@@ -105,16 +188,16 @@ impl<S: Read + Write + Drop> Drop for Guest<S> {
     }
 }
 
-impl<S: Read + Write + Drop> Guest<S> {
+impl Guest {
     /// One that comes now, and has said nothing yet.
     pub(crate) fn new(
         alloc: Global,
-        stream: S,
+        stream: TcpStream,
         origins: Origins,
         from: SocketAddr,
         serial: u64,
         now: u64,
-    ) -> Guest<S> {
+    ) -> Guest {
         let stream = Counted::new(stream, TURN_BYTES);
         let shaking = server::start(alloc, stream, origins, Some(limits()));
         Guest {
@@ -127,25 +210,142 @@ impl<S: Read + Write + Drop> Guest<S> {
         }
     }
 
-    /// Its handshake, if it shakes hands: it is to be given back.
-    pub(crate) fn take_shaking(&mut self) -> Option<Shaking<S>> {
+    /// Its connection, if it is one.
+    pub(crate) fn talk(&mut self) -> Option<&mut Talk>
+        ensures { option_copied_mut result ≡ talk_of self.old.stage }
+    {
+        match &mut self.stage {
+            Stage::Open(talk) => Some(talk),
+            Stage::Shaking(_) | Stage::Gone => None,
+        }
+    }
+
+    /// Its stream has something to be read, or takes something.
+    pub(crate) fn wake(&mut self, is_readable: bool, is_writable: bool, now: u64)
+        ensures { self.new ≡ record (self.old) {
+          silence = if is_readable then record { heard_at = now; pinged_at = None } else self.old.silence;
+          stage = if is_writable then unblocked self.old.stage else self.old.stage;
+        } }
+    {
+        if is_readable {
+            self.silence = Silence::broken(now);
+        }
+        if is_writable {
+            if let Stage::Open(talk) = &mut self.stage {
+                talk.is_blocked = false;
+            }
+        }
+    }
+
+    /// Its turn begins. Answers whether it is a connection.
+    pub(crate) fn begin_turn(&mut self) -> bool
+        ensures talks { result ≡ is_some (talk_of self.old.stage) }
+        ensures begun { self.new.is_ready ≡ false }
+    {
+        self.is_ready = false;
+        match &mut self.stage {
+            Stage::Open(talk) => {
+                talk.socket.begin_turn();
+                true
+            }
+            Stage::Shaking(_) | Stage::Gone => false,
+        }
+    }
+
+    // Its handshake, if it shakes hands: it is to be given back.
+    fn take_shaking(&mut self) -> Option<Shaking> {
         std::mem::replace(&mut self.stage, Stage::Gone).into_shaking()
+    }
+
+    /// Goes on to shake hands. Answers what became of its turn: there is more once it is a connection, which has
+    /// no number yet.
+    pub(crate) fn shake<L: Log>(
+        &mut self,
+        alloc: Global,
+        is_telling: bool,
+        log: &mut L,
+    ) -> Result<Turned, Halt> {
+        let Some(mut shaking) = self.take_shaking() else {
+            return Ok(Turned::Idle);
+        };
+        shaking.get_mut().await_message();
+        match shaking.handshake() {
+            Ok(socket) => {
+                self.stage = Stage::Open(Talk {
+                    connection: 0,
+                    socket: Socket::new(alloc, socket, is_telling),
+                    is_blocked: false,
+                });
+                Ok(Turned::More)
+            }
+            Err(HandshakeError::Interrupted(shaking)) => {
+                self.stage = Stage::Shaking(shaking);
+                Ok(Turned::Idle)
+            }
+            Err(HandshakeError::Failure(why)) => unshaken(alloc, self.from, why, log),
+        }
+    }
+
+    /// It is a connection of the hub from now on. Answers its number.
+    pub(crate) fn connect<L: Log>(
+        &mut self,
+        alloc: Global,
+        hub: &mut Hub,
+        log: &mut L,
+    ) -> Result<u64, Halt>
+        ensures { IfOk result (λ n. IsMade hub.old Connect hub.new
+            × (number_of self.new.stage ≡ option_map (λ t. n) (talk_of self.old.stage))) }
+    {
+        let connection = hub.connect()?;
+        if let Stage::Open(talk) = &mut self.stage {
+            talk.connection = connection;
+        }
+        telling::begun(alloc, log, connection, self.from);
+        Ok(connection)
+    }
+
+    /// Its alarm rings. Answers when it rings next, or why it goes.
+    pub(crate) fn ring(&mut self, now: u64) -> Result<u64, Ending>
+        ensures rung { result ≡ rung self.old now }
+        ensures silence { self.new.silence ≡ silence_after self.old now }
+    {
+        let Stage::Open(talk) = &mut self.stage else {
+            return Err(Ending::Unshaken);
+        };
+        match self.silence.due(now) {
+            Due::End => Err(Ending::Silent),
+            Due::Ping => {
+                talk.socket.ping();
+                self.silence = self.silence.pinged(now);
+                Ok(now.saturating_add(SILENCE_MS))
+            }
+            Due::Later(wait) => Ok(now.saturating_add(wait)),
+        }
     }
 
     /// It goes, and its client is told why by a code, where there is one. Answers the number of its
     /// connection, if it was one.
-    pub(crate) fn end(self, why: Ending) -> Option<u64> {
-        let Guest {
-            stage,
-            from: _,
-            serial: _,
-            silence: _,
-            is_ready: _,
-            is_noted: _,
-        } = self;
-        match stage.into_talk() {
+    pub(crate) fn end(mut self, why: Ending) -> Option<u64>
+        ensures { result ≡ number_of self.stage }
+    {
+        match self.talk() {
             Some(talk) => Some(talk.end(why)),
             None => None,
         }
+    }
+}
+
+// A handshake with one from there has failed, which is told.
+fn unshaken<L: Log>(
+    alloc: Global,
+    from: SocketAddr,
+    why: Error,
+    log: &mut L,
+) -> Result<Turned, Halt> {
+    telling::no_socket(alloc, log, from, &why);
+    if Broken::of(why).lacks_memory() {
+        Err(Halt::NoMemory)
+    } else {
+        Ok(Turned::Ends(Ending::Refused))
     }
 }

@@ -1,4 +1,9 @@
 // Who keeps what was accepted.
+ghost use Rattle.std.specs.Prelude.{◌≡◌, OnOk};
+ghost use Rattle.std.specs.Option.{option_map};
+ghost use Rattle.rt_journal.specs.Journals.{appended};
+ghost use Rattle.rt_emulate.specs.inside.Keeping.{note_all, note_end, noted_of};
+
 use crate::fault::EmulateFault;
 use crate::halt::Halt;
 use crate::telling;
@@ -29,7 +34,9 @@ impl Drop for Keeper {
 }
 
 // What kind of request is noted.
-fn noted(when: When) -> Noted {
+fn noted(when: When) -> Noted
+    ensures { result ≡ noted_of when }
+{
     match when {
         When::Now => Noted::Write,
         When::AtEnd => Noted::AtEnd,
@@ -37,7 +44,9 @@ fn noted(when: When) -> Noted {
 }
 
 // Notes these requests of the connection.
-fn note_each(journal: &mut Journal, connection: u64, all: &[Accepted]) -> Result<(), Halt> {
+fn note_each(journal: &mut Journal, connection: u64, all: &[Accepted]) -> Result<(), Halt>
+    ensures { OnOk result (journal.new ≡ note_all connection all.now journal.old) }
+{
     for one in all {
         journal.note(connection, noted(one.when), one.text.as_str())?;
     }
@@ -60,7 +69,10 @@ impl Keeper {
     }
 
     /// Notes these requests of the connection, which were accepted.
-    pub(crate) fn note(&mut self, connection: u64, all: &[Accepted]) -> Result<(), Halt> {
+    pub(crate) fn note(&mut self, connection: u64, all: &[Accepted]) -> Result<(), Halt>
+        ensures { OnOk result
+            (self.new.journal ≡ option_map (note_all connection all.now) self.old.journal) }
+    {
         match &mut self.journal {
             Some(journal) => note_each(journal, connection, all),
             None => Ok(()),
@@ -68,7 +80,10 @@ impl Keeper {
     }
 
     /// Notes that the connection ended.
-    pub(crate) fn note_end(&mut self, connection: u64) -> Result<(), Halt> {
+    pub(crate) fn note_end(&mut self, connection: u64) -> Result<(), Halt>
+        ensures { OnOk result
+            (self.new.journal ≡ option_map (note_end connection) self.old.journal) }
+    {
         match &mut self.journal {
             Some(journal) => Ok(journal.note_end(connection)?),
             None => Ok(()),
@@ -82,7 +97,10 @@ impl Keeper {
     }
 
     /// What is noted stands in the journal from now on.
-    pub(crate) fn append(&mut self) -> Result<(), Halt> {
+    pub(crate) fn append(&mut self) -> Result<(), Halt>
+        ensures { OnOk result
+            (self.new.journal ≡ option_map appended self.old.journal) }
+    {
         let Some(journal) = &mut self.journal else {
             return Ok(());
         };

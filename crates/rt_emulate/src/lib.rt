@@ -11,6 +11,7 @@
 //! crate is the edge: streams, handshakes, turns, what is due of a silent client, and the tree's file.
 #![tactic(auto)]
 
+mod alarm;
 mod broken;
 mod edge;
 mod emulating;
@@ -23,6 +24,8 @@ mod guests;
 mod halt;
 mod keeper;
 mod origin;
+mod place;
+mod present;
 mod protocol;
 mod silence;
 mod socket;

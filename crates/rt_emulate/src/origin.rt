@@ -1,13 +1,19 @@
 // Which web pages may connect.
-ghost use Rattle.std.specs.Prelude.{◌≡◌, map, string_bytes};
+ghost use Rattle.std.specs.Prelude.{◌≡◌, ◌&&◌, map, string_bytes, option_copied, IfOk};
 ghost use Rattle.std.specs.Char.{is_ascii_digit};
 ghost use Rattle.std.specs.List.{list_all, list_any};
+ghost use Rattle.std.specs.Option.{is_none, option_map};
+ghost use Rattle.std.specs.Result.{result_ok};
 ghost use Rattle.std.specs.Str.{bytes_eq};
-ghost use Rattle.rt_emulate.specs.Origins.{is_local, is_page_of, is_port, may_connect};
+ghost use Rattle.http.specs.Response.{body_of, head_of};
+ghost use Rattle.rt_emulate.specs.Handshakes.{IsAnswer, IsAnswered, handshake_of, page_refusal, refusal_of};
+ghost use Rattle.rt_emulate.specs.Handshakes.{IsAnsweredBy, sdk_refusal, shown};
+ghost use Rattle.rt_emulate.specs.Origins.{allows, is_local, is_page_of, is_port, may_connect, visible_in};
 
 use crate::protocol::is_of_sdk;
 use http::{HeaderValue, Request, Response, StatusCode};
 use std::alloc::{AllocError, Global};
+use std::marker::Model;
 use tungstenite::handshake::server::{Callback, ErrorResponse};
 
 // What a Firebase SDK is answered.
@@ -77,6 +83,29 @@ pub(crate) fn may_connect(origin: &str, allowed: &[String]) -> bool
     is_local(origin) || is_among(origin, allowed)
 }
 
+// The text of an origin, if a browser may write it so.
+fn text_of(origin: &HeaderValue) -> Option<&str>
+    ensures { option_copied result ≡ visible_in origin.now.bytes }
+{
+    match origin.to_str() {
+        Ok(text) => Some(text),
+        Err(_) => None,
+    }
+}
+
+// An origin as its page is told it.
+fn shown(origin: Option<&HeaderValue>) -> &str
+    ensures { result.now ≡ shown (option_map (λ o. o.now.bytes) origin.entry) }
+{
+    match origin {
+        Some(origin) => match text_of(origin) {
+            Some(text) => text,
+            None => "that",
+        },
+        None => "that",
+    }
+}
+
 /// The pages of other machines that may connect, for one handshake.
 pub(crate) struct Origins {
     alloc: Global,
@@ -92,8 +121,19 @@ impl Drop for Origins {
     }
 }
 
+impl Model for Origins {
+    ghost use Rattle.std.specs.Prelude.{List, ℕ, map, string_bytes};
+
+    ghost Value = { List (List ℕ) };
+
+    ghost view = { λ o. map string_bytes o.allowed.items };
+}
+
 impl Origins {
-    pub(crate) fn of(alloc: Global, allowed: &[String]) -> Result<Origins, AllocError> {
+    /// The origins that are allowed, for one handshake more.
+    pub(crate) fn of(alloc: Global, allowed: &[String]) -> Result<Origins, AllocError>
+        ensures { IfOk result (λ o. o ≡ map string_bytes allowed.now) }
+    {
         let mut all = Vec::with_capacity(alloc, allowed.len())?;
         for one in allowed {
             all.push(String::from_str(alloc, one.as_str())?)?;
@@ -105,37 +145,69 @@ impl Origins {
     }
 
     // Whether a handshake with that origin comes about. One that names none is of no web page.
-    fn allows(&self, origin: Option<&HeaderValue>) -> bool {
+    fn allows(&self, origin: Option<&HeaderValue>) -> bool
+        ensures { result ≡ allows self.now (option_map (λ o. o.now.bytes) origin.entry) }
+    {
         match origin {
             None => true,
-            Some(value) => match value.to_str() {
-                Ok(origin) => may_connect(origin, self.allowed.as_slice()),
-                Err(_) => false,
+            Some(origin) => match text_of(origin) {
+                Some(text) => may_connect(text, self.allowed.as_slice()),
+                None => false,
             },
         }
     }
 
-    // What is answered where that is why a handshake doesn't come about.
-    fn answer(&self, status: StatusCode, why: Result<String, AllocError>) -> ErrorResponse {
+    // Whether a handshake comes about that names this origin first, and then that one.
+    fn allows_one(&self, first: Option<&HeaderValue>, second: Option<&HeaderValue>) -> bool
+        ensures { result ≡ (is_none second.entry && allows self.now (option_map (λ o. o.now.bytes) first.entry)) }
+    {
+        match second {
+            None => self.allows(first),
+            Some(_) => false,
+        }
+    }
+
+    // What is answered to a handshake that doesn't come about, with that status.
+    fn answer(&self, status: StatusCode, why: Result<String, AllocError>) -> ErrorResponse
+        ensures status { (head_of result).status ≡ status }
+        ensures why { body_of result ≡ result_ok why }
+    {
         let mut answer = Response::new(self.alloc, why.ok());
         *answer.status_mut() = status;
         answer
     }
 
     // What a page that is refused is answered.
-    fn refusal(&self, origin: Option<&HeaderValue>) -> ErrorResponse {
-        let origin = match origin {
-            Some(origin) => origin.to_str().unwrap_or("that"),
-            None => "that",
-        };
+    fn refusal(&self, origin: Option<&HeaderValue>) -> ErrorResponse
+        ensures { IsAnswer (page_refusal (option_map (λ o. o.now.bytes) origin.entry)) result }
+    {
+        let origin = shown(origin);
         let why = format!(in self.alloc; "a page of {origin} may not connect");
         self.answer(StatusCode::FORBIDDEN, why)
     }
 
     // What a Firebase SDK is answered.
-    fn other_protocol(&self) -> ErrorResponse {
+    fn other_protocol(&self) -> ErrorResponse
+        ensures { IsAnswer sdk_refusal result }
+    {
         let why = String::from_str(self.alloc, OTHER_PROTOCOL);
         self.answer(StatusCode::BAD_REQUEST, why)
+    }
+
+    // What is answered to a handshake, if it doesn't come about.
+    fn refused(&self, request: &Request<()>) -> Option<ErrorResponse>
+        ensures { IsAnswered (refusal_of (handshake_of request.now) self.now) result }
+    {
+        if is_of_sdk(request.uri().path(), request.uri().query()) {
+            return Some(self.other_protocol());
+        }
+        let mut origins = request.headers().get_all("origin").into_iter();
+        let first = origins.next();
+        if self.allows_one(first, origins.next()) {
+            None
+        } else {
+            Some(self.refusal(first))
+        }
     }
 }
 
@@ -144,16 +216,12 @@ impl Callback for Origins {
         self,
         request: &Request<()>,
         response: Response<()>,
-    ) -> Result<Response<()>, ErrorResponse> {
-        if is_of_sdk(request.uri().path(), request.uri().query()) {
-            return Err(self.other_protocol());
-        }
-        let mut origins = request.headers().get_all("origin").into_iter();
-        let first = origins.next();
-        if origins.next().is_none() && self.allows(first) {
-            Ok(response)
-        } else {
-            Err(self.refusal(first))
+    ) -> Result<Response<()>, ErrorResponse>
+        ensures { IsAnsweredBy (refusal_of (handshake_of request.now) self) response result }
+    {
+        match self.refused(request) {
+            None => Ok(response),
+            Some(answer) => Err(answer),
         }
     }
 }

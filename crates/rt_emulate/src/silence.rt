@@ -9,14 +9,14 @@ pub const HANDSHAKE_MS: u64 = 10_000;
 pub const SILENCE_MS: u64 = 30_000;
 
 /// When a guest was heard last, and when it was sent a ping since, in milliseconds from the start.
-#[derive(Clone, Copy, Debug, PartialEq, Eq)]
+#[derive(Clone, Copy)]
 pub(crate) struct Silence {
     pub(crate) heard_at: u64,
     pub(crate) pinged_at: Option<u64>,
 }
 
 /// What is due of a silent guest.
-#[derive(Clone, Copy, Debug, PartialEq, Eq)]
+#[derive(Clone, Copy)]
 pub(crate) enum Due {
     /// It is ended.
     End,

@@ -1,14 +1,22 @@
 // A WebSocket as a door.
-ghost use Rattle.std.specs.Prelude.{[], None};
+ghost use Rattle.std.specs.Prelude.{◌≡◌, [], true, false, None, IfOk, Ok};
+ghost use Rattle.tungstenite.specs.Content.{text as Text};
+ghost use Rattle.rt_turns.specs.declared.door.Flushed.{Flushed};
+ghost use Rattle.rt_emulate.specs.inside.Endings.{ending_of};
+ghost use Rattle.rt_emulate.specs.inside.Sockets.{Hears, IsSaid, Puts, ReadsOn, ReadsOne, Sends};
+ghost use Rattle.rt_emulate.specs.inside.Sockets.{broken_by, code_in, judged};
+ghost use Rattle.rt_emulate.specs.inside.Sockets.{heard_of, kept, passes, said_of, takes};
 
 use crate::broken::{Broken, done};
 use crate::ending::Ending;
+use mio::net::TcpStream;
 use rt_hub::MAX_WAITING_BYTES;
 use rt_input::Counted;
 use rt_turns::{Door, Flushed, Heard};
+use rt_wire::is_crowded;
 use std::alloc::{AllocError, Global};
-use std::io::{Read, Write};
-use tungstenite::{Bytes, Message, NoMask, Utf8Bytes, WebSocket, WebSocketConfig};
+use std::io::Write;
+use tungstenite::{Bytes, CloseFrame, Message, NoMask, Utf8Bytes, WebSocket, WebSocketConfig};
 
 /// How many bytes are read of a guest in one turn.
 pub(crate) const TURN_BYTES: usize = 65_536;
@@ -28,24 +36,17 @@ pub(crate) fn limits() -> WebSocketConfig {
         .max_frame_size(Some(MAX_WAITING_BYTES))
 }
 
-/// What is heard that is no text.
-#[derive(Clone, Copy, Debug, PartialEq, Eq)]
-enum Last {
-    Text,
-    Binary,
-    Control,
-}
-
 /// A WebSocket as a door.
-pub(crate) struct Socket<S: Read + Write + Drop> {
+pub(crate) struct Socket {
     alloc: Global,
-    socket: WebSocket<Counted<S>, NoMask>,
+    socket: WebSocket<Counted<TcpStream>, NoMask>,
     text: Utf8Bytes,
-    last: Last,
+    /// Whether what was heard last was binary.
+    pub(crate) was_binary: bool,
     said: Heard,
     flushed: Flushed,
-    // Whether as many bytes were read in the turn as are read in one.
-    is_spent: bool,
+    /// Whether as many bytes were read in the turn as are read in one, so that there may be more.
+    pub(crate) is_spent: bool,
     // The code of the client's close, where it has closed.
     closed: Option<Option<u16>>,
     // Why it has ended, where that was no close.
@@ -55,13 +56,13 @@ pub(crate) struct Socket<S: Read + Write + Drop> {
     refusals: Vec<String>,
 }
 
-impl<S: Read + Write + Drop> Drop for Socket<S> {
+impl Drop for Socket {
     fn drop(self) {
         let Socket {
             alloc: _,
             socket: _,
             text: _,
-            last: _,
+            was_binary: _,
             said: _,
             flushed: _,
             is_spent: _,
@@ -73,17 +74,17 @@ impl<S: Read + Write + Drop> Drop for Socket<S> {
     }
 }
 
-impl<S: Read + Write + Drop> Socket<S> {
+impl Socket {
     pub(crate) fn new(
         alloc: Global,
-        socket: WebSocket<Counted<S>, NoMask>,
+        socket: WebSocket<Counted<TcpStream>, NoMask>,
         is_telling: bool,
-    ) -> Socket<S> {
+    ) -> Socket {
         Socket {
             alloc,
             socket,
             text: Utf8Bytes::new(),
-            last: Last::Control,
+            was_binary: false,
             said: Heard::Nothing,
             flushed: Flushed::Done,
             is_spent: false,
@@ -100,24 +101,18 @@ impl<S: Read + Write + Drop> Socket<S> {
         self.socket.get_mut().await_message();
     }
 
-    /// Whether as many bytes were read in the turn as are read in one, so that there may be more.
-    pub(crate) fn is_spent(&self) -> bool {
-        self.is_spent
-    }
-
-    /// Whether what was heard last was binary.
-    pub(crate) fn was_binary(&self) -> bool {
-        self.last == Last::Binary
-    }
-
     /// What is sent from here on goes nowhere, since the stream takes nothing any more. Answers whether
     /// that began now.
-    pub(crate) fn pass_over_writes(&mut self) -> bool {
+    pub(crate) fn pass_over_writes(&mut self) -> bool
+        ensures { self.new ≡ record (self.old) { socket = self.new.socket } }
+    {
         self.socket.get_mut().pass_over_writes()
     }
 
     /// Why it has ended.
-    pub(crate) fn ending(&self) -> Ending {
+    pub(crate) fn ending(&self) -> Ending
+        ensures { result ≡ ending_of self.now.closed self.now.why }
+    {
         match (self.closed, self.why) {
             (Some(code), _) => Ending::Closed(code),
             (None, Some(why)) => Ending::Failed(why),
@@ -126,7 +121,11 @@ impl<S: Read + Write + Drop> Socket<S> {
     }
 
     /// The refusals that were sent since this was asked last.
-    pub(crate) fn take_refusals(&mut self) -> Vec<String> {
+    pub(crate) fn take_refusals(&mut self) -> Vec<String>
+        ensures taken { result ≡ self.old.refusals }
+        ensures kept { self.new ≡ record (self.old) { refusals = self.new.refusals } }
+        ensures none { self.new.refusals.items ≡ [] }
+    {
         std::mem::replace(&mut self.refusals, Vec::new(self.alloc))
     }
 
@@ -146,31 +145,31 @@ impl<S: Read + Write + Drop> Socket<S> {
     }
 
     // Keeps what a message says.
-    fn keep(&mut self, message: Message) -> Heard {
+    fn keep(&mut self, message: Message) -> Heard
+        ensures heard { result ≡ heard_of message }
+        ensures kept { self.new ≡ kept message self.old }
+    {
+        self.was_binary = message.is_binary();
         match message {
             Message::Text(text) => {
                 self.text = text;
-                self.last = Last::Text;
                 Heard::Text
             }
-            Message::Binary(_) => {
-                self.last = Last::Binary;
-                Heard::Other
-            }
-            Message::Ping(_) | Message::Pong(_) => {
-                self.last = Last::Control;
+            Message::Binary(bytes) | Message::Ping(bytes) | Message::Pong(bytes) => {
+                drop(bytes);
                 Heard::Other
             }
             Message::Close(frame) => {
-                self.closed = Some(frame.map(|frame| u16::from(frame.code)));
-                self.last = Last::Control;
+                self.closed = Some(code_in(frame));
                 Heard::Other
             }
         }
     }
 
     // The next message.
-    fn read(&mut self) -> Result<Heard, Broken> {
+    fn read(&mut self) -> Result<Heard, Broken>
+        ensures { ReadsOne self.old self.new result }
+    {
         match self.socket.read() {
             Ok(message) => Ok(self.keep(message)),
             Err(error) => Err(Broken::of(error)),
@@ -179,7 +178,11 @@ impl<S: Read + Write + Drop> Socket<S> {
 
     // Whether a read failed because what the socket has to answer by itself can't be written any more.
     // From then on it goes nowhere.
-    fn passes_over(&mut self, why: Broken) -> bool {
+    fn passes_over(&mut self, why: Broken) -> bool
+        ensures passes { result ≡ true → passes why ≡ true }
+        ensures kept { self.new ≡ record (self.old) { socket = self.new.socket } }
+        ensures stays { result ≡ false → passes why ≡ false → self.new ≡ self.old }
+    {
         why.of_stream().is_some()
             && !why.would_block()
             && !why.is_spent()
@@ -187,7 +190,9 @@ impl<S: Read + Write + Drop> Socket<S> {
     }
 
     // The next message, also where what the socket has to answer by itself can't be written any more.
-    fn read_on(&mut self) -> Result<Heard, Broken> {
+    fn read_on(&mut self) -> Result<Heard, Broken>
+        ensures { ReadsOn self.old self.new result }
+    {
         match self.read() {
             Ok(heard) => Ok(heard),
             Err(why) => {
@@ -200,19 +205,50 @@ impl<S: Read + Write + Drop> Socket<S> {
         }
     }
 
-    // What a read says that failed so: nothing is there now, or it has ended.
-    fn say_broken(&mut self, why: Broken) -> Heard {
+    // Says what was heard.
+    fn say(&mut self, heard: Heard) -> Heard
+        ensures said { result ≡ heard }
+        ensures kept { self.new ≡ record (self.old) { said = heard } }
+    {
+        self.said = heard;
+        heard
+    }
+
+    // Says what is heard where a read failed so: nothing is there now, or it has ended.
+    fn say_broken(&mut self, why: Broken) -> Heard
+        ensures said { result ≡ said_of why }
+        ensures kept { self.new ≡ record (broken_by why self.old) { said = said_of why } }
+    {
         self.is_spent = why.is_spent();
         if self.is_spent || why.would_block() {
-            Heard::Nothing
+            self.say(Heard::Nothing)
         } else {
             self.why = Some(why);
-            Heard::Ended
+            self.say(Heard::Ended)
+        }
+    }
+
+    // Says what was heard. A text that holds more than a message may is as a read that failed.
+    fn say_heard(&mut self, heard: Heard) -> Heard
+        ensures { IsSaid (judged (Ok heard) self.old.text) self.old result self.new }
+    {
+        match heard {
+            Heard::Text => {
+                if is_crowded(self.text.as_str()) {
+                    self.say_broken(Broken::Crowded)
+                } else {
+                    self.say(Heard::Text)
+                }
+            }
+            Heard::Other | Heard::Nothing | Heard::Ended => self.say(heard),
         }
     }
 
     // Writes a text, as far as the stream takes it, and answers what came between.
-    fn write(&mut self, text: &str) -> Result<Option<Broken>, AllocError> {
+    fn write(&mut self, text: &str) -> Result<Option<Broken>, AllocError>
+        ensures { IfOk result (λ broken. takes broken ≡ true
+            → Puts (Text text.now) self.old.socket self.new.socket) }
+    {
         if self.is_telling && is_refusal(text) {
             self.keep_refusal(text)?;
         }
@@ -236,13 +272,15 @@ impl<S: Read + Write + Drop> Socket<S> {
     }
 
     // Keeps a refusal, to be told.
-    fn keep_refusal(&mut self, text: &str) -> Result<(), AllocError> {
+    fn keep_refusal(&mut self, text: &str) -> Result<(), AllocError>
+        ensures { self.new ≡ record (self.old) { refusals = self.new.refusals } }
+    {
         let text = String::from_str(self.alloc, text)?;
         Ok(self.refusals.push(text)?)
     }
 }
 
-impl<S: Read + Write + Drop> Door for Socket<S> {
+impl Door for Socket {
     ghost remaining = { λ _. None };
 
     ghost contents = { λ _. None };
@@ -253,21 +291,27 @@ impl<S: Read + Write + Drop> Door for Socket<S> {
 
     ghost flushed = { λ s. s.flushed };
 
-    fn hear(&mut self) -> Result<Heard, AllocError> {
-        let heard = match self.read_on() {
-            Ok(heard) => heard,
-            Err(Broken::NoMemory) => return Err(AllocError),
-            Err(why) => self.say_broken(why),
-        };
-        self.said = heard;
-        Ok(heard)
+    fn hear(&mut self) -> Result<Heard, AllocError>
+        ensures said { IfOk result (λ heard. self.new.said ≡ heard) }
+        // What it says is what was read of it.
+        ensures heard { IfOk result (λ heard. Hears self.old self.new heard) }
+    {
+        match self.read_on() {
+            Ok(heard) => Ok(self.say_heard(heard)),
+            Err(Broken::NoMemory) => Err(AllocError),
+            Err(why) => Ok(self.say_broken(why)),
+        }
     }
 
     fn text(&self) -> &str {
         self.text.as_str()
     }
 
-    fn put(&mut self, text: &str) -> Result<bool, AllocError> {
+    fn put(&mut self, text: &str) -> Result<bool, AllocError>
+        // What it takes waits to be sent, or is.
+        ensures put { IfOk result (λ took. took ≡ true
+            → Puts (Text text.now) self.old.socket self.new.socket) }
+    {
         match self.write(text)? {
             None => Ok(true),
             // What would block is taken all the same.
@@ -275,7 +319,12 @@ impl<S: Read + Write + Drop> Door for Socket<S> {
         }
     }
 
-    fn flush(&mut self) -> Flushed {
+    fn flush(&mut self) -> Flushed
+        ensures flushed { self.new.flushed ≡ result }
+        // What it has taken is sent, as far as it goes: all of it, where it says so.
+        ensures sends { Sends self.old.socket self.new.socket }
+        ensures done { result ≡ Flushed.Done → self.new.socket.output ≡ [] }
+    {
         self.flushed = match done(self.socket.flush()) {
             Ok(()) => Flushed::Done,
             Err(why) => {
@@ -287,6 +336,16 @@ impl<S: Read + Write + Drop> Door for Socket<S> {
             }
         };
         self.flushed
+    }
+}
+
+// The code of a client's close, where it has one.
+fn code_in(frame: Option<CloseFrame>) -> Option<u16>
+    ensures { result ≡ code_in frame }
+{
+    match frame {
+        Some(frame) => Some(u16::from(frame.code)),
+        None => None,
     }
 }
 

@@ -3,6 +3,7 @@ use crate::ending::Ending;
 use rt_input::Log;
 use rt_wire::WireError;
 use std::alloc::{AllocError, Global};
+use std::fmt::Display;
 use std::io;
 use std::net::SocketAddr;
 use tungstenite::Error;
@@ -29,6 +30,14 @@ pub(crate) fn begun<L: Log>(alloc: Global, log: &mut L, connection: u64, from: S
     }
 }
 
+// Why a stream is no WebSocket.
+fn strange<L: Log, D: Display>(alloc: Global, log: &mut L, from: SocketAddr, why: &D) {
+    tell(
+        log,
+        format!(in alloc; "a stream from {from} is no WebSocket: {why}"),
+    );
+}
+
 // Why a handshake failed, of which memory is no cause that is told.
 pub(crate) fn no_socket<L: Log>(alloc: Global, log: &mut L, from: SocketAddr, why: &Error) {
     if !log.is_on() {
@@ -39,25 +48,16 @@ pub(crate) fn no_socket<L: Log>(alloc: Global, log: &mut L, from: SocketAddr, wh
         Error::Refused(answer) => {
             let why = answer.body().as_ref();
             let why = why.map_or("its origin is refused", String::as_str);
-            tell(
-                log,
-                format!(in alloc; "a stream from {from} is no WebSocket: {why}"),
-            );
+            strange(alloc, log, from, &why);
         }
-        why => tell(
-            log,
-            format!(in alloc; "a stream from {from} is no WebSocket: {why}"),
-        ),
+        why => strange(alloc, log, from, why),
     }
 }
 
 // Why one goes that hasn't shaken hands, unless it was told when its handshake failed.
 pub(crate) fn unshaken<L: Log>(alloc: Global, log: &mut L, from: SocketAddr, why: Ending) {
     if log.is_on() && !why.is_told() {
-        tell(
-            log,
-            format!(in alloc; "a stream from {from} is no WebSocket: {why}"),
-        );
+        strange(alloc, log, from, &why);
     }
 }
 

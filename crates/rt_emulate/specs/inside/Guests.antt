@@ -1,0 +1,153 @@
+-- Those that are there: what is due of them, and what is heard of one and handed over to it.
+use Rattle.std.specs.Prelude.{◌≡◌, ◌+◌, ◌-◌, ◌^◌, ℕ, min, Bool, true, false, not, ◌&&◌, ◌||◌, if◌then◌else◌}
+use Rattle.std.specs.Prelude.{List, [], ◌∷◌, ◌++◌, Option, Some, None, Result, Ok, Err}
+use Rattle.std.specs.Option.{is_none, option_and_then, option_map, option_map_or}
+use Rattle.slab.specs.Slab.{get}
+use Rattle.rt_hub.specs.Hubs.{Hub, line_in}
+use Rattle.rt_turns.specs.Handing.{Hands}
+use Rattle.rt_turns.specs.Turns.{HearsTurn}
+use Rattle.rt_turns.specs.declared.door.Flushed.{Flushed}
+use Rattle.rt_turns.specs.declared.hand.Handed.{Handed}
+use Rattle.rt_turns.specs.declared.hand.Handed.TheVariants as hand
+use Rattle.rt_turns.specs.declared.notes.Notes.{Notes}
+use Rattle.rt_turns.specs.declared.take.Turn.{Turn}
+use Rattle.rt_turns.specs.declared.take.Turn.TheVariants as turn
+use Rattle.rt_emulate.specs.declared.emulator.Emulator.{Emulator}
+use Rattle.rt_emulate.specs.declared.ending.Ending.{Ending}
+use Rattle.rt_emulate.specs.declared.ending.Ending.TheVariants.{Over, Silent, Unshaken}
+use Rattle.rt_emulate.specs.declared.guest.Guest.{Guest}
+use Rattle.rt_emulate.specs.declared.guest.Stage.{Stage}
+use Rattle.rt_emulate.specs.declared.guest.Stage.TheVariants.{Shaking, Open, Gone}
+use Rattle.rt_emulate.specs.declared.guest.Talk.{Talk}
+use Rattle.rt_emulate.specs.declared.guest.Turned.{Turned}
+use Rattle.rt_emulate.specs.declared.guest.Turned.TheVariants.{Idle, More, Ends}
+use Rattle.rt_emulate.specs.declared.present.Present.{Present}
+use Rattle.rt_emulate.specs.declared.silence.Due.{Due}
+use Rattle.rt_emulate.specs.declared.silence.Due.TheVariants.{End, Ping, Later}
+use Rattle.rt_emulate.specs.declared.silence.Silence.{Silence}
+use Rattle.rt_emulate.specs.declared.silence.TheConstants.{SILENCE_MS}
+use Rattle.rt_emulate.specs.declared.socket.Socket.{Socket}
+use Rattle.rt_emulate.specs.inside.Alarms.{next_time, patience, sooner}
+use Rattle.rt_emulate.specs.inside.Endings.{ending_of}
+use Rattle.rt_emulate.specs.inside.Silences.{due_of}
+
+-- ---- who has a turn
+
+abbrev pub is_none_of : List ℕ → Bool
+is_none_of [] = true
+is_none_of (place ∷ places) = false
+
+-- nobody has a turn, and nothing can be handed over
+abbrev pub is_idle : Present → Bool
+is_idle p = is_none_of p.ready.items && is_none_of p.noted.items
+
+-- somebody has a turn, something can be handed over, or somebody can be let in, where that didn't fail just
+-- now
+abbrev pub has_work : Present → Bool → Option ℕ → Bool
+has_work p has_visitor retry_at = not (is_idle p) || (has_visitor && is_none retry_at)
+
+-- a guest that is noted, to whom what waits is handed over next
+abbrev pub marked : Guest → Guest
+marked g = record g { is_noted = true }
+
+-- those that are noted, in order, where the guest at that place is to be one, if there is a guest: it is noted once
+abbrev pub noted_after : Present → ℕ → List ℕ
+noted_after p place =
+    if option_map_or (λ g. not g.is_noted) (get p.all place) false then p.noted.items ++ place ∷ []
+    else p.noted.items
+
+-- how long an emulator waits, where something of the tree's file may be due then
+abbrev pub IsPatience : Emulator → Option ℕ → Type 0
+IsPatience e patient =
+    (kept : Option ℕ) × (patient ≡ patience (has_work e.guests.present e.has_visitor e.retry_at)
+    (sooner (sooner (next_time e.guests.present.alarms) e.retry_at) kept) e.now)
+
+-- ---- connections
+
+-- a guest that has shaken hands is a connection
+abbrev pub talk_of : Stage → Option Talk
+talk_of (Shaking shaking) = None
+talk_of (Open talk) = Some talk
+talk_of Gone = None
+
+abbrev pub number_of : Stage → Option ℕ
+number_of stage = option_map (λ t. t.connection) (talk_of stage)
+
+-- the connection of the guest at that place, if it is one
+abbrev pub talk_at : Present → ℕ → Option Talk
+talk_at p place = option_and_then (λ g. talk_of g.stage) (get p.all place)
+
+-- ---- what is due
+
+-- a stream that takes something is not blocked any more
+abbrev pub unblocked : Stage → Stage
+unblocked (Shaking shaking) = Shaking shaking
+unblocked (Open talk) = Open (record talk { is_blocked = false })
+unblocked Gone = Gone
+
+abbrev pub later : ℕ → ℕ → ℕ
+later now wait = min (now + wait) (2 ^ 64 - 1)
+
+-- when the alarm of a connection rings next, or that it goes
+abbrev pub next_of : Due → ℕ → Result ℕ Ending
+next_of End now = Err Silent
+next_of Ping now = Ok (later now SILENCE_MS)
+next_of (Later wait) now = Ok (later now wait)
+
+-- a guest that is no connection by its first alarm goes
+abbrev pub rung : Guest → ℕ → Result ℕ Ending
+rung g now = option_map_or (λ t. next_of (due_of g.silence now) now) (talk_of g.stage) (Err Unshaken)
+
+-- one that is sent a ping is waited for
+abbrev pub asked : Due → Silence → ℕ → Silence
+asked End s now = s
+asked Ping s now = record s { pinged_at = Some now }
+asked (Later wait) s now = s
+
+abbrev pub silence_after : Guest → ℕ → Silence
+silence_after g now = option_map_or (λ t. asked (due_of g.silence now) g.silence now) (talk_of g.stage) g.silence
+
+-- ---- what is heard, and what is handed over
+
+-- what became of a guest's turn, if it is over
+abbrev pub turned_by : Turn → Socket → Option Turned
+turned_by turn.Idle s = Some (if s.is_spent then More else Idle)
+turned_by turn.More s = None
+turned_by turn.Ended s = Some (Ends (ending_of s.closed s.why))
+
+-- a message at most is taken, as one of that connection
+abbrev pub HearsAs : Option Turned → Talk → Talk → Option Hub → Option Hub → Notes → Notes → Type 0
+HearsAs turned old new hub hub2 was is =
+    (turn : Turn) × HearsTurn turn 1 old.connection hub hub2 None None was is
+    × (turned ≡ turned_by turn new.socket)
+
+abbrev pub is_more : Handed → Bool
+is_more hand.Drained = false
+is_more hand.Blocked = false
+is_more hand.More = true
+is_more hand.Failed = false
+
+abbrev pub blocked_by : Handed → Bool → Bool
+blocked_by hand.Drained was = was
+blocked_by hand.Blocked was = true
+blocked_by hand.More was = was
+blocked_by hand.Failed was = was
+
+-- texts that wait for that connection are handed over, and no others
+abbrev pub HandsAs : Bool → Talk → Talk → Option Hub → Option Hub → Type 0
+HandsAs more old new hub hub2 =
+    (handed : Handed) × (flushed : Flushed) × Hands handed old.connection None None flushed hub hub2
+    × (more ≡ is_more handed) × (new.is_blocked ≡ blocked_by handed old.is_blocked)
+
+-- to a connection for which more came than may wait nothing is handed over, and it goes; nor to one whose stream
+-- takes nothing for now
+abbrev pub HandsTo : Talk → Bool → Bool → Option Ending → Option Hub → Option Hub → Type 0
+HandsTo t true is_blocked why hub hub2 = (why ≡ Some Over) × (hub2 ≡ hub)
+HandsTo t false true why hub hub2 = (why ≡ None) × (hub2 ≡ hub)
+HandsTo t false false why hub hub2 =
+    (why ≡ None) × ((handed : Handed) × (flushed : Flushed) × Hands handed t.connection None None flushed hub hub2)
+
+abbrev pub HandsAt : Option Talk → Option Ending → Option Hub → Option Hub → Type 0
+HandsAt None why hub hub2 = (why ≡ None) × (hub2 ≡ hub)
+HandsAt (Some t) why hub hub2 =
+    HandsTo t (option_map_or (λ l. l.is_over) (line_in hub t.connection) false) t.is_blocked why hub hub2

@@ -1,0 +1,24 @@
+-- What is noted of requests that were accepted, and of connections that end.
+use Rattle.std.specs.Prelude.{ℕ, List, [], ◌∷◌, string_bytes}
+use Rattle.rt_hub.specs.declared.verdict.When.{When}
+use Rattle.rt_hub.specs.declared.verdict.When.TheVariants.{Now, AtEnd}
+use Rattle.rt_journal.specs.Books.{with_end, with_request}
+use Rattle.rt_journal.specs.Journals.{Journal}
+use Rattle.rt_journal.specs.declared.book.Noted.{Noted}
+use Rattle.rt_journal.specs.declared.book.Noted.TheVariants as note
+use Rattle.rt_turns.specs.declared.notes.Accepted.{Accepted}
+
+abbrev pub noted_of : When → Noted
+noted_of Now = note.Write
+noted_of AtEnd = note.AtEnd
+
+abbrev pub note_one : ℕ → Accepted → Journal → Journal
+note_one n a j = record j { book = with_request j.book n (noted_of a.when) (string_bytes a.text) }
+
+-- each of them is noted as one of that connection, in order
+abbrev pub note_all : ℕ → List Accepted → Journal → Journal
+note_all n [] j = j
+note_all n (a ∷ all) j = note_all n all (note_one n a j)
+
+abbrev pub note_end : ℕ → Journal → Journal
+note_end n j = record j { book = with_end j.book n }
