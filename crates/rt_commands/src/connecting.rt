@@ -12,10 +12,10 @@ use rt_drive::drive_logged;
 use rt_input::{ConsoleError, Drain, Log, Source};
 use rt_world::Limits;
 use std::alloc::Global;
-use std::io;
 use std::net::{Ipv4Addr, Net, TcpStream};
 use std::random::RandomSource;
 use std::sync::Wait;
+use std::{fmt, io};
 use thiserror::Error;
 
 // The client's number, and how many items each of its seats holds.
@@ -24,12 +24,19 @@ const NUMBER: u64 = 1;
 const CAPACITIES: [usize; 8] = [1_024; 8];
 
 /// Why a client ends early, or does not begin.
-#[derive(Debug, Drop, Error)]
+#[derive(Drop, Error)]
 pub enum ConnectFault {
     #[error("no connection to port {port} of 127.0.0.1 can be made: {why}")]
     NotConnected { port: u16, why: io::Error },
     #[error("{0}")]
     Ended(ConsoleError),
+}
+
+impl fmt::Debug for ConnectFault {
+    // In its words.
+    fn fmt<W: fmt::Write>(&self, f: &mut fmt::Formatter<W>) -> fmt::Result {
+        fmt::Display::fmt(self, f)
+    }
 }
 
 impl ConnectFault {

@@ -17,13 +17,13 @@ use rt_tree::{Path, Tree};
 use rt_words::Serving;
 use std::alloc::{AllocError, AllocFailed, Global};
 use std::fmt::Write;
-use std::io;
 use std::net::{Ipv4Addr, Net, OpenListener, TcpListener};
 use std::sync::Wait;
+use std::{fmt, io};
 use thiserror::Error;
 
 /// Why serving ends early, or does not begin.
-#[derive(Debug, Drop, Error)]
+#[derive(Drop, Error)]
 pub enum ServeFault {
     #[error("port {port} can't be bound: {why}")]
     NotBound { port: u16, why: io::Error },
@@ -31,6 +31,13 @@ pub enum ServeFault {
     NotAccepted { port: u16, why: io::Error },
     #[error("out of memory")]
     NoMemory,
+}
+
+impl fmt::Debug for ServeFault {
+    // In its words.
+    fn fmt<W: fmt::Write>(&self, f: &mut fmt::Formatter<W>) -> fmt::Result {
+        fmt::Display::fmt(self, f)
+    }
 }
 
 impl ServeFault {

@@ -24,7 +24,7 @@ pub const MAX_KEPT_BYTES: usize = 268_435_456;
 const COST: usize = 64;
 
 /// What an answer names: a request, or a listen by its tag.
-#[derive(Clone, Copy, Debug, PartialEq, Eq)]
+#[derive(Clone, Copy)]
 pub(crate) enum Name {
     Request(u64),
     Listen(u64),
@@ -54,7 +54,7 @@ pub(crate) fn answer_to(message: &ClientMessage) -> Option<Name>
 }
 
 // A message that is to be answered, and how many bytes were sent up to its end.
-#[derive(Clone, Copy, Debug)]
+#[derive(Clone, Copy)]
 pub(crate) struct Due {
     name: Name,
     sent: u64,

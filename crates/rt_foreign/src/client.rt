@@ -223,7 +223,7 @@ impl Client {
         };
         let status = give(text.as_str().as_bytes(), out, len);
         if status == DONE {
-            self.message = None;
+            drop(self.message.take());
         }
         status
     }

@@ -8,6 +8,7 @@ use crate::text::give;
 use rt_client::Seat;
 use rt_mail::Item;
 use std::alloc::Global;
+use std::mem;
 
 /// A seat, and the item that was taken out of its ring and is still to be given.
 #[derive(Drop)]
@@ -22,7 +23,8 @@ impl Place {
         ensures { self.new ≡ looked self.old }
     {
         if self.first.is_none() {
-            self.first = self.seat.next();
+            let next = self.seat.next();
+            drop(mem::replace(&mut self.first, next));
         }
     }
 
@@ -41,7 +43,7 @@ impl Place {
         };
         let status = give(text.as_str().as_bytes(), out, len);
         if status == DONE {
-            self.first = None;
+            drop(self.first.take());
         }
         status
     }

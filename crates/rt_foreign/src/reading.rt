@@ -155,9 +155,17 @@ fn check_json(alloc: Global, text: &str) -> Result<(), LineError>
         ⊎ (e ≡ LineError.NoMemory)) }
 {
     match Value::from_str(alloc, text) {
-        Ok(_) => Ok(()),
-        Err(error) if error.is_memory() => Err(LineError::NoMemory),
-        Err(_) => Err(LineError::Bad),
+        Ok(value) => {
+            drop(value);
+            Ok(())
+        }
+        Err(error) => {
+            if error.is_memory() {
+                Err(LineError::NoMemory)
+            } else {
+                Err(LineError::Bad)
+            }
+        }
     }
 }
 
@@ -177,10 +185,13 @@ fn listened(alloc: Global, text: &str) -> Result<Query, LineError>
     match ClientMessage::read(alloc, text) {
         Ok(ClientMessage::Listen { tag: _, query }) => Ok(query),
         Ok(
-            ClientMessage::Hello { .. }
+            message @ (ClientMessage::Hello { .. }
             | ClientMessage::Unlisten { .. }
-            | ClientMessage::Ask { .. },
-        ) => Err(LineError::Bad),
+            | ClientMessage::Ask { .. }),
+        ) => {
+            drop(message);
+            Err(LineError::Bad)
+        }
         Err(WireError::NoMemory) => Err(LineError::NoMemory),
         Err(error) => Err(LineError::Refused(Refusal::Wire(error))),
     }

@@ -6,12 +6,12 @@ ghost use Rattle.rt_input.specs.Errors.{code_of, name_of};
 use crate::error::ConsoleError;
 use crate::lines::MOST_INPUT;
 use crate::stream::{Drain, Reading, Source, Writing};
-use std::io;
 use std::io::{Read, Write};
+use std::{fmt, io};
 use thiserror::Error;
 
 /// A [`ConsoleError`] with why it came, as it is told to a person.
-#[derive(Debug, Drop, Error)]
+#[derive(Drop, Error)]
 pub enum Fault {
     /// A read failed, and what the system says of it.
     #[error("the input can't be read: {0}")]
@@ -26,6 +26,13 @@ pub enum Fault {
     BadWords,
     #[error("out of memory")]
     NoMemory,
+}
+
+impl fmt::Debug for Fault {
+    // In its words.
+    fn fmt<W: fmt::Write>(&self, f: &mut fmt::Formatter<W>) -> fmt::Result {
+        fmt::Display::fmt(self, f)
+    }
 }
 
 impl Fault {

@@ -19,7 +19,6 @@ const CHUNK: usize = 65_536;
 
 /// Gives the lines of an input, one after another: its pieces between line feeds, the last of them also
 /// where it is empty. A line is kept until the next is asked for.
-#[derive(Drop)]
 pub struct LineReader {
     line: Vec<u8>,
     // What was read last, of which the bytes from `start` to `end` are not taken yet.
@@ -29,6 +28,19 @@ pub struct LineReader {
     // How many bytes were read.
     count: usize,
     ended: bool,
+}
+
+impl Drop for LineReader {
+    fn drop(self) {
+        let LineReader {
+            line: _,
+            chunk: _,
+            start: _,
+            end: _,
+            count: _,
+            ended: _,
+        } = self;
+    }
 }
 
 impl Model for LineReader {

@@ -1,6 +1,6 @@
 // What clap is asked to read: the program's subcommands, with what each takes and says of itself.
-ghost use Rattle.std.specs.Prelude.{◌≡◌, false, IfOk};
-ghost use Rattle.clap.specs.Words.{app_of, new_app, rule_of};
+ghost use Rattle.std.specs.Prelude.{◌≡◌, false, IfOk, IsOkAnd};
+ghost use Rattle.clap.specs.Words.{app_of, new_app, rule_of, with_subcommand};
 ghost use Rattle.clap.specs.declared.builder.command.Command.TheViews.{out-Command as fields_of};
 ghost use Rattle.rt_words.specs.Commands.{base_app, begun_app, connect_app, console_app, count_rule};
 ghost use Rattle.rt_words.specs.Commands.{denies_rule, deny_rule, emulate_app, file_rule, gone_rule};
@@ -433,20 +433,30 @@ fn base_command<'a>(alloc: Global) -> Result<Command<'a>, AllocError>
     Ok(command)
 }
 
+// The command with one more subcommand, where that one could be made.
+fn having<'a>(
+    command: Command<'a>,
+    more: Result<Command<'a>, AllocError>,
+) -> Result<Command<'a>, AllocError>
+    ensures { IfOk result (λ made. IsOkAnd more.entry (λ sub. (fields_of sub).has_globals ≡ false
+        → app_of made ≡ with_subcommand (app_of command.entry) (app_of sub).top)) }
+{
+    match more {
+        Ok(more) => command.subcommand(more),
+        Err(why) => {
+            drop(command);
+            Err(why)
+        }
+    }
+}
+
 // The program's command line.
 pub(crate) fn console_command<'a>(alloc: Global) -> Result<Command<'a>, AllocError>
     ensures { IfOk result (λ command. app_of command ≡ console_app) }
 {
-    let base = base_command(alloc)?;
-    let script = script_command(alloc)?;
-    let command = base.subcommand(script)?;
-    let serve = serve_command(alloc)?;
-    let command = command.subcommand(serve)?;
-    let emulate = emulate_command(alloc)?;
-    let command = command.subcommand(emulate)?;
-    let connect = connect_command(alloc)?;
-    let command = command.subcommand(connect)?;
-    let watch = watch_command(alloc)?;
-    let command = command.subcommand(watch)?;
-    Ok(command)
+    let command = having(base_command(alloc)?, script_command(alloc))?;
+    let command = having(command, serve_command(alloc))?;
+    let command = having(command, emulate_command(alloc))?;
+    let command = having(command, connect_command(alloc))?;
+    having(command, watch_command(alloc))
 }

@@ -64,7 +64,7 @@ pub struct Asked {
 }
 
 // What serves clients: one after another, or all at once.
-#[derive(Clone, Copy, Debug, PartialEq, Eq)]
+#[derive(Clone, Copy)]
 enum Server {
     Serve,
     Emulate,
