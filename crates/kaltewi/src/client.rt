@@ -128,6 +128,17 @@ pub use rt_client::ClientNumbers;
 ///     shared.stop();
 ///     is_due && shared.is_stopped()
 /// }
+///
+/// fn is_sent(shared: &mut Shared) -> Result<bool, ClientError> {
+///     match shared.try_outgoing() {
+///         Some(answer) => Ok(answer?.is_some()),
+///         None => Ok(false),
+///     }
+/// }
+///
+/// fn has_failed(shared: &Shared) -> bool {
+///     shared.has_failed()
+/// }
 /// ```
 pub use rt_client::Shared;
 

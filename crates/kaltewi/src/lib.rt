@@ -66,7 +66,7 @@ pub use link::{
     Answer, Answered, Bell, Connection, Link, LinkEnd, LinkFault, Linked, Lost, Passed, Turn,
     link_crossing_law,
 };
-pub use messages::{Asked, ClientMessage, Part, Parts, Peer, Reason, Sent, ServerMessage};
+pub use messages::{Asked, ClientMessage, Held, Part, Parts, Peer, Reason, Sent, ServerMessage};
 pub use queries::{Draft, Index, Limit, Mark, Query, Row, Shown, query_text};
 pub use steps::{
     Action, Answers, Body, Core, Ending, Kept, KeptList, Limits, NoRoom, Note, Notes, Outcome,

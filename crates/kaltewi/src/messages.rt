@@ -123,6 +123,10 @@ pub use rt_world::Asked;
 ///     peer.message(connection, message)
 /// }
 ///
+/// fn end_turn(peer: &mut Peer, connection: u64) -> Result<(Vec<Sent>, bool), PeerError> {
+///     peer.end_some(connection, 100)
+/// }
+///
 /// fn show_end(rt: &impl Print, alloc: Global, peer: &mut Peer, connection: u64) -> Result<()> {
 ///     println!(rt; "sent at the end: {}", peer.disconnect(connection)?.len())?;
 ///     println!(rt; "the server has {}", peer.tree().text(alloc)?)?;
@@ -130,6 +134,15 @@ pub use rt_world::Asked;
 /// }
 /// ```
 pub use rt_peer::Peer;
+
+/// How many listens a connection of a [`Peer`] has, and how many requests for its end.
+///
+/// ```rust
+/// fn held(peer: &Peer, connection: u64) -> Held {
+///     peer.held(connection)
+/// }
+/// ```
+pub use rt_peer::Held;
 
 /// What a server sends, and to which connection.
 ///
