@@ -5,7 +5,7 @@ Usage: tools/comments.py     says which calls don't, and fails where one is
 
 A law is a public function without code, named in `.._law` or `.._laws`. Calls that follow one another have one comment, which begins
 with '// For the prover:'. So has a value that is asked for and dropped, `let _ = path.keys();` or `let _count = children.len();`,
-where the call changes nothing.
+but for the calls of ACTING, which change what they are asked of. A function that is whole for the prover says so above it.
 """
 import os
 import re
@@ -16,12 +16,22 @@ from bodies import read
 ROOT = os.path.realpath(f"{os.path.dirname(os.path.realpath(__file__))}/..")
 WORDS = "// For the prover:"
 LAW = re.compile(r"\s*(?:\w+::)*\w+_laws?(?:::<.*>)?\(\);")
-ASKED = re.compile(r"\s*let _\w* = [\w.]+\.(?:keys|len|as_slice|holds|text|value|is_null|levels)\(\)(?:\.\w+\(\))*;")
+ACTING = "cross_ahead cross_back flush pass_over_writes stop".split()
+ASKED = re.compile(rf"\s*let _\w* = [\w.]+(?:\.\w+\(\))*\.(?!(?:{'|'.join(ACTING)})\()\w+\(\);")
+HEAD = re.compile(r"\s*(?:pub(?:\(\w+\))? )?fn \w+")
 ALONE = re.compile(r"\s*[\w.:]+(?:::<.*>)?\(\);")  # a call whose value nobody takes
 
 
 def is_for_prover(line):
     return bool(LAW.fullmatch(line) or ASKED.fullmatch(line))
+
+
+def is_said(lines, at):
+    """Whether the comment above a line begins with the words."""
+    first = at
+    while first and lines[first - 1].lstrip().startswith("//"):
+        first -= 1
+    return first < at and lines[first].lstrip().startswith(WORDS)
 
 
 def unsaid(text):
@@ -33,10 +43,8 @@ def unsaid(text):
         above = at
         while above and (is_for_prover(lines[above - 1]) or ALONE.fullmatch(lines[above - 1])):
             above -= 1
-        first = above
-        while first and lines[first - 1].lstrip().startswith("//"):
-            first -= 1
-        if first == above or not lines[first].lstrip().startswith(WORDS):
+        head = next((n for n in range(above - 1, -1, -1) if HEAD.match(lines[n])), 0)
+        if not is_said(lines, above) and not is_said(lines, head):
             yield at + 1
 
 

@@ -28,6 +28,7 @@ class Comments(unittest.TestCase):
             ("    make();", False),
             ("    let keys = path.keys();", False),
             ("pub fn some_law()", False),
+            ("    let _has_failed = self.state.is_none();", True),
             ("    let _ = socket.flush();", False),
         ):
             self.assertEqual(comments.is_for_prover(line), due, line)
@@ -39,6 +40,11 @@ class Comments(unittest.TestCase):
     def test_calls_without_the_words(self):
         self.assertEqual(list(comments.unsaid(SAID.replace("For the prover", "For us"))), [4, 5, 6])
         self.assertEqual(list(comments.unsaid(SAID.replace("    rt_low", "    let n = 1;\n    rt_low"))), [6, 7])
+
+    def test_a_function_that_is_whole_for_the_prover(self):
+        text = "    // For the prover: what holds.\n    fn holds(&self)\n    {\n        let _is_left = self.state.is_none();\n    }\n"
+        self.assertEqual(list(comments.unsaid(text)), [])
+        self.assertEqual(list(comments.unsaid(text.replace("For the prover", "For us"))), [4])
 
 
 if __name__ == "__main__":
