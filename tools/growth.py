@@ -17,7 +17,7 @@ from concurrent.futures import ThreadPoolExecutor
 
 HERE = os.path.dirname(os.path.realpath(__file__))
 sys.path[:0] = [f"{HERE}/sessions", HERE]
-from bodies import read, write
+from bodies import read
 from cutting import Wrong, ended, served
 from emulating import say
 from frames import Client
@@ -222,8 +222,9 @@ SESSIONS = (actions, runs, heard)
 def under_valgrind(program, room, name):
     """A command that runs a program under valgrind, and the file in which that says how many instructions there were."""
     command, log = f"{room}/{name}", f"{room}/{name}.log"
-    write(command, f'#!/bin/sh\nexec {VALGRIND} --log-file="{log}" "{program}" "$@"\n')
-    os.chmod(command, 0o755)
+    text = f'#!/bin/sh\nexec {VALGRIND} --log-file="{log}" "{program}" "$@"\n'
+    # Another process writes it: what this one had open another thread's child would hold, and then the file can't be run.
+    subprocess.run(["sh", "-c", 'printf %s "$1" > "$2" && chmod 755 "$2"', "sh", text, command], check=True)
     return command, log
 
 
