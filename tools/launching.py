@@ -8,6 +8,7 @@ import shutil
 import signal
 import subprocess
 import tempfile
+import termios
 import time
 
 import library
@@ -153,6 +154,7 @@ def wrong_of(copy, script, out):
         os.remove(f"{runs.out}/kaltewi.built")
         without_runs(runs, script)
         kept_runs(runs, script)
+        terminal_runs(runs)
         held_runs(runs, script)
         newer_runs(runs)
         together_run(runs)
@@ -219,6 +221,32 @@ def kept_runs(runs, script):
     runs.judge("typed lines", (typed.wait(60), *typed.communicate()), (1, b"script\ntyped\n"), ["a fault"])
     os.close(ours)
     os.close(theirs)
+
+
+RLWRAP = """#!/bin/bash
+echo "rlwrap $1 $2"
+shift 2
+exec "$@"
+"""
+
+
+def terminal_runs(runs):
+    """At a terminal a program that takes lines is asked to say more, and rlwrap reads the lines."""
+    write(f"{runs.room}/bin/rlwrap", RLWRAP)
+    os.chmod(f"{runs.room}/bin/rlwrap", 0o755)
+    for words, last in (("script", "--verbose"), ("connect -v 8080", "8080"), ("watch 8080", "--verbose")):
+        ours, theirs = pty.openpty()
+        settings = termios.tcgetattr(theirs)
+        settings[1] &= ~termios.ONLCR
+        settings[3] &= ~termios.ECHO
+        termios.tcsetattr(theirs, termios.TCSANOW, settings)
+        one = runs.begun(*words.split(), stdin=theirs, stdout=theirs, stderr=theirs)
+        os.write(ours, b"\4")
+        status = one.wait(60)
+        runs.judge(f"{words}, at a terminal", (status, os.read(ours, 65536), b""), (0, f"rlwrap -H /dev/null\n{last}\na fault\n".encode()), [])
+        os.close(theirs)
+        os.close(ours)
+    os.remove(f"{runs.room}/bin/rlwrap")
 
 
 def held_runs(runs, script):
