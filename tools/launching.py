@@ -1,11 +1,13 @@
 """Runs of ./kaltewi: of the proved program, of one that is kept without its proofs, and, where none is there, with a stand-in for the
 toolchain's command, which runs and says what rt try does, and rt ci of a build. That these make and prove the program is not tried here, since
 it takes minutes. What it says of the commands without a program is compared with what the proved program says."""
+import fcntl
 import os
 import pty
 import re
 import shutil
 import signal
+import struct
 import subprocess
 import tempfile
 import termios
@@ -231,11 +233,13 @@ exec "$@"
 
 
 def terminal_runs(runs):
-    """At a terminal a program that takes lines is asked to say more, and rlwrap reads the lines."""
+    """At a terminal a program that takes lines is asked to say more, and rlwrap reads the lines if the terminal has a width."""
     write(f"{runs.room}/bin/rlwrap", RLWRAP)
     os.chmod(f"{runs.room}/bin/rlwrap", 0o755)
-    for words, last in (("script", "--verbose"), ("connect -v 8080", "8080"), ("watch 8080", "--verbose")):
+    cases = ("script", 80, "--verbose"), ("connect -v 8080", 80, "8080"), ("watch 8080", 80, "--verbose"), ("watch 8080", 0, "--verbose")
+    for words, width, last in cases:
         ours, theirs = pty.openpty()
+        fcntl.ioctl(theirs, termios.TIOCSWINSZ, struct.pack("4H", 24, width, 0, 0))
         settings = termios.tcgetattr(theirs)
         settings[1] &= ~termios.ONLCR
         settings[3] &= ~termios.ECHO
@@ -243,7 +247,8 @@ def terminal_runs(runs):
         one = runs.begun(*words.split(), stdin=theirs, stdout=theirs, stderr=theirs)
         os.write(ours, b"\4")
         status = one.wait(60)
-        runs.judge(f"{words}, at a terminal", (status, os.read(ours, 65536), b""), (0, f"rlwrap -H /dev/null\n{last}\na fault\n".encode()), [])
+        wrapped = "rlwrap -H /dev/null\n" if width else ""
+        runs.judge(f"{words}, at a terminal of width {width}", (status, os.read(ours, 65536), b""), (0, f"{wrapped}{last}\na fault\n".encode()), [])
         os.close(theirs)
         os.close(ours)
     os.remove(f"{runs.room}/bin/rlwrap")
