@@ -169,13 +169,6 @@ pub use rt_tree::Tree;
 ///     children.remove(key)
 /// }
 ///
-/// fn clear_child(children: &mut OrdMap<Key, Tree>, key: &Key) -> Result<(), AllocError> {
-///     if children.contains_key(key) {
-///         *children.get_mut(key)? = Tree::null();
-///     }
-///     Ok(())
-/// }
-///
 /// fn is_last(children: &OrdMap<Key, Tree>, key: &Key) -> bool {
 ///     children.last().map_or(false, |(last, _)| last == key)
 /// }
@@ -190,15 +183,29 @@ pub use rt_tree::Tree;
 /// }
 ///
 /// fn show_map(rt: &impl Print, children: &mut OrdMap<Key, Tree>, key: &Key) -> Result<()> {
-///     clear_child(children, key)?;
+///     let is_cleared = clear_child(children, key)?;
 ///     show_children(rt, children, key)?;
-///     let is_taken = take(children, key)?.is_some();
+///     let is_taken = take(children, key)?.is_some() && !children.contains_key(key);
 ///     let is_empty = children.is_empty() && children.iter().next().is_none();
-///     println!(rt; "taken: {is_taken}, empty: {is_empty}")?;
+///     println!(rt; "cleared: {is_cleared}, taken: {is_taken}, empty: {is_empty}")?;
 ///     Ok(())
 /// }
 /// ```
 pub use rt_map::OrdMap;
+
+/// Why a map hands out no slot of a key: the place of its value, to write to.
+///
+/// ```rust
+/// fn clear_child(children: &mut OrdMap<Key, Tree>, key: &Key) -> Result<bool, AllocError> {
+///     match children.slot(key) {
+///         Ok(child) => *child = Tree::null(),
+///         Err(NoSlot::Absent) => return Ok(false),
+///         Err(NoSlot::NoMemory) => return Err(AllocError),
+///     }
+///     Ok(true)
+/// }
+/// ```
+pub use rt_map::NoSlot;
 
 /// Trees set at paths: what one write sets, or one push brings. A write is refused where one of its
 /// paths is at or above another one.

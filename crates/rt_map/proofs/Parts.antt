@@ -1,7 +1,7 @@
 -- What each call does to the parts.
 use Rattle.std.proofs.Common.{◌≡◌, refl, sym, ap, ◌∙◌, subst, ℕ, zero, suc, ◌<◌, List, [], ◌∷◌, ◌++◌, length, take, drop, get_or, set, drop-cons, arith, append_assoc, true, false, ◌-◌, length-drop, take_all, length-take-le, length-append, ◌+◌, take-suc, add-one, cond, Bool, Option, None, Some}
 use Rattle.std.specs.List.{insert, remove}
-use Rattle.std.specs.Prelude.{is_some, IsErr}
+use Rattle.std.specs.Prelude.{is_some, IsErr, IsErrAnd, IfErr}
 use Rattle.std.specs.Borrow.{MutBor, name_if_ok}
 use borrow.Follows.Closed.{read_of}
 use Rattle.std.specs.Option.{option_copied}
@@ -17,6 +17,8 @@ use Rattle.std.specs.Map.{keys_of, lookup, remove_entry, set_value}
 use Rattle.std.specs.List.Sorted.{IsStrictlySortedBy}
 use Rattle.std.specs.declared.cmp.Ordering.{Ordering}
 use Rattle.std.specs.declared.cmp.Ordering.TheVariants.{Less, Equal, Greater}
+use Rattle.rt_map.specs.declared.slot.NoSlot.{NoSlot}
+use Rattle.rt_map.specs.declared.slot.NoSlot.TheVariants.{Absent, NoMemory}
 use Rattle.rt_map.specs.inside.Places.{AllBelow, AllAbove, IsPart}
 use Rattle.rt_map.proofs.Order.{below_before, above_after, sorted_left, sorted_right, below_at}
 use Rattle.rt_map.proofs.Entries.{lookup_below, lookup_above, lookup_none, insert_below, insert_above, remove_below, remove_above, set_below, set_above}
@@ -328,7 +330,11 @@ keys-set_value test (e ∷ es) w = elim (test e.0) as (λ b. keys_of (cond b ((e
   | false ↦ ap (λ l. e.0 ∷ l) (keys-set_value test es w)
 ]
 
--- ---- a borrow that was refused
+-- ---- a borrow that was granted: the lender ends as is said
+pub lent_alike : {N R V : Type 0} {n : N} {F G : V → R} → ((w : V) → F w ≡ G w) → ◌≡◌ {A = (N × (V → R)) ⊎ R} (inl (n, F)) (inl (n, G))
+lent_alike {n = n} same = λ i. inl (n, λ w. same w i)
+
+-- ---- and one that was refused
 pub lent_at_err : {R V E : Type 0} (r : Result (MutBor V) E) (F : V → R) (v : R) → IsErr r → inr v ≡ read_of (name_if_ok (λ x. x.ghost_name) r) F v
 lent_at_err (Ok x) F v h = cc
 lent_at_err (Err e) F v h = refl
@@ -365,3 +371,16 @@ kept_along cmp n xs ys e h = (h.0 ∙ sym (ap length e), subst (λ l. IsStrictly
 pub kept-set_value : {K V : Type 0} (cmp : K → K → Ordering) (n : ℕ) (test : K → Bool) (es : List (K × V)) (w : V) → (n ≡ length es) × IsStrictlySortedBy cmp (keys_of es)
     → (n ≡ length (set_value test es w)) × IsStrictlySortedBy cmp (keys_of (set_value test es w))
 kept-set_value cmp n test es w h = (h.0 ∙ sym (length-set_value test es w), subst (IsStrictlySortedBy cmp) (sym (keys-set_value test es w)) h.1)
+
+-- ---- slots
+-- where memory lacks, nothing is said of what is absent
+pub lacks_slot : {T : Type 0} (r : Result T NoSlot) (P : Type 0) → IsErrAnd r (λ e. e ≡ NoMemory)
+    → IfErr r (λ e. e ≡ Absent → P)
+lacks_slot (Ok x) P h = tt
+lacks_slot (Err e) P h = λ absent. let bad : NoMemory ≡ Absent = sym h ∙ absent in cc
+
+-- what is absent in a part is so in the whole
+pub no_slot : {T : Type 0} (r : Result T NoSlot) (why : NoSlot) (P : Type 0) → IsErrAnd r (λ e. e ≡ why)
+    → (why ≡ Absent → P) → IfErr r (λ e. e ≡ Absent → P)
+no_slot (Ok x) why P h is = tt
+no_slot (Err e) why P h is = λ absent. is (sym h ∙ absent)

@@ -11,6 +11,7 @@ ghost use Rattle.std.specs.Borrow.{sem};
 ghost use Rattle.rt_map.specs.Lent.{LendsInChunk};
 
 use crate::share::Share;
+use crate::slot::NoSlot;
 use std::alloc::{AllocError, Global};
 use std::cmp::Ordering;
 use std::marker::Model;
@@ -115,27 +116,20 @@ impl<K: Ord, V> Chunk<K, V> {
         }
     }
 
-    // Where the key stands. It is there.
-    fn place(&self, key: &K) -> usize
-        requires sorted { IsStrictlySortedBy K.cmp (keys_of self.now) }
-        requires there { IsSome (lookup (is_at (K.cmp key.now)) self.now) }
-        ensures { IsAt K.cmp key.now self.now result }
+    /// The value at the key, to write to, if it is there.
+    pub fn slot(&mut self, key: &K) -> Result<&mut V, NoSlot>
+        requires { IsStrictlySortedBy K.cmp (keys_of self.old) }
+        ensures* writes_back { sem 𝓛 (LendsInChunk K.row V.row (K.cmp key.now) self.entry result) }
+        ensures value { IfOk result (λ v. lookup (is_at (K.cmp key.now)) self.old ≡ Some v.now) }
+        ensures absent { OnErr result (lookup (is_at (K.cmp key.now)) self.old ≡ None) }
     {
         match find(self.entries.as_slice(), key) {
-            Ok(at) => at,
-            Err(at) => at,
+            Ok(at) => {
+                let value = &mut self.entries[at].1;
+                Ok(value)
+            }
+            Err(_) => Err(NoSlot::Absent),
         }
-    }
-
-    /// The value at the key, to write to. It is there.
-    pub fn get_mut(&mut self, key: &K) -> &mut V
-        requires sorted { IsStrictlySortedBy K.cmp (keys_of self.old) }
-        requires there { IsSome (lookup (is_at (K.cmp key.now)) self.old) }
-        ensures* writes_back { sem 𝓛 (LendsInChunk K.row V.row (K.cmp key.now) self.entry result) }
-        ensures value { lookup (is_at (K.cmp key.now)) self.old ≡ Some result.now }
-    {
-        let at = self.place(key);
-        &mut self.entries[at].1
     }
 }
 

@@ -14,8 +14,10 @@ mod root;
 mod row;
 mod share;
 mod shown;
+mod slot;
 mod table;
 
 pub use iter::{Iter, Keys, Values};
 pub use map::OrdMap;
 pub use share::Share;
+pub use slot::NoSlot;

@@ -1,5 +1,5 @@
 // The map.
-ghost use Rattle.std.specs.Prelude.{◌≡◌, [], ◌-◌, length, IfOk, IfSome, OnOk, OnErr, IsSome};
+ghost use Rattle.std.specs.Prelude.{◌≡◌, [], ◌-◌, length, IfErr, IfOk, IfSome, OnOk, OnErr, IsSome};
 ghost use Rattle.std.specs.Prelude.{IsTrue, is_some, MatchOption, None, Some, slice_get, ◌↔◌};
 ghost use Rattle.std.specs.Option.{option_copied};
 ghost use Rattle.std.specs.List.{IsAmong};
@@ -14,6 +14,7 @@ ghost use Rattle.rt_map.specs.Updates.{Updates};
 use crate::iter::{Iter, Keys, Values, keys_of_entries, values_of_entries};
 use crate::root::Root;
 use crate::share::Share;
+use crate::slot::NoSlot;
 use std::alloc::{AllocError, Global};
 use std::marker::Model;
 use std::sync::Arc;
@@ -228,26 +229,28 @@ impl<K: Ord + Share, V: Share> OrdMap<K, V> {
         Ok(old)
     }
 
-    /// The value at the key, to write to. The parts on the way are this map's own from then on.
+    /// The slot of a key: its value, to write to. The parts on the way are this map's own from then on.
     ///
     /// # Errors
     ///
-    /// `AllocError` where a shared part can't be copied; nothing changes then.
-    pub fn get_mut(&mut self, key: &K) -> Result<&mut V, AllocError>
-        requires { IsSome (get_by (K.cmp key.now) self.old) }
+    /// `Absent` where there is no entry at the key, `NoMemory` where a shared part can't be copied;
+    /// nothing changes then.
+    pub fn slot(&mut self, key: &K) -> Result<&mut V, NoSlot>
         ensures* writes_back { sem 𝓛 (LendsInMap K.row V.row K.Ord (K.cmp key.now) self.entry result) }
         ensures value { IfOk result (λ v. get_by (K.cmp key.now) self.old ≡ Some v.now) }
+        ensures absent { IfErr result (λ e. e ≡ NoSlot.Absent
+            → get_by (K.cmp key.now) self.old ≡ None) }
         ensures was_ordered { IsOrdered K.cmp self.old }
     {
         match &mut self.root {
             Root::Small(chunk) => {
                 let chunk = Arc::make_mut(chunk)?;
-                let value = chunk.get_mut(key);
+                let value = chunk.slot(key)?;
                 Ok(value)
             }
             Root::Large(table) => {
                 let table = Arc::make_mut(table)?;
-                let value = table.get_mut(key)?;
+                let value = table.slot(key)?;
                 Ok(value)
             }
         }

@@ -1,6 +1,6 @@
 // A run of rows.
 ghost use Rattle.std.specs.Prelude.{◌≡◌, [], ◌∷◌, ◌++◌, ◌<◌, ◌≤◌, ◌+◌, ◌-◌, ◌↔◌, length, IfOk};
-ghost use Rattle.std.specs.Prelude.{IsSome, OnOk, OnErr, Some, slice_index_or};
+ghost use Rattle.std.specs.Prelude.{IfErr, IsSome, None, OnOk, OnErr, Some, slice_index_or};
 ghost use Rattle.std.specs.Option.{option_copied};
 ghost use Rattle.std.specs.Arc.{arc_value};
 ghost use Rattle.std.specs.BTreeMap.{insert_entry, is_at};
@@ -13,6 +13,7 @@ ghost use Rattle.rt_map.specs.Lent.{LendsInTable};
 
 use crate::row::{MAX_CHUNKS, Row};
 use crate::share::Share;
+use crate::slot::NoSlot;
 use std::alloc::{AllocError, Global};
 use std::marker::Model;
 use std::sync::Arc;
@@ -334,16 +335,20 @@ impl<K: Ord + Share, V: Share> Table<K, V> {
         remove_from(&mut self.rows, key)
     }
 
-    /// The value at the key, to write to. It is there.
-    pub fn get_mut(&mut self, key: &K) -> Result<&mut V, AllocError>
-        requires sorted { IsStrictlySortedBy K.cmp (keys_of self.old) }
-        requires there { IsSome (lookup (is_at (K.cmp key.now)) self.old) }
+    /// The value at the key, to write to, if it is there.
+    pub fn slot(&mut self, key: &K) -> Result<&mut V, NoSlot>
+        requires { IsStrictlySortedBy K.cmp (keys_of self.old) }
         ensures* writes_back { sem 𝓛 (LendsInTable K.row V.row (K.cmp key.now) self.entry result) }
         ensures value { IfOk result (λ v. lookup (is_at (K.cmp key.now)) self.old ≡ Some v.now) }
+        ensures absent { IfErr result (λ e. e ≡ NoSlot.Absent
+            → lookup (is_at (K.cmp key.now)) self.old ≡ None) }
     {
+        if self.rows.is_empty() {
+            return Err(NoSlot::Absent);
+        }
         let at = find_part(self.rows.as_slice(), key);
-        let chunk = Arc::make_mut(&mut self.rows[at])?;
-        let value = chunk.get_mut(key)?;
+        let row = Arc::make_mut(&mut self.rows[at])?;
+        let value = row.slot(key)?;
         Ok(value)
     }
 }

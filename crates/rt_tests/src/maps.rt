@@ -40,7 +40,7 @@ fn change(
     if chance / 1048576 % 7 != 1 || !map.contains_key(&key) {
         return map.insert(alloc, key, value).expect(rt, MEMORY) == old;
     }
-    *map.get_mut(&key).expect(rt, MEMORY) = value;
+    *map.slot(&key).expect(rt, MEMORY) = value;
     true
 }
 
@@ -245,7 +245,7 @@ fn write_is_whole(
     if !map.contains_key(&key) {
         return Ok(false);
     }
-    let is_done = match map.get_mut(&key) {
+    let is_done = match map.slot(&key) {
         Ok(value) => {
             *value = Number(u64::MAX);
             true

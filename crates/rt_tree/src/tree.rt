@@ -1,7 +1,7 @@
 // A tree of leaves.
-ghost use Rattle.std.specs.Prelude.{[], ◌∷◌, ◌≡◌, ◌<◌, ◌≤◌, ◌+◌, false, length, IsTrue, ◌↔◌, IfOk};
+ghost use Rattle.std.specs.Prelude.{[], ◌∷◌, ◌≡◌, ◌<◌, ◌≤◌, ◌+◌, false, true, length, IsTrue, ◌↔◌, IfOk};
 ghost use Rattle.std.specs.Prelude.{IfErr, OnOk, OnErr, ◌⊎◌, is_some, IfSome, IfNone, List, ℕ};
-ghost use Rattle.std.specs.Prelude.{Some, if◌then◌else◌};
+ghost use Rattle.std.specs.Prelude.{None, Some, if◌then◌else◌};
 ghost use Rattle.std.specs.Option.{option_copied};
 ghost use Rattle.std.specs.BTreeMap.{insert_entry};
 ghost use Rattle.rt_map.specs.Maps.{IsOrdered};
@@ -22,7 +22,7 @@ use crate::key::Key;
 use crate::leaf::Leaf;
 use crate::limits::{MAX_KEYS, MAX_LEVELS};
 use crate::path::Path;
-use rt_map::{OrdMap, Share};
+use rt_map::{NoSlot, OrdMap, Share};
 use std::alloc::{AllocError, Global};
 use std::marker::Model;
 use std::slice::from_ref;
@@ -283,10 +283,15 @@ impl Tree {
         match &self.node {
             Node::Null => true,
             Node::Leaf(_) => false,
-            Node::Object(children) => match children.get(key) {
-                Some(child) => children.len() == 1 && child.goes_without(rest),
-                None => false,
-            },
+            Node::Object(children) => {
+                if children.len() > 1 {
+                    return false;
+                }
+                match children.get(key) {
+                    Some(child) => child.goes_without(rest),
+                    None => false,
+                }
+            }
         }
     }
 
@@ -379,14 +384,38 @@ fn set_child(
     Ok(())
 }
 
-// Whether nothing is left of a child once `tree` comes at `rest` below it. Something is left of all
-// children, so of an only child too: that is not asked again.
-fn goes(children: &OrdMap<Key, Tree>, key: &Key, child: &Tree, rest: &[Key], tree: &Tree) -> bool
-    requires child { child_of children.now.entries key.now ≡ Some child.now }
-    requires left { is_null (put (object children.now.entries) (key.now ∷ rest.now) tree.now) ≡ false }
+// Whether nothing is left of a child once `tree` comes at `rest` below it. An only child is not asked,
+// where something is left of all children.
+fn goes(is_only: bool, child: &Tree, rest: &[Key], tree: &Tree) -> bool
+    requires { is_only ≡ true → is_null (put child.now rest.now tree.now) ≡ false }
     ensures { result ≡ is_null (put child.now rest.now tree.now) }
 {
-    children.len() > 1 && child.is_emptied(rest, tree)
+    !is_only && child.is_emptied(rest, tree)
+}
+
+// Puts a tree at a path below a key that has no child; null changes nothing there.
+fn add_child(
+    children: &mut OrdMap<Key, Tree>,
+    alloc: Global,
+    key: &Key,
+    rest: &[Key],
+    tree: Tree,
+) -> Result<(), AllocError>
+    requires absent { child_of children.old.entries key.now ≡ None }
+    requires was_ordered { IsOrdered key_cmp children.old }
+    requires allowed { MayStandAt (key.now ∷ rest.now) tree }
+    ensures ok { OnOk result
+        (PutsBelow children.old.entries children.new.entries key.now rest.now tree) }
+    ensures err { OnErr result (children.new.entries ≡ children.old.entries) }
+    ensures ordered { IsOrdered key_cmp children.new }
+{
+    if tree.is_null() {
+        return Ok(());
+    }
+    let branch = Tree::branch(alloc, rest, tree)?;
+    let key = key.copy()?;
+    children.insert(alloc, key, branch)?;
+    Ok(())
 }
 
 // Puts a tree at a path below the child at `key`, or takes that child out where nothing is left of
@@ -408,20 +437,17 @@ fn put_below(
     ensures err { OnErr result (children.new.entries ≡ children.old.entries) }
     ensures ordered { IsOrdered key_cmp children.new }
 {
-    let Some(child) = children.get(key) else {
-        if tree.is_null() {
-            return Ok(());
+    let is_only = children.len() == 1;
+    match children.slot(key) {
+        Ok(child) => {
+            if goes(is_only, child, rest, &tree) {
+                children.remove(key)?;
+                return Ok(());
+            }
+            child.put_at(alloc, rest, tree)?;
+            Ok(())
         }
-        let branch = Tree::branch(alloc, rest, tree)?;
-        let key = key.copy()?;
-        children.insert(alloc, key, branch)?;
-        return Ok(());
-    };
-    if goes(children, key, child, rest, &tree) {
-        children.remove(key)?;
-        return Ok(());
+        Err(NoSlot::Absent) => add_child(children, alloc, key, rest, tree),
+        Err(NoSlot::NoMemory) => Err(AllocError),
     }
-    let child = children.get_mut(key)?;
-    child.put_at(alloc, rest, tree)?;
-    Ok(())
 }
