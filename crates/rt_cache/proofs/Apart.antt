@@ -18,7 +18,8 @@ use Rattle.rt_query.specs.QueryOrder.{query_cmp, unlimited}
 use Rattle.rt_query.specs.Ranges.{takes_in}
 use Rattle.rt_query.specs.Supply.{does_supply}
 use Rattle.rt_query.specs.laws.QueryEq.{query_eq_tells}
-use Rattle.rt_query.specs.laws.QueryOrder.{queries_total, takes_in_front, taken_between}
+use Rattle.rt_query.specs.laws.QueryOrder.{queries_total, takes_in_front, takes_in_up_to, taken_between}
+use Rattle.rt_query.specs.laws.RangeLaws.{taken_in}
 use Rattle.rt_query.specs.laws.SupplyLaws.{supply_filtered, supplies_as_range}
 use Rattle.rt_cache.specs.Recover.{in_query_order}
 use Rattle.rt_cache.specs.declared.window.Window.{Window}
@@ -44,6 +45,29 @@ pub other_takes_in : (f q : Query) → is_filtered f ≡ true → is_other_suppl
 other_takes_in f q filtered e =
     sym (ap (λ b. b || takes_in f q) (not_true (query_eq f q) (both_first (not (query_eq f q)) (does_supply f q) e)))
     ∙ sym (supply_filtered f q filtered) ∙ both_second (not (query_eq f q)) (does_supply f q) e
+
+-- a range supplies none in front of it
+reversed : (o : Ordering) → is_lt o ≡ true → is_gt (ordering_reverse o) ≡ true
+reversed Less e = refl
+reversed Equal e = absurd (true≢false (sym e))
+reversed Greater e = absurd (true≢false (sym e))
+
+pub none_lesser : (q r : Query) → is_filtered q ≡ true → is_lt (query_cmp r q) ≡ true → is_other_supplier q r ≡ false
+none_lesser q r filtered e = at (is_other_supplier q r) refl
+  where
+    at : (b : Bool) → is_other_supplier q r ≡ b → b ≡ false
+    at false s = refl
+    at true s =
+        absurd (true≢false (sym (ap is_gt (queries_total.antisymm q r) ∙ reversed (query_cmp r q) e)
+        ∙ takes_in_up_to q r (other_takes_in q r filtered s)))
+
+-- and with a limit none at all
+pub none_limited : (q r : Query) → is_filtered q ≡ true → is_some q.limit ≡ true → is_other_supplier q r ≡ false
+none_limited q r filtered e = at (is_other_supplier q r) refl
+  where
+    at : (b : Bool) → is_other_supplier q r ≡ b → b ≡ false
+    at false s = refl
+    at true s = absurd (true≢false (sym e ∙ (taken_in q r (other_takes_in q r filtered s)).unlimited))
 
 -- what takes in a query, and isn't another one that supplies it, is the query
 pub same_unless_other : (f q : Query) → takes_in f q ≡ true → is_other_supplier f q ≡ false → f ≡ q

@@ -32,6 +32,10 @@ first_less Less rest e = refl
 first_less Equal rest e = absurd (true≢false (sym e))
 first_less Greater rest e = absurd (true≢false (sym e))
 
+-- what isn't in front of a query isn't of a path in front
+pub path_not_lesser : (q r : Query) → is_lt (query_cmp r q) ≡ false → is_lt (path_cmp r.path q.path) ≡ false
+path_not_lesser q r e = first_not_less (path_cmp r.path q.path) _ e
+
 pub by_paths : {X : Type 0} (q : X → Query) (xs : List X) → AreByQuery q xs → AreByPath q xs
 by_paths q xs up k d low high = first_not_less (path_cmp (q (get_or xs (k + 1) d)).path (q (get_or xs k d)).path) _ (up k d low high)
 

@@ -1,48 +1,45 @@
--- What any calls leave for a filtered query, told by the calls alone.
-use Rattle.std.proofs.Common.{◌≡◌, ◌⊎◌, inl, inr, Bool, true, false, cond, not, ◌||◌, ◌&&◌, List, [], ◌∷◌, ◌++◌, append-nil, append_assoc, map, refl, sym, ap, subst, ◌∙◌, Option, Some, None, is_some, arith}
+-- What any calls leave for a query, told by the calls alone.
+use Rattle.std.proofs.Common.{◌≡◌, ◌⊎◌, inl, inr, slice_index_or, Bool, true, false, cond, not, ◌||◌, ◌&&◌, List, [], ◌∷◌, ◌++◌, append-nil, append_assoc, map, refl, sym, ap, subst, ◌∙◌, Option, Some, None, is_some}
 use mathlib.Core.Bool.{true≢false}
 use Rattle.std.specs.Cmp.{eq_by_cmp_equiv}
-use Rattle.std.specs.List.{All, Contains, filter, fold, list_any}
+use Rattle.std.specs.List.{All, Contains, filter, find, fold, list_any}
 use Rattle.std.specs.Prelude.{IfSome}
 use Rattle.std.specs.Option.{option_map, option_map_or, option_or, option_and_then}
 use Rattle.std.specs.FinMap as map_of
 use Rattle.std.specs.FinMap.Entries.{find-put, find-where_key}
-use Rattle.std.proofs.lemmas.List.Elements.{All-cons, All-nil, All-head, All-tail, All-contains}
-use Rattle.std.proofs.lemmas.List.Folds.{Any-from_list_any}
+use Rattle.std.proofs.lemmas.List.Elements.{All-cons, All-nil, Contains-get_or}
 use Rattle.rt_tree.specs.PathTree.{Path, PathTree, path_cmp, path_eq, strip, sub, put, children_alone}
 use Rattle.rt_tree.specs.Assignments.{Assignment, is_at_or_above}
 use Rattle.rt_tree.specs.TreeEq.{both_first, both_second}
 use Rattle.rt_query.specs.Queries.{Query, is_filtered}
 use Rattle.rt_query.specs.QueryEq.{query_eq}
-use Rattle.rt_query.specs.Ranges.{takes_in}
 use Rattle.rt_query.specs.Supply.{does_supply}
-use Rattle.rt_query.specs.laws.NeededLaws.{Contains-filter, Contains-from_filter, passes-from_filter}
+use Rattle.rt_query.specs.laws.NeededLaws.{supplies_itself}
 use Rattle.rt_query.specs.laws.QueryEq.{query_eq_tells}
-use Rattle.rt_query.specs.laws.SupplyLaws.{supply_filtered, supplied_has_path}
+use Rattle.rt_query.specs.laws.SupplyLaws.{form_filtered, supplied_has_path}
+use Rattle.rt_query.specs.laws.QueryOrder.{queries_total, exact_queries, tie_is_eq}
 use Rattle.rt_query.specs.QueryOrder.{query_cmp}
-use Rattle.rt_cache.specs.Brought.{Window, Brought, Base, nothing_brought, is_supplied, may_put, region_part, region_put, window_of, window_pushed, windows_beside, windows_pushed, base, knows, push_plain, push}
+use Rattle.rt_cache.specs.Brought.{Window, Brought, Base, nothing_brought, is_supplied, region_part, region_put, window_of, window_pushed, windows_beside, windows_pushed, base, push_plain, push}
 use Rattle.rt_cache.specs.Canonical.{IsCanonical, Belongs}
-use Rattle.rt_cache.specs.Recover.{reaches, regions_kept, is_among, cut, is_lost, heirs, window_left, handed_on, recover}
-use Rattle.rt_cache.specs.Runs.{IsAllowed, IsKept, AreAllowed, after, after_all}
-use Rattle.rt_cache.specs.laws.Runs.{pushed, known_after, is_known}
-use Rattle.rt_cache.specs.laws.Windows.{is_registered, begun, ends, lets_be, with_own, with_all_own, Tells, IsAlone, FilteredBaseIsTold, SuppliedHasTheSame}
+use Rattle.rt_cache.specs.Recover.{reaches, is_among, cut, is_lost, heirs, window_left, handed_on, recover}
+use Rattle.rt_cache.specs.Runs.{IsAllowed, AreAllowed, after, after_all}
+use Rattle.rt_cache.specs.laws.Runs.{pushed, is_known}
+use Rattle.rt_cache.specs.laws.Windows.{Held, with_forms, registered_by, may_show, shown_from, seen, loses, inherits, children_of, begun, ends, with_own, with_all_own, with_pushed, held_after, held_from, held_by, lets_be, BaseIsSeen, SourceIsHolder, HeldSinceBegun, HeldIsBegun, HandedOnIsSeen, SuppliedHasTheSame}
 use Rattle.rt_cache.specs.inside.Held.{pushed_windows}
 use Rattle.rt_cache.specs.inside.Sources.{source_among}
 use Rattle.rt_cache.specs.declared.run.Call.{Call}
 use Rattle.rt_cache.specs.declared.run.Call.TheVariants.{Put, Recover}
-use Rattle.rt_cache.proofs.Among.{any_with, among, of_among}
-use Rattle.rt_cache.proofs.Belonging.{put_registered, have_forms, nothing_belongs, push_registered, push_belongs, recover_belongs}
+use Rattle.rt_cache.proofs.Among.{any_with, any_passing, any_agreeing, among, of_among}
+use Rattle.rt_cache.proofs.Belonging.{have_forms, nothing_belongs, push_registered, push_belongs, recover_belongs}
 use Rattle.rt_cache.proofs.Changes.{recover_stays}
-use Rattle.rt_cache.proofs.Cuts.{any_above}
-use Rattle.rt_cache.proofs.HandLaws.{none_beside}
-use Rattle.rt_cache.proofs.Heirs.{heir_is, left_forms}
+use Rattle.rt_cache.proofs.Cuts.{any_above, part_any}
+use Rattle.rt_cache.proofs.Heirs.{left_forms}
 use Rattle.rt_cache.proofs.Keeping.{find-both, find-for_each}
 use Rattle.rt_cache.proofs.Listing.{find-listed}
 use Rattle.rt_cache.proofs.Places.{or_left, or_right, or_true, or_false, unseen}
 use Rattle.rt_cache.proofs.Pushes.{push_of_plain, push_of_filtered}
-use Rattle.rt_query.specs.laws.QueryOrder.{queries_total, exact_queries, tie_is_eq}
-use Rattle.rt_cache.proofs.RunLaws.{never, run_known, step_known, held_part, nothing_canonical}
-use Rattle.rt_cache.proofs.Sources.{there_found, knew_by, knows_by, of_part, of_window, region_base, window_base, own_source, no_source, has_it, find_passes, found_all}
+use Rattle.rt_cache.proofs.RunLaws.{never, any_under, run_known, step_known, held_part, nothing_canonical}
+use Rattle.rt_cache.proofs.Sources.{knows_by, of_part, of_window, region_base, window_base, own_source, has_it, find_passes, found_all, is_some-find, supplier_found}
 use Rattle.rt_cache.proofs.Stays.{Windows, push_stays}
 use Rattle.rt_cache.proofs.WindowPushes.{pushed_own, below_path}
 
@@ -55,11 +52,6 @@ not_true false e = refl
 not_false : (b : Bool) → not b ≡ false → b ≡ true
 not_false true e = refl
 not_false false e = sym e
-
--- what is given where a test holds
-given : {X : Type 0} (t : Bool) (x y : X) → cond t (Some x) None ≡ Some y → (t ≡ true) × (x ≡ y)
-given true x y e = (refl, cc)
-given false x y e = cc
 
 -- ---- one window, behind a call
 
@@ -93,12 +85,9 @@ other_pushed q r p u ws e apart = at (strip r.path p)
     at None = refl
     at (Some rest) = one rest (window_pushed rest u (window_of ws r))
 
--- the window with a tree put below it, and one only where a test holds
+-- the window with a tree put below it
 abbrev put_below : PathTree → Option Path → Window → Window
 put_below u o w = record w { children = option_map_or (λ rest. put w.children rest u) o w.children }
-
-abbrev put_if : Bool → PathTree → Option Path → Window → Window
-put_if t u o w = record w { children = cond t (option_map_or (λ rest. put w.children rest u) o w.children) w.children }
 
 same_window : (o : Option Window) → o ≡ option_map (λ (w : Window). w) o
 same_window None = refl
@@ -141,502 +130,195 @@ plain_kept q b a e =
           ∙ ap (λ t. cond (not t) (window_of b.windows q) None) e
     ]
 
--- ---- no other range
+-- ---- what a query holds
 
--- what holds behind calls by which no other range that takes in q's is registered
-record IsFine (q : Query) (b : Brought) : Type 0 where
-  canonical : IsCanonical b
-  belongs : Belongs b
-  alone : All (λ r. takes_in r q ≡ true → r ≡ q) b.registered
+abbrev own : Brought → Held
+own b q = option_map of_window (window_of b.windows q)
 
-nothing_fine : (q : Query) → IsFine q nothing_brought
-nothing_fine q = record { canonical = nothing_canonical; belongs = nothing_belongs; alone = λ k d lt. absurd (omega (arith, lt)) }
+some_mapped : {X Y : Type 0} (f : X → Y) (o : Option X) → is_some (option_map f o) ≡ is_some o
+some_mapped f None = refl
+some_mapped f (Some x) = refl
 
-fine_after : (q : Query) (b : Brought) (c : Call) → IsAllowed c → IsKept b c → IsAlone q c → IsFine q b → IsFine q (after b c)
-fine_after q b (Put r p u) ok kept alone h = record {
-  canonical = push_stays r b (p, u) h.canonical;
-  belongs = push_belongs r b (p, u) h.canonical kept ok.0 h.belongs;
-  alone = subst (All (λ (x : Query). takes_in x q ≡ true → x ≡ q)) (sym (push_registered r b (p, u))) h.alone;
-}
-fine_after q b (Recover registered kept) ok all alone h = record {
-  canonical = recover_stays registered kept b ok h.canonical;
-  belongs = recover_belongs registered kept b all h.belongs;
-  alone = alone;
-}
+mapped_same : (o : Option Base) → option_map (λ (y : Base). record y { tree = y.tree }) o ≡ o
+mapped_same None = refl
+mapped_same (Some y) = refl
 
-fine_all : (q : Query) (calls : List Call) (b : Brought) → AreAllowed b calls → All (IsAlone q) calls → IsFine q b → IsFine q (after_all b calls)
-fine_all q [] b ok alone h = h
-fine_all q (c ∷ cs) b ok alone h =
-    fine_all q cs (after b c) ok.2 (All-tail (IsAlone q) c cs alone) (fine_after q b c ok.0 ok.1 (All-head (IsAlone q) c cs alone) h)
-
--- of such forms q alone supplies it
-supplies_alone : (q f : Query) → is_filtered f ≡ true → (takes_in f q ≡ true → f ≡ q) → does_supply f q ≡ true → f ≡ q
-supplies_alone q f filtered alone e = at (query_eq f q) refl
+-- a plain query holds nothing
+plain_holds : (q : Query) (b : Brought) → IsCanonical b → is_filtered q ≡ false → window_of b.windows q ≡ None
+plain_holds q b h e = at (window_of b.windows q) refl
   where
-    at : (b : Bool) → query_eq f q ≡ b → f ≡ q
-    at true t = (query_eq_tells f q).0 t
-    at false t = alone (sym (ap (λ b. b || takes_in f q) t) ∙ sym (supply_filtered f q filtered) ∙ e)
+    at : (o : Option Window) → window_of b.windows q ≡ o → window_of b.windows q ≡ None
+    at None t = t
+    at (Some w) t = absurd (true≢false (sym (found_all (λ x. is_filtered x ≡ true) q b.windows h.filtered (ap is_some t)) ∙ e))
 
-window_alone : (q : Query) (b : Brought) → IsFine q b → (w : Query × Window) → Contains b.windows w → does_supply w.0 q ≡ true → w.0 ≡ q
-window_alone q b h w m e =
-    let filtered : is_filtered w.0 ≡ true = All-contains (λ (x : Query × Window). is_filtered x.0 ≡ true) b.windows w h.canonical.filtered m in
-    let there : Contains b.registered w.0 = All-contains (λ (x : Query × Window). Contains b.registered x.0) b.windows w h.belongs.windows m in
-    supplies_alone q w.0 filtered (All-contains (λ r. takes_in r q ≡ true → r ≡ q) b.registered w.0 h.alone there) e
-
-any_alone : (q : Query) (b : Brought) → IsFine q b → window_of b.windows q ≡ None → list_any (λ (w : Query × Window). does_supply w.0 q) b.windows ≡ false
-any_alone q b h e = never (list_any (λ (w : Query × Window). does_supply w.0 q) b.windows) (λ t.
-    let a = Any-from_list_any (λ (w : Query × Window). does_supply w.0 q) b.windows t in
-    let m : Contains b.windows a.1 = (a.0, a.2, a.3) in
-    let found : is_some (window_of b.windows q) ≡ true = ap (λ x. is_some (window_of b.windows x)) (sym (window_alone q b h a.1 m a.4)) ∙ there_found a.1 b.windows m in
-    sym (ap is_some e) ∙ found)
-
--- a push on another one does not supply it
-no_supply : (q r : Query) (b : Brought) → IsFine q b → may_put b r ≡ true → is_filtered r ≡ true → query_eq r q ≡ false → does_supply r q ≡ false
-no_supply q r b h may filtered other = never (does_supply r q) (λ e.
-    sym other ∙ (query_eq_tells r q).1 (supplies_alone q r filtered (All-contains (λ x. takes_in x q ≡ true → x ≡ q) b.registered r h.alone (put_registered b r may)) e))
-
--- ---- a change of cover
-
-recovered : (q : Query) (registered kept : List Query) (b : Brought)
-    → window_of (recover registered kept b).windows q
-    ≡ option_or (cond (is_among (heirs registered b (cut registered kept b)) q) (window_left (base b q)) None) (cond (is_registered registered q) (window_of b.windows q) None)
-recovered q registered kept b =
-    let left : Brought = cut registered kept b in
-    find-listed q (handed_on b (heirs registered b left) ++ left.windows)
-    ∙ find-both q (handed_on b (heirs registered b left)) left.windows
-    ∙ (λ i. option_or (find-for_each (λ x. window_left (base b x)) q (heirs registered b left) i)
-    (find-where_key query_cmp (is_among registered) q (λ x t. ap (is_among registered) (sym (exact_queries q x t))) b.windows i))
-
--- where it is not registered, it has no window
-unregistered : (q : Query) (registered kept : List Query) (b : Brought) → is_registered registered q ≡ false
-    → window_of (recover registered kept b).windows q ≡ None
-unregistered q registered kept b e =
-    let left : Brought = cut registered kept b in
-    let none : is_among (heirs registered b left) q ≡ false = never (is_among (heirs registered b left) q) (λ t.
-    sym e ∙ among registered q (heir_is registered b left q (of_among (heirs registered b left) q t)).registered) in
-    recovered q registered kept b ∙ (λ i. option_or (cond (none i) (window_left (base b q)) None) (cond (e i) (window_of b.windows q) None))
-
--- where no region holds its path, it keeps its window
-kept_window : (q : Query) (registered kept : List Query) (b : Brought) → IsFine q b → is_filtered q ≡ true → is_registered registered q ≡ true
-    → region_part b.regions q.path ≡ None → window_of (recover registered kept b).windows q ≡ window_of b.windows q
-kept_window q registered kept b h f is n =
-    let left : Brought = cut registered kept b in
-    recovered q registered kept b
-    ∙ (λ i. option_or (cond (at (is_among (heirs registered b left) q) refl i) (window_left (base b q)) None) (cond (is i) (window_of b.windows q) None))
+-- nor does one under a region
+covered_holds : (q : Query) (b : Brought) → Belongs b → any_above q.path b.regions ≡ true → window_of b.windows q ≡ None
+covered_holds q b h e = at (window_of b.windows q) refl
   where
-    at : (t : Bool) → is_among (heirs registered b (cut registered kept b)) q ≡ t → is_among (heirs registered b (cut registered kept b)) q ≡ false
-    at false e = e
-    at true e =
-        let left : Brought = cut registered kept b in
-        let heir = heir_is registered b left q (of_among (heirs registered b left) q e) in
-        let any : list_any (λ (w : Query × Window). does_supply w.0 q) b.windows ≡ true =
-        sym (ap (λ o. is_some o || list_any (λ (w : Query × Window). does_supply w.0 q) b.windows) n) ∙ knew_by b q heir.knew in
-        let a = Any-from_list_any (λ (w : Query × Window). does_supply w.0 q) b.windows any in
-        let m : Contains b.windows a.1 = (a.0, a.2, a.3) in
-        let own : (a.1).0 ≡ q = window_alone q b h a.1 m a.4 in
-        let stays : Contains left.windows a.1 = Contains-filter (λ (w : Query × Window). is_among registered w.0) b.windows a.1 m (ap (is_among registered) own ∙ is) in
-        let still : (is_some (region_part left.regions q.path) || list_any (λ (w : Query × Window). does_supply w.0 q) left.windows) ≡ true =
-        or_true (is_some (region_part left.regions q.path)) _ (any_with (λ (w : Query × Window). does_supply w.0 q) left.windows a.1 stays a.4) in
-        absurd (true≢false (sym still ∙ sym (knows_by left q (left_forms registered kept b)) ∙ heir.unknown))
+    at : (o : Option Window) → window_of b.windows q ≡ o → window_of b.windows q ≡ None
+    at None t = t
+    at (Some w) t = absurd (true≢false (sym e ∙ found_all (λ x. any_above x.path b.regions ≡ false) q b.windows h.beside (ap is_some t)))
 
--- where its region is lost, it gets the children there
-whole_window : (q : Query) (registered kept : List Query) (b : Brought) (t : PathTree) → IsFine q b → IsAlone q (Recover registered kept) → is_filtered q ≡ true
-    → is_registered registered q ≡ true → region_part b.regions q.path ≡ Some t → is_some (region_part (regions_kept kept b.regions) q.path) ≡ false
-    → window_of (recover registered kept b).windows q ≡ Some (record { children = children_alone t; is_whole = true })
-whole_window q registered kept b t h alone f is part gone =
-    let left : Brought = cut registered kept b in
-    recovered q registered kept b
-    ∙ (λ i. option_or (cond (heir i) (window_left (region_base b q t part i)) None) (cond (is i) (window_of b.windows q) None))
-  where
-    left : Brought
-    left = cut registered kept b
-
-    lost : List Query
-    lost = filter (is_lost b left) registered
-
-    knew : knows b q ≡ true
-    knew = ap is_some (region_base b q t part)
-
-    none : list_any (λ (w : Query × Window). does_supply w.0 q) left.windows ≡ false
-    none = never (list_any (λ (w : Query × Window). does_supply w.0 q) left.windows) (λ e.
-        let a = Any-from_list_any (λ (w : Query × Window). does_supply w.0 q) left.windows e in
-        let m : Contains b.windows a.1 = Contains-from_filter (λ (w : Query × Window). is_among registered w.0) b.windows a.1 (a.0, a.2, a.3) in
-        sym (none_beside q b.regions b.windows h.belongs.beside h.canonical.filtered (ap is_some part))
-        ∙ any_with (λ (w : Query × Window). does_supply w.0 q) b.windows a.1 m a.4)
-
-    unknown : knows left q ≡ false
-    unknown = knows_by left q (left_forms registered kept b) ∙ (λ i. gone i || none i)
-
-    is_lost_now : is_lost b left q ≡ true
-    is_lost_now = λ i. f i && knew i && not (unknown i)
-
-    unsupplied : is_supplied lost q ≡ false
-    unsupplied = never (is_supplied lost q) (λ e.
-        let a = Any-from_list_any (λ x. not (query_eq x q) && does_supply x q) lost e in
-        let m : Contains lost a.1 = (a.0, a.2, a.3) in
-        let there : Contains registered a.1 = Contains-from_filter (is_lost b left) registered a.1 m in
-        let was : is_lost b left a.1 ≡ true = passes-from_filter (is_lost b left) registered a.1 m in
-        let filtered : is_filtered a.1 ≡ true = both_first (is_filtered a.1) (knows b a.1) (both_first (is_filtered a.1 && knows b a.1) (not (knows left a.1)) was) in
-        let same : a.1 ≡ q = supplies_alone q a.1 filtered (All-contains (λ r. takes_in r q ≡ true → r ≡ q) registered a.1 alone there) (both_second (not (query_eq a.1 q)) (does_supply a.1 q) a.4) in
-        sym (not_true (query_eq a.1 q) (both_first (not (query_eq a.1 q)) (does_supply a.1 q) a.4)) ∙ (query_eq_tells a.1 q).1 same)
-
-    heir : is_among (heirs registered b left) q ≡ true
-    heir = among (heirs registered b left) q (Contains-filter (λ x. not (is_supplied lost x)) lost q
-        (Contains-filter (is_lost b left) registered q (of_among registered q is) is_lost_now) (ap not unsupplied))
-
--- ---- a call that lets a window be
-
--- the window with what a call pushes on its query
-abbrev own_window : Query → Call → Window → Window
-own_window q c w = record w { children = with_own q w.children c }
-
-windows_after : (q r : Query) (b : Brought) (a : Assignment) → is_filtered r ≡ true
-    → window_of (push r b a).windows q ≡ window_of (pushed_windows r a b.windows) q
-windows_after q r b a f = ap (λ (x : Brought). window_of x.windows q) (sym (push_of_filtered r b a f))
-
-untouched : (u : PathTree) (x : Option Path) (t : Bool) (o : Option Window) → t ≡ false → o ≡ option_map (put_if t u x) o
-untouched u x t o e = same_window o ∙ ap (λ b. option_map (put_if b u x) o) (sym e)
+-- ---- a push
 
 -- a plain query is not a filtered one
 not_same : (q r : Query) → is_filtered q ≡ true → is_filtered r ≡ false → query_eq r q ≡ false
 not_same q r f g = never (query_eq r q) (λ e. sym g ∙ ap is_filtered ((query_eq_tells r q).0 e) ∙ f)
 
-keeps : (q : Query) (b : Brought) (c : Call) → is_filtered q ≡ true → IsFine q b → IsKept b c → ends q c ≡ false
-    → region_part b.regions q.path ≡ None
-    → window_of (after b c).windows q ≡ option_map (own_window q c) (window_of b.windows q)
-keeps q b (Put r p u) f fine may e n = at (is_filtered r) refl
+not_back : (q r : Query) → query_eq r q ≡ false → query_eq q r ≡ false
+not_back q r e = never (query_eq q r) (λ t. sym e ∙ (query_eq_tells r q).1 (sym ((query_eq_tells q r).0 t)))
+
+-- one on a plain listen at or above its path
+plain_gone : (q : Query) (b : Brought) (a : Assignment) → Belongs b → is_at_or_above a.0 q.path ≡ true
+    → window_of (push_plain b a).windows q ≡ None
+plain_gone q b a h e =
+    elim (is_some (region_part b.regions a.0)) as (λ o. is_some (region_part b.regions a.0) ≡ o → window_of (cond o (record b { regions = map (region_put a) b.regions })
+    (record b { regions = map_of.put path_cmp a.0 a.1 (filter (λ r. not (is_at_or_above a.0 r.0)) b.regions); windows = filter (λ w. not (is_at_or_above a.0 (w.0).path)) b.windows })).windows q ≡ None) [
+      | true ↦ λ t. covered_holds q b h (any_under a.0 q.path b.regions (sym (part_any a.0 b.regions) ∙ t) e)
+      | false ↦ λ t. find-where_key query_cmp (λ r. not (is_at_or_above a.0 r.path)) q (λ x f. ap (λ r. not (is_at_or_above a.0 r.path)) (sym (exact_queries q x f))) b.windows
+          ∙ ap (λ t. cond (not t) (window_of b.windows q) None) e
+    ] refl
+
+-- one at its path on another range that takes it in
+other_gone : (q r : Query) (p : Path) (u : PathTree) (ws : Windows) → query_eq r q ≡ false → does_supply r q ≡ true → path_eq p r.path ≡ true
+    → window_of (pushed_windows r (p, u) ws) q ≡ None
+other_gone q r p u ws e s t =
+    ap (λ vs. window_of vs q) (pushed_own r p u ws t)
+    ∙ find-where_key query_cmp (λ x. query_eq x r || not (does_supply r x)) q (λ x f. ap (λ y. query_eq y r || not (does_supply r y)) (sym (exact_queries q x f)))
+    (map_of.put query_cmp r (record { children = children_alone u; is_whole = false }) ws)
+    ∙ (λ i. cond (not_back q r e i || not (s i)) (window_of (map_of.put query_cmp r (record { children = children_alone u; is_whole = false }) ws) q) None)
+
+-- one below another's path
+other_below : (q r : Query) (p : Path) (u : PathTree) (ws : Windows) → query_eq r q ≡ false → path_eq p r.path ≡ false
+    → window_of (pushed_windows r (p, u) ws) q ≡ window_of ws q
+other_below q r p u ws e t = at (strip r.path p) refl
   where
-    pushed_on : (t : Bool) → query_eq r q ≡ t → is_filtered r ≡ true → (query_eq r q && path_eq p q.path) ≡ false
-        → window_of (push r b (p, u)).windows q ≡ option_map (own_window q (Put r p u)) (window_of b.windows q)
-    pushed_on false o g h =
-        windows_after q r b (p, u) g ∙ other_pushed q r p u b.windows o (no_supply q r b fine may g o) ∙ untouched u (strip q.path p) (query_eq r q) (window_of b.windows q) o
-    pushed_on true o g h =
-        let m : r ≡ q = (query_eq_tells r q).0 o in
-        windows_after q r b (p, u) g
-        ∙ ap (λ x. window_of (pushed_windows x (p, u) b.windows) q) m
-        ∙ own_below q p u b.windows (ap (λ t. t && path_eq p q.path) (sym o) ∙ h)
-        ∙ ap (λ t. option_map (put_if t u (strip q.path p)) (window_of b.windows q)) (sym o)
+    one : (k : List _) (rest : Path) (o : Option Window)
+        → window_of (option_map_or (λ w. map_of.put query_cmp r w ws) (window_pushed (k ∷ rest) u o) ws) q ≡ window_of ws q
+    one k rest None = refl
+    one k rest (Some w) = found_put q r _ ws ∙ ap (λ b. cond b (Some (record w { children = put w.children (k ∷ rest) u })) (window_of ws q)) e
 
-    at : (t : Bool) → is_filtered r ≡ t
-        → window_of (push r b (p, u)).windows q ≡ option_map (own_window q (Put r p u)) (window_of b.windows q)
-    at true g = pushed_on (query_eq r q) refl g (ap (λ t. cond t (query_eq r q && path_eq p q.path) (is_at_or_above p q.path)) (sym g) ∙ e)
-    at false g =
-        ap (λ (x : Brought). window_of x.windows q) (sym (push_of_plain r b (p, u) g))
-        ∙ plain_kept q b (p, u) (ap (λ t. cond t (query_eq r q && path_eq p q.path) (is_at_or_above p q.path)) (sym g) ∙ e)
-        ∙ untouched u (strip q.path p) (query_eq r q) (window_of b.windows q) (not_same q r f g)
-keeps q b (Recover registered kept) f fine all e n =
-    kept_window q registered kept b fine f (not_false (is_registered registered q) e) n ∙ same_window (window_of b.windows q)
+    at : (o : Option Path) → strip r.path p ≡ o → window_of (option_map_or (λ rest. windows_pushed r rest u ws) o ws) q ≡ window_of ws q
+    at None s = refl
+    at (Some []) s = absurd (below_path r p t s)
+    at (Some (k ∷ rest)) s = one k rest (window_of ws r)
 
-still_unknown : (q : Query) (c : Call) → ends q c ≡ false → known_after q.path false c ≡ false
-still_unknown q (Put r p u) e = at (is_filtered r) e
+other_kept : (q r : Query) (p : Path) (u : PathTree) (ws : Windows) → query_eq r q ≡ false → (does_supply r q && path_eq p r.path) ≡ false
+    → window_of (pushed_windows r (p, u) ws) q ≡ window_of ws q
+other_kept q r p u ws e t = at (does_supply r q) refl
   where
-    at : (t : Bool) → cond t (query_eq r q && path_eq p q.path) (is_at_or_above p q.path) ≡ false
-        → cond t false (is_at_or_above p q.path) ≡ false
-    at true h = refl
-    at false h = h
-still_unknown q (Recover registered kept) e = refl
+    at : (s : Bool) → does_supply r q ≡ s → window_of (pushed_windows r (p, u) ws) q ≡ window_of ws q
+    at true s = other_below q r p u ws e (ap (λ x. x && path_eq p r.path) (sym s) ∙ t)
+    at false s = other_pushed q r p u ws e s
 
-unknown_after : (q : Query) (b : Brought) (c : Call) → ends q c ≡ false → any_above q.path b.regions ≡ false
-    → any_above q.path (after b c).regions ≡ false
-unknown_after q b c e n = step_known q.path b c ∙ ap (λ k. known_after q.path k c) n ∙ still_unknown q c e
+windows_after : (q r : Query) (b : Brought) (a : Assignment) → is_filtered r ≡ true
+    → window_of (push r b a).windows q ≡ window_of (pushed_windows r a b.windows) q
+windows_after q r b a f = ap (λ (x : Brought). window_of x.windows q) (sym (push_of_filtered r b a f))
 
-run_keeps : (q : Query) (later : List Call) (b : Brought) (w : Window) → is_filtered q ≡ true → IsFine q b → AreAllowed b later → All (IsAlone q) later
-    → lets_be q later ≡ true → any_above q.path b.regions ≡ false → window_of b.windows q ≡ Some w
-    → (any_above q.path (after_all b later).regions ≡ false)
-    × (window_of (after_all b later).windows q ≡ Some (record w { children = with_all_own q w.children later }))
-run_keeps q [] b w f fine ok alone l n s = (n, s)
-run_keeps q (c ∷ cs) b w f fine ok alone l n s =
-    let none : (ends q c || list_any (ends q) cs) ≡ false = not_true _ l in
-    let this : ends q c ≡ false = or_left _ (list_any (ends q) cs) none in
-    run_keeps q cs (after b c) (own_window q c w) f (fine_after q b c ok.0 ok.1 (All-head (IsAlone q) c cs alone) fine) ok.2 (All-tail (IsAlone q) c cs alone)
-    (ap not (or_right (ends q c) _ none))
-    (unknown_after q b c this n)
-    (keeps q b c f fine ok.1 this (unseen q.path b.regions n) ∙ ap (option_map (own_window q c)) s)
+-- ---- what it holds behind a push
 
--- ---- a call that begins one
+module _ (before : List Call) (b : Brought) (q r : Query) (p : Path) (u : PathTree) (f : is_filtered q ≡ true) where
+  -- what the push begins, what it ends, and what is put below
+  by : Bool → Bool → Bool → Option Base
+  by mine end same =
+      option_or (cond mine (Some (record { tree = children_alone u; whole = false })) None)
+      (cond end None (option_map (λ (x : Base). record x { tree = cond same (option_map_or (λ rest. put x.tree rest u) (strip q.path p) x.tree) x.tree }) (own b q)))
 
-known_is : (q : Query) (calls : List Call)
-    → any_above q.path (after_all nothing_brought calls).regions ≡ is_known calls q.path
-known_is q calls = run_known q.path calls nothing_brought
+  told_by : (mine end same : Bool) → (is_filtered q && query_eq r q && path_eq p q.path) ≡ mine
+      → cond (is_filtered r) (does_supply r q && path_eq p r.path) (is_at_or_above p q.path) ≡ end → query_eq r q ≡ same
+      → by mine end same ≡ held_after before (own b) (Put r p u) q
+  unfolding by
+  told_by mine end same m e s = λ i. by (sym m i) (sym e i) (sym s i)
 
--- the window that is what a base says
-abbrev window_as : Base → Window
-window_as w = record { children = w.tree; is_whole = w.whole }
+  lets : by false false false ≡ own b q
+  unfolding by
+  lets = mapped_same (own b q)
+
+  -- nothing of another's begins for it
+  not_mine : query_eq r q ≡ false → (is_filtered q && query_eq r q && path_eq p q.path) ≡ false
+  not_mine e = λ i. f i && e i && path_eq p q.path
+
+  held_plain : Belongs b → is_filtered r ≡ false → own (push r b (p, u)) q ≡ held_after before (own b) (Put r p u) q
+  unfolding by
+  held_plain h g = at (is_at_or_above p q.path) refl
+    where
+      other : query_eq r q ≡ false
+      other = not_same q r f g
+
+      plainly : own (push r b (p, u)) q ≡ own (push_plain b (p, u)) q
+      plainly = ap (λ (x : Brought). own x q) (sym (push_of_plain r b (p, u) g))
+
+      at : (t : Bool) → is_at_or_above p q.path ≡ t → own (push r b (p, u)) q ≡ held_after before (own b) (Put r p u) q
+      at true t =
+          plainly ∙ ap (option_map of_window) (plain_gone q b (p, u) h t)
+          ∙ told_by false true false (not_mine other) (λ i. cond (g i) (does_supply r q && path_eq p r.path) (t i)) other
+      at false t =
+          plainly ∙ ap (option_map of_window) (plain_kept q b (p, u) t) ∙ sym lets
+          ∙ told_by false false false (not_mine other) (λ i. cond (g i) (does_supply r q && path_eq p r.path) (t i)) other
+
+  held_other : is_filtered r ≡ true → query_eq r q ≡ false → own (push r b (p, u)) q ≡ held_after before (own b) (Put r p u) q
+  unfolding by
+  held_other g other = at (does_supply r q && path_eq p r.path) refl
+    where
+      at : (t : Bool) → (does_supply r q && path_eq p r.path) ≡ t → own (push r b (p, u)) q ≡ held_after before (own b) (Put r p u) q
+      at true t =
+          ap (option_map of_window) (windows_after q r b (p, u) g
+          ∙ other_gone q r p u b.windows other (both_first (does_supply r q) (path_eq p r.path) t) (both_second (does_supply r q) (path_eq p r.path) t))
+          ∙ told_by false true false (not_mine other) (λ i. cond (g i) (t i) (is_at_or_above p q.path)) other
+      at false t =
+          ap (option_map of_window) (windows_after q r b (p, u) g ∙ other_kept q r p u b.windows other t) ∙ sym lets
+          ∙ told_by false false false (not_mine other) (λ i. cond (g i) (t i) (is_at_or_above p q.path)) other
+
+  put_held : (o : Option Window) → option_map of_window (option_map (put_below u (strip q.path p)) o)
+      ≡ option_map (λ (x : Base). record x { tree = option_map_or (λ rest. put x.tree rest u) (strip q.path p) x.tree }) (option_map of_window o)
+  put_held None = refl
+  put_held (Some w) = refl
+
+  held_own : is_filtered r ≡ true → query_eq r q ≡ true → own (push r b (p, u)) q ≡ held_after before (own b) (Put r p u) q
+  unfolding by
+  held_own g same = at (path_eq p q.path) refl
+    where
+      m : r ≡ q
+      m = (query_eq_tells r q).0 same
+
+      owned : own (push r b (p, u)) q ≡ option_map of_window (window_of (pushed_windows q (p, u) b.windows) q)
+      owned = ap (option_map of_window) (windows_after q r b (p, u) g ∙ ap (λ x. window_of (pushed_windows x (p, u) b.windows) q) m)
+
+      none : (x : Bool) → (x && false) ≡ false
+      none true = refl
+      none false = refl
+
+      at : (t : Bool) → path_eq p q.path ≡ t → own (push r b (p, u)) q ≡ held_after before (own b) (Put r p u) q
+      at true t =
+          owned ∙ ap (option_map of_window) (own_replaced q p u b.windows t)
+          ∙ told_by true _ true (λ i. f i && same i && t i) refl same
+      at false t =
+          owned ∙ ap (option_map of_window) (own_below q p u b.windows t) ∙ put_held (window_of b.windows q)
+          ∙ told_by false false true (λ i. f i && same i && t i)
+          ((λ i. cond (g i) (does_supply r q && (ap (λ (x : Query). path_eq p x.path) m ∙ t) i) (is_at_or_above p q.path)) ∙ none (does_supply r q)) same
+
+  held_put : Belongs b → own (push r b (p, u)) q ≡ held_after before (own b) (Put r p u) q
+  held_put h = at (is_filtered r) refl (query_eq r q) refl
+    where
+      at : (g : Bool) → is_filtered r ≡ g → (s : Bool) → query_eq r q ≡ s → own (push r b (p, u)) q ≡ held_after before (own b) (Put r p u) q
+      at false g s t = held_plain h g
+      at true g true t = held_own g t
+      at true g false t = held_other g t
+
+-- ---- calls
 
 -- each call is allowed by itself
 pub allowed_each : (b : Brought) (calls : List Call) → AreAllowed b calls → All IsAllowed calls
 allowed_each b [] ok = All-nil IsAllowed
 allowed_each b (c ∷ cs) ok = All-cons IsAllowed c cs ok.0 (allowed_each (after b c) cs ok.2)
 
-begins : (q : Query) (before : List Call) (c : Call) (w : Base) → is_filtered q ≡ true → AreAllowed nothing_brought before → All (IsAlone q) before → IsAlone q c
-    → begun q before c ≡ Some w
-    → (any_above q.path (after (after_all nothing_brought before) c).regions ≡ false)
-    × (window_of (after (after_all nothing_brought before) c).windows q ≡ Some (window_as w))
-begins q before (Put r p u) w f ok before_alone alone e =
-    let b : Brought = after_all nothing_brought before in
-    let x : Base = record { tree = children_alone u; whole = false } in
-    let both = given (query_eq r q && path_eq p q.path && not (is_known before q.path)) x w e in
-    let own : (query_eq r q && path_eq p q.path) ≡ true = both_first _ (not (is_known before q.path)) both.0 in
-    let unknown : is_known before q.path ≡ false = not_true _ (both_second (query_eq r q && path_eq p q.path) _ both.0) in
-    let same : r ≡ q = (query_eq_tells r q).0 (both_first (query_eq r q) (path_eq p q.path) own) in
-    let at : path_eq p q.path ≡ true = both_second (query_eq r q) (path_eq p q.path) own in
-    let filtered : is_filtered r ≡ true = ap is_filtered same ∙ f in (
-      step_known q.path b (Put r p u)
-          ∙ ap (λ t. cond t (any_above q.path b.regions) (any_above q.path b.regions || is_at_or_above p q.path)) filtered
-          ∙ known_is q before ∙ unknown,
-      windows_after q r b (p, u) filtered
-          ∙ ap (λ y. window_of (pushed_windows y (p, u) b.windows) q) same
-          ∙ own_replaced q p u b.windows at
-          ∙ ap (λ y. Some (window_as y)) both.1,
-    )
-begins q before (Recover registered kept) w f ok before_alone alone e =
-    let b : Brought = after_all nothing_brought before in
-    let x : Base = record { tree = children_alone (sub (pushed before) q.path); whole = true } in
-    let both = given (is_registered registered q && is_known before q.path && not (reaches kept q.path)) x w e in
-    let first : (is_registered registered q && is_known before q.path) ≡ true = both_first _ (not (reaches kept q.path)) both.0 in
-    let unreached : reaches kept q.path ≡ false = not_true _ (both_second (is_registered registered q && is_known before q.path) _ both.0) in
-    let registered_is : is_registered registered q ≡ true = both_first _ (is_known before q.path) first in
-    let known : is_known before q.path ≡ true = both_second (is_registered registered q) _ first in
-    let unknown : any_above q.path (after b (Recover registered kept)).regions ≡ false =
-    step_known q.path b (Recover registered kept) ∙ (λ i. (known_is q before ∙ known) i && unreached i) in
-    let part : region_part b.regions q.path ≡ Some (sub (pushed before) q.path) =
-    held_part before q.path (allowed_each nothing_brought before ok) ∙ ap (λ k. cond k (Some (sub (pushed before) q.path)) None) known in
-    let gone : is_some (region_part (regions_kept kept b.regions) q.path) ≡ false = ap is_some (unseen q.path _ unknown) in (
-      unknown,
-      whole_window q registered kept b (sub (pushed before) q.path) (fine_all q before nothing_brought ok before_alone (nothing_fine q)) alone f registered_is part gone
-          ∙ ap (λ y. Some (window_as y)) both.1,
-    )
-
--- ---- where none is begun
-
--- some call began it, and none put an end to it since
-record IsBegun (q : Query) (calls : List Call) : Type 0 where
-  before : List Call
-  later : List Call
-  call : Call
-  window : Base
-  split : calls ≡ before ++ call ∷ later
-  begins : begun q before call ≡ Some window
-  lets : lets_be q later ≡ true
-
--- how a filtered query stands behind calls
-abbrev Stands : Query → List Call → Type 0
-Stands q calls =
-    (is_known calls q.path ≡ true)
-    ⊎ ((window_of (after_all nothing_brought calls).windows q ≡ None) ⊎ IsBegun q calls)
-
 after_append : (xs ys : List Call) (b : Brought) → after_all b (xs ++ ys) ≡ after_all (after_all b xs) ys
 after_append [] ys b = refl
 after_append (x ∷ xs) ys b = after_append xs ys (after b x)
 
-known_append : (p : Path) (xs ys : List Call) (k : Bool)
-    → fold (known_after p) k (xs ++ ys) ≡ fold (known_after p) (fold (known_after p) k xs) ys
-known_append p [] ys k = refl
-known_append p (x ∷ xs) ys k = known_append p xs ys (known_after p k x)
-
-none_more : (test : Call → Bool) (xs : List Call) (c : Call) → list_any test xs ≡ false → test c ≡ false
-    → list_any test (xs ++ c ∷ []) ≡ false
-none_more test [] c e f = or_false _ _ f refl
-none_more test (x ∷ xs) c e f = or_false _ _ (or_left _ (list_any test xs) e) (none_more test xs c (or_right (test x) _ e) f)
-
--- the calls with one more
-more : (q : Query) (calls : List Call) (c : Call) → is_known calls q.path ≡ true → known_after q.path true c ≡ true
-    → is_known (calls ++ c ∷ []) q.path ≡ true
-more q calls c k e = known_append q.path calls (c ∷ []) false ∙ ap (λ x. known_after q.path x c) k ∙ e
-
-window_more : (q : Query) (calls : List Call) (c : Call)
-    → window_of (after_all nothing_brought (calls ++ c ∷ [])).windows q
-    ≡ window_of (after (after_all nothing_brought calls) c).windows q
-window_more q calls c = ap (λ (b : Brought). window_of b.windows q) (after_append calls (c ∷ []) nothing_brought)
-
-begun_now : (q : Query) (calls : List Call) (c : Call) (w : Base) → begun q calls c ≡ Some w → IsBegun q (calls ++ c ∷ [])
-begun_now q calls c w e = record { before = calls; later = []; call = c; window = w; split = refl; begins = e; lets = refl }
-
--- a call that lets it be
-stands_still : (q : Query) (calls : List Call) (c : Call) → is_filtered q ≡ true → IsFine q (after_all nothing_brought calls) → IsKept (after_all nothing_brought calls) c
-    → ends q c ≡ false → is_known calls q.path ≡ false
-    → (window_of (after_all nothing_brought calls).windows q ≡ None) ⊎ IsBegun q calls → Stands q (calls ++ c ∷ [])
-stands_still q calls c f fine may e n (inl gone) =
-    inr (inl (window_more q calls c
-    ∙ keeps q (after_all nothing_brought calls) c f fine may e (unseen q.path _ (known_is q calls ∙ n))
-    ∙ ap (option_map (own_window q c)) gone))
-stands_still q calls c f fine may e n (inr h) =
-    inr (inr (record {
-      before = h.before;
-      later = h.later ++ c ∷ [];
-      call = h.call;
-      window = h.window;
-      split = ap (λ xs. xs ++ c ∷ []) h.split ∙ append_assoc h.before (h.call ∷ h.later) (c ∷ []);
-      begins = h.begins;
-      lets = ap not (none_more (ends q) h.later c (not_true _ h.lets) e);
-    }))
-
--- a call that ends it
-stands_ended : (q : Query) (calls : List Call) (c : Call) → is_filtered q ≡ true → ends q c ≡ true
-    → is_known calls q.path ≡ false → Stands q (calls ++ c ∷ [])
-stands_ended q calls (Put r p u) f e n = at (is_filtered r) refl
-  where
-    at : (t : Bool) → is_filtered r ≡ t → Stands q (calls ++ Put r p u ∷ [])
-    at true g =
-        let own : (query_eq r q && path_eq p q.path) ≡ true = ap (λ t. cond t (query_eq r q && path_eq p q.path) (is_at_or_above p q.path)) (sym g) ∙ e in
-        inr (inr (begun_now q calls (Put r p u) (record { tree = children_alone u; whole = false })
-        (λ i. cond (own i && not (n i)) (Some (record { tree = children_alone u; whole = false })) None)))
-    at false g =
-        inl (known_append q.path calls (Put r p u ∷ []) false
-        ∙ (λ i. cond (g i) (n i) (n i || is_at_or_above p q.path))
-        ∙ ap (λ t. cond t (query_eq r q && path_eq p q.path) (is_at_or_above p q.path)) (sym g) ∙ e)
-stands_ended q calls (Recover registered kept) f e n =
-    inr (inl (window_more q calls (Recover registered kept)
-    ∙ unregistered q registered kept (after_all nothing_brought calls) (not_true (is_registered registered q) e)))
-
--- any call, where a push of a plain listen is known
-stands_known : (q : Query) (calls : List Call) (c : Call) → is_known calls q.path ≡ true → Stands q (calls ++ c ∷ [])
-stands_known q calls (Put r p u) k = inl (more q calls (Put r p u) k (at (is_filtered r)))
-  where
-    at : (t : Bool) → cond t true true ≡ true
-    at true = refl
-    at false = refl
-stands_known q calls (Recover registered kept) k = at (reaches kept q.path) refl (is_registered registered q) refl
-  where
-    at : (r : Bool) → reaches kept q.path ≡ r → (t : Bool) → is_registered registered q ≡ t
-        → Stands q (calls ++ Recover registered kept ∷ [])
-    at true e t g = inl (more q calls (Recover registered kept) k e)
-    at false e true g =
-        inr (inr (begun_now q calls (Recover registered kept) (record { tree = children_alone (sub (pushed calls) q.path); whole = true })
-        (λ i. cond (g i && k i && not (e i)) (Some (record { tree = children_alone (sub (pushed calls) q.path); whole = true })) None)))
-    at false e false g =
-        inr (inl (window_more q calls (Recover registered kept)
-        ∙ unregistered q registered kept (after_all nothing_brought calls) g))
-
--- ---- calls in front, and behind
-
 allowed_front : (b : Brought) (xs ys : List Call) → AreAllowed b (xs ++ ys) → AreAllowed b xs
 allowed_front b [] ys ok = tt
 allowed_front b (x ∷ xs) ys ok = (ok.0, ok.1, allowed_front (after b x) xs ys ok.2)
-
-allowed_behind : (b : Brought) (xs ys : List Call) → AreAllowed b (xs ++ ys) → AreAllowed (after_all b xs) ys
-allowed_behind b [] ys ok = ok
-allowed_behind b (x ∷ xs) ys ok = allowed_behind (after b x) xs ys ok.2
-
-alone_front : (q : Query) (xs ys : List Call) → All (IsAlone q) (xs ++ ys) → All (IsAlone q) xs
-alone_front q [] ys h = All-nil (IsAlone q)
-alone_front q (x ∷ xs) ys h =
-    All-cons (IsAlone q) x xs (All-head (IsAlone q) x (xs ++ ys) h) (alone_front q xs ys (All-tail (IsAlone q) x (xs ++ ys) h))
-
-alone_behind : (q : Query) (xs ys : List Call) → All (IsAlone q) (xs ++ ys) → All (IsAlone q) ys
-alone_behind q [] ys h = h
-alone_behind q (x ∷ xs) ys h = alone_behind q xs ys (All-tail (IsAlone q) x (xs ++ ys) h)
-
-stands_next : (q : Query) (calls : List Call) (c : Call) → is_filtered q ≡ true → AreAllowed nothing_brought (calls ++ c ∷ []) → All (IsAlone q) (calls ++ c ∷ [])
-    → Stands q calls → Stands q (calls ++ c ∷ [])
-stands_next q calls c f ok alone s = by (is_known calls q.path) refl (ends q c) refl s
-  where
-    fine : IsFine q (after_all nothing_brought calls)
-    fine = fine_all q calls nothing_brought (allowed_front nothing_brought calls (c ∷ []) ok) (alone_front q calls (c ∷ []) alone) (nothing_fine q)
-
-    may : IsKept (after_all nothing_brought calls) c
-    may = (allowed_behind nothing_brought calls (c ∷ []) ok).1
-
-    by : (k : Bool) → is_known calls q.path ≡ k → (t : Bool) → ends q c ≡ t → Stands q calls → Stands q (calls ++ c ∷ [])
-    by true e t g h = stands_known q calls c e
-    by false e true g h = stands_ended q calls c f g e
-    by false e false g (inl k) = absurd (true≢false (sym k ∙ e))
-    by false e false g (inr h) = stands_still q calls c f fine may g e h
-
-stands_behind : (q : Query) (calls rest : List Call) → is_filtered q ≡ true → AreAllowed nothing_brought (calls ++ rest) → All (IsAlone q) (calls ++ rest)
-    → Stands q calls → Stands q (calls ++ rest)
-stands_behind q calls [] f ok alone s = subst (Stands q) (sym (append-nil calls)) s
-stands_behind q calls (c ∷ rest) f ok alone s =
-    let all : (calls ++ c ∷ []) ++ rest ≡ calls ++ c ∷ rest = append_assoc calls (c ∷ []) rest in
-    let oks = subst (AreAllowed nothing_brought) (sym all) ok in
-    let alones = subst (All (IsAlone q)) (sym all) alone in
-    subst (Stands q) all (stands_behind q (calls ++ c ∷ []) rest f oks alones
-    (stands_next q calls c f (allowed_front nothing_brought (calls ++ c ∷ []) rest oks) (alone_front q (calls ++ c ∷ []) rest alones) s))
-
--- ---- the base
-
-abbrev found : Option PathTree → Option Window → Option Base
-found t w = option_or (option_map of_part t) (option_map of_window w)
-
-base_seen : (b : Brought) (q : Query) (t : Option PathTree) (w : Option Window) → IsFine q b
-    → region_part b.regions q.path ≡ t → window_of b.windows q ≡ w → base b q ≡ found t w
-base_seen b q (Some t) w h e g = region_base b q t e
-base_seen b q None w h e g = window_base b q e ∙ ap (option_map of_window) (own (window_of b.windows q) refl ∙ g)
-  where
-    own : (o : Option Window) → window_of b.windows q ≡ o → option_and_then (window_of b.windows) (source_among b.windows b.registered q) ≡ window_of b.windows q
-    own (Some v) s = ap (option_and_then (window_of b.windows)) (own_source b.registered b.windows q (have_forms b h.canonical h.belongs) (ap is_some s))
-    own None s = ap (option_and_then (window_of b.windows)) (no_source b.registered b.windows q h.belongs.windows (any_alone q b h s)) ∙ sym s
-
-since_begun : (q : Query) (before later : List Call) (c : Call) (w : Base) → is_filtered q ≡ true
-    → AreAllowed nothing_brought (before ++ c ∷ later) → All (IsAlone q) (before ++ c ∷ later) → begun q before c ≡ Some w → lets_be q later ≡ true
-    → base (after_all nothing_brought (before ++ c ∷ later)) q ≡ Some (record w { tree = with_all_own q w.tree later })
-since_begun q before later c w f ok alone e l =
-    let front_ok = allowed_front nothing_brought before (c ∷ later) ok in
-    let front_alone = alone_front q before (c ∷ later) alone in
-    let rest_ok = allowed_behind nothing_brought before (c ∷ later) ok in
-    let rest_alone = alone_behind q before (c ∷ later) alone in
-    let fine = fine_all q before nothing_brought front_ok front_alone (nothing_fine q) in
-    let fine_then = fine_after q (after_all nothing_brought before) c rest_ok.0 rest_ok.1 (All-head (IsAlone q) c later rest_alone) fine in
-    let first = begins q before c w f front_ok front_alone (All-head (IsAlone q) c later rest_alone) e in
-    let then_all = run_keeps q later (after (after_all nothing_brought before) c) (window_as w) f fine_then rest_ok.2 (All-tail (IsAlone q) c later rest_alone) l first.0 first.1 in
-    ap (λ b. base b q) (after_append before (c ∷ later) nothing_brought)
-    ∙ base_seen (after_all (after_all nothing_brought before) (c ∷ later)) q None _ (fine_all q (c ∷ later) (after_all nothing_brought before) rest_ok rest_alone fine) (unseen q.path _ then_all.0) then_all.1
-
-gone_base : (q : Query) (calls : List Call) → IsFine q (after_all nothing_brought calls) → is_known calls q.path ≡ false
-    → window_of (after_all nothing_brought calls).windows q ≡ None → base (after_all nothing_brought calls) q ≡ None
-gone_base q calls fine k gone = base_seen (after_all nothing_brought calls) q None None fine (unseen q.path _ (known_is q calls ∙ k)) gone
-
-told_base : (calls : List Call) (q : Query) → AreAllowed nothing_brought calls → All (IsAlone q) calls → is_filtered q ≡ true
-    → Stands q calls → Tells calls q (base (after_all nothing_brought calls) q)
-told_base calls q ok alone f stands = record {
-  known = λ k.
-      let b : Brought = after_all nothing_brought calls in
-      let part : region_part b.regions q.path ≡ Some (sub (pushed calls) q.path) =
-      held_part calls q.path (allowed_each nothing_brought calls ok) ∙ ap (λ x. cond x (Some (sub (pushed calls) q.path)) None) k in
-      region_base b q (sub (pushed calls) q.path) part;
-  since = λ before later c w s e l.
-      ap (λ cs. base (after_all nothing_brought cs) q) s
-      ∙ since_begun q before later c w f (subst (AreAllowed nothing_brought) s ok) (subst (All (IsAlone q)) s alone) e l;
-  nothing = λ k none. told k none stands;
-}
-  where
-    told : is_known calls q.path ≡ false
-        → ((before later : List Call) (c : Call) → calls ≡ before ++ c ∷ later → lets_be q later ≡ true → begun q before c ≡ None)
-        → Stands q calls → base (after_all nothing_brought calls) q ≡ None
-    told k none (inl e) = absurd (true≢false (sym e ∙ k))
-    told k none (inr (inl gone)) = gone_base q calls (fine_all q calls nothing_brought ok alone (nothing_fine q)) k gone
-    told k none (inr (inr h)) =
-        let some : Some h.window ≡ None = sym h.begins ∙ none h.before h.later h.call h.split h.lets in cc
-
--- nothing else is told
-only_base : (calls : List Call) (q : Query) → IsFine q (after_all nothing_brought calls) → Stands q calls
-    → Tells calls q (base (after_all nothing_brought calls) q) → (seen : Option Base) → Tells calls q seen
-    → seen ≡ base (after_all nothing_brought calls) q
-only_base calls q fine stands ours seen h = by (is_known calls q.path) refl stands
-  where
-    never_begun : base (after_all nothing_brought calls) q ≡ None → (before later : List Call) (c : Call)
-        → calls ≡ before ++ c ∷ later → lets_be q later ≡ true → (o : Option Base) → begun q before c ≡ o → o ≡ None
-    never_begun none before later c s l None e = refl
-    never_begun none before later c s l (Some w) e =
-        let both : Some (record w { tree = with_all_own q w.tree later }) ≡ None = sym (ours.since before later c w s e l) ∙ none in cc
-
-    by : (k : Bool) → is_known calls q.path ≡ k → Stands q calls → seen ≡ base (after_all nothing_brought calls) q
-    by true k g = h.known k ∙ sym (ours.known k)
-    by false k (inl e) = absurd (true≢false (sym e ∙ k))
-    by false k (inr (inl gone)) =
-        let none : base (after_all nothing_brought calls) q ≡ None = gone_base q calls fine k gone in
-        h.nothing k (λ before later c s l. never_begun none before later c s l (begun q before c) refl) ∙ sym none
-    by false k (inr (inr g)) =
-        h.since g.before g.later g.call g.window g.split g.begins g.lets
-        ∙ sym (ours.since g.before g.later g.call g.window g.split g.begins g.lets)
-
-pub filtered_base : FilteredBaseIsTold
-filtered_base calls q ok alone f seen =
-    let stands = stands_behind q [] calls f ok alone (inr (inl refl)) in
-    let ours = told_base calls q ok alone f stands in
-    (only_base calls q (fine_all q calls nothing_brought ok alone (nothing_fine q)) stands ours seen, λ e. subst (Tells calls q) (sym e) ours)
-
--- ---- what is supplied
 
 -- what holds behind any calls
 holds_all : (calls : List Call) (b : Brought) → AreAllowed b calls → IsCanonical b → Belongs b → IsCanonical (after_all b calls) × Belongs (after_all b calls)
@@ -646,6 +328,437 @@ holds_all (Recover registered kept ∷ cs) b ok c h = holds_all cs (recover regi
 
 pub calls_hold : (calls : List Call) → AreAllowed nothing_brought calls → IsCanonical (after_all nothing_brought calls) × Belongs (after_all nothing_brought calls)
 calls_hold calls ok = holds_all calls nothing_brought ok nothing_canonical nothing_belongs
+
+-- ---- what is seen
+
+known_is : (q : Query) (calls : List Call)
+    → any_above q.path (after_all nothing_brought calls).regions ≡ is_known calls q.path
+known_is q calls = run_known q.path calls nothing_brought
+
+registered_all : (calls : List Call) (b : Brought) → (after_all b calls).registered ≡ fold with_forms b.registered calls
+registered_all [] b = refl
+registered_all (Put r p u ∷ cs) b = registered_all cs (push r b (p, u)) ∙ ap (λ fs. fold with_forms fs cs) (push_registered r b (p, u))
+registered_all (Recover registered kept ∷ cs) b = registered_all cs (recover registered kept b)
+
+holder_is : (b : Brought) (q : Query) → source_among b.windows b.registered q ≡ shown_from (own b) b.registered q
+holder_is b q = λ i. find (λ f. does_supply f q && sym (some_mapped of_window (window_of b.windows f)) i) b.registered
+
+mapped_then : (b : Brought) (o : Option Query) → option_map of_window (option_and_then (window_of b.windows) o) ≡ option_and_then (own b) o
+mapped_then b None = refl
+mapped_then b (Some f) = refl
+
+seen_is : (calls : List Call) (q : Query) → All IsAllowed calls
+    → base (after_all nothing_brought calls) q ≡ seen calls (own (after_all nothing_brought calls)) q
+seen_is calls q ok = at (is_known calls q.path) refl
+  where
+    b : Brought
+    b = after_all nothing_brought calls
+
+    by_known : Bool → Option Base
+    by_known k = cond k (Some (of_part (sub (pushed calls) q.path))) (option_and_then (own b) (shown_from (own b) (registered_by calls) q))
+
+    part : region_part b.regions q.path ≡ cond (is_known calls q.path) (Some (sub (pushed calls) q.path)) None
+    part = held_part calls q.path ok
+
+    at : (k : Bool) → is_known calls q.path ≡ k → base b q ≡ seen calls (own b) q
+    at true e =
+        region_base b q (sub (pushed calls) q.path) (part ∙ ap (λ k. cond k (Some (sub (pushed calls) q.path)) None) e)
+        ∙ ap by_known (sym e)
+    at false e =
+        window_base b q (part ∙ ap (λ k. cond k (Some (sub (pushed calls) q.path)) None) e)
+        ∙ mapped_then b (source_among b.windows b.registered q)
+        ∙ ap (option_and_then (own b)) (holder_is b q ∙ ap (λ fs. shown_from (own b) fs q) (registered_all calls nothing_brought))
+        ∙ ap by_known (sym e)
+
+-- of those that are q a test says what it says of q
+at_one : (q : Query) (A B : Query → Bool) (xs : List Query)
+    → list_any (λ x. query_eq x q && A x && B x) xs ≡ (B q && list_any (λ x. query_eq x q) xs && A q)
+at_one q A B [] = sym (nothing (B q) (A q))
+  where
+    nothing : (b a : Bool) → (b && false && a) ≡ false
+    nothing true a = refl
+    nothing false a = refl
+at_one q A B (x ∷ xs) = at (query_eq x q) refl (at_one q A B xs)
+  where
+    one : (a b l : Bool) → (true && a && b || b && l && a) ≡ (b && (true || l) && a)
+    one true true l = refl
+    one true false l = refl
+    one false true true = refl
+    one false true false = refl
+    one false false l = refl
+
+    at : (t : Bool) → query_eq x q ≡ t
+        → list_any (λ y. query_eq y q && A y && B y) xs ≡ (B q && list_any (λ y. query_eq y q) xs && A q)
+        → (query_eq x q && A x && B x || list_any (λ y. query_eq y q && A y && B y) xs) ≡ (B q && (query_eq x q || list_any (λ y. query_eq y q) xs) && A q)
+    at true e rest =
+        let m : x ≡ q = (query_eq_tells x q).0 e in
+        (λ i. e i && A (m i) && B (m i) || rest i)
+        ∙ one (A q) (B q) (list_any (λ y. query_eq y q) xs)
+        ∙ (λ i. B q && (sym e i || list_any (λ y. query_eq y q) xs) && A q)
+    at false e rest =
+        (λ i. e i && A x && B x || rest i)
+        ∙ (λ i. B q && (sym e i || list_any (λ y. query_eq y q) xs) && A q)
+
+-- ---- a change of cover
+
+recovered : (q : Query) (registered kept : List Query) (b : Brought)
+    → window_of (recover registered kept b).windows q
+    ≡ option_or (cond (is_among (heirs registered b (cut registered kept b)) q) (window_left (base b q)) None) (cond (is_among registered q) (window_of b.windows q) None)
+recovered q registered kept b =
+    let left : Brought = cut registered kept b in
+    find-listed q (handed_on b (heirs registered b left) ++ left.windows)
+    ∙ find-both q (handed_on b (heirs registered b left)) left.windows
+    ∙ (λ i. option_or (find-for_each (λ x. window_left (base b x)) q (heirs registered b left) i)
+    (find-where_key query_cmp (is_among registered) q (λ x t. ap (is_among registered) (sym (exact_queries q x t))) b.windows i))
+
+module _ (before : List Call) (registered kept : List Query) (ok : All IsAllowed before) where
+  then_brought : Brought
+  then_brought = after_all nothing_brought before
+
+  cut_down : Brought
+  cut_down = cut registered kept (after_all nothing_brought before)
+
+  -- what is left to be known
+  region_left : (f : Query) → is_some (region_part (cut registered kept (after_all nothing_brought before)).regions f.path) ≡ (is_known before f.path && reaches kept f.path)
+  region_left f =
+      part_any f.path (cut registered kept (after_all nothing_brought before)).regions
+      ∙ step_known f.path (after_all nothing_brought before) (Recover registered kept)
+      ∙ ap (λ k. k && reaches kept f.path) (known_is f before)
+
+  stays_so : (f g : Query) → Contains registered g
+      → has_it (cut registered kept (after_all nothing_brought before)).windows f g ≡ may_show (own (after_all nothing_brought before)) f g
+  stays_so f g m = λ i. does_supply g f && (stay ∙ sym (some_mapped of_window (window_of b.windows g))) i
+    where
+      b : Brought
+      b = after_all nothing_brought before
+
+      stay : is_some (window_of (filter (λ w. is_among registered w.0) b.windows) g) ≡ is_some (window_of b.windows g)
+      stay = ap is_some (find-where_key query_cmp (is_among registered) g (λ x t. ap (is_among registered) (sym (exact_queries g x t))) b.windows
+          ∙ ap (λ t. cond t (window_of b.windows g) None) (among registered g m))
+
+  window_left_so : (f : Query) → list_any (λ (w : Query × Window). does_supply w.0 f) (cut registered kept (after_all nothing_brought before)).windows
+      ≡ list_any (may_show (own (after_all nothing_brought before)) f) registered
+  window_left_so f =
+      let left : Brought = cut registered kept (after_all nothing_brought before) in
+      sym (supplier_found registered left.windows f (left_forms registered kept (after_all nothing_brought before)))
+      ∙ is_some-find (has_it left.windows f) registered
+      ∙ any_agreeing (has_it left.windows f) (may_show (own (after_all nothing_brought before)) f) registered
+      (λ k d lt. stays_so f (slice_index_or registered k d) (Contains-get_or registered k d lt))
+
+  parted : (a k l : Bool) → (a && not (k || l)) ≡ (a && not k && not l)
+  parted true true l = refl
+  parted true false l = refl
+  parted false k l = refl
+
+  lost_is : (f : Query) → is_lost (after_all nothing_brought before) (cut registered kept (after_all nothing_brought before)) f
+      ≡ loses before (own (after_all nothing_brought before)) registered kept f
+  lost_is f =
+      let left : Brought = cut registered kept (after_all nothing_brought before) in
+      (λ i. is_filtered f && is_some (seen_is before f ok i)
+      && not ((knows_by left f (left_forms registered kept (after_all nothing_brought before)) ∙ (λ j. region_left f j || window_left_so f j)) i))
+      ∙ parted (is_filtered f && is_some (seen before (own (after_all nothing_brought before)) f)) (is_known before f.path && reaches kept f.path)
+      (list_any (may_show (own (after_all nothing_brought before)) f) registered)
+
+  heirs_are : (q : Query) → is_among (heirs registered (after_all nothing_brought before) (cut registered kept (after_all nothing_brought before))) q
+      ≡ inherits before (own (after_all nothing_brought before)) registered kept q
+  heirs_are q =
+      let b : Brought = after_all nothing_brought before in
+      let lost : List Query = filter (is_lost b (cut registered kept b)) registered in
+      any_passing (λ x. query_eq x q) (λ x. not (is_supplied lost x)) lost
+      ∙ any_passing (λ x. query_eq x q && not (is_supplied lost x)) (is_lost b (cut registered kept b)) registered
+      ∙ at_one q (λ x. not (is_supplied lost x)) (is_lost b (cut registered kept b)) registered
+      ∙ (λ i. lost_is q i && list_any (λ f. query_eq f q) registered
+      && not (any_passing (λ f. not (query_eq f q) && does_supply f q) (is_lost b (cut registered kept b)) registered i))
+      ∙ (λ i. loses before (own b) registered kept q && list_any (λ f. query_eq f q) registered
+      && not (list_any (λ f. not (query_eq f q) && does_supply f q && lost_is f i) registered))
+
+  held_recover : (q : Query) → own (recover registered kept (after_all nothing_brought before)) q
+      ≡ held_after before (own (after_all nothing_brought before)) (Recover registered kept) q
+  held_recover q =
+      let b : Brought = after_all nothing_brought before in
+      ap (option_map of_window) (recovered q registered kept b
+      ∙ (λ i. option_or (cond (heirs_are q i) (window_left (seen_is before q ok i)) None) (cond (is_among registered q) (window_of b.windows q) None)))
+      ∙ shape (inherits before (own b) registered kept q) (is_among registered q) (seen before (own b) q) (window_of b.windows q)
+    where
+      shape : (t r : Bool) (s : Option Base) (o : Option Window)
+          → option_map of_window (option_or (cond t (window_left s) None) (cond r o None))
+          ≡ option_or (cond t (option_map children_of s) None) (cond (not r) None (option_map (λ (x : Base). record x { tree = x.tree }) (option_map of_window o)))
+      shape true r (Some x) o = refl
+      shape true true None None = refl
+      shape true true None (Some w) = refl
+      shape true false None o = refl
+      shape false true s None = refl
+      shape false true s (Some w) = refl
+      shape false false s o = refl
+
+-- ---- any call
+
+-- what inherits is filtered
+inherits_filtered : (before : List Call) (held : Held) (registered kept : List Query) (q : Query)
+    → inherits before held registered kept q ≡ true → is_filtered q ≡ true
+inherits_filtered before held registered kept q e =
+    both_first (is_filtered q) _ (both_first _ (not (is_known before q.path && reaches kept q.path))
+    (both_first _ (not (list_any (may_show held q) registered)) (both_first (loses before held registered kept q) _
+    (both_first _ (not (list_any (λ f. not (query_eq f q) && does_supply f q && loses before held registered kept f) registered)) e))))
+
+abbrev no_base : Option Base
+no_base = None
+
+none_else : (t : Bool) → cond t no_base None ≡ no_base
+none_else true = refl
+none_else false = refl
+
+-- a plain query holds nothing still
+plain_told : (before : List Call) (held : Held) (c : Call) (q : Query) → is_filtered q ≡ false → held q ≡ None
+    → held_after before held c q ≡ None
+plain_told before held (Put r p u) q e n =
+    (λ i. option_or (cond (e i && query_eq r q && path_eq p q.path) (Some (record { tree = children_alone u; whole = false })) None)
+    (cond (ends q (Put r p u)) None (option_map (with_pushed q (Put r p u)) (n i))))
+    ∙ none_else (ends q (Put r p u))
+plain_told before held (Recover registered kept) q e n =
+    let not : inherits before held registered kept q ≡ false =
+    never (inherits before held registered kept q) (λ t. sym e ∙ inherits_filtered before held registered kept q t) in
+    (λ i. option_or (cond (not i) (option_map children_of (seen before held q)) None)
+    (cond (ends q (Recover registered kept)) None (option_map (λ (x : Base). record x { tree = x.tree }) (n i))))
+    ∙ none_else (ends q (Recover registered kept))
+
+held_step : (before : List Call) (c : Call) (q : Query) → AreAllowed nothing_brought (before ++ c ∷ [])
+    → own (after (after_all nothing_brought before) c) q ≡ held_after before (own (after_all nothing_brought before)) c q
+held_step before c q ok = at (is_filtered q) refl
+  where
+    b : Brought
+    b = after_all nothing_brought before
+
+    front : AreAllowed nothing_brought before
+    front = allowed_front nothing_brought before (c ∷ []) ok
+
+    holds : IsCanonical b × Belongs b
+    holds = calls_hold before front
+
+    then : IsCanonical (after b c)
+    then = subst IsCanonical (after_append before (c ∷ []) nothing_brought) (calls_hold (before ++ c ∷ []) ok).0
+
+    each : (d : Call) → is_filtered q ≡ true → own (after b d) q ≡ held_after before (own b) d q
+    each (Put r p u) f = held_put before b q r p u f holds.1
+    each (Recover registered kept) f = held_recover before registered kept (allowed_each nothing_brought before front) q
+
+    at : (f : Bool) → is_filtered q ≡ f → own (after b c) q ≡ held_after before (own b) c q
+    at true f = each c f
+    at false f =
+        ap (option_map of_window) (plain_holds q (after b c) then f)
+        ∙ sym (plain_told before (own b) c q f (ap (option_map of_window) (plain_holds q b holds.0 f)))
+
+held_run : (later before : List Call) → AreAllowed nothing_brought (before ++ later)
+    → held_from before (own (after_all nothing_brought before)) later ≡ own (after_all nothing_brought (before ++ later))
+held_run [] before ok = ap (λ cs. own (after_all nothing_brought cs)) (sym (append-nil before))
+held_run (c ∷ cs) before ok =
+    let all : (before ++ c ∷ []) ++ cs ≡ before ++ c ∷ cs = append_assoc before (c ∷ []) cs in
+    let oks = subst (AreAllowed nothing_brought) (sym all) ok in
+    let front = allowed_front nothing_brought (before ++ c ∷ []) cs oks in
+    (λ i. held_from (before ++ c ∷ []) (λ q. (sym (held_step before c q front) ∙ ap (λ b. own b q) (sym (after_append before (c ∷ []) nothing_brought))) i) cs)
+    ∙ held_run cs (before ++ c ∷ []) oks
+    ∙ ap (λ xs. own (after_all nothing_brought xs)) all
+
+held_all : (calls : List Call) → AreAllowed nothing_brought calls → held_by calls ≡ own (after_all nothing_brought calls)
+held_all calls ok = held_run calls [] ok
+
+pub base_seen : BaseIsSeen
+base_seen calls q ok =
+    seen_is calls q (allowed_each nothing_brought calls ok)
+    ∙ ap (λ (h : Held). seen calls h q) (sym (held_all calls ok))
+
+pub source_holder : SourceIsHolder
+source_holder calls q ok =
+    let b : Brought = after_all nothing_brought calls in
+    let known : is_some (region_part b.regions q.path) ≡ is_known calls q.path = part_any q.path b.regions ∙ known_is q calls in
+    let from : source_among b.windows b.registered q ≡ shown_from (held_by calls) (registered_by calls) q =
+    holder_is b q ∙ (λ i. shown_from (sym (held_all calls ok) i) (registered_all calls nothing_brought i) q) in
+    λ i. cond (known i) None (from i)
+
+-- ---- what is held is what was begun
+
+held_append : (xs ys before : List Call) (h : Held)
+    → held_from before h (xs ++ ys) ≡ held_from (before ++ xs) (held_from before h xs) ys
+held_append [] ys before h = ap (λ bs. held_from bs h ys) (sym (append-nil before))
+held_append (x ∷ xs) ys before h =
+    held_append xs ys (before ++ x ∷ []) (held_after before h x)
+    ∙ ap (λ bs. held_from bs (held_from (before ++ x ∷ []) (held_after before h x) xs) ys) (append_assoc before (x ∷ []) xs)
+
+held_more : (calls : List Call) (c : Call) → held_by (calls ++ c ∷ []) ≡ held_after calls (held_by calls) c
+held_more calls c = held_append calls (c ∷ []) [] (λ q. None)
+
+-- what is given where a test holds
+given : {X : Type 0} (t : Bool) (o : Option X) (y : X) → cond t o None ≡ Some y → t ≡ true
+given true o y e = refl
+given false o y e = cc
+
+begun_filtered : (before : List Call) (held : Held) (c : Call) (q : Query) (b : Base) → begun before held c q ≡ Some b → is_filtered q ≡ true
+begun_filtered before held (Put r p u) q b e =
+    both_first (is_filtered q) _ (both_first (is_filtered q && query_eq r q) (path_eq p q.path)
+    (given (is_filtered q && query_eq r q && path_eq p q.path) (Some (record { tree = children_alone u; whole = false })) b e))
+begun_filtered before held (Recover registered kept) q b e =
+    inherits_filtered before held registered kept q (given (inherits before held registered kept q) (option_map children_of (seen before held q)) b e)
+
+-- nothing begins for what holds already, unless it ends
+begins_not : (before : List Call) (held : Held) (c : Call) (q : Query) → is_filtered q ≡ true → is_some (held q) ≡ true → ends q c ≡ false
+    → begun before held c q ≡ None
+begins_not before held (Put r p u) q f s e =
+    ap (λ t. cond t (Some (record { tree = children_alone u; whole = false })) None)
+    (never (is_filtered q && query_eq r q && path_eq p q.path) (λ t.
+    let mine : (is_filtered q && query_eq r q) ≡ true = both_first (is_filtered q && query_eq r q) (path_eq p q.path) t in
+    let m : r ≡ q = (query_eq_tells r q).0 (both_second (is_filtered q) (query_eq r q) mine) in
+    let path : path_eq p q.path ≡ true = both_second (is_filtered q && query_eq r q) (path_eq p q.path) t in
+    sym e ∙ (λ i. cond ((ap is_filtered m ∙ f) i)
+    ((ap (λ x. does_supply x q) m ∙ supplies_itself q (form_filtered q f)) i && (ap (λ (x : Query). path_eq p x.path) m ∙ path) i)
+    (is_at_or_above p q.path))))
+begins_not before held (Recover registered kept) q f s e =
+    ap (λ t. cond t (option_map children_of (seen before held q)) None)
+    (never (inherits before held registered kept q) (λ t.
+    let lost : loses before held registered kept q ≡ true = both_first (loses before held registered kept q) _
+    (both_first _ (not (list_any (λ f. not (query_eq f q) && does_supply f q && loses before held registered kept f) registered)) t) in
+    let none : list_any (may_show held q) registered ≡ false =
+    not_true _ (both_second _ (not (list_any (may_show held q) registered)) lost) in
+    let here : Contains registered q = of_among registered q (not_false (is_among registered q) e) in
+    sym none ∙ any_with (may_show held q) registered q here (λ i. supplies_itself q (form_filtered q f) i && s i)))
+
+held_still : (before : List Call) (held : Held) (c : Call) (q : Query) (b : Base) → is_filtered q ≡ true → held q ≡ Some b → ends q c ≡ false
+    → held_after before held c q ≡ Some (record b { tree = with_own q b.tree c })
+held_still before held c q b f s e =
+    λ i. option_or (begins_not before held c q f (ap is_some s) e i)
+    (cond (e i) None (option_map (with_pushed q c) (s i)))
+
+since_from : (later before : List Call) (held : Held) (q : Query) (b : Base) → is_filtered q ≡ true → held q ≡ Some b → lets_be q later ≡ true
+    → held_from before held later q ≡ Some (record b { tree = with_all_own q b.tree later })
+since_from [] before held q b f s l = s
+since_from (c ∷ cs) before held q b f s l =
+    let none : (ends q c || list_any (ends q) cs) ≡ false = not_true _ l in
+    since_from cs (before ++ c ∷ []) (held_after before held c) q (record b { tree = with_own q b.tree c }) f
+    (held_still before held c q b f s (or_left _ (list_any (ends q) cs) none))
+    (ap not (or_right (ends q c) _ none))
+
+begun_now : (before : List Call) (c : Call) (q : Query) (b : Base) → begun before (held_by before) c q ≡ Some b
+    → held_after before (held_by before) c q ≡ Some b
+begun_now before c q b e =
+    ap (λ o. option_or o (cond (ends q c) None (option_map (with_pushed q c) (held_by before q)))) e
+
+pub held_since : HeldSinceBegun
+held_since before later c q b e l =
+    ap (λ (h : Held). h q) (held_append before (c ∷ later) [] (λ x. None))
+    ∙ since_from later (before ++ c ∷ []) (held_after before (held_by before) c) q b
+    (begun_filtered before (held_by before) c q b e) (begun_now before c q b e) l
+
+-- some call began it, and none put an end to it since
+record IsBegun (q : Query) (calls : List Call) : Type 0 where
+  before : List Call
+  later : List Call
+  call : Call
+  window : Base
+  split : calls ≡ before ++ call ∷ later
+  begins : begun before (held_by before) call q ≡ Some window
+  lets : lets_be q later ≡ true
+
+none_more : (test : Call → Bool) (xs : List Call) (c : Call) → list_any test xs ≡ false → test c ≡ false
+    → list_any test (xs ++ c ∷ []) ≡ false
+none_more test [] c e f = or_false _ _ f refl
+none_more test (x ∷ xs) c e f = or_false _ _ (or_left _ (list_any test xs) e) (none_more test xs c (or_right (test x) _ e) f)
+
+abbrev Stands : Query → List Call → Type 0
+Stands q calls = (held_by calls q ≡ None) ⊎ IsBegun q calls
+
+stands_next : (q : Query) (calls : List Call) (c : Call) → Stands q calls → Stands q (calls ++ c ∷ [])
+stands_next q calls c s = at (begun calls (held_by calls) c q) refl (ends q c) refl s
+  where
+    behind : (o : Option Base) → begun calls (held_by calls) c q ≡ o → (t : Bool) → ends q c ≡ t
+        → held_by (calls ++ c ∷ []) q ≡ option_or o (cond t None (option_map (with_pushed q c) (held_by calls q)))
+    behind o e t g =
+        ap (λ (h : Held). h q) (held_more calls c)
+        ∙ (λ i. option_or (e i) (cond (g i) None (option_map (with_pushed q c) (held_by calls q))))
+
+    at : (o : Option Base) → begun calls (held_by calls) c q ≡ o → (t : Bool) → ends q c ≡ t → Stands q calls → Stands q (calls ++ c ∷ [])
+    at (Some w) e t g h = inr (record { before = calls; later = []; call = c; window = w; split = refl; begins = e; lets = refl })
+    at None e true g h = inl (behind None e true g)
+    at None e false g (inl n) =
+        inl (behind None e false g ∙ ap (option_map (with_pushed q c)) n)
+    at None e false g (inr h) =
+        inr (record {
+          before = h.before;
+          later = h.later ++ c ∷ [];
+          call = h.call;
+          window = h.window;
+          split = ap (λ xs. xs ++ c ∷ []) h.split ∙ append_assoc h.before (h.call ∷ h.later) (c ∷ []);
+          begins = h.begins;
+          lets = ap not (none_more (ends q) h.later c (not_true _ h.lets) g);
+        })
+
+stands_behind : (later calls : List Call) (q : Query) → Stands q calls → Stands q (calls ++ later)
+stands_behind [] calls q s = subst (Stands q) (sym (append-nil calls)) s
+stands_behind (c ∷ cs) calls q s =
+    subst (Stands q) (append_assoc calls (c ∷ []) cs) (stands_behind cs (calls ++ c ∷ []) q (stands_next q calls c s))
+
+pub held_begun : HeldIsBegun
+held_begun calls q none = at (stands_behind calls [] q (inl refl))
+  where
+    at : Stands q calls → held_by calls q ≡ None
+    at (inl e) = e
+    at (inr h) = let some : Some h.window ≡ None = sym h.begins ∙ none h.before h.later h.call h.split h.lets in cc
+
+-- ---- what is handed on
+
+some_first : (s : Option Base) (r : Option Base) → is_some s ≡ true → option_or (option_map children_of s) r ≡ option_map children_of s
+some_first None r e = absurd (true≢false (sym e))
+some_first (Some x) r e = refl
+
+pub handed_seen : HandedOnIsSeen
+handed_seen calls registered kept q ok e =
+    window_base new q free
+    ∙ ap (λ s. option_map of_window (option_and_then (window_of new.windows) s)) (own_source new.registered new.windows q (have_forms new holds.0 holds.1) there)
+    ∙ owns
+  where
+    c : Call
+    c = Recover registered kept
+
+    b : Brought
+    b = after_all nothing_brought calls
+
+    new : Brought
+    new = after_all nothing_brought (calls ++ Recover registered kept ∷ [])
+
+    holds : IsCanonical new × Belongs new
+    holds = calls_hold (calls ++ Recover registered kept ∷ []) ok
+
+    same : base b q ≡ seen calls (held_by calls) q
+    same = base_seen calls q (allowed_front nothing_brought calls (Recover registered kept ∷ []) ok)
+
+    lost : loses calls (held_by calls) registered kept q ≡ true
+    lost = both_first (loses calls (held_by calls) registered kept q) _
+        (both_first _ (not (list_any (λ f. not (query_eq f q) && does_supply f q && loses calls (held_by calls) registered kept f) registered)) e)
+
+    lost_first : (is_filtered q && is_some (seen calls (held_by calls) q) && not (is_known calls q.path && reaches kept q.path)) ≡ true
+    lost_first = both_first _ (not (list_any (may_show (held_by calls) q) registered)) lost
+
+    had : is_some (seen calls (held_by calls) q) ≡ true
+    had = both_second (is_filtered q) _ (both_first _ (not (is_known calls q.path && reaches kept q.path)) lost_first)
+
+    unknown : (is_known calls q.path && reaches kept q.path) ≡ false
+    unknown = not_true _ (both_second (is_filtered q && is_some (seen calls (held_by calls) q)) (not (is_known calls q.path && reaches kept q.path)) lost_first)
+
+    free : region_part new.regions q.path ≡ None
+    free = unseen q.path new.regions (ap (λ (x : Brought). any_above q.path x.regions) (after_append calls (Recover registered kept ∷ []) nothing_brought)
+        ∙ step_known q.path b (Recover registered kept) ∙ ap (λ k. k && reaches kept q.path) (known_is q calls) ∙ unknown)
+
+    owns : own new q ≡ option_map children_of (base b q)
+    owns =
+        sym (ap (λ (h : Held). h q) (held_all (calls ++ Recover registered kept ∷ []) ok))
+        ∙ ap (λ (h : Held). h q) (held_more calls (Recover registered kept))
+        ∙ (λ i. option_or (cond (e i) (option_map children_of (seen calls (held_by calls) q)) None)
+        (cond (ends q (Recover registered kept)) None (option_map (with_pushed q (Recover registered kept)) (held_by calls q))))
+        ∙ some_first (seen calls (held_by calls) q) _ had
+        ∙ ap (option_map children_of) (sym same)
+
+    there : is_some (window_of new.windows q) ≡ true
+    there = sym (some_mapped of_window (window_of new.windows q)) ∙ ap is_some owns ∙ some_mapped children_of (base b q) ∙ ap is_some same ∙ had
+
+-- ---- what is supplied
 
 -- a query that has another form's window has just what that form has
 pub supplied_same : SuppliedHasTheSame

@@ -27,10 +27,12 @@ pub mod Parts
 pub mod Places
 pub mod Pushes
 pub mod RecoverLaws
+pub mod Registering
 pub mod Removing
 pub mod RunLaws
 pub mod Sharing
 pub mod Sources
+pub mod StampPlaces
 pub mod Stamps
 pub mod Stays
 pub mod Strips

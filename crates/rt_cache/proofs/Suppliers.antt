@@ -45,10 +45,6 @@ no_other f q h = at (does_supply f q) refl
     at false e = ap (λ b. not (query_eq f q) && b) e ∙ and_no (not (query_eq f q))
     at true e = absurd (h e)
 
--- a filtered query supplies none of a path in front
-pub supplies_none_in_front : (f q : Query) → is_filtered f ≡ true → is_lt (path_cmp q.path f.path) ≡ true → is_other_supplier f q ≡ false
-supplies_none_in_front f q filtered before = no_other f q (λ e. not_itself f.path q.path before (sym (supplied_has_path f q filtered e)))
-
 -- what stands at another path is no other query of this one's
 pub other_path : (q f : Query) → (f.path ≡ q.path → ⊥) → is_another_at q f ≡ false
 other_path q f h = at (path_eq f.path q.path) refl

@@ -153,7 +153,7 @@ impl Brought {
     /// Finds the region by halving, where keys that the path shares with all regions that are left
     /// are not compared again, or the window by halving,
     /// and then costs by the path and the tree that is put. A new window moves a pointer of each of those
-    /// behind it. A push at the path of a filtered query looks at each window of that path. A push that begins a region finds those that it takes in by
+    /// behind it. A push at the path of a range without a limit looks at those of them at that path. A push that begins a region finds those that it takes in by
     /// halving, drops them, and moves a pointer of each of the regions and windows behind it. No other
     /// tree is walked.
     ///

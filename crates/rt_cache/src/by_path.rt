@@ -38,7 +38,7 @@ impl HasQuery for Query {
 }
 
 // Whether its path stands before this one.
-fn is_before<T: HasQuery>(item: &T, path: &Path) -> bool
+pub(crate) fn is_before<T: HasQuery>(item: &T, path: &Path) -> bool
     ensures { result ≡ is_lt (path_cmp (T.query_of item.now).path path.now) }
 {
     item.query().path().cmp(path).is_lt()

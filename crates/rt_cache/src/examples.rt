@@ -12,6 +12,10 @@ ghost use Rattle.rt_cache.specs.laws.Examples.{NarrowIsMovedThough, WiderInherit
 ghost use Rattle.rt_cache.specs.laws.False.{NothingShown, PushDropped, PushReplaces, WholeAtOnce};
 ghost use Rattle.rt_cache.specs.laws.False.{RegionForgotten, NotWhole, RegionDropped, StillWhole};
 ghost use Rattle.rt_cache.specs.laws.False.{StillThere, StaysAfterEnd, HidesRegion};
+ghost use Rattle.rt_cache.specs.laws.False.{NarrowWaits, NarrowHolds, SecondShows, LastIsShown, EndedShows};
+ghost use Rattle.rt_cache.specs.laws.False.{HandedIsLost, HandedIsWhole, SecondInherits, EndedHolds};
+ghost use Rattle.rt_cache.specs.laws.False.{NarrowerInherits, WiderIsPassedOver, WiderIsPart, OldIsShown};
+ghost use Rattle.rt_cache.specs.laws.False.{WiderIsShown, NarrowIsLost, OldIsHeld};
 
 /// A region takes in those below it, its parts are whole, and another listen keeps its part alone.
 pub fn region_examples()
@@ -73,4 +77,25 @@ pub fn false_windows()
     ensures still_there { StillThere }
     ensures ended { StaysAfterEnd }
     ensures hidden { HidesRegion }
+{}
+
+/// What runs must not leave for ranges of which some take in others: children that go with their holder,
+/// are handed to the wrong one or with the wrong mark, or stay where a wider range is pushed.
+pub fn false_ranges()
+    ensures waits { NarrowWaits }
+    ensures holds { NarrowHolds }
+    ensures second { SecondShows }
+    ensures last { LastIsShown }
+    ensures ended { EndedShows }
+    ensures lost { HandedIsLost }
+    ensures whole { HandedIsWhole }
+    ensures inherits { SecondInherits }
+    ensures held { EndedHolds }
+    ensures narrower { NarrowerInherits }
+    ensures passed_over { WiderIsPassedOver }
+    ensures part { WiderIsPart }
+    ensures old { OldIsShown }
+    ensures wider { WiderIsShown }
+    ensures narrow { NarrowIsLost }
+    ensures old_held { OldIsHeld }
 {}

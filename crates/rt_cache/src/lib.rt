@@ -29,7 +29,8 @@ mod windows;
 pub use base::Base;
 pub use brought::Brought;
 pub use examples::{
-    false_windows, order_examples, range_examples, region_examples, run_examples, window_examples,
+    false_ranges, false_windows, order_examples, range_examples, region_examples, run_examples,
+    window_examples,
 };
 pub use laws::{run_law, window_law};
 pub use run::{Call, QueryList};

@@ -11,9 +11,10 @@ ghost use Rattle.rt_cache.specs.declared.registered.Form.{Form};
 ghost use Rattle.rt_cache.specs.inside.ByPath.{AreByPath};
 ghost use Rattle.rt_cache.specs.inside.Held.{AreShort};
 ghost use Rattle.rt_cache.specs.inside.Listed.{form_query, queries_of, stands_at, is_same_form};
+ghost use Rattle.rt_cache.specs.inside.Listed.{is_form_before};
 ghost use Rattle.rt_cache.specs.inside.Listed.{AreFilteredOf};
 
-use crate::by_path::{HasQuery, first_behind, first_from};
+use crate::by_path::{HasQuery, first_behind, is_before};
 use rt_query::Query;
 use std::alloc::{AllocError, Global};
 use std::marker::Model;
@@ -125,26 +126,39 @@ fn add_form(
     Ok(())
 }
 
-// Where the form of this path and stamp stands. Goes over those of its path alone.
+// Whether it stands before the form: by its path, and at one path by its stamp.
+fn is_before_form(other: &BoxedForm, form: &BoxedForm) -> bool
+    ensures { result ≡ is_form_before form.now other.now }
+{
+    let path = form.query().path();
+    is_before(other, path) || (other.query().path() == path && other.stamp() < form.stamp())
+}
+
+// Whether it is of the form's path and stamp.
+fn is_same_form(other: &BoxedForm, form: &BoxedForm) -> bool
+    ensures { result ≡ is_same_form form.now other.now }
+{
+    other.query().path() == form.query().path() && other.stamp() == form.stamp()
+}
+
+// Where the form of this path and stamp stands, by halving.
 fn place_of_form(filtered: &[BoxedForm], form: &BoxedForm) -> Option<usize>
-    requires { AreByPath form_query filtered.now }
+    requires order { AreByPath form_query filtered.now }
+    requires rising { (p : Path) → AllPairs (λ f g. f.stamp < g.stamp) (filter (stands_at p) filtered.now) }
     ensures known { is_some result ≡ list_any (is_same_form form.now) filtered.now }
     ensures within { IfSome result (λ n. n < length filtered.now) }
     ensures own { IfSome result (λ n. (d : Form)
         → is_same_form form.now (slice_index_or filtered.now n d) ≡ true) }
 {
-    let mut place = first_from(filtered, form.query().path());
-    while place < filtered.len() {
-        let other = &filtered[place];
-        if other.query().path() != form.query().path() {
-            return None;
-        }
-        if other.stamp() == form.stamp() {
-            return Some(place);
-        }
-        place += 1;
+    let place = filtered.partition_point(|other| is_before_form(other, form));
+    if place == filtered.len() {
+        return None;
     }
-    None
+    if is_same_form(&filtered[place], form) {
+        Some(place)
+    } else {
+        None
+    }
 }
 
 // The forms but for that at this place.

@@ -193,8 +193,8 @@ pub(crate) fn remove_queries(windows: &mut Vec<BoxedWindow>, queries: &[Query])
     }
 }
 
-// The windows but for those of other queries that this one supplies. Goes over those of its path alone:
-// what is filtered supplies no other path.
+// The windows but for those of other queries that this one supplies. What has a limit supplies none; else
+// goes over those of its path alone, and of these over none in front of it: a wider one stands in front.
 fn remove_supplied(windows: &mut Vec<BoxedWindow>, query: &Query)
     requires order { AreByQuery query_of windows.old.items }
     requires filtered { is_filtered query.now ≡ true }
@@ -203,7 +203,10 @@ fn remove_supplied(windows: &mut Vec<BoxedWindow>, query: &Query)
         ≡ filter (λ w. query_eq w.0 query.now || not (does_supply query.now w.0)) (in_query_order
         (entries_of windows.old.items)) }
 {
-    let mut place = first_from(windows, query.path());
+    if query.limit().is_some() {
+        return;
+    }
+    let mut place = first_of(windows, query);
     while place < windows.len() {
         let other = windows[place].query();
         if other.path() != query.path() {

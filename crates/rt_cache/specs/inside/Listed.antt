@@ -1,7 +1,8 @@
 -- The filtered ones of the registered forms, as they stand beside these.
-use Rattle.std.specs.Prelude.{◌≡◌, ◌<◌, ◌==◌, Bool, ◌&&◌, List, map}
+use Rattle.std.specs.Prelude.{◌≡◌, ◌<◌, ◌==◌, nat_lt, Bool, ◌&&◌, ◌||◌, List, map}
 use Rattle.std.specs.List.{filter, AllPairs}
-use Rattle.rt_tree.specs.PathTree.{Path, path_eq}
+use Rattle.std.specs.Ordering.{is_lt}
+use Rattle.rt_tree.specs.PathTree.{Path, path_cmp, path_eq}
 use Rattle.rt_query.specs.Queries.{Query, is_filtered}
 use Rattle.rt_cache.specs.declared.registered.Form.{Form}
 use Rattle.rt_cache.specs.inside.ByPath.{AreByPath}
@@ -23,6 +24,11 @@ is_filtered_at p f = is_filtered f.query && stands_at p f
 -- whether it is of the path and the stamp of the form
 abbrev pub is_same_form : Form → Form → Bool
 is_same_form f g = stands_at (f.query).path g && g.stamp == f.stamp
+
+-- whether another stands before the form: by its path, and at one path by its stamp
+abbrev pub is_form_before : Form → Form → Bool
+is_form_before f g =
+    is_lt (path_cmp (g.query).path (f.query).path) || stands_at (f.query).path g && nat_lt g.stamp f.stamp
 
 -- stamps rise; the filtered forms stand by their paths, and those of one path in the order of all
 pub record AreFilteredOf (registered filtered : List Form) : Type 0 where

@@ -1,10 +1,11 @@
 use Rattle.std.proofs.Common.{rules, ◌≡◌, ◌∙◌, ◌<◌, List, sym, subst, length, get_or, true, false}
 use mathlib.Core.Bool.{true≢false}
-use Rattle.std.specs.List.{list_any, remove}
+use Rattle.std.specs.List.{filter, list_any, remove, AllPairs}
 use Rattle.rt_query.specs.Queries.{is_filtered}
 use Rattle.rt_cache.specs.declared.registered.Form.{Form}
-use Rattle.rt_cache.specs.inside.Listed.{is_same_form, AreFilteredOf}
-use Rattle.rt_cache.proofs.Stamps.{is_there, less_plain, less_filtered}
+use Rattle.rt_cache.specs.inside.Listed.{stands_at, is_same_form, AreFilteredOf}
+use Rattle.rt_cache.proofs.StampPlaces.{rise_at}
+use Rattle.rt_cache.proofs.Stamps.{Rises, is_there, less_plain, less_filtered}
 use Rattle.rt_cache.proofs.registered.remove_form.Goals as goal
 
 pub returns-then-not-is_filtered-clause-listed : goal.returns-then-not-is_filtered-clause-listed
@@ -40,3 +41,8 @@ returns-in-Some-clause-listed c =
     let rest : c.remove.new.self.items ≡ remove gs m = search rules in
     subst (λ (xs : List Form). AreFilteredOf xs c.remove.new.self.items) (sym left)
     (subst (λ (ys : List Form). AreFilteredOf (remove fs c.args.place) ys) (sym rest) (less_filtered fs gs c.args.place m f c.requires.within at is within own c.requires.listed))
+
+pub place_of_form-requires-clause-rising : goal.place_of_form-requires-clause-rising
+place_of_form-requires-clause-rising c = λ p.
+    subst (λ (xs : List Form). AllPairs Rises (filter (stands_at p) xs)) (sym c.deref.ensures.value)
+    (rise_at c.args.forms.now.items c.args.filtered.now.items c.requires.listed p)

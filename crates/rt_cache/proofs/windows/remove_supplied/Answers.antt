@@ -1,33 +1,41 @@
-use Rattle.std.proofs.Common.{rules, ◌≡◌, ◌∙◌, ◌+◌, ◌<◌, ◌≤◌, ℕ, arith, List, ap, sym, subst, not, length, get_or, refl, true, false}
+use Rattle.std.proofs.Common.{rules, ◌≡◌, ◌∙◌, ◌+◌, ◌<◌, ◌≤◌, ℕ, arith, List, is_some, ap, sym, subst, not, length, get_or, refl, true, false}
 use Rattle.std.specs.List.{filter, remove}
 use Rattle.std.specs.List.Sorted.{IsPartitionPoint}
 use Rattle.std.specs.Ordering.{is_lt}
 use Rattle.std.proofs.lemmas.List.Edits.{length-remove, get_or-remove_below, get_or-remove_above}
 use Rattle.std.proofs.lemmas.List.Elements.{at_read}
-use Rattle.rt_tree.specs.PathTree.{Path, path_cmp, path_eq}
+use Rattle.rt_tree.specs.PathTree.{path_cmp, path_eq}
 use Rattle.rt_query.specs.Queries.{Query}
+use Rattle.rt_query.specs.QueryOrder.{query_cmp}
 use Rattle.rt_cache.specs.declared.window.Window.{Window}
-use Rattle.rt_cache.specs.inside.ByPath.{AreByPath, AreByQuery, query_of, is_other_supplier}
+use Rattle.rt_cache.specs.inside.ByPath.{AreByQuery, query_of, is_other_supplier}
+use Rattle.rt_cache.proofs.Apart.{none_lesser, none_limited}
 use Rattle.rt_cache.proofs.ByPaths.{before_more, none_of_path_left}
-use Rattle.rt_cache.proofs.ByQueries.{by_paths, by_query-remove}
+use Rattle.rt_cache.proofs.ByQueries.{by_paths, path_not_lesser, by_query-remove}
 use Rattle.rt_cache.proofs.Stamps.{filter-remove_none}
-use Rattle.rt_cache.proofs.Suppliers.{supplied_of_path, supplies_none_in_front, left_beside}
+use Rattle.rt_cache.proofs.Suppliers.{supplied_of_path, left_beside}
 use Rattle.rt_cache.proofs.windows.remove_supplied.Goals as goal
 
 pub loop-place-init : goal.loop-place-init
 loop-place-init c =
     let ws : List Window = c.args.windows.now.items in
     let q : Query = c.args.query.now in
-    let point : IsPartitionPoint (λ (x : Window). is_lt (path_cmp (x.query).path q.path) ≡ true) (λ (x : Window). is_lt (path_cmp (x.query).path q.path) ≡ false) ws c.first_from-place.result =
-    subst (λ (p : Path). IsPartitionPoint (λ (x : Window). is_lt (path_cmp (x.query).path p) ≡ true) (λ (x : Window). is_lt (path_cmp (x.query).path p) ≡ false) ws c.first_from-place.result) c.path.ensures
-    (subst (λ (xs : List Window). IsPartitionPoint (λ (x : Window). is_lt (path_cmp (x.query).path c.path.result.now) ≡ true) (λ (x : Window). is_lt (path_cmp (x.query).path c.path.result.now) ≡ false) xs c.first_from-place.result) c.deref.ensures.value c.first_from-place.ensures.point) in
-    let within : c.first_from-place.result ≤ length ws = search rules in (
+    let point : IsPartitionPoint (λ (x : Window). is_lt (query_cmp x.query q) ≡ true) (λ (x : Window). is_lt (query_cmp x.query q) ≡ false) ws c.first_of-place.result =
+    subst (λ (xs : List Window). IsPartitionPoint (λ (x : Window). is_lt (query_cmp x.query q) ≡ true) (λ (x : Window). is_lt (query_cmp x.query q) ≡ false) xs c.first_of-place.result) c.deref.ensures.value c.first_of-place.ensures.point in
+    let within : c.first_of-place.result ≤ length ws = search rules in (
       c.requires.order,
       within,
-      λ k d lt. supplies_none_in_front q (get_or ws k d).query c.requires.filtered (point.0 k d (omega arith) lt),
-      λ k d le lt. point.1 k d le lt,
+      λ k d lt. none_lesser q (get_or ws k d).query c.requires.filtered (point.0 k d (omega arith) lt),
+      λ k d le lt. path_not_lesser q (get_or ws k d).query (point.1 k d le lt),
       refl,
     )
+
+pub returns-then-is_some-clause-left : goal.returns-then-is_some-clause-left
+returns-then-is_some-clause-left c =
+    let ws : List Window = c.args.windows.now.items in
+    let q : Query = c.args.query.now in
+    let limit : is_some q.limit ≡ true = search rules in
+    left_beside q ws ws (λ k d lt. none_limited q (get_or ws k d).query c.requires.filtered limit) refl
 
 pub loop-place-preserved-then-is_other_supplier : goal.loop-place-preserved-then-is_other_supplier
 loop-place-preserved-then-is_other_supplier c =
@@ -83,6 +91,3 @@ returns-clause-left c =
     let ws : List Window = c.loop-place.windows.items in
     let done : length ws ≤ c.loop-place.place = search rules in
     left_beside c.args.query.now c.args.windows.now.items ws (λ k d lt. c.loop-place.invariant.2 k d (omega (arith, lt, done))) c.loop-place.invariant.4
-
-pub first_from-place-requires : goal.first_from-place-requires
-first_from-place-requires c = subst (λ (ws : List Window). AreByPath query_of ws) (sym c.deref.ensures.value) (by_paths query_of c.args.windows.now.items c.requires.order)
