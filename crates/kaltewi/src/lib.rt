@@ -76,4 +76,4 @@ pub use told::{
     Batch, Change, Inbox, Item, Kinds, Mirror, Receipt, Snapshot, Snapshots, apply_changes,
     of_kinds,
 };
-pub use trees::{Entries, Key, Leaf, LeafRef, OrdMap, Path, Tree};
+pub use trees::{Entries, Key, Leaf, LeafRef, NoSlot, OrdMap, Path, Tree};

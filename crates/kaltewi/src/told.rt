@@ -155,4 +155,4 @@ pub use rt_mail::Mirror;
 ///     !snapshot.query().is_filtered()
 /// }
 /// ```
-pub use rt_snapshots::{Snapshot, Snapshots};
+pub use rt_mail::{Snapshot, Snapshots};

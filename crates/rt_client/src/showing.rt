@@ -7,8 +7,8 @@ ghost use Rattle.rt_client.specs.laws.Showing.{ForeseesAnothersEnd, ForeseesMess
 ghost use Rattle.rt_client.specs.laws.Showing.{ForeseesWhatStays, ShowsAll};
 
 use crate::reflecting::reflection_law;
+use rt_mail::snapshot_law;
 use rt_query::select_laws;
-use rt_snapshots::snapshot_law;
 use rt_view::turn_laws;
 use rt_world::{note_law, refusal_law, sending_law, sound_law, stay_law};
 

@@ -26,10 +26,10 @@ use Rattle.std.proofs.alloc.Calls.{Al, handle_tells}
 use Rattle.std.proofs.cell.Inside.{Good}
 use Rattle.std.specs.Box.Ownership.{box_owns}
 use Rattle.std.proofs.ResultValues.{and_tt}
-use Rattle.rt_handle.specs.Handles.{maybe_box_owns}
+use Rattle.rt_foreign.specs.Boxes.{maybe_box_owns}
 use Rattle.rt_foreign.specs.declared.held.Held.{Held}
 use Rattle.rt_foreign.specs.contracts.held.Held as held
-use Rattle.rt_handle.specs.contracts.parts.Parts as parts
+use Rattle.rt_foreign.specs.contracts.parts.Parts as parts
 use Rattle.rt_foreign.specs.contracts.handle.Loose as loose
 
 abbrev pub both : Val → Val → Val

@@ -1,3 +1,4 @@
+mod Apart
 mod Giving
 mod Handles
 mod Placing

@@ -1,11 +1,11 @@
 // What C holds of what is open.
 ghost use Rattle.std.specs.Prelude.{◌≡◌, true, Option, None, Some, IfNone, IfSome, is_some};
-ghost use Rattle.rt_handle.specs.Handles.{maybe_box_owns};
+ghost use Rattle.rt_foreign.specs.Boxes.{maybe_box_owns};
 ghost use Rattle.rt_foreign.specs.declared.held.Held.{Held};
 ghost use Rattle.rt_foreign.specs.contracts.held.Held.{the_row as the_held};
 
 use crate::held::Held;
-use rt_handle::Parts;
+use crate::parts::Parts;
 use std::alloc::Global;
 use std::marker::Model;
 use std::{mem, ptr};

@@ -18,6 +18,7 @@ pub mod examples;
 mod handle;
 mod held;
 mod item;
+mod parts;
 mod place;
 mod reading;
 mod session;

@@ -5,3 +5,4 @@ pub mod Halving
 pub mod Handing
 pub mod Places
 pub mod Rising
+pub mod Again

@@ -64,17 +64,3 @@ signed_lane r lane = record {
   waiting = [];
   mirror = option_map (λ m. taken (known_of m lane.waiting) (item.Receipt r)) lane.mirror;
 }
-
--- for want of memory: the first n items are handed over, the others wait, and the mirror is given up
-pub record GivesUp (n : ℕ) (old : Line) (old_ring : Ring) (new : Line) (new_ring : Ring) : Type 0 where
-  pub worked : IsTrue (is_working old)
-  pub some : n ≤ length old.waiting
-  pub ring : new_ring ≡ with_items (take n old.waiting) old_ring
-  pub waiting : new.waiting ≡ drop n old.waiting
-  pub failed : new.mirror ≡ None
-
--- a refusal: a lane that has failed stays as it is, and so does the ring; else memory lacked
-abbrev pub Refuses : Line → Ring → MailError → Line → Ring → Type 0
-Refuses old old_ring Failed new new_ring =
-    (old.mirror ≡ None) × (new ≡ old) × (new_ring ≡ old_ring)
-Refuses old old_ring NoMemory new new_ring = (n : ℕ) × GivesUp n old old_ring new new_ring

@@ -1,5 +1,5 @@
 -- Any calls on a lane and its ring, one after another, and what they leave.
-use Rattle.std.specs.Prelude.{ℕ, min, List, [], ◌∷◌, ◌++◌, length, take, drop, Some, None}
+use Rattle.std.specs.Prelude.{ℕ, min, List, [], ◌∷◌, ◌++◌, length, take, drop, Some}
 use Rattle.std.specs.List.{fold, flat_map}
 use Rattle.rt_mail.specs.declared.item.Item.{Item}
 use Rattle.rt_mail.specs.declared.item.Item.TheVariants as item
@@ -8,13 +8,11 @@ use Rattle.rt_mail.specs.Mailbox.{nothing_known}
 use Rattle.rt_mail.specs.Lanes.{Ring, Line, room, with_items, with_waiting, without_first, signed_lane}
 
 -- a call: an item is queued; as many as have room are handed over; all that waits is, and then a
--- receipt; memory is lacking once n are handed over; the seat takes an item. Calls that are refused
--- and change nothing are left out.
+-- receipt; the seat takes an item. Calls that are refused and change nothing are left out.
 pub data Call : Type 0 where
   Queue : Item → Call
   Flush : Call
   Sign : Receipt → Call
-  GiveUp : ℕ → Call
   Next : Call
 
 -- a lane, its ring, and what the seat has taken from it, in order
@@ -46,10 +44,6 @@ after m (Sign receipt) = record m {
   lane = signed_lane receipt m.lane;
   ring = with_items (m.lane.waiting ++ item.Receipt receipt ∷ []) m.ring;
 }
-after m (GiveUp n) = record m {
-  lane = record { waiting = drop n m.lane.waiting; mirror = None };
-  ring = with_items (take n m.lane.waiting) m.ring;
-}
 after m Next = record m {
   ring = record (m.ring) { items = drop 1 m.ring.items };
   gone = m.gone ++ take 1 m.ring.items;
@@ -64,7 +58,6 @@ abbrev pub put_by : Call → List Item
 put_by (Queue new) = new ∷ []
 put_by Flush = []
 put_by (Sign receipt) = item.Receipt receipt ∷ []
-put_by (GiveUp n) = []
 put_by Next = []
 
 -- what the calls put in, in order

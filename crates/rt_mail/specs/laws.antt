@@ -1,3 +1,5 @@
 pub mod Examples
 pub mod InOrder
 pub mod Replays
+pub mod Shows
+pub mod SnapshotExamples

@@ -1,8 +1,8 @@
 // What waits for a seat.
-ghost use Rattle.std.specs.Prelude.{◌≡◌, ◌<◌, ◌↔◌, ◌∷◌, [], ◌++◌, IsTrue, IsOk, OnOk, IfErr, Some, min, length};
+ghost use Rattle.std.specs.Prelude.{◌≡◌, ◌<◌, ◌↔◌, ◌∷◌, [], ◌++◌, IsTrue, OnOk, IfErr, Some, min, length};
 ghost use Rattle.rt_mail.specs.Mailbox.{nothing_known};
 ghost use Rattle.rt_mail.specs.Lanes.{room, with_items, with_waiting, HandsOver, signed_lane};
-ghost use Rattle.rt_mail.specs.Lanes.{Refuses, is_working, why_not};
+ghost use Rattle.rt_mail.specs.Lanes.{is_working, why_not};
 ghost use Rattle.rt_mail.specs.inside.Histories.{line_of};
 ghost use Rattle.rt_mail.specs.declared.item.Item.TheVariants as item;
 
@@ -108,33 +108,27 @@ impl Lane {
     }
 
     /// Hands over as many items as the ring has room for, in order. Items are moved, and none is
-    /// copied. It takes no memory, and is never refused.
-    pub fn flush(&mut self, inbox: &mut Inbox) -> Result<(), MailError>
-        ensures flushed { OnOk result (HandsOver (min (length self.old.waiting) (room inbox.old))
-            self.old inbox.old self.new inbox.new) }
-        ensures working { OnOk result (IsTrue (is_working self.old)) }
-        ensures refused { IfErr result (λ e. Refuses self.old inbox.old e self.new inbox.new) }
-        ensures always { IsOk result }
+    /// copied. It takes no memory.
+    pub fn flush(&mut self, inbox: &mut Inbox)
+        ensures flushed { HandsOver (min (length self.old.waiting) (room inbox.old))
+            self.old inbox.old self.new inbox.new }
+        ensures working { IsTrue (is_working self.old) }
     {
         hand_over(&mut self.waiting, &mut self.handed, inbox);
-        Ok(())
     }
 
     /// Hands over all that waits and then a receipt. The caller has seen that there is room:
-    /// [`Lane::has_room`]. It takes no memory, and is never refused.
-    pub fn sign(&mut self, inbox: &mut Inbox, receipt: Receipt) -> Result<(), MailError>
+    /// [`Lane::has_room`]. It takes no memory.
+    pub fn sign(&mut self, inbox: &mut Inbox, receipt: Receipt)
         requires room { length self.old.waiting < room inbox.old }
-        ensures ring { OnOk result (inbox.new
-            ≡ with_items (self.old.waiting ++ item.Receipt receipt ∷ []) inbox.old) }
-        ensures lane { OnOk result (self.new ≡ signed_lane receipt self.old) }
-        ensures working { OnOk result (IsTrue (is_working self.old)) }
-        ensures refused { IfErr result (λ e. Refuses self.old inbox.old e self.new inbox.new) }
-        ensures always { IsOk result }
+        ensures ring { inbox.new
+            ≡ with_items (self.old.waiting ++ item.Receipt receipt ∷ []) inbox.old }
+        ensures lane { self.new ≡ signed_lane receipt self.old }
+        ensures working { IsTrue (is_working self.old) }
     {
-        self.flush(inbox)?;
+        self.flush(inbox);
         let item = Item::Receipt(receipt);
         self.handed = self.handed.and(&item);
         inbox.put(item);
-        Ok(())
     }
 }

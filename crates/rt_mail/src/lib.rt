@@ -8,9 +8,25 @@
 //! let mut inbox = Inbox::new(alloc, 2)?;
 //! let mut lane = Lane::new(alloc);
 //! lane.queue(Item::Settled { id: 1, why: None })?;     // it waits
-//! lane.flush(&mut inbox)?;                             // the ring holds it, as far as there is room
+//! lane.flush(&mut inbox);                              // the ring holds it, as far as there is room
 //! while let Some(item) = inbox.next() {                // the seat takes it, and waits for nobody
 //!     mirror.take(item)?;                              // listeners, their children, requests
+//! }
+//! ```
+//!
+//! [`Snapshots`] are what a seat's thread shows: of each of its listeners the query, and what it shows as a
+//! tree and as rows in the query's order. They take the same items by reference. Beside a [`Mirror`], which
+//! keeps children alone, they tell a path of which nothing is known yet from one where nothing is, and from
+//! one where a leaf is.
+//!
+//! ```text
+//! let mut snapshots = Snapshots::new(alloc);
+//! while let Some(item) = seat.next() {
+//!     snapshots.take(&item)?;                          // where memory lacks, it can be taken again
+//! }
+//! if let Some(snapshot) = snapshots.get(listener) {
+//!     snapshot.value()                                 // none while nothing is known
+//!     snapshot.shown()?                                // the rows, in the query's order
 //! }
 //! ```
 #![tactic(auto)]
@@ -25,11 +41,15 @@ mod lane;
 mod laws;
 mod mirror;
 mod receipt;
+mod snapshot;
+mod snapshots;
 
 pub use error::MailError;
 pub use inbox::{Inbox, MAX_CAPACITY};
 pub use item::Item;
 pub use lane::{Lane, Unqueued};
-pub use laws::{order_law, replay_law};
+pub use laws::{order_law, replay_law, snapshot_law};
 pub use mirror::Mirror;
 pub use receipt::Receipt;
+pub use snapshot::Snapshot;
+pub use snapshots::Snapshots;

@@ -4,8 +4,7 @@ use rt_client::Done;
 use rt_lines::{
     write_batch, write_cancelled, write_outcome, write_refused, write_settled, write_view,
 };
-use rt_mail::{Item, Receipt};
-use rt_snapshots::Snapshots;
+use rt_mail::{Item, Receipt, Snapshots};
 use rt_world::{CoreError, Outcome};
 use std::alloc::{AllocError, Global};
 use std::fmt::Write;

@@ -12,7 +12,7 @@ use Rattle.rt_world.specs.Answers.{step, world_after}
 use Rattle.rt_world.specs.Sound.{IsSound}
 use Rattle.rt_mail.specs.declared.item.Item.{Item}
 use Rattle.rt_mail.specs.Lanes.{Line}
-use Rattle.rt_snapshots.specs.Snapshots.{Seen, Known, shown_of, seen_of, after_items}
+use Rattle.rt_mail.specs.Snapshots.{Seen, Known, shown_of, seen_of, after_items}
 use Rattle.rt_client.specs.declared.done.Done.{Done}
 use Rattle.rt_client.specs.Seats.{caller_of, does_close, told_by, told_in}
 use Rattle.rt_client.specs.Shared.{Held, IsWhole}

@@ -14,8 +14,8 @@ use Rattle.rt_mail.specs.declared.item.Item.{Item}
 use Rattle.rt_mail.specs.declared.item.Item.TheVariants as item
 use Rattle.rt_mail.specs.declared.receipt.Receipt.TheVariants.{Listened, Wrote}
 use Rattle.rt_mail.specs.Mailbox.{Known, nothing_known, known_of}
-use Rattle.rt_snapshots.specs.Snapshots.{after_items}
-use Rattle.rt_snapshots.specs.Snapshots.{Known as Shown}
+use Rattle.rt_mail.specs.Snapshots.{after_items}
+use Rattle.rt_mail.specs.Snapshots.{Known as Shown}
 use Rattle.rt_client.specs.Seats.{reflection, told_by, told_in}
 use Rattle.rt_client.specs.laws.Showing.{seen_in}
 

@@ -3,7 +3,7 @@ use mathlib.Core.Bool.{true≢false}
 use Rattle.std.specs.Prelude.{codes, is_some}
 use Rattle.std.specs.Option.{option_map_or}
 use Rattle.rt_tree.specs.PathTree.{null, of_leaf, leaf_at, put}
-use Rattle.rt_snapshots.specs.Snapshots.{Known, seen_of, after_items}
+use Rattle.rt_mail.specs.Snapshots.{Known, seen_of, after_items}
 use Rattle.rt_client.specs.laws.Telling.{listened, x_comes, y_comes, first_shown}
 use Rattle.rt_client.proofs.examples.showing_examples.Goals as goal
 

@@ -30,10 +30,10 @@ use Rattle.std_alloc.proofs.BoxSteps.Form.{Bx, D, R, P, B, args, word, box_ty, b
 use Rattle.std_alloc.proofs.BoxSteps.Steps.{box_out, box_in}
 use Rattle.std_alloc.specs.contracts.boxed.Box.from_raw as Back
 use Rattle.std_alloc.proofs.boxed.Box.from_raw.Met as back
-use Rattle.rt_handle.proofs.Apart.{Apart, parts_out}
-use Rattle.rt_handle.specs.contracts.parts.Parts.into_box as F
-use Rattle.rt_handle.proofs.parts.Parts.into_box.Statement.{statement}
-use Rattle.rt_handle.proofs.parts.Parts.into_box.Code as code
+use Rattle.rt_foreign.proofs.Apart.{Apart, parts_out}
+use Rattle.rt_foreign.specs.contracts.parts.Parts.into_box as F
+use Rattle.rt_foreign.proofs.parts.Parts.into_box.Statement.{statement}
+use Rattle.rt_foreign.proofs.parts.Parts.into_box.Code as code
 
 abbrev rest : Body
 rest = seq (assign (place 0 []) (rv_opd (copy (place 4 [])))) return

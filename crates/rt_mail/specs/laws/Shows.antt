@@ -3,7 +3,7 @@ use Rattle.std.specs.Prelude.{◌≡◌, Some}
 use Rattle.rt_tree.specs.PathTree.{PathTree}
 use Rattle.rt_query.specs.Queries.{Query}
 use Rattle.rt_query.specs.Select.{select, tree_of}
-use Rattle.rt_snapshots.specs.Snapshots.{Seen, shown_of}
+use Rattle.rt_mail.specs.Snapshots.{Seen, shown_of}
 
 -- what a query shows of the tree of what it shows is the same
 abbrev pub SelectsAgain : Type 0

@@ -33,10 +33,10 @@ use Rattle.std_alloc.proofs.BoxSteps.Form.{Bx, τ, R, P, B, word, box_typed}
 use Rattle.std_alloc.proofs.BoxSteps.Steps.{box_out, box_in}
 use Rattle.std_alloc.specs.contracts.boxed.Box.into_raw_with_allocator as Out
 use Rattle.std_alloc.proofs.boxed.Box.into_raw_with_allocator.Met as out
-use Rattle.rt_handle.proofs.Apart.{Apart, parts_in}
-use Rattle.rt_handle.specs.contracts.parts.Parts.of as F
-use Rattle.rt_handle.proofs.parts.Parts.of.Statement.{statement}
-use Rattle.rt_handle.proofs.parts.Parts.of.Code as code
+use Rattle.rt_foreign.proofs.Apart.{Apart, parts_in}
+use Rattle.rt_foreign.specs.contracts.parts.Parts.of as F
+use Rattle.rt_foreign.proofs.parts.Parts.of.Statement.{statement}
+use Rattle.rt_foreign.proofs.parts.Parts.of.Code as code
 
 pub of_spec : {M : Type 1} → statement M
 of_spec 𝓤 𝓛 𝓜 𝓡 wired X Z LX LZ g d dd dx allocator md glue =

@@ -27,7 +27,7 @@ use Rattle.rt_query.specs.laws.Rows.{row_entry, all-filter, all-limited, all-sor
 use Rattle.rt_query.specs.laws.Select.{select-distinct, select-whole}
 use Rattle.rt_query.proofs.RowLaws.{shown_filtered}
 use Rattle.rt_query.proofs.ShownLaws.{child_of-as_children, row_at-tree}
-use Rattle.rt_snapshots.specs.Laws.{SelectsAgain, ShowsTheView}
+use Rattle.rt_mail.specs.laws.Shows.{SelectsAgain, ShowsTheView}
 
 -- ---- children by their entries
 

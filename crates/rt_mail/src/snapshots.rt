@@ -1,10 +1,11 @@
 // What is known of a seat's listeners by the items that it was given.
 ghost use Rattle.std.specs.Prelude.{◌≡◌, [], OnOk, IfErr, length};
 ghost use Rattle.std.specs.Option.{option_map};
-ghost use Rattle.rt_snapshots.specs.Snapshots.{seen_of, begun, shows, ended, signed, after_item, tree_told};
+ghost use Rattle.rt_mail.specs.Snapshots.{seen_of, begun, shows, ended, signed, after_item, tree_told};
 
+use crate::item::Item;
+use crate::receipt::Receipt;
 use crate::snapshot::Snapshot;
-use rt_mail::{Item, Receipt};
 use rt_query::Query;
 use rt_tree::Tree;
 use rt_view::{Batch, Change};
@@ -28,7 +29,7 @@ impl Model for Snapshots {
     ghost use Rattle.std.specs.Prelude.{List, ℕ};
     ghost use Rattle.std.specs.BTreeMap.{IsOrdered};
     ghost use Rattle.std.specs.Ordering.{nat_cmp};
-    ghost use Rattle.rt_snapshots.specs.Snapshots.{Seen};
+    ghost use Rattle.rt_mail.specs.Snapshots.{Seen};
 
     ghost Value = { List (ℕ × Seen) };
 

@@ -1,7 +1,7 @@
 // What is known of one listener.
 ghost use Rattle.std.specs.Prelude.{◌≡◌, IfOk, Some, None};
 ghost use Rattle.std.specs.Option.{option_map};
-ghost use Rattle.rt_snapshots.specs.Snapshots.{shown_of};
+ghost use Rattle.rt_mail.specs.Snapshots.{shown_of};
 
 use rt_query::{Query, Shown};
 use rt_tree::Tree;
@@ -21,7 +21,7 @@ impl Drop for Snapshot {
 }
 
 impl Model for Snapshot {
-    ghost use Rattle.rt_snapshots.specs.Snapshots.{Seen};
+    ghost use Rattle.rt_mail.specs.Snapshots.{Seen};
 
     ghost Value = { Seen };
 

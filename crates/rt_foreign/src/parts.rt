@@ -7,7 +7,7 @@ use std::marker::Model;
 
 /// A box taken apart: where its value lies, and the allocator that frees it. It owns what the box owned,
 /// so it is made by a box, and made a box again, and by a function whose proof moves what it owns.
-pub struct Parts<T, A: Allocator> {
+pub(crate) struct Parts<T, A: Allocator> {
     /// Where the value lies, which is never null.
     pub ptr: *mut T,
     /// Who frees it.
