@@ -22,7 +22,8 @@ use Rattle.rt_peer.specs.Pushes.{seen}
 use Rattle.rt_peer.specs.Calls.{Outcome, one, connected, kept, answered, disconnected, entries_of}
 use Rattle.rt_peer.specs.Calls.{refusal, unless_refused, wrote, deferred, dropped, without_below}
 use Rattle.rt_peer.specs.Calls.{has_entries, asked, marked}
-use Rattle.rt_peer.specs.Runs.{Call, Connect, Message, Disconnect, outcome, after_all}
+use Rattle.rt_peer.specs.Turns.{connections_after, is_last_turn, turned}
+use Rattle.rt_peer.specs.Runs.{Call, Connect, Message, Disconnect, EndSome, outcome, after_all}
 use Rattle.rt_peer.specs.inside.Rising.{RisesFrom}
 use Rattle.rt_peer.specs.laws.Orders.{ListensRise, ListensAreOfKnown}
 use Rattle.rt_peer.specs.laws.Orders.{ActionsRise, ActionsAreOfKnown}
@@ -31,6 +32,7 @@ use Rattle.rt_peer.proofs.Numbers.{rises-in_place}
 use Rattle.rt_peer.proofs.ActionLaws.{rises_added, rises_dropped}
 use Rattle.rt_peer.proofs.PlaceLaws.{rises_kept}
 use Rattle.rt_peer.proofs.Places.{all-in_place, filter_with, known-in_place}
+use Rattle.rt_peer.proofs.TurnLaws.{all-without, last_turn, pairs-without}
 
 -- ---- pairs of numbers in order
 
@@ -190,6 +192,30 @@ ends p n h = record {
         (λ m e. other_number k n m other e) p.connections
         ∙ known
 
+-- the last turn is the end; before it the connections stay
+turns : (p : Peer) (n most : ℕ) → Keeps p → Keeps (turned p n most).0
+turns p n most h =
+    elim (is_last_turn p n most) as (λ b. is_last_turn p n most ≡ b → Keeps (turned p n most).0) [
+      | true ↦ λ e. subst (λ (o : Outcome). Keeps o.0) (sym (last_turn p n most e)) (ends p n h)
+      | false ↦ λ e.
+          let same : connections_after p n most ≡ p.connections =
+          ap (λ b. if b then filter (λ m. not (m == n)) p.connections else p.connections) e in
+          subst (λ (ns : List ℕ). Keeps (record (turned p n most).0 { connections = ns })) (sym same) kept_all
+    ] refl
+  where
+    kept_all : Keeps (record (turned p n most).0 { connections = p.connections })
+    kept_all = record {
+      numbers = h.numbers;
+      newer = rises-filter (λ m. not (m == n)) 0 p.newer h.newer;
+      newer_known = All-filter (λ m. not (m == n)) (λ m. is_known p.connections m ≡ true) p.newer h.newer_known;
+      listens = AllPairs-filter (λ a b. is_before a b ≡ true) (λ l. not (l.connection == n)) p.listens h.listens;
+      listens_known = All-filter (λ l. not (l.connection == n))
+          (λ l. is_known p.connections l.connection ≡ true) p.listens h.listens_known;
+      actions = pairs-without (λ a b. runs_before b a ≡ false) (λ a. a.connection == n) most p.actions h.actions;
+      actions_known = all-without (λ a. is_known p.connections a.connection ≡ true) (λ a. a.connection == n)
+          most p.actions h.actions_known;
+    }
+
 -- ---- each call
 
 unless : (o : Option (List ℕ)) (p : Peer) (n id : ℕ) (out : Outcome) → Keeps p → Keeps out.0
@@ -265,6 +291,12 @@ calls_keep p (Disconnect n) h =
     elim (is_known p.connections n) as (λ b.
     Keeps (let o : Outcome = if b then disconnected p n else (p, []) in o.0)) [
       | true ↦ ends p n h
+      | false ↦ h
+    ]
+calls_keep p (EndSome n most) h =
+    elim (is_known p.connections n) as (λ b.
+    Keeps (let o : Outcome = if b then turned p n most else (p, []) in o.0)) [
+      | true ↦ turns p n most h
       | false ↦ h
     ]
 

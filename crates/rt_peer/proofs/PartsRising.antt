@@ -23,6 +23,7 @@ use Rattle.rt_peer.specs.Pushes.{bundled, go_together, is_changed, joined, parts
 use Rattle.rt_peer.specs.Pushes.{push_of, pushes, pushes_after, seen, together, written}
 use Rattle.rt_peer.specs.Calls.{Outcome, actions_of, answered, asked, deferred, dropped, ended}
 use Rattle.rt_peer.specs.Calls.{entries_of, kept, one, refusal, unless_refused, wrote}
+use Rattle.rt_peer.specs.Turns.{first_actions}
 use Rattle.rt_peer.specs.laws.Orders.{ListensRise}
 use Rattle.rt_peer.specs.laws.Pushed.{HasRisingParts, PartsRise}
 use Rattle.rt_peer.proofs.BundleLaws.{same_number}
@@ -202,9 +203,15 @@ actions_good newer ls t (a ∷ actions) h =
     All-append IsGood (bundled newer (pushes t u a.entries ls)) (pushes_after newer ls u actions)
     (write_good newer t u a.entries ls h) (actions_good newer ls u actions h)
 
+left_good : (p : Peer) → ListensRise p → (n : ℕ) (actions : List Deferred)
+    → All IsGood (pushes_after (ended p n).newer (ended p n).listens p.tree actions)
+left_good p h n actions =
+    actions_good (ended p n).newer (ended p n).listens p.tree actions
+    (AllPairs-filter (λ l m. is_before l m ≡ true) (λ l. not (l.connection == n)) p.listens h)
+
 pub parts_rise : (p : Peer) → ListensRise p → PartsRise p
 parts_rise p h n = (
   λ message. answers_good p n message h,
-  actions_good (ended p n).newer (ended p n).listens p.tree (actions_of p n)
-      (AllPairs-filter (λ l m. is_before l m ≡ true) (λ l. not (l.connection == n)) p.listens h),
+  left_good p h n (actions_of p n),
+  λ most. left_good p h n (first_actions p n most),
 )

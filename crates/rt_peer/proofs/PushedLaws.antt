@@ -21,9 +21,10 @@ use Rattle.rt_peer.specs.Pushes.{bundled, is_changed, joined, parts_below, parts
 use Rattle.rt_peer.specs.Pushes.{seen, together, written}
 use Rattle.rt_peer.specs.Calls.{Outcome, actions_of, asked, deferred, dropped}
 use Rattle.rt_peer.specs.Calls.{ended, entries_of, kept, one, refusal, unless_refused, wrote}
+use Rattle.rt_peer.specs.Turns.{first_actions}
 use Rattle.rt_peer.specs.laws.Orders.{ListensRise}
 use Rattle.rt_peer.specs.laws.Pushed.{as_newer, as_one, by_version, is_push, messages_to, older, pushes_each}
-use Rattle.rt_peer.specs.laws.Pushed.{MessagesAreByVersion, EndsAreByVersion}
+use Rattle.rt_peer.specs.laws.Pushed.{MessagesAreByVersion, EndsAreByVersion, TurnsAreByVersion}
 use Rattle.rt_peer.proofs.ToOne.{bundled-to, one_if, to-append, told, told_together}
 
 -- ---- pushes
@@ -226,7 +227,16 @@ each_action newer n ls t (a ∷ actions) h =
     ∙ alone (is_known newer n) (messages_to n sent) (are_pushes n u a.entries (filter (is_changed t u) ls)))
     ∙ ap (λ ms. by_version (is_known newer n) (messages_to n sent) ++ ms) (each_action newer n ls u actions h)
 
-pub ends_by_version : (p : Peer) → ListensRise p → EndsAreByVersion p
-ends_by_version p h n gone =
-    each_action (ended p gone).newer n (ended p gone).listens p.tree (actions_of p gone)
+of_actions : (p : Peer) → ListensRise p → (n gone : ℕ) (actions : List Deferred)
+    → messages_to n (pushes_after (ended p gone).newer (ended p gone).listens p.tree actions)
+    ≡ flat_map (λ sent. by_version (is_known (ended p gone).newer n) (messages_to n sent))
+    (pushes_each p.tree (ended p gone).listens actions)
+of_actions p h n gone actions =
+    each_action (ended p gone).newer n (ended p gone).listens p.tree actions
     (AllPairs-filter (λ l m. is_before l m ≡ true) (λ l. not (l.connection == gone)) p.listens h)
+
+pub ends_by_version : (p : Peer) → ListensRise p → EndsAreByVersion p
+ends_by_version p h n gone = of_actions p h n gone (actions_of p gone)
+
+pub turns_by_version : (p : Peer) → ListensRise p → TurnsAreByVersion p
+turns_by_version p h n gone most = of_actions p h n gone (first_actions p gone most)

@@ -20,7 +20,8 @@ use Rattle.rt_peer.specs.Pushes.{written, tree_after, seen, is_changed, push_of,
 use Rattle.rt_peer.specs.Pushes.{parts_message}
 use Rattle.rt_peer.specs.Calls.{Outcome, one, answered, kept, actions_of, entries_of}
 use Rattle.rt_peer.specs.Calls.{disconnected, refusal, unless_refused, wrote, deferred, dropped}
-use Rattle.rt_peer.specs.Runs.{Call, Connect, Message, Disconnect, outcome, after_all, is_refused}
+use Rattle.rt_peer.specs.Turns.{first_actions, turned}
+use Rattle.rt_peer.specs.Runs.{Call, Connect, Message, Disconnect, EndSome, outcome, after_all, is_refused}
 use Rattle.rt_peer.specs.Runs.{says_no, writes, writes_all, message_writes}
 use Rattle.rt_peer.proofs.BundleLaws.{bundled_no}
 
@@ -140,6 +141,13 @@ call_is p (Disconnect n) =
     else (p, []) in o.0.tree) ≡ written p.tree (if b then flat_map (λ a. a.entries) (actions_of p n)
     else [])) [
       | true ↦ tree_after-entries p.tree (actions_of p n)
+      | false ↦ refl
+    ]
+call_is p (EndSome n most) =
+    elim (is_known p.connections n) as (λ b. (let o : Outcome = if b then turned p n most
+    else (p, []) in o.0.tree) ≡ written p.tree (if b then flat_map (λ a. a.entries) (first_actions p n most)
+    else [])) [
+      | true ↦ tree_after-entries p.tree (first_actions p n most)
       | false ↦ refl
     ]
 

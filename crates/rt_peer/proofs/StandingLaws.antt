@@ -113,18 +113,21 @@ part_stays t p (a ∷ es) above all =
     ] refl all
 
 -- what a query shows goes by the part at its path
-seen_so : (q : Query) (t u : PathTree) → sub t q.path ≡ sub u q.path → seen q t ≡ seen q u
+pub seen_so : (q : Query) (t u : PathTree) → sub t q.path ≡ sub u q.path → seen q t ≡ seen q u
 seen_so q t u same = ap (λ v. if is_filtered q then tree_of (select q v) else v) same
+
+pub kept : (t : PathTree) (p : Path) (es : List Assignment) → leaves_part t p es ≡ true
+    → sub (written t es) p ≡ sub t p
+kept t p es e =
+    part_stays t p es (not_true _ (both_first (not (list_any (λ a. is_at_or_above a.0 p) es)) _ e))
+    (both_second (not (list_any (λ a. is_at_or_above a.0 p) es)) _ e)
 
 -- so it shows the same
 pub unchanged : (t : PathTree) (es : List Assignment) (l : Listen) → leaves_part t l.query.path es ≡ true
     → is_changed t (written t es) l ≡ false
 unchanged t es l e =
-    let same = part_stays t l.query.path es
-    (not_true _ (both_first (not (list_any (λ a. is_at_or_above a.0 l.query.path) es)) _ e))
-    (both_second (not (list_any (λ a. is_at_or_above a.0 l.query.path) es)) _ e) in
     ap not ((tree_eq_tells (seen l.query t) (seen l.query (written t es))).1
-    (sym (seen_so l.query (written t es) t same)))
+    (sym (seen_so l.query (written t es) t (kept t l.query.path es e))))
 
 -- where two trees differ below p, their parts at p do
 apart_so : (t u : PathTree) (p : Path) (es : List Assignment) → list_any (tells_apart t u p) es ≡ true
@@ -140,14 +143,11 @@ apart_so t u p (a ∷ es) e same =
           (sym ((tree_eq_tells (sub t a.0) (sub u a.0)).1 (below_same t u p a.0 r f same))) ∙ h) same
     ] refl e
 
-pub changed : (t u : PathTree) (es : List Assignment) (l : Listen) → is_filtered l.query ≡ false
-    → list_any (tells_apart t u l.query.path) es ≡ true → is_changed t u l ≡ true
-changed t u es l plain e =
-    ap (λ b. not (tree_eq (if b then tree_of (select l.query (sub t l.query.path)) else sub t l.query.path)
-    (if b then tree_of (select l.query (sub u l.query.path)) else sub u l.query.path))) plain
-    ∙ elim (tree_eq (sub t l.query.path) (sub u l.query.path)) as (λ b.
-    tree_eq (sub t l.query.path) (sub u l.query.path) ≡ b → not b ≡ true) [
-      | true ↦ λ f. cc (apart_so t u l.query.path es e ((tree_eq_tells _ _).0 f))
+pub told_apart : (t u : PathTree) (p : Path) (es : List Assignment) → list_any (tells_apart t u p) es ≡ true
+    → tree_eq (sub t p) (sub u p) ≡ false
+told_apart t u p es e =
+    elim (tree_eq (sub t p) (sub u p)) as (λ b. tree_eq (sub t p) (sub u p) ≡ b → b ≡ false) [
+      | true ↦ λ f. apart_so t u p es e ((tree_eq_tells _ _).0 f)
       | false ↦ λ f. refl
     ] refl
 

@@ -1,14 +1,17 @@
 -- The end of a connection in turns is its end.
 use Rattle.std.proofs.Common.{◌≡◌, ℕ, zero, suc, ◌+◌, ◌<◌, ◌≤◌, ◌==◌, nat_le, Bool, true, false, cond, not, List, [], ◌∷◌, ◌++◌, length, take, drop, refl, sym, ap, ◌∙◌, append_assoc, arith, if◌then◌else◌}
-use Rattle.std.specs.List.{filter}
+use Rattle.std.specs.List.{All, AllPairs, filter}
 use Rattle.std.proofs.lemmas.Bool.Decides.{nat_tests}
 use Rattle.std.proofs.lemmas.List.{length-drop, take-append-drop, take_all}
+use Rattle.std.proofs.lemmas.List.Elements.{All-cons, All-head, All-tail}
+use Rattle.std.proofs.lemmas.List.Kept.{AllPairs-cons}
 use Rattle.rt_tree.specs.PathTree.{PathTree}
 use Rattle.rt_peer.specs.Peers.{Deferred, Listen, Peer}
 use Rattle.rt_peer.specs.Pushes.{bundled, pushes, pushes_after, tree_after, written}
 use Rattle.rt_peer.specs.Calls.{actions_of, disconnected}
 use Rattle.rt_peer.specs.Turns.{first_actions, is_last_turn, turned, without_first}
 use Rattle.rt_peer.specs.laws.Turns.{LastTurnIsEnd, TurnThenEndIsEnd, TurnsRunSoMany}
+use Rattle.rt_peer.proofs.Places.{pairs_head, pairs_tail}
 
 -- what is left of those that pass, and of the others
 pub own_left : {X : Type 0} (test : X → Bool) (n : ℕ) (xs : List X)
@@ -37,6 +40,30 @@ others_left test (suc n) (x ∷ xs) =
           (filter (λ y. not (test y)) (without_first test (suc n) xs))) e
           ∙ ap (λ ys. x ∷ ys) (others_left test (suc n) xs)
     ] refl
+
+-- what holds of all, and of each with all later ones, holds of those that are left
+pub all-without : {X : Type 0} (P : X → Type 0) (test : X → Bool) (n : ℕ) (xs : List X) → All P xs
+    → All P (without_first test n xs)
+all-without P test zero xs h = h
+all-without P test (suc n) [] h = h
+all-without P test (suc n) (x ∷ xs) h =
+    elim (test x) as (λ b. All P (cond b (without_first test n xs) (x ∷ without_first test (suc n) xs))) [
+      | true ↦ all-without P test n xs (All-tail P x xs h)
+      | false ↦ All-cons P x (without_first test (suc n) xs) (All-head P x xs h)
+          (all-without P test (suc n) xs (All-tail P x xs h))
+    ]
+
+pub pairs-without : {X : Type 0} (R : X → X → Type 0) (test : X → Bool) (n : ℕ) (xs : List X) → AllPairs R xs
+    → AllPairs R (without_first test n xs)
+pairs-without R test zero xs h = h
+pairs-without R test (suc n) [] h = h
+pairs-without R test (suc n) (x ∷ xs) h =
+    elim (test x) as (λ b. AllPairs R (cond b (without_first test n xs) (x ∷ without_first test (suc n) xs))) [
+      | true ↦ pairs-without R test n xs (pairs_tail R x xs h)
+      | false ↦ AllPairs-cons R x (without_first test (suc n) xs)
+          (all-without (R x) test (suc n) xs (pairs_head R x xs h))
+          (pairs-without R test (suc n) xs (pairs_tail R x xs h))
+    ]
 
 twice : {X : Type 0} (p : X → Bool) (xs : List X) → filter p (filter p xs) ≡ filter p xs
 twice p [] = refl

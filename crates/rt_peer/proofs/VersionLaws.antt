@@ -15,7 +15,8 @@ use Rattle.rt_peer.specs.Peers.{Peer, in_place, is_denied, is_known}
 use Rattle.rt_peer.specs.Pushes.{seen}
 use Rattle.rt_peer.specs.Calls.{Outcome, answered, asked, deferred, disconnected, dropped, entries_of, kept}
 use Rattle.rt_peer.specs.Calls.{marked, one, refusal, unless_refused, wrote}
-use Rattle.rt_peer.specs.Runs.{Call, Connect, Message, Disconnect, after_all, outcome}
+use Rattle.rt_peer.specs.Turns.{is_last_turn, turned}
+use Rattle.rt_peer.specs.Runs.{Call, Connect, Message, Disconnect, EndSome, after_all, outcome}
 use Rattle.rt_peer.specs.laws.Versions.{is_end_of, reads_after, reads_after_call}
 use Rattle.rt_peer.proofs.Places.{any-parted, known-in_place, swapped}
 
@@ -147,6 +148,16 @@ call_knows p n (Disconnect m) known still =
       | true ↦ known_left m n p.connections (flip m n still) ∙ known
       | false ↦ known
     ]
+call_knows p n (EndSome m most) known still =
+    elim (is_known p.connections m) as (λ b. is_known (let o : Outcome = if b then turned p m most
+    else (p, []) in o.0.connections) n ≡ true) [
+      | true ↦ elim (is_last_turn p m most) as (λ b. is_known (if b
+          then filter (λ k. not (k == m)) p.connections else p.connections) n ≡ true) [
+            | true ↦ known_left m n p.connections (flip m n still) ∙ known
+            | false ↦ known
+          ]
+      | false ↦ known
+    ]
 
 unknown_is_other : (p : Peer) (m n : ℕ) → is_known p.connections n ≡ true → is_known p.connections m ≡ false
     → (m == n) ≡ false
@@ -170,6 +181,12 @@ call_reads p n (Message m message) known still =
     ] refl
 call_reads p n (Disconnect m) known still =
     elim (is_known p.connections m) as (λ b. is_known (let o : Outcome = if b then disconnected p m
+    else (p, []) in o.0.newer) n ≡ is_known p.newer n) [
+      | true ↦ known_left m n p.newer (flip m n still)
+      | false ↦ refl
+    ]
+call_reads p n (EndSome m most) known still =
+    elim (is_known p.connections m) as (λ b. is_known (let o : Outcome = if b then turned p m most
     else (p, []) in o.0.newer) n ≡ is_known p.newer n) [
       | true ↦ known_left m n p.newer (flip m n still)
       | false ↦ refl

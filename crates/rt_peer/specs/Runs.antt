@@ -13,18 +13,21 @@ use Rattle.rt_wire.specs.declared.server.ServerMessage.TheVariants.{Refused, Rev
 use Rattle.rt_peer.specs.declared.sent.Sent.{Sent}
 use Rattle.rt_peer.specs.Peers.{Peer, is_known}
 use Rattle.rt_peer.specs.Calls.{Outcome, connected, answered, disconnected, actions_of, entries_of}
+use Rattle.rt_peer.specs.Turns.{first_actions, turned}
 
--- a new connection, a message of one, or its end
+-- a new connection, a message of one, its end, or a turn of its end with so many actions at most
 pub data Call : Type 0 where
   Connect : Call
   Message : ℕ → ClientMessage → Call
   Disconnect : ℕ → Call
+  EndSome : ℕ → ℕ → Call
 
 -- the peer after a call, and what is sent; one on an unknown connection is refused
 abbrev pub outcome : Peer → Call → Outcome
 outcome p Connect = (connected p, [])
 outcome p (Message n message) = if is_known p.connections n then answered p n message else (p, [])
 outcome p (Disconnect n) = if is_known p.connections n then disconnected p n else (p, [])
+outcome p (EndSome n most) = if is_known p.connections n then turned p n most else (p, [])
 
 -- after calls, one after another
 abbrev pub after_all : Peer → List Call → Peer
@@ -62,14 +65,16 @@ message_writes n (Listen tag query) sent = []
 message_writes n (Unlisten tag) sent = []
 message_writes n (Ask id asked) sent = written_by (is_refused n id sent) asked
 
--- what a call writes: a write of a known connection that isn't answered with `no`, or the actions of
--- one that ends
+-- what a call writes: a write of a known connection that isn't answered with `no`, the actions of one that
+-- ends, or the first of them
 abbrev pub writes : Peer → Call → List Assignment
 writes p Connect = []
 writes p (Message n message) =
     if is_known p.connections n then message_writes n message (outcome p (Message n message)).1 else []
 writes p (Disconnect n) =
     if is_known p.connections n then flat_map (λ a. a.entries) (actions_of p n) else []
+writes p (EndSome n most) =
+    if is_known p.connections n then flat_map (λ a. a.entries) (first_actions p n most) else []
 
 -- what calls write, one after another
 abbrev pub writes_all : Peer → List Call → List Assignment

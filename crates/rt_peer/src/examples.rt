@@ -5,7 +5,7 @@ ghost use Rattle.rt_peer.specs.laws.Examples.{RowIsSent, RowLeaves, RowDoesSomet
 ghost use Rattle.rt_peer.specs.laws.Examples.{RowDoesNoMore, WriterIsNotTold, NumberIsFreeAgain};
 ghost use Rattle.rt_peer.specs.laws.Examples.{PushesParts, VersionsCount, OlderGetsNoParts};
 ghost use Rattle.rt_peer.specs.laws.Examples.{NewerGetsParts, PartsStayInOrder, SingleStays};
-ghost use Rattle.rt_peer.specs.laws.Examples.{WritesStayApart};
+ghost use Rattle.rt_peer.specs.laws.Examples.{TurnsAreSent, TurnsDoNoMore, TurnsLeave, WritesStayApart};
 ghost use Rattle.rt_peer.specs.laws.Orders.{ActionsMayTie, BusyIsSorted, NoListenIsLeft};
 ghost use Rattle.rt_peer.specs.laws.Orders.{NumbersMayHaveGaps};
 ghost use Rattle.rt_peer.specs.laws.Versions.{SomeAreOlder, VersionsMayFall};
@@ -44,6 +44,14 @@ pub fn run_examples()
     ensures leaves { RowLeaves }
     ensures something { RowDoesSomething }
     ensures no_more { RowDoesNoMore }
+{}
+
+/// What turns of a connection's end send and leave, where another write stands between them, and what they
+/// do not.
+pub fn turn_examples()
+    ensures sent { TurnsAreSent }
+    ensures leaves { TurnsLeave }
+    ensures no_more { TurnsDoNoMore }
 {}
 
 /// In which order listens and actions stand, and what does not hold of it.

@@ -3,13 +3,14 @@ ghost use Rattle.rt_peer.specs.laws.Orders.{ActionsAreOfKnown, ActionsRise, Afte
 ghost use Rattle.rt_peer.specs.laws.Orders.{ConnectionsRise, ListensAreOfKnown, ListensRise};
 ghost use Rattle.rt_peer.specs.laws.Orders.{NextIsLeastFree};
 ghost use Rattle.rt_peer.specs.laws.Pushed.{EndsAreByVersion, MessagesAreByVersion, PartsRise};
+ghost use Rattle.rt_peer.specs.laws.Pushed.{TurnsAreByVersion};
 ghost use Rattle.rt_peer.specs.laws.Runs.{TreeIsWhatWasWritten};
 ghost use Rattle.rt_peer.specs.laws.Turns.{LastTurnIsEnd, TurnThenEndIsEnd, TurnsRunSoMany};
 ghost use Rattle.rt_peer.specs.laws.Versions.{BeginsOlder, NewerAreKnown, NewerRise, VersionIsToldLast};
 
 /// After any calls the tree is that of before, with each write of a known connection that was not
-/// answered with `no`, and each action that a disconnection ran, put into it in order. Nothing else
-/// changes it.
+/// answered with `no`, and each action that a disconnection ran, or a turn of one, put into it in order.
+/// Nothing else changes it.
 pub fn run_law()
     ensures { TreeIsWhatWasWritten }
 {}
@@ -33,10 +34,11 @@ pub fn orders_law()
 /// After any calls on a new peer, what a message makes it send to a connection that reads version 2 is
 /// what it would send to one that reads version 1, but with the pushes as one where there are more: its
 /// parts are theirs, in order. A single push is sent as it is, and so is the rest. The same holds of
-/// each action that the end of a connection runs. The tags of such parts rise, so none stands twice.
+/// each action that the end of a connection runs, or a turn of it. The tags of such parts rise, so none stands twice.
 pub fn pushes_law()
     ensures messages { AfterAnyCalls MessagesAreByVersion }
     ensures ends { AfterAnyCalls EndsAreByVersion }
+    ensures turns { AfterAnyCalls TurnsAreByVersion }
     ensures parts { AfterAnyCalls PartsRise }
 {}
 

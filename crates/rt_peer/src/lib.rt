@@ -11,26 +11,31 @@
 //! A contract sees a peer as what it holds (`specs/Peers.antt`), none once it has lacked memory.
 #![tactic(auto)]
 
+mod action_place;
 mod bundles;
 mod connections;
 mod counts;
 mod deferred;
 mod error;
 mod examples;
+mod heard;
 mod held;
 mod laws;
 mod listen;
+mod looked;
 mod peer;
+mod placed;
 mod pushes;
 mod sent;
 mod shown;
 mod spots;
+mod standing;
 mod state;
 
 pub use error::PeerError;
 pub use examples::{
     order_examples, peer_pushes_parts, push_refutations, run_examples, sent_examples,
-    version_refutations,
+    turn_examples, version_refutations,
 };
 pub use held::Held;
 pub use laws::{connections_law, orders_law, pushes_law, run_law, turns_law, versions_law};

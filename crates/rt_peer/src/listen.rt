@@ -5,15 +5,15 @@ ghost use Rattle.rt_peer.specs.Peers.{Listen, in_place, is_at, is_before};
 ghost use Rattle.rt_peer.specs.inside.Spots.{is_concerned, listen_of, owner_of, spot_of, has_owner, Stand};
 
 use crate::counts::{count_of, lower, raise};
+use crate::heard::Heard;
 use crate::spots::{Owner, Spot, concerned, spot_at};
-use rt_query::Query;
 use rt_tree::{Path, Tree};
 use std::alloc::{AllocError, Global};
 use std::collections::{BTreeMap, BTreeSet};
 use std::marker::Model;
 
 // Adds where the owner's listen stands.
-fn add_spot(spots: &mut BTreeSet<Spot>, query: &Query, owner: Owner) -> Result<(), AllocError>
+fn add_spot(spots: &mut BTreeSet<Spot>, query: &Heard, owner: Owner) -> Result<(), AllocError>
     ensures kept { (l : Listen) → Stand spots.old.keys l → Stand spots.new.keys l }
     ensures added { OnOk result (Stand spots.new.keys (listen_of (owner, query.now))) }
 {
@@ -45,7 +45,7 @@ fn first_owner(connection: u64) -> Owner
 
 // The queries that are listened to, by owner, where they stand by path, and how many each connection has.
 pub(crate) struct Listens {
-    by_owner: BTreeMap<Owner, Query>,
+    by_owner: BTreeMap<Owner, Heard>,
     spots: BTreeSet<Spot>,
     counts: BTreeMap<u64, usize>,
 }
@@ -87,7 +87,7 @@ impl Listens {
     }
 
     // That owner's query.
-    pub(crate) fn get(&self, owner: &Owner) -> Option<&Query>
+    pub(crate) fn get(&self, owner: &Owner) -> Option<&Heard>
         ensures some { IfSome result (λ q. filter (is_at owner.now.connection owner.now.tag) self.now
             ≡ listen_of (owner.now, q.now) ∷ []) }
         ensures none { IfNone result
@@ -111,7 +111,7 @@ impl Listens {
     }
 
     // Keeps a listen, in the place of the connection's older one with its tag.
-    pub(crate) fn keep(&mut self, owner: Owner, query: Query) -> Result<(), AllocError>
+    pub(crate) fn keep(&mut self, owner: Owner, query: Heard) -> Result<(), AllocError>
         ensures { OnOk result (self.new ≡ in_place is_before (listen_of (owner, query))
             (filter (λ l. not (is_at owner.connection owner.tag l)) self.old)) }
     {

@@ -1,103 +1,41 @@
 // What listens are sent when a write changes what they show.
-ghost use Rattle.std.specs.Prelude.{◌≡◌, ◌++◌, ◌∷◌, [], not, IfOk, OnOk};
-ghost use Rattle.std.specs.List.{filter, list_all, list_any};
-ghost use Rattle.rt_tree.specs.Assignments.{is_at_or_above};
+ghost use Rattle.std.specs.Prelude.{◌≡◌, ◌++◌, ◌∷◌, [], true, false, not, IfOk, OnOk};
+ghost use Rattle.std.specs.List.{filter};
 ghost use Rattle.rt_tree.specs.PathTree.{sub};
 ghost use Rattle.rt_tree.specs.Trees.{tree_eq};
+ghost use Rattle.rt_query.specs.Queries.{is_filtered};
 ghost use Rattle.rt_peer.specs.Peers.{is_at};
-ghost use Rattle.rt_peer.specs.Pushes.{parts_below, parts_message, push_of, pushes, seen, written};
+ghost use Rattle.rt_peer.specs.Pushes.{parts_below, parts_message, push_of, pushes, written};
+ghost use Rattle.rt_peer.specs.inside.Looked.{AreLooked};
 ghost use Rattle.rt_peer.specs.inside.Spots.{listen_of};
-ghost use Rattle.rt_peer.specs.inside.Standing.{leaves_part, stands, tells_apart};
 
+use crate::heard::Heard;
 use crate::listen::Listens;
+use crate::looked::look;
 use crate::sent::Sent;
-use crate::shown::{part_at, seen};
+use crate::shown::part_at;
 use crate::spots::Owner;
+use crate::standing::{differ_below, is_any_above, is_same_at, leaves_part};
 use rt_query::Query;
 use rt_tree::{Path, Tree};
 use rt_wire::ServerMessage;
 use rt_writes::Entries;
 use std::alloc::{AllocError, Global};
+use std::collections::BTreeMap;
 
-// Whether an entry is at or above the path.
-fn is_any_above(entries: &[(Path, Tree)], path: &Path) -> bool
-    ensures { result ≡ list_any (λ a. is_at_or_above a.0 path.now) entries.now }
-{
-    entries.iter().any(|entry| entry.0.is_prefix_of(path))
-}
-
-// Whether the tree has just this part at the path.
-fn has_part(tree: &Tree, path: &Path, part: &Tree) -> bool
-    ensures { result ≡ tree_eq (sub tree.now path.now) part.now }
-{
-    match tree.get(path) {
-        Some(there) => there == part,
-        None => part.is_null(),
-    }
-}
-
-// Whether an entry, where it is at or below the path, writes what the tree has there.
-fn stands(tree: &Tree, path: &Path, entry: &(Path, Tree)) -> bool
-    ensures { result ≡ stands tree.now path.now entry.now }
-{
-    !path.is_prefix_of(&entry.0) || has_part(tree, &entry.0, &entry.1)
-}
-
-// Whether the entries at and below the path write what the tree has there.
-fn all_stand(tree: &Tree, path: &Path, entries: &[(Path, Tree)]) -> bool
-    ensures { result ≡ list_all (stands tree.now path.now) entries.now }
-{
-    entries.iter().all(|entry| stands(tree, path, entry))
-}
-
-// Whether no entry is above the path, and those at or below it write what the tree has there: then the part
-// at the path stays as it is. Costs by the entries.
-fn leaves_part(tree: &Tree, path: &Path, entries: &[(Path, Tree)]) -> bool
-    ensures { result ≡ leaves_part tree.now path.now entries.now }
-{
-    !is_any_above(entries, path) && all_stand(tree, path, entries)
-}
-
-// Whether the two trees have the same at the path.
-fn is_same_at(before: &Tree, after: &Tree, path: &Path) -> bool
-    ensures { result ≡ tree_eq (sub before.now path.now) (sub after.now path.now) }
-{
-    match after.get(path) {
-        Some(part) => has_part(before, path, part),
-        None => before.get(path).is_none(),
-    }
-}
-
-// Whether the two trees differ where an entry at or below the path writes. Costs by the entries.
-fn differ_below(before: &Tree, after: &Tree, path: &Path, entries: &[(Path, Tree)]) -> bool
-    ensures { result ≡ list_any (tells_apart before.now after.now path.now) entries.now }
-{
-    entries.iter().any(|entry| path.is_prefix_of(&entry.0) && !is_same_at(before, after, &entry.0))
-}
-
-// Whether the query shows something else after a write than before. All that it shows is compared only where
-// an entry is above its path, or it is filtered and an entry changes something there.
-fn is_changed(
-    alloc: Global,
-    before: &Tree,
-    after: &Tree,
-    entries: &[(Path, Tree)],
-    query: &Query,
-) -> Result<bool, AllocError>
+// Whether the part at the path is another one after a write than before. All of it is compared only where an
+// entry is above the path.
+fn is_changed(before: &Tree, after: &Tree, entries: &[(Path, Tree)], path: &Path) -> bool
     requires { after.now ≡ written before.now entries.now }
-    ensures { IfOk result (λ b. b
-        ≡ not (tree_eq (seen query.now before.now) (seen query.now after.now))) }
+    ensures { result ≡ not (tree_eq (sub before.now path.now) (sub after.now path.now)) }
 {
-    let path = query.path();
     if leaves_part(before, path, entries) {
-        return Ok(false);
+        return false;
     }
-    if !query.is_filtered() && differ_below(before, after, path, entries) {
-        return Ok(true);
+    if differ_below(before, after, path, entries) {
+        return true;
     }
-    let old = seen(alloc, query, before)?;
-    let new = seen(alloc, query, after)?;
-    Ok(old != new)
+    !is_same_at(before, after, path)
 }
 
 // The entries below the path, each with what stands there.
@@ -130,7 +68,7 @@ fn parts_message(tag: u64, mut parts: Vec<(Path, Tree)>) -> ServerMessage
     ServerMessage::Data { tag, path, tree }
 }
 
-// What the owner's listen is sent once the entries have made the tree.
+// What the owner's listen of a plain query is sent once the entries have made the tree.
 fn push_of(
     alloc: Global,
     tree: &Tree,
@@ -138,17 +76,79 @@ fn push_of(
     owner: &Owner,
     query: &Query,
 ) -> Result<ServerMessage, AllocError>
+    requires { is_filtered query.now ≡ false }
     ensures { IfOk result (λ message. message
         ≡ push_of tree.now entries.now (listen_of (owner.now, query.now))) }
 {
     let tag = owner.tag;
-    if !query.is_filtered() && !is_any_above(entries, query.path()) {
+    if !is_any_above(entries, query.path()) {
         let parts = parts_below(alloc, tree, query.path(), entries)?;
         return Ok(parts_message(tag, parts));
     }
     let path = query.path().copy()?;
-    let tree = seen(alloc, query, tree)?;
+    let tree = part_at(alloc, tree, query.path())?;
     Ok(ServerMessage::Data { tag, path, tree })
+}
+
+// Adds what the owner's listen of a plain query is sent, if it shows something else after the write than before.
+fn push_plain(
+    alloc: Global,
+    before: &Tree,
+    after: &Tree,
+    entries: &[(Path, Tree)],
+    owner: &Owner,
+    query: &Query,
+    sent: &mut Vec<Sent>,
+) -> Result<(), AllocError>
+    requires made { after.now ≡ written before.now entries.now }
+    requires plain { is_filtered query.now ≡ false }
+    ensures { OnOk result (sent.new.items ≡ sent.old.items
+        ++ pushes before.now after.now entries.now (listen_of (owner.now, query.now) ∷ [])) }
+{
+    if is_changed(before, after, entries, query.path()) {
+        let message = push_of(alloc, after, entries, owner, query)?;
+        sent.push(Sent {
+            to: owner.connection,
+            message,
+        })?;
+    }
+    Ok(())
+}
+
+// Adds what the owner's listen of a filtered query is sent: all that it shows, if that is something else after
+// the write than before.
+fn push_filtered(
+    alloc: Global,
+    before: &Tree,
+    after: &Tree,
+    entries: &[(Path, Tree)],
+    owner: &Owner,
+    heard: &Heard,
+    looked: &mut BTreeMap<Heard, Option<Tree>>,
+    sent: &mut Vec<Sent>,
+) -> Result<(), AllocError>
+    requires made { after.now ≡ written before.now entries.now }
+    requires looked { AreLooked before.now after.now looked.old.entries }
+    requires filtered { is_filtered heard.now ≡ true }
+    ensures looked { OnOk result (AreLooked before.now after.now looked.new.entries) }
+    ensures sent { OnOk result (sent.new.items ≡ sent.old.items
+        ++ pushes before.now after.now entries.now (listen_of (owner.now, heard.now) ∷ [])) }
+{
+    match look(alloc, before, after, entries, heard, looked)? {
+        Some(tree) => {
+            let message = ServerMessage::Data {
+                tag: owner.tag,
+                path: heard.path().copy()?,
+                tree,
+            };
+            sent.push(Sent {
+                to: owner.connection,
+                message,
+            })?;
+            Ok(())
+        }
+        None => Ok(()),
+    }
 }
 
 // Adds what the owner's listen is sent, if it shows something else after the write than before.
@@ -158,21 +158,21 @@ fn push_one(
     after: &Tree,
     entries: &[(Path, Tree)],
     owner: &Owner,
-    query: &Query,
+    heard: &Heard,
+    looked: &mut BTreeMap<Heard, Option<Tree>>,
     sent: &mut Vec<Sent>,
 ) -> Result<(), AllocError>
-    requires { after.now ≡ written before.now entries.now }
-    ensures { OnOk result (sent.new.items ≡ sent.old.items
-        ++ pushes before.now after.now entries.now (listen_of (owner.now, query.now) ∷ [])) }
+    requires made { after.now ≡ written before.now entries.now }
+    requires looked { AreLooked before.now after.now looked.old.entries }
+    ensures looked { OnOk result (AreLooked before.now after.now looked.new.entries) }
+    ensures sent { OnOk result (sent.new.items ≡ sent.old.items
+        ++ pushes before.now after.now entries.now (listen_of (owner.now, heard.now) ∷ [])) }
 {
-    if is_changed(alloc, before, after, entries, query)? {
-        let message = push_of(alloc, after, entries, owner, query)?;
-        sent.push(Sent {
-            to: owner.connection,
-            message,
-        })?;
+    if heard.query().is_filtered() {
+        push_filtered(alloc, before, after, entries, owner, heard, looked, sent)
+    } else {
+        push_plain(alloc, before, after, entries, owner, heard.query(), sent)
     }
-    Ok(())
 }
 
 // Adds what that owner's listen is sent, if there is one.
@@ -183,20 +183,23 @@ fn push_owned(
     entries: &[(Path, Tree)],
     listens: &Listens,
     owner: &Owner,
+    looked: &mut BTreeMap<Heard, Option<Tree>>,
     sent: &mut Vec<Sent>,
 ) -> Result<(), AllocError>
-    requires { after.now ≡ written before.now entries.now }
-    ensures { OnOk result (sent.new.items ≡ sent.old.items ++ pushes before.now after.now entries.now
+    requires made { after.now ≡ written before.now entries.now }
+    requires looked { AreLooked before.now after.now looked.old.entries }
+    ensures looked { OnOk result (AreLooked before.now after.now looked.new.entries) }
+    ensures sent { OnOk result (sent.new.items ≡ sent.old.items ++ pushes before.now after.now entries.now
         (filter (is_at owner.now.connection owner.now.tag) listens.now)) }
 {
     match listens.get(owner) {
-        Some(query) => push_one(alloc, before, after, entries, owner, query, sent),
+        Some(heard) => push_one(alloc, before, after, entries, owner, heard, looked, sent),
         None => Ok(()),
     }
 }
 
 // What the listens are sent once the entries have made one tree of the other. Only those are looked at that
-// stand at, above or below an entry's path.
+// stand at, above or below an entry's path, and of filtered ones each query once.
 pub(crate) fn push_all(
     alloc: Global,
     before: &Tree,
@@ -209,9 +212,19 @@ pub(crate) fn push_all(
         ≡ pushes before.now after.now entries.now listens.now) }
 {
     let mut sent = Vec::new(alloc);
+    let mut looked = BTreeMap::new(alloc);
     let owners = listens.concerned(alloc, entries)?;
     for owner in owners.iter() {
-        push_owned(alloc, before, after, entries, listens, owner, &mut sent)?;
+        push_owned(
+            alloc,
+            before,
+            after,
+            entries,
+            listens,
+            owner,
+            &mut looked,
+            &mut sent,
+        )?;
     }
     Ok(sent)
 }

@@ -17,6 +17,7 @@ ghost use Rattle.rt_wire.specs.declared.request.Ending.TheVariants as Ending;
 use crate::bundles::bundle;
 use crate::connections::{Connections, mark, remove_number};
 use crate::deferred::{Actions, Deferred};
+use crate::heard::Heard;
 use crate::held::Held;
 use crate::listen::Listens;
 use crate::pushes::push_all;
@@ -162,7 +163,7 @@ impl State {
     fn keep(&mut self, connection: u64, tag: u64, query: &Query) -> Result<(), AllocError>
         ensures { OnOk result (self.new ≡ kept self.old connection tag query.now) }
     {
-        let query = query.copy()?;
+        let query = Heard::new(query.copy()?);
         self.listens.keep(Owner { connection, tag }, query)
     }
 
@@ -234,7 +235,7 @@ impl State {
         ensures peer { OnOk result (self.new ≡ (deferred self.old connection id entries).0) }
         ensures sent { IfOk result (λ sent. sent.items ≡ (deferred self.old connection id entries).1) }
     {
-        self.actions.add(Deferred::new(connection, id, entries))?;
+        self.actions.add(connection, id, entries)?;
         one(self.alloc(), connection, ServerMessage::Accepted { id })
     }
 
@@ -247,7 +248,7 @@ impl State {
         if self.is_denied(path) {
             return refuse(alloc, connection, id, "denied");
         }
-        self.actions.drop_below(connection, path)?;
+        self.actions.drop_below(alloc, connection, path)?;
         one(alloc, connection, ServerMessage::Accepted { id })
     }
 
@@ -350,7 +351,8 @@ impl State {
     {
         self.leave(connection);
         self.free_at_last(connection, true);
-        self.actions.take_of(connection)
+        let alloc = self.alloc();
+        self.actions.take_of(alloc, connection)
     }
 
     // Its number is free where its last turn begins.
@@ -376,7 +378,8 @@ impl State {
         ensures last { IfOk result (λ turn. turn.1 ≡ is_last_turn self.old connection most) }
     {
         self.leave(connection);
-        let (first, is_last) = self.actions.take_some(connection, most)?;
+        let alloc = self.alloc();
+        let (first, is_last) = self.actions.take_some(alloc, connection, most)?;
         self.free_at_last(connection, is_last);
         Ok((first, is_last))
     }

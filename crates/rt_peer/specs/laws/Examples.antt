@@ -12,7 +12,7 @@ use Rattle.rt_wire.specs.declared.server.ServerMessage.{ServerMessage}
 use Rattle.rt_wire.specs.declared.server.ServerMessage.TheVariants.{Data, Push, Accepted, Refused, Revoked}
 use Rattle.rt_peer.specs.declared.sent.Sent.{Sent}
 use Rattle.rt_peer.specs.Peers.{Peer, new_peer}
-use Rattle.rt_peer.specs.Runs.{Call, Connect, Message, Disconnect, after_all, sent_all}
+use Rattle.rt_peer.specs.Runs.{Call, Connect, Message, Disconnect, EndSome, after_all, sent_all}
 use Rattle.rt_peer.specs.laws.Pushed.{as_newer, messages_to}
 
 -- ---- short spellings
@@ -174,3 +174,45 @@ NumberIsFreeAgain =
     (sent_all begun calls
     ≡ to 1 (Data 1 (at (codes "/a")) (only (codes "x") (num 1))) ∷ to 2 (Accepted 1) ∷ [])
     × ((after_all begun calls).connections ≡ 1 ∷ 2 ∷ [])
+
+-- ---- the end of a connection in turns
+
+-- the second connection has two actions: a turn of one, a write of the first connection where the second
+-- action writes, and the next turn
+abbrev pub in_turns : List Call
+in_turns =
+    Connect ∷ Connect
+    ∷ Message 1 (Listen 1 (plain (at (codes "/a"))))
+    ∷ Message 2 (Ask 1 (AtDisconnect (Run (Put (at (codes "/a/y")) (num 2)))))
+    ∷ Message 2 (Ask 2 (AtDisconnect (Run (Put (at (codes "/a/z")) (num 3)))))
+    ∷ EndSome 2 1
+    ∷ Message 1 (Ask 1 (Now (Put (at (codes "/a/z")) (num 4))))
+    ∷ EndSome 2 1
+    ∷ []
+
+-- each turn runs its action, told to who listens; the write stands between them
+abbrev pub TurnsAreSent : Type 0
+TurnsAreSent =
+    sent_all begun in_turns
+    ≡ to 1 (Data 1 (at (codes "/a")) (only (codes "x") (num 1)))
+    ∷ to 2 (Accepted 1)
+    ∷ to 2 (Accepted 2)
+    ∷ to 1 (Data 1 (at (codes "/a/y")) (num 2))
+    ∷ to 1 (Data 1 (at (codes "/a/z")) (num 4))
+    ∷ to 1 (Accepted 1)
+    ∷ to 1 (Data 1 (at (codes "/a/z")) (num 3))
+    ∷ []
+
+-- the second action is what stands, and the number is free behind the last turn alone
+abbrev pub TurnsLeave : Type 0
+TurnsLeave =
+    (leaf_at (after_all begun in_turns).tree (at (codes "/a/z")) ≡ Some (number (pos 3)))
+    × ((after_all begun (take 6 in_turns)).connections ≡ 1 ∷ 2 ∷ [])
+    × ((after_all begun in_turns).connections ≡ 1 ∷ [])
+
+-- what does not happen: both actions are run at the first turn, the first is run at each, none is run
+abbrev pub TurnsDoNoMore : Type 0
+TurnsDoNoMore =
+    (leaf_at (after_all begun (take 6 in_turns)).tree (at (codes "/a/z")) ≢ Some (number (pos 3)))
+    × (leaf_at (after_all begun in_turns).tree (at (codes "/a/z")) ≢ Some (number (pos 4)))
+    × (leaf_at (after_all begun (take 6 in_turns)).tree (at (codes "/a/y")) ≢ None)

@@ -11,6 +11,7 @@ use Rattle.rt_peer.specs.declared.sent.Sent.{Sent}
 use Rattle.rt_peer.specs.Peers.{Deferred, Listen, Peer, is_known}
 use Rattle.rt_peer.specs.Pushes.{parts_in, pushes, written}
 use Rattle.rt_peer.specs.Calls.{actions_of, answered, disconnected, ended}
+use Rattle.rt_peer.specs.Turns.{first_actions, turned}
 
 -- the messages for one connection, in order
 abbrev pub messages_to : ℕ → List Sent → List ServerMessage
@@ -67,6 +68,13 @@ EndsAreByVersion p = (n gone : ℕ) →
     ≡ flat_map (λ sent. by_version (is_known (ended p gone).newer n) (messages_to n sent))
     (pushes_each p.tree (ended p gone).listens (actions_of p gone))
 
+-- and of each action of a turn
+abbrev pub TurnsAreByVersion : Peer → Type 0
+TurnsAreByVersion p = (n gone most : ℕ) →
+    messages_to n (turned p gone most).1
+    ≡ flat_map (λ sent. by_version (is_known (ended p gone).newer n) (messages_to n sent))
+    (pushes_each p.tree (ended p gone).listens (first_actions p gone most))
+
 -- ---- parts
 
 -- a push of parts has two or more, and their tags rise, so no tag stands twice
@@ -78,8 +86,9 @@ HasRisingParts (Accepted id) = ⊤
 HasRisingParts (Refused id why) = ⊤
 HasRisingParts (Revoked tag why) = ⊤
 
--- each message for what a connection says, and for its end
+-- each message for what a connection says, for its end, and for a turn of that
 abbrev pub PartsRise : Peer → Type 0
 PartsRise p = (from : ℕ) →
     ((message : ClientMessage) → All (λ s. HasRisingParts s.message) (answered p from message).1)
     × All (λ s. HasRisingParts s.message) (disconnected p from).1
+    × ((most : ℕ) → All (λ s. HasRisingParts s.message) (turned p from most).1)

@@ -5,7 +5,7 @@ use Rattle.rt_wire.specs.declared.client.ClientMessage.{ClientMessage}
 use Rattle.rt_wire.specs.declared.client.ClientMessage.TheVariants.{Hello, Listen, Unlisten, Ask}
 use Rattle.rt_peer.specs.Peers.{Peer, is_known, least_free}
 use Rattle.rt_peer.specs.Calls.{connected}
-use Rattle.rt_peer.specs.Runs.{Call, Connect, Message, Disconnect, after_all}
+use Rattle.rt_peer.specs.Runs.{Call, Connect, Message, Disconnect, EndSome, after_all}
 use Rattle.rt_peer.specs.laws.Orders.{AfterAnyCalls}
 
 -- each number is below all later ones
@@ -34,12 +34,14 @@ abbrev pub reads_after_call : ℕ → Bool → Call → Bool
 reads_after_call n newer Connect = newer
 reads_after_call n newer (Message m message) = if m == n then reads_after newer message else newer
 reads_after_call n newer (Disconnect m) = newer
+reads_after_call n newer (EndSome m most) = newer
 
--- whether the call ends the connection
+-- whether the call ends the connection, or begins to
 abbrev pub is_end_of : ℕ → Call → Bool
 is_end_of n Connect = false
 is_end_of n (Message m message) = false
 is_end_of n (Disconnect m) = m == n
+is_end_of n (EndSome m most) = m == n
 
 -- a known connection reads, until it ends, what it told last
 abbrev pub VersionIsToldLast : Type 0

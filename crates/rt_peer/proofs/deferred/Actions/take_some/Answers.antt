@@ -1,14 +1,15 @@
-use Rattle.std.proofs.Common.{List, sym, ap, subst, ◌∙◌}
-use Rattle.std.specs.List.{AllPairs}
-use Rattle.rt_peer.specs.Peers.{Deferred}
-use Rattle.rt_peer.specs.Turns.{without_first}
-use Rattle.rt_peer.proofs.ActionLaws.{RunAfter}
-use Rattle.rt_peer.proofs.TakeLaws.{own, pairs-without}
+use Rattle.std.proofs.Common.{◌<◌, length, ◌∙◌, rules}
+use Rattle.rt_peer.proofs.PutBehind.{own}
+use Rattle.rt_peer.proofs.TakingLaws.{taken_all, taking_more}
 use Rattle.rt_peer.proofs.deferred.Actions.take_some.Goals as goal
 
-pub invariant_of-self-2 : goal.invariant_of-self-2
-invariant_of-self-2 c =
-    let test = own c.args.connection in
-    let xs = c.self.inside.items.items in
-    subst (AllPairs RunAfter) (sym (c.in_ok-taken.ensures.rest ∙ ap (λ (v : List Deferred). without_first test c.args.most v) (ap (λ w. w.items) c.replace-items.ensures.value)))
-    (pairs-without RunAfter test c.args.most xs c.self.invariant)
+pub loop-self-preserved : goal.loop-self-preserved
+loop-self-preserved c =
+    let fewer : length c.loop-self.taken.items < c.args.most = search rules in
+    taking_more (own c.args.connection) c.args.most c.args.self.now c.loop-self.self c.take_first.new.self c.loop-self.taken.items c.push.new.self.items
+    c.in-Some.action fewer c.in-Some.ensures.some c.in-Some.ensures.left c.in_ok-push-in-Some.ensures.items c.loop-self.invariant
+
+pub returns-in-None-clause-rest : goal.returns-in-None-clause-rest
+returns-in-None-clause-rest c =
+    c.in-None.ensures.same
+    ∙ (taken_all (own c.args.connection) c.args.most c.args.self.now c.loop-self.self c.loop-self.taken.items c.in-None.ensures.none c.loop-self.invariant).1

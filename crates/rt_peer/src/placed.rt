@@ -1,0 +1,291 @@
+// The actions of connections at their places, and how many each connection has.
+ghost use Rattle.std.specs.Prelude.{◌≡◌, ◌==◌, ◌&&◌, ◌++◌, ◌∷◌, true, false, length, not, []};
+ghost use Rattle.std.specs.Prelude.{IfOk, IfSome, IfNone, OnOk, if◌then◌else◌};
+ghost use Rattle.std.specs.List.{All, filter, list_any};
+ghost use Rattle.std.specs.Map.{lookup, remove_entry};
+ghost use Rattle.std.specs.Option.{option_map_or};
+ghost use Rattle.std.specs.BTreeMap.{is_at as key_is};
+ghost use Rattle.rt_tree.specs.Assignments.{is_at_or_above};
+ghost use Rattle.rt_writes.specs.Writes.{IsShallow};
+ghost use Rattle.rt_peer.specs.Peers.{in_place, runs_before};
+ghost use Rattle.rt_peer.specs.Calls.{is_empty};
+ghost use Rattle.rt_peer.specs.inside.Counts.{AreCountedBy};
+ghost use Rattle.rt_peer.specs.inside.Placed.{apart, cut_at, deferreds_of, first_own, has_place};
+ghost use Rattle.rt_peer.specs.inside.Placed.{is_bare as is_bare_at, is_dirty, is_of, place_cmp, whose};
+ghost use Rattle.rt_peer.specs.inside.Placed.{without_bare, AllMarked, AreByPlace, AreListed};
+
+use crate::action_place::{Place, first_place};
+use crate::counts::{count_of, lower, raise};
+use rt_tree::{Path, Tree};
+use rt_writes::Entries;
+use std::alloc::{AllocError, Global};
+use std::collections::{BTreeMap, BTreeSet};
+use std::marker::Model;
+
+// Whether there are no entries.
+fn is_bare(entries: &Entries) -> bool
+    ensures { result ≡ is_empty entries.now }
+{
+    match entries.as_slice() {
+        [] => true,
+        [_, ..] => false,
+    }
+}
+
+// Whether an entry is at or below the path.
+fn is_any_below(entries: &Entries, path: &Path) -> bool
+    ensures { result ≡ list_any (λ a. is_at_or_above path.now a.0) entries.now }
+{
+    entries
+        .as_slice()
+        .iter()
+        .any(|entry| path.is_prefix_of(&entry.0))
+}
+
+// Lists the place of an action, where it has an entry at or below the path.
+fn list_dirty(
+    places: &mut Vec<Place>,
+    place: Place,
+    entries: &Entries,
+    path: &Path,
+) -> Result<(), AllocError>
+    ensures { OnOk result (places.new.items ≡ places.old.items
+        ++ (if list_any (λ a. is_at_or_above path.now a.0) entries.now then place ∷ [] else [])) }
+{
+    if !is_any_below(entries, path) {
+        return Ok(());
+    }
+    places.push(place)?;
+    Ok(())
+}
+
+// The entries that are not at or below the path.
+fn entries_apart(alloc: Global, entries: &Entries, path: &Path) -> Result<Entries, AllocError>
+    ensures { IfOk result (λ left. left ≡ apart path.now entries.now) }
+{
+    let mut left = Vec::new(alloc);
+    for (at, tree) in entries.as_slice() {
+        if !path.is_prefix_of(at) {
+            left.push((at.copy()?, tree.copy(alloc)?))?;
+        }
+    }
+    Ok(Entries::of(left))
+}
+
+// Marks the place of an action, where it has no entries.
+fn mark(empty: &mut BTreeSet<Place>, entries: &Entries, place: Place) -> Result<(), AllocError>
+    ensures kept { (p : Place) → has_place empty.old.keys p ≡ true
+        → has_place empty.new.keys p ≡ true }
+    ensures marked { OnOk result (is_empty entries.now ≡ true
+        → has_place empty.new.keys place ≡ true) }
+{
+    if !is_bare(entries) {
+        return Ok(());
+    }
+    empty.insert(place)?;
+    Ok(())
+}
+
+// Whether the action at the place has no entries.
+fn has_bare(by_place: &BTreeMap<Place, Entries>, place: Place) -> bool
+    ensures { result ≡ option_map_or is_empty (lookup (key_is (place_cmp place)) by_place.now.entries) false }
+{
+    match by_place.get(&place) {
+        Some(entries) => is_bare(entries),
+        None => false,
+    }
+}
+
+// Takes out the action at the place, where it has no entries.
+fn drop_one(
+    by_place: &mut BTreeMap<Place, Entries>,
+    counts: &mut BTreeMap<u64, usize>,
+    place: Place,
+)
+    requires order { AreByPlace by_place.old.entries }
+    requires counted { AreCountedBy counts.old.entries by_place.old.entries whose }
+    ensures order { AreByPlace by_place.new.entries }
+    ensures left { by_place.new.entries ≡ without_bare place by_place.old.entries }
+    ensures counted { AreCountedBy counts.new.entries by_place.new.entries whose }
+{
+    if has_bare(by_place, place) {
+        by_place.remove(&place);
+        lower(counts, place.connection);
+    }
+}
+
+// Takes out the actions that have no entries, whose places are marked. Costs by these.
+fn drop_bare(
+    by_place: &mut BTreeMap<Place, Entries>,
+    empty: &mut BTreeSet<Place>,
+    counts: &mut BTreeMap<u64, usize>,
+)
+    requires order { AreByPlace by_place.old.entries }
+    requires marked { AllMarked empty.old.keys by_place.old.entries }
+    requires counted { AreCountedBy counts.old.entries by_place.old.entries whose }
+    ensures order { AreByPlace by_place.new.entries }
+    ensures left { by_place.new.entries ≡ filter (λ e. not (is_bare_at e)) by_place.old.entries }
+    ensures counted { AreCountedBy counts.new.entries by_place.new.entries whose }
+{
+    while let Some(place) = empty.pop_first() {
+        drop_one(by_place, counts, place);
+    }
+}
+
+// The entries of the actions of connections, by place; the marked places of those that have none; how many
+// each connection has; and how many have come.
+pub(crate) struct Placed {
+    by_place: BTreeMap<Place, Entries>,
+    empty: BTreeSet<Place>,
+    counts: BTreeMap<u64, usize>,
+    arrived: u64,
+}
+
+impl Drop for Placed {
+    fn drop(self) {
+        let Placed {
+            by_place: _,
+            empty: _,
+            counts: _,
+            arrived: _,
+        } = self;
+    }
+}
+
+impl Model for Placed {
+    ghost use Rattle.rt_peer.specs.inside.Placed.{AreKept, PlacedActions};
+
+    ghost Value = { PlacedActions };
+
+    ghost view = { λ a. a.by_place.entries };
+
+    ghost invariant = { λ a. AreKept a.by_place.entries a.empty.keys a.counts.entries a.arrived };
+}
+
+impl Placed {
+    pub(crate) fn new(alloc: Global) -> Placed
+        ensures { result ≡ [] }
+    {
+        Placed {
+            by_place: BTreeMap::new(alloc),
+            empty: BTreeSet::new(alloc),
+            counts: BTreeMap::new(alloc),
+            arrived: 0,
+        }
+    }
+
+    // How many the connection has.
+    pub(crate) fn count_of(&self, connection: u64) -> usize
+        ensures { result ≡ length (filter (is_of connection) self.now) }
+    {
+        count_of(&self.counts, connection)
+    }
+
+    // Adds an action behind those of its number. The arrivals can't run over, since each one takes memory.
+    pub(crate) fn put(
+        &mut self,
+        connection: u64,
+        id: u64,
+        entries: Entries,
+    ) -> Result<(), AllocError>
+        requires { All IsShallow entries }
+        ensures { OnOk result (deferreds_of self.new ≡ in_place runs_before
+            (record { connection = connection; id = id; entries = entries }) (deferreds_of self.old)) }
+    {
+        let place = Place {
+            connection,
+            id,
+            arrival: self.arrived,
+        };
+        let Some(arrived) = self.arrived.checked_add(1) else {
+            return Err(AllocError);
+        };
+        mark(&mut self.empty, &entries, place)?;
+        raise(&mut self.counts, connection)?;
+        self.arrived = arrived;
+        match self.by_place.insert(place, entries) {
+            Ok(_) => Ok(()),
+            Err(_) => {
+                lower(&mut self.counts, connection);
+                Err(AllocError)
+            }
+        }
+    }
+
+    // The place of the connection's first action, if there is one. Found by a search.
+    pub(crate) fn first_of(&self, connection: u64) -> Option<Place>
+        ensures { result ≡ first_own connection self.now }
+    {
+        let from = first_place(connection);
+        match self.by_place.range(from..).next() {
+            Some((place, _)) if place.connection == connection => Some(*place),
+            Some(_) => None,
+            None => None,
+        }
+    }
+
+    // Takes out the action at the place, and gives its entries.
+    pub(crate) fn take(&mut self, place: Place) -> Option<Entries>
+        ensures entries { result ≡ lookup (key_is (place_cmp place)) self.old }
+        ensures left { self.new ≡ remove_entry (key_is (place_cmp place)) self.old }
+        ensures shallow { IfSome result (All IsShallow) }
+    {
+        match self.by_place.remove(&place) {
+            Some(entries) => {
+                self.empty.remove(&place);
+                lower(&mut self.counts, place.connection);
+                Some(entries)
+            }
+            None => None,
+        }
+    }
+
+    // The places of the connection's actions that have an entry at or below the path. Costs by its actions.
+    pub(crate) fn dirty_of(
+        &self,
+        alloc: Global,
+        connection: u64,
+        path: &Path,
+    ) -> Result<Vec<Place>, AllocError>
+        ensures listed { IfOk result (λ places. AreListed connection path.now places.items self.now) }
+        ensures own { IfOk result (λ places. All (λ p. p.connection ≡ connection) places.items) }
+    {
+        let mut places = Vec::new(alloc);
+        let from = first_place(connection);
+        for (place, entries) in self.by_place.range(from..) {
+            if place.connection != connection {
+                return Ok(places);
+            }
+            list_dirty(&mut places, *place, entries, path)?;
+        }
+        Ok(places)
+    }
+
+    // Takes what is at and below the path out of the action at the place, which goes where nothing is left.
+    pub(crate) fn cut(&mut self, alloc: Global, place: Place, path: &Path) -> Result<(), AllocError>
+        ensures cut { OnOk result (self.new ≡ cut_at place path.now self.old) }
+        ensures order { AreByPlace self.old }
+    {
+        match self.by_place.get(&place) {
+            Some(entries) => {
+                let left = entries_apart(alloc, entries, path)?;
+                if is_bare(&left) {
+                    self.take(place);
+                    return Ok(());
+                }
+                match self.by_place.insert(place, left) {
+                    Ok(_) => Ok(()),
+                    Err(_) => Err(AllocError),
+                }
+            }
+            None => Ok(()),
+        }
+    }
+
+    // Takes out the actions that have no entries. Costs by those that came since the last time.
+    pub(crate) fn drop_bare(&mut self)
+        ensures { self.new ≡ filter (λ e. not (is_bare_at e)) self.old }
+    {
+        drop_bare(&mut self.by_place, &mut self.empty, &mut self.counts);
+    }
+}
