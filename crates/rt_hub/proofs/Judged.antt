@@ -17,11 +17,14 @@ use Rattle.rt_peer.specs.Peers.{Peer, is_denied, is_known}
 use Rattle.rt_peer.specs.Pushes.{bundled, pushes, written}
 use Rattle.rt_peer.specs.Calls.{Outcome, answered, asked, deferred, dropped, entries_of, one, refusal}
 use Rattle.rt_peer.specs.Calls.{unless_refused, wrote}
+use Rattle.rt_peer.specs.Runs.{Message, outcome}
+use Rattle.rt_hub.specs.Bounded.{surplus, too_many, unless_surplus}
 use Rattle.rt_hub.specs.declared.verdict.Verdict.TheVariants.{Accepted, Refused}
 use Rattle.rt_hub.specs.declared.verdict.When.{When}
 use Rattle.rt_hub.specs.declared.verdict.When.TheVariants as At
 use Rattle.rt_hub.specs.Verdicts.{is_ok, says_ok, verdict_of, verdict_when}
-use Rattle.rt_hub.specs.laws.Verdicts.{RefusedChangesNothing, RequestsAreJudged, judged, unless_why}
+use Rattle.rt_hub.specs.laws.Verdicts.{RefusedChangesNothing, RequestsAreJudged, judged, judged_unless}
+use Rattle.rt_hub.specs.laws.Verdicts.{unless_why}
 
 -- ---- the last one
 
@@ -68,10 +71,28 @@ answers p n (ListenTo tag q) = refl
 answers p n (Unlisten tag) = refl
 answers p n (Ask id a) = asks p n id a
 
-pub requests_judged : RequestsAreJudged
-requests_judged p n message known =
+known_judged : (p : Peer) (n : ℕ) (message : ClientMessage) → is_known p.connections n ≡ true
+    → verdict_of message (outcome p (Message n message)).1 ≡ judged p message
+known_judged p n message known =
     ap (λ (t : Bool). let o : Outcome = if t then answered p n message else (p, []) in verdict_of message o.1) known
     ∙ answers p n message
+
+-- a request too many is refused
+surplus_refused : (p : Peer) (n : ℕ) (message : ClientMessage) (id : ℕ) → surplus p n message ≡ Some id
+    → verdict_of message (one n (Says.Refused id too_many)) ≡ Refused
+surplus_refused p n (Hello version) id e = cc
+surplus_refused p n (ListenTo tag q) id e = cc
+surplus_refused p n (Unlisten tag) id e = cc
+surplus_refused p n (Ask i (Now action)) id e = refl
+surplus_refused p n (Ask i (AtDisconnect ending)) id e = refl
+
+pub requests_judged : RequestsAreJudged
+requests_judged p n message known =
+    elim (surplus p n message) as (λ s. surplus p n message ≡ s
+    → verdict_of message (unless_surplus s p n (outcome p (Message n message))).1 ≡ judged_unless s p message) [
+      | None ↦ λ e. known_judged p n message known
+      | Some id ↦ λ e. surplus_refused p n message id e
+    ] refl
 
 -- ---- what is refused
 
@@ -98,10 +119,19 @@ answers_same p n (ListenTo tag q) h = cc
 answers_same p n (Unlisten tag) h = cc
 answers_same p n (Ask id a) h = asks_same p n id a h
 
-pub refused_same : RefusedChangesNothing
-refused_same p n message h =
+known_same : (p : Peer) (n : ℕ) (message : ClientMessage) → judged p message ≡ Refused
+    → (outcome p (Message n message)).0 ≡ p
+known_same p n message h =
     elim (is_known p.connections n) as (λ t. (let o : Outcome = if t then answered p n message
     else (p, []) in o.0) ≡ p) [ true ↦ answers_same p n message h | false ↦ refl ]
+
+pub refused_same : RefusedChangesNothing
+refused_same p n message h =
+    elim (surplus p n message) as (λ s. judged_unless s p message ≡ Refused
+    → (unless_surplus s p n (outcome p (Message n message))).0 ≡ p) [
+      | None ↦ λ e. known_same p n message e
+      | Some id ↦ λ e. refl
+    ] h
 
 -- both laws
 pub ruleset laws = (requests_judged, refused_same)

@@ -6,10 +6,12 @@ use Rattle.std.specs.Prelude.{◌==◌, if◌then◌else◌}
 use Rattle.std.specs.List.{fold}
 use Rattle.std.proofs.lemmas.List.{take-append-drop}
 use Rattle.rt_peer.specs.Peers.{Peer, least_free}
-use Rattle.rt_peer.specs.Runs.{Call, Connect, Message, Disconnect, outcome}
+use Rattle.rt_peer.specs.Runs.{Call, Connect, Message, Disconnect, EndSome}
+use Rattle.rt_peer.specs.Turns.{is_last_turn}
 use Rattle.rt_hub.specs.declared.bounds.Bounds.{Bounds}
-use Rattle.rt_hub.specs.Hubs.{Hub, kept_line, line_after}
-use Rattle.rt_hub.specs.Lines.{Line, empty_line, has_room, over_line, texts_to, with_text, with_texts}
+use Rattle.rt_hub.specs.Bounded.{bounded}
+use Rattle.rt_hub.specs.Hubs.{Hub, kept_line, left_line, line_after}
+use Rattle.rt_hub.specs.Lines.{Line, checked, empty_line, is_full, over_line, texts_to, with_text, with_texts}
 use Rattle.rt_hub.specs.Lines.{without_first}
 use Rattle.rt_hub.specs.Runs.{Asked, DoesOne, Lasts, Next, OfPeer, Watched, first_in}
 use Rattle.rt_hub.specs.Runs.{given_all, given_by}
@@ -36,36 +38,48 @@ sees_own old new (call ∷ calls) n (mid, one, rest) =
 
 -- ---- texts
 
-over_stays : (b : Bounds) (texts : List (List ℕ)) → fold (with_text b) over_line texts ≡ over_line
+over_takes : (texts : List (List ℕ)) → fold with_text over_line texts ≡ over_line
+over_takes [] = refl
+over_takes (t ∷ texts) = over_takes texts
+
+-- texts that come to a line that is over leave it so
+over_stays : (b : Bounds) (texts : List (List ℕ)) → fold with_text (checked b texts over_line) texts ≡ over_line
 over_stays b [] = refl
-over_stays b (t ∷ texts) = over_stays b texts
+over_stays b (t ∷ texts) =
+    elim (is_full b []) as (λ full. fold with_text (if full then over_line else over_line) (t ∷ texts) ≡ over_line)
+    [ true ↦ over_takes texts | false ↦ over_takes texts ]
 
 -- texts come behind what waits, or the line is over
 abbrev pub Comes : Line → List (List ℕ) → Line → Type 0
 Comes line texts left =
     (left ≡ over_line) ⊎ ((left.is_over ≡ false) × (left.waiting ≡ line.waiting ++ texts))
 
+-- a line that isn't over, in which these wait
+abbrev holds : List (List ℕ) → Line
+holds texts = record { waiting = texts; is_over = false }
+
+open_takes : (texts waiting : List (List ℕ)) → fold with_text (holds waiting) texts ≡ holds (waiting ++ texts)
+open_takes [] waiting = ap holds (sym (append-nil waiting))
+open_takes (t ∷ texts) waiting =
+    open_takes texts (waiting ++ t ∷ []) ∙ ap holds (append_assoc waiting (t ∷ []) texts)
+
+behind : (line : Line) (texts : List (List ℕ)) → line.is_over ≡ false
+    → Comes line texts (fold with_text line texts)
+behind line texts h =
+    let is : line ≡ holds line.waiting = λ i. record { waiting = line.waiting; is_over = h i } in
+    let all : fold with_text line texts ≡ holds (line.waiting ++ texts) =
+    ap (λ l. fold with_text l texts) is ∙ open_takes texts line.waiting in
+    subst (λ l. Comes line texts l) (sym all) (inr (refl, refl))
+
 texts_come : (b : Bounds) (texts : List (List ℕ)) (line : Line) → line.is_over ≡ false
-    → Comes line texts (fold (with_text b) line texts)
-texts_come b [] line h = inr (h, sym (append-nil line.waiting))
+    → Comes line texts (fold with_text (checked b texts line) texts)
+texts_come b [] line h = behind line [] h
 texts_come b (t ∷ texts) line h =
-    let more : Line = record line { waiting = line.waiting ++ t ∷ [] } in
-    let behind : Comes line (t ∷ texts) (fold (with_text b) more texts) =
-    elim (texts_come b texts more h) as (λ _. Comes line (t ∷ texts) (fold (with_text b) more texts)) [
-      | inl over ↦ inl over
-      | inr went ↦ inr (went.0, went.1 ∙ append_assoc line.waiting (t ∷ []) texts)
-    ] in
-    let chosen : (room : Bool)
-    → Comes line (t ∷ texts) (fold (with_text b) (if room then more else over_line) texts) = λ room.
-    elim room as (λ room. Comes line (t ∷ texts)
-    (fold (with_text b) (if room then more else over_line) texts)) [
-      | true ↦ behind
-      | false ↦ inl (over_stays b texts)
-    ] in
-    subst (λ over. Comes line (t ∷ texts)
-    (fold (with_text b) (if over then line else if has_room b line.waiting
-    (length t) then more else over_line) texts))
-    (sym h) (chosen (has_room b line.waiting (length t)))
+    elim (is_full b line.waiting) as (λ full. Comes line (t ∷ texts)
+    (fold with_text (if full then over_line else line) (t ∷ texts))) [
+      | true ↦ inl (over_takes texts)
+      | false ↦ behind line (t ∷ texts) h
+    ]
 
 -- ---- one call
 
@@ -80,13 +94,15 @@ keeps n p Connect line e =
     ap (λ b. if b then Some empty_line else line) (not_true (least_free p.connections == n) e)
 keeps n p (Message m message) line e = refl
 keeps n p (Disconnect m) line e = ap (λ b. if b then None else line) (not_true (m == n) e)
+keeps n p (EndSome m most) line e =
+    ap (λ b. if b then left_line (is_last_turn p m most) line else line) (not_true (m == n) e)
 
 after_call : (b : Bounds) (n : ℕ) (w : Watched) (call : Call) (line : Line) → w.line ≡ Some line
     → stays n w.peer (OfPeer call) ≡ true
     → line_after b n w.peer call w.line
-    ≡ Some (fold (with_text b) line (texts_to n (outcome w.peer call).1))
+    ≡ Some (fold with_text (checked b (texts_to n (bounded w.peer call).1) line) (texts_to n (bounded w.peer call).1))
 after_call b n w call line is e =
-    ap (with_texts b (texts_to n (outcome w.peer call).1)) (keeps n w.peer call w.line e ∙ is)
+    ap (with_texts b (texts_to n (bounded w.peer call).1)) (keeps n w.peer call w.line e ∙ is)
 
 -- what a call gives, leaves and loses
 pub record IsOne (b : Bounds) (n : ℕ) (w : Watched) (line : Line) (call : Asked) (left : Line) : Type 0
@@ -106,8 +122,8 @@ drop_first m n line l false is = append-nil l.waiting
 served_one : (b : Bounds) (n : ℕ) (w : Watched) (line : Line) (call : Asked) → w.line ≡ Some line
     → line.is_over ≡ false → stays n w.peer call ≡ true → (left : Line) × IsOne b n w line call left
 served_one b n w line (OfPeer call) is open_line e =
-    let texts : List (List ℕ) = texts_to n (outcome w.peer call).1 in
-    let left : Line = fold (with_text b) line texts in (
+    let texts : List (List ℕ) = texts_to n (bounded w.peer call).1 in
+    let left : Line = fold with_text (checked b texts line) texts in (
       left,
       record {
         has = after_call b n w call line is e;
@@ -150,7 +166,7 @@ served_one b n w line (Next m) is open_line e =
 over_after : (b : Bounds) (n : ℕ) (w : Watched) (call : Asked) → w.line ≡ Some over_line
     → stays n w.peer call ≡ true → (watched_after b n w call).line ≡ Some over_line
 over_after b n w (OfPeer call) is e =
-    after_call b n w call over_line is e ∙ ap Some (over_stays b (texts_to n (outcome w.peer call).1))
+    after_call b n w call over_line is e ∙ ap Some (over_stays b (texts_to n (bounded w.peer call).1))
 over_after b n w (Next m) is e =
     elim (m == n) as (λ t. (if t then without_first w.line else w.line) ≡ Some over_line) [
       | true ↦ ap without_first is

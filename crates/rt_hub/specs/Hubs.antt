@@ -1,19 +1,21 @@
 -- What a hub holds, and what each call leaves of it.
-use Rattle.std.specs.Prelude.{◌≡◌, ◌==◌, ℕ, if◌then◌else◌, List, [], map, Option, Some, None, Result}
-use Rattle.std.specs.Prelude.{Ok, Err}
+use Rattle.std.specs.Prelude.{◌≡◌, ◌==◌, ℕ, Bool, true, false, if◌then◌else◌, List, [], map}
+use Rattle.std.specs.Prelude.{Option, Some, None, Result, Ok, Err}
 use Rattle.std.specs.List.{slice_get}
-use Rattle.std.specs.Option.{option_and_then, option_map}
+use Rattle.std.specs.Option.{option_and_then, option_map, option_map_or}
 use Rattle.rt_tree.specs.PathTree.{Path, PathTree}
 use Rattle.rt_wire.specs.declared.client.ClientMessage.{ClientMessage}
 use Rattle.rt_wire.specs.declared.error.WireError.{WireError}
 use Rattle.rt_peer.specs.Peers.{Peer, least_free, new_peer}
 use Rattle.rt_peer.specs.Calls.{fault}
-use Rattle.rt_peer.specs.Runs.{Call, Connect, Message, Disconnect, outcome}
+use Rattle.rt_peer.specs.Runs.{Call, Connect, Message, Disconnect, EndSome}
+use Rattle.rt_peer.specs.Turns.{is_last_turn}
 use Rattle.rt_peer.specs.declared.error.PeerError.{PeerError}
 use Rattle.rt_peer.specs.declared.sent.Sent.{Sent}
 use Rattle.rt_hub.specs.declared.bounds.Bounds.{Bounds}
 use Rattle.rt_hub.specs.declared.hub.Taken.{Taken}
 use Rattle.rt_hub.specs.declared.hub.Taken.TheVariants.{Message as TookMessage, PassedOver}
+use Rattle.rt_hub.specs.Bounded.{bounded, has_too_many}
 use Rattle.rt_hub.specs.Lines.{Line, empty_line, line_of, texts_to, with_texts, without_first}
 use Rattle.rt_hub.specs.Verdicts.{verdict_of}
 
@@ -33,20 +35,26 @@ line_in hub n = option_and_then (λ (h : Hub). line_of h.lines n) hub
 
 -- ---- calls of the peer
 
+-- in the line of a connection that ends nothing waits from its first turn on; after the last one it has none
+abbrev pub left_line : Bool → Option Line → Option Line
+left_line true line = None
+left_line false line = option_map (λ l. empty_line) line
+
 -- a connection that begins has a line in which nothing waits; one that ends has none
 abbrev pub kept_line : ℕ → Peer → Call → Option Line → Option Line
 kept_line n p Connect line = if least_free p.connections == n then Some empty_line else line
 kept_line n p (Message m message) line = line
 kept_line n p (Disconnect m) line = if m == n then None else line
+kept_line n p (EndSome m most) line = if m == n then left_line (is_last_turn p m most) line else line
 
 -- the line after a call: what the peer sends to the connection comes behind what waits
 abbrev pub line_after : Bounds → ℕ → Peer → Call → Option Line → Option Line
 line_after bounds n p call line =
-    with_texts bounds (texts_to n (outcome p call).1) (kept_line n p call line)
+    with_texts bounds (texts_to n (bounded p call).1) (kept_line n p call line)
 
 -- the peer's call is made, and each connection has its line after it
 pub record Makes (old : Hub) (call : Call) (new : Hub) : Type 0 where
-  pub peer : new.peer ≡ (outcome old.peer call).0
+  pub peer : new.peer ≡ (bounded old.peer call).0
   pub bounds : new.bounds ≡ old.bounds
   pub lines : (n : ℕ) → line_of new.lines n ≡ line_after old.bounds n old.peer call (line_of old.lines n)
 
@@ -70,8 +78,8 @@ receivers sent = map (λ s. s.to) sent
 -- what is answered to a text: what became of it and to whom something was sent, or why it is no message
 abbrev pub IsTaken : Peer → ℕ → Result ClientMessage WireError → Taken → Type 0
 IsTaken p n (Ok message) (TookMessage verdict told) =
-    (verdict ≡ verdict_of message (outcome p (Message n message)).1)
-    × (told.items ≡ receivers (outcome p (Message n message)).1)
+    (verdict ≡ verdict_of message (bounded p (Message n message)).1)
+    × (told.items ≡ receivers (bounded p (Message n message)).1)
 IsTaken p n (Ok message) (PassedOver e) = ⊥
 IsTaken p n (Err why) (TookMessage verdict told) = ⊥
 IsTaken p n (Err why) (PassedOver e) = e ≡ why
@@ -93,6 +101,12 @@ abbrev pub IsHanded : Option Hub → ℕ → Option Hub → Type 0
 IsHanded None n new = new ≡ None
 IsHanded (Some old) n None = ⊥
 IsHanded (Some old) n (Some new) = Hands old n new
+
+-- ---- what one connection may have
+
+-- whether the connection has more listens than it may; a hub that has lacked memory says no
+abbrev pub has_too_many_in : Option Hub → ℕ → Bool
+has_too_many_in hub n = option_map_or (λ (h : Hub). has_too_many h.peer n) hub false
 
 -- ---- refusals
 

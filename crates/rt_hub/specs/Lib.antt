@@ -1,12 +1,14 @@
 -- What a reader has to believe: the definitions that public contracts name. In reading order:
 --     Lines    what waits for connections, and its bounds
 --     Verdicts what became of a request
+--     Bounded  what a hub has its peer do
 --     Hubs     what a hub holds, and what each call leaves of it
 --     Runs     what one connection sees of a list of calls
 -- laws/ has what is stated for callers: that what a connection was given and what waits for it is all that
 -- the peer sent it, in order (Queues), which requests are accepted (Verdicts), and rows that the prover
 -- computes (Examples);
 -- inside/ what only the code's own functions need.
+pub mod Bounded
 pub mod Hubs
 pub mod inside
 pub mod laws

@@ -1,5 +1,5 @@
 -- What waits for connections, and its bounds.
-use Rattle.std.specs.Prelude.{ℕ, zero, suc, ◌+◌, ◌==◌, ◌&&◌, nat_le, nat_lt, length, map, if◌then◌else◌}
+use Rattle.std.specs.Prelude.{ℕ, zero, suc, ◌+◌, ◌==◌, ◌||◌, nat_le, length, map, if◌then◌else◌}
 use Rattle.std.specs.Prelude.{Bool, true, false, List, [], ◌∷◌, ◌++◌, drop, Option, None}
 use Rattle.std.specs.List.{filter, fold, slice_get}
 use Rattle.std.specs.Option.{option_and_then, option_map}
@@ -9,7 +9,8 @@ use Rattle.rt_wire.specs.declared.server.ServerMessage.{ServerMessage}
 use Rattle.rt_peer.specs.declared.sent.Sent.{Sent}
 use Rattle.rt_hub.specs.declared.bounds.Bounds.{Bounds}
 
--- the bytes of the texts that wait for a connection, oldest first, and whether more came than may wait
+-- the bytes of the texts that wait for a connection, oldest first, and whether more came where as much waited
+-- as may
 pub record Line : Type 0 where
   pub waiting : List (List ℕ)
   pub is_over : Bool
@@ -18,7 +19,7 @@ pub record Line : Type 0 where
 abbrev pub empty_line : Line
 empty_line = record { waiting = []; is_over = false }
 
--- a line to which more came than may wait; nothing waits any more
+-- a line to which more came where as much waited as may; nothing waits any more
 abbrev pub over_line : Line
 over_line = record { waiting = []; is_over = true }
 
@@ -27,28 +28,31 @@ abbrev pub line_of : List (Option Line) → ℕ → Option Line
 line_of lines zero = None
 line_of lines (suc place) = option_and_then (λ line. line) (slice_get lines place)
 
--- ---- one text more
+-- ---- more texts
 
 -- how many bytes texts have
 abbrev pub bytes_in : List (List ℕ) → ℕ
 bytes_in texts = fold (λ n text. n + length text) 0 texts
 
--- whether one more text of so many bytes may wait
-abbrev pub has_room : Bounds → List (List ℕ) → ℕ → Bool
-has_room bounds waiting len =
-    nat_lt (length waiting) bounds.messages && nat_le (bytes_in waiting + len) bounds.bytes
+-- whether as much waits as may
+abbrev pub is_full : Bounds → List (List ℕ) → Bool
+is_full bounds waiting = nat_le bounds.messages (length waiting) || nat_le bounds.bytes (bytes_in waiting)
 
--- a text comes behind what waits; where that is more than may wait the line is over, and stays so
-abbrev pub with_text : Bounds → Line → List ℕ → Line
-with_text bounds line text =
-    if line.is_over then line
-    else if has_room bounds line.waiting (length text)
-    then record line { waiting = line.waiting ++ text ∷ [] }
-    else over_line
+-- before texts come for it: where as much waits as may, the line is over
+abbrev pub told_more : Bounds → Line → Line
+told_more bounds line = if is_full bounds line.waiting then over_line else line
 
--- texts come, in order
+abbrev pub checked : Bounds → List (List ℕ) → Line → Line
+checked bounds [] line = line
+checked bounds (text ∷ texts) line = told_more bounds line
+
+-- a text comes behind what waits; a line that is over takes none
+abbrev pub with_text : Line → List ℕ → Line
+with_text line text = if line.is_over then line else record line { waiting = line.waiting ++ text ∷ [] }
+
+-- the texts of one call come, in order: however many these are, a line is over for what waited before
 abbrev pub with_texts : Bounds → List (List ℕ) → Option Line → Option Line
-with_texts bounds texts line = option_map (λ l. fold (with_text bounds) l texts) line
+with_texts bounds texts line = option_map (λ l. fold with_text (checked bounds texts l) texts) line
 
 -- the oldest text is taken out
 abbrev pub without_first : Option Line → Option Line

@@ -2,8 +2,9 @@
 use Rattle.std.specs.Prelude.{◌≡◌, ◌==◌, ℕ, Bool, true, not, if◌then◌else◌, take, List, [], ◌∷◌, ◌++◌}
 use Rattle.std.specs.Prelude.{Option, Some, None, ⊤}
 use Rattle.rt_peer.specs.Peers.{Peer, least_free}
-use Rattle.rt_peer.specs.Runs.{Call, Connect, Message, Disconnect, outcome}
+use Rattle.rt_peer.specs.Runs.{Call, Connect, Message, Disconnect, EndSome}
 use Rattle.rt_hub.specs.declared.bounds.Bounds.{Bounds}
+use Rattle.rt_hub.specs.Bounded.{bounded}
 use Rattle.rt_hub.specs.Hubs.{Hands, Hub, Makes, line_after}
 use Rattle.rt_hub.specs.Lines.{Line, line_of, texts_to, without_first}
 
@@ -37,7 +38,7 @@ watched_in n h = record { peer = h.peer; line = line_of h.lines n }
 -- after a call
 abbrev pub watched_after : Bounds → ℕ → Watched → Asked → Watched
 watched_after bounds n w (OfPeer call) =
-    record { peer = (outcome w.peer call).0; line = line_after bounds n w.peer call w.line }
+    record { peer = (bounded w.peer call).0; line = line_after bounds n w.peer call w.line }
 watched_after bounds n w (Next m) = record w { line = if m == n then without_first w.line else w.line }
 
 -- after calls, one after another
@@ -47,7 +48,7 @@ watched_all bounds n w (call ∷ calls) = watched_all bounds n (watched_after bo
 
 -- the texts that the peer sends to the connection for a call
 abbrev pub sent_by : ℕ → Watched → Asked → List (List ℕ)
-sent_by n w (OfPeer call) = texts_to n (outcome w.peer call).1
+sent_by n w (OfPeer call) = texts_to n (bounded w.peer call).1
 sent_by n w (Next m) = []
 
 -- the text that the connection is given at a call, if there is one
@@ -78,6 +79,7 @@ abbrev pub stays : ℕ → Peer → Asked → Bool
 stays n p (OfPeer Connect) = not (least_free p.connections == n)
 stays n p (OfPeer (Message m message)) = true
 stays n p (OfPeer (Disconnect m)) = not (m == n)
+stays n p (OfPeer (EndSome m most)) = not (m == n)
 stays n p (Next m) = true
 
 -- no call does

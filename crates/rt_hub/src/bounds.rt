@@ -1,4 +1,4 @@
-// How much may wait for a connection.
+// How much a connection may have, and how much may wait for it.
 ghost use Rattle.std.specs.Prelude.{◌≡◌};
 ghost use Rattle.rt_hub.specs.declared.bounds.TheConstants.{MAX_WAITING_BYTES, MAX_WAITING_MESSAGES};
 
@@ -7,6 +7,12 @@ pub const MAX_WAITING_MESSAGES: usize = 10_000;
 
 /// How many bytes the texts may have that wait for a connection.
 pub const MAX_WAITING_BYTES: usize = 16_777_216;
+
+/// How many listens a connection may have: one with more is to be ended.
+pub const MAX_LISTENS: usize = 131_072;
+
+/// How many requests a connection may have that are done at its end: one more is refused.
+pub const MAX_ACTIONS: usize = 131_072;
 
 /// How much may wait for a connection.
 #[derive(Clone, Copy, Debug, PartialEq, Eq)]

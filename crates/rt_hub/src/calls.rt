@@ -1,19 +1,24 @@
 // Calls of the peer, and what they put behind what waits.
 ghost use Rattle.std.specs.Prelude.{◌≡◌, ℕ, None, IfOk, IfSome, OnOk};
-ghost use Rattle.rt_peer.specs.Calls.{fault};
+ghost use Rattle.rt_wire.specs.declared.server.ServerMessage.TheVariants.{Refused};
+ghost use Rattle.rt_peer.specs.Calls.{fault, one};
 ghost use Rattle.rt_peer.specs.Peers.{least_free};
-ghost use Rattle.rt_peer.specs.Runs.{Connect, Message, Disconnect, outcome};
+ghost use Rattle.rt_peer.specs.Runs.{Connect, Message, EndSome};
+ghost use Rattle.rt_peer.specs.Turns.{is_last_turn};
+ghost use Rattle.rt_hub.specs.Bounded.{bounded, surplus, too_many};
 ghost use Rattle.rt_hub.specs.Hubs.{receivers};
 ghost use Rattle.rt_hub.specs.Lines.{line_of, texts_to, with_texts};
 ghost use Rattle.rt_hub.specs.Verdicts.{verdict_of, verdict_when};
 ghost use Rattle.rt_hub.specs.inside.Lined.{AreLinedOf, IsDone};
 
 use crate::bounds::Bounds;
-use crate::lines::{Lines, add_line, put_all, remove_line};
+use crate::lines::{Lines, add_line, leave_line, put_all};
+use crate::surplus::{refusal, surplus};
 use crate::verdict::{Verdict, When, verdict_when, when_in};
 use rt_peer::{Peer, Sent};
 use rt_wire::ClientMessage;
 use std::alloc::{AllocError, Global};
+use std::slice;
 
 // To whom something is sent, in order.
 fn receivers_of(alloc: Global, sent: &[Sent]) -> Result<Vec<u64>, AllocError>
@@ -78,6 +83,53 @@ pub(crate) fn begin(
     Ok(connection)
 }
 
+// A known connection says something that its peer may do. Answers what became of it, and to whom something is
+// sent.
+fn ask(
+    peer: &mut Peer,
+    lines: &mut Lines,
+    alloc: Global,
+    bounds: Bounds,
+    connection: u64,
+    message: ClientMessage,
+) -> Result<(Verdict, Vec<u64>), AllocError>
+    requires lined { AreLinedOf peer.old lines.old.items }
+    requires known { fault peer.old connection ≡ None }
+    requires room { IfSome peer.old (λ p. surplus p connection message ≡ None) }
+    ensures done { OnOk result (IsDone bounds peer.old lines.old.items (Message connection message)
+        peer.new lines.new.items) }
+    ensures judged { IfOk result (λ answer. IfSome peer.old (λ p.
+        answer.0 ≡ verdict_of message (bounded p (Message connection message)).1)) }
+    ensures told { IfOk result (λ answer. IfSome peer.old (λ p.
+        answer.1.items ≡ receivers (bounded p (Message connection message)).1)) }
+{
+    let when = when_in(&message);
+    let Ok(sent) = peer.message(connection, message) else {
+        return Err(AllocError);
+    };
+    send_judged(lines, alloc, bounds, when, sent.as_slice())
+}
+
+// A request too many for the end of a connection is refused.
+fn refuse(
+    lines: &mut Lines,
+    alloc: Global,
+    bounds: Bounds,
+    connection: u64,
+    id: u64,
+    when: Option<When>,
+) -> Result<(Verdict, Vec<u64>), AllocError>
+    ensures put { OnOk result ((n : ℕ) → line_of lines.new.items n
+        ≡ with_texts bounds (texts_to n (one connection (Refused id too_many))) (line_of lines.old.items n)) }
+    ensures judged { IfOk result (λ answer. answer.0
+        ≡ verdict_when when (one connection (Refused id too_many))) }
+    ensures told { IfOk result (λ answer. answer.1.items
+        ≡ receivers (one connection (Refused id too_many))) }
+{
+    let sent = refusal(alloc, connection, id)?;
+    send_judged(lines, alloc, bounds, when, slice::from_ref(&sent))
+}
+
 // A known connection says something. Answers what became of it, and to whom something is sent.
 pub(crate) fn answer(
     peer: &mut Peer,
@@ -92,35 +144,38 @@ pub(crate) fn answer(
     ensures done { OnOk result (IsDone bounds peer.old lines.old.items (Message connection message)
         peer.new lines.new.items) }
     ensures judged { IfOk result (λ answer. IfSome peer.old (λ p.
-        answer.0 ≡ verdict_of message (outcome p (Message connection message)).1)) }
+        answer.0 ≡ verdict_of message (bounded p (Message connection message)).1)) }
     ensures told { IfOk result (λ answer. IfSome peer.old (λ p.
-        answer.1.items ≡ receivers (outcome p (Message connection message)).1)) }
+        answer.1.items ≡ receivers (bounded p (Message connection message)).1)) }
 {
-    let when = when_in(&message);
-    let Ok(sent) = peer.message(connection, message) else {
-        return Err(AllocError);
-    };
-    send_judged(lines, alloc, bounds, when, sent.as_slice())
+    match surplus(peer, connection, &message) {
+        Some(id) => refuse(lines, alloc, bounds, connection, id, when_in(&message)),
+        None => ask(peer, lines, alloc, bounds, connection, message),
+    }
 }
 
-// A known connection ends. Answers to whom something is sent.
-pub(crate) fn end(
+// A turn of a known connection's end. Answers to whom something is sent, and whether it was the last turn.
+pub(crate) fn end_some(
     peer: &mut Peer,
     lines: &mut Lines,
     alloc: Global,
     bounds: Bounds,
     connection: u64,
-) -> Result<Vec<u64>, AllocError>
+    most: usize,
+) -> Result<(Vec<u64>, bool), AllocError>
     requires lined { AreLinedOf peer.old lines.old.items }
     requires known { fault peer.old connection ≡ None }
-    ensures done { OnOk result (IsDone bounds peer.old lines.old.items (Disconnect connection)
+    ensures done { OnOk result (IsDone bounds peer.old lines.old.items (EndSome connection most)
         peer.new lines.new.items) }
-    ensures told { IfOk result (λ told. IfSome peer.old (λ p.
-        told.items ≡ receivers (outcome p (Disconnect connection)).1)) }
+    ensures told { IfOk result (λ turn. IfSome peer.old (λ p.
+        turn.0.items ≡ receivers (bounded p (EndSome connection most)).1)) }
+    ensures last { IfOk result (λ turn. IfSome peer.old (λ p. turn.1 ≡ is_last_turn p connection most)) }
 {
-    let Ok(sent) = peer.disconnect(connection) else {
+    let Ok(turn) = peer.end_some(connection, most) else {
         return Err(AllocError);
     };
-    remove_line(lines, connection);
-    send(lines, alloc, bounds, sent.as_slice())
+    let is_last = turn.1;
+    leave_line(lines, alloc, connection, is_last);
+    let told = send(lines, alloc, bounds, turn.0.as_slice())?;
+    Ok((told, is_last))
 }

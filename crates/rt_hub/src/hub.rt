@@ -5,13 +5,15 @@ ghost use Rattle.std.specs.Option.{option_map, option_map_or};
 ghost use Rattle.std.specs.Result.{result_err};
 ghost use Rattle.rt_wire.specs.Client.{client_message};
 ghost use Rattle.rt_peer.specs.Peers.{least_free};
-ghost use Rattle.rt_peer.specs.Runs.{Connect, Message, Disconnect, outcome};
+ghost use Rattle.rt_peer.specs.Runs.{Connect, Message, EndSome};
+ghost use Rattle.rt_peer.specs.Turns.{is_last_turn};
+ghost use Rattle.rt_hub.specs.Bounded.{bounded};
 ghost use Rattle.rt_hub.specs.Hubs.{IsHanded, IsMade, IsTaken, TakesText, first_of, line_in, new_hub};
-ghost use Rattle.rt_hub.specs.Hubs.{receivers, refused_as};
+ghost use Rattle.rt_hub.specs.Hubs.{has_too_many_in, receivers, refused_as};
 ghost use Rattle.rt_hub.specs.Verdicts.{verdict_of};
 
-use crate::bounds::Bounds;
-use crate::calls::{answer, begin, end};
+use crate::bounds::{Bounds, MAX_LISTENS};
+use crate::calls::{answer, begin, end_some};
 use crate::lines::{Lines, has_line, is_over, next_of};
 use crate::verdict::Verdict;
 use rt_peer::{Peer, PeerError};
@@ -33,13 +35,24 @@ pub enum Taken {
 /// A peer, and for each of its connections the texts that wait for it.
 ///
 /// A contract sees what it holds; none once it has lacked memory.
-#[derive(Drop)]
 pub struct Hub {
     alloc: Global,
     peer: Peer,
     bounds: Bounds,
     lines: Lines,
     has_failed: bool,
+}
+
+impl Drop for Hub {
+    fn drop(self) {
+        let Hub {
+            alloc: _,
+            peer: _,
+            bounds: _,
+            lines: _,
+            has_failed: _,
+        } = self;
+    }
 }
 
 impl Model for Hub {
@@ -124,9 +137,9 @@ impl Hub {
         requires { refused_as self.old connection ≡ None }
         ensures made { OnOk result (IsMade self.old (Message connection message) self.new) }
         ensures judged { IfOk result (λ answer. IfSome self.old (λ h.
-            answer.0 ≡ verdict_of message (outcome h.peer (Message connection message)).1)) }
+            answer.0 ≡ verdict_of message (bounded h.peer (Message connection message)).1)) }
         ensures told { IfOk result (λ answer. IfSome self.old (λ h.
-            answer.1.items ≡ receivers (outcome h.peer (Message connection message)).1)) }
+            answer.1.items ≡ receivers (bounded h.peer (Message connection message)).1)) }
         ensures gives_up { OnErr result (self.new ≡ None) }
         ensures memory { IfErr result (λ e. e ≡ PeerError.NoMemory) }
     {
@@ -150,6 +163,8 @@ impl Hub {
     /// Takes a text of the connection. Where it is a message of a client, what the peer sends for it is put
     /// behind what waits for those that it is sent to, and whether it is a request that was accepted is
     /// answered; where it is none, nothing changes.
+    ///
+    /// A request for the end of a connection that has as many as it may is refused.
     ///
     /// # Errors
     ///
@@ -193,24 +208,36 @@ impl Hub {
         next_of(&mut self.lines, connection)
     }
 
-    /// Whether more came to the connection than may wait: it has lost something, and is to be ended.
+    /// Whether more came to the connection where as much waited as may: it has lost something, and is to be
+    /// ended. However much one call sends to it, it is over only for what waited before.
     pub fn is_over(&self, connection: u64) -> bool
         ensures { result ≡ option_map_or (λ l. l.is_over) (line_in self.now connection) false }
     {
         !self.has_failed && is_over(&self.lines, connection)
     }
 
-    /// Ends the connection: what waits for it goes, and what it asked for at its end is run. Answers to whom
-    /// something was sent. The number is then free.
+    /// Whether the connection has more listens than it may: it is to be ended. Costs by a logarithm.
+    pub fn has_too_many_listens(&self, connection: u64) -> bool
+        ensures { result ≡ has_too_many_in self.now connection }
+    {
+        !self.has_failed && self.peer.held(connection).listens > MAX_LISTENS
+    }
+
+    /// A turn of the connection's end: what waits for it goes, nothing more is sent to it, and the first of
+    /// what it asked for at its end is run, so many requests at most. Answers to whom something was sent, and
+    /// whether it was the last turn: the number is free then. Until then this is called again; others may be
+    /// served before.
     ///
     /// # Errors
     ///
     /// `Failed` where the hub has lacked memory before; then `UnknownConnection`; both change nothing. Else
     /// `NoMemory`, and `Failed` from then on.
-    pub fn disconnect(&mut self, connection: u64) -> Result<Vec<u64>, PeerError>
-        ensures made { OnOk result (IsMade self.old (Disconnect connection) self.new) }
-        ensures told { IfOk result (λ told. IfSome self.old (λ h.
-            told.items ≡ receivers (outcome h.peer (Disconnect connection)).1)) }
+    pub fn end_some(&mut self, connection: u64, most: usize) -> Result<(Vec<u64>, bool), PeerError>
+        ensures made { OnOk result (IsMade self.old (EndSome connection most) self.new) }
+        ensures told { IfOk result (λ turn. IfSome self.old (λ h.
+            turn.0.items ≡ receivers (bounded h.peer (EndSome connection most)).1)) }
+        ensures last { IfOk result (λ turn. IfSome self.old (λ h.
+            turn.1 ≡ is_last_turn h.peer connection most)) }
         ensures refused { IfSome (refused_as self.old connection)
             (λ e. (result ≡ Err e) × (self.new ≡ self.old)) }
         ensures fault { IfErr result (λ e. (refused_as self.old connection ≡ Some e)
@@ -218,15 +245,16 @@ impl Hub {
         ensures gives_up { result ≡ Err PeerError.NoMemory → self.new ≡ None }
     {
         self.check(connection)?;
-        let told = end(
+        let turn = end_some(
             &mut self.peer,
             &mut self.lines,
             self.alloc,
             self.bounds,
             connection,
+            most,
         );
-        match told {
-            Ok(told) => Ok(told),
+        match turn {
+            Ok(turn) => Ok(turn),
             Err(_) => {
                 self.has_failed = true;
                 Err(PeerError::NoMemory)

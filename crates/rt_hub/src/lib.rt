@@ -6,11 +6,13 @@
 //! let connection = hub.connect()?;                                  // 1
 //! hub.take(connection, "{\"k\":\"listen\",\"path\":\"/a\",\"tag\":1}")?; // something was sent to 1
 //! hub.next(connection)                                              // data of tag 1 at /a
-//! hub.disconnect(connection)?                                       // to whom something was sent then
+//! let (told, is_last) = hub.end_some(connection, 256)?;             // to whom something was sent then
 //! ```
 //!
-//! More may be sent to a connection than it takes. What waits for it is bounded; with one text more its line
-//! is over: nothing waits any more, and nothing will. It has lost something then, and is to be ended.
+//! More may be sent to a connection than it takes. What waits for it is bounded: where as much waits as may,
+//! and a call has something more for it, its line is over. Nothing waits any more then, and nothing will: it
+//! has lost something, and is to be ended. So is a connection that has more listens than one may have. A
+//! request for the end of one that has as many as it may is refused.
 //!
 //! A contract sees a hub as what it holds (`specs/Hubs.antt`), none once it has lacked memory.
 #![tactic(auto)]
@@ -22,9 +24,10 @@ mod hub;
 mod laws;
 mod line;
 mod lines;
+mod surplus;
 mod verdict;
 
-pub use bounds::{Bounds, MAX_WAITING_BYTES, MAX_WAITING_MESSAGES};
+pub use bounds::{Bounds, MAX_ACTIONS, MAX_LISTENS, MAX_WAITING_BYTES, MAX_WAITING_MESSAGES};
 pub use examples::line_examples;
 pub use hub::{Hub, Taken};
 pub use laws::{queue_law, verdict_law};

@@ -1,8 +1,8 @@
 // What waits for one connection.
-ghost use Rattle.std.specs.Prelude.{◌≡◌, ◌+◌, ◌<◌, ◌^◌, ◌++◌, ◌∷◌, [], drop, length, string_bytes, OnOk};
+ghost use Rattle.std.specs.Prelude.{◌≡◌, drop, string_bytes, OnOk};
 ghost use Rattle.std.specs.List.{slice_get};
 ghost use Rattle.std.specs.Option.{option_map};
-ghost use Rattle.rt_hub.specs.Lines.{bytes_in, empty_line, has_room, over_line, text_of, with_text};
+ghost use Rattle.rt_hub.specs.Lines.{empty_line, over_line, text_of, told_more, with_text};
 
 use crate::bounds::Bounds;
 use rt_wire::ServerMessage;
@@ -10,12 +10,22 @@ use std::alloc::{AllocError, Global};
 use std::collections::VecDeque;
 use std::marker::Model;
 
-// The texts that wait, oldest first, how many bytes they have, and whether more came than may wait.
-#[derive(Drop)]
+// The texts that wait, oldest first, how many bytes they have, and whether more came where as much waited as
+// may.
 pub(crate) struct Line {
     waiting: VecDeque<String>,
     bytes: usize,
     is_over: bool,
+}
+
+impl Drop for Line {
+    fn drop(self) {
+        let Line {
+            waiting: _,
+            bytes: _,
+            is_over: _,
+        } = self;
+    }
 }
 
 impl Model for Line {
@@ -40,7 +50,7 @@ impl Line {
         }
     }
 
-    // A line to which more came than may wait.
+    // A line to which more came where as much waited as may.
     fn over(alloc: Global) -> Line
         ensures { result ≡ over_line }
     {
@@ -57,45 +67,28 @@ impl Line {
         self.is_over
     }
 
-    // Whether one more text of so many bytes may wait.
-    fn has_room(&self, bounds: Bounds, len: usize) -> bool
-        ensures { result ≡ has_room bounds self.now.waiting len }
+    // Texts are to come: where as much waits as may, the line is over.
+    pub(crate) fn check(&mut self, alloc: Global, bounds: Bounds)
+        ensures { self.new ≡ told_more bounds self.old }
     {
-        match self.bytes.checked_add(len) {
-            Some(bytes) => self.waiting.len() < bounds.messages && bytes <= bounds.bytes,
-            None => false,
+        if self.waiting.len() >= bounds.messages || self.bytes >= bounds.bytes {
+            *self = Line::over(alloc);
         }
     }
 
-    // Puts a text behind those that wait.
-    fn push(&mut self, text: String) -> Result<(), AllocError>
-        requires { bytes_in self.old.waiting + length (string_bytes text) < 2 ^ 64 }
-        ensures { OnOk result (self.new
-            ≡ record (self.old) { waiting = self.old.waiting ++ string_bytes text ∷ [] }) }
-    {
-        let len = text.len();
-        self.waiting.push_back(text)?;
-        self.bytes += len;
-        Ok(())
-    }
-
-    // Puts the text of a message behind those that wait. Where more came than may wait, none does.
-    pub(crate) fn put(
-        &mut self,
-        alloc: Global,
-        bounds: Bounds,
-        message: &ServerMessage,
-    ) -> Result<(), AllocError>
-        ensures { OnOk result (self.new ≡ with_text bounds self.old (text_of message.now)) }
+    // Puts the text of a message behind those that wait. Where the line is over, none does.
+    pub(crate) fn put(&mut self, alloc: Global, message: &ServerMessage) -> Result<(), AllocError>
+        ensures { OnOk result (self.new ≡ with_text self.old (text_of message.now)) }
     {
         if self.is_over {
             return Ok(());
         }
         let text = message.text(alloc)?;
-        if self.has_room(bounds, text.len()) {
-            return self.push(text);
-        }
-        *self = Line::over(alloc);
+        let Some(bytes) = self.bytes.checked_add(text.len()) else {
+            return Err(AllocError);
+        };
+        self.waiting.push_back(text)?;
+        self.bytes = bytes;
         Ok(())
     }
 

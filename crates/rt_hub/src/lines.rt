@@ -1,10 +1,11 @@
 // The lines of connections, by their numbers.
 ghost use Rattle.std.specs.Prelude.{◌≡◌, ◌+◌, ◌<◌, ◌==◌, ◌∷◌, [], ℕ, false, is_some, length, string_bytes};
 ghost use Rattle.std.specs.Prelude.{if◌then◌else◌, Some, None, IfSome, OnOk};
+ghost use Rattle.std.specs.List.{fold};
 ghost use Rattle.std.specs.Option.{option_map, option_map_or};
-ghost use Rattle.rt_hub.specs.Hubs.{first_of};
-ghost use Rattle.rt_hub.specs.Lines.{empty_line, line_of, texts_to, with_texts};
-ghost use Rattle.rt_hub.specs.Lines.{without_first};
+ghost use Rattle.rt_hub.specs.Hubs.{first_of, left_line};
+ghost use Rattle.rt_hub.specs.Lines.{checked, empty_line, line_of, texts_to, told_more, with_text};
+ghost use Rattle.rt_hub.specs.Lines.{with_texts, without_first};
 
 use crate::bounds::Bounds;
 use crate::line::Line;
@@ -54,13 +55,18 @@ pub(crate) fn is_over(lines: &Lines, connection: u64) -> bool
     }
 }
 
-// Takes out the line of the connection, if it has one.
-pub(crate) fn remove_line(lines: &mut Lines, connection: u64)
-    ensures { (n : ℕ) → line_of lines.new.items n
-        ≡ (if connection == n then None else line_of lines.old.items n) }
+// Takes out what waits for the connection, if it has a line, and the line too where it has ended.
+pub(crate) fn leave_line(lines: &mut Lines, alloc: Global, connection: u64, has_ended: bool)
+    ensures { (n : ℕ) → line_of lines.new.items n ≡ (if connection == n
+        then left_line has_ended (line_of lines.old.items n) else line_of lines.old.items n) }
 {
-    if let Some(place) = place_of(lines, connection) {
+    let Some(place) = place_of(lines, connection) else {
+        return;
+    };
+    if has_ended {
         lines[place] = None;
+    } else if let Some(line) = &mut lines[place] {
+        *line = Line::new(alloc);
     }
 }
 
@@ -92,21 +98,57 @@ pub(crate) fn next_of(lines: &mut Lines, connection: u64) -> Option<String>
     }
 }
 
+// Something is to be put behind what waits for the connection.
+fn check_one(lines: &mut Lines, alloc: Global, bounds: Bounds, connection: u64)
+    ensures { (n : ℕ) → line_of lines.new.items n
+        ≡ (if connection == n then option_map (told_more bounds) (line_of lines.old.items n)
+        else line_of lines.old.items n) }
+{
+    let Some(place) = place_of(lines, connection) else {
+        return;
+    };
+    if let Some(line) = &mut lines[place] {
+        line.check(alloc, bounds);
+    }
+}
+
+// These messages are to be put behind what waits for their connections: the lines are over where as much
+// waits as may.
+fn check_all(lines: &mut Lines, alloc: Global, bounds: Bounds, sent: &[Sent])
+    ensures { (n : ℕ) → line_of lines.new.items n
+        ≡ option_map (checked bounds (texts_to n sent.now)) (line_of lines.old.items n) }
+{
+    for one in sent {
+        check_one(lines, alloc, bounds, one.to);
+    }
+}
+
 // Puts the text of a message behind what waits for its connection.
-fn put_one(lines: &mut Lines, alloc: Global, bounds: Bounds, one: &Sent) -> Result<(), AllocError>
+fn put_one(lines: &mut Lines, alloc: Global, one: &Sent) -> Result<(), AllocError>
     ensures { OnOk result ((n : ℕ) → line_of lines.new.items n
-        ≡ with_texts bounds (texts_to n (one.now ∷ [])) (line_of lines.old.items n)) }
+        ≡ option_map (λ l. fold with_text l (texts_to n (one.now ∷ []))) (line_of lines.old.items n)) }
 {
     let Some(place) = place_of(lines, one.to) else {
         return Ok(());
     };
     match &mut lines[place] {
-        Some(line) => line.put(alloc, bounds, &one.message),
+        Some(line) => line.put(alloc, &one.message),
         None => Ok(()),
     }
 }
 
 // Puts the text of each message behind what waits for its connection, in order.
+fn put_each(lines: &mut Lines, alloc: Global, sent: &[Sent]) -> Result<(), AllocError>
+    ensures { OnOk result ((n : ℕ) → line_of lines.new.items n
+        ≡ option_map (λ l. fold with_text l (texts_to n sent.now)) (line_of lines.old.items n)) }
+{
+    for one in sent {
+        put_one(lines, alloc, one)?;
+    }
+    Ok(())
+}
+
+// Puts what one call sends behind what waits for those that it is sent to, in order.
 pub(crate) fn put_all(
     lines: &mut Lines,
     alloc: Global,
@@ -116,8 +158,6 @@ pub(crate) fn put_all(
     ensures { OnOk result ((n : ℕ) → line_of lines.new.items n
         ≡ with_texts bounds (texts_to n sent.now) (line_of lines.old.items n)) }
 {
-    for one in sent {
-        put_one(lines, alloc, bounds, one)?;
-    }
-    Ok(())
+    check_all(lines, alloc, bounds, sent);
+    put_each(lines, alloc, sent)
 }

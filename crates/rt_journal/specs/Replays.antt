@@ -1,5 +1,5 @@
 -- What the replay of a journal does: calls of a peer at which nothing is denied.
-use Rattle.std.specs.Prelude.{ℕ, List, [], ◌∷◌, ◌++◌, map, length, Option, Some, None}
+use Rattle.std.specs.Prelude.{ℕ, Bool, ◌&&◌, if◌then◌else◌, List, [], ◌∷◌, ◌++◌, map, length, Option, Some, None}
 use Rattle.std.specs.Prelude.{Result, Ok, Err}
 use Rattle.std.specs.BTreeMap.{insert_entry, is_at}
 use Rattle.std.specs.Map.{lookup, remove_entry, keys_of}
@@ -9,9 +9,10 @@ use Rattle.rt_tree.specs.Trees.{PathTree}
 use Rattle.rt_wire.specs.Client.{client_message}
 use Rattle.rt_wire.specs.declared.client.ClientMessage.{ClientMessage}
 use Rattle.rt_wire.specs.declared.error.WireError.{WireError}
-use Rattle.rt_peer.specs.Peers.{Peer, least_free, new_peer}
-use Rattle.rt_peer.specs.Runs.{Call, Connect, Message, Disconnect, after_all}
-use Rattle.rt_journal.specs.Entries.{Entry, entry_in, pieces_of}
+use Rattle.rt_peer.specs.Peers.{Peer, is_known, least_free, new_peer}
+use Rattle.rt_peer.specs.Runs.{Call, Connect, Message, Disconnect, EndSome, after_all}
+use Rattle.rt_peer.specs.Turns.{is_last_turn}
+use Rattle.rt_journal.specs.Entries.{Entry, entry_in, number_in, pieces_of}
 
 -- a peer, and by the journal's number of each connection that is there the peer's
 pub record Replay : Type 0 where
@@ -51,15 +52,32 @@ left r n =
       names = remove_entry (is_at (nat_cmp n)) r.names;
     }) (name_of r n) r
 
+-- whether nothing is left of a connection's end after so many of its actions
+abbrev pub has_ended : Peer → ℕ → ℕ → Bool
+has_ended p m count = is_known p.connections m && is_last_turn p m count
+
+-- so many of what a connection asked for at its end are done, where it is there
+abbrev pub turned : Replay → ℕ → ℕ → Replay
+turned r n count =
+    option_map_or (λ m. record {
+      peer = after_all r.peer (EndSome m count ∷ []);
+      names = if has_ended r.peer m count then remove_entry (is_at (nat_cmp n)) r.names else r.names;
+    }) (name_of r n) r
+
 -- the message of a text, if it is one
 abbrev pub message_in : Result ClientMessage WireError → Option ClientMessage
 message_in (Ok message) = Some message
 message_in (Err why) = None
 
--- after what a connection said: none where that is no message of a client
+-- after a message of a connection: none where the text is no message of a client
+abbrev pub told : Replay → ℕ → List ℕ → Option Replay
+told r n text = option_map (asked r n) (message_in (client_message text))
+
+-- after what a line says of a connection: it ended; or a number says how many were done of what it asked for at
+-- its end; or it said something
 abbrev pub said : Replay → ℕ → Option (List ℕ) → Option Replay
 said r n None = Some (left r n)
-said r n (Some text) = option_map (asked r n) (message_in (client_message text))
+said r n (Some text) = option_map_or (λ count. Some (turned r n count)) (number_in text) (told r n text)
 
 -- after an entry
 abbrev pub after_entry : Replay → Entry → Option Replay

@@ -57,8 +57,8 @@ fn next_number(number: u64, digit: u8) -> Option<u64>
     number.checked_mul(10)?.checked_add(u64::from(digit - b'0'))
 }
 
-// The number that the digits write.
-fn number_in(digits: &[u8]) -> Option<u64>
+/// The number that the digits write.
+pub(crate) fn number_in(digits: &[u8]) -> Option<u64>
     ensures { result ≡ number_in digits.now }
 {
     if digits.is_empty() {

@@ -3,7 +3,7 @@ ghost use Rattle.std.specs.Prelude.{◌≡◌, ◌||◌, ◌&&◌, [], None, Som
 ghost use Rattle.std.specs.Prelude.{if◌then◌else◌, is_some, nat_lt, IfOk, OnOk, string_bytes};
 ghost use Rattle.std.specs.Option.{option_map_or};
 ghost use Rattle.rt_tree.specs.PathTree.{is_null};
-ghost use Rattle.rt_journal.specs.Books.{new_book, with_end, with_request};
+ghost use Rattle.rt_journal.specs.Books.{is_resting, new_book, with_end, with_request, with_turn};
 ghost use Rattle.rt_journal.specs.Due.{due_after, is_due, next_at, postponed};
 ghost use Rattle.rt_journal.specs.Journals.{KeepsNotes, appended, notice_text};
 ghost use Rattle.rt_journal.specs.declared.notice.Notice.TheVariants.{TornLine};
@@ -393,6 +393,17 @@ impl Journal {
         self.book.note(connection, noted, text)
     }
 
+    /// So many requests were done of those that a connection had for its end, the first of them, and its end
+    /// goes on: that is noted where something was to be done then. Until [`Journal::note_end`] no new file is
+    /// begun. Where memory is lacking, the journal is not to be used any more.
+    pub fn note_turn(&mut self, connection: u64, count: usize) -> Result<(), AllocError>
+        ensures { OnOk result (self.new ≡ record (self.old) {
+          book = with_turn self.old.book connection count;
+        }) }
+    {
+        self.book.note_turn(connection, count)
+    }
+
     /// A connection ended: that is noted where something was to be done at its end. Where memory is lacking,
     /// the journal is not to be used any more.
     pub fn note_end(&mut self, connection: u64) -> Result<(), AllocError>
@@ -467,12 +478,16 @@ impl Journal {
         line_of(self.alloc, notice, &self.place)
     }
 
-    // Whether the file is to be made anew.
+    // Whether the file is to be made anew: not while a connection's end is under way, since a journal that is
+    // begun anew can't say what of that is done.
     fn is_due(&self, now: u64) -> bool
-        ensures { result ≡ is_due self.now.standing now }
+        ensures { result ≡ (is_due self.now.standing now && is_resting self.now.book) }
     {
         let standing = self.standing;
-        standing.is_changed && !standing.is_foreign && standing.due_at <= now
+        standing.is_changed
+            && !standing.is_foreign
+            && standing.due_at <= now
+            && self.book.is_resting()
     }
 
     // The file is made anew only after a pause.
@@ -511,6 +526,7 @@ impl Journal {
         system: &Y,
         tree: &Tree,
     ) -> io::Result<()>
+        requires { is_resting self.old.book ≡ true }
         ensures kept { KeepsNotes self.old self.new }
     {
         let tree = tree.copy(self.alloc)?;

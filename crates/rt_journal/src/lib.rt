@@ -9,8 +9,9 @@
 //! ```
 //!
 //! `FILE.log` has a line for each request that was accepted since the file was made: `N TEXT`, and `N` where
-//! connection N ended that had asked for something at its end (`specs/Entries.antt`). What it says is done
-//! over the file's tree by a peer (`specs/Replays.antt`). Sets are absolute, so a journal over a newer file
+//! connection N ended that had asked for something at its end (`specs/Entries.antt`). `N COUNT` says that so
+//! many of what it had asked for were done, and that its end goes on. What it says is done over the file's tree
+//! by a peer (`specs/Replays.antt`). Sets are absolute, so a journal over a newer file
 //! gives the same tree.
 #![tactic(auto)]
 

@@ -66,6 +66,19 @@ pub(crate) fn push_request(
     Ok(())
 }
 
+/// Puts the line of a turn of a connection's end, in which so many requests were done.
+pub(crate) fn push_turn(
+    alloc: Global,
+    out: &mut Vec<u8>,
+    connection: u64,
+    count: usize,
+) -> Result<(), AllocError>
+    ensures { OnOk result (out.new.items ≡ out.old.items ++ line_of (connection, Some (decimal count))) }
+{
+    let number = count.to_string(alloc)?;
+    push_request(alloc, out, connection, number.as_str())
+}
+
 /// Puts the line of a connection's end.
 pub(crate) fn push_end(alloc: Global, out: &mut Vec<u8>, connection: u64) -> Result<(), AllocError>
     ensures { OnOk result (out.new.items ≡ out.old.items ++ line_of (connection, None)) }

@@ -4,12 +4,13 @@ ghost use Rattle.std.specs.Prelude.{◌+◌, ◌<◌, drop, length, position};
 ghost use Rattle.std.specs.Map.{keys_of};
 ghost use Rattle.std.specs.Option.{option_map, option_and_then};
 ghost use Rattle.rt_peer.specs.Peers.{least_free};
-ghost use Rattle.rt_peer.specs.Runs.{Disconnect, Message, after_all, outcome};
+ghost use Rattle.rt_peer.specs.Runs.{Disconnect, EndSome, Message, after_all, outcome};
 ghost use Rattle.rt_journal.specs.Entries.{is_feed, pieces_of};
 ghost use Rattle.rt_journal.specs.Replays.{after_entry, after_line, after_pieces, asked, begun, called};
-ghost use Rattle.rt_journal.specs.Replays.{closed, ends_of, left, new_replay, replay_of, torn_length};
+ghost use Rattle.rt_journal.specs.Replays.{closed, ends_of, has_ended, left, new_replay, replay_of, told};
+ghost use Rattle.rt_journal.specs.Replays.{torn_length, turned};
 
-use crate::entry::{LineFault, entry_in, feed_in};
+use crate::entry::{LineFault, entry_in, feed_in, number_in};
 use rt_peer::{Peer, PeerError};
 use rt_tree::Tree;
 use rt_wire::{ClientMessage, WireError};
@@ -144,12 +145,28 @@ impl Replaying {
         }
     }
 
-    // Takes what a connection said.
-    fn take_text(&mut self, connection: u64, text: &str) -> Result<(), LineFault>
+    // A turn of a connection's end, in which so many requests are done.
+    fn turn(&mut self, connection: u64, count: usize) -> Result<(), LineFault>
+        ensures turned { OnOk result
+            (IfSome self.old (λ r. self.new ≡ Some (turned r connection count))) }
+        ensures fault { IfErr result (λ e. e ≡ LineFault.NoMemory) }
+    {
+        let name = match self.names.get(&connection) {
+            Some(name) => *name,
+            None => return Ok(()),
+        };
+        if turn_one(&mut self.peer, name, count)? {
+            let _gone = self.names.remove(&connection);
+        }
+        Ok(())
+    }
+
+    // Takes a message of a connection.
+    fn take_message(&mut self, connection: u64, text: &str) -> Result<(), LineFault>
         ensures ok { OnOk result
-            (IfSome self.old (λ r. IsSome self.new × (after_entry r (connection, Some text.now) ≡ self.new))) }
+            (IfSome self.old (λ r. IsSome self.new × (told r connection text.now ≡ self.new))) }
         ensures fault { IfErr result (λ e. ((e ≡ LineFault.BadLine)
-            × IfSome self.old (λ r. after_entry r (connection, Some text.now) ≡ None))
+            × IfSome self.old (λ r. told r connection text.now ≡ None))
             ⊎ (e ≡ LineFault.NoMemory)) }
     {
         match ClientMessage::read(self.alloc, text) {
@@ -161,6 +178,20 @@ impl Replaying {
                 | WireError::BadField
                 | WireError::BadTree,
             ) => Err(LineFault::BadLine),
+        }
+    }
+
+    // Takes what a line says of a connection that has not ended.
+    fn take_text(&mut self, connection: u64, text: &str) -> Result<(), LineFault>
+        ensures ok { OnOk result
+            (IfSome self.old (λ r. IsSome self.new × (after_entry r (connection, Some text.now) ≡ self.new))) }
+        ensures fault { IfErr result (λ e. ((e ≡ LineFault.BadLine)
+            × IfSome self.old (λ r. after_entry r (connection, Some text.now) ≡ None))
+            ⊎ (e ≡ LineFault.NoMemory)) }
+    {
+        match number_in(text.as_bytes()) {
+            Some(count) => self.turn(connection, count as usize),
+            None => self.take_message(connection, text),
         }
     }
 
@@ -228,6 +259,20 @@ fn end_one(peer: &mut Peer, name: u64) -> Result<(), LineFault>
 {
     match peer.disconnect(name) {
         Ok(_) | Err(PeerError::UnknownConnection) => Ok(()),
+        Err(PeerError::Failed | PeerError::NoMemory) => Err(LineFault::NoMemory),
+    }
+}
+
+// A turn of the end of a connection of the peer. Answers whether nothing of it is left.
+fn turn_one(peer: &mut Peer, name: u64, count: usize) -> Result<bool, LineFault>
+    ensures turned { OnOk result
+        (IfSome peer.old (λ p. peer.new ≡ Some (outcome p (EndSome name count)).0)) }
+    ensures last { IfOk result (λ last. IfSome peer.old (λ p. last ≡ has_ended p name count)) }
+    ensures fault { IfErr result (λ e. e ≡ LineFault.NoMemory) }
+{
+    match peer.end_some(name, count) {
+        Ok((_, is_last)) => Ok(is_last),
+        Err(PeerError::UnknownConnection) => Ok(false),
         Err(PeerError::Failed | PeerError::NoMemory) => Err(LineFault::NoMemory),
     }
 }

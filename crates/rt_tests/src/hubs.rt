@@ -12,6 +12,8 @@ const LISTEN: &str = "{\"k\":\"listen\",\"path\":\"/a\",\"tag\":1}";
 
 const PUT: &str = "{\"k\":\"put\",\"id\":1,\"path\":\"/a\",\"value\":7}";
 
+const AGAIN: &str = "{\"k\":\"put\",\"id\":2,\"path\":\"/a\",\"value\":8}";
+
 fn empty(alloc: Global, messages: usize) -> Hub {
     let bounds = Bounds {
         messages,
@@ -60,11 +62,14 @@ fn two_connections(rt: HostRuntime) {
 #[test]
 fn one_text_too_many(rt: HostRuntime) {
     let mut hub = told(rt.alloc(), 2).expect(&rt, MEMORY);
-    assert_eq!(rt; count(&mut hub, 1), 2);
-    assert!(rt; hub.is_over(2));
-    assert_eq!(rt; count(&mut hub, 2), 0);
-    let told = hub.disconnect(2).expect(&rt, MEMORY);
+    assert_eq!(rt; count(&mut hub, 2), 3);
+    drop(hub.take(2, AGAIN).expect(&rt, MEMORY));
+    assert!(rt; hub.is_over(1));
+    assert!(rt; !hub.is_over(2));
+    assert_eq!(rt; count(&mut hub, 1), 0);
+    let (told, is_last) = hub.end_some(1, 1).expect(&rt, MEMORY);
     assert!(rt; told.is_empty());
+    assert!(rt; is_last);
 }
 
 #[test]
@@ -76,14 +81,17 @@ fn no_message(rt: HostRuntime) {
         hub.take(9, LISTEN).err(),
         Some(PeerError::UnknownConnection)
     );
-    assert_eq!(rt; hub.disconnect(9).err(), Some(PeerError::UnknownConnection));
+    assert_eq!(rt;
+        hub.end_some(9, 1).err(),
+        Some(PeerError::UnknownConnection)
+    );
 }
 
 // Whether each call of that run succeeds, or says that memory lacked.
 fn says_so(alloc: Global) -> bool {
     match told(alloc, 10) {
-        Ok(mut hub) => match hub.disconnect(1) {
-            Ok(told) => told.is_empty(),
+        Ok(mut hub) => match hub.end_some(1, 1) {
+            Ok((told, is_last)) => told.is_empty() && is_last,
             Err(why) => why == PeerError::NoMemory
                 && hub.connect().err() == Some(PeerError::Failed),
         },

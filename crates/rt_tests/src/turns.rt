@@ -167,7 +167,7 @@ fn a_door_fails_and_ends(rt: HostRuntime) {
     assert_eq!(rt; handed(&rt, &mut hub, &mut door), Handed::Failed);
     assert_eq!(rt; door.taken.len(), 1);
     notes.told.clear();
-    leave(&mut hub, 1, &mut notes.told).expect(&rt, MEMORY);
+    assert!(rt; leave(&mut hub, 1, &mut notes.told).expect(&rt, MEMORY));
     assert!(rt; notes.told.is_empty());
     assert_eq!(rt;
         leave(&mut hub, 1, &mut notes.told).err(),

@@ -8,7 +8,7 @@ use Rattle.std.proofs.lemmas.List.{length-append, map-append}
 use Rattle.std.proofs.lemmas.List.Sums.{fold-append}
 use Rattle.rt_wire.specs.Client.{client_message}
 use Rattle.rt_peer.specs.Peers.{Peer}
-use Rattle.rt_peer.specs.Runs.{after_all, outcome, sent_all}
+use Rattle.rt_hub.specs.Bounded.{after_bounded, bounded, sent_bounded}
 use Rattle.rt_peer.specs.declared.sent.Sent.{Sent}
 use Rattle.rt_hub.specs.Hubs.{Hub, receivers}
 use Rattle.rt_hub.specs.Runs.{DoesAll, OfPeer}
@@ -26,23 +26,23 @@ use Rattle.rt_turns.proofs.Joining.{after_made, does_append, gives_more, gives_n
 -- ---- one after another
 
 accepted-append : (n : ℕ) (p : Peer) (g h : List (Option (List ℕ)))
-    → all_accepted n p (g ++ h) ≡ all_accepted n p g ++ all_accepted n (after_all p (calls_of n g)) h
+    → all_accepted n p (g ++ h) ≡ all_accepted n p g ++ all_accepted n (after_bounded p (calls_of n g)) h
 accepted-append n p [] h = refl
 accepted-append n p (x ∷ g) h =
-    let q : Peer = after_all p (given_call n x) in
+    let q : Peer = after_bounded p (given_call n x) in
     ap (λ l. given_accepted n p x ++ l) (accepted-append n q g h)
-    ∙ sym (append_assoc (given_accepted n p x) (all_accepted n q g) (all_accepted n (after_all q (calls_of n g)) h))
+    ∙ sym (append_assoc (given_accepted n p x) (all_accepted n q g) (all_accepted n (after_bounded q (calls_of n g)) h))
     ∙ ap (λ r. (given_accepted n p x ++ all_accepted n q g) ++ all_accepted n r h)
-    (sym (fold-append (λ q call. (outcome q call).0) p (given_call n x) (calls_of n g)))
+    (sym (fold-append (λ q call. (bounded q call).0) p (given_call n x) (calls_of n g)))
 
 heard_more : (n : ℕ) (g h : List (Option (List ℕ))) (a b c : Hub) (t u v : Notes)
     → HasHeard n g a b t u → HasHeard n h b c u v → HasHeard n (g ++ h) a c t v
 heard_more n g h a b c t u v x y = record {
   made = subst (λ asked. DoesAll a asked c) (sym asked)
       (does_append a b c (map OfPeer (calls_of n g)) (map OfPeer (calls_of n h)) x.made y.made);
-  told = y.told ∙ ap (λ l. l ++ receivers (sent_all b.peer (calls_of n h))) x.told
-      ∙ append_assoc t.told.items (receivers (sent_all a.peer (calls_of n g)))
-      (receivers (sent_all b.peer (calls_of n h)))
+  told = y.told ∙ ap (λ l. l ++ receivers (sent_bounded b.peer (calls_of n h))) x.told
+      ∙ append_assoc t.told.items (receivers (sent_bounded a.peer (calls_of n g)))
+      (receivers (sent_bounded b.peer (calls_of n h)))
       ∙ ap (λ l. t.told.items ++ l) (sym sent);
   accepted = y.accepted ∙ ap (λ l. l ++ all_accepted n b.peer h) x.accepted
       ∙ append_assoc (map request_of t.accepted.items) (all_accepted n a.peer g) (all_accepted n b.peer h)
@@ -55,14 +55,14 @@ heard_more n g h a b c t u v x y = record {
     asked : map OfPeer (calls_of n (g ++ h)) ≡ map OfPeer (calls_of n g) ++ map OfPeer (calls_of n h)
     asked = ap (map OfPeer) calls ∙ map-append OfPeer (calls_of n g) (calls_of n h)
 
-    sent : receivers (sent_all a.peer (calls_of n (g ++ h)))
-        ≡ receivers (sent_all a.peer (calls_of n g)) ++ receivers (sent_all b.peer (calls_of n h))
+    sent : receivers (sent_bounded a.peer (calls_of n (g ++ h)))
+        ≡ receivers (sent_bounded a.peer (calls_of n g)) ++ receivers (sent_bounded b.peer (calls_of n h))
     sent =
-        ap (λ cs. receivers (sent_all a.peer cs)) calls
+        ap (λ cs. receivers (sent_bounded a.peer cs)) calls
         ∙ ap receivers (sent-append a.peer (calls_of n g) (calls_of n h))
-        ∙ map-append (λ (s : Sent). s.to) (sent_all a.peer (calls_of n g))
-        (sent_all (after_all a.peer (calls_of n g)) (calls_of n h))
-        ∙ ap (λ p. receivers (sent_all a.peer (calls_of n g)) ++ receivers (sent_all p (calls_of n h)))
+        ∙ map-append (λ (s : Sent). s.to) (sent_bounded a.peer (calls_of n g))
+        (sent_bounded (after_bounded a.peer (calls_of n g)) (calls_of n h))
+        ∙ ap (λ p. receivers (sent_bounded a.peer (calls_of n g)) ++ receivers (sent_bounded p (calls_of n h)))
         (sym (after_made a b (calls_of n g) x.made))
 
     accepts : all_accepted n a.peer (g ++ h) ≡ all_accepted n a.peer g ++ all_accepted n b.peer h
@@ -143,7 +143,7 @@ hears_other n a p q t g = record {
 text_in : (n : ℕ) (text : List ℕ) (a b : Option Hub) (t u : Notes)
     → AreMade a (text_call n (client_message text)) b
     → IfSome a (λ h. u.told.items
-    ≡ t.told.items ++ receivers (sent_all h.peer (text_call n (client_message text))))
+    ≡ t.told.items ++ receivers (sent_bounded h.peer (text_call n (client_message text))))
     → IfSome a (λ h. map request_of u.accepted.items
     ≡ map request_of t.accepted.items ++ text_accepted n h.peer text (client_message text))
     → HasHeardIn n (Some text ∷ []) a b t u
@@ -154,7 +154,7 @@ text_in n text (Some a) (Some b) t u m s k =
     append-nil (text_call n (client_message text)) in
     record {
       made = subst (λ calls. DoesAll a (map OfPeer calls) b) (sym e) m;
-      told = s ∙ ap (λ calls. t.told.items ++ receivers (sent_all a.peer calls)) (sym e);
+      told = s ∙ ap (λ calls. t.told.items ++ receivers (sent_bounded a.peer calls)) (sym e);
       accepted = k ∙ ap (λ l. map request_of t.accepted.items ++ l)
           (sym (append-nil (text_accepted n a.peer text (client_message text))));
     }
@@ -163,7 +163,7 @@ pub hears_text : (n : ℕ) (text : List ℕ) (a b : Option Hub) (p q : Option (L
     (t u : Notes) → Gives p q (Some text ∷ [])
     → AreMade a (text_call n (client_message text)) b
     → IfSome a (λ h. u.told.items
-    ≡ t.told.items ++ receivers (sent_all h.peer (text_call n (client_message text))))
+    ≡ t.told.items ++ receivers (sent_bounded h.peer (text_call n (client_message text))))
     → map string_bytes u.answers.items
     ≡ map string_bytes t.answers.items ++ text_answers text (client_message text)
     → IfSome a (λ h. map request_of u.accepted.items

@@ -2,7 +2,8 @@
 use Rattle.std.proofs.Common.{◌≡◌, ℕ, List, [], ◌∷◌, ◌++◌, map, Option, Some, None, refl, sym, ap, subst, ◌∙◌}
 use Rattle.std.proofs.Common.{append_assoc}
 use Rattle.rt_peer.specs.Peers.{Peer}
-use Rattle.rt_peer.specs.Runs.{Call, after_all, outcome, sent_all}
+use Rattle.rt_peer.specs.Runs.{Call}
+use Rattle.rt_hub.specs.Bounded.{after_bounded, bounded, sent_bounded}
 use Rattle.rt_hub.specs.declared.bounds.Bounds.{Bounds}
 use Rattle.rt_hub.specs.Hubs.{Hub}
 use Rattle.rt_hub.specs.Runs.{Asked, DoesAll, DoesOne, Next, OfPeer, Watched, given_all, given_by}
@@ -36,16 +37,16 @@ does_append a b c [] ys e h = subst (λ x. DoesAll x ys c) e h
 does_append a b c (x ∷ xs) ys (mid, one, rest) h = (mid, one, does_append mid b c xs ys rest h)
 
 pub after_made : (a b : Hub) (calls : List Call) → DoesAll a (map OfPeer calls) b
-    → b.peer ≡ after_all a.peer calls
+    → b.peer ≡ after_bounded a.peer calls
 after_made a b [] e = ap (λ h. h.peer) e
 after_made a b (call ∷ calls) (mid, one, rest) =
-    after_made mid b calls rest ∙ ap (λ p. after_all p calls) one.peer
+    after_made mid b calls rest ∙ ap (λ p. after_bounded p calls) one.peer
 
-pub sent-append : (p : Peer) (xs ys : List Call) → sent_all p (xs ++ ys) ≡ sent_all p xs ++ sent_all (after_all p xs) ys
+pub sent-append : (p : Peer) (xs ys : List Call) → sent_bounded p (xs ++ ys) ≡ sent_bounded p xs ++ sent_bounded (after_bounded p xs) ys
 sent-append p [] ys = refl
 sent-append p (x ∷ xs) ys =
-    ap (λ s. (outcome p x).1 ++ s) (sent-append (outcome p x).0 xs ys)
-    ∙ sym (append_assoc (outcome p x).1 (sent_all (outcome p x).0 xs) (sent_all (after_all (outcome p x).0 xs) ys))
+    ap (λ s. (bounded p x).1 ++ s) (sent-append (bounded p x).0 xs ys)
+    ∙ sym (append_assoc (bounded p x).1 (sent_bounded (bounded p x).0 xs) (sent_bounded (after_bounded (bounded p x).0 xs) ys))
 
 -- ---- what a connection sees
 

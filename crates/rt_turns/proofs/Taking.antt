@@ -5,7 +5,8 @@ use Rattle.std.specs.Prelude.{IfSome, OnOk}
 use Rattle.rt_wire.specs.declared.client.ClientMessage.{ClientMessage}
 use Rattle.rt_wire.specs.declared.error.WireError.{WireError}
 use Rattle.rt_peer.specs.Peers.{Peer}
-use Rattle.rt_peer.specs.Runs.{Message, outcome, sent_all}
+use Rattle.rt_peer.specs.Runs.{Message}
+use Rattle.rt_hub.specs.Bounded.{bounded, sent_bounded}
 use Rattle.rt_hub.specs.Hubs.{Hub, IsMade, IsTaken, TakesText, receivers, refused_as}
 use Rattle.rt_hub.specs.declared.hub.Taken.{Taken}
 use Rattle.rt_hub.specs.declared.hub.Taken.TheVariants.{Message as TookMessage, PassedOver}
@@ -39,9 +40,9 @@ accepted text (TookMessage verdict told) = accepted_as verdict text
 accepted text (PassedOver e) = []
 
 is_noted : (n : ℕ) (r : Result ClientMessage WireError) (p : Peer) (taken : Taken) → IsTaken p n r taken
-    → noted taken ≡ receivers (sent_all p (text_call n r))
+    → noted taken ≡ receivers (sent_bounded p (text_call n r))
 is_noted n (Ok m) p (TookMessage verdict told) h =
-    h.1 ∙ ap receivers (sym (append-nil (outcome p (Message n m)).1))
+    h.1 ∙ ap receivers (sym (append-nil (bounded p (Message n m)).1))
 is_noted n (Ok m) p (PassedOver e) h = absurd h
 is_noted n (Err w) p (TookMessage verdict told) h = absurd h
 is_noted n (Err w) p (PassedOver e) h = refl
@@ -56,7 +57,7 @@ is_accepted n text (Err w) p (PassedOver e) h = refl
 -- it comes behind what was noted before
 pub told_of : (n : ℕ) (r : Result ClientMessage WireError) (a : Option Hub) (taken : Taken) (t u : List ℕ)
     → IfSome a (λ h. IsTaken h.peer n r taken) → u ≡ t ++ noted taken
-    → IfSome a (λ h. u ≡ t ++ receivers (sent_all h.peer (text_call n r)))
+    → IfSome a (λ h. u ≡ t ++ receivers (sent_bounded h.peer (text_call n r)))
 told_of n r None taken t u h e = tt
 told_of n r (Some a) taken t u h e = e ∙ ap (λ l. t ++ l) (is_noted n r a.peer taken h)
 

@@ -6,7 +6,8 @@ use Rattle.rt_wire.specs.Client.{client_message}
 use Rattle.rt_wire.specs.declared.client.ClientMessage.{ClientMessage}
 use Rattle.rt_wire.specs.declared.error.WireError.{WireError}
 use Rattle.rt_peer.specs.Peers.{Peer}
-use Rattle.rt_peer.specs.Runs.{Call, Message, after_all, outcome, sent_all}
+use Rattle.rt_peer.specs.Runs.{Call, Message}
+use Rattle.rt_hub.specs.Bounded.{after_bounded, bounded, sent_bounded}
 use Rattle.rt_hub.specs.Hubs.{Hub, receivers}
 use Rattle.rt_hub.specs.Runs.{DoesAll, OfPeer}
 use Rattle.rt_hub.specs.Verdicts.{verdict_of}
@@ -62,7 +63,7 @@ accepted_as Is.NoRequest text = []
 
 -- a text of the connection, where it is a request that the peer accepts
 abbrev pub text_accepted : ℕ → Peer → List ℕ → Result ClientMessage WireError → List Request
-text_accepted n p text (Ok message) = accepted_as (verdict_of message (outcome p (Message n message)).1) text
+text_accepted n p text (Ok message) = accepted_as (verdict_of message (bounded p (Message n message)).1) text
 text_accepted n p text (Err why) = []
 
 abbrev pub given_accepted : ℕ → Peer → Option (List ℕ) → List Request
@@ -72,7 +73,7 @@ given_accepted n p (Some text) = text_accepted n p text (client_message text)
 -- of what a door gives, one after another
 abbrev pub all_accepted : ℕ → Peer → List (Option (List ℕ)) → List Request
 all_accepted n p [] = []
-all_accepted n p (g ∷ given) = given_accepted n p g ++ all_accepted n (after_all p (given_call n g)) given
+all_accepted n p (g ∷ given) = given_accepted n p g ++ all_accepted n (after_bounded p (given_call n g)) given
 
 -- ---- what is heard
 
@@ -80,7 +81,7 @@ all_accepted n p (g ∷ given) = given_accepted n p g ++ all_accepted n (after_a
 -- that were accepted, come behind
 pub record HasHeard (n : ℕ) (given : List (Option (List ℕ))) (old new : Hub) (was is : Notes) : Type 0 where
   pub made : DoesAll old (map OfPeer (calls_of n given)) new
-  pub told : is.told.items ≡ was.told.items ++ receivers (sent_all old.peer (calls_of n given))
+  pub told : is.told.items ≡ was.told.items ++ receivers (sent_bounded old.peer (calls_of n given))
   pub accepted : map request_of is.accepted.items
       ≡ map request_of was.accepted.items ++ all_accepted n old.peer given
 

@@ -5,7 +5,7 @@
 //! let mut notes = Notes::new(alloc);
 //! take_turn(alloc, &mut hub, &mut door, connection, 64, &mut notes, log)?; // takes 64 messages
 //! hand_over(&mut hub, &mut door, connection)?;                             // gives it what waits
-//! leave(&mut hub, connection, &mut notes.told)?;                           // it ends
+//! leave(&mut hub, connection, &mut notes.told)?;                           // a turn of its end
 //! ```
 //!
 //! The notes then have the connections to which something was sent, what this one is answered for requests
@@ -25,6 +25,6 @@ mod telling;
 pub use door::{Door, Flushed, Heard};
 pub use examples::{others_are_not_answered, refusals_say_why};
 pub use hand::{Handed, ROUNDS, hand_over};
-pub use leaving::leave;
+pub use leaving::{TURN_ACTIONS, leave};
 pub use notes::{Accepted, Notes};
 pub use take::{Turn, take_turn};

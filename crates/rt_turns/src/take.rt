@@ -2,7 +2,7 @@
 ghost use Rattle.std.specs.Prelude.{◌≡◌, ◌⊎◌, ◌++◌, ◌∷◌, [], map, string_bytes, Some, IfOk, IfErr, IfSome};
 ghost use Rattle.std.specs.Prelude.{OnOk};
 ghost use Rattle.rt_wire.specs.Client.{client_message};
-ghost use Rattle.rt_peer.specs.Runs.{sent_all};
+ghost use Rattle.rt_hub.specs.Bounded.{sent_bounded};
 ghost use Rattle.rt_hub.specs.Hubs.{receivers, refused_as};
 ghost use Rattle.rt_turns.specs.Refusing.{listed, refusal_of, text_answers};
 ghost use Rattle.rt_turns.specs.Turns.{AreMade, Hears, HearsTurn, IsNext, IsTurn, accepted_as, next_count};
@@ -109,7 +109,7 @@ fn take_text<L: Log>(
     ensures made { OnOk result
         (AreMade hub.old (text_call connection (client_message text.now)) hub.new) }
     ensures told { OnOk result (IfSome hub.old (λ h. notes.new.told.items ≡ notes.old.told.items
-        ++ receivers (sent_all h.peer (text_call connection (client_message text.now))))) }
+        ++ receivers (sent_bounded h.peer (text_call connection (client_message text.now))))) }
     ensures answered { OnOk result (map string_bytes notes.new.answers.items
         ≡ map string_bytes notes.old.answers.items ++ text_answers text.now (client_message text.now)) }
     ensures accepted { OnOk result (IfSome hub.old (λ h. map request_of notes.new.accepted.items

@@ -2,8 +2,9 @@
 use Rattle.std.specs.Prelude.{◌≡◌, ℕ, Bool, true, false, is_some, List, Option, Some, None}
 use Rattle.std.specs.Option.{option_map}
 use Rattle.rt_peer.specs.Peers.{Peer, is_known}
-use Rattle.rt_peer.specs.Runs.{Call, outcome}
+use Rattle.rt_peer.specs.Runs.{Call}
 use Rattle.rt_hub.specs.declared.bounds.Bounds.{Bounds}
+use Rattle.rt_hub.specs.Bounded.{bounded}
 use Rattle.rt_hub.specs.Hubs.{Hub, line_after}
 use Rattle.rt_hub.specs.Lines.{Line, line_of}
 
@@ -25,7 +26,7 @@ AreLinedOf (Some p) lines = AreLined p lines
 -- a peer's call is made, and each line is as it leaves it
 pub record DoesCall (bounds : Bounds) (old : Peer) (had : List (Option Line)) (call : Call) (new : Peer)
     (has : List (Option Line)) : Type 0 where
-  pub peer : new ≡ (outcome old call).0
+  pub peer : new ≡ (bounded old call).0
   pub lines : (n : ℕ) → line_of has n ≡ line_after bounds n old call (line_of had n)
   pub lined : AreLined new has
 

@@ -1,7 +1,7 @@
 -- Rows of lines that the prover computes: bounds of two texts and of five bytes.
-use Rattle.std.specs.Prelude.{◌≡◌, ◌≢◌, false, List, [], ◌∷◌, ℕ, Some, None, codes}
+use Rattle.std.specs.Prelude.{◌≡◌, ◌≢◌, false, List, [], ◌∷◌, ℕ, Option, Some, None, codes}
 use Rattle.rt_hub.specs.declared.bounds.Bounds.{Bounds}
-use Rattle.rt_hub.specs.Lines.{empty_line, line_of, over_line, with_texts}
+use Rattle.rt_hub.specs.Lines.{Line, empty_line, line_of, over_line, with_texts}
 
 abbrev pub small : Bounds
 small = record { messages = 2; bytes = 5 }
@@ -12,7 +12,7 @@ a = codes "a"
 abbrev pub bcde : List ℕ
 bcde = codes "bcde"
 
--- as many as may wait do, in the order in which they came, and not in another
+-- texts wait in the order in which they came, and not in another
 abbrev pub TextsWait : Type 0
 TextsWait =
     (with_texts small (a ∷ bcde ∷ []) (Some empty_line)
@@ -20,13 +20,24 @@ TextsWait =
     × (with_texts small (a ∷ bcde ∷ []) (Some empty_line)
     ≢ Some (record { waiting = bcde ∷ a ∷ []; is_over = false }))
 
--- with one text more the line is over, and nothing waits
-abbrev pub TextsEnd : Type 0
-TextsEnd = with_texts small (a ∷ a ∷ a ∷ []) (Some empty_line) ≡ Some over_line
+-- a line in which these wait
+abbrev pub holding : List (List ℕ) → Option Line
+holding texts = Some (record { waiting = texts; is_over = false })
 
--- so it is with one byte more
+-- where as many texts wait as may, the line is over with one more, and nothing waits; where one fewer waits,
+-- all come behind it, however many they are
+abbrev pub TextsEnd : Type 0
+TextsEnd =
+    (with_texts small (a ∷ []) (holding (a ∷ a ∷ [])) ≡ Some over_line)
+    × (with_texts small (a ∷ a ∷ a ∷ []) (holding (a ∷ [])) ≡ holding (a ∷ a ∷ a ∷ a ∷ []))
+    × (with_texts small (a ∷ a ∷ a ∷ []) (holding (a ∷ [])) ≢ Some over_line)
+
+-- so it is with bytes; and a call that tells it nothing leaves a line as it is
 abbrev pub BytesEnd : Type 0
-BytesEnd = with_texts small (bcde ∷ (codes "fg") ∷ []) (Some empty_line) ≡ Some over_line
+BytesEnd =
+    (with_texts small (a ∷ []) (holding (codes "abcde" ∷ [])) ≡ Some over_line)
+    × (with_texts small (bcde ∷ []) (holding (bcde ∷ [])) ≡ holding (bcde ∷ bcde ∷ []))
+    × (with_texts small [] (holding (codes "abcde" ∷ [])) ≡ holding (codes "abcde" ∷ []))
 
 -- a line that is over stays so, and there is no line where there was none
 abbrev pub StaysOver : Type 0

@@ -6,7 +6,8 @@ use Rattle.rt_wire.specs.declared.client.ClientMessage.{ClientMessage}
 use Rattle.rt_wire.specs.declared.client.ClientMessage.TheVariants.{Hello, Listen, Unlisten, Ask}
 use Rattle.rt_peer.specs.Peers.{Peer, is_denied, is_known}
 use Rattle.rt_peer.specs.Calls.{entries_of, refusal}
-use Rattle.rt_peer.specs.Runs.{Message, outcome}
+use Rattle.rt_peer.specs.Runs.{Message}
+use Rattle.rt_hub.specs.Bounded.{bounded, surplus}
 use Rattle.rt_hub.specs.declared.verdict.Verdict.{Verdict}
 use Rattle.rt_hub.specs.declared.verdict.Verdict.TheVariants.{Accepted, Refused, NoRequest}
 use Rattle.rt_hub.specs.declared.verdict.When.{When}
@@ -27,14 +28,22 @@ judged p (Ask id (Asks.Now action)) = unless_why Now (refusal p.denied (entries_
 judged p (Ask id (Asks.AtDisconnect (Run action))) = unless_why AtEnd (refusal p.denied (entries_of action))
 judged p (Ask id (Asks.AtDisconnect (Cancel path))) = if is_denied p.denied path then Refused else Accepted AtEnd
 
+-- one of a request too many for the end is refused
+abbrev pub judged_unless : Option ℕ → Peer → ClientMessage → Verdict
+judged_unless None p message = judged p message
+judged_unless (Some id) p message = Refused
+
+abbrev pub judged_in : Peer → ℕ → ClientMessage → Verdict
+judged_in p n message = judged_unless (surplus p n message) p message
+
 -- what is sent for a message of a known connection says so
 abbrev pub RequestsAreJudged : Type 0
 RequestsAreJudged =
     (p : Peer) (n : ℕ) (message : ClientMessage) → is_known p.connections n ≡ true
-    → verdict_of message (outcome p (Message n message)).1 ≡ judged p message
+    → verdict_of message (bounded p (Message n message)).1 ≡ judged_in p n message
 
 -- and what is refused leaves the peer as it was
 abbrev pub RefusedChangesNothing : Type 0
 RefusedChangesNothing =
-    (p : Peer) (n : ℕ) (message : ClientMessage) → judged p message ≡ Refused
-    → (outcome p (Message n message)).0 ≡ p
+    (p : Peer) (n : ℕ) (message : ClientMessage) → judged_in p n message ≡ Refused
+    → (bounded p (Message n message)).0 ≡ p

@@ -1,8 +1,12 @@
-use Rattle.rt_hub.proofs.Done.{put_more}
+use Rattle.std.proofs.Common.{ap, ◌∙◌}
+use Rattle.rt_hub.specs.Lines.{line_of, texts_to}
+use Rattle.rt_hub.proofs.Done.{checked_then_put, on_ok, puts}
 use Rattle.rt_hub.proofs.lines.put_all.Goals as goal
 
-pub loop-one-preserved : goal.loop-one-preserved
-loop-one-preserved c =
-    put_more c.args.bounds c.args.lines.now.items c.loop-one.lines.items c.put_one.new.lines.items
-    c.args.sent.now c.loop-one.one-index c.one-item.result c.loop-one-test.true c.one-item.is
-    c.loop-one.invariant c.in_ok-put_one.ensures
+pub returns : goal.returns
+returns c =
+    on_ok c.put_each.result
+    (λ put n.
+    put n ∙ ap (puts (texts_to n c.args.sent.now)) (c.check_all.ensures n)
+    ∙ checked_then_put c.args.bounds (texts_to n c.args.sent.now) (line_of c.args.lines.now.items n))
+    c.put_each.ensures

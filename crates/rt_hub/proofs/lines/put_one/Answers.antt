@@ -11,7 +11,7 @@ returns-in-Some-index_mut c =
     let new = set items place (Some c.put.new.self) in
     on_ok c.put.result
     (λ e.
-    put_here c.args.bounds items new one one.to (Some c.in-Some-index_mut.line) refl
+    put_here items new one one.to (Some c.in-Some-index_mut.line) refl
     (line_at items one.to place c.index_mut.result.now c.in-Some.ensures.here.0 c.in-Some.ensures.here.1
     c.index_mut.ensures.value ∙ c.in-Some-index_mut.is)
     (subst (λ l. IsChanged one.to l items new) (ap Some e)
@@ -24,7 +24,7 @@ returns-in-None c =
     let one = c.args.one.now in
     let place = c.in-Some.place in
     let new = set items place c.index_mut.result.now in
-    put_here c.args.bounds items new one one.to None refl
+    put_here items new one one.to None refl
     (line_at items one.to place c.index_mut.result.now c.in-Some.ensures.here.0 c.in-Some.ensures.here.1
     c.index_mut.ensures.value ∙ c.in-None.is)
     (subst (λ l. IsChanged one.to l items new) c.in-None.is

@@ -8,3 +8,4 @@ invariant-loop-connection l =
     (l.self-inside.lines.items ++ flat_map (λ n. line_of (n, None)) (drop l.connection-index l.left)
     ≡ l.fn.self.lines ++ flat_map (λ n. line_of (n, None)) l.left)
     × (l.self-inside.kept ≡ l.initial.self-inside.kept)
+    × (l.self-inside.ending ≡ l.initial.self-inside.ending)
