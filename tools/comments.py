@@ -16,7 +16,7 @@ from bodies import read
 ROOT = os.path.realpath(f"{os.path.dirname(os.path.realpath(__file__))}/..")
 WORDS = "// For the prover:"
 LAW = re.compile(r"\s*(?:\w+::)*\w+_laws?(?:::<.*>)?\(\);")
-ACTING = "cross_ahead cross_back flush pass_over_writes stop".split()
+ACTING = "cross_ahead cross_back flush pass_over_writes say_left_out stop".split()
 ASKED = re.compile(rf"\s*let _\w* = [\w.]+(?:\.\w+\(\))*\.(?!(?:{'|'.join(ACTING)})\()\w+\(\);")
 HEAD = re.compile(r"\s*(?:pub(?:\(\w+\))? )?fn \w+")
 ALONE = re.compile(r"\s*[\w.:]+(?:::<.*>)?\(\);")  # a call whose value nobody takes

@@ -1,11 +1,11 @@
 #!/usr/bin/env python3
-"""Runs emulate with an input that is held open, so that SIGINT, SIGTERM and SIGHUP end it as the end of its input does: all connections are ended,
-and what they asked for at their end is done. The program itself can take no signal.
+"""Runs emulate with an input that is held open, so that SIGINT, SIGTERM and SIGHUP end it cleanly: all connections are ended, and what they asked
+for at their end is done. The program itself can take no signal: it is given --until-eof, and its input ends then.
 
 Usage: tools/held.py PROGRAM WORD ..
 
-It ends with this process's own input, too, but with the word --no-input, which the program is not given. A second signal kills it, and so does the
-end of this process. The status is the program's.
+The end of this process's own input ends it only with the word --until-eof. A second signal kills it, and so does the end of this process. The
+status is the program's.
 """
 import ctypes
 import os
@@ -14,7 +14,7 @@ import subprocess
 import sys
 import threading
 
-NO_INPUT, DEATH = "--no-input", 1  # the latter is prctl's PR_SET_PDEATHSIG
+UNTIL_EOF, DEATH = "--until-eof", 1  # the latter is prctl's PR_SET_PDEATHSIG
 SIGNALS = (signal.SIGINT, signal.SIGTERM, signal.SIGHUP)
 
 
@@ -59,7 +59,7 @@ def run(words):
     heard = [it for it in SIGNALS if signal.getsignal(it) != signal.SIG_IGN]  # nohup has one passed over
     for it in heard:
         signal.signal(it, lambda number, _: asked.append(number))
-    program = subprocess.Popen([it for it in words if it != NO_INPUT], stdin=theirs, preexec_fn=lambda: prepare(parent))
+    program = subprocess.Popen([*words, *([] if UNTIL_EOF in words else [UNTIL_EOF])], stdin=theirs, preexec_fn=lambda: prepare(parent))
     os.close(theirs)
 
     def end(number, _):
@@ -70,7 +70,7 @@ def run(words):
         signal.signal(it, end)
     if asked:
         held.close()
-    if NO_INPUT not in words:
+    if UNTIL_EOF in words:
         threading.Thread(target=passed_on, args=(held,), daemon=True).start()
     status = program.wait()
     return status if status >= 0 else 128 - status

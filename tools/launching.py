@@ -159,6 +159,7 @@ def wrong_of(copy, script, out):
         terminal_runs(runs)
         held_runs(runs, script)
         newer_runs(runs)
+        new_runs(runs)
         together_run(runs)
         other_runs(runs, script)
         build_runs(runs)
@@ -216,7 +217,8 @@ def kept_runs(runs, script):
     runs.holds("the first run does not make the program once", runs.calls() == ["try"])
     runs.says("the second run", ["watch", "8080"], script, 1, b"8080\n" + script, "a fault", environment=runs.fails)
     runs.says("its version", ["--version"], b"", 0, version_of(runs, "a stand-in for the toolchain", "program: unproved, until './kaltewi build' has proved it\n"))
-    runs.says("a run that ends with its input", ["emulate", "8080"], b"", 0, b"8080\n", "a fault", environment=runs.fails)
+    words = ["emulate", "8080", "--until-eof"]
+    runs.says("a run that ends with its input", words, b"", 0, b"--until-eof\n", "a fault", environment=runs.fails)
     ours, theirs = pty.openpty()
     typed = runs.begun("script", stdin=theirs)
     os.write(ours, b"typed\n\4")
@@ -255,10 +257,10 @@ def terminal_runs(runs):
 
 
 def held_runs(runs, script):
-    """What serves many ends cleanly at a signal, as at the end of its input; with --no-input at a signal alone."""
-    for words, number in ((["emulate", "8080"], signal.SIGTERM), (["emulate", "--no-input", "8080"], signal.SIGINT)):
+    """What serves many ends cleanly at a signal, and goes on where its input has ended; with --until-eof the end of its input ends it too."""
+    for words, number in ((["emulate", "--until-eof", "8080"], signal.SIGTERM), (["emulate", "8080"], signal.SIGINT)):
         ours, theirs = os.pipe()
-        is_held = "--no-input" not in words
+        is_held = "--until-eof" in words
         one = runs.begun(*words, stdin=ours if is_held else subprocess.DEVNULL)
         os.close(ours)
         first = one.stdout.readline()
@@ -266,9 +268,10 @@ def held_runs(runs, script):
         runs.holds(f"{' '.join(words)} ends by itself", one.poll() is None)
         one.send_signal(number)
         out, err = one.communicate(timeout=60)
-        runs.judge(f"{' '.join(words)} at a signal", (one.returncode, first + out, err), (0, b"8080\n"), ["a fault"])
+        last = b"8080\n" if is_held else b"--until-eof\n"  # which it is given as its last word
+        runs.judge(f"{' '.join(words)} at a signal", (one.returncode, first + out, err), (0, last), ["a fault"])
         os.close(theirs)
-    runs.says("its input", ["emulate", "8080"], script, 0, b"8080\n", "a fault", environment=runs.fails)
+    runs.says("its input", ["emulate", "8080", "--until-eof"], script, 0, b"--until-eof\n", "a fault", environment=runs.fails)
 
 
 def newer_runs(runs):
@@ -280,6 +283,31 @@ def newer_runs(runs):
     runs.says("another crate is new", ["script"], b"", 0, b"script\n", "a fault", environment=runs.fails)
     os.utime(own)
     runs.says("a source is newer", ["script"], b"", 0, b"script\n", UNPROVED, MADE, "a fault", environment=runs.stand_in)
+
+
+def new_runs(runs):
+    """A crate of a program is made by its name, once: the text of examples/start, and a line of crates.txt. A name that is none, or is taken, is refused."""
+    lines = read(f"{runs.copy}/crates.txt")
+    for name in ("", "Notes", "9a", "a-b", "a b", "a\nb", "../a"):
+        runs.says(f"a crate named {name!r}", ["new", name], b"", 2, b"", *["" for _ in name.split("\n")[1:]], "is no name of a crate", environment=runs.fails)
+    for words in (["new"], ["new", "a", "b"]):
+        runs.says(" ".join(words), words, b"", 2, b"", "takes the name of a crate, and no other word", environment=runs.fails)
+    os.mkdir(f"{runs.copy}/crates/begun")
+    taken = ("rt_tree", "crates.txt has a line"), ("notes", "crates.txt has a line"), ("begun", "the folder crates/begun is there"), ("json", "the toolchain has a library")
+    for name, why in taken:
+        runs.says(f"a crate named {name}", ["new", name], b"", 1, b"", why, environment=runs.stand_in)
+    os.rmdir(f"{runs.copy}/crates/begun")
+    runs.holds("a crate that is refused has a line", read(f"{runs.copy}/crates.txt") == lines)
+    runs.says("a new crate", ["new", "first_2"], b"", 0, b"", "crates/first_2/src/main.rt is made", environment=runs.stand_in)
+    made, start = f"{runs.copy}/crates/first_2", f"{runs.copy}/examples/start"
+    found = sorted(os.path.relpath(f"{at}/{it}", made) for at, _, names in os.walk(made) for it in names)
+    runs.holds(f"a new crate has {found}", found == ["src/main.rt", "status"] and read(f"{made}/src/main.rt") == read(f"{start}/main.rt.txt"))
+    line = re.search(r"(?m)^example_start\b(.*)$", read(f"{runs.copy}/examples/lines.txt"))
+    runs.holds("a new crate has another line", read(f"{runs.copy}/crates.txt") == f"{lines}first_2{line and line[1]}\n")
+    runs.says("a crate that is new no more", ["new", "first_2"], b"", 1, b"", "crates.txt has a line", environment=runs.stand_in)
+    runs.says("a new crate costs the program nothing", ["script"], b"", 0, b"script\n", "a fault", environment=runs.fails)
+    shutil.rmtree(made)
+    write(f"{runs.copy}/crates.txt", lines)
 
 
 def together_run(runs):
@@ -311,7 +339,8 @@ def other_runs(runs, script):
     lines, how = (UNPROVED, "the program can't be kept"), {"environment": runs.other}
     runs.says("a program that can't be kept", ["script"], script, 1, b"script\n" + script, *lines, "a fault", **how)
     runs.says("it, without lines", ["serve", "8080"], script, 1, b"8080\n", *lines, "a fault", **how)
-    runs.says("it, which ends with its input", ["emulate", "8080"], script, 1, b"--no-input\n", *lines, "it goes on when its input ends", "a fault", **how)
+    runs.says("it, which goes on", ["emulate", "8080"], script, 1, b"8080\n", *lines, "is not shown while it runs", "a fault", **how)
+    runs.says("it, which can't end with its input", ["emulate", "8080", "--until-eof"], script, 1, b"", *lines, "can't be asked for", **how)
     ours, theirs = pty.openpty()
     runs.says("it, typed lines", ["script"], theirs, 1, b"", *lines, "can't be typed", **how)
     os.close(ours)

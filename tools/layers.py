@@ -21,11 +21,11 @@ LAYERS = {
     "parts of a core": "rt_writes rt_cache rt_forms rt_cover rt_view",
     "messages": "rt_wire",
     "core": "rt_world rt_parts rt_sync",
-    "client": "rt_mail rt_snapshots rt_client",
+    "client": "rt_mail rt_client",
     "server": "rt_peer rt_hub rt_turns",
     "sockets": "rt_socket rt_serve rt_link rt_journal rt_emulate",
     "console": "rt_lines rt_script rt_drive rt_watch rt_words rt_commands rt_console",
-    "other languages": "rt_handle rt_foreign rt_ffi",
+    "other languages": "rt_foreign rt_ffi",
     "door and tests": "kaltewi rt_tests rt_calls rt_stress",
 }  # lowest first
 LEFT, RIGHT, WIDE, ROW, BOX, PER_LETTER, GAP, TURN = 130, 850, 930, 44, 28, 7.4, 8, 22

@@ -74,7 +74,7 @@ CALLS_OF = {
     "low": ("rt_map", "rt_tree", "rt_order", "rt_links", "rt_store"),
     "mid": ("rt_query", "rt_writes", "rt_cache", "rt_forms", "rt_cover"),
     "high": ("rt_view", "rt_wire", "rt_world", "rt_parts", "rt_sync"),
-    "mail": ("rt_mail", "rt_snapshots"),
+    "mail": ("rt_mail",),
     "client": ("rt_client", "rt_push"),
     "peer": ("rt_peer", "rt_hub", "rt_turns"),
 }

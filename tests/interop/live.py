@@ -56,7 +56,7 @@ class Live:
         with socket.socket() as it:
             it.bind(("127.0.0.1", 0))
             port = str(it.getsockname()[1])
-        all_ = [Spoken(program, "emulate", port, "--quiet")]
+        all_ = [Spoken(program, "emulate", port, "--until-eof", "--quiet")]
         end = threading.Timer(SECONDS, lambda: [it.stop() for it in all_])
         end.start()
         try:

@@ -43,7 +43,7 @@ const port = await new Promise(resolve => {
 const db = `ws://127.0.0.1:${port}/`, at = `http://127.0.0.1:${pages.address().port}`;
 let emulate;
 async function start() {
-    const words = ["emulate", String(port), "--file", `${room}/tree.json`, "--deny", "/secret", "--no-input"];
+    const words = ["emulate", String(port), "--file", `${room}/tree.json`, "--deny", "/secret"];
     emulate = spawn(EMULATE, words, { stdio: ["ignore", "ignore", "pipe"], detached: true });
     let said = "";
     emulate.stderr.on("data", it => { said += it; });

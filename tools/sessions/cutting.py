@@ -95,15 +95,15 @@ def begun(words, lines, environment):
 class Saying(threading.Thread):
     """Reads what a program says on standard error to its end, so that it never waits for this, and hears that it listens at a port."""
 
-    def __init__(self, stream, port):
+    def __init__(self, stream, port, at="127.0.0.1"):
         super().__init__(daemon=True)
-        self.stream, self.first = stream, b"kaltewi: listening on 127.0.0.1:%d\n" % port
+        self.stream, self.first = stream, f"listening on {at}:{port}\n".encode()
         self.lines, self.listens, self.is_known = [], False, threading.Event()
 
     def run(self):
         with self.stream:
             for line in self.stream:
-                if line == self.first:
+                if line.startswith(b"kaltewi: ") and line.endswith(self.first):
                     self.listens = True
                     self.is_known.set()
                 else:

@@ -1,11 +1,14 @@
 """What ./check asks of `emulate`: many clients at once, what each is sent, who is ended and why, and the tree's file."""
+import calendar
 import json
 import os
+import re
 import resource
 import signal
 import socket
 import struct
 import subprocess
+import sys
 import tempfile
 import threading
 import time
@@ -21,10 +24,14 @@ LISTEN = {"k": "listen", "path": "/a", "tag": 1}
 MOST = 16_777_216  # the bytes that may wait for a connection, and those of a message
 
 
-class Emulator:
-    """A program that emulates, once it says that it listens. Its standard input is open until `end`."""
+HELD = os.path.join(os.path.dirname(os.path.dirname(os.path.realpath(__file__))), "held.py")
 
-    def __init__(self, program, *words, files=None):
+
+class Emulator:
+    """A program that emulates, once it says that it listens. Its standard input is open until `end`, which ends it. One that is told by a signal to
+    stop has no input, and is begun as ./kaltewi begins it."""
+
+    def __init__(self, program, *words, files=None, by_signal=False, at="127.0.0.1"):
         self.port = free_port()
 
         def begin():
@@ -32,9 +39,11 @@ class Emulator:
             if files:
                 resource.setrlimit(resource.RLIMIT_NOFILE, (files, files))
 
-        pipes = {"stdin": subprocess.PIPE, "stdout": subprocess.PIPE, "stderr": subprocess.PIPE}
-        self.ran = subprocess.Popen([program, "emulate", str(self.port), *words], preexec_fn=begin, **pipes)
-        self.saying, self.ran.stderr = Saying(self.ran.stderr, self.port), None
+        pipes = {"stdin": subprocess.DEVNULL if by_signal else subprocess.PIPE, "stdout": subprocess.PIPE, "stderr": subprocess.PIPE}
+        how = [sys.executable, "-B", HELD, program] if by_signal else [program]
+        end = [] if by_signal else ["--until-eof"]
+        self.ran = subprocess.Popen([*how, "emulate", str(self.port), *end, *words], preexec_fn=begin, **pipes)
+        self.saying, self.ran.stderr = Saying(self.ran.stderr, self.port, at), None
         self.saying.start()
         self.listens = self.saying.is_known.wait(SECONDS) and self.saying.listens
 
@@ -279,6 +288,28 @@ def origins_are_asked_for(program, _room):
 OTHER_PROTOCOL = "a Firebase SDK speaks another protocol than this server, which speaks that of docs/FORMATS.md"
 
 
+def has_ipv6():
+    """Whether this machine has the address ::1."""
+    try:
+        with socket.socket(socket.AF_INET6) as it:
+            it.bind(("::1", 0))
+        return True
+    except OSError:
+        return False
+
+
+def it_listens_at_other_addresses(program, _room):
+    """At another address it serves too, also of IPv6, and says what that means; who may connect is as ever."""
+    for host, warns in ((("::1", False),) if has_ipv6() else ()) + (("0.0.0.0", True), ("127.0.0.2", False)):
+        with Emulator(program, "--host", host, at=f"[{host}]" if ":" in host else host) as it:
+            with socket.create_connection(("127.0.0.1" if warns else host, it.port), timeout=SECONDS) as stream:
+                must(f"a page of this machine at {host}", answered(stream, "http://localhost:3000"), b"HTTP/1.1 101")
+            with socket.create_connection(("127.0.0.1" if warns else host, it.port), timeout=SECONDS) as stream:
+                must(f"a page of another machine at {host}", answered(stream, "http://evil.example"), b"HTTP/1.1 403")
+            must("how it ends", it.end(), (0, b""))
+        must(f"whether it warns at {host}", any("there is no login, and no TLS" in line for line in it.told()), warns)
+
+
 def sdks_are_refused(program, _room):
     """The handshake of a Firebase SDK is refused at once, with one line that says why; another at the same path is not."""
     sdks = ["/.ws?v=5&ns=demo-default-rtdb", "/.ws?ls=ab&p=1:2:web:3&v=5", "/.ws?ns=demo"]
@@ -333,6 +364,51 @@ def asked(client, message):
     """Sends a message, and answers the next text."""
     say(client, message)
     return client.text()
+
+
+def too_many_listens_are_refused(program, _room, most=131_072):
+    """A client with one listen more than it may have is told so by a close with 1008 and a reason, and others go on."""
+    with Emulator(program) as it:
+        greedy, other = Client(it.port), Client(it.port)
+        asks = [compact({"k": "listen", "path": "/a", "tag": n + 1}) for n in range(most + 1)]
+        asking = threading.Thread(target=greedy.send_all, args=(asks,))
+        asking.start()
+        told = greedy.stream.read()
+        asking.join(SECONDS)
+        must("how it is told", told[-28:], b"\x88\x1a\x03\xf0more than 131072 listens")
+        must("how many listens are answered before", told.count(b'"k":"data"'), most)
+        it.tells("connection 1 ends: it has more than 131072 listens; it is closed with 1008")
+        must("another's write then", asked(other, put(1, "/a", 1)), ok(1))
+        must("how it ends", it.end(), (0, b""))
+
+
+def ends_take_turns(program, _room, count=30_000):
+    """What a client asked for its end is done in turns and in order: others are served between, and one that reads it all is not too slow."""
+    with Emulator(program) as it:
+        goes, hears, other = Client(it.port), Client(it.port), Client(it.port)
+        must("a listen", hears.ask(LISTEN, 1), [data("/a", None)])
+        asking = threading.Thread(target=goes.send_all, args=([compact({**put(n + 1, f"/a/k{n}", n), "k": "od-put"}) for n in range(count)],))
+        asking.start()
+        for number in range(1, count + 1):
+            must("what is asked for the end", goes.text(), ok(number))
+        asking.join(SECONDS)
+        heard = []
+
+        def hear():
+            heard.extend(hears.text() for _ in range(count))
+
+        hearing, worst, asks = threading.Thread(target=hear, daemon=True), 0, 0
+        hearing.start()
+        resets(goes)
+        while hearing.is_alive() and asks < 10_000:
+            begun, asks = time.monotonic(), asks + 1
+            must("an answer beside an end", asked(other, put(asks, "/b", asks)), ok(asks))
+            worst = max(worst, time.monotonic() - begun)
+        hearing.join(SECONDS)
+        must("what a listener is sent of the end", heard == [data(f"/a/k{n}", n) for n in range(count)], True)
+        if worst > 0.5:
+            raise Wrong(f"an end held another up for {worst:.1f} s")
+        must("how it ends", it.end(), (0, b""))
 
 
 def floods_hold_nobody_up(program, _room):
@@ -442,22 +518,89 @@ def tree_in(file):
         return json.load(it)
 
 
+LINE = re.compile(r"kaltewi: \d{4}-\d\d-\d\dT\d\d:\d\d:\d\dZ \[(all|connections|faults)\] (.+)\n")
+
+
+def lines_have_one_form(program, _room):
+    """Each line has the time, its level and what is said."""
+    begun = time.time()
+    with Emulator(program, "--host", "0.0.0.0", at="0.0.0.0") as it:
+        client = Client(it.port)
+        client.frame(TEXT, b"x")
+        must("a write", asked(client, put(1, "/a", 1)), ok(1))
+        must("how it ends", it.end(), (0, b""))
+    found = [LINE.fullmatch(line.decode()) for line in it.saying.lines]
+    must("lines of another form", [line for line, is_one in zip(it.saying.lines, found) if not is_one], [])
+    levels = {"whoever reaches": "faults", "connection 1 begins": "connections", "connection 1: ": "all", "connection 1 ends": "connections"}
+    for start, level in levels.items():
+        must(f"the level of {start!r}", {one[1] for one in found if one[2].startswith(start)}, {level})
+    for line in it.saying.lines:
+        said = calendar.timegm(time.strptime(line[9:29].decode(), "%Y-%m-%dT%H:%M:%SZ"))
+        must("whether the time is right", begun - 2 <= said <= time.time() + 2, True)
+
+
+def levels_are_chosen(program, _room):
+    """--log says which lines there are, whether or not --quiet or --verbose stands beside it."""
+    words = {
+        ("--log", "all", "--quiet"): {"all", "connections"},
+        ("--log", "connections", "--verbose"): {"connections"},
+        ("--verbose",): {"all", "connections"},
+    }
+    for levels, wanted in words.items():
+        with Emulator(program, *levels) as it:
+            must("a write", asked(Client(it.port), put(1, "/a", 1)), ok(1))
+            must("how it ends", it.end(), (0, b""))
+        must(f"the levels with {levels}", {LINE.fullmatch(line.decode())[1] for line in it.saying.lines}, wanted)
+    for levels, said in ((("faults",), 1), (("none",), 0), (("none", "--verbose"), 0)):
+        words = [program, "emulate", str(free_port()), "--host", "0.0.0.0", "--until-eof", "--log", *levels]
+        ran = subprocess.run(words, stdin=subprocess.DEVNULL, capture_output=True, timeout=SECONDS)
+        must(f"what is said with --log {levels}", (ran.returncode, ran.stderr.count(b"[faults] whoever reaches"), ran.stderr.count(b"\n")), (0, said, said))
+
+
+def nobody_has_to_read_what_is_said(program, _room, writes=60_000):
+    """Where nobody reads standard error all are served as ever; the lines that were left out are counted, and it ends."""
+    ours, theirs = os.pipe()
+    port = free_port()
+    ran = subprocess.Popen([program, "emulate", str(port), "--until-eof"], stdin=subprocess.PIPE, stdout=subprocess.DEVNULL, stderr=theirs)
+    os.close(theirs)
+    try:
+        while True:
+            try:
+                client = Client(port)
+                break
+            except OSError:
+                time.sleep(0.02)
+        worst, filler = 0, "y" * 60
+        for first in range(0, writes, 100):
+            begun = time.monotonic()
+            client.send_all([compact(put(first + n + 1, "/a", filler)) for n in range(100)])
+            for n in range(100):
+                must("an answer", client.text(), ok(first + n + 1))
+            worst = max(worst, time.monotonic() - begun)
+        if worst > 2:
+            raise Wrong(f"lines that nobody reads held a client up for {worst:.1f} s")
+        with open(ours, "rb", closefd=False) as said:
+            for line in said:
+                if b"lines are left out" in line:
+                    break
+            else:
+                raise Wrong("it says of no line that it is left out")
+        ran.stdin.close()
+        must("how it ends", ran.wait(SECONDS), 0)
+    finally:
+        os.close(ours)
+        ran.stdin = None
+        stop(ran)
+
+
 def it_ends(program, _room):
-    """It ends with so many that have gone, also where its input has ended, by a signal, and where its port is taken; --quiet says nothing."""
+    """It ends with so many that have gone, and where its port is taken; the program itself can take no signal; --quiet says nothing."""
     with Emulator(program, "--count", "2") as it:
         clients = [Client(it.port) for _ in range(3)]
         for client in clients[:2]:
             must("a close", client.close(), CLOSED)
         must("how it ends", it.ended(), (0, b""))
         must("what the third is sent", clients[2].stream.read(), b"\x88\x02\x03\xe9")
-    with Emulator(program, "--no-input", "--count", "1") as it:
-        it.ran.stdin.close()
-        it.ran.stdin = None
-        time.sleep(0.2)
-        client = Client(it.port)
-        must("a write once the input has ended", asked(client, put(1, "/a", 1)), ok(1))
-        must("a close", client.close(), CLOSED)
-        must("how it ends", it.ended(), (0, b""))
     with Emulator(program) as it:
         it.ran.send_signal(signal.SIGINT)
         must("how it ends by a signal", it.ended(), (-signal.SIGINT, b""))
@@ -467,6 +610,23 @@ def it_ends(program, _room):
         ran = subprocess.run(words, stdin=subprocess.DEVNULL, capture_output=True, timeout=SECONDS)
     wanted = f"kaltewi: port {port} can't be bound: Address already in use (os error 98)\n".encode()
     must("a port that is taken", (ran.returncode, ran.stdout, ran.stderr), (1, b"", wanted))
+
+
+def it_serves_until_told(program, _room):
+    """Where its input has ended it goes on, and a signal ends it cleanly; with --until-eof the end of its input does that too."""
+    for number in (signal.SIGTERM, signal.SIGINT):
+        with Emulator(program, by_signal=True) as it:
+            time.sleep(0.2)
+            client, other = Client(it.port), Client(it.port)
+            must("a listen", other.ask(LISTEN, 1), [data("/a", None)])
+            must("a write once the input has ended", asked(client, put(1, "/a", 1)), ok(1))
+            must("what the other is sent", other.text(), data("/a", 1))
+            it.ran.send_signal(number)
+            must("what one is sent then", client.stream.read(), b"\x88\x02\x03\xe9")
+            must(f"how it ends at the signal {number}", it.ended(), (0, b""))
+    words = [program, "emulate", str(free_port()), "--until-eof"]
+    ran = subprocess.run(words, stdin=subprocess.DEVNULL, capture_output=True, timeout=SECONDS)
+    must("one that is to end with its input, which has ended", (ran.returncode, ran.stdout), (0, b""))
 
 
 def all_see_the_same(program, _room, count=3, writes=1_000):
@@ -544,13 +704,20 @@ SESSIONS = [
     versions_are_kept_apart,
     broken_ones_are_told_why,
     origins_are_asked_for,
+    it_listens_at_other_addresses,
     sdks_are_refused,
     writers_that_go_are_heard,
     slow_ones_are_ended,
+    too_many_listens_are_refused,
+    ends_take_turns,
     floods_hold_nobody_up,
     descriptors_come_back,
     file_is_kept,
+    lines_have_one_form,
+    levels_are_chosen,
+    nobody_has_to_read_what_is_said,
     it_ends,
+    it_serves_until_told,
     all_see_the_same,
     connects_see_each_other,
     thousand_clients,

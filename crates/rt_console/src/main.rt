@@ -7,7 +7,7 @@ mod arguments;
 use rt_commands::{
     Asked, ConnectFault, PROGRAM, Serving, Work, connect, explain, read_words, run_logged, serve,
 };
-use rt_emulate::{EmulateFault, Emulating, Emulator, Stopper};
+use rt_emulate::{Diary, EmulateFault, Emulating, Emulator, Level, Pen, Stopper};
 use rt_input::{ConsoleError, Fault, Log, Reading, Silent, Telling, Writing};
 use rt_watch::{WatchFault, Watching, watch};
 use std::alloc::Global;
@@ -69,30 +69,37 @@ fn stop_at_end<R: Threads>(
     }
 }
 
-// Serves a tree to many clients at once.
-fn emulate<R: Net + Wait + Threads, L: Log>(
+// Serves a tree to many clients at once. What it says stands in the diary, and is written by the pen.
+fn emulate<R: Net + Wait + Threads>(
     rt: &R,
     system: &HostRuntime,
     emulating: Emulating,
     ends_with_input: bool,
-    log: &mut L,
+    diary: &mut Diary,
+    pen: &Pen,
 ) -> Result<(), EmulateFault> {
-    let emulator = Emulator::open(rt, system, emulating, log)?;
+    let emulator = Emulator::open(rt, system, emulating, diary)?;
     if ends_with_input {
         stop_at_end(rt, system, emulator.stopper()?)?;
     }
-    emulator.run(rt, system, log)
+    emulator.run(rt, system, diary, pen)
 }
 
 // Serves a tree to many clients at once, and answers the exit status.
-fn status_of_emulating<R: Net + Wait + Threads, L: Log>(
+fn status_of_emulating<R: Net + Wait + Threads + Clock + Clone + Drop + Send + 'static>(
     rt: &R,
     system: &HostRuntime,
     emulating: Emulating,
     ends_with_input: bool,
-    log: &mut L,
+    level: Level,
 ) -> u8 {
-    match emulate(rt, system, emulating, ends_with_input, log) {
+    let Ok(pen) = Pen::begin(rt, system.alloc(), system.stderr()) else {
+        return say_fault(system, &EmulateFault::NoMemory);
+    };
+    let mut diary = Diary::begin(system, level);
+    let served = emulate(rt, system, emulating, ends_with_input, &mut diary, &pen);
+    pen.end(rt, &mut diary);
+    match served {
         Ok(()) => 0,
         Err(fault) => say_fault(system, &fault),
     }
@@ -148,7 +155,8 @@ fn status_of_work<
         Work::Emulate {
             emulating,
             ends_with_input,
-        } => status_of_emulating(rt, system, emulating, ends_with_input, log),
+            level,
+        } => status_of_emulating(rt, system, emulating, ends_with_input, level),
         Work::Connect { port } => status_of_connection(rt, system, port, log),
         Work::Watch { port, idle } => {
             let address = SocketAddr::from((Ipv4Addr::LOCALHOST, port));

@@ -1,5 +1,7 @@
 mod Alarms
+mod Begun
 mod Behind
+mod LeavingLaws
 mod Named
 mod Parameters
 mod Sockets

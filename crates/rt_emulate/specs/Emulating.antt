@@ -1,11 +1,13 @@
 -- What an emulator is to do.
 use Rattle.std.specs.Prelude.{ℕ, Bool, List, Option}
+use Rattle.std.specs.declared.net.ip_addr.IpAddr.{IpAddr}
 use Rattle.rt_tree.specs.PathTree.{Path, PathTree}
 
--- the port, after how many connections that have gone it ends, the first tree, the file that the tree is
+-- the address and its port, after how many connections that have gone it ends, the first tree, the file that the tree is
 -- kept in, whether what is written is on the disk before anybody hears of it, the paths that are denied, and
 -- the origins of other machines whose pages may connect
 pub record Emulation : Type 0 where
+  pub host : IpAddr
   pub port : ℕ
   pub count : Option ℕ
   pub tree : PathTree

@@ -4,11 +4,15 @@
 --     Protocols  which handshakes are of another protocol
 --     Handshakes what a handshake is answered that doesn't come about
 --     Faults     the numbers and names of faults
+--     Levels     which lines it says of itself
+--     Diaries    these lines, until they are written
 -- laws/ has rows that the prover computes (Examples); inside/ has what only the code's own functions need.
+pub mod Diaries
 pub mod Emulating
 pub mod Faults
 pub mod Handshakes
 pub mod inside
 pub mod laws
+pub mod Levels
 pub mod Origins
 pub mod Protocols

@@ -5,7 +5,7 @@ use mio::net::{TcpListener, TcpStream};
 use mio::{Events, Interest, Poll, Token, Waker};
 use std::alloc::{AllocError, Global};
 use std::io;
-use std::net::{Ipv4Addr, Net, SocketAddr};
+use std::net::{Net, SocketAddr};
 use std::rt::Clock;
 use std::slice::Iter;
 use std::sync::Arc;
@@ -86,9 +86,9 @@ impl Bell {
     }
 }
 
-// A listener at the port, of which each that connects is an event.
-fn listener_of<R: Net>(rt: &R, poll: &Poll, port: u16) -> io::Result<TcpListener> {
-    let mut listener = TcpListener::bind(rt, SocketAddr::from((Ipv4Addr::LOCALHOST, port)))?;
+// A listener at the address, of which each that connects is an event.
+fn listener_of<R: Net>(rt: &R, poll: &Poll, address: SocketAddr) -> io::Result<TcpListener> {
+    let mut listener = TcpListener::bind(rt, address)?;
     poll.registry()
         .register(&mut listener, LISTENER, Interest::READABLE)?;
     Ok(listener)
@@ -112,25 +112,28 @@ impl Drop for Edge {
 }
 
 impl Edge {
-    /// Waits at the port: from here on clients can connect.
+    /// Waits at the address: from here on clients can connect.
     pub(crate) fn open<R: Net, Y: Clock>(
         rt: &R,
         system: &Y,
         alloc: Global,
-        port: u16,
+        address: SocketAddr,
     ) -> Result<Edge, EmulateFault> {
         let start = match Instant::now(system) {
             Ok(start) => start,
             Err(why) => return Err(EmulateFault::NotWaited(why)),
         };
         let bell = Bell::new(rt, alloc)?;
-        match listener_of(rt, &bell.poll, port) {
+        match listener_of(rt, &bell.poll, address) {
             Ok(listener) => Ok(Edge {
                 bell,
                 listener,
                 start,
             }),
-            Err(why) => Err(EmulateFault::NotBound { port, why }),
+            Err(why) => Err(EmulateFault::NotBound {
+                port: address.port(),
+                why,
+            }),
         }
     }
 

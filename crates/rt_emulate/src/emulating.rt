@@ -1,12 +1,15 @@
 // What an emulator is to do.
-ghost use Rattle.std.specs.Prelude.{◌≡◌, map, option_map, string_bytes};
+ghost use Rattle.std.specs.Prelude.{◌≡◌, ◌∷◌, [], map, option_map, string_bytes};
+ghost use Rattle.std.specs.Net.Addr.{IsV4And, ipv4_octets};
 
 use rt_tree::{Path, Tree};
 use std::marker::Model;
+use std::net::{IpAddr, Ipv4Addr};
 
 /// What an emulator is to do.
 #[derive(Debug)]
 pub struct Emulating {
+    pub(crate) host: IpAddr,
     pub(crate) port: u16,
     pub(crate) count: Option<u16>,
     pub(crate) tree: Tree,
@@ -19,6 +22,7 @@ pub struct Emulating {
 impl Drop for Emulating {
     fn drop(self) {
         let Emulating {
+            host: _,
             port: _,
             count: _,
             tree: _,
@@ -37,6 +41,7 @@ impl Model for Emulating {
     ghost Value = { Emulation };
 
     ghost view = { λ e. record {
+      host = e.host;
       port = e.port;
       count = e.count;
       tree = e.tree;
@@ -61,7 +66,9 @@ impl Emulating {
         denied: Vec<Path>,
         origins: Vec<String>,
     ) -> Emulating
-        ensures { result ≡ record {
+        ensures local { IsV4And result.host (λ a. ipv4_octets a ≡ 127 ∷ 0 ∷ 0 ∷ 1 ∷ []) }
+        ensures given { result ≡ record {
+          host = result.host;
           port = port;
           count = count;
           tree = tree;
@@ -72,6 +79,7 @@ impl Emulating {
         } }
     {
         Emulating {
+            host: IpAddr::V4(Ipv4Addr::new(127, 0, 0, 1)),
             port,
             count,
             tree,
@@ -82,12 +90,22 @@ impl Emulating {
         }
     }
 
+    /// It is served at the port of that address in place of 127.0.0.1. Whoever reaches another machine's
+    /// address can read and write all of it but what is denied: there is no login, and no TLS.
+    pub fn at(mut self, host: IpAddr) -> Emulating
+        ensures { result ≡ record self { host = host } }
+    {
+        self.host = host;
+        self
+    }
+
     // The tree, the paths that are denied, and the origins.
     pub(crate) fn into_parts(self) -> (Tree, Vec<Path>, Vec<String>)
         ensures { (result.0 ≡ self.tree) × (result.1.items ≡ self.denied)
             × (map string_bytes result.2.items ≡ self.origins) }
     {
         let Emulating {
+            host: _,
             port: _,
             count: _,
             tree: first,

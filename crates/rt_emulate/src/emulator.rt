@@ -4,16 +4,18 @@ ghost use Rattle.rt_emulate.specs.inside.Alarms.{patience};
 ghost use Rattle.rt_emulate.specs.inside.Guests.{IsPatience};
 
 use crate::alarm::sooner;
+use crate::diary::Diary;
 use crate::edge::{Edge, LISTENER, Stopper, WAKER};
 use crate::emulating::Emulating;
 use crate::fault::EmulateFault;
 use crate::guests::Guests;
 use crate::halt::Halt;
 use crate::keeper::{Keeper, say};
+use crate::level::Kind;
+use crate::pen::Pen;
 use crate::telling;
 use mio::net::TcpStream;
 use rt_hub::{Bounds, Hub};
-use rt_input::Log;
 use rt_journal::Journal;
 use rt_tree::Tree;
 use std::alloc::{AllocGlobal, Global};
@@ -31,6 +33,9 @@ const MOST_ACCEPTED: usize = 256;
 
 // After how many milliseconds it is tried again to let somebody in, where that failed.
 const RETRY_MS: u64 = 1_000;
+
+// After how many milliseconds it is tried again to have lines written, where that was not taken.
+const LINES_MS: u64 = 100;
 
 /// Serves a tree to any number of clients at once.
 pub struct Emulator {
@@ -61,14 +66,13 @@ impl Drop for Emulator {
 }
 
 // The journal of the file that the tree is kept in, if there is one. Its tree is the first one then.
-fn journal_of<Y, L>(
+fn journal_of<Y>(
     system: &Y,
     emulating: &mut Emulating,
-    log: &mut L,
+    log: &mut Diary,
 ) -> Result<Option<Journal>, EmulateFault>
 where
     Y: Files<File = File> + RandomSource + AllocGlobal,
-    L: Log,
 {
     let Some(file) = emulating.file.take() else {
         return Ok(None);
@@ -115,26 +119,26 @@ impl Emulator {
     /// `NotKept` where the file can't be read or written, has no tree, or is another emulator's, `NotBound`
     /// where the port can't be bound, `NotWaited` where the system has nothing to wait with, each with the
     /// reason; `NoMemory` where memory is lacking.
-    pub fn open<R, Y, L>(
+    pub fn open<R, Y>(
         rt: &R,
         system: &Y,
         mut emulating: Emulating,
-        log: &mut L,
+        log: &mut Diary,
     ) -> Result<Emulator, EmulateFault>
     where
         R: Net,
         Y: Files<File = File> + RandomSource + Clock + AllocGlobal,
-        L: Log,
     {
         let alloc = system.alloc();
-        let (port, count) = (emulating.port, emulating.count);
-        let edge = Edge::open(rt, system, alloc, port)?;
+        let (host, count) = (emulating.host, emulating.count);
+        let address = SocketAddr::new(host, emulating.port);
+        let edge = Edge::open(rt, system, alloc, address)?;
         let journal = journal_of(system, &mut emulating, log)?;
-        telling::listening(alloc, log, port);
+        telling::listening(alloc, log, address);
         Ok(Emulator {
             alloc,
             edge,
-            guests: guests_of(alloc, emulating, journal, log.is_on()),
+            guests: guests_of(alloc, emulating, journal, log.says(Kind::Message)),
             count,
             now: 0,
             has_visitor: false,
@@ -151,13 +155,19 @@ impl Emulator {
         Ok(self.edge.stopper()?)
     }
 
-    // How many milliseconds may be waited for events; none: for ever.
-    fn patience(&self) -> Option<u64>
-        ensures { IsPatience self.entry.now result }
+    // How many milliseconds may be waited for events; none: for ever. Where lines wait they are handed on soon.
+    fn patience(&self, has_lines: bool) -> Option<u64>
+        ensures { IsPatience self.entry.now has_lines result }
     {
         let present = &self.guests.present;
-        let has_work = !present.is_idle() || (self.has_visitor && self.retry_at.is_none());
-        let next = sooner(present.alarms.next(), self.retry_at);
+        let is_idle = present.is_idle() && self.guests.leaving.is_empty();
+        let has_work = !is_idle || (self.has_visitor && self.retry_at.is_none());
+        let lines_at = if has_lines {
+            Some(self.now.saturating_add(LINES_MS))
+        } else {
+            None
+        };
+        let next = sooner(sooner(present.alarms.next(), self.retry_at), lines_at);
         patience(
             has_work,
             sooner(next, self.guests.kept_at(self.now)),
@@ -167,7 +177,7 @@ impl Emulator {
 
     // Lets in who waits to be let in. Where that fails, it is tried again once a guest has gone or a
     // second has passed.
-    fn let_in<L: Log>(&mut self, log: &mut L) -> Result<(), Halt> {
+    fn let_in(&mut self, log: &mut Diary) -> Result<(), Halt> {
         for _ in 0..MOST_ACCEPTED {
             match self.edge.accept() {
                 Ok((stream, from)) => {
@@ -185,7 +195,7 @@ impl Emulator {
     }
 
     // Nobody could be let in, for that reason. Answers whether nobody is for now.
-    fn stops_letting_in<L: Log>(&mut self, why: io::Error, log: &mut L) -> bool {
+    fn stops_letting_in(&mut self, why: io::Error, log: &mut Diary) -> bool {
         let kind = why.kind();
         if kind == ErrorKind::Interrupted || kind == ErrorKind::ConnectionAborted {
             return false;
@@ -203,11 +213,11 @@ impl Emulator {
     }
 
     // Lets in one that has connected.
-    fn let_one_in<L: Log>(
+    fn let_one_in(
         &mut self,
         mut stream: TcpStream,
         from: SocketAddr,
-        log: &mut L,
+        log: &mut Diary,
     ) -> Result<(), Halt> {
         let _at_once = stream.set_nodelay(true);
         match self
@@ -244,7 +254,7 @@ impl Emulator {
     }
 
     // Those that have come have their turns.
-    fn turn<L: Log>(&mut self, log: &mut L) -> Result<(), Halt> {
+    fn turn(&mut self, log: &mut Diary) -> Result<(), Halt> {
         let gone = self.guests.gone;
         let is_time = match self.retry_at {
             Some(at) => at <= self.now,
@@ -256,6 +266,7 @@ impl Emulator {
         let count = self.guests.present.all.len();
         self.guests.turn_all(log)?;
         self.guests.ring_all(self.now, log)?;
+        self.guests.leave_on()?;
         if self.guests.present.all.len() < count || gone < self.guests.gone {
             // A descriptor is free again.
             if self.retry_at.is_some() {
@@ -268,11 +279,10 @@ impl Emulator {
     // Takes what happened, and does all that can be done now without waiting. Answers whether it has stopped,
     // as it was told to, or since as many connections have gone as are served: then all go, what they asked for
     // at their end is run, and the tree's file has it all.
-    fn work<R, Y, L>(&mut self, rt: &R, system: &Y, log: &mut L) -> Result<bool, Halt>
+    fn work<R, Y>(&mut self, rt: &R, system: &Y, log: &mut Diary) -> Result<bool, Halt>
     where
         R: Threads,
         Y: Files<File = File> + RandomSource,
-        L: Log,
     {
         let stops = self.take()?;
         self.turn(log)?;
@@ -290,24 +300,31 @@ impl Emulator {
 
     /// Serves who connects until it is told to stop, or as many connections have gone as it is to serve.
     /// Then all connections are ended, and the tree is written to its file. What is accepted before stands
-    /// in the file's journal by the time that its client hears of it.
+    /// in the file's journal by the time that its client hears of it. What is said is handed on to the pen.
     ///
     /// # Errors
     ///
     /// `NotWaited` where the system can't be waited for, `NotKept` where the file or its journal can't be
     /// written, each with the reason; `NoMemory` where memory is lacking.
-    pub fn run<R, Y, L>(mut self, rt: &R, system: &Y, log: &mut L) -> Result<(), EmulateFault>
+    pub fn run<R, Y>(
+        mut self,
+        rt: &R,
+        system: &Y,
+        log: &mut Diary,
+        pen: &Pen,
+    ) -> Result<(), EmulateFault>
     where
         R: Wait + Threads,
         Y: Files<File = File> + RandomSource + Clock,
-        L: Log,
     {
         for _ in rt.forever() {
-            let patience = self.patience();
+            pen.hand_on(rt, log);
+            let patience = self.patience(!log.is_empty());
             if let Err(why) = self.edge.wait(patience) {
                 return Err(EmulateFault::NotWaited(why));
             }
             self.now = self.edge.now(system, self.now);
+            log.at(self.now);
             match self.work(rt, system, log) {
                 Ok(false) => {}
                 Ok(true) => return Ok(()),

@@ -1,10 +1,12 @@
 // Why a guest goes.
-ghost use Rattle.std.specs.Prelude.{◌≡◌};
-ghost use Rattle.rt_emulate.specs.inside.Endings.{close_code, is_told};
+ghost use Rattle.std.specs.Prelude.{◌≡◌, false};
+ghost use Rattle.std.specs.Option.{option_map_or};
+ghost use Rattle.rt_hub.specs.Hubs.{has_too_many_in, line_in};
+ghost use Rattle.rt_emulate.specs.inside.Endings.{close_code, close_reason, is_told, too_much};
 
 use crate::broken::Broken;
 use crate::silence::{HANDSHAKE_MS, SILENCE_MS};
-use rt_hub::{MAX_WAITING_BYTES, MAX_WAITING_MESSAGES};
+use rt_hub::{Hub, MAX_LISTENS, MAX_WAITING_BYTES, MAX_WAITING_MESSAGES};
 use std::fmt;
 
 /// Why a guest goes.
@@ -18,6 +20,8 @@ pub(crate) enum Ending {
     Refused,
     /// More was sent to it than may wait.
     Over,
+    /// It has more listens than it may.
+    TooManyListens,
     /// Nothing is heard of it, and a ping was not answered.
     Silent,
     /// It didn't shake hands in time.
@@ -35,19 +39,47 @@ impl Ending {
     }
 
     /// The code that RFC 6455 (section 7.4.1) has for the client, where it is told why: as at
-    /// [`Broken::close_code`], or all are ended.
+    /// [`Broken::close_code`], or it has more listens than it may, more waits for it than may, or all are ended.
     pub(crate) fn close_code(self) -> Option<u16>
         ensures { result ≡ close_code self }
     {
         match self {
             Ending::Failed(why) => why.close_code(),
             Ending::Stopped => Some(1001),
-            Ending::Closed(_)
-            | Ending::Refused
-            | Ending::Over
-            | Ending::Silent
-            | Ending::Unshaken => None,
+            Ending::TooManyListens => Some(1008),
+            Ending::Over => Some(1013),
+            Ending::Closed(_) | Ending::Refused | Ending::Silent | Ending::Unshaken => None,
         }
+    }
+
+    /// What the client is told behind the code.
+    pub(crate) fn close_reason(self) -> &'static str
+        ensures { result.now ≡ close_reason self }
+    {
+        match self {
+            Ending::TooManyListens => "more than 131072 listens",
+            Ending::Over => "too slow: more waits than may",
+            Ending::Closed(_)
+            | Ending::Failed(_)
+            | Ending::Refused
+            | Ending::Silent
+            | Ending::Unshaken
+            | Ending::Stopped => "",
+        }
+    }
+}
+
+/// Why the connection goes, if it has more listens than it may or more waits for it than may.
+pub(crate) fn too_much(hub: &Hub, connection: u64) -> Option<Ending>
+    ensures { result ≡ too_much (has_too_many_in hub.now connection)
+        (option_map_or (λ l. l.is_over) (line_in hub.now connection) false) }
+{
+    if hub.has_too_many_listens(connection) {
+        Some(Ending::TooManyListens)
+    } else if hub.is_over(connection) {
+        Some(Ending::Over)
+    } else {
+        None
     }
 }
 
@@ -70,6 +102,10 @@ impl fmt::Display for Ending {
                 f,
                 "it is too slow: more than {MAX_WAITING_MESSAGES} messages or {MAX_WAITING_BYTES} \
                  bytes wait for it"
+            ),
+            Ending::TooManyListens => write!(
+                f,
+                "it has more than {MAX_LISTENS} listens; it is closed with 1008"
             ),
             Ending::Silent => write!(
                 f,

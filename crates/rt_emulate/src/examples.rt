@@ -1,13 +1,16 @@
 // Worked rows.
 ghost use Rattle.rt_emulate.specs.laws.Examples.{AllowedOnes, LocalOnes, NotAllowedOnes, OtherOnes};
-ghost use Rattle.rt_emulate.specs.laws.Examples.{OthersAreNoSdks, SdksAreKnown};
+ghost use Rattle.rt_emulate.specs.laws.Examples.{OthersAreNoSdks, SdksAreKnown, UnwrittenOnes, WrittenOnes};
 
-/// Pages of this machine may connect, at any port, and those that are allowed; no others.
+/// Pages of this machine may connect, at any port, and those that are allowed; no others. What browsers write
+/// as an origin has no fault, and what none writes has the stated one.
 pub fn origin_examples()
     ensures local { LocalOnes }
     ensures others { OtherOnes }
     ensures allowed { AllowedOnes }
     ensures not_allowed { NotAllowedOnes }
+    ensures written { WrittenOnes }
+    ensures unwritten { UnwrittenOnes }
 {}
 
 /// What a Firebase SDK asks for is known by its path and its query; nothing else is taken for it.

@@ -4,9 +4,10 @@ ghost use Rattle.std.specs.Option.{option_copied_mut, option_map};
 ghost use Rattle.rt_hub.specs.Hubs.{IsMade};
 ghost use Rattle.rt_peer.specs.Runs.{Connect};
 ghost use Rattle.rt_emulate.specs.inside.Guests.{HandsAs, HearsAs, number_of, rung, silence_after, talk_of};
-ghost use Rattle.rt_emulate.specs.inside.Guests.{unblocked};
+ghost use Rattle.rt_emulate.specs.inside.Guests.{blocked_by, is_more, unblocked};
 
 use crate::broken::Broken;
+use crate::diary::Diary;
 use crate::ending::Ending;
 use crate::halt::Halt;
 use crate::origin::Origins;
@@ -15,7 +16,7 @@ use crate::socket::{Socket, TURN_BYTES, limits};
 use crate::telling;
 use mio::net::TcpStream;
 use rt_hub::Hub;
-use rt_input::{Counted, Log};
+use rt_input::Counted;
 use rt_turns::{Handed, Notes, Turn, hand_over, take_turn};
 use std::alloc::Global;
 use std::net::SocketAddr;
@@ -86,12 +87,12 @@ impl Drop for Talk {
 
 impl Talk {
     /// Takes its next message. Answers what became of its turn, if it is over.
-    pub(crate) fn take<L: Log>(
+    pub(crate) fn take(
         &mut self,
         alloc: Global,
         hub: &mut Hub,
         notes: &mut Notes,
-        log: &mut L,
+        log: &mut Diary,
     ) -> Result<Option<Turned>, Halt>
         ensures heard { IfOk result (λ turned. HearsAs turned self.old self.new hub.old hub.new
             notes.old notes.new) }
@@ -124,11 +125,11 @@ impl Talk {
     }
 
     /// Hands over what waits for it, and answers whether more may wait.
-    pub(crate) fn hand_over<L: Log>(
+    pub(crate) fn hand_over(
         &mut self,
         alloc: Global,
         hub: &mut Hub,
-        log: &mut L,
+        log: &mut Diary,
     ) -> Result<bool, Halt>
         ensures handed { IfOk result (λ more. HandsAs more self.old self.new hub.old hub.new) }
         ensures kept { self.new.connection ≡ self.old.connection }
@@ -137,17 +138,29 @@ impl Talk {
             return Err(Halt::NoMemory);
         };
         telling::refused(alloc, log, self.connection, self.socket.take_refusals());
+        Ok(self.settle(alloc, handed, log))
+    }
+
+    // Keeps how far its stream took what waited, and answers whether more may wait.
+    fn settle(&mut self, alloc: Global, handed: Handed, log: &mut Diary) -> bool
+        ensures more { result ≡ is_more handed }
+        ensures kept { self.new.connection ≡ self.old.connection }
+        ensures blocked { self.new.is_blocked ≡ blocked_by handed self.old.is_blocked }
+    {
         match handed {
-            Handed::Drained => {}
-            Handed::Blocked => self.is_blocked = true,
-            Handed::More => return Ok(true),
+            Handed::Drained => false,
+            Handed::Blocked => {
+                self.is_blocked = true;
+                false
+            }
+            Handed::More => true,
             Handed::Failed => {
                 if self.socket.pass_over_writes() {
                     telling::not_sent(alloc, log, self.connection);
                 }
+                false
             }
         }
-        Ok(false)
     }
 
     // It ends, and its client is told why by a code, where there is one. Answers its number.
@@ -155,7 +168,7 @@ impl Talk {
         ensures { result ≡ self.old.connection }
     {
         if let Some(code) = why.close_code() {
-            self.socket.close(code);
+            self.socket.close(code, why.close_reason());
         }
         self.connection
     }
@@ -259,11 +272,11 @@ impl Guest {
 
     /// Goes on to shake hands. Answers what became of its turn: there is more once it is a connection, which has
     /// no number yet.
-    pub(crate) fn shake<L: Log>(
+    pub(crate) fn shake(
         &mut self,
         alloc: Global,
         is_telling: bool,
-        log: &mut L,
+        log: &mut Diary,
     ) -> Result<Turned, Halt> {
         let Some(mut shaking) = self.take_shaking() else {
             return Ok(Turned::Idle);
@@ -287,11 +300,11 @@ impl Guest {
     }
 
     /// It is a connection of the hub from now on. Answers its number.
-    pub(crate) fn connect<L: Log>(
+    pub(crate) fn connect(
         &mut self,
         alloc: Global,
         hub: &mut Hub,
-        log: &mut L,
+        log: &mut Diary,
     ) -> Result<u64, Halt>
         ensures { IfOk result (λ n. IsMade hub.old Connect hub.new
             × (number_of self.new.stage ≡ option_map (λ t. n) (talk_of self.old.stage))) }
@@ -336,12 +349,7 @@ impl Guest {
 }
 
 // A handshake with one from there has failed, which is told.
-fn unshaken<L: Log>(
-    alloc: Global,
-    from: SocketAddr,
-    why: Error,
-    log: &mut L,
-) -> Result<Turned, Halt> {
+fn unshaken(alloc: Global, from: SocketAddr, why: Error, log: &mut Diary) -> Result<Turned, Halt> {
     telling::no_socket(alloc, log, from, &why);
     if Broken::of(why).lacks_memory() {
         Err(Halt::NoMemory)

@@ -2,19 +2,20 @@
 ghost use Rattle.std.specs.Prelude.{IfOk};
 ghost use Rattle.rt_emulate.specs.inside.Guests.{HandsAt, talk_at};
 
-use crate::ending::Ending;
+use crate::diary::Diary;
+use crate::ending::{Ending, too_much};
 use crate::fault::EmulateFault;
 use crate::guest::{Guest, Turned};
 use crate::halt::Halt;
 use crate::keeper::Keeper;
+use crate::leaving::Leaving;
 use crate::origin::Origins;
 use crate::place::set_place;
 use crate::present::Present;
 use crate::telling;
 use mio::net::TcpStream;
 use rt_hub::Hub;
-use rt_input::Log;
-use rt_turns::{Notes, leave};
+use rt_turns::Notes;
 use std::alloc::Global;
 use std::cmp::Reverse;
 use std::fs::File;
@@ -36,6 +37,7 @@ pub(crate) struct Guests {
     allowed: Vec<String>,
     is_telling: bool,
     pub(crate) present: Present,
+    pub(crate) leaving: Leaving,
     // What turns leave to be done.
     notes: Notes,
     // How many texts were sent since what waits was handed over.
@@ -54,6 +56,7 @@ impl Drop for Guests {
             allowed: _,
             is_telling: _,
             present: _,
+            leaving: _,
             notes: _,
             sent: _,
             came: _,
@@ -78,6 +81,7 @@ impl Guests {
             allowed,
             is_telling,
             present: Present::new(alloc),
+            leaving: Leaving::new(alloc),
             notes: Notes::new(alloc),
             sent: 0,
             came: 0,
@@ -110,13 +114,13 @@ impl Guests {
     }
 
     /// Each that is ready has a turn, and what waits is handed over.
-    pub(crate) fn turn_all<L: Log>(&mut self, log: &mut L) -> Result<(), Halt> {
+    pub(crate) fn turn_all(&mut self, log: &mut Diary) -> Result<(), Halt> {
         let ready = std::mem::replace(&mut self.present.ready, Vec::new(self.alloc));
         self.turn_each(ready.as_slice(), log)
     }
 
     // The guests at these places have a turn, and what waits is handed over.
-    fn turn_each<L: Log>(&mut self, places: &[usize], log: &mut L) -> Result<(), Halt> {
+    fn turn_each(&mut self, places: &[usize], log: &mut Diary) -> Result<(), Halt> {
         for place in places {
             match self.turn(*place, log)? {
                 Turned::Idle => {}
@@ -128,7 +132,7 @@ impl Guests {
     }
 
     // The guest at that place has a turn.
-    fn turn<L: Log>(&mut self, place: usize, log: &mut L) -> Result<Turned, Halt> {
+    fn turn(&mut self, place: usize, log: &mut Diary) -> Result<Turned, Halt> {
         let Some(guest) = self.present.all.get_mut(place) else {
             return Ok(Turned::Idle);
         };
@@ -146,7 +150,7 @@ impl Guests {
     }
 
     // Takes what the guest at that place has to say in its turn.
-    fn listen_to<L: Log>(&mut self, place: usize, log: &mut L) -> Result<Turned, Halt> {
+    fn listen_to(&mut self, place: usize, log: &mut Diary) -> Result<Turned, Halt> {
         for _ in 0..TURN_MESSAGES {
             if let Some(turned) = self.take_one(place, log)? {
                 return Ok(turned);
@@ -156,7 +160,7 @@ impl Guests {
     }
 
     // Takes the next message of the guest at that place. Answers what became of its turn, if it is over.
-    fn take_one<L: Log>(&mut self, place: usize, log: &mut L) -> Result<Option<Turned>, Halt> {
+    fn take_one(&mut self, place: usize, log: &mut Diary) -> Result<Option<Turned>, Halt> {
         let Some(talk) = self.present.talk(place) else {
             return Ok(Some(Turned::Idle));
         };
@@ -168,11 +172,11 @@ impl Guests {
     }
 
     // Does what a message leaves to be done. Answers what became of its guest's turn, if it is over.
-    fn go_on<L: Log>(
+    fn go_on(
         &mut self,
         place: usize,
         connection: u64,
-        log: &mut L,
+        log: &mut Diary,
     ) -> Result<Option<Turned>, Halt> {
         self.keeper
             .note(connection, self.notes.accepted.as_slice())?;
@@ -202,14 +206,14 @@ impl Guests {
     }
 
     // Hands over to all that are noted.
-    fn hand_over_all<L: Log>(&mut self, log: &mut L) -> Result<(), Halt> {
+    fn hand_over_all(&mut self, log: &mut Diary) -> Result<(), Halt> {
         self.sent = 0;
         let noted = std::mem::replace(&mut self.present.noted, Vec::new(self.alloc));
         self.hand_over_each(noted.as_slice(), log)
     }
 
     // Hands over to the guests at these places.
-    fn hand_over_each<L: Log>(&mut self, places: &[usize], log: &mut L) -> Result<(), Halt> {
+    fn hand_over_each(&mut self, places: &[usize], log: &mut Diary) -> Result<(), Halt> {
         for place in places {
             if let Some(guest) = self.present.all.get_mut(*place) {
                 guest.is_noted = false;
@@ -222,15 +226,15 @@ impl Guests {
     }
 
     // Hands over to the guest at that place what waits for it. Answers why it goes, if it does.
-    fn hand_over_to<L: Log>(&mut self, place: usize, log: &mut L) -> Result<Option<Ending>, Halt>
+    fn hand_over_to(&mut self, place: usize, log: &mut Diary) -> Result<Option<Ending>, Halt>
         ensures { IfOk result (λ why. HandsAt (talk_at self.old.present place) why
             self.old.hub self.new.hub) }
     {
         let Some(talk) = self.present.talk(place) else {
             return Ok(None);
         };
-        if self.hub.is_over(talk.connection) {
-            return Ok(Some(Ending::Over));
+        if let Some(why) = too_much(&self.hub, talk.connection) {
+            return Ok(Some(why));
         }
         if talk.is_blocked {
             return Ok(None);
@@ -244,7 +248,7 @@ impl Guests {
     }
 
     // The guest at that place goes.
-    fn remove<L: Log>(&mut self, place: usize, why: Ending, log: &mut L) -> Result<(), Halt> {
+    fn remove(&mut self, place: usize, why: Ending, log: &mut Diary) -> Result<(), Halt> {
         let Some(guest) = self.present.all.try_remove(place) else {
             return Ok(());
         };
@@ -258,17 +262,36 @@ impl Guests {
         }
     }
 
-    // The connection ends.
-    fn leave<L: Log>(&mut self, connection: u64, why: Ending, log: &mut L) -> Result<(), Halt> {
+    // The connection ends, in turns.
+    fn leave(&mut self, connection: u64, why: Ending, log: &mut Diary) -> Result<(), Halt> {
         telling::ended(self.alloc, log, connection, why);
-        leave(&mut self.hub, connection, &mut self.notes.told)?;
-        self.gone = self.gone.saturating_add(1);
-        self.keeper.note_end(connection)?;
+        Ok(self.leaving.add(connection)?)
+    }
+
+    /// The first of those that go has a turn of its end.
+    pub(crate) fn leave_on(&mut self) -> Result<(), Halt> {
+        if self
+            .leaving
+            .turn(&mut self.hub, &mut self.keeper, &mut self.notes.told)?
+        {
+            self.gone = self.gone.saturating_add(1);
+        }
         self.note_told()
     }
 
+    // All that go have all turns of their ends.
+    fn leave_all(&mut self) -> Result<(), Halt> {
+        for _ in 0..u64::MAX {
+            if self.leaving.is_empty() {
+                return Ok(());
+            }
+            self.leave_on()?;
+        }
+        Ok(())
+    }
+
     /// Looks at each guest whose alarm rings.
-    pub(crate) fn ring_all<L: Log>(&mut self, now: u64, log: &mut L) -> Result<(), Halt> {
+    pub(crate) fn ring_all(&mut self, now: u64, log: &mut Diary) -> Result<(), Halt> {
         for _ in 0..u64::MAX {
             match self.present.alarms.ring(now) {
                 Some(Reverse((_, serial, place))) => self.ring(place, serial, now, log)?,
@@ -279,13 +302,7 @@ impl Guests {
     }
 
     // Looks at the guest at that place, if it is still the one with that serial number.
-    fn ring<L: Log>(
-        &mut self,
-        place: usize,
-        serial: u64,
-        now: u64,
-        log: &mut L,
-    ) -> Result<(), Halt> {
+    fn ring(&mut self, place: usize, serial: u64, now: u64, log: &mut Diary) -> Result<(), Halt> {
         let Some(guest) = self.present.all.get_mut(place) else {
             return Ok(());
         };
@@ -299,17 +316,16 @@ impl Guests {
     }
 
     /// Makes the tree's file anew, as far as that is due.
-    pub(crate) fn keep<R, Y, L>(
+    pub(crate) fn keep<R, Y>(
         &mut self,
         rt: &R,
         system: &Y,
         now: u64,
-        log: &mut L,
+        log: &mut Diary,
     ) -> Result<(), Halt>
     where
         R: Threads,
         Y: Files<File = File> + RandomSource,
-        L: Log,
     {
         self.keeper.append()?;
         self.keeper.turn(rt, system, self.hub.tree(), now, log);
@@ -322,13 +338,13 @@ impl Guests {
     }
 
     /// All go, and what was accepted stands in the tree's file from now on.
-    pub(crate) fn close<R, Y, L>(&mut self, rt: &R, system: &Y, log: &mut L) -> Result<(), Halt>
+    pub(crate) fn close<R, Y>(&mut self, rt: &R, system: &Y, log: &mut Diary) -> Result<(), Halt>
     where
         R: Threads,
         Y: Files<File = File> + RandomSource,
-        L: Log,
     {
         self.remove_all(log)?;
+        self.leave_all()?;
         self.keeper.append()?;
         self.keeper.close(rt, system, self.hub.tree(), log)
     }
@@ -339,7 +355,7 @@ impl Guests {
     }
 
     // All go.
-    fn remove_all<L: Log>(&mut self, log: &mut L) -> Result<(), Halt> {
+    fn remove_all(&mut self, log: &mut Diary) -> Result<(), Halt> {
         for place in 0..self.present.all.capacity() {
             self.remove(place, Ending::Stopped, log)?;
         }

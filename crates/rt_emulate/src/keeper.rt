@@ -2,13 +2,13 @@
 ghost use Rattle.std.specs.Prelude.{◌≡◌, OnOk};
 ghost use Rattle.std.specs.Option.{option_map};
 ghost use Rattle.rt_journal.specs.Journals.{appended};
-ghost use Rattle.rt_emulate.specs.inside.Keeping.{note_all, note_end, noted_of};
+ghost use Rattle.rt_emulate.specs.inside.Keeping.{note_all, note_end, note_turn, noted_of};
 
+use crate::diary::Diary;
 use crate::fault::EmulateFault;
 use crate::halt::Halt;
 use crate::telling;
 use rt_hub::When;
-use rt_input::Log;
 use rt_journal::{Journal, JournalFault, Noted, Notice};
 use rt_tree::Tree;
 use rt_turns::Accepted;
@@ -54,7 +54,7 @@ fn note_each(journal: &mut Journal, connection: u64, all: &[Accepted]) -> Result
 }
 
 /// Says what is to be said of the tree's file.
-pub(crate) fn say<L: Log>(journal: &Journal, notice: Option<Notice>, log: &mut L) {
+pub(crate) fn say(journal: &Journal, notice: Option<Notice>, log: &mut Diary) {
     if let Some(notice) = notice {
         telling::of_file(log, journal.line(notice));
     }
@@ -90,6 +90,17 @@ impl Keeper {
         }
     }
 
+    /// Notes a turn of the connection's end, in which so many of its requests were done and which is not the last.
+    pub(crate) fn note_turn(&mut self, connection: u64, count: usize) -> Result<(), Halt>
+        ensures { OnOk result
+            (self.new.journal ≡ option_map (note_turn connection count) self.old.journal) }
+    {
+        match &mut self.journal {
+            Some(journal) => Ok(journal.note_turn(connection, count)?),
+            None => Ok(()),
+        }
+    }
+
     // Keeps why it can't be kept any more.
     fn fail(&mut self, fault: JournalFault) -> Halt {
         self.fault = Some(fault);
@@ -111,11 +122,10 @@ impl Keeper {
     }
 
     /// Makes the file anew, of that tree, as far as that is due.
-    pub(crate) fn turn<R, Y, L>(&mut self, rt: &R, system: &Y, tree: &Tree, now: u64, log: &mut L)
+    pub(crate) fn turn<R, Y>(&mut self, rt: &R, system: &Y, tree: &Tree, now: u64, log: &mut Diary)
     where
         R: Threads,
         Y: Files<File = File> + RandomSource,
-        L: Log,
     {
         if let Some(journal) = &mut self.journal {
             let notice = journal.turn(rt, system, tree, now);
@@ -132,17 +142,16 @@ impl Keeper {
     }
 
     /// The file is that tree from now on, and its journal goes.
-    pub(crate) fn close<R, Y, L>(
+    pub(crate) fn close<R, Y>(
         &mut self,
         rt: &R,
         system: &Y,
         tree: &Tree,
-        log: &mut L,
+        log: &mut Diary,
     ) -> Result<(), Halt>
     where
         R: Threads,
         Y: Files<File = File> + RandomSource,
-        L: Log,
     {
         let Some(journal) = &mut self.journal else {
             return Ok(());

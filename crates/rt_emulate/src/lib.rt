@@ -2,9 +2,12 @@
 //! machine, in one thread that sleeps while nothing happens.
 //!
 //! ```text
-//! let emulator = Emulator::open(rt, system, emulating, log)?;   // clients can connect
-//! let stopper = emulator.stopper()?;                            // for another thread
-//! emulator.run(rt, system, log)?;                               // until stopper.stop()
+//! let pen = Pen::begin(rt, alloc, system.stderr())?;                // a thread writes
+//! let mut diary = Diary::begin(system, Level::All);                 // what is said here
+//! let emulator = Emulator::open(rt, system, emulating, &mut diary)?; // clients can connect
+//! let stopper = emulator.stopper()?;                                // for another thread
+//! emulator.run(rt, system, &mut diary, &pen)?;                      // until stopper.stop()
+//! pen.end(rt, &mut diary);
 //! ```
 //!
 //! What a message does is decided by `rt_hub`, and how texts are taken and handed over by `rt_turns`. This
@@ -12,7 +15,9 @@
 #![tactic(auto)]
 
 mod alarm;
+mod allowing;
 mod broken;
+mod diary;
 mod edge;
 mod emulating;
 mod emulator;
@@ -23,17 +28,25 @@ mod guest;
 mod guests;
 mod halt;
 mod keeper;
+mod leaving;
+mod level;
 mod origin;
+mod pen;
 mod place;
 mod present;
 mod protocol;
 mod silence;
 mod socket;
+mod stamp;
 mod telling;
 
+pub use allowing::{OriginFault, origin_fault};
+pub use diary::Diary;
 pub use edge::Stopper;
 pub use emulating::Emulating;
 pub use emulator::Emulator;
 pub use examples::{origin_examples, protocol_examples};
 pub use fault::EmulateFault;
+pub use level::Level;
+pub use pen::Pen;
 pub use silence::{HANDSHAKE_MS, SILENCE_MS};

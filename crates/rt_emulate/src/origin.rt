@@ -32,8 +32,8 @@ fn are_digits(text: &[u8]) -> bool
     true
 }
 
-// Whether nothing or a port stands there.
-fn is_port(text: &[u8]) -> bool
+/// Whether nothing or a port stands there.
+pub(crate) fn is_port(text: &[u8]) -> bool
     ensures { result ≡ is_port text.now }
 {
     match text.split_first() {

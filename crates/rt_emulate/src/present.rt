@@ -1,8 +1,8 @@
 // Those that are there, each at a place of its own, and who is next.
-ghost use Rattle.std.specs.Prelude.{◌≡◌, ◌∷◌, ◌++◌, [], OnOk};
+ghost use Rattle.std.specs.Prelude.{◌≡◌, ◌≢◌, ◌∷◌, ◌++◌, [], ℕ, OnOk};
 ghost use Rattle.std.specs.Option.{option_copied_mut, option_map};
 ghost use Rattle.slab.specs.Slab.{get};
-ghost use Rattle.rt_emulate.specs.inside.Guests.{is_idle, marked, noted_after, talk_at};
+ghost use Rattle.rt_emulate.specs.inside.Guests.{is_idle, marked, noted_after, readied, ready_after, talk_at};
 
 use crate::alarm::Alarms;
 use crate::guest::{Guest, Talk};
@@ -70,7 +70,11 @@ impl Present {
     }
 
     /// The guest at that place has a turn next.
-    pub(crate) fn get_ready(&mut self, place: usize) -> Result<(), Halt> {
+    pub(crate) fn get_ready(&mut self, place: usize) -> Result<(), Halt>
+        ensures ready { OnOk result (self.new.ready.items ≡ ready_after self.old place) }
+        ensures readied { OnOk result (get self.new.all place ≡ option_map readied (get self.old.all place)) }
+        ensures kept { self.new ≡ record (self.old) { all = self.new.all; ready = self.new.ready } }
+    {
         let Some(guest) = self.all.get_mut(place) else {
             return Ok(());
         };
@@ -85,6 +89,7 @@ impl Present {
     pub(crate) fn note(&mut self, place: usize) -> Result<(), Halt>
         ensures noted { OnOk result (self.new.noted.items ≡ noted_after self.old place) }
         ensures marked { OnOk result (get self.new.all place ≡ option_map marked (get self.old.all place)) }
+        ensures others { (q : ℕ) → q ≢ place → get self.new.all q ≡ get self.old.all q }
         ensures kept { self.new ≡ record (self.old) { all = self.new.all; noted = self.new.noted } }
     {
         let Some(guest) = self.all.get_mut(place) else {

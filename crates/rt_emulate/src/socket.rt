@@ -135,12 +135,14 @@ impl Socket {
         let _pinged = done(self.socket.send(Message::Ping(Bytes::new())));
     }
 
-    /// Sends what waits, as far as it goes, and a close with that code. A socket that has failed takes no
-    /// close, so it is written behind its back.
-    pub(crate) fn close(&mut self, code: u16) {
+    /// Sends what waits, as far as it goes, and a close with that code and that reason, which has 123 bytes at
+    /// most. A socket that has failed takes no close, so it is written behind its back.
+    pub(crate) fn close(&mut self, code: u16, reason: &str) {
         if done(self.socket.flush()).is_ok() {
-            let frame = [0x88, 2, (code / 256) as u8, (code % 256) as u8];
-            let _written = self.socket.get_mut().write(&frame);
+            let len = reason.len().min(123);
+            let head = [0x88, 2 + len as u8, (code / 256) as u8, (code % 256) as u8];
+            let _written = self.socket.get_mut().write(&head);
+            let _written = self.socket.get_mut().write(&reason.as_bytes()[..len]);
         }
     }
 

@@ -1,6 +1,7 @@
 // What is told of guests.
+use crate::diary::Diary;
 use crate::ending::Ending;
-use rt_input::Log;
+use crate::level::Kind;
 use rt_wire::WireError;
 use std::alloc::{AllocError, Global};
 use std::fmt::Display;
@@ -8,39 +9,42 @@ use std::io;
 use std::net::SocketAddr;
 use tungstenite::Error;
 
-// Tells a line, if there was memory for it.
-fn tell<L: Log>(log: &mut L, line: Result<String, AllocError>) {
-    if let Ok(line) = line {
-        log.tell(&line);
+pub(crate) fn listening(alloc: Global, log: &mut Diary, address: SocketAddr) {
+    if log.says(Kind::Connection) {
+        log.say_made(
+            Kind::Connection,
+            format!(in alloc; "listening on {address}"),
+        );
+    }
+    if log.says(Kind::Fault) && !address.ip().to_canonical().is_loopback() {
+        let host = address.ip();
+        let line = format!(in alloc;
+            "whoever reaches {host} can read and write the tree: there is no login, and no TLS"
+        );
+        log.say_made(Kind::Fault, line);
     }
 }
 
-pub(crate) fn listening<L: Log>(alloc: Global, log: &mut L, port: u16) {
-    if log.is_on() {
-        tell(log, format!(in alloc; "listening on 127.0.0.1:{port}"));
-    }
-}
-
-pub(crate) fn begun<L: Log>(alloc: Global, log: &mut L, connection: u64, from: SocketAddr) {
-    if log.is_on() {
-        tell(
-            log,
+pub(crate) fn begun(alloc: Global, log: &mut Diary, connection: u64, from: SocketAddr) {
+    if log.says(Kind::Connection) {
+        log.say_made(
+            Kind::Connection,
             format!(in alloc; "connection {connection} begins, from {from}"),
         );
     }
 }
 
 // Why a stream is no WebSocket.
-fn strange<L: Log, D: Display>(alloc: Global, log: &mut L, from: SocketAddr, why: &D) {
-    tell(
-        log,
+fn strange<D: Display>(alloc: Global, log: &mut Diary, from: SocketAddr, why: &D) {
+    log.say_made(
+        Kind::Connection,
         format!(in alloc; "a stream from {from} is no WebSocket: {why}"),
     );
 }
 
 // Why a handshake failed, of which memory is no cause that is told.
-pub(crate) fn no_socket<L: Log>(alloc: Global, log: &mut L, from: SocketAddr, why: &Error) {
-    if !log.is_on() {
+pub(crate) fn no_socket(alloc: Global, log: &mut Diary, from: SocketAddr, why: &Error) {
+    if !log.says(Kind::Connection) {
         return;
     }
     match why {
@@ -55,60 +59,60 @@ pub(crate) fn no_socket<L: Log>(alloc: Global, log: &mut L, from: SocketAddr, wh
 }
 
 // Why one goes that hasn't shaken hands, unless it was told when its handshake failed.
-pub(crate) fn unshaken<L: Log>(alloc: Global, log: &mut L, from: SocketAddr, why: Ending) {
-    if log.is_on() && !why.is_told() {
+pub(crate) fn unshaken(alloc: Global, log: &mut Diary, from: SocketAddr, why: Ending) {
+    if log.says(Kind::Connection) && !why.is_told() {
         strange(alloc, log, from, &why);
     }
 }
 
-pub(crate) fn ended<L: Log>(alloc: Global, log: &mut L, connection: u64, why: Ending) {
-    if log.is_on() {
-        tell(
-            log,
+pub(crate) fn ended(alloc: Global, log: &mut Diary, connection: u64, why: Ending) {
+    if log.says(Kind::Connection) {
+        log.say_made(
+            Kind::Connection,
             format!(in alloc; "connection {connection} ends: {why}"),
         );
     }
 }
 
-pub(crate) fn binary_passed_over<L: Log>(alloc: Global, log: &mut L, connection: u64) {
-    if log.is_on() {
+pub(crate) fn binary_passed_over(alloc: Global, log: &mut Diary, connection: u64) {
+    if log.says(Kind::Message) {
         let why = WireError::NotJson;
         let (code, name) = (why.code(), why.name());
         let line = format!(in alloc;
             "connection {connection}: a binary message is passed over: {code} {name}"
         );
-        tell(log, line);
+        log.say_made(Kind::Message, line);
     }
 }
 
-pub(crate) fn not_sent<L: Log>(alloc: Global, log: &mut L, connection: u64) {
-    if log.is_on() {
+pub(crate) fn not_sent(alloc: Global, log: &mut Diary, connection: u64) {
+    if log.says(Kind::Connection) {
         let line = format!(in alloc; "connection {connection} can't be sent to any more");
-        tell(log, line);
+        log.say_made(Kind::Connection, line);
     }
 }
 
-pub(crate) fn refused<L: Log>(alloc: Global, log: &mut L, connection: u64, texts: Vec<String>) {
+pub(crate) fn refused(alloc: Global, log: &mut Diary, connection: u64, texts: Vec<String>) {
     for text in texts.as_slice() {
-        tell(
-            log,
+        log.say_made(
+            Kind::Message,
             format!(in alloc; "connection {connection} is sent {text}"),
         );
     }
 }
 
-pub(crate) fn not_accepted<L: Log>(alloc: Global, log: &mut L, why: &io::Error) {
-    if log.is_on() {
-        tell(
-            log,
+pub(crate) fn not_accepted(alloc: Global, log: &mut Diary, why: &io::Error) {
+    if log.says(Kind::Fault) {
+        log.say_made(
+            Kind::Fault,
             format!(in alloc; "no connection can be accepted for now: {why}"),
         );
     }
 }
 
 // What is to be said of the tree's file.
-pub(crate) fn of_file<L: Log>(log: &mut L, line: Result<String, AllocError>) {
-    if log.is_on() {
-        tell(log, line);
+pub(crate) fn of_file(log: &mut Diary, line: Result<String, AllocError>) {
+    if log.says(Kind::Fault) {
+        log.say_made(Kind::Fault, line);
     }
 }

@@ -4,6 +4,7 @@ use Rattle.std.proofs.Common.{inl, inr, refl, sym, subst, ap, ap₂, ◌∙◌, 
 use Rattle.std.specs.Borrow.{Bor}
 use Rattle.std.specs.Prelude.{◌⊎◌, Box, IfOk, IfSome, IsErrAnd, is_some, if◌then◌else◌, option_map, option_and_then}
 use Rattle.std.specs.Box.{box_value}
+use Rattle.std.specs.declared.net.ip_addr.IpAddr.{IpAddr}
 use Rattle.std.specs.Str.{bytes_eq}
 use Rattle.std.proofs.lemmas.Slice.Eq.{bytes_eq-Decides}
 use Rattle.clap.specs.declared.error.Error.{Error}
@@ -18,16 +19,18 @@ use Rattle.clap.specs.Values.{kind_of}
 use Rattle.clap.specs.Words.{FailsBy, HasKind, IsAmong, Kinds, Row, first_of, found_of, one_of, rows_of}
 use Rattle.clap.specs.Words.{subcommand_rows, subcommand_rows_of}
 use Rattle.rt_emulate.specs.Emulating.{Emulation}
+use Rattle.rt_emulate.specs.declared.level.Level.{Level}
 use Rattle.rt_tree.specs.Path.{path_fault, path_keys}
 use Rattle.rt_tree.specs.PathTree.{Path, PathTree}
 use Rattle.rt_tree.specs.declared.error.TreeError.{TreeError}
-use Rattle.rt_words.specs.Words.{Gives, GivesWork, all_texts, count_of, denied_of, emulate_of, emulation_of}
-use Rattle.rt_words.specs.Words.{flag_of, live_of, number_of, other_of, path_of, paths_of, serving_of, tree_of, watch_of}
-use Rattle.rt_words.specs.Words.{watching_of, work_of}
+use Rattle.rt_words.specs.Hosts.{host_of}
+use Rattle.rt_words.specs.Words.{Gives, GivesWork, all_texts, count_of, denied_of, emulation_of, flag_of, live_of}
+use Rattle.rt_words.specs.Words.{number_of, origins_of, other_of, path_of, paths_of, served_of, serving_of}
+use Rattle.rt_words.specs.Words.{tree_of, watch_of, watching_of, work_of}
 use Rattle.rt_words.specs.declared.words.Asked.{Asked}
 use Rattle.rt_words.specs.declared.words.Serving.{Serving}
 use Rattle.rt_words.specs.declared.words.Work.{Work}
-use Rattle.rt_words.specs.declared.words.Work.TheVariants.{Connect, Script, Serve}
+use Rattle.rt_words.specs.declared.words.Work.TheVariants.{Connect, Emulate, Script, Serve}
 
 -- the faults of words, by those of clap and by what is asked for
 abbrev pub faults_by : Kinds → Option Work → Kinds
@@ -138,25 +141,33 @@ served_by rows port count tree denied p n e f =
 
 -- ---- the entries of emulate
 
-abbrev asked_of : List Row → PathTree → List Path → Emulation
-asked_of rows tree denied = record {
+abbrev asked_of : IpAddr → List Row → PathTree → List Path → List (List ℕ) → Emulation
+asked_of host rows tree denied origins = record {
+  host = host;
   port = number_of (one_of (codes "PORT") rows);
   count = count_of (number_of (one_of (codes "count") rows));
   tree = tree;
   file = first_of (codes "file") rows;
   is_synced = flag_of (one_of (codes "sync") rows);
   denied = denied;
-  origins = all_texts (codes "origin") rows;
+  origins = origins;
 }
 
-pub asked_by : (rows : List Row) (port : ℕ) (count : Option ℕ) (tree : PathTree) (file : Option (List ℕ))
+-- the origins, and behind them all that is asked for
+abbrev behind_paths : IpAddr → List Row → PathTree → List Path → Option Emulation
+behind_paths host rows tree denied =
+    option_map (asked_of host rows tree denied) (origins_of (all_texts (codes "origin") rows))
+
+pub asked_by : (host : IpAddr) (rows : List Row) (port : ℕ) (count : Option ℕ) (tree : PathTree) (file : Option (List ℕ))
     (is_synced : Bool) (denied : List Path) (origins : List (List ℕ))
     → port ≡ number_of (one_of (codes "PORT") rows)
     → count ≡ count_of (number_of (one_of (codes "count") rows))
     → tree_of (first_of (codes "tree") rows) ≡ Some tree → file ≡ first_of (codes "file") rows
     → is_synced ≡ flag_of (one_of (codes "sync") rows)
-    → paths_of (all_texts (codes "deny") rows) ≡ Some denied → origins ≡ all_texts (codes "origin") rows
-    → ◌≡◌ {A = Option Emulation} (emulation_of rows) (Some (record {
+    → paths_of (all_texts (codes "deny") rows) ≡ Some denied
+    → origins_of (all_texts (codes "origin") rows) ≡ Some origins
+    → ◌≡◌ {A = Option Emulation} (emulation_of host rows) (Some (record {
+      host = host;
       port = port;
       count = count;
       tree = tree;
@@ -165,10 +176,20 @@ pub asked_by : (rows : List Row) (port : ℕ) (count : Option ℕ) (tree : PathT
       denied = denied;
       origins = origins;
     }))
-asked_by rows port count tree file is_synced denied origins p n t f s d o =
-    rw (p, n, f, s, o)
-    (ap (option_and_then (λ tree. option_map (asked_of rows tree) (paths_of (all_texts (codes "deny") rows)))) t
-    ∙ ap (option_map (asked_of rows tree)) d)
+asked_by host rows port count tree file is_synced denied origins p n t f s d o =
+    rw (p, n, f, s)
+    (ap (option_and_then (λ tree. option_and_then (behind_paths host rows tree)
+    (paths_of (all_texts (codes "deny") rows)))) t
+    ∙ ap (option_and_then (behind_paths host rows tree)) d
+    ∙ ap (option_map (asked_of host rows tree denied)) o)
+
+-- what `emulate` asks for, behind its level and its address
+abbrev pub served_with : List Row → Level → IpAddr → Option Work
+served_with rows level host =
+    option_map (λ e. Emulate e (flag_of (one_of (codes "until-eof") rows)) level) (emulation_of host rows)
+
+abbrev pub served_at : List Row → Level → Option Work
+served_at rows level = option_and_then (served_with rows level) (host_of (first_of (codes "host") rows))
 
 -- ---- the subcommand
 
@@ -204,7 +225,7 @@ module _ {Z : Type 0} where
       let name : List ℕ = (out-SubCommand (box_value b)).name.now in
       let rows : List Row = rows_of (found_of (out-SubCommand (box_value b)).matches) in
       elim (bytes_eq name (codes "emulate")) as (λ t. bytes_eq name (codes "emulate") ≡ t
-      → (if t then emulate_of rows else Some (other_of (Some (name, rows))))
+      → (if t then served_of rows else Some (other_of (Some (name, rows))))
       ≡ Some (other_of (Some (name, rows)))) [
         | true ↦ λ e. absurd (h (ap Some (same name (codes "emulate") e)))
         | false ↦ λ e. refl

@@ -1,4 +1,5 @@
 mod Asking
 mod Flags
+mod Hosts
 mod Numbers
 mod Several

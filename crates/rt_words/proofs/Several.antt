@@ -7,7 +7,7 @@ use Rattle.std.specs.Option.{unwrap_or}
 use Rattle.std.proofs.lemmas.List.{drop_more, map-append}
 use Rattle.clap.specs.Words.{Row, all_of}
 use Rattle.rt_tree.specs.PathTree.{Path}
-use Rattle.rt_words.specs.Words.{all_texts, path_of, paths_of}
+use Rattle.rt_words.specs.Words.{all_texts, origin_of, origins_of, path_of, paths_of}
 
 -- the texts that are lent
 abbrev pub now_of : List (Bor (List ℕ)) → List (List ℕ)
@@ -19,17 +19,43 @@ next_of : (xs : List (Bor (List ℕ))) (i : ℕ) (x : Bor (List ℕ)) → i < le
 next_of xs i x within is =
     ap now_of (drop_more xs i x within) ∙ ap (λ y. y.now ∷ now_of (drop (i + 1) xs)) (sym is)
 
--- ---- copies
+-- ---- origins
 
-pub next_copy : (xs : List (Bor (List ℕ))) (i : ℕ) (x : Bor (List ℕ)) (all : List (String Global))
-    (copy : String Global) → i < length xs → x ≡ get_or xs i x → string_bytes copy ≡ x.now
-    → now_of xs ≡ map string_bytes all ++ now_of (drop i xs)
-    → now_of xs ≡ map string_bytes (all ++ copy ∷ []) ++ now_of (drop (i + 1) xs)
-next_copy xs i x all copy within is same e =
-    e ∙ ap (λ l. map string_bytes all ++ l) (next_of xs i x within is)
-    ∙ ap (λ b. map string_bytes all ++ (b ∷ now_of (drop (i + 1) xs))) (sym same)
-    ∙ sym (append_assoc (map string_bytes all) (string_bytes copy ∷ []) (now_of (drop (i + 1) xs)))
-    ∙ ap (λ l. l ++ now_of (drop (i + 1) xs)) (sym (map-append string_bytes all (copy ∷ [])))
+behind_text : (done : List (List ℕ)) (text : List ℕ) (rest : Option (List (List ℕ)))
+    → option_map (λ os. done ++ os) (option_map (λ os. text ∷ os) rest)
+    ≡ option_map (λ os. (done ++ text ∷ []) ++ os) rest
+behind_text done text None = refl
+behind_text done text (Some os) = ap Some (sym (append_assoc done (text ∷ []) os))
+
+pub next_origin : (xs : List (Bor (List ℕ))) (i : ℕ) (x : Bor (List ℕ)) (all : List (String Global))
+    (copy : String Global) → i < length xs → x ≡ get_or xs i x → origin_of x.now ≡ Some (string_bytes copy)
+    → origins_of (now_of xs)
+    ≡ option_map (λ os. map string_bytes all ++ os) (origins_of (now_of (drop i xs)))
+    → origins_of (now_of xs)
+    ≡ option_map (λ os. map string_bytes (all ++ copy ∷ []) ++ os) (origins_of (now_of (drop (i + 1) xs)))
+next_origin xs i x all copy within is read e =
+    e ∙ ap (λ l. option_map (λ os. map string_bytes all ++ os) (origins_of l)) (next_of xs i x within is)
+    ∙ ap (λ o. option_map (λ os. map string_bytes all ++ os)
+    (option_and_then (λ t. option_map (λ os. t ∷ os) (origins_of (now_of (drop (i + 1) xs)))) o)) read
+    ∙ behind_text (map string_bytes all) (string_bytes copy) (origins_of (now_of (drop (i + 1) xs)))
+    ∙ ap (λ l. option_map (λ os. l ++ os) (origins_of (now_of (drop (i + 1) xs))))
+    (sym (map-append string_bytes all (copy ∷ [])))
+
+-- one of them is refused, and so all are
+pub no_origin_of : (xs : List (Bor (List ℕ))) (i : ℕ) (x : Bor (List ℕ)) (done : List (List ℕ)) → i < length xs
+    → x ≡ get_or xs i x → origin_of x.now ≡ None
+    → origins_of (now_of xs) ≡ option_map (λ os. done ++ os) (origins_of (now_of (drop i xs)))
+    → origins_of (now_of xs) ≡ None
+no_origin_of xs i x done within is refused e =
+    e ∙ ap (λ l. option_map (λ os. done ++ os) (origins_of l)) (next_of xs i x within is)
+    ∙ ap (λ o. option_map (λ os. done ++ os)
+    (option_and_then (λ t. option_map (λ os. t ∷ os) (origins_of (now_of (drop (i + 1) xs)))) o)) refused
+
+pub all_origins : (xs : List (Bor (List ℕ))) (done : List (List ℕ)) (rest : List (Bor (List ℕ))) → rest ≡ []
+    → origins_of (now_of xs) ≡ option_map (λ os. done ++ os) (origins_of (now_of rest))
+    → origins_of (now_of xs) ≡ Some done
+all_origins xs done rest none e =
+    e ∙ ap (λ l. option_map (λ os. done ++ os) (origins_of (now_of l))) none ∙ ap Some (append-nil done)
 
 -- ---- paths
 

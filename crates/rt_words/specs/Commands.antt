@@ -1,5 +1,5 @@
 -- The commands of the program, as clap sees them.
-use Rattle.std.specs.Prelude.{[], ◌∷◌, Some, true, codes, pos}
+use Rattle.std.specs.Prelude.{ℕ, List, [], ◌∷◌, Some, true, codes, pos}
 use Rattle.clap.specs.Words.{App, Rule, new_app, new_rule, with_rule, with_subcommand}
 use Rattle.clap.specs.declared.builder.action.ArgAction.TheVariants.{Append, SetTrue}
 use Rattle.clap.specs.declared.builder.value_parser.ValueParser.{ValueParser}
@@ -23,30 +23,33 @@ whole = parser.Signed (pos 1) (pos 65535)
 abbrev pub port_rule : Rule
 port_rule = record (new_rule (codes "PORT")) { required = true; parser = Some whole }
 
+-- `--NAME`
+abbrev pub flag_rule : List ℕ → Rule
+flag_rule name = record (new_rule name) { long = Some name; action = Some SetTrue }
+
+-- `--NAME VALUE`
+abbrev pub text_rule : List ℕ → Rule
+text_rule name = record (new_rule name) { long = Some name; value_names = 1 }
+
+-- `--NAME VALUE`, several times
+abbrev pub texts_rule : List ℕ → Rule
+texts_rule name = record (text_rule name) { action = Some Append }
+
+-- `--NAME N`
+abbrev pub number_rule : List ℕ → Rule
+number_rule name = record (text_rule name) { parser = Some whole }
+
 -- `--count N`, 1 where it is left out
 abbrev pub count_rule : Rule
-count_rule = record (new_rule (codes "count")) {
-  long = Some (codes "count");
-  value_names = 1;
-  defaults = codes "1" ∷ [];
-  parser = Some whole;
-}
-
--- `--tree JSON`
-abbrev pub tree_rule : Rule
-tree_rule = record (new_rule (codes "tree")) { long = Some (codes "tree"); value_names = 1 }
-
--- `--deny PATH`
-abbrev pub deny_rule : Rule
-deny_rule = record (new_rule (codes "deny")) { long = Some (codes "deny"); value_names = 1 }
+count_rule = record (number_rule (codes "count")) { defaults = codes "1" ∷ [] }
 
 -- `-v`, `--verbose`
 abbrev pub verbose_rule : Rule
-verbose_rule = record (new_rule (codes "verbose")) {
-  short = Some 118;
-  long = Some (codes "verbose");
-  action = Some SetTrue;
-}
+verbose_rule = record (flag_rule (codes "verbose")) { short = Some 118 }
+
+-- `-q`, `--quiet`
+abbrev pub quiet_rule : Rule
+quiet_rule = record (flag_rule (codes "quiet")) { short = Some 113 }
 
 -- `script [-v]`
 abbrev pub script_app : App
@@ -55,72 +58,28 @@ script_app = with_rule (new_app (codes "script")) verbose_rule
 -- `serve PORT [--count N] [--tree JSON] [--deny PATH] [-v]`
 abbrev pub serve_app : App
 serve_app = with_rule (with_rule (with_rule (with_rule (with_rule (new_app (codes "serve")) port_rule)
-    count_rule) tree_rule) deny_rule) verbose_rule
+    count_rule) (text_rule (codes "tree"))) (text_rule (codes "deny"))) verbose_rule
 
--- `--count N`, with no number where it is left out
-abbrev pub gone_rule : Rule
-gone_rule = record count_rule { defaults = [] }
-
--- `--file FILE`
-abbrev pub file_rule : Rule
-file_rule = record (new_rule (codes "file")) { long = Some (codes "file"); value_names = 1 }
-
--- `--sync`
-abbrev pub sync_rule : Rule
-sync_rule = record (new_rule (codes "sync")) { long = Some (codes "sync"); action = Some SetTrue }
-
--- `--deny PATH`, several times
-abbrev pub denies_rule : Rule
-denies_rule = record deny_rule { action = Some Append }
-
--- `--origin TEXT`, several times
-abbrev pub origin_rule : Rule
-origin_rule = record (new_rule (codes "origin")) {
-  long = Some (codes "origin");
-  value_names = 1;
-  action = Some Append;
-}
-
--- `--no-input`
-abbrev pub no_input_rule : Rule
-no_input_rule = record (new_rule (codes "no-input")) {
-  long = Some (codes "no-input");
-  action = Some SetTrue;
-}
-
--- `-q`, `--quiet`
-abbrev pub quiet_rule : Rule
-quiet_rule = record (new_rule (codes "quiet")) {
-  short = Some 113;
-  long = Some (codes "quiet");
-  action = Some SetTrue;
-}
-
--- `emulate PORT [--tree JSON] [--file FILE] [--sync] [--deny PATH]..`
+-- `emulate PORT [--host ADDRESS] [--tree JSON] [--file FILE] [--sync] [--deny PATH]..`
 abbrev pub begun_app : App
-begun_app = with_rule (with_rule (with_rule (with_rule (with_rule (new_app (codes "emulate")) port_rule) tree_rule)
-    file_rule) sync_rule) denies_rule
+begun_app = with_rule (with_rule (with_rule (with_rule (with_rule (with_rule (new_app (codes "emulate")) port_rule)
+    (text_rule (codes "host"))) (text_rule (codes "tree"))) (text_rule (codes "file"))) (flag_rule (codes "sync")))
+    (texts_rule (codes "deny"))
 
--- and behind that `[--origin TEXT].. [--count N] [--no-input] [-q] [-v]`
+-- and behind that `[--origin TEXT].. [--count N] [--until-eof] [--log LEVEL] [-q] [-v]`
 abbrev pub emulate_app : App
-emulate_app = with_rule (with_rule (with_rule (with_rule (with_rule begun_app origin_rule) gone_rule)
-    no_input_rule) quiet_rule) verbose_rule
+emulate_app = with_rule (with_rule (with_rule (with_rule (with_rule (with_rule begun_app
+    (texts_rule (codes "origin"))) (number_rule (codes "count"))) (flag_rule (codes "until-eof")))
+    (text_rule (codes "log"))) quiet_rule) verbose_rule
 
 -- `connect PORT [-v]`
 abbrev pub connect_app : App
 connect_app = with_rule (with_rule (new_app (codes "connect")) port_rule) verbose_rule
 
--- `--idle MS`
-abbrev pub idle_rule : Rule
-idle_rule = record (new_rule (codes "idle")) {
-  long = Some (codes "idle");
-  value_names = 1;
-  parser = Some whole;
-}
-
 -- `watch PORT [--idle MS] [-v]`
 abbrev pub watch_app : App
-watch_app = with_rule (with_rule (with_rule (new_app (codes "watch")) port_rule) idle_rule) verbose_rule
+watch_app = with_rule (with_rule (with_rule (new_app (codes "watch")) port_rule)
+    (number_rule (codes "idle"))) verbose_rule
 
 -- `script`, `serve`, `emulate`, `connect` and `watch`
 abbrev pub console_app : App

@@ -3,19 +3,24 @@ ghost use Rattle.std.specs.Prelude.{◌≡◌, ◌≢◌, ◌⊎◌, [], map, co
 ghost use Rattle.std.specs.Prelude.{string_bytes, IfOk, IfErr, OnOk};
 ghost use Rattle.clap.specs.Words.{FailsBy, first_of, found_of, one_of, rows_of, subcommand_rows_of};
 ghost use Rattle.clap.specs.Values.{kind_of};
+ghost use Rattle.rt_emulate.specs.Levels.{level_of};
+ghost use Rattle.rt_words.specs.Hosts.{host_of, ip_of};
 ghost use Rattle.rt_words.specs.Words.{all_texts, asked, count_of, denied_of, emulation_of, faults_of};
-ghost use Rattle.rt_words.specs.Words.{flag_of, Gives, GivesAll, GivesWork, is_verbose, IsExplained};
-ghost use Rattle.rt_words.specs.Words.{live_of, number_of, other_of, path_of, paths_of, serving_of};
-ghost use Rattle.rt_words.specs.Words.{status_of, tree_of, verbose_in, watch_of, watching_of, work_of};
+ghost use Rattle.rt_words.specs.Words.{flag_of, Gives, GivesAll, GivesWork, is_lenient, is_verbose};
+ghost use Rattle.rt_words.specs.Words.{GivesText, GivesTexts, IsExplained, origin_of, origins_of};
+ghost use Rattle.rt_words.specs.Words.{live_of, logging_of, number_of, other_of, path_of, paths_of};
+ghost use Rattle.rt_words.specs.Words.{served_of, serving_of, status_of, tree_of, unnamed_level, verbose_in};
+ghost use Rattle.rt_words.specs.Words.{watch_of, watching_of, work_of};
 
 use crate::commands::{PROGRAM, console_command, emulate_command, serve_command};
 use clap::error::ErrorKind;
 use clap::{ArgMatches, Error};
-use rt_emulate::Emulating;
+use rt_emulate::{Emulating, Level, OriginFault, origin_fault};
 use rt_input::{ConsoleError, Fault};
 use rt_tree::{Path, Tree, TreeError};
 use std::alloc::{AllocError, Global};
 use std::convert::AsStr;
+use std::net::{IpAddr, Ipv4Addr};
 
 /// What `serve` is to do.
 #[derive(Debug, Drop)]
@@ -38,10 +43,11 @@ pub enum Work {
     /// Serve the peer.
     Serve(Serving),
     /// Serve the peer to any number of clients at once, until the standard input ends where it is to end with
-    /// that.
+    /// that. Lines of that level are said.
     Emulate {
         emulating: Emulating,
         ends_with_input: bool,
+        level: Level,
     },
     /// Connect a client to the port, and drive it by the lines of the standard input.
     Connect {
@@ -107,6 +113,8 @@ fn option_of(server: Server, word: &str) -> Option<&'static str> {
         ("--deny", _) => Some("--deny"),
         ("--file", Server::Emulate) => Some("--file"),
         ("--origin", Server::Emulate) => Some("--origin"),
+        ("--host", Server::Emulate) => Some("--host"),
+        ("--log", Server::Emulate) => Some("--log"),
         _ => None,
     }
 }
@@ -225,13 +233,36 @@ fn read_paths(alloc: Global, texts: &[&str]) -> Result<Vec<Path>, Error>
     Ok(paths)
 }
 
-// Copies of texts, in order.
-fn copies_of(alloc: Global, texts: &[&str]) -> Result<Vec<String>, AllocError>
-    ensures { IfOk result (λ all. map string_bytes all.items ≡ map (λ t. t.now) texts.now) }
+// The error of an origin that no browser can send.
+fn refused_origin(alloc: Global, text: &str, why: OriginFault) -> Result<Error, AllocError>
+    ensures { IfOk result (λ error. kind_of error ≡ ErrorKind.ValueValidation) }
+{
+    let message = format!(in alloc; "invalid value '{text}' for '--origin <TEXT>': {why}")?;
+    error_of(
+        alloc,
+        Server::Emulate,
+        ErrorKind::ValueValidation,
+        message.as_str(),
+    )
+}
+
+// A copy of an origin that a browser can send.
+fn read_origin(alloc: Global, text: &str) -> Result<String, Error>
+    ensures { GivesText (origin_of text.now) result }
+{
+    match origin_fault(text) {
+        None => Ok(String::from_str(alloc, text)?),
+        Some(why) => Err(refused_origin(alloc, text, why)?),
+    }
+}
+
+// Copies of origins, in order.
+fn copies_of(alloc: Global, texts: &[&str]) -> Result<Vec<String>, Error>
+    ensures { GivesTexts (origins_of (map (λ t. t.now) texts.now)) result }
 {
     let mut all = Vec::new(alloc);
     for text in texts {
-        all.push(String::from_str(alloc, text)?)?;
+        all.push(read_origin(alloc, text)?)?;
     }
     Ok(all)
 }
@@ -247,9 +278,9 @@ fn read_denies(alloc: Global, entries: &ArgMatches<'_>) -> Result<Vec<Path>, Err
 }
 
 // The origins that are allowed.
-fn read_origins(alloc: Global, entries: &ArgMatches<'_>) -> Result<Vec<String>, AllocError>
-    ensures { IfOk result (λ all. map string_bytes all.items
-        ≡ all_texts (codes "origin") (rows_of (found_of entries.now))) }
+fn read_origins(alloc: Global, entries: &ArgMatches<'_>) -> Result<Vec<String>, Error>
+    ensures { GivesTexts (origins_of (all_texts (codes "origin") (rows_of (found_of entries.now))))
+        result }
 {
     match entries.get_strs("origin") {
         Some(texts) => copies_of(alloc, texts),
@@ -276,9 +307,9 @@ fn read_count(entries: &ArgMatches<'_>, name: &str) -> Option<u16>
     if count == 0 { None } else { Some(count) }
 }
 
-// What the entries of `emulate` ask for.
-fn read_emulating(alloc: Global, entries: &ArgMatches<'_>) -> Result<Emulating, Error>
-    ensures { Gives (emulation_of (rows_of (found_of entries.now))) result }
+// What the entries of `emulate` ask for, at that address.
+fn read_emulating(alloc: Global, host: IpAddr, entries: &ArgMatches<'_>) -> Result<Emulating, Error>
+    ensures { Gives (emulation_of host (rows_of (found_of entries.now))) result }
 {
     let tree = read_tree(alloc, Server::Emulate, text(entries, "tree"))?;
     let denied = read_denies(alloc, entries)?;
@@ -287,7 +318,92 @@ fn read_emulating(alloc: Global, entries: &ArgMatches<'_>) -> Result<Emulating, 
     let origins = read_origins(alloc, entries)?;
     let port = number(entries, "PORT");
     let count = read_count(entries, "count");
-    Ok(Emulating::new(port, count, tree, file, is_synced, denied, origins))
+    let emulating = Emulating::new(port, count, tree, file, is_synced, denied, origins);
+    Ok(emulating.at(host))
+}
+
+// The address that a text writes, if it writes one.
+fn ip_of(text: &str) -> Option<IpAddr>
+    ensures { result ≡ ip_of text.now }
+{
+    IpAddr::parse_ascii(text.as_bytes()).ok()
+}
+
+// The error of a text that writes no address.
+fn refused_host(alloc: Global, text: &str) -> Result<Error, AllocError>
+    ensures { IfOk result (λ error. kind_of error ≡ ErrorKind.ValueValidation) }
+{
+    let message = format!(in alloc;
+        "invalid value '{text}' for '--host <ADDRESS>': it is no address, such as 0.0.0.0 or ::1"
+    )?;
+    error_of(
+        alloc,
+        Server::Emulate,
+        ErrorKind::ValueValidation,
+        message.as_str(),
+    )
+}
+
+// The address of a text.
+fn read_ip(alloc: Global, text: &str) -> Result<IpAddr, Error>
+    ensures { Gives (ip_of text.now) result }
+{
+    match ip_of(text) {
+        Some(host) => Ok(host),
+        None => Err(refused_host(alloc, text)?),
+    }
+}
+
+// The address that is listened at: 127.0.0.1 where none is named.
+fn read_host(alloc: Global, entries: &ArgMatches<'_>) -> Result<IpAddr, Error>
+    ensures { Gives (host_of (first_of (codes "host") (rows_of (found_of entries.now)))) result }
+{
+    match text(entries, "host") {
+        Some(text) => read_ip(alloc, text),
+        None => Ok(IpAddr::V4(Ipv4Addr::new(127, 0, 0, 1))),
+    }
+}
+
+// The error of a level that is none.
+fn refused_level(alloc: Global, word: &str) -> Result<Error, AllocError>
+    ensures { IfOk result (λ error. kind_of error ≡ ErrorKind.ValueValidation) }
+{
+    let message = format!(in alloc;
+        "invalid value '{word}' for '--log <LEVEL>': a level is all, connections, faults or none"
+    )?;
+    error_of(
+        alloc,
+        Server::Emulate,
+        ErrorKind::ValueValidation,
+        message.as_str(),
+    )
+}
+
+// The level of that name.
+fn read_level(alloc: Global, word: &str) -> Result<Level, Error>
+    ensures { Gives (level_of word.now) result }
+{
+    match Level::of(word) {
+        Some(level) => Ok(level),
+        None => Err(refused_level(alloc, word)?),
+    }
+}
+
+// The level where none is named: all is said, or nothing where it is to be quiet.
+fn unnamed_level(is_quiet: bool) -> Level
+    ensures { result ≡ unnamed_level is_quiet }
+{
+    if is_quiet { Level::Nothing } else { Level::All }
+}
+
+// Which lines `emulate` says.
+fn read_logging(alloc: Global, entries: &ArgMatches<'_>) -> Result<Level, Error>
+    ensures { Gives (logging_of (rows_of (found_of entries.now))) result }
+{
+    match text(entries, "log") {
+        Some(word) => read_level(alloc, word),
+        None => Ok(unnamed_level(flag(entries, "quiet"))),
+    }
 }
 
 // What the entries of `serve` ask for.
@@ -336,15 +452,27 @@ fn read_other(matches: &ArgMatches<'_>) -> Work
     }
 }
 
+// The work of `emulate`, by its entries.
+fn read_served(alloc: Global, entries: &ArgMatches<'_>) -> Result<Work, Error>
+    ensures { Gives (served_of (rows_of (found_of entries.now))) result }
+{
+    let level = read_logging(alloc, entries)?;
+    let host = read_host(alloc, entries)?;
+    let ends_with_input = flag(entries, "until-eof");
+    let emulating = read_emulating(alloc, host, entries)?;
+    Ok(Work::Emulate {
+        emulating,
+        ends_with_input,
+        level,
+    })
+}
+
 // The work that the subcommand names, where it is not `serve`.
 fn read_live(alloc: Global, matches: &ArgMatches<'_>) -> Result<Work, Error>
     ensures { Gives (live_of (subcommand_rows_of matches.now)) result }
 {
     match matches.subcommand_matches("emulate") {
-        Some(entries) => Ok(Work::Emulate {
-            emulating: read_emulating(alloc, entries)?,
-            ends_with_input: !flag(entries, "no-input"),
-        }),
+        Some(entries) => read_served(alloc, entries),
         None => Ok(read_other(matches)),
     }
 }
@@ -364,13 +492,7 @@ fn read_verbose(matches: &ArgMatches<'_>) -> bool
     ensures { result ≡ verbose_in (subcommand_rows_of matches.now) }
 {
     match matches.subcommand() {
-        Some((name, entries)) => {
-            if name == "emulate" {
-                !flag(entries, "quiet")
-            } else {
-                flag(entries, "verbose")
-            }
-        }
+        Some((_, entries)) => flag(entries, "verbose"),
         None => false,
     }
 }
@@ -415,22 +537,36 @@ pub fn read_words<'a, S: AsStr>(alloc: Global, words: &'a [S]) -> Result<Asked, 
     }
 }
 
+// Whether help ends well: that of the commands which the first word names, but of `serve` and `connect`.
+fn is_lenient<'a, S: AsStr>(words: &'a [S]) -> bool
+    ensures { result ≡ is_lenient (map S.text words.entry.now) }
+{
+    match words.first() {
+        Some(word) => {
+            let word = word.as_str();
+            word == "script" || word == "emulate" || word == "watch"
+        }
+        None => false,
+    }
+}
+
 // The exit status of words that make no command.
-fn status_of(kind: ErrorKind) -> u8
-    ensures { result ≡ status_of kind }
+fn status_of(kind: ErrorKind, is_lenient: bool) -> u8
+    ensures { result ≡ status_of is_lenient kind }
 {
     match kind {
         ErrorKind::OutOfMemory => 1,
+        ErrorKind::DisplayHelp if is_lenient => 0,
         _ => 2,
     }
 }
 
 // Prints an error of clap's, or the help that was asked for, and answers the exit status.
-fn print_error<R: Print + Eprint>(rt: &R, error: &Error) -> u8
-    ensures { (result ≡ status_of (kind_of error.now)) ⊎ (result ≡ 1) }
+fn print_error<R: Print + Eprint>(rt: &R, error: &Error, is_lenient: bool) -> u8
+    ensures { (result ≡ status_of is_lenient (kind_of error.now)) ⊎ (result ≡ 1) }
 {
     match error.print(rt) {
-        Ok(()) => status_of(error.kind()),
+        Ok(()) => status_of(error.kind(), is_lenient),
         Err(why) => {
             let fault = Fault::Unwritten(why);
             let _ = eprintln!(rt; "{PROGRAM}: {fault}");
@@ -440,12 +576,13 @@ fn print_error<R: Print + Eprint>(rt: &R, error: &Error) -> u8
 }
 
 /// Prints why words make no command, or the help that they ask for, and answers the exit status: 2 for
-/// bad words and for help, 1 where nothing can be printed or memory is lacking.
+/// bad words and for help of the program itself, of `serve` and of `connect`, 0 for other help, and 1 where
+/// nothing can be printed or memory is lacking.
 pub fn explain<'a, R: Print + Eprint, S: AsStr>(rt: &R, alloc: Global, words: &'a [S]) -> u8
-    ensures { IsExplained (faults_of (map S.text words.entry.now)) result }
+    ensures { IsExplained (map S.text words.entry.now) result }
 {
     match command_line(alloc, words) {
         Ok(Asked { .. }) => 0,
-        Err(error) => print_error(rt, &error),
+        Err(error) => print_error(rt, &error, is_lenient(words)),
     }
 }

@@ -1,5 +1,5 @@
 -- Why a guest goes, and the code that its client is told then.
-use Rattle.std.specs.Prelude.{ℕ, Bool, true, false, Option, Some, None, Result, Ok, Err}
+use Rattle.std.specs.Prelude.{ℕ, List, [], codes, Bool, true, false, Option, Some, None, Result, Ok, Err}
 use Rattle.std.specs.IoError.{error_kind, raw_os_error}
 use Rattle.std.specs.declared.io.ErrorKind.{ErrorKind}
 use Rattle.std.specs.declared.io.ErrorKind.TheVariants.{WouldBlock, QuotaExceeded}
@@ -72,11 +72,19 @@ broken_code (Capacity why) = Some 1009
 broken_code Crowded = Some 1009
 broken_code b = None
 
--- the server goes
+-- the server goes, the client has more listens than it may, or more waits for it than may
 abbrev pub close_code : Ending → Option ℕ
 close_code (ends.Failed why) = broken_code why
 close_code ends.Stopped = Some 1001
+close_code ends.TooManyListens = Some 1008
+close_code ends.Over = Some 1013
 close_code e = None
+
+-- what the client is told behind the code
+abbrev pub close_reason : Ending → List ℕ
+close_reason ends.TooManyListens = codes "more than 131072 listens"
+close_reason ends.Over = codes "too slow: more waits than may"
+close_reason e = []
 
 -- ---- endings
 
@@ -89,3 +97,9 @@ abbrev pub ending_of : Option (Option ℕ) → Option Broken → Ending
 ending_of (Some code) why = ends.Closed code
 ending_of None (Some why) = ends.Failed why
 ending_of None None = ends.Failed Closed
+
+-- by whether a connection has more listens than it may, and whether more waits for it than may
+abbrev pub too_much : Bool → Bool → Option Ending
+too_much true is_over = Some ends.TooManyListens
+too_much false true = Some ends.Over
+too_much false false = None

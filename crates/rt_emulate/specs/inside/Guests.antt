@@ -3,7 +3,7 @@ use Rattle.std.specs.Prelude.{◌≡◌, ◌+◌, ◌-◌, ◌^◌, ℕ, min, Bo
 use Rattle.std.specs.Prelude.{List, [], ◌∷◌, ◌++◌, Option, Some, None, Result, Ok, Err}
 use Rattle.std.specs.Option.{is_none, option_and_then, option_map, option_map_or}
 use Rattle.slab.specs.Slab.{get}
-use Rattle.rt_hub.specs.Hubs.{Hub, line_in}
+use Rattle.rt_hub.specs.Hubs.{Hub, has_too_many_in, line_in}
 use Rattle.rt_turns.specs.Handing.{Hands}
 use Rattle.rt_turns.specs.Turns.{HearsTurn}
 use Rattle.rt_turns.specs.declared.door.Flushed.{Flushed}
@@ -13,8 +13,9 @@ use Rattle.rt_turns.specs.declared.notes.Notes.{Notes}
 use Rattle.rt_turns.specs.declared.take.Turn.{Turn}
 use Rattle.rt_turns.specs.declared.take.Turn.TheVariants as turn
 use Rattle.rt_emulate.specs.declared.emulator.Emulator.{Emulator}
+use Rattle.rt_emulate.specs.declared.emulator.TheConstants.{LINES_MS}
 use Rattle.rt_emulate.specs.declared.ending.Ending.{Ending}
-use Rattle.rt_emulate.specs.declared.ending.Ending.TheVariants.{Over, Silent, Unshaken}
+use Rattle.rt_emulate.specs.declared.ending.Ending.TheVariants.{Silent, Unshaken}
 use Rattle.rt_emulate.specs.declared.guest.Guest.{Guest}
 use Rattle.rt_emulate.specs.declared.guest.Stage.{Stage}
 use Rattle.rt_emulate.specs.declared.guest.Stage.TheVariants.{Shaking, Open, Gone}
@@ -28,7 +29,7 @@ use Rattle.rt_emulate.specs.declared.silence.Silence.{Silence}
 use Rattle.rt_emulate.specs.declared.silence.TheConstants.{SILENCE_MS}
 use Rattle.rt_emulate.specs.declared.socket.Socket.{Socket}
 use Rattle.rt_emulate.specs.inside.Alarms.{next_time, patience, sooner}
-use Rattle.rt_emulate.specs.inside.Endings.{ending_of}
+use Rattle.rt_emulate.specs.inside.Endings.{ending_of, too_much}
 use Rattle.rt_emulate.specs.inside.Silences.{due_of}
 
 -- ---- who has a turn
@@ -41,10 +42,11 @@ is_none_of (place ∷ places) = false
 abbrev pub is_idle : Present → Bool
 is_idle p = is_none_of p.ready.items && is_none_of p.noted.items
 
--- somebody has a turn, something can be handed over, or somebody can be let in, where that didn't fail just
--- now
-abbrev pub has_work : Present → Bool → Option ℕ → Bool
-has_work p has_visitor retry_at = not (is_idle p) || (has_visitor && is_none retry_at)
+-- somebody has a turn, something can be handed over, somebody goes, or somebody can be let in, where that didn't
+-- fail just now
+abbrev pub has_work : Present → List ℕ → Bool → Option ℕ → Bool
+has_work p leaving has_visitor retry_at =
+    not (is_idle p && is_none_of leaving) || (has_visitor && is_none retry_at)
 
 -- a guest that is noted, to whom what waits is handed over next
 abbrev pub marked : Guest → Guest
@@ -56,11 +58,27 @@ noted_after p place =
     if option_map_or (λ g. not g.is_noted) (get p.all place) false then p.noted.items ++ place ∷ []
     else p.noted.items
 
+-- one that has a turn next
+abbrev pub readied : Guest → Guest
+readied g = record g { is_ready = true }
+
+abbrev pub ready_after : Present → ℕ → List ℕ
+ready_after p place =
+    if option_map_or (λ g. not g.is_ready) (get p.all place) false then p.ready.items ++ place ∷ []
+    else p.ready.items
+
+abbrev pub later : ℕ → ℕ → ℕ
+later now wait = min (now + wait) (2 ^ 64 - 1)
+
+-- when lines that wait are handed on
+abbrev pub lines_at : Bool → ℕ → Option ℕ
+lines_at has_lines now = if has_lines then Some (later now LINES_MS) else None
+
 -- how long an emulator waits, where something of the tree's file may be due then
-abbrev pub IsPatience : Emulator → Option ℕ → Type 0
-IsPatience e patient =
-    (kept : Option ℕ) × (patient ≡ patience (has_work e.guests.present e.has_visitor e.retry_at)
-    (sooner (sooner (next_time e.guests.present.alarms) e.retry_at) kept) e.now)
+abbrev pub IsPatience : Emulator → Bool → Option ℕ → Type 0
+IsPatience e has_lines patient =
+    (kept : Option ℕ) × (patient ≡ patience (has_work e.guests.present e.guests.leaving e.has_visitor e.retry_at)
+    (sooner (sooner (sooner (next_time e.guests.present.alarms) e.retry_at) (lines_at has_lines e.now)) kept) e.now)
 
 -- ---- connections
 
@@ -84,9 +102,6 @@ abbrev pub unblocked : Stage → Stage
 unblocked (Shaking shaking) = Shaking shaking
 unblocked (Open talk) = Open (record talk { is_blocked = false })
 unblocked Gone = Gone
-
-abbrev pub later : ℕ → ℕ → ℕ
-later now wait = min (now + wait) (2 ^ 64 - 1)
 
 -- when the alarm of a connection rings next, or that it goes
 abbrev pub next_of : Due → ℕ → Result ℕ Ending
@@ -139,15 +154,17 @@ HandsAs more old new hub hub2 =
     (handed : Handed) × (flushed : Flushed) × Hands handed old.connection None None flushed hub hub2
     × (more ≡ is_more handed) × (new.is_blocked ≡ blocked_by handed old.is_blocked)
 
--- to a connection for which more came than may wait nothing is handed over, and it goes; nor to one whose stream
--- takes nothing for now
-abbrev pub HandsTo : Talk → Bool → Bool → Option Ending → Option Hub → Option Hub → Type 0
-HandsTo t true is_blocked why hub hub2 = (why ≡ Some Over) × (hub2 ≡ hub)
-HandsTo t false true why hub hub2 = (why ≡ None) × (hub2 ≡ hub)
-HandsTo t false false why hub hub2 =
+-- to a connection that has more listens than it may, or for which more came than may wait, nothing is handed over, and it
+-- goes; nor to one whose stream takes nothing for now
+abbrev pub HandsTo : Talk → Option Ending → Bool → Option Ending → Option Hub → Option Hub → Type 0
+HandsTo t (Some due) is_blocked why hub hub2 = (why ≡ Some due) × (hub2 ≡ hub)
+HandsTo t None true why hub hub2 = (why ≡ None) × (hub2 ≡ hub)
+HandsTo t None false why hub hub2 =
     (why ≡ None) × ((handed : Handed) × (flushed : Flushed) × Hands handed t.connection None None flushed hub hub2)
 
 abbrev pub HandsAt : Option Talk → Option Ending → Option Hub → Option Hub → Type 0
 HandsAt None why hub hub2 = (why ≡ None) × (hub2 ≡ hub)
 HandsAt (Some t) why hub hub2 =
-    HandsTo t (option_map_or (λ l. l.is_over) (line_in hub t.connection) false) t.is_blocked why hub hub2
+    HandsTo t
+    (too_much (has_too_many_in hub t.connection) (option_map_or (λ l. l.is_over) (line_in hub t.connection) false))
+    t.is_blocked why hub hub2

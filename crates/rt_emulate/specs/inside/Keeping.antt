@@ -2,7 +2,7 @@
 use Rattle.std.specs.Prelude.{ℕ, List, [], ◌∷◌, string_bytes}
 use Rattle.rt_hub.specs.declared.verdict.When.{When}
 use Rattle.rt_hub.specs.declared.verdict.When.TheVariants.{Now, AtEnd}
-use Rattle.rt_journal.specs.Books.{with_end, with_request}
+use Rattle.rt_journal.specs.Books.{with_end, with_request, with_turn}
 use Rattle.rt_journal.specs.Journals.{Journal}
 use Rattle.rt_journal.specs.declared.book.Noted.{Noted}
 use Rattle.rt_journal.specs.declared.book.Noted.TheVariants as note
@@ -19,6 +19,9 @@ note_one n a j = record j { book = with_request j.book n (noted_of a.when) (stri
 abbrev pub note_all : ℕ → List Accepted → Journal → Journal
 note_all n [] j = j
 note_all n (a ∷ all) j = note_all n all (note_one n a j)
+
+abbrev pub note_turn : ℕ → ℕ → Journal → Journal
+note_turn n count j = record j { book = with_turn j.book n count }
 
 abbrev pub note_end : ℕ → Journal → Journal
 note_end n j = record j { book = with_end j.book n }

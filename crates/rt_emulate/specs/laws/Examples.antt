@@ -1,8 +1,11 @@
 -- Handshakes that the prover judges: origins as browsers write them, and such as none writes; what a Firebase
 -- SDK asks for, and what it doesn't.
-use Rattle.std.specs.Prelude.{◌≡◌, List, [], ◌∷◌, ℕ, true, false, Some, None, codes}
+use Rattle.std.specs.Prelude.{◌≡◌, List, [], ◌∷◌, ℕ, true, false, Some, None, codes, map}
 use Rattle.std.specs.List.{list_all, list_any}
-use Rattle.rt_emulate.specs.Origins.{is_local, may_connect}
+use Rattle.std.specs.Option.{is_none}
+use Rattle.rt_emulate.specs.Origins.{is_local, may_connect, origin_fault}
+use Rattle.rt_emulate.specs.declared.allowing.OriginFault.TheVariants.{UpperCase, NoScheme, NoHost, Behind}
+use Rattle.rt_emulate.specs.declared.allowing.OriginFault.TheVariants.{BadLetter, BadPort}
 use Rattle.rt_emulate.specs.Protocols.{is_of_sdk}
 
 -- pages of this machine, at any port
@@ -37,6 +40,23 @@ abbrev pub NotAllowedOnes : Type 0
 NotAllowedOnes =
     list_any (λ origin. may_connect origin (app ∷ []))
     (codes "https://app.example:1" ∷ codes "http://app.example" ∷ codes "null" ∷ []) ≡ false
+
+-- what browsers write: a page of a host, of an address, of an extension, and one whose origin is hidden
+abbrev pub WrittenOnes : Type 0
+WrittenOnes =
+    list_all (λ origin. is_none (origin_fault origin))
+    (app ∷ codes "null" ∷ codes "http://localhost:3000" ∷ codes "http://[::1]:80" ∷ codes "chrome-extension://abcdef" ∷ [])
+    ≡ true
+
+-- what none writes, and why: a slash behind, a path, none of a scheme and of a host, big letters, a name before
+-- the host, and what is no port
+abbrev pub UnwrittenOnes : Type 0
+UnwrittenOnes =
+    map origin_fault (codes "https://app.example/" ∷ codes "https://app.example/a" ∷ codes "app.example" ∷ codes "*"
+    ∷ codes "https://:80" ∷ codes "https://App.example" ∷ codes "https://me@app.example" ∷ codes "https://app.example:"
+    ∷ codes "http://[::1]x" ∷ [])
+    ≡ Some Behind ∷ Some Behind ∷ Some NoScheme ∷ Some NoScheme ∷ Some NoHost ∷ Some UpperCase ∷ Some BadLetter
+    ∷ Some BadPort ∷ Some BadPort ∷ []
 
 -- what a Firebase SDK asks for: the version stands first, or behind other parameters, or a database is named
 abbrev pub sdk_queries : List (List ℕ)

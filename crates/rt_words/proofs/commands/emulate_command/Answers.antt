@@ -3,7 +3,10 @@ use Rattle.clap.specs.Words.{with_rule}
 use Rattle.rt_words.proofs.commands.emulate_command.Goals as goal
 
 pub returns-clause-app : goal.returns-clause-app
-returns-clause-app c = c.in_ok-command.ensures.shape (search rules)
+returns-clause-app c =
+    c.in_ok-command.ensures.shape (search rules)
+    ∙ ap₂ with_rule
+    (c.in_ok-arg-5.ensures.shape (search rules)
     ∙ ap₂ with_rule
     (c.in_ok-arg-4.ensures.shape (search rules)
     ∙ ap₂ with_rule
@@ -11,8 +14,9 @@ returns-clause-app c = c.in_ok-command.ensures.shape (search rules)
     ∙ ap₂ with_rule
     (c.in_ok-arg-2.ensures.shape (search rules)
     ∙ ap₂ with_rule
-    (c.in_ok-arg.ensures.shape (search rules) ∙ ap₂ with_rule c.in_ok-begun.ensures.app c.origin_arg.ensures.rule)
-    c.gone_arg.ensures.rule)
-    c.no_input_arg.ensures.rule)
+    (c.in_ok-arg.ensures.shape (search rules) ∙ ap₂ with_rule c.in_ok-begun.ensures.app c.texts_arg.ensures.rule)
+    c.number_arg.ensures.rule)
+    c.flag_arg.ensures.rule)
+    c.text_arg.ensures.rule)
     c.quiet_arg.ensures.rule)
-    c.said_arg.ensures.rule
+    c.verbose_arg.ensures.rule

@@ -1,7 +1,10 @@
 use Rattle.std.proofs.Common.{◌≡◌, ◌++◌, drop, map, string_bytes}
+use Rattle.std.specs.Prelude.{option_map}
+use Rattle.rt_words.specs.Words.{origins_of}
 use Rattle.rt_words.proofs.Several.{now_of}
 use Rattle.rt_words.proofs.words.copies_of.Given as goal
 
 abbrev pub invariant-loop-text : goal.invariant-loop-text
 invariant-loop-text l =
-    now_of l.texts ≡ map string_bytes l.all.items ++ now_of (drop l.text-index l.texts)
+    origins_of (now_of l.texts)
+    ≡ option_map (λ os. map string_bytes l.all.items ++ os) (origins_of (now_of (drop l.text-index l.texts)))
