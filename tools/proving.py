@@ -1,4 +1,5 @@
 """The part of the gate that proves: rt ci over a copy, and what each crate takes in it."""
+import bisect
 import os
 import re
 import shutil
@@ -13,7 +14,8 @@ from parts import ROOT, count, counts_in, crates, crates_in, minutes, part
 GB = 2**30
 A_PROOF = 5 * GB  # the most that the proof of a crate takes of memory
 NODE, ROOM = 20, 2**29  # the bytes of a node in the prover's arena of terms, and how many nodes it has room for
-MAPPING = re.compile(r"(?m)^([0-9a-f]+)-([0-9a-f]+) (....) \S+ \S+ 0 *$\n(?:^[A-Z]\w*: .*\n)*?^Rss: +(\d+) kB$")
+MAPPING = re.compile(r"(?m)^([0-9a-f]+)-([0-9a-f]+) (....) \S+ \S+ 0 *$")
+A_PAGE, ENTRY = os.sysconf("SC_PAGE_SIZE"), 8  # the bytes of a page of memory, and of what /proc/PID/pagemap says of it
 
 
 def copied(to, examples=workspaces.IN_GATE, only=None):
@@ -29,14 +31,25 @@ def copied(to, examples=workspaces.IN_GATE, only=None):
     return to
 
 
-def nodes_in(smaps):
-    """How many nodes a process has written in the prover's arena, by what /proc says of its mappings: the part of the arena that is open
-    and the part that is not yet are neighbours, and have the size of all of it together. The number is the same at any load."""
-    found = [(int(it[1], 16), int(it[2], 16), it[3], int(it[4])) for it in MAPPING.finditer(smaps)]
-    for (begin, middle, kind, kilobytes), (behind, end, rest, _) in zip(found, found[1:]):
+def arena_in(maps):
+    """The pages of the prover's arena that are open, by what /proc says of a process's mappings: the part that is open and the part that is not
+    yet are neighbours, and have the size of all of it together."""
+    found = [(int(it[1], 16), int(it[2], 16), it[3]) for it in MAPPING.finditer(maps)]
+    for (begin, middle, kind), (behind, end, rest) in zip(found, found[1:]):
         if (kind, rest) == ("rw-p", "---p") and middle == behind and end - begin == NODE * ROOM:
-            return kilobytes * 1024 // NODE
-    return 0
+            return range(begin // A_PAGE, middle // A_PAGE)
+    return range(0)
+
+
+def nodes_in(arena, pagemap):
+    """How many nodes a process has written in the prover's arena. It is written from its beginning on, so the first page that is not there, whose
+    highest two bits in ``pagemap`` are not set, is found by halving; of a process that has ended none is there. The number is the same at any load."""
+
+    def is_new(page):
+        pagemap.seek(ENTRY * page)
+        return not any(it >> 6 for it in pagemap.read(ENTRY)[-1:])
+
+    return bisect.bisect_left(arena, True, key=is_new) * A_PAGE // NODE
 
 
 class Watch(threading.Thread):
@@ -63,7 +76,8 @@ class Watch(threading.Thread):
             kind = self.kind_of(words, self.taken.get((pid, fields[19]), (above,))[0])  # one that has ended has no words any more
             self.taken[pid, fields[19]] = kind, int(fields[11]) + int(fields[12])
             if "--crate-name" in words and "--crate-checked" not in words:
-                self.nodes[kind] = max(self.nodes.get(kind, 0), nodes_in(read(f"/proc/{pid}/smaps")))
+                with open(f"/proc/{pid}/pagemap", "rb", buffering=0) as it:
+                    self.nodes[kind] = max(self.nodes.get(kind, 0), nodes_in(arena_in(read(f"/proc/{pid}/maps")), it))
             tasks = os.listdir(f"/proc/{pid}/task")
             below = " ".join(read(f"/proc/{pid}/task/{it}/children") for it in tasks).split()
         except OSError:

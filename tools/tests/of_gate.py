@@ -1,6 +1,7 @@
 """The gate's own parts: what they read of crates.txt, README.md, rt ci and planted bodies, and what they count."""
 import importlib.machinery
 import importlib.util
+import io
 import os
 import shutil
 import sys
@@ -92,15 +93,20 @@ class Gate(unittest.TestCase):
         self.assertEqual(parts.counts_in(""), None)
 
     def test_nodes(self):
-        def mapping(begin, end, kind, kilobytes):
-            return f"{begin:x}-{end:x} {kind} 00000000 00:00 0 \nSize:  9 kB\nRss:   {kilobytes} kB\nVmFlags: rd\n"
+        def mapping(begin, end, kind):
+            return f"{begin:x}-{end:x} {kind} 00000000 00:00 0 \n"
 
-        opened, whole = 2**26, proving.NODE * proving.ROOM
-        arena = mapping(2**40, 2**40 + opened, "rw-p", 500) + mapping(2**40 + opened, 2**40 + whole, "---p", 0)
-        other = mapping(2**39, 2**39 + opened, "rw-p", 70)
-        self.assertEqual(proving.nodes_in(other + arena), 500 * 1024 // proving.NODE)
-        self.assertEqual(proving.nodes_in(other), 0)
-        self.assertEqual(proving.nodes_in(arena.replace("---p", "r--p")), 0)
+        begin, opened, whole = 2**20, 2**26, proving.NODE * proving.ROOM
+        arena = mapping(begin, begin + opened, "rw-p") + mapping(begin + opened, begin + whole, "---p")
+        other = mapping(2**19, 2**19 + opened, "rw-p")
+        pages = proving.arena_in(other + arena)
+        self.assertEqual((pages[0], len(pages)), (begin // proving.A_PAGE, opened // proving.A_PAGE))
+        self.assertEqual(len(proving.arena_in(other)), 0)
+        self.assertEqual(len(proving.arena_in(arena.replace("---p", "r--p"))), 0)
+        for written in (0, 1, 125, len(pages)):
+            said = bytes(8) * pages[0] + (bytes(7) + b"\x80") * written + bytes(8) * (len(pages) - written)
+            self.assertEqual(proving.nodes_in(pages, io.BytesIO(said)), written * proving.A_PAGE // proving.NODE)
+        self.assertEqual(proving.nodes_in(pages, io.BytesIO()), 0)
 
     def test_budget(self):
         budget = {"low": 1.0, "tests of low": 2.0}
