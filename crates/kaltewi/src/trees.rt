@@ -103,6 +103,21 @@ pub use rt_tree::LeafRef;
 ///     tree.child(key).is_some()
 /// }
 ///
+/// fn note(alloc: Global, text: Leaf, age: Leaf) -> Result<Tree, TreeError> {
+///     let children = vec![in alloc; ("text", Tree::leaf(text)), ("age", Tree::leaf(age))]?;
+///     Tree::object_of(alloc, children)
+/// }
+///
+/// fn show_note(rt: &impl Print, tree: &Tree) -> Result<()> {
+///     let text = tree.text_at("text").unwrap_or("none");
+///     let age = tree.number_at("age").unwrap_or(0);
+///     let is_read = tree.truth_at("read").is_some();
+///     let has_name = tree.leaf_at("/from/name").is_some() || tree.part_at("from").is_some();
+///     let has_text = tree.child_named("text").is_some();
+///     println!(rt; "{text}, {age}: {is_read} {has_name} {has_text}")?;
+///     Ok(())
+/// }
+///
 /// fn leaf_at<'a>(tree: &'a Tree, path: &Path) -> Option<&'a Leaf> {
 ///     tree.get(path)?.as_leaf()
 /// }

@@ -13,6 +13,7 @@ ghost use Rattle.rt_tree.specs.inside.Puts.{PutsBelow};
 ghost use Rattle.rt_tree.specs.inside.TreeView.{IsObject};
 
 mod children;
+mod named;
 mod reading;
 mod taking;
 mod writing;

@@ -58,7 +58,7 @@ fn is_one_too_deep(children: &[(Key, Tree)]) -> bool
 }
 
 // The object of children that have room below a key.
-fn object_of(alloc: Global, children: Vec<(Key, Tree)>) -> Result<Tree, AllocError>
+pub fn object_of(alloc: Global, children: Vec<(Key, Tree)>) -> Result<Tree, AllocError>
     requires { All (λ e. levels e.1 < MAX_LEVELS) children.items }
     ensures { IfOk result (λ tree. tree ≡ object (reverse children.items)) }
 {
