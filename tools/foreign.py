@@ -3,8 +3,8 @@
 The library is built over what rt ci proved. A C program with include/kaltewi.h, compiled with warnings as errors and with the sanitizers of
 addresses and of undefined behaviour, runs each script row, and prints what the console prints. Another runs each script of tests/scripts/ once for
 each growth that it asks for, with that growth refused, and a third makes each call of a client so. The tests of the bindings run where their
-languages are there, and the chat of bindings/rust over the console's emulate; where one is not, the part says so. The module for bindings/js is made from
-what the same run of rt lib compiles (tools/web_parts.py)."""
+languages are there, and the chats of bindings/c, which wants libwebsockets, and of bindings/rust over the console's emulate; where one is not, the part
+says so. The module for bindings/js is made from what the same run of rt lib compiles (tools/web_parts.py)."""
 import os
 import shutil
 import subprocess
@@ -17,7 +17,7 @@ import web_parts
 from bodies import over_proved
 from cutting import Wrong
 from emulating import Emulator
-from frames import SECONDS
+from frames import SECONDS, free_port
 from parts import ROOT, Clock, crates, part, some_of
 from rows import builds_of, rows
 from runs import differs
@@ -97,6 +97,33 @@ def client_part(room):
     part("C: the calls of a client, with each growth refused", why, clock)
 
 
+def websockets():
+    """The words that compile and link a C program over libwebsockets, where pkg-config finds it."""
+    if not shutil.which("pkg-config"):
+        return []
+    ran = subprocess.run(["pkg-config", "--cflags", "--libs", "libwebsockets"], capture_output=True, text=True)
+    return [] if ran.returncode else ran.stdout.split()
+
+
+def unserved(chat):
+    """What is wrong with a chat at a port where nobody listens, if anything is: it has to say so by one line."""
+    ran = subprocess.run([chat, str(free_port())], stdin=subprocess.DEVNULL, capture_output=True, timeout=SECONDS, env={**os.environ, **SANITIZED})
+    return differs("a chat that nobody serves", (ran.returncode, ran.stdout, ran.stderr), (1, b"", b"ann: no connection can be made\n"))
+
+
+def c_chat_part(copy, room):
+    """The chat of bindings/c, where libwebsockets is there."""
+    words = websockets()
+    if not words:
+        print("       C: pkg-config finds no libwebsockets, so the chat of bindings/c is not tried")
+        return
+    why = compiled("chat", [*archives(room), *words], room) or unserved(f"{room}/chat")
+    if why:
+        part("C: the chat of bindings/c", why)
+    else:
+        chat_part("C", copy, f"{room}/chat")
+
+
 def shared(room):
     """Makes the shared library of the archive, whose names alone are seen."""
     with open(f"{room}/names", "w", encoding="utf-8") as it:
@@ -125,14 +152,14 @@ def rust_part(copy, room):
     why = said(["cargo", "test", "--quiet", "--offline"], cwd=crate, env=environment)
     part("Rust: the tests and examples of bindings/rust", why, clock)
     if not why:
-        chat_part(copy, f"{room}/target/debug/examples/chat")
+        chat_part("Rust", copy, f"{room}/target/debug/examples/chat")
 
 
 def wrong_chat(program, chat):
     """What is wrong with a chat of two clients at once whom that program serves, if anything is: each has to hear what either says."""
     try:
         with Emulator(program, "--count", "2") as it:
-            ran = subprocess.run([chat, str(it.port)], capture_output=True, text=True, timeout=SECONDS)
+            ran = subprocess.run([chat, str(it.port)], capture_output=True, text=True, timeout=SECONDS, env={**os.environ, **SANITIZED})
             lines = ran.stdout.splitlines()
             heard = {(line[:3], said) for line in lines for said in ("ann: hi", "bob: hello") if " hears: " in line and said in line}
             if ran.returncode or len(heard) != 4:
@@ -149,25 +176,28 @@ def consoles(copy):
     return builds_of(copy, "rt_console") if os.path.isdir(f"{copy}/crates/rt_console/out") else []
 
 
-def chat_part(copy, chat):
-    """The chat of bindings/rust beside the console, where that is built."""
+def chat_part(language, copy, chat):
+    """The chat of that language's bindings beside the console, where that is built."""
     programs = consoles(copy)
     if not programs:
-        print("       Rust: the console is not built, so the chat of bindings/rust is not tried")
+        print(f"       {language}: the console is not built, so the chat of its bindings is not tried")
         return
     clock = Clock()
     wrong = [text for it in programs for text in [wrong_chat(it, chat)] if text]
-    part(f"Rust: a chat of two clients over emulate, {len(programs)} runs", some_of(wrong, programs), clock)
+    part(f"{language}: a chat of two clients over emulate, {len(programs)} runs", some_of(wrong, programs), clock)
 
 
 def guide_part(copy, room):
-    """What docs/GUIDE.md shows of the languages, over the library as ./kaltewi lib leaves it."""
+    """What docs/GUIDE.md shows of the languages, over the library as ./kaltewi lib leaves it; its program in C is compiled without a warning."""
     with open(f"{room}/stamp", "w", encoding="utf-8") as it:
         it.write("made by the gate\n")
     try:
         library.leave(archives(room), "proved", room, f"{copy}/crates/{CRATE}/out", f"{room}/stamp")
-    except library.Stop as why:
-        part("docs/GUIDE.md's pieces for C, Rust and Python", str(why))
+        why = compiled("first", archives(room), room)
+    except library.Stop as stopped:
+        why = str(stopped)
+    if why:
+        part("docs/GUIDE.md's pieces for C, Rust and Python", why)
         return
     spoken.spoken_part(ROOT, copy, room)
 
@@ -180,6 +210,7 @@ def foreign_parts(copy, room):
     if c_part(copy, room):
         growths_part(room)
         client_part(room)
+        c_chat_part(copy, room)
         python_part(room)
         rust_part(copy, room)
         guide_part(copy, room)

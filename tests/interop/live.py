@@ -1,15 +1,18 @@
-"""Clients by two other WebSocket libraries, Debian's python3-websockets and node-ws, and two `watch` beside them on one `emulate`."""
+"""Clients by two other WebSocket libraries, Debian's python3-websockets and node-ws, and two `watch` beside them on one `emulate`; the chats of
+bindings/c, by libwebsockets, and of bindings/python."""
 import json
 import os
 import shutil
 import socket
 import subprocess
+import tempfile
 import threading
 import time
 
 from common import SECONDS, Wrong, data, listen, must, ok, put
 
 HERE = os.path.dirname(os.path.realpath(__file__))
+BINDINGS = os.path.realpath(f"{HERE}/../../bindings")
 NODE_PATH = "/usr/share/nodejs:/usr/lib/nodejs"  # where Debian's packages of Node are
 CLIENTS = {
     "python3-websockets": ["/usr/bin/python3", "-B", f"{HERE}/client.py"],
@@ -167,7 +170,29 @@ def all_end_with_one_tree(emulator, clients, watches):
     must("how many have it", len(trees), last)
 
 
+def compiled_chat(room):
+    """The chat of bindings/c, over the library of this checkout or over that which KALTEWI_ARCHIVES names."""
+    archives = os.environ.get("KALTEWI_ARCHIVES", f"{BINDINGS}/../crates/rt_ffi/out/libkaltewi.a").split(":")
+    words = ["cc", f"-I{BINDINGS}/../include", f"{BINDINGS}/c/chat.c", *archives, "-lwebsockets", "-o", f"{room}/chat"]
+    must("how cc ends", subprocess.run(words, stdin=subprocess.DEVNULL).returncode, 0)
+    return f"{room}/chat"
+
+
+def chats_meet(emulator, _clients, _watches):
+    """Chats one after another: each hears its own lines, and all that were said before."""
+    with tempfile.TemporaryDirectory() as room:
+        c, python = [compiled_chat(room)], ["/usr/bin/python3", "-B", f"{BINDINGS}/python/chat.py"]
+        for said, words in enumerate((c, python, c)):
+            ran = subprocess.run([*words, emulator.ran.args[2]], stdin=subprocess.DEVNULL, capture_output=True, text=True, timeout=SECONDS)
+            must(f"how {words[-1]} ends", (ran.returncode, ran.stderr), (0, ""))
+            for name in ("ann", "bob"):
+                heard = ran.stdout.count(f"{name} hears: ann: hi\n"), ran.stdout.count(f"{name} hears: bob: hello\n")
+                must(f"whether {name} hears all in {words[-1]}: {heard}", min(heard) >= said and sum(heard) > 2 * said, True)
+
+
+CHATS = Live("chats in C and in Python hear each other", chats_meet)
 CASES = [
     Live("two libraries and two that watch see each other", they_see_each_other),
     Live("many writes by two libraries and two that watch", all_end_with_one_tree),
+    CHATS,
 ]
