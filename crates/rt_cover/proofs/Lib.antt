@@ -21,3 +21,4 @@ pub mod SupplyLaws
 pub mod SupplierLaws
 pub mod TagLaws
 pub mod TagPlaceLaws
+pub mod TakenLaws

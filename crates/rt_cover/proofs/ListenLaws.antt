@@ -395,15 +395,6 @@ none_taken s (k ∷ ks) e =
       | false ↦ λ f. ap (λ xs. k ∷ xs) (none_taken s ks f)
     ] e
 
--- and no tag is taken
-pub none_stopped : (s : Tagged → Bool) (ks : List Tagged) → length (map (λ (k : Tagged). k.tag) (filter s ks)) ≡ 0 → list_any s ks ≡ false
-none_stopped s [] e = refl
-none_stopped s (k ∷ ks) e =
-    elim (s k) as (λ b. length (map (λ (x : Tagged). x.tag) (cond b (k ∷ filter s ks) (filter s ks))) ≡ 0 → (b || list_any s ks) ≡ false) [
-      | true ↦ λ f. absurd (omega (arith, f))
-      | false ↦ λ f. none_stopped s ks f
-    ] e
-
 pub none_lost : (lost ks : List Tagged) → length lost ≡ 0 → filter (λ (k : Tagged). not (list_any (λ (j : Tagged). j.tag == k.tag) lost)) ks ≡ ks
 none_lost [] ks e = filter_all (λ (k : Tagged). true) ks (λ i d lt. refl)
 none_lost (k ∷ lost) ks e = absurd (omega (arith, e))

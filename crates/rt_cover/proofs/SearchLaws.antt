@@ -1,24 +1,43 @@
--- Lists that stand by the paths of their forms: those at a path stand together, and so do those at or
+-- Lists that stand in the order of their forms: those at a path stand together, and so do those at or
 -- under it.
 use Rattle.std.proofs.Common.{◌≡◌, ℕ, zero, suc, ◌+◌, ◌-◌, ◌<◌, ◌≤◌, nat_lt, Bool, true, false, cond, List, [], ◌∷◌, ◌++◌, length, take, drop, get_or, refl, sym, ap, subst, ◌∙◌, arith, ltb, ltb-true, ltb-false, None, is_some, append-nil}
 use mathlib.Core.Bool.{true≢false}
-use Rattle.std.specs.Cmp.{IsStrictWeakOrder}
-use Rattle.std.specs.List.{filter, insert, All, AllPairs, AllWithin}
+use Rattle.std.specs.Cmp.{IsStrictWeakOrder, tied_itself}
+use Rattle.std.specs.List.{filter, insert, list_any, All, AllPairs, AllWithin}
 use Rattle.std.specs.List.Sorted.{IsSorted, IsPartitionedBy, IsPartitionPoint, IsNonDecreasingBy}
 use Rattle.std.specs.Ordering.{is_lt, is_le, is_eq, ordering_index, ordering_then, ordering_reverse}
 use Rattle.std.specs.declared.cmp.Ordering.{Ordering}
 use Rattle.std.specs.declared.cmp.Ordering.TheVariants.{Less, Equal, Greater}
-use Rattle.std.proofs.lemmas.List.{get_or-take, get_or-drop, length-take-le, length-drop, take-append-drop}
+use Rattle.std.proofs.lemmas.List.{get_or_default, get_or-take, get_or-drop, length-take-le, length-drop, take-append-drop}
 use Rattle.std.proofs.lemmas.List.Elements.{filter-append, All-append, All-cons, All-take, All-drop}
+use Rattle.std.proofs.lemmas.List.Folds.{list_any_none}
 use Rattle.std.proofs.lemmas.List.Kept.{AllPairs-cons, AllPairs-filter}
 use Rattle.std.proofs.lemmas.List.Sorted.{searchable_from_sorted, IsPartitionedBy-ltb, IsNonDecreasingBy-drop, ranks_by, sorted_far}
 use Rattle.std.proofs.Math.Seq.{take-length}
 use Rattle.rt_tree.specs.PathTree.{Path, path_cmp, path_eq, paths_total, exact_paths, key_cmp, key_eq, key_eq-is, key_eq-symm, strip}
 use Rattle.rt_tree.specs.Assignments.{is_at_or_above}
 use Rattle.rt_query.specs.Queries.{Query}
+use Rattle.rt_query.specs.QueryEq.{query_eq}
+use Rattle.rt_query.specs.QueryOrder.{query_cmp}
+use Rattle.rt_query.specs.laws.QueryEq.{query_eq_tells}
+use Rattle.rt_query.specs.laws.QueryOrder.{queries_total, exact_queries}
 use Rattle.rt_cover.specs.inside.Index.{by_form}
 use Rattle.rt_cover.specs.laws.Pairs.{filter_none, filter_all, AllPairs-first, AllPairs-rest}
 use Rattle.rt_cover.specs.laws.Paths.{is_at_or_above-same}
+
+-- ---- paths in the order of forms
+
+first_of : (o s : Ordering) → is_lt (ordering_then o s) ≡ false → is_lt o ≡ false
+first_of Less s e = e
+first_of Equal s e = refl
+first_of Greater s e = refl
+
+-- a form that does not stand before another has no path before that one's
+path_first : (r s : Query) → is_lt (query_cmp r s) ≡ false → is_lt (path_cmp r.path s.path) ≡ false
+path_first r s e = first_of (path_cmp r.path s.path) _ e
+
+paths_sorted : {X : Type 0} (q : X → Query) (ls : List X) → IsSorted (by_form q) ls → IsSorted (λ (x y : X). path_cmp (q x).path (q y).path) ls
+paths_sorted q ls up k d low high = path_first (q (get_or ls (k + 1) d)) (q (get_or ls k d)) (up k d low high)
 
 -- ---- where a path stands
 
@@ -34,7 +53,7 @@ before_two Equal = refl
 before_two Greater = refl
 
 never_fall : {X : Type 0} (q : X → Query) (p : Path) (ls : List X) → IsSorted (by_form q) ls → IsNonDecreasingBy (λ (x : X). ordering_index (path_cmp (q x).path p)) ls
-never_fall {X = X} q p ls up = searchable_from_sorted paths_total (λ (x : X). (q x).path) ls p up
+never_fall {X = X} q p ls up = searchable_from_sorted paths_total (λ (x : X). (q x).path) ls p (paths_sorted q ls up)
 
 pub befores_first : {X : Type 0} (q : X → Query) (p : Path) (ls : List X) → IsSorted (by_form q) ls → IsPartitionedBy (λ (x : X). is_lt (path_cmp (q x).path p)) ls
 befores_first {X = X} q p ls up i j d le lt e = before_one (path_cmp (q (get_or ls i d)).path p)
@@ -171,10 +190,10 @@ under_from r s p a b c =
 
 -- no element stands before one in front of it
 abbrev pub AreUp : {X : Type 0} → (X → Query) → List X → Type 0
-AreUp q xs = AllPairs (λ x y. is_lt (path_cmp (q y).path (q x).path) ≡ false) xs
+AreUp q xs = AllPairs (λ x y. is_lt (query_cmp (q y) (q x)) ≡ false) xs
 
 pub form_ranks : {X : Type 0} (q : X → Query) → IsStrictWeakOrder (λ (x y : X). is_lt (by_form q x y))
-form_ranks {X = X} q = ranks_by paths_total (λ (x : X). (q x).path)
+form_ranks q = ranks_by queries_total q
 
 pub are_up : {X : Type 0} (q : X → Query) (xs : List X) → IsSorted (by_form q) xs → AreUp q xs
 are_up {X = X} q xs s i j d lt within = sorted_far (λ (x y : X). is_lt (by_form q x y)) (form_ranks q) xs s i j d (omega (arith, lt)) within
@@ -183,7 +202,7 @@ pub up_sorted : {X : Type 0} (q : X → Query) (xs : List X) → AreUp q xs → 
 up_sorted q xs up k d low high = up k (k + 1) d (omega arith) high
 
 pub sorted_filter : {X : Type 0} (q : X → Query) (p : X → Bool) (xs : List X) → IsSorted (by_form q) xs → IsSorted (by_form q) (filter p xs)
-sorted_filter {X = X} q p xs s = up_sorted q (filter p xs) (AllPairs-filter (λ (x y : X). is_lt (path_cmp (q y).path (q x).path) ≡ false) p xs (are_up q xs s))
+sorted_filter {X = X} q p xs s = up_sorted q (filter p xs) (AllPairs-filter (λ (x y : X). is_lt (query_cmp (q y) (q x)) ≡ false) p xs (are_up q xs s))
 
 -- those that are not before the path, and under it, come first
 pub under_first : {X : Type 0} (q : X → Query) (p : Path) (ls rest : List X) (first : ℕ) → rest ≡ drop first ls → first ≤ length ls → IsSorted (by_form q) ls
@@ -201,7 +220,7 @@ under_first {X = X} q p ls rest first is inside s a = subst (IsPartitionedBy (λ
               ap (λ (x : X). is_at_or_above p (q x).path) (get_or-drop first ls i d)
               ∙ under_from p (q (get_or ls (first + i) d)).path (q (get_or ls (first + j) d)).path under
               (a.1 (first + i) d (omega arith) (omega (arith, l, there)))
-              (are_up q ls s (first + i) (first + j) d (omega (arith, l)) there)
+              (path_first (q (get_or ls (first + j) d)) (q (get_or ls (first + i) d)) (are_up q ls s (first + i) (first + j) d (omega (arith, l)) there))
           | false ↦ λ f.
               let ge : j ≤ i = ltb-false i j f in
               let same : j ≡ i = omega (arith, ge, le) in
@@ -256,33 +275,80 @@ span_of_rest {X = X} q p ls rest first count is inside enough a b =
         let here : count + k < length behind = omega (arith, lt, fits, length-drop count behind) in
         ap under (get_or-drop count behind k d) ∙ there.1 (count + k) d (omega arith) here
 
--- ---- one more in its place, behind those of its path
+-- ---- where a form stands
 
-not_lt : (o : Ordering) → is_le o ≡ true → is_lt (ordering_reverse o) ≡ false
-not_lt Less e = refl
-not_lt Equal e = refl
-not_lt Greater e = absurd (true≢false (sym e))
+pub lesser_first : {X : Type 0} (q : X → Query) (f : Query) (ls : List X) → IsSorted (by_form q) ls → IsPartitionedBy (λ (x : X). is_lt (query_cmp (q x) f)) ls
+lesser_first {X = X} q f ls up i j d le lt e = before_one (query_cmp (q (get_or ls i d)) f)
+    ∙ IsPartitionedBy-ltb (λ (x : X). ordering_index (query_cmp (q x) f)) ls 1 (searchable_from_sorted queries_total q ls f up) i j d le lt
+    (sym (before_one (query_cmp (q (get_or ls j d)) f)) ∙ e)
 
-not_le : (o : Ordering) → is_le o ≡ false → is_lt o ≡ false
-not_le Less e = absurd (true≢false e)
-not_le Equal e = refl
-not_le Greater e = refl
+-- what stands before a form is another one
+lesser_other : (r f : Query) → is_lt (query_cmp r f) ≡ true → query_eq r f ≡ false
+lesser_other r f e = at (query_eq r f) refl
+  where
+    at : (b : Bool) → query_eq r f ≡ b → query_eq r f ≡ false
+    at false t = t
+    at true t = absurd (true≢false (sym e ∙ ap (λ x. is_lt (query_cmp x f)) ((query_eq_tells r f).0 t) ∙ ap is_lt (tied_itself queries_total f)))
+
+-- of two of which neither stands before the other each is the other
+neither_lesser : (r f : Query) → is_lt (query_cmp r f) ≡ false → is_lt (query_cmp f r) ≡ false → r ≡ f
+neither_lesser r f a b = at (query_cmp r f) refl
+  where
+    at : (o : Ordering) → query_cmp r f ≡ o → r ≡ f
+    at Less e = absurd (true≢false (sym (ap is_lt e) ∙ a))
+    at Equal e = exact_queries r f e
+    at Greater e = absurd (true≢false (sym (ap is_lt (queries_total.antisymm f r ∙ ap ordering_reverse e)) ∙ b))
+
+module _ {X : Type 0} (q : X → Query) (f : Query) (ls : List X) (up : IsSorted (by_form q) ls) (n : ℕ)
+    (point : IsPartitionPoint (λ (x : X). is_lt (query_cmp (q x) f) ≡ true) (λ (x : X). is_lt (query_cmp (q x) f) ≡ false) ls n) where
+  -- all stand before the form: none is of it
+  pub at_end : n ≡ length ls → list_any (λ (x : X). query_eq (q x) f) ls ≡ false
+  at_end all = list_any_none (λ (x : X). query_eq (q x) f) ls (λ k d lt. lesser_other (q (get_or ls k d)) f (point.0 k d (omega arith) (omega (arith, lt, all))))
+
+  -- or the first that doesn't is not: then none is
+  pub at_gap : (y : X) → n < length ls → query_eq (q (get_or ls n y)) f ≡ false → list_any (λ (x : X). query_eq (q x) f) ls ≡ false
+  at_gap y within other = list_any_none (λ (x : X). query_eq (q x) f) ls none
+    where
+      none : (k : ℕ) (d : X) → k < length ls → query_eq (q (get_or ls k d)) f ≡ false
+      none k d lt = at (nat_lt k n) refl
+        where
+          same_here : q (get_or ls k d) ≡ f → n ≤ k → ⊥
+          same_here same le =
+              let here : q (get_or ls n d) ≡ f = neither_lesser (q (get_or ls n d)) f (point.1 n d (omega arith) within)
+              (ap (λ r. is_lt (query_cmp r (q (get_or ls n d)))) (sym same)
+              ∙ sorted_far (λ (x z : X). is_lt (by_form q x z)) (form_ranks q) ls up n k d le lt) in
+              true≢false (sym ((query_eq_tells (q (get_or ls n y)) f).1 (ap q (get_or_default ls n y d within) ∙ here)) ∙ other)
+
+          here : (b : Bool) → query_eq (q (get_or ls k d)) f ≡ b → n ≤ k → query_eq (q (get_or ls k d)) f ≡ false
+          here false t le = t
+          here true t le = absurd (same_here ((query_eq_tells (q (get_or ls k d)) f).0 t) le)
+
+          at : (b : Bool) → nat_lt k n ≡ b → query_eq (q (get_or ls k d)) f ≡ false
+          at true e = lesser_other (q (get_or ls k d)) f (point.0 k d (omega arith) (ltb-true k n e))
+          at false e = here (query_eq (q (get_or ls k d)) f) refl (ltb-false k n e)
+
+-- ---- one more in its place
+
+turned : (o : Ordering) → is_lt o ≡ true → is_lt (ordering_reverse o) ≡ false
+turned Less e = refl
+turned Equal e = absurd (true≢false (sym e))
+turned Greater e = absurd (true≢false (sym e))
 
 sorted_between : {X : Type 0} (q : X → Query) (xs : List X) (i : ℕ) (y : X) → IsSorted (by_form q) xs
-    → AllWithin (λ (x : X). is_le (path_cmp (q x).path (q y).path) ≡ true) xs 0 i
-    → AllWithin (λ (x : X). is_lt (path_cmp (q x).path (q y).path) ≡ false) xs i (length xs)
+    → AllWithin (λ (x : X). is_lt (query_cmp (q x) (q y)) ≡ true) xs 0 i
+    → AllWithin (λ (x : X). is_lt (query_cmp (q x) (q y)) ≡ false) xs i (length xs)
     → IsSorted (by_form q) (insert xs i y)
 sorted_between {X = X} q xs i y s a b = up_sorted q (insert xs i y) (placed xs i (are_up q xs s) a b)
   where
     R : X → X → Type 0
-    R x z = is_lt (path_cmp (q z).path (q x).path) ≡ false
+    R x z = is_lt (query_cmp (q z) (q x)) ≡ false
 
-    before : (z : X) → is_le (path_cmp (q z).path (q y).path) ≡ true → R z y
-    before z e = ap is_lt (paths_total.antisymm (q y).path (q z).path) ∙ not_lt (path_cmp (q z).path (q y).path) e
+    before : (z : X) → is_lt (query_cmp (q z) (q y)) ≡ true → R z y
+    before z e = ap is_lt (queries_total.antisymm (q y) (q z)) ∙ turned (query_cmp (q z) (q y)) e
 
     placed : (zs : List X) (n : ℕ) → AllPairs R zs
-        → AllWithin (λ (x : X). is_le (path_cmp (q x).path (q y).path) ≡ true) zs 0 n
-        → AllWithin (λ (x : X). is_lt (path_cmp (q x).path (q y).path) ≡ false) zs n (length zs)
+        → AllWithin (λ (x : X). is_lt (query_cmp (q x) (q y)) ≡ true) zs 0 n
+        → AllWithin (λ (x : X). is_lt (query_cmp (q x) (q y)) ≡ false) zs n (length zs)
         → AllPairs R (insert zs n y)
     placed zs zero up a b = AllPairs-cons R y zs (λ k d lt. b k d (omega arith) lt) up
     placed [] (suc n) up a b = AllPairs-cons R y [] (λ k d lt. absurd (omega (arith, lt))) up
@@ -294,6 +360,6 @@ sorted_between {X = X} q xs i y s a b = up_sorted q (insert xs i y) (placed xs i
         (placed zs n (AllPairs-rest R z zs up) (λ k d low lt. a (suc k) d (omega arith) (omega (arith, lt))) (λ k d low lt. b (suc k) d (omega (arith, low)) (omega (arith, lt))))
 
 pub sorted_insert : {X : Type 0} (q : X → Query) (xs : List X) (i : ℕ) (y : X) → IsSorted (by_form q) xs
-    → IsPartitionPoint (λ (x : X). is_le (path_cmp (q x).path (q y).path) ≡ true) (λ (x : X). is_le (path_cmp (q x).path (q y).path) ≡ false) xs i
+    → IsPartitionPoint (λ (x : X). is_lt (query_cmp (q x) (q y)) ≡ true) (λ (x : X). is_lt (query_cmp (q x) (q y)) ≡ false) xs i
     → IsSorted (by_form q) (insert xs i y)
-sorted_insert {X = X} q xs i y s at = sorted_between q xs i y s at.0 (λ k d low lt. not_le (path_cmp (q (get_or xs k d)).path (q y).path) (at.1 k d low lt))
+sorted_insert q xs i y s at = sorted_between q xs i y s at.0 at.1

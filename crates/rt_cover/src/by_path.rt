@@ -1,4 +1,4 @@
-// Listens by path: those of one path stand together, and are found by halving.
+// Listens in the order of their forms: those of one path stand together. Each is found by halving.
 ghost use Rattle.std.specs.Prelude.{◌≡◌, ◌≤◌, true, false, length};
 ghost use Rattle.std.specs.List.{filter};
 ghost use Rattle.std.specs.List.Sorted.{IsPartitionPoint, IsSorted};
@@ -6,9 +6,10 @@ ghost use Rattle.std.specs.Ordering.{is_lt, is_le};
 ghost use Rattle.rt_tree.specs.PathTree.{path_cmp, path_eq};
 ghost use Rattle.rt_tree.specs.Assignments.{is_at_or_above};
 ghost use Rattle.rt_query.specs.Queries.{Query};
+ghost use Rattle.rt_query.specs.QueryOrder.{query_cmp};
 ghost use Rattle.rt_cover.specs.inside.Index.{by_form};
 
-use rt_query::Query;
+use rt_query::{Query, query_cmp};
 use rt_tree::{Key, Path};
 
 // What has a form, by whose path it stands.
@@ -35,7 +36,7 @@ fn is_not_behind<T: HasForm>(item: &T, path: &[Key]) -> bool
 }
 
 // Where the first stands that is not before the path, by halving.
-pub(crate) fn first_from<T: HasForm>(by_path: &[T], path: &[Key]) -> usize
+fn first_from<T: HasForm>(by_path: &[T], path: &[Key]) -> usize
     requires { IsSorted (by_form T.form_of) by_path.now }
     ensures within { result ≤ length by_path.now }
     ensures point { IsPartitionPoint (λ x. is_lt (path_cmp (T.form_of x).path path.now) ≡ true)
@@ -44,14 +45,21 @@ pub(crate) fn first_from<T: HasForm>(by_path: &[T], path: &[Key]) -> usize
     by_path.partition_point(|item| is_before(item, path))
 }
 
-// Where the first stands that is behind the path, by halving.
-pub(crate) fn first_behind<T: HasForm>(by_path: &[T], path: &[Key]) -> usize
+// Whether its form stands before this one.
+fn is_lesser<T: HasForm>(item: &T, form: &Query) -> bool
+    ensures { result ≡ is_lt (query_cmp (T.form_of item.now) form.now) }
+{
+    query_cmp(item.form(), form).is_lt()
+}
+
+// Where the first stands whose form is not before this one, by halving.
+pub(crate) fn place_of_form<T: HasForm>(by_path: &[T], form: &Query) -> usize
     requires { IsSorted (by_form T.form_of) by_path.now }
     ensures within { result ≤ length by_path.now }
-    ensures point { IsPartitionPoint (λ x. is_le (path_cmp (T.form_of x).path path.now) ≡ true)
-        (λ x. is_le (path_cmp (T.form_of x).path path.now) ≡ false) by_path.now result }
+    ensures point { IsPartitionPoint (λ x. is_lt (query_cmp (T.form_of x) form.now) ≡ true)
+        (λ x. is_lt (query_cmp (T.form_of x) form.now) ≡ false) by_path.now result }
 {
-    by_path.partition_point(|item| is_not_behind(item, path))
+    by_path.partition_point(|item| is_lesser(item, form))
 }
 
 // Those of a path.

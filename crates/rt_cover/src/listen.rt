@@ -108,7 +108,7 @@ pub(crate) fn tags_of(alloc: Global, kept: &[Listen]) -> Result<Vec<u64>, AllocE
 }
 
 // The first place at which no lesser tag stands, by halving.
-fn place_of(kept: &[Listen], tag: u64) -> usize
+pub(crate) fn place_of(kept: &[Listen], tag: u64) -> usize
     requires { AllPairs (λ j k. j.tag < k.tag) kept.now }
     ensures first { result ≡ tag_place tag kept.now }
     ensures within { result ≤ length kept.now }

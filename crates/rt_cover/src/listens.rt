@@ -1,8 +1,8 @@
 // The listens kept, by tag and by path.
 ghost use Rattle.std.specs.Prelude.{◌≡◌, ◌<◌, ◌≤◌, ◌==◌, ◌+◌, ◌++◌, ◌∷◌, [], ◌&&◌, true, false, not};
-ghost use Rattle.std.specs.Prelude.{map, length, nat_lt, vec_len, vec_capacity};
+ghost use Rattle.std.specs.Prelude.{map, length, nat_lt, slice_index_or, vec_len, vec_capacity};
 ghost use Rattle.std.specs.Prelude.{None, IfOk, IfSome, IfNone, OnOk, OnErr};
-ghost use Rattle.std.specs.List.{filter, find, list_any, AllPairs};
+ghost use Rattle.std.specs.List.{count_by, filter, find, list_any, AllPairs};
 ghost use Rattle.std.specs.List.Sorted.{IsSorted};
 ghost use Rattle.std.specs.Option.{option_map};
 ghost use Rattle.rt_tree.specs.PathTree.{path_eq};
@@ -10,13 +10,14 @@ ghost use Rattle.rt_tree.specs.Assignments.{is_at_or_above};
 ghost use Rattle.rt_query.specs.Queries.{is_filtered};
 ghost use Rattle.rt_query.specs.QueryEq.{query_eq};
 ghost use Rattle.rt_query.specs.Supply.{does_supply};
+ghost use Rattle.rt_cover.specs.Cover.{Tagged};
 ghost use Rattle.rt_cover.specs.inside.Index.{by_form, form_of, SameCounts};
 ghost use Rattle.rt_cover.specs.inside.Least.{lesser, least_from, IsPlainOrLeast};
 
-use crate::by_path::{HasForm, at_path, under};
-use crate::listen::{Listen, copies, have_tag, tags_of};
+use crate::by_path::{HasForm, at_path, place_of_form, under};
+use crate::listen::{Listen, copies, have_tag, place_of, tags_of};
 use crate::placing::place;
-use rt_query::Query;
+use rt_query::{Query, query_cmp};
 use rt_tree::Key;
 use std::alloc::{AllocError, Global};
 use std::cmp::Ordering;
@@ -61,18 +62,6 @@ fn plain_among(listens: &[Listen]) -> Option<u64>
     None
 }
 
-// The tag of the first of that form.
-fn equal_among(listens: &[Listen], form: &Query) -> Option<u64>
-    ensures { result ≡ option_map (λ k. k.tag) (find (λ k. query_eq k.form form.now) listens.now) }
-{
-    for listen in listens {
-        if listen.form() == form {
-            return Some(listen.tag());
-        }
-    }
-    None
-}
-
 // The tag of a plain one at the path.
 fn plain_at(by_path: &[Listen], path: &[Key]) -> Option<u64>
     requires { IsSorted (by_form form_of) by_path.now }
@@ -101,14 +90,22 @@ fn plain_above(by_path: &[Listen], path: &[Key]) -> Option<u64>
     None
 }
 
-// The tag of one of that form.
+// The tag of one of that form, by halving.
 fn equal_at(by_path: &[Listen], form: &Query) -> Option<u64>
     requires { IsSorted (by_form form_of) by_path.now }
     ensures some { IfSome result (λ tag.
         list_any (λ k. query_eq k.form form.now && k.tag == tag) by_path.now ≡ true) }
     ensures none { IfNone result (list_any (λ k. query_eq k.form form.now) by_path.now ≡ false) }
 {
-    equal_among(at_path(by_path, form.path().keys()), form)
+    let place = place_of_form(by_path, form);
+    if place == by_path.len() {
+        return None;
+    }
+    if by_path[place].form() == form {
+        Some(by_path[place].tag())
+    } else {
+        None
+    }
 }
 
 // The lesser of two tags, of which the first may be none.
@@ -200,10 +197,26 @@ fn tags_supplied(alloc: Global, by_path: &[Listen], form: &Query) -> Result<Vec<
     Ok(tags)
 }
 
-// Takes out those that the form supplies: none, where there is no tag.
-fn take_stopped(listens: &mut Vec<Listen>, form: &Query, stopped: &[u64])
-    requires { length stopped.now ≡ 0
-        → list_any (λ k. does_supply form.now k.form) listens.old.items ≡ false }
+// Whether one alone is stopped, and the form supplies the listen at the place.
+fn is_stopped_at(listens: &[Listen], place: usize, form: &Query, stopped: &[u64]) -> bool
+    ensures one { result ≡ true → length stopped.now ≡ 1 }
+    ensures within { result ≡ true → place < length listens.now }
+    ensures stopped { result ≡ true → (d : Tagged)
+        → does_supply form.now (slice_index_or listens.now place d).form ≡ true }
+{
+    if stopped.len() != 1 {
+        return false;
+    }
+    if place >= listens.len() {
+        return false;
+    }
+    form.supplies(listens[place].form())
+}
+
+// Takes out those that the form supplies, which have as many tags. Where it is one it mostly stands at the
+// place, and else all are gone over.
+fn take_stopped(listens: &mut Vec<Listen>, place: usize, form: &Query, stopped: &[u64])
+    requires { length stopped.now ≡ count_by (λ k. does_supply form.now k.form) listens.old.items }
     ensures left { listens.new.items
         ≡ filter (λ k. not (does_supply form.now k.form)) listens.old.items }
     ensures len { vec_len listens.new ≤ vec_len listens.old }
@@ -212,31 +225,75 @@ fn take_stopped(listens: &mut Vec<Listen>, form: &Query, stopped: &[u64])
     if stopped.is_empty() {
         return;
     }
+    if is_stopped_at(listens, place, form, stopped) {
+        let _stopped = listens.remove(place);
+        return;
+    }
     listens.retain(|listen| !form.supplies(listen.form()));
+}
+
+// The same of those by path: the first from the form on, which what it supplies stands behind, is found by
+// halving.
+fn take_stopped_by_path(by_path: &mut Vec<Listen>, form: &Query, stopped: &[u64])
+    requires sorted { IsSorted (by_form form_of) by_path.old.items }
+    requires count { length stopped.now
+        ≡ count_by (λ k. does_supply form.now k.form) by_path.old.items }
+    ensures left { by_path.new.items
+        ≡ filter (λ k. not (does_supply form.now k.form)) by_path.old.items }
+    ensures len { vec_len by_path.new ≤ vec_len by_path.old }
+    ensures room { vec_capacity by_path.new ≡ vec_capacity by_path.old }
+{
+    let place = place_of_form(by_path, form);
+    take_stopped(by_path, place, form, stopped);
+}
+
+// Where the first of the tags stands, by halving.
+fn place_of_first(by_tag: &[Listen], tags: &[u64]) -> usize
+    requires { AllPairs (λ j k. j.tag < k.tag) by_tag.now }
+    ensures { result ≤ length by_tag.now }
+{
+    match tags.first() {
+        Some(tag) => place_of(by_tag, *tag),
+        None => 0,
+    }
+}
+
+// The same of those by tag.
+fn take_stopped_by_tag(by_tag: &mut Vec<Listen>, form: &Query, stopped: &[u64])
+    requires rise { AllPairs (λ j k. j.tag < k.tag) by_tag.old.items }
+    requires count { length stopped.now
+        ≡ count_by (λ k. does_supply form.now k.form) by_tag.old.items }
+    ensures left { by_tag.new.items
+        ≡ filter (λ k. not (does_supply form.now k.form)) by_tag.old.items }
+    ensures len { vec_len by_tag.new ≤ vec_len by_tag.old }
+    ensures room { vec_capacity by_tag.new ≡ vec_capacity by_tag.old }
+{
+    let place = place_of_first(by_tag, stopped);
+    take_stopped(by_tag, place, form, stopped);
 }
 
 // From so many on, new listens are put behind the others and all are sorted: the words that each of them
 // would move are more then.
 const MANY: usize = 512;
 
-// The order of two listens' paths.
-fn path_order(listen: &Listen, other: &Listen) -> Ordering
+// The order of two listens' forms.
+fn form_order(listen: &Listen, other: &Listen) -> Ordering
     ensures { result ≡ by_form form_of listen.now other.now }
 {
-    listen.form().path().cmp(other.form().path())
+    query_cmp(listen.form(), other.form())
 }
 
-// Puts them behind the others, and sorts all by path; there is room for them.
+// Puts them behind the others, and sorts all by form; there is room for them.
 fn sort_all(by_path: &mut Vec<Listen>, mut new: Vec<Listen>)
     requires room { vec_len by_path.old + vec_len new ≤ vec_capacity by_path.old }
     ensures sorted { IsSorted (by_form form_of) by_path.new.items }
     ensures same { SameCounts by_path.new.items (by_path.old.items ++ new.items) }
 {
     let _in_reserved_room = by_path.append(&mut new);
-    by_path.sort_unstable_by(|listen, other| path_order(listen, other));
+    by_path.sort_unstable_by(|listen, other| form_order(listen, other));
 }
 
-// Puts each of them in its place by path; there is room for them.
+// Puts each of them in its place; there is room for them.
 fn place_each(by_path: &mut Vec<Listen>, new: Vec<Listen>)
     requires sorted { IsSorted (by_form form_of) by_path.old.items }
     requires room { vec_len by_path.old + vec_len new ≤ vec_capacity by_path.old }
@@ -248,7 +305,7 @@ fn place_each(by_path: &mut Vec<Listen>, new: Vec<Listen>)
     }
 }
 
-// Puts them in their places by path; there is room for them.
+// Puts them in their places; there is room for them.
 fn place_all(by_path: &mut Vec<Listen>, new: Vec<Listen>)
     requires sorted { IsSorted (by_form form_of) by_path.old.items }
     requires room { vec_len by_path.old + vec_len new ≤ vec_capacity by_path.old }
@@ -262,9 +319,28 @@ fn place_all(by_path: &mut Vec<Listen>, new: Vec<Listen>)
     }
 }
 
-// Takes those out that are lost.
-fn take_lost(listens: &mut Vec<Listen>, lost: &[Listen])
+// Whether one alone is lost, and it is the listen at the place.
+fn is_lost_at(listens: &[Listen], place: usize, lost: &[Listen]) -> bool
     requires { AllPairs (λ j k. j.tag < k.tag) lost.now }
+    ensures one { result ≡ true → length lost.now ≡ 1 }
+    ensures within { result ≡ true → place < length listens.now }
+    ensures lost { result ≡ true → (d : Tagged)
+        → list_any (λ j. j.tag == (slice_index_or listens.now place d).tag) lost.now ≡ true }
+{
+    if lost.len() != 1 {
+        return false;
+    }
+    if place >= listens.len() {
+        return false;
+    }
+    have_tag(lost, listens[place].tag())
+}
+
+// Takes those out that are lost. Where it is one it mostly stands at the place, and else all are gone over.
+fn take_lost(listens: &mut Vec<Listen>, place: usize, lost: &[Listen])
+    requires rise { AllPairs (λ j k. j.tag < k.tag) lost.now }
+    requires once { length lost.now ≡ 1
+        → count_by (λ k. list_any (λ j. j.tag == k.tag) lost.now) listens.old.items ≤ 1 }
     ensures left { listens.new.items
         ≡ filter (λ k. not (list_any (λ j. j.tag == k.tag) lost.now)) listens.old.items }
     ensures len { vec_len listens.new ≤ vec_len listens.old }
@@ -273,7 +349,63 @@ fn take_lost(listens: &mut Vec<Listen>, lost: &[Listen])
     if lost.is_empty() {
         return;
     }
+    if is_lost_at(listens, place, lost) {
+        let _lost = listens.remove(place);
+        return;
+    }
     listens.retain(|listen| !have_tag(lost, listen.tag()));
+}
+
+// Where the first stands from the form of the first of the lost on, by halving.
+fn place_of_lost_form(by_path: &[Listen], lost: &[Listen]) -> usize
+    requires { IsSorted (by_form form_of) by_path.now }
+    ensures { result ≤ length by_path.now }
+{
+    match lost.first() {
+        Some(listen) => place_of_form(by_path, listen.form()),
+        None => 0,
+    }
+}
+
+// The same of those by path.
+fn take_lost_by_path(by_path: &mut Vec<Listen>, lost: &[Listen])
+    requires sorted { IsSorted (by_form form_of) by_path.old.items }
+    requires rise { AllPairs (λ j k. j.tag < k.tag) lost.now }
+    requires once { length lost.now ≡ 1
+        → count_by (λ k. list_any (λ j. j.tag == k.tag) lost.now) by_path.old.items ≤ 1 }
+    ensures left { by_path.new.items
+        ≡ filter (λ k. not (list_any (λ j. j.tag == k.tag) lost.now)) by_path.old.items }
+    ensures len { vec_len by_path.new ≤ vec_len by_path.old }
+    ensures room { vec_capacity by_path.new ≡ vec_capacity by_path.old }
+{
+    let place = place_of_lost_form(by_path, lost);
+    take_lost(by_path, place, lost);
+}
+
+// Where the first of the lost stands, by halving.
+fn place_of_lost(by_tag: &[Listen], lost: &[Listen]) -> usize
+    requires { AllPairs (λ j k. j.tag < k.tag) by_tag.now }
+    ensures { result ≤ length by_tag.now }
+{
+    match lost.first() {
+        Some(listen) => place_of(by_tag, listen.tag()),
+        None => 0,
+    }
+}
+
+// The same of those by tag.
+fn take_lost_by_tag(by_tag: &mut Vec<Listen>, lost: &[Listen])
+    requires tags { AllPairs (λ j k. j.tag < k.tag) by_tag.old.items }
+    requires rise { AllPairs (λ j k. j.tag < k.tag) lost.now }
+    requires once { length lost.now ≡ 1
+        → count_by (λ k. list_any (λ j. j.tag == k.tag) lost.now) by_tag.old.items ≤ 1 }
+    ensures left { by_tag.new.items
+        ≡ filter (λ k. not (list_any (λ j. j.tag == k.tag) lost.now)) by_tag.old.items }
+    ensures len { vec_len by_tag.new ≤ vec_len by_tag.old }
+    ensures room { vec_capacity by_tag.new ≡ vec_capacity by_tag.old }
+{
+    let place = place_of_lost(by_tag, lost);
+    take_lost(by_tag, place, lost);
 }
 
 impl Listens {
@@ -315,7 +447,7 @@ impl Listens {
         supplier(&self.by_path, query)
     }
 
-    // The tag of one of that form. Looks at those of its path.
+    // The tag of one of that form, by halving.
     pub(crate) fn tag_of(&self, form: &Query) -> Option<u64>
         ensures some { IfSome result (λ tag.
             list_any (λ k. query_eq k.form form.now && k.tag == tag) self.now ≡ true) }
@@ -338,9 +470,9 @@ impl Listens {
         let copy = listen.copy()?;
         self.by_tag.reserve(1)?;
         self.by_path.reserve(1)?;
-        take_stopped(&mut self.by_path, listen.form(), &stopped);
+        take_stopped_by_path(&mut self.by_path, listen.form(), &stopped);
         place(&mut self.by_path, copy);
-        take_stopped(&mut self.by_tag, listen.form(), &stopped);
+        take_stopped_by_tag(&mut self.by_tag, listen.form(), &stopped);
         self.by_tag.push_reserved(listen);
         Ok(stopped)
     }
@@ -351,7 +483,8 @@ impl Listens {
         lost: &[Listen],
         mut new: Vec<Listen>,
     ) -> Result<(), AllocError>
-        requires { AllPairs (λ j k. j.tag < k.tag) lost.now }
+        requires lost { AllPairs (λ j k. j.tag < k.tag) lost.now }
+        requires tags { AllPairs (λ j k. j.tag < k.tag) self.old }
         ensures kept { OnOk result (self.new
             ≡ filter (λ k. not (list_any (λ j. j.tag == k.tag) lost.now)) self.old ++ new.items) }
         ensures unchanged { OnErr result (self.new ≡ self.old) }
@@ -360,9 +493,9 @@ impl Listens {
         let copies = copies(alloc, &new)?;
         self.by_tag.reserve(new.len())?;
         self.by_path.reserve(new.len())?;
-        take_lost(&mut self.by_path, lost);
+        take_lost_by_path(&mut self.by_path, lost);
         place_all(&mut self.by_path, copies);
-        take_lost(&mut self.by_tag, lost);
+        take_lost_by_tag(&mut self.by_tag, lost);
         let _in_reserved_room = self.by_tag.append(&mut new);
         Ok(())
     }

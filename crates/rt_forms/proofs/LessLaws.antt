@@ -1,7 +1,7 @@
 -- What is registered at a path, with a listener less.
-use Rattle.std.proofs.Common.{◌≡◌, ℕ, suc, ◌+◌, ◌<◌, ◌≤◌, Bool, true, false, cond, not, nat_lt, ◌==◌, List, [], ◌∷◌, length, Option, Some, None, refl, sym, ap, subst, ◌∙◌, arith, slice_set, get_or}
+use Rattle.std.proofs.Common.{◌≡◌, ℕ, suc, ◌+◌, ◌<◌, ◌≤◌, Bool, true, false, cond, not, nat_lt, ◌==◌, List, [], ◌∷◌, length, Option, Some, None, refl, sym, ap, subst, ◌∙◌, arith, set, get_or, eqb-true}
 use mathlib.Core.Bool.{true≢false}
-use Rattle.std.specs.List.{filter, list_any}
+use Rattle.std.specs.List.{remove, list_any}
 use Rattle.std.specs.Option.{option_map}
 use Rattle.std.proofs.lemmas.Bool.Decides.{nat_tests}
 use Rattle.rt_tree.specs.PathTree.{Path}
@@ -10,8 +10,8 @@ use Rattle.rt_query.specs.QueryEq.{query_eq}
 use Rattle.rt_links.proofs.Reached.{same_some}
 use Rattle.rt_forms.specs.Numbers.{without_number}
 use Rattle.rt_forms.specs.inside.Trees.{Standing, among, own, of_filtered, held, AreAt, alike, Lost}
-use Rattle.rt_forms.specs.inside.Lists.{entry_at, lessened, parted}
-use Rattle.rt_forms.proofs.ListLaws.{Entries, own_eq, same_eq}
+use Rattle.rt_forms.specs.inside.Lists.{entry_at, parted}
+use Rattle.rt_forms.proofs.ListLaws.{Entries, own_eq, same_eq, other_way}
 
 pub some_true : (n : ℕ) → 0 < n → nat_lt 0 n ≡ true
 some_true n h = grind (arith, nat_tests)
@@ -22,39 +22,43 @@ some_is n e = grind (arith, nat_tests)
 pub none_is : (n : ℕ) → nat_lt 0 n ≡ false → n ≡ 0
 none_is n e = grind (arith, nat_tests)
 
-any_true : (n : ℕ) → 0 < n → not (n == 0) ≡ true
-any_true n h = grind (arith, nat_tests)
-
-any_is : (n : ℕ) → not (n == 0) ≡ true → 0 < n
+any_is : (n : ℕ) → (n == 0) ≡ false → 0 < n
 any_is n e = grind (arith, nat_tests)
-
-no_is : (n : ℕ) → not (n == 0) ≡ false → n ≡ 0
-no_is n e = grind (arith, nat_tests)
 
 pub no_numbers : (ns : List ℕ) → length ns ≡ 0 → ns ≡ []
 no_numbers [] e = refl
 no_numbers (n ∷ ns) e = absurd (omega (arith, e))
 
 -- ---- the form that a listener leaves
-pub set_lessened : (q : Query) (n : ℕ) (es : Entries) (i : ℕ) (e : Query × List ℕ) → entry_at q es ≡ Some i → e ≡ get_or es i e → slice_set es i (e.0, without_number n e.1) ≡ lessened q n es
-set_lessened q n [] i e = λ at there. cc
-set_lessened q n (x ∷ es) i e =
-    elim (query_eq x.0 q) as (λ b. cond b (Some 0) (option_map suc (entry_at q es)) ≡ Some i → e ≡ get_or (x ∷ es) i e → slice_set (x ∷ es) i (e.0, without_number n e.1) ≡ cond b ((x.0, without_number n x.1) ∷ es) (x ∷ lessened q n es)) [
+pub parted_at : (q : Query) (n : ℕ) (es : Entries) (i : ℕ) (e : Query × List ℕ) → entry_at q es ≡ Some i → e ≡ get_or es i e
+    → cond (length (without_number n e.1) == 0) (remove (set es i (e.0, without_number n e.1)) i) (set es i (e.0, without_number n e.1)) ≡ parted q n es
+parted_at q n [] i e = λ at there. cc
+parted_at q n (x ∷ es) i e =
+    elim (query_eq x.0 q) as (λ b. cond b (Some 0) (option_map suc (entry_at q es)) ≡ Some i → e ≡ get_or (x ∷ es) i e → left (x ∷ es) i
+    ≡ cond b (cond (length (without_number n x.1) == 0) es ((x.0, without_number n x.1) ∷ es)) (x ∷ parted q n es)) [
       | true ↦ λ at there.
           let zero_is : 0 ≡ i = same_some 0 i at in
           let same : e ≡ x = there ∙ ap (λ j. get_or (x ∷ es) j e) (sym zero_is) in
-          ap (λ j. slice_set (x ∷ es) j (e.0, without_number n e.1)) (sym zero_is)
-          ∙ ap (λ (z : Query × List ℕ). (z.0, without_number n z.1) ∷ es) same
-      | false ↦ later (entry_at q es) refl i (λ k is there. set_lessened q n es k e is there)
+          ap (left (x ∷ es)) (sym zero_is)
+          ∙ ap (λ (z : Query × List ℕ). cond (length (without_number n z.1) == 0) es ((z.0, without_number n z.1) ∷ es)) same
+      | false ↦ later (entry_at q es) refl i (λ k is there. parted_at q n es k e is there)
     ]
   where
-    later : (o : Option ℕ) → entry_at q es ≡ o → (j : ℕ) → ((k : ℕ) → entry_at q es ≡ Some k → e ≡ get_or es k e → slice_set es k (e.0, without_number n e.1) ≡ lessened q n es)
-        → option_map suc o ≡ Some j → e ≡ get_or (x ∷ es) j e → slice_set (x ∷ es) j (e.0, without_number n e.1) ≡ x ∷ lessened q n es
+    left : Entries → ℕ → Entries
+    left fs j = cond (length (without_number n e.1) == 0) (remove (set fs j (e.0, without_number n e.1)) j) (set fs j (e.0, without_number n e.1))
+
+    onward : (k : ℕ) → left (x ∷ es) (suc k) ≡ x ∷ left es k
+    onward k = elim (length (without_number n e.1) == 0) as (λ b. cond b (remove (set (x ∷ es) (suc k) (e.0, without_number n e.1)) (suc k)) (set (x ∷ es) (suc k) (e.0, without_number n e.1))
+        ≡ x ∷ cond b (remove (set es k (e.0, without_number n e.1)) k) (set es k (e.0, without_number n e.1))) [ true ↦ refl | false ↦ refl ]
+
+    later : (o : Option ℕ) → entry_at q es ≡ o → (j : ℕ) → ((k : ℕ) → entry_at q es ≡ Some k → e ≡ get_or es k e → left es k ≡ parted q n es)
+        → option_map suc o ≡ Some j → e ≡ get_or (x ∷ es) j e → left (x ∷ es) j ≡ x ∷ parted q n es
     later None is j more at there = cc
     later (Some k) is j more at there =
-        let onward : suc k ≡ j = same_some (suc k) j at in
-        ap (λ m. slice_set (x ∷ es) m (e.0, without_number n e.1)) (sym onward)
-        ∙ ap (λ z. x ∷ z) (more k is (there ∙ ap (λ m. get_or (x ∷ es) m e) (sym onward)))
+        let behind : suc k ≡ j = same_some (suc k) j at in
+        ap (left (x ∷ es)) (sym behind)
+        ∙ onward k
+        ∙ ap (λ z. x ∷ z) (more k is (there ∙ ap (λ m. get_or (x ∷ es) m e) (sym behind)))
 
 -- a form that has a listener stands among the others
 pub among_none : (q : Query) (es : Entries) → entry_at q es ≡ None → among q es ≡ []
@@ -70,50 +74,40 @@ among_none q (x ∷ es) =
     later (Some k) is more at = cc
 
 -- ---- forms that are without a listener go
-filled : (p : Path) (es : Entries) → AreAt p es → filter (λ (e : Query × List ℕ). not (length e.1 == 0)) es ≡ es
-filled p [] h = refl
-filled p (e ∷ es) h =
-    ap (λ b. cond b (e ∷ filter (λ (x : Query × List ℕ). not (length x.1 == 0)) es) (filter (λ (x : Query × List ℕ). not (length x.1 == 0)) es)) (any_true (length e.1) h.2)
-    ∙ ap (λ z. e ∷ z) (filled p es h.4)
-
 module _ (p : Path) (r : Query) (n : ℕ) (e : Query × List ℕ) (es : Entries) (h : AreAt p (e ∷ es)) where
   abbrev kept : Entries
-  kept = cond (not (length (without_number n e.1) == 0)) ((e.0, without_number n e.1) ∷ es) es
+  kept = cond (length (without_number n e.1) == 0) es ((e.0, without_number n e.1) ∷ es)
 
   parted_here : query_eq e.0 r ≡ true → parted r n (e ∷ es) ≡ kept
-  parted_here is =
-      ap (λ b. filter (λ (x : Query × List ℕ). not (length x.1 == 0)) (cond b ((e.0, without_number n e.1) ∷ es) (e ∷ lessened r n es))) is
-      ∙ ap (λ z. cond (not (length (without_number n e.1) == 0)) ((e.0, without_number n e.1) ∷ z) z) (filled p es h.4)
+  parted_here is = ap (λ b. cond b kept (e ∷ parted r n es)) is
 
   parted_later : query_eq e.0 r ≡ false → parted r n (e ∷ es) ≡ e ∷ parted r n es
-  parted_later is =
-      ap (λ b. filter (λ (x : Query × List ℕ). not (length x.1 == 0)) (cond b ((e.0, without_number n e.1) ∷ es) (e ∷ lessened r n es))) is
-      ∙ ap (λ b. cond b (e ∷ parted r n es) (parted r n es)) (any_true (length e.1) h.2)
+  parted_later is = ap (λ b. cond b kept (e ∷ parted r n es)) is
 
   among_kept : (q : Query) → among q kept ≡ cond (query_eq e.0 q) (without_number n e.1) (among q es)
-  among_kept q = elim (not (length (without_number n e.1) == 0)) as (λ b. not (length (without_number n e.1) == 0) ≡ b
-      → among q (cond b ((e.0, without_number n e.1) ∷ es) es) ≡ cond (query_eq e.0 q) (without_number n e.1) (among q es)) [
-        | true ↦ λ t. refl
-        | false ↦ λ t.
-            let empty : without_number n e.1 ≡ [] = no_numbers (without_number n e.1) (no_is (length (without_number n e.1)) t) in
+  among_kept q = elim (length (without_number n e.1) == 0) as (λ b. (length (without_number n e.1) == 0) ≡ b
+      → among q (cond b es ((e.0, without_number n e.1) ∷ es)) ≡ cond (query_eq e.0 q) (without_number n e.1) (among q es)) [
+        | true ↦ λ t.
+            let empty : without_number n e.1 ≡ [] = no_numbers (without_number n e.1) (eqb-true (length (without_number n e.1)) 0 t) in
             elim (query_eq e.0 q) as (λ b. query_eq e.0 q ≡ b → among q es ≡ cond b (without_number n e.1) (among q es)) [
               | true ↦ λ is. ap (λ x. among x es) (sym (same_eq e.0 q is)) ∙ h.3 ∙ sym empty
               | false ↦ λ is. refl
             ] refl
+        | false ↦ λ t. refl
       ] refl
 
   of_kept : of_filtered kept ≡ length (without_number n e.1) + of_filtered es
-  of_kept = elim (not (length (without_number n e.1) == 0)) as (λ b. not (length (without_number n e.1) == 0) ≡ b
-      → of_filtered (cond b ((e.0, without_number n e.1) ∷ es) es) ≡ length (without_number n e.1) + of_filtered es) [
-        | true ↦ λ t. refl
-        | false ↦ λ t. let none = no_is (length (without_number n e.1)) t in omega (arith, none)
+  of_kept = elim (length (without_number n e.1) == 0) as (λ b. (length (without_number n e.1) == 0) ≡ b
+      → of_filtered (cond b es ((e.0, without_number n e.1) ∷ es)) ≡ length (without_number n e.1) + of_filtered es) [
+        | true ↦ λ t. let none = eqb-true (length (without_number n e.1)) 0 t in omega (arith, none)
+        | false ↦ λ t. refl
       ] refl
 
   at_kept : AreAt p kept
-  at_kept = elim (not (length (without_number n e.1) == 0)) as (λ b. not (length (without_number n e.1) == 0) ≡ b
-      → AreAt p (cond b ((e.0, without_number n e.1) ∷ es) es)) [
-        | true ↦ λ t. (h.0, h.1, any_is (length (without_number n e.1)) t, h.3, h.4)
-        | false ↦ λ t. h.4
+  at_kept = elim (length (without_number n e.1) == 0) as (λ b. (length (without_number n e.1) == 0) ≡ b
+      → AreAt p (cond b es ((e.0, without_number n e.1) ∷ es))) [
+        | true ↦ λ t. h.4
+        | false ↦ λ t. (h.0, h.1, any_is (length (without_number n e.1)) t, h.3, h.4)
       ] refl
 
 pub among_parted : (p : Path) (r : Query) (n : ℕ) (es : Entries) (q : Query) → AreAt p es → among q (parted r n es) ≡ cond (query_eq r q) (without_number n (among q es)) (among q es)
@@ -152,12 +146,6 @@ count_parted p r n (e ∷ es) h less =
           let one : length (without_number n e.1) + 1 ≡ length e.1 = l in omega (arith, one, a, k)
       | false ↦ λ g l. let a = ap of_filtered (parted_later p r n e es h g) in let rest = count_parted p r n es h.4 l in omega (arith, a, rest)
     ] refl less
-
-other_way : (q r : Query) → query_eq q r ≡ false → query_eq r q ≡ false
-other_way q r g = elim (query_eq r q) as (λ b. query_eq r q ≡ b → b ≡ false) [
-  | true ↦ λ t. absurd (true≢false (sym (ap (query_eq q) (same_eq r q t) ∙ own_eq q) ∙ g))
-  | false ↦ λ t. refl
-] refl
 
 pub at_parted : (p : Path) (r : Query) (n : ℕ) (es : Entries) → AreAt p es → AreAt p (parted r n es)
 at_parted p r n [] h = tt

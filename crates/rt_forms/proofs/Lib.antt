@@ -8,6 +8,7 @@ pub mod LessLaws
 pub mod ListLaws
 pub mod NodeLaws
 pub mod NumberLaws
+pub mod OrderLaws
 pub mod RowLaws
 pub mod TakeLaws
 pub mod UnderLaws

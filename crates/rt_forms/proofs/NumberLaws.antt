@@ -1,7 +1,7 @@
 -- Numbers in rising order.
-use Rattle.std.proofs.Common.{◌≡◌, ◌≢◌, ℕ, zero, suc, ◌+◌, ◌<◌, ◌≤◌, Bool, true, false, cond, not, nat_le, nat_lt, ◌==◌, ◌||◌, List, [], ◌∷◌, ◌++◌, length, refl, sym, ap, ◌∙◌, arith, slice_index_or, ltb, ltb-true, ltb-false, eqb-true, eq-eqb}
+use Rattle.std.proofs.Common.{◌≡◌, ◌≢◌, ℕ, zero, suc, ◌+◌, ◌<◌, ◌≤◌, Bool, true, false, cond, not, nat_le, nat_lt, ◌==◌, ◌||◌, List, [], ◌∷◌, ◌++◌, length, refl, sym, ap, subst, ◌∙◌, arith, slice_index_or, ltb, ltb-true, ltb-false, eqb-true, eq-eqb}
 use mathlib.Core.Bool.{true≢false}
-use Rattle.std.specs.List.{filter, insert, list_any}
+use Rattle.std.specs.List.{filter, insert, remove, list_any}
 use Rattle.std.specs.List.Sorted.{IsNonDecreasingBy, IsPartitionedBy, IsPartitionPoint}
 use Rattle.std.proofs.lemmas.Bool.Decides.{nat_tests}
 use Rattle.std.proofs.lemmas.List.Sorted.{IsPartitionedBy-ltb}
@@ -210,3 +210,46 @@ length_without n (m ∷ ms) h there =
           let kept = ap length (absent_same n ms gone) in omega (arith, kept)
       | false ↦ λ e g. let rest = length_without n ms h.1 g in omega (arith, rest)
     ] refl there
+
+-- ---- a number less
+lesser_differs : (m n : ℕ) → m < n → (m == n) ≡ false
+lesser_differs m n lt = elim (m == n) as (λ b. (m == n) ≡ b → b ≡ false) [
+  | true ↦ λ e. let same : m ≡ n = eqb-true m n e in absurd (omega (arith, lt, same))
+  | false ↦ λ e. refl
+] refl
+
+next_place : (p : ℕ) → suc p ≡ 1 + p
+next_place p = omega arith
+
+-- what stands at its place is the number, and goes
+pub taken_place : (n : ℕ) (ns : List ℕ) → Rises ns → (d : ℕ) → place n ns < length ns → slice_index_or ns (place n ns) d ≡ n → remove ns (place n ns) ≡ without_number n ns
+taken_place n [] rise d lt at = absurd (omega (arith, lt))
+taken_place n (m ∷ ms) rise d lt at =
+    elim (nat_le n m) as (λ b. nat_le n m ≡ b → cond (not b) (1 + place n ms) 0 < length (m ∷ ms) → slice_index_or (m ∷ ms) (cond (not b) (1 + place n ms) 0) d ≡ n
+    → remove (m ∷ ms) (cond (not b) (1 + place n ms) 0) ≡ without_number n (m ∷ ms)) [
+      | true ↦ λ e l a.
+          sym (ap (λ b. cond (not b) (m ∷ without_number n ms) (without_number n ms)) (eq-eqb m n a)
+          ∙ absent_same n ms (above_absent n ms (subst (λ x. AllAbove x ms) a rise.0)))
+      | false ↦ λ e l a.
+          ap (remove (m ∷ ms)) (sym (next_place (place n ms)))
+          ∙ ap (λ z. m ∷ z) (taken_place n ms rise.1 d (omega (arith, l)) (ap (λ p. slice_index_or (m ∷ ms) p d) (next_place (place n ms)) ∙ a))
+          ∙ sym (ap (λ b. cond (not b) (m ∷ without_number n ms) (without_number n ms)) (lesser_differs m n (below m n e)))
+    ] refl lt at
+
+-- where another number stands there, or none, all stay
+pub kept_place : (n : ℕ) (ns : List ℕ) → Rises ns → ((d : ℕ) → place n ns < length ns → slice_index_or ns (place n ns) d ≡ n → ⊥) → without_number n ns ≡ ns
+kept_place n [] rise differs = refl
+kept_place n (m ∷ ms) rise differs =
+    elim (nat_le n m) as (λ b. nat_le n m ≡ b → ((d : ℕ) → cond (not b) (1 + place n ms) 0 < length (m ∷ ms) → slice_index_or (m ∷ ms) (cond (not b) (1 + place n ms) 0) d ≡ n → ⊥)
+    → without_number n (m ∷ ms) ≡ m ∷ ms) [
+      | true ↦ λ e f.
+          let le = not_below m n e in
+          let lt : n < m = elim (ltb n m) as (λ b. ltb n m ≡ b → n < m) [
+            | true ↦ λ t. ltb-true n m t
+            | false ↦ λ t. absurd (f 0 (omega arith) (omega (arith, le, ltb-false n m t)))
+          ] refl in
+          absent_same n (m ∷ ms) (above_absent n (m ∷ ms) (lt, above_more n m ms lt rise.0))
+      | false ↦ λ e f.
+          ap (λ b. cond (not b) (m ∷ without_number n ms) (without_number n ms)) (lesser_differs m n (below m n e))
+          ∙ ap (λ z. m ∷ z) (kept_place n ms rise.1 (λ d lt at. f d (omega (arith, lt)) (sym (ap (λ p. slice_index_or (m ∷ ms) p d) (next_place (place n ms))) ∙ at)))
+    ] refl differs

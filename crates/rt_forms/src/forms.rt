@@ -103,7 +103,7 @@ impl Forms {
 
     /// The numbers of the listeners of a query's form, in rising order; none where it has none.
     ///
-    /// Costs by the path, the logarithm of the number of siblings at each of its keys, and the
+    /// Costs by the path, and the logarithm of the number of siblings at each of its keys and of the
     /// filtered forms at it.
     pub fn numbers(&self, query: &Query) -> &[u64]
         ensures { result.now ≡ numbers self.now query.now }
@@ -184,8 +184,8 @@ impl Forms {
 
     /// Registers a listener of a query's form, under a number that none of the form has.
     ///
-    /// Costs by the path, the logarithm of the number of siblings at each of its keys, and the
-    /// filtered forms at it; words of numbers are moved.
+    /// Costs by the path, and the logarithm of the number of siblings at each of its keys, of the
+    /// filtered forms at it, and of the numbers; words of forms and of numbers are moved.
     ///
     /// # Errors
     ///

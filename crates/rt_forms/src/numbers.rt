@@ -53,6 +53,22 @@ fn insert_number(numbers: &mut Vec<u64>, number: u64) -> Result<(), AllocError>
     Ok(())
 }
 
+// Takes a number out, where it stands.
+fn take_number(numbers: &mut Vec<u64>, number: u64)
+    requires { Rises numbers.old.items }
+    ensures left { numbers.new.items ≡ without_number number numbers.old.items }
+    ensures rise { Rises numbers.new.items }
+{
+    let place = place_of(numbers, number);
+    if place == numbers.len() {
+        return;
+    }
+    if numbers[place] != number {
+        return;
+    }
+    let _taken = numbers.remove(place);
+}
+
 impl Numbers {
     // No number.
     pub(crate) fn new(alloc: Global) -> Numbers
@@ -92,6 +108,6 @@ impl Numbers {
         ensures less { list_any (λ m. m == number) self.old ≡ true
             → length self.new + 1 ≡ length self.old }
     {
-        self.items.retain(|other| *other != number);
+        take_number(&mut self.items, number);
     }
 }

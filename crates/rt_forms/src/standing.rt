@@ -1,16 +1,18 @@
 // What is registered at one path.
 ghost use Rattle.std.specs.Prelude.{◌≡◌, ◌<◌, ◌+◌, ◌^◌, ◌==◌, ◌∷◌, ◌++◌, [], true, false, not, length, OnOk, OnErr, IfOk};
-ghost use Rattle.std.specs.Prelude.{is_some};
-ghost use Rattle.std.specs.List.{list_any, position};
+ghost use Rattle.std.specs.Prelude.{◌≤◌, None, IfSome};
+ghost use Rattle.std.specs.List.{list_any};
+ghost use Rattle.std.specs.List.Sorted.{IsPartitionPoint};
+ghost use Rattle.std.specs.Ordering.{is_lt};
 ghost use Rattle.rt_query.specs.Queries.{is_filtered};
-ghost use Rattle.rt_query.specs.QueryEq.{query_eq};
+ghost use Rattle.rt_query.specs.QueryOrder.{query_cmp};
 ghost use Rattle.rt_forms.specs.Numbers.{with_number, without_number};
 ghost use Rattle.rt_forms.specs.inside.Trees.{among, own, Gained, Ends, passed, empty};
 ghost use Rattle.rt_forms.specs.inside.Trees.{all_filtered, all_own};
-ghost use Rattle.rt_forms.specs.inside.Lists.{joined, parted};
+ghost use Rattle.rt_forms.specs.inside.Lists.{entry_at, AreInOrder, IsJoined, parted};
 
 use crate::numbers::Numbers;
-use rt_query::Query;
+use rt_query::{Query, query_cmp};
 use std::alloc::{AllocError, Global};
 use std::marker::Model;
 
@@ -55,8 +57,8 @@ impl Filtered {
     }
 }
 
-// The numbers of the plain form's listeners, the filtered forms with those of theirs, and how many
-// listeners there are at and under the path.
+// The numbers of the plain form's listeners, the filtered forms with those of theirs, in the order of
+// queries, and how many listeners there are at and under the path.
 #[derive(Debug)]
 pub(crate) struct Standing {
     plain: Numbers,
@@ -80,13 +82,44 @@ impl Model for Standing {
     ghost Value = { Standing };
 
     ghost view = { λ a. record { plain = a.plain; filtered = a.filtered.items; count = a.count } };
+
+    ghost use Rattle.rt_forms.specs.inside.Lists.{AreInOrder};
+
+    ghost invariant = { λ a. AreInOrder a.filtered.items };
 }
 
-// Where a form stands.
-fn place_of(filtered: &[Filtered], query: &Query) -> Option<usize>
-    ensures { result ≡ position (λ e. query_eq e.0 query.now) filtered.now }
+// Whether a form stands before a query's.
+fn is_before(entry: &Filtered, query: &Query) -> bool
+    ensures { result ≡ is_lt (query_cmp entry.now.0 query.now) }
 {
-    filtered.iter().position(|entry| entry.form == *query)
+    query_cmp(&entry.form, query).is_lt()
+}
+
+// The first place at which no form stands before the query's, by halving.
+fn first_from(filtered: &[Filtered], query: &Query) -> usize
+    requires { AreInOrder filtered.now }
+    ensures within { result ≤ length filtered.now }
+    ensures point { IsPartitionPoint (λ e. is_lt (query_cmp e.0 query.now) ≡ true)
+        (λ e. is_lt (query_cmp e.0 query.now) ≡ false) filtered.now result }
+{
+    filtered.partition_point(|entry| is_before(entry, query))
+}
+
+// Where a form stands, by halving.
+fn place_of(filtered: &[Filtered], query: &Query) -> Option<usize>
+    requires { AreInOrder filtered.now }
+    ensures place { result ≡ entry_at query.now filtered.now }
+    ensures within { IfSome result (λ n. n < length filtered.now) }
+{
+    let place = first_from(filtered, query);
+    if place == filtered.len() {
+        return None;
+    }
+    if filtered[place].form() == query {
+        Some(place)
+    } else {
+        None
+    }
 }
 
 // A form's first listener.
@@ -101,14 +134,32 @@ fn first_of(alloc: Global, number: u64, query: &Query) -> Result<Filtered, Alloc
 
 // The numbers of a filtered form's listeners.
 fn numbers_among<'a>(filtered: &'a [Filtered], query: &Query) -> &'a [u64]
+    requires { AreInOrder filtered.now }
     ensures { result.now ≡ among query.now filtered.now }
 {
-    for entry in filtered {
-        if entry.form == *query {
-            return entry.numbers.as_slice();
-        }
+    match place_of(filtered, query) {
+        Some(place) => filtered[place].numbers(),
+        None => &[],
     }
-    &[]
+}
+
+// Puts a form with its first listener in its place.
+fn enter(
+    filtered: &mut Vec<Filtered>,
+    alloc: Global,
+    number: u64,
+    query: &Query,
+) -> Result<(), AllocError>
+    requires order { AreInOrder filtered.old.items }
+    requires new { entry_at query.now filtered.old.items ≡ None }
+    ensures ok { OnOk result (IsJoined filtered.old.items filtered.new.items query.now number) }
+    ensures err { OnErr result (filtered.new.items ≡ filtered.old.items) }
+    ensures order { AreInOrder filtered.new.items }
+{
+    let entry = first_of(alloc, number, query)?;
+    let place = first_from(filtered, query);
+    filtered.insert(place, entry)?;
+    Ok(())
 }
 
 // Puts a listener among those of a form.
@@ -116,6 +167,7 @@ fn join_entry(entry: &mut Filtered, number: u64) -> Result<(), AllocError>
     requires { list_any (λ m. m == number) entry.old.1 ≡ false }
     ensures ok { OnOk result (entry.new ≡ (entry.old.0, with_number number entry.old.1)) }
     ensures err { OnErr result (entry.new ≡ entry.old) }
+    ensures form { entry.new.0 ≡ entry.old.0 }
 {
     entry.numbers.insert(number)
 }
@@ -127,41 +179,44 @@ fn join(
     number: u64,
     query: &Query,
 ) -> Result<(), AllocError>
-    requires { list_any (λ m. m == number) (among query.now filtered.old.items) ≡ false }
-    ensures ok { OnOk result (filtered.new.items ≡ joined query.now number filtered.old.items) }
+    requires order { AreInOrder filtered.old.items }
+    requires free { list_any (λ m. m == number) (among query.now filtered.old.items) ≡ false }
+    ensures ok { OnOk result (IsJoined filtered.old.items filtered.new.items query.now number) }
     ensures err { OnErr result (filtered.new.items ≡ filtered.old.items) }
+    ensures order { AreInOrder filtered.new.items }
 {
     match place_of(filtered, query) {
-        Some(at) => join_entry(&mut filtered[at], number),
-        None => {
-            let entry = first_of(alloc, number, query)?;
-            filtered.push(entry)?;
-            Ok(())
-        }
+        Some(place) => join_entry(&mut filtered[place], number),
+        None => enter(filtered, alloc, number, query),
     }
 }
 
-// Takes a listener out of those of a form.
-fn leave_entry(entry: &mut Filtered, number: u64)
+// Takes a listener out of those of a form. The answer is whether none is left.
+fn leave_entry(entry: &mut Filtered, number: u64) -> bool
     ensures entry { entry.new ≡ (entry.old.0, without_number number entry.old.1) }
     ensures less { list_any (λ m. m == number) entry.old.1 ≡ true
         → length entry.new.1 + 1 ≡ length entry.old.1 }
+    ensures none { result ≡ (length entry.new.1 == 0) }
 {
     entry.numbers.remove(number);
+    entry.numbers.is_empty()
 }
 
 // Takes a listener out of those of a filtered form, and the form where none is left.
 fn leave(filtered: &mut Vec<Filtered>, number: u64, query: &Query)
-    requires { list_any (λ m. m == number) (among query.now filtered.old.items) ≡ true }
+    requires order { AreInOrder filtered.old.items }
+    requires there { list_any (λ m. m == number) (among query.now filtered.old.items) ≡ true }
     ensures items { filtered.new.items ≡ parted query.now number filtered.old.items }
     ensures less { length (without_number number (among query.now filtered.old.items)) + 1
         ≡ length (among query.now filtered.old.items) }
+    ensures order { AreInOrder filtered.new.items }
 {
-    let Some(at) = place_of(filtered, query) else {
+    let Some(place) = place_of(filtered, query) else {
         return;
     };
-    leave_entry(&mut filtered[at], number);
-    filtered.retain(|entry| !entry.numbers.is_empty());
+    if leave_entry(&mut filtered[place], number) {
+        let _left = filtered.remove(place);
+    }
 }
 
 // Adds the numbers of all the forms.

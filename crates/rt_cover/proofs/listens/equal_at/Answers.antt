@@ -1,29 +1,39 @@
-use Rattle.std.proofs.Common.{◌≡◌, ◌&&◌, ◌==◌, Bool, true, false, sym, ap, ◌∙◌}
-use mathlib.Core.Bool.{true≢false}
-use Rattle.std.specs.List.{list_any}
-use Rattle.rt_tree.specs.PathTree.{path_eq}
-use Rattle.rt_tree.specs.TreeEq.{both, both_second}
-use Rattle.rt_query.specs.Queries.{Query}
+use Rattle.std.proofs.Common.{◌≡◌, ◌<◌, ◌&&◌, ◌==◌, true, false, List, length, get_or, ap, rules, ◌∙◌}
+use Rattle.std.specs.Cmp.{nat_eq_equiv}
+use Rattle.std.proofs.lemmas.List.{get_or_default}
+use Rattle.std.proofs.lemmas.List.Folds.{list_any_at}
+use Rattle.rt_tree.specs.TreeEq.{both}
 use Rattle.rt_query.specs.QueryEq.{query_eq}
 use Rattle.rt_cover.specs.Cover.{Tagged}
-use Rattle.rt_cover.proofs.ByPathLaws.{same_form, list_any_implied}
-use Rattle.rt_cover.proofs.ListenLaws.{found_at, none_at, if_some, if_none, fails}
+use Rattle.rt_cover.specs.inside.Index.{form_of}
+use Rattle.rt_cover.proofs.SearchLaws.{at_end, at_gap}
 use Rattle.rt_cover.proofs.listens.equal_at.Goals as goal
 
-pub returns-clause-some : goal.returns-clause-some
-returns-clause-some c =
-    let f : Query = c.args.form.now in
-    let at : Tagged → Bool = λ k. path_eq (k.form).path c.keys.result.now in
-    if_some (λ t. list_any (λ k. at k && (query_eq k.form f && k.tag == t)) c.args.by_path.now ≡ true) (λ t. list_any (λ k. query_eq k.form f && k.tag == t) c.args.by_path.now ≡ true) c.equal_among.result
-    (λ t. list_any_implied (λ k. at k && (query_eq k.form f && k.tag == t)) (λ k. query_eq k.form f && k.tag == t) (λ k e. both_second (at k) (query_eq k.form f && k.tag == t) e) c.args.by_path.now)
-    (found_at at (λ k. query_eq k.form f) c.args.by_path.now c.at_path.result.now c.equal_among.result c.at_path.ensures c.equal_among.ensures)
+pub returns-then-place-by_path-clause-none : goal.returns-then-place-by_path-clause-none
+returns-then-place-by_path-clause-none c =
+    let ks : List Tagged = c.args.by_path.now in
+    let all : c.place_of_form-place.result ≡ length ks = search rules in
+    at_end form_of c.args.form.now ks c.requires c.place_of_form-place.result c.place_of_form-place.ensures.point all
 
-pub returns-clause-none : goal.returns-clause-none
-returns-clause-none c =
-    let f : Query = c.args.form.now in
-    let at : Tagged → Bool = λ k. path_eq (k.form).path c.keys.result.now in
-    let same : c.keys.result.now ≡ f.path = c.keys.ensures.keys ∙ c.path.ensures in
-    if_none (list_any (λ k. at k && query_eq k.form f) c.args.by_path.now ≡ false) (list_any (λ k. query_eq k.form f) c.args.by_path.now ≡ false) c.equal_among.result
-    (λ h. fails (list_any (λ k. query_eq k.form f) c.args.by_path.now) (λ t. true≢false (sym (list_any_implied (λ k. query_eq k.form f) (λ k. at k && query_eq k.form f)
-    (λ k e. both (at k) (query_eq k.form f) (ap (path_eq (k.form).path) same ∙ same_form k.form f e) e) c.args.by_path.now t) ∙ h)))
-    (none_at at (λ k. query_eq k.form f) c.args.by_path.now c.at_path.result.now c.equal_among.result c.at_path.ensures c.equal_among.ensures)
+pub returns-then-eq-clause-some : goal.returns-then-eq-clause-some
+returns-then-eq-clause-some c =
+    let ks : List Tagged = c.args.by_path.now in
+    let n = c.place_of_form-place.result in
+    let k : Tagged = c.index-by_path-place.result in
+    let within : n < length ks = search rules in
+    let here : query_eq (get_or ks n k).form c.args.form.now ≡ true = search rules in
+    let other : Tagged = c.index-by_path-place-then-eq.result in
+    let again : other ≡ get_or ks n other = search rules in
+    let tag : c.tag.result ≡ (get_or ks n k).tag = c.tag.ensures ∙ ap (λ (x : Tagged). x.tag) (again ∙ get_or_default ks n other k within) in
+    list_any_at (λ (x : Tagged). query_eq x.form c.args.form.now && x.tag == c.tag.result) ks n k within
+    (both (query_eq (get_or ks n k).form c.args.form.now) ((get_or ks n k).tag == c.tag.result) here
+    (ap (λ t. (get_or ks n k).tag == t) tag ∙ nat_eq_equiv.refl (get_or ks n k).tag))
+
+pub returns-else-eq-clause-none : goal.returns-else-eq-clause-none
+returns-else-eq-clause-none c =
+    let ks : List Tagged = c.args.by_path.now in
+    let n = c.place_of_form-place.result in
+    let k : Tagged = c.index-by_path-place.result in
+    let within : n < length ks = search rules in
+    let other : query_eq (get_or ks n k).form c.args.form.now ≡ false = search rules in
+    at_gap form_of c.args.form.now ks c.requires n c.place_of_form-place.ensures.point k within other

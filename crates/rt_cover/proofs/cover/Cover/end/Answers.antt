@@ -10,14 +10,19 @@ use Rattle.rt_cover.specs.inside.Sound.{IsSound}
 use Rattle.rt_cover.proofs.EndLaws.{is_ended, sound_without, told_without}
 use Rattle.rt_cover.proofs.cover.Cover.end.Goals as goal
 
-pub replace-requires : goal.replace-requires
-replace-requires g c =
+pub replace-requires-clause-lost : goal.replace-requires-clause-lost
+replace-requires-clause-lost g c =
     let old : Cover = c.args.self.now in
     let sound : IsSound old = subst IsSound c.self.view_is c.self.invariant in
     let ends = by_number (g.E.Ending.ended c.args.ending.now) in
     let gone : c.deref.result.now ≡ lost ends old.kept old.listeners = c.deref.ensures.value ∙ c.in_ok-lost.ensures.lost in
     subst (AllPairs (λ (j k : Tagged). j.tag < k.tag)) (sym gone)
     (AllPairs-filter (λ (j k : Tagged). j.tag < k.tag) (λ (k : Tagged). not (is_left_form ends old.listeners k.form)) old.kept sound.tags)
+
+pub replace-requires-clause-tags : goal.replace-requires-clause-tags
+replace-requires-clause-tags g c =
+    let sound : IsSound c.args.self.now = subst IsSound c.self.view_is c.self.invariant in
+    subst (AllPairs (λ (j k : Tagged). j.tag < k.tag)) (λ i. (sym c.self.view_is i).kept) sound.tags
 
 pub retain_left-requires-clause-rise : goal.retain_left-requires-clause-rise
 retain_left-requires-clause-rise g c =

@@ -4,8 +4,8 @@ use Rattle.rt_forms.specs.inside.Trees.{Standing, among, own, AreAt, Lost}
 use Rattle.rt_forms.proofs.LessLaws.{lost_filtered}
 use Rattle.rt_forms.proofs.standing.Standing.remove_filtered.Goals as goal
 
-pub leave-requires : goal.leave-requires
-leave-requires c =
+pub leave-requires-clause-there : goal.leave-requires-clause-there
+leave-requires-clause-there c =
     let x : Standing = record { plain = c.self.inside.plain; filtered = c.self.inside.filtered.items; count = c.self.inside.count } in
     ap (λ b. list_any (λ m. m == c.args.number) (cond b (among c.args.query.now x.filtered) x.plain)) (sym c.requires.filtered)
     ∙ ap (λ (y : Standing). list_any (λ m. m == c.args.number) (own c.args.query.now y)) c.self.view_is ∙ c.requires.there
