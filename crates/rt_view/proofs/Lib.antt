@@ -1,6 +1,7 @@
 pub mod AloneLaws
 pub mod Children
 pub mod CrossLaws
+pub mod DifferLaws
 pub mod HalfLaws
 pub mod BesideLaws
 pub mod InsideLaws

@@ -1,5 +1,6 @@
 -- What only the bodies need.
 pub mod Alone
+pub mod Differences
 pub mod Given
 pub mod Halves
 pub mod Known

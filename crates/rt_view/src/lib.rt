@@ -13,6 +13,7 @@ mod batch;
 mod change;
 mod change_list;
 mod compare;
+mod difference;
 mod examples;
 mod kind;
 mod kinds;

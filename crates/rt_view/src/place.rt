@@ -1,17 +1,18 @@
 // Children in their places.
-ghost use Rattle.std.specs.Prelude.{◌≡◌, ◌≤◌, ◌∷◌, [], false, IfOk, IfSome, OnOk, length};
+ghost use Rattle.std.specs.Prelude.{◌≡◌, ◌≤◌, ◌∷◌, [], false, All, IfOk, IfSome, OnOk, length};
 ghost use Rattle.std.specs.Option.{option_copied};
-ghost use Rattle.rt_tree.specs.PathTree.{child_of, is_null, leaf_of, levels, null, put};
+ghost use Rattle.rt_tree.specs.PathTree.{child_of, is_null, leaf_of, levels, null, object};
+ghost use Rattle.rt_tree.specs.PathTree.{put};
 ghost use Rattle.rt_tree.specs.Children.{children_of};
-ghost use Rattle.rt_query.specs.Select.{sorted_by};
+ghost use Rattle.rt_query.specs.Select.{as_children, sorted_by};
 ghost use Rattle.rt_view.specs.inside.Kept.{IsWindowOf, entries_of};
 
 use crate::position::Position;
 use crate::window::{Window, ordered};
 use rt_map::OrdMap;
 use rt_order::Index;
-use rt_query::Query;
-use rt_tree::{Key, Leaf, MAX_KEYS, Path, Tree, TreeError};
+use rt_query::{Query, Row};
+use rt_tree::{Key, Leaf, MAX_KEYS, Tree};
 use std::alloc::{AllocError, Global};
 
 // All children, by their entries.
@@ -88,17 +89,8 @@ pub fn put_child(tree: &mut Tree, alloc: Global, key: &Key, child: &Tree) -> Res
     requires { levels child.now ≤ MAX_KEYS }
     ensures { OnOk result (tree.new ≡ put tree.old (key.now ∷ []) child.now) }
 {
-    let path = match Path::root(alloc).child(key) {
-        Ok(path) => path,
-        Err(TreeError::NoMemory) => return Err(AllocError),
-        Err(_) => unreachable!(),
-    };
     let child = child.copy(alloc)?;
-    match tree.put(alloc, &path, child) {
-        Ok(()) => Ok(()),
-        Err(TreeError::NoMemory) => Err(AllocError),
-        Err(_) => unreachable!(),
-    }
+    tree.put_child(alloc, key, child)
 }
 
 // Takes out a child. Only memory can refuse.
@@ -106,4 +98,20 @@ pub fn drop_child(tree: &mut Tree, alloc: Global, key: &Key) -> Result<(), Alloc
     ensures { OnOk result (tree.new ≡ put tree.old (key.now ∷ []) null) }
 {
     put_child(tree, alloc, key, &Tree::null())
+}
+
+// The object of the rows, each of which fits below a key.
+pub fn object_of(alloc: Global, rows: &[Row]) -> Result<Tree, AllocError>
+    requires { All (λ row. levels row.value ≤ MAX_KEYS) rows.now }
+    ensures { IfOk result (λ tree. tree ≡ object (as_children rows.now)) }
+{
+    let mut tree = Tree::null();
+    let mut left = rows.len();
+    while left > 0 {
+        let at = left - 1;
+        let row = &rows[at];
+        put_child(&mut tree, alloc, &row.key, &row.value)?;
+        left = at;
+    }
+    Ok(tree)
 }

@@ -8,12 +8,13 @@ ghost use Rattle.rt_view.specs.Changes.{changes};
 ghost use Rattle.rt_view.specs.Errors.{code_of, name_of};
 ghost use Rattle.rt_view.specs.Views.{first_view, leaves_child, renewed, shown_of, stays_object, told};
 ghost use Rattle.rt_view.specs.Views.{touched, with_named};
-ghost use Rattle.rt_view.specs.inside.Kept.{IsKept, own_tree};
+ghost use Rattle.rt_view.specs.inside.Kept.{IsKept, IsWindowOf, own_tree};
 
 use crate::change_list::ChangeList;
 use crate::compare::changes;
+use crate::difference::few_differing;
 use crate::others::has_other;
-use crate::place::{copy_leaf, count, window_of};
+use crate::place::{copy_leaf, count, object_of, window_of};
 use crate::touch::{touch_filtered, touch_plain};
 use crate::window::Window;
 use rt_query::{Query, Shown};
@@ -111,15 +112,24 @@ impl Model for View {
     ghost invariant = { λ a. a.failed ≡ false → IsKept a.query a.known a.window a.tree };
 }
 
-// What is shown as a tree of its own, which only a filtered query has.
-fn own_tree(alloc: Global, query: &Query, known: &Tree) -> Result<Option<Tree>, AllocError>
+// What is shown as a tree of its own, which only a filtered query has: the object of the rows.
+fn own_tree(
+    alloc: Global,
+    query: &Query,
+    known: &Tree,
+    window: &Window,
+) -> Result<Option<Tree>, AllocError>
+    requires { IsWindowOf query.now known.now window.now }
     ensures { IfOk result (λ tree. tree ≡ own_tree query.now known.now) }
 {
-    if query.is_filtered() {
-        let shown = query.select(known)?;
-        return Ok(Some(shown.tree().copy(alloc)?));
+    if !query.is_filtered() {
+        return Ok(None);
     }
-    Ok(None)
+    // For the prover: each known child fits below a key.
+    let _ = known.children();
+    let shown = window.rows(alloc)?;
+    let tree = object_of(alloc, shown.as_slice())?;
+    Ok(Some(tree))
 }
 
 // What is shown as a tree: one of its own, or the known one.
@@ -150,6 +160,21 @@ fn shown_of(
     Ok(Shown::of(leaf, rows, whole))
 }
 
+// What is kept of a tree, and what is shown of it.
+fn kept_of(
+    alloc: Global,
+    query: &Query,
+    known: &Tree,
+) -> Result<(Window, Option<Tree>, Shown), AllocError>
+    ensures kept { IfOk result (λ p. IsKept query.now known.now p.0 p.1) }
+    ensures shown { IfOk result (λ p. p.2 ≡ select query.now known.now) }
+{
+    let window = window_of(alloc, query, known)?;
+    let tree = own_tree(alloc, query, known, &window)?;
+    let shown = shown_of(query, known, &window, tree.as_ref())?;
+    Ok((window, tree, shown))
+}
+
 // Puts the named children in their places, and tells what changes.
 fn touch_kept(
     known: &mut Tree,
@@ -172,6 +197,49 @@ fn touch_kept(
     }
 }
 
+// Makes what is kept of another tree anew, and tells what changes.
+fn make_anew(
+    known: &Tree,
+    window: &mut Window,
+    tree: &mut Option<Tree>,
+    alloc: Global,
+    query: &Query,
+    new: &Tree,
+) -> Result<ChangeList, AllocError>
+    requires kept { IsKept query.now known.now window.old tree.old }
+    ensures kept { OnOk result (IsKept query.now new.now window.new tree.new) }
+    ensures changes { IfOk result (λ list. list ≡ changes query.now.index
+        (Some (select query.now known.now)) (select query.now new.now)) }
+{
+    let old = shown_of(query, known, window, tree.as_ref())?;
+    let (made, own, shown) = kept_of(alloc, query, new)?;
+    let changes = changes(alloc, query.index(), Some(&old), &shown)?;
+    drop(replace(window, made));
+    drop(replace(tree, own));
+    Ok(changes)
+}
+
+// Turns what is kept of one tree into what is kept of another one, and tells what changes: child by
+// child, where few differ.
+fn renew_kept(
+    known: &mut Tree,
+    window: &mut Window,
+    tree: &mut Option<Tree>,
+    alloc: Global,
+    query: &Query,
+    new: &Tree,
+) -> Result<ChangeList, AllocError>
+    requires kept { IsKept query.now known.old window.old tree.old }
+    ensures kept { OnOk result (IsKept query.now new.now window.new tree.new) }
+    ensures changes { IfOk result (λ list. list ≡ changes query.now.index
+        (Some (select query.now known.old)) (select query.now new.now)) }
+{
+    let Some(named) = few_differing(alloc, known, new)? else {
+        return make_anew(known, window, tree, alloc, query, new);
+    };
+    touch_kept(known, window, tree, alloc, query, named.as_slice())
+}
+
 // Whether a child is there once the named ones are put in.
 fn leaves_child(tree: &Tree, named: &[(Key, Tree)]) -> bool
     ensures { result ≡ leaves_child tree.now named.now }
@@ -191,9 +259,7 @@ impl View {
         ensures view { IfOk result (λ p. p.0 ≡ first_view query known) }
         ensures changes { IfOk result (λ p. p.1 ≡ changes query.index None (select query known)) }
     {
-        let window = window_of(alloc, &query, &known)?;
-        let tree = own_tree(alloc, &query, &known)?;
-        let shown = shown_of(&query, &known, &window, tree.as_ref())?;
+        let (window, tree, shown) = kept_of(alloc, &query, &known)?;
         let changes = changes(alloc, query.index(), None, &shown)?;
         let reads = count(&known);
         let view = View {
@@ -230,35 +296,21 @@ impl View {
             self.turns = self.turns.wrapping_add(1);
             return Ok(ChangeList::of(Vec::new(alloc)));
         }
-        let Ok((window, tree, changes)) = self.kept_of(alloc, &known) else {
+        let Ok(changes) = renew_kept(
+            &mut self.known,
+            &mut self.window,
+            &mut self.tree,
+            alloc,
+            &self.query,
+            &known,
+        ) else {
             self.failed = true;
             return Err(ViewError::NoMemory);
         };
+        drop(replace(&mut self.known, known));
         self.reads = reads;
         self.turns = self.turns.wrapping_add(1);
-        drop(replace(&mut self.window, window));
-        drop(replace(&mut self.tree, tree));
-        drop(replace(&mut self.known, known));
         Ok(changes)
-    }
-
-    // What is kept of another tree, and the changes to it.
-    fn kept_of(
-        &self,
-        alloc: Global,
-        known: &Tree,
-    ) -> Result<(Window, Option<Tree>, ChangeList), ViewError>
-        ensures kept { IfOk result (λ p. IsKept self.now.query known.now p.0 p.1) }
-        ensures changes { IfOk result (λ p. p.2
-            ≡ changes self.now.query.index (Some (shown_of self.now))
-            (select self.now.query known.now)) }
-    {
-        let old = self.shown()?;
-        let window = window_of(alloc, &self.query, known)?;
-        let tree = own_tree(alloc, &self.query, known)?;
-        let shown = shown_of(&self.query, known, &window, tree.as_ref())?;
-        let changes = changes(alloc, self.query.index(), Some(&old), &shown)?;
-        Ok((window, tree, changes))
     }
 
     /// Puts the named children in the place of the tree's own, one after another, and answers the

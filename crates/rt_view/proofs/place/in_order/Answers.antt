@@ -1,5 +1,4 @@
 use Rattle.std.proofs.Common.{◌≡◌, [], ap, sym, subst, ◌∙◌, rules}
-use Rattle.std.proofs.lemmas.Result.{IfOk-weaker}
 use Rattle.rt_tree.specs.Children.{children_of}
 use Rattle.rt_query.specs.Select.{sorted_by}
 use Rattle.rt_view.specs.inside.Windows.{Entries, IsApart, IsOrdering}

@@ -1,7 +1,7 @@
 use Rattle.std.proofs.Common.{◌≡◌, ◌+◌, ◌%◌, ◌^◌, true, length, sym, subst, ◌∙◌, rules}
 use Rattle.rt_tree.specs.Children.{children_of}
 use Rattle.rt_tree.specs.TreeEq.{tree_eq, tree_eq_tells}
-use Rattle.rt_view.specs.Views.{View, renewed}
+use Rattle.rt_view.specs.Views.{View, renewed, told}
 use Rattle.rt_view.proofs.RunLaws.{told_alike}
 use Rattle.rt_view.proofs.view.View.renew.Goals as goal
 
@@ -17,3 +17,7 @@ pub returns-then-eq-clause-changes : goal.returns-then-eq-clause-changes
 returns-then-eq-clause-changes c =
     let alike = subst (λ (w : View). tree_eq w.tree c.args.known ≡ true) c.self.view_is (sym c.eq.ensures ∙ c.if-eq.true) in
     c.of.ensures ∙ c.new.ensures.items ∙ told_alike c.args.self.now c.args.known alike
+
+pub returns-clause-changes : goal.returns-clause-changes
+returns-clause-changes c =
+    subst (λ (w : View). c.in-Ok.changes ≡ told w (renewed w c.args.known)) c.self.view_is c.in-Ok.ensures.changes
