@@ -7,14 +7,11 @@ use Rattle.std.proofs.lemmas.List.Elements.{All-append, All-filter}
 use Rattle.std.proofs.lemmas.List.Kept.{AllPairs-filter}
 use Rattle.std.proofs.lemmas.List.Quantifiers.{all_pairs_push}
 use Rattle.std.proofs.lemmas.List.{get_or-map, length-map}
-use Rattle.rt_query.specs.Queries.{Query}
-use Rattle.rt_query.specs.QueryEq.{query_eq}
-use Rattle.rt_query.specs.Supply.{form}
 use Rattle.rt_world.specs.Answers.{view_before}
-use Rattle.rt_world.specs.World.{Listener, Reason}
+use Rattle.rt_world.specs.World.{Listener}
 use Rattle.rt_parts.specs.declared.held.Held.{Held}
-use Rattle.rt_parts.specs.Listeners.{cancelled_note, views_left, views_where}
-use Rattle.rt_parts.specs.inside.HeldView.{all_of, AreHeld, views_of, ended_note, IsHeld, listener_of, listeners_of, own_view, own_views, own_number, shown_in}
+use Rattle.rt_parts.specs.Listeners.{views_left, views_where}
+use Rattle.rt_parts.specs.inside.HeldView.{all_of, AreHeld, views_of, IsHeld, listener_of, listeners_of, own_view, own_views, own_number, shown_in}
 
 -- a test of what is made of each
 pub any_map : {X Y : Type 0} (test : Y → Bool) (f : X → Y) (xs : List X) → list_any test (map f xs) ≡ list_any (λ x. test (f x)) xs
@@ -91,16 +88,6 @@ numbers_own seat (h ∷ hs) =
     elim (h.seat == seat) as (λ b. cons_option (cond b (Some h.number) None) (filter_map (own_number seat) hs) ≡ map (λ (l : Listener). l.number) (cond b (listener_of h ∷ filter (λ (l : Listener). l.seat == seat) (listeners_of hs)) (filter (λ (l : Listener). l.seat == seat) (listeners_of hs)))) [
       | true ↦ ap (λ ns. h.number ∷ ns) (numbers_own seat hs)
       | false ↦ numbers_own seat hs
-    ]
-
--- ---- the notes of a form that ends
-
-pub notes_ended : (listened : Query) (why : Reason) (held : List Held) → filter_map (λ h. ended_note listened why (listener_of h)) held ≡ map (cancelled_note why) (filter (λ (l : Listener). query_eq (form l.query) listened) (listeners_of held))
-notes_ended listened why [] = refl
-notes_ended listened why (h ∷ hs) =
-    elim (query_eq (form h.query) listened) as (λ b. cons_option (cond b (Some (cancelled_note why (listener_of h))) None) (filter_map (λ h. ended_note listened why (listener_of h)) hs) ≡ map (cancelled_note why) (cond b (listener_of h ∷ filter (λ (l : Listener). query_eq (form l.query) listened) (listeners_of hs)) (filter (λ (l : Listener). query_eq (form l.query) listened) (listeners_of hs)))) [
-      | true ↦ ap (λ ns. cancelled_note why (listener_of h) ∷ ns) (notes_ended listened why hs)
-      | false ↦ notes_ended listened why hs
     ]
 
 -- ---- the one of a number

@@ -106,7 +106,7 @@ removed_agree held number at path d up found within is k e lt =
 
 -- ---- those that stay without a form
 
-form_path : (q f : Query) → query_eq (form q) f ≡ true → path_eq q.path f.path ≡ true
+pub form_path : (q f : Query) → query_eq (form q) f ≡ true → path_eq q.path f.path ≡ true
 form_path q f e = subst (λ (g : Query). path_eq q.path g.path ≡ true) ((query_eq_tells (form q) f).0 e) (here q)
   where
     here : (q : Query) → path_eq q.path (form q).path ≡ true
@@ -115,19 +115,24 @@ form_path q f e = subst (λ (g : Query). path_eq q.path g.path ≡ true) ((query
       | false ↦ path_eq-same q.path
     ]
 
+-- of the listeners of one's number one has the form, if it has
+pub own_form : (held : List Held) (f : Query) → AllPairs (λ (l m : Held). l.number < m.number) held
+    → All (λ h. list_any (λ (l : Held). l.number == h.number && query_eq (form l.query) f) held ≡ query_eq (form h.query) f) held
+own_form held f up k d lt =
+    let h : Held = get_or held k d in
+    any_found (λ (l : Held). l.number) (λ (l : Held). query_eq (form l.query) f) held h.number h up
+    (found_at (λ (l : Held). l.number == h.number) held k d (stands (λ (l : Held). l.number) held k h.number d up lt refl))
+
+pub only_at_path : (a b : Bool) → (b ≡ true → a ≡ true) → (a && b) ≡ b
+only_at_path true b g = refl
+only_at_path false true g = g refl
+only_at_path false false g = refl
+
 pub form_agree : (held : List Held) (f : Query) → AllPairs (λ (l m : Held). l.number < m.number) held
     → All (λ h. not (path_eq (placed h).path f.path && list_any (λ (l : Held). l.number == (placed h).number && query_eq (form l.query) f) held) ≡ not (query_eq (form h.query) f)) held
 form_agree held f up k d lt =
     let h : Held = get_or held k d in
-    let found : list_any (λ (l : Held). l.number == h.number && query_eq (form l.query) f) held ≡ query_eq (form h.query) f =
-    any_found (λ (l : Held). l.number) (λ (l : Held). query_eq (form l.query) f) held h.number h up
-    (found_at (λ (l : Held). l.number == h.number) held k d (stands (λ (l : Held). l.number) held k h.number d up lt refl)) in
-    ap not (ap (λ b. path_eq h.query.path f.path && b) found ∙ both (path_eq h.query.path f.path) (query_eq (form h.query) f) (form_path h.query f))
-  where
-    both : (a b : Bool) → (b ≡ true → a ≡ true) → (a && b) ≡ b
-    both true b g = refl
-    both false true g = g refl
-    both false false g = refl
+    ap not (ap (λ b. path_eq h.query.path f.path && b) (own_form held f up k d lt) ∙ only_at_path (path_eq h.query.path f.path) (query_eq (form h.query) f) (form_path h.query f))
 
 -- ---- what is known of the listeners
 

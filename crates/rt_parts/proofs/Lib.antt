@@ -1,4 +1,5 @@
 pub mod Counts
+pub mod EndingLaws
 pub mod HeldLaws
 pub mod IndexLaws
 pub mod KnownLaws
@@ -6,6 +7,7 @@ pub mod Loops
 pub mod NamedLaws
 pub mod Numbered
 pub mod Pendings
+pub mod OrderLaws
 pub mod PairLaws
 pub mod PathLaws
 pub mod PlaceLaws

@@ -1,8 +1,8 @@
 -- Listeners that are renewed one after another, by their numbers.
-use Rattle.std.proofs.Common.{◌≡◌, ℕ, suc, ◌+◌, ◌<◌, Bool, true, false, cond, not, ◌||◌, ◌&&◌, List, [], ◌∷◌, ◌++◌, length, get_or, drop, take, map, refl, sym, ap, subst, ◌∙◌, arith, append_assoc, eqb-true, Option, Some, None}
+use Rattle.std.proofs.Common.{◌≡◌, ℕ, suc, ◌+◌, ◌<◌, Bool, true, false, cond, ◌||◌, ◌&&◌, List, [], ◌∷◌, ◌++◌, length, get_or, drop, take, map, refl, sym, ap, subst, ◌∙◌, arith, append_assoc, eqb-true, Option, Some, None}
 use mathlib.Core.Bool.{true≢false}
 use Rattle.std.specs.Prelude.{◌==◌}
-use Rattle.std.specs.List.{All, AllPairs, cons_option, filter_map, list_any, zip}
+use Rattle.std.specs.List.{All, AllPairs, cons_option, dedup, dedup_from, filter_map, list_any, zip}
 use Rattle.std.proofs.lemmas.List.Elements.{All-cons}
 use Rattle.std.proofs.lemmas.List.Folds.{Any-from_list_any, list_any-append, list_any_at, list_any_more}
 use Rattle.rt_tree.specs.TreeEq.{both_first, both_second}
@@ -22,7 +22,8 @@ use Rattle.rt_parts.specs.declared.held.Held.{Held}
 use Rattle.rt_parts.specs.declared.places.Place.{Place}
 use Rattle.rt_parts.specs.inside.HeldView.{listener_of, listeners_of, pair_of, renewal_told_at, renewed_at, renewed_pair, views_of}
 use Rattle.rt_parts.specs.inside.Placed.{HaveAt, HaveNumbers, Keeps, placed}
-use Rattle.rt_parts.specs.Renewed.{all_told_of, renewed_of, told_of, view_anew, view_of}
+use Rattle.rt_parts.specs.Listeners.{count_if}
+use Rattle.rt_parts.specs.Renewed.{all_told_of, count_of, renewed_of, told_of, view_anew, view_of}
 use Rattle.rt_parts.proofs.Numbered as by
 use Rattle.rt_parts.proofs.RefreshLaws.{drop_is, later, number_of, Pair}
 
@@ -160,6 +161,21 @@ module _ (queries : List Query) (b : Brought) (writes : List Write) where
       each [] = refl
       each (l ∷ ls) = ap (λ z. view_of queries b writes (pair_of l) ∷ z) (each ls)
 
+-- ---- other lists of the same queries
+
+module _ (some others : List Query) (b : Brought) (writes : List Write) (same : (q : Query) → is_among some q ≡ is_among others q) where
+  pub same_listeners : (ls : List Listener) → map (renewed_of some b writes) ls ≡ map (renewed_of others b writes) ls
+  same_listeners ls = λ i. map (λ (l : Listener). cond (same l.query i) (renewed b writes l) l) ls
+
+  pub same_views : (ps : List Pair) → map (view_of some b writes) ps ≡ map (view_of others b writes) ps
+  same_views ps = λ i. map (λ (p : Pair). cond (same p.0.query i) (view_anew b writes p.0.query p.1) p.1) ps
+
+  pub same_notes : (ls : List Listener) → all_told_of some b writes ls ≡ all_told_of others b writes ls
+  same_notes ls = λ i. filter_map (λ (l : Listener). cond (same l.query i) (told b writes l) None) ls
+
+  pub same_counts : (ts : List (Pair × ℕ)) → map (count_of some b writes) ts ≡ map (count_of others b writes) ts
+  same_counts ts = λ i. map (λ (t : Pair × ℕ). count_if (same t.0.0.query i) t.1 (cond (same t.0.0.query i) (view_anew b writes t.0.0.query t.0.1) t.0.1)) ts
+
 -- ---- for no query
 
 -- where none is counted there is none
@@ -253,43 +269,66 @@ or_none : (a : Bool) → a ≡ (a || false)
 or_none true = refl
 or_none false = refl
 
--- a query that is pushed where it is wanted, and isn't where it is there
+-- a query that is pushed where it is wanted
 module _ (old : List Query) (r : Query) (p : Path) (q : Query) where
-  pub pushed_one : (is_filtered r && path_eq r.path p && not (is_among old r)) ≡ true
+  pub pushed_one : (is_filtered r && path_eq r.path p) ≡ true
       → is_among (old ++ r ∷ []) q ≡ (is_among old q || (is_filtered q && path_eq q.path p && query_eq r q))
-  pushed_one e =
+  pushed_one own =
       list_any-append (λ (x : Query). query_eq x q) old (r ∷ [])
       ∙ ap (λ b. is_among old q || b) (sym (or_none (query_eq r q)) ∙ at (query_eq r q) refl)
     where
       at : (b : Bool) → query_eq r q ≡ b → query_eq r q ≡ (is_filtered q && path_eq q.path p && query_eq r q)
       at true t =
           let same : r ≡ q = (query_eq_tells r q).0 t in
-          let own : (is_filtered r && path_eq r.path p) ≡ true = both_first (is_filtered r && path_eq r.path p) (not (is_among old r)) e in
           let filtered : is_filtered q ≡ true = ap is_filtered (sym same) ∙ both_first (is_filtered r) (path_eq r.path p) own in
           let path : path_eq q.path p ≡ true = ap (λ (x : Query). path_eq x.path p) (sym same) ∙ both_second (is_filtered r) (path_eq r.path p) own in
           sym (λ i. filtered i && path i && query_eq r q)
       at false t = t ∙ sym (ap (λ b. is_filtered q && path_eq q.path p && b) t ∙ both_false (is_filtered q) (path_eq q.path p))
 
-  pub passed_one : (is_filtered r && path_eq r.path p && not (is_among old r)) ≡ false
+  pub passed_one : (is_filtered r && path_eq r.path p) ≡ false
       → is_among old q ≡ (is_among old q || (is_filtered q && path_eq q.path p && query_eq r q))
   passed_one e = at (query_eq r q) refl
     where
-      had : (f s a : Bool) → (f && s && not a) ≡ false → a ≡ (a || (f && s && true))
-      had true true true h = refl
-      had true true false h = absurd (true≢false h)
+      had : (f s a : Bool) → (f && s) ≡ false → a ≡ (a || (f && s && true))
+      had true true a h = absurd (true≢false h)
       had true false a h = or_none a
       had false s a h = or_none a
 
       at : (b : Bool) → query_eq r q ≡ b → is_among old q ≡ (is_among old q || (is_filtered q && path_eq q.path p && query_eq r q))
       at true t =
           let same : r ≡ q = (query_eq_tells r q).0 t in
-          had (is_filtered q) (path_eq q.path p) (is_among old q) (ap (λ (x : Query). is_filtered x && path_eq x.path p && not (is_among old x)) (sym same) ∙ e)
+          had (is_filtered q) (path_eq q.path p) (is_among old q) (ap (λ (x : Query). is_filtered x && path_eq x.path p) (sym same) ∙ e)
           ∙ ap (λ b. is_among old q || (is_filtered q && path_eq q.path p && b)) (sym t)
       at false t = or_none (is_among old q) ∙ ap (λ b. is_among old q || b) (sym (ap (λ b. is_filtered q && path_eq q.path p && b) t ∙ both_false (is_filtered q) (path_eq q.path p)))
 
   -- where no listener has the number, nothing is pushed
   pub none_one : (b : Bool) → b ≡ false → is_among old q ≡ (is_among old q || (is_filtered q && path_eq q.path p && b))
   none_one b e = or_none (is_among old q) ∙ ap (λ c. is_among old q || c) (sym (ap (λ c. is_filtered q && path_eq q.path p && c) e ∙ both_false (is_filtered q) (path_eq q.path p)))
+
+-- of queries one behind an equal one goes, and so none is lost
+among_from : (k : Query) (xs : List Query) (q : Query) → is_among (dedup_from query_eq k xs) q ≡ (query_eq k q || is_among xs q)
+among_from k [] q = refl
+among_from k (x ∷ xs) q = at (query_eq x k) refl (among_from k xs q) (among_from x xs q)
+  where
+    twice : (a b : Bool) → (a || b) ≡ (a || (a || b))
+    twice true b = refl
+    twice false b = refl
+
+    at : (b : Bool) → query_eq x k ≡ b
+        → is_among (dedup_from query_eq k xs) q ≡ (query_eq k q || is_among xs q)
+        → is_among (dedup_from query_eq x xs) q ≡ (query_eq x q || is_among xs q)
+        → is_among (cond (query_eq x k) (dedup_from query_eq k xs) (k ∷ dedup_from query_eq x xs)) q ≡ (query_eq k q || (query_eq x q || is_among xs q))
+    at true e gone kept =
+        ap (λ b. is_among (cond b (dedup_from query_eq k xs) (k ∷ dedup_from query_eq x xs)) q) e
+        ∙ gone ∙ twice (query_eq k q) (is_among xs q)
+        ∙ ap (λ (y : Query). query_eq k q || (query_eq y q || is_among xs q)) (sym ((query_eq_tells x k).0 e))
+    at false e gone kept =
+        ap (λ b. is_among (cond b (dedup_from query_eq k xs) (k ∷ dedup_from query_eq x xs)) q) e
+        ∙ ap (λ b. query_eq k q || b) kept
+
+pub among_once : (xs : List Query) (q : Query) → is_among (dedup query_eq xs) q ≡ is_among xs q
+among_once [] q = refl
+among_once (x ∷ xs) q = among_from x xs q
 
 -- the numbers of all at the path bring all their queries
 pub all_of_path : (ls : List Held) (p : Path) (numbers : List ℕ) (q : Query) → All (λ (l : Held). path_eq l.query.path p ≡ true → list_any (λ n. l.number == n) numbers ≡ true) ls

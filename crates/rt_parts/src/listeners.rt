@@ -16,13 +16,13 @@ ghost use Rattle.rt_parts.specs.Refreshed.{FollowNamed, count_met, view_met};
 ghost use Rattle.rt_parts.specs.Renewed.{all_told_of, count_of, is_listened_at, renewed_of, view_of};
 
 use crate::adding::first;
-use crate::ending::{end_form, end_number, end_seat, tell_ends};
+use crate::ending::{end_listened, end_number, end_seat, numbers_of_form, tell_ends};
 use crate::error::ShownError;
 use crate::held::{Held, is_seats, place_of};
 use crate::met::{numbers_in, pairs_met};
 use crate::places::{Place, insert_place, push_at};
 use crate::reading::{numbers_of, shown};
-use crate::renewing::{numbers_at, queries_of, renew_all};
+use crate::renewing::{in_order, numbers_at, queries_of, renew_all};
 use crate::views::refresh;
 use rt_cache::Brought;
 use rt_query::{Query, Shown};
@@ -184,12 +184,13 @@ impl Listeners {
         }
         let mut held = replace(&mut self.held, Vec::new(alloc));
         let places = replace(&mut self.places, Vec::new(alloc));
-        let numbers = numbers_at(alloc, &places, queries)?;
+        let ordered = in_order(alloc, queries)?;
+        let numbers = numbers_at(alloc, &places, &ordered)?;
         renew_all(
             alloc,
             held.as_mut_slice(),
             &numbers,
-            queries,
+            &ordered,
             brought,
             pending,
             notes,
@@ -256,7 +257,8 @@ impl Listeners {
     }
 
     /// Takes the listeners out that this form is listened to for, since it is revoked, and tells
-    /// their seats why, by number.
+    /// their seats why, by number. Those at the form's path are found by halving, and are alone looked
+    /// at, unless many have the form.
     ///
     /// # Errors
     ///
@@ -279,8 +281,9 @@ impl Listeners {
             ≡ counts_left (λ l. not (query_eq (form l.query) listened.now)) self.old) }
     {
         let alloc = *self.held.allocator();
-        tell_ends(alloc, &self.held, listened, why, notes)?;
-        end_form(&mut self.held, &mut self.places, listened);
+        let numbers = numbers_of_form(alloc, &self.held, &self.places, listened)?;
+        tell_ends(alloc, &self.held, &numbers, why, notes)?;
+        end_listened(&mut self.held, &mut self.places, &numbers, listened);
         Ok(())
     }
 

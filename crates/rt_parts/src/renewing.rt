@@ -1,11 +1,14 @@
 // Listeners of some queries: which there are, and how they are renewed.
-ghost use Rattle.std.specs.Prelude.{◌≡◌, ◌==◌, ◌+◌, ◌<◌, ◌++◌, ◌||◌, ◌&&◌, true, not, length, map};
-ghost use Rattle.std.specs.Prelude.{take, IfOk, OnOk};
+ghost use Rattle.std.specs.Prelude.{◌≡◌, ◌==◌, ◌+◌, ◌<◌, ◌≤◌, ◌++◌, ◌||◌, ◌&&◌, true, false, not};
+ghost use Rattle.std.specs.Prelude.{length, map, take, IfOk, OnOk};
 ghost use Rattle.std.specs.List.{All, AllPairs, filter_map, list_any};
+ghost use Rattle.std.specs.List.Sorted.{IsPartitionPoint, IsSorted};
 ghost use Rattle.std.specs.Option.{option_to_list};
+ghost use Rattle.std.specs.Ordering.{is_lt};
 ghost use Rattle.rt_tree.specs.PathTree.{path_eq};
 ghost use Rattle.rt_query.specs.Queries.{Query, is_filtered};
 ghost use Rattle.rt_query.specs.QueryEq.{query_eq};
+ghost use Rattle.rt_query.specs.QueryOrder.{query_cmp};
 ghost use Rattle.rt_cache.specs.Recover.{is_among};
 ghost use Rattle.rt_parts.specs.Renewed.{all_told_of, told_of};
 ghost use Rattle.rt_parts.specs.Listeners.{count_if};
@@ -18,30 +21,83 @@ use crate::held::{Held, place_of};
 use crate::places::{Place, push_at, sort_once};
 use crate::views::renew;
 use rt_cache::Brought;
-use rt_query::Query;
+use rt_query::{Query, query_cmp};
 use rt_tree::Path;
 use rt_world::Note;
 use rt_writes::Pending;
 use std::alloc::{AllocError, Global};
 
-// Whether the query is one of these.
+// ---- queries in order
+
+// Whether the one stands before the other.
+fn is_before(one: &Query, other: &Query) -> bool
+    ensures { result ≡ is_lt (query_cmp one.now other.now) }
+{
+    query_cmp(one, other).is_lt()
+}
+
+// The first place before which all stand before the query, by halving.
+fn first_from(queries: &[Query], query: &Query) -> usize
+    requires { IsSorted query_cmp queries.now }
+    ensures within { result ≤ length queries.now }
+    ensures point { IsPartitionPoint (λ q. is_lt (query_cmp q query.now) ≡ true)
+        (λ q. is_lt (query_cmp q query.now) ≡ false) queries.now result }
+{
+    queries.partition_point(|one| is_before(one, query))
+}
+
+// Whether the query is one of these, by halving.
 fn is_among(queries: &[Query], query: &Query) -> bool
+    requires { IsSorted query_cmp queries.now }
     ensures { result ≡ is_among queries.now query.now }
 {
-    queries.iter().any(|one| one == query)
+    let place = first_from(queries, query);
+    if place == queries.len() {
+        return false;
+    }
+    queries[place] == *query
+}
+
+// Sorts the queries.
+fn sort_queries(queries: &mut Vec<Query>)
+    ensures order { IsSorted query_cmp queries.new.items }
+    ensures same { (q : Query) → is_among queries.new.items q ≡ is_among queries.old.items q }
+{
+    queries.sort_unstable_by(|one, other| query_cmp(one, other));
+}
+
+// The same queries.
+fn copies(alloc: Global, queries: &[Query]) -> Result<Vec<Query>, AllocError>
+    ensures { IfOk result (λ copies. copies.items ≡ queries.now) }
+{
+    let mut copies = Vec::with_capacity(alloc, queries.len())?;
+    for query in queries {
+        copies.push(query.copy()?)?;
+    }
+    Ok(copies)
+}
+
+// The queries in order.
+pub(crate) fn in_order(alloc: Global, queries: &[Query]) -> Result<Vec<Query>, AllocError>
+    ensures order { IfOk result (λ ordered. IsSorted query_cmp ordered.items) }
+    ensures same { IfOk result (λ ordered. (q : Query)
+        → is_among ordered.items q ≡ is_among queries.now q) }
+{
+    let mut ordered = copies(alloc, queries)?;
+    sort_queries(&mut ordered);
+    Ok(ordered)
 }
 
 // ---- the queries of a path
 
-// Whether it is a filtered query of the path that isn't among these.
-fn is_wanted(queries: &[Query], query: &Query, path: &Path) -> bool
-    ensures { result ≡ (is_filtered query.now && path_eq query.now.path path.now
-        && not (is_among queries.now query.now)) }
+// Whether it is a filtered query of the path.
+fn is_filtered_at(query: &Query, path: &Path) -> bool
+    ensures { result ≡ (is_filtered query.now && path_eq query.now.path path.now) }
 {
-    query.is_filtered() && query.path() == path && !is_among(queries, query)
+    query.is_filtered() && query.path() == path
 }
 
-// Adds the query of the listener of that number, where it is a filtered one of the path and isn't there.
+// Adds the query of the listener of that number, where it is a filtered one of the path.
 fn push_query(
     queries: &mut Vec<Query>,
     listeners: &[Held],
@@ -57,11 +113,19 @@ fn push_query(
         return Ok(());
     };
     let query = &listeners[at].query;
-    if !is_wanted(queries, query, path) {
+    if !is_filtered_at(query, path) {
         return Ok(());
     }
     queries.push(query.copy()?)?;
     Ok(())
+}
+
+// Sorts the queries, each once.
+fn sort_queries_once(queries: &mut Vec<Query>)
+    ensures { (q : Query) → is_among queries.new.items q ≡ is_among queries.old.items q }
+{
+    sort_queries(queries);
+    queries.dedup();
 }
 
 // The filtered queries of the path that the listeners of these numbers have, each once.
@@ -81,6 +145,7 @@ pub(crate) fn queries_of(
     for number in numbers {
         push_query(&mut queries, listeners, *number, path)?;
     }
+    sort_queries_once(&mut queries);
     Ok(queries)
 }
 
@@ -93,7 +158,8 @@ fn is_at(queries: &[Query], path: &Path) -> bool
     queries.iter().any(|query| query.path() == path)
 }
 
-// Adds the numbers of those at the path of the query at that place, if no earlier one is of the path.
+// Adds the numbers of those at the path of the query at that place, if the one in front of it is not of
+// the path too.
 fn push_next(
     numbers: &mut Vec<u64>,
     places: &[Place],
@@ -106,13 +172,15 @@ fn push_next(
         → HaveAt (take (at + 1) queries.now) numbers.new.items places.now) }
 {
     let path = queries[at].path();
-    if is_at(&queries[..at], path) {
+    let front = at.saturating_sub(1);
+    if is_at(&queries[front..at], path) {
         return Ok(());
     }
     push_at(numbers, places, path.keys())
 }
 
-// The numbers of those at the paths of the queries, rising. Each path is looked for once.
+// The numbers of those at the paths of the queries, rising. Where the queries stand in order, each path is
+// looked for once.
 pub(crate) fn numbers_at(
     alloc: Global,
     places: &[Place],
@@ -139,7 +207,8 @@ fn renew_one(
     pending: &Pending,
     notes: &mut Vec<Note>,
 ) -> Result<(), AllocError>
-    requires { IsHeld listener.old }
+    requires held { IsHeld listener.old }
+    requires order { IsSorted query_cmp queries.now }
     ensures pair { OnOk result (pair_of listener.new
         ≡ renewed_pair queries.now brought.now pending.now (pair_of listener.old)) }
     ensures count { OnOk result (listener.new.count
@@ -166,7 +235,8 @@ fn renew_number(
     pending: &Pending,
     notes: &mut Vec<Note>,
 ) -> Result<(), AllocError>
-    requires { AreHeld listeners.old }
+    requires held { AreHeld listeners.old }
+    requires order { IsSorted query_cmp queries.now }
     ensures pairs { OnOk result (map pair_of listeners.new
         ≡ map (renewed_at number queries.now brought.now pending.now)
         (map pair_of listeners.old)) }
@@ -196,6 +266,7 @@ pub(crate) fn renew_all(
     notes: &mut Vec<Note>,
 ) -> Result<(), AllocError>
     requires held { AreHeld listeners.old }
+    requires order { IsSorted query_cmp queries.now }
     requires rise { AllPairs (λ m n. m < n) numbers.now }
     requires numbers { All (λ l. is_among queries.now l.query ≡ true
         → list_any (λ n. l.number == n) numbers.now ≡ true) listeners.old }

@@ -1,6 +1,7 @@
 pub mod AppliedAll
 pub mod Counted
 pub mod GoodWorlds
+pub mod HadLaws
 pub mod LentEntries
 pub mod Listened
 pub mod Lists

@@ -1,7 +1,7 @@
 -- What is gathered of queries, one after another.
-use Rattle.std.proofs.Common.{◌≡◌, ℕ, ◌+◌, ◌<◌, Bool, true, false, not, ◌&&◌, ◌||◌, List, [], ◌∷◌, ◌++◌, length, get_or, take, refl, sym, ap, ◌∙◌, Some, None}
+use Rattle.std.proofs.Common.{◌≡◌, ℕ, ◌+◌, ◌<◌, Bool, true, false, cond, not, ◌&&◌, ◌||◌, List, [], ◌∷◌, ◌++◌, length, get_or, take, refl, sym, ap, ◌∙◌, Some, None}
 use mathlib.Core.Bool.{true≢false}
-use Rattle.std.specs.List.{list_any}
+use Rattle.std.specs.List.{dedup, dedup_from, list_any}
 use Rattle.std.specs.Option.{option_map_or}
 use Rattle.std.proofs.lemmas.List.Elements.{All-append, All-cons, All-nil}
 use Rattle.std.proofs.lemmas.List.Folds.{list_any-append, list_any_more}
@@ -51,13 +51,39 @@ module _ (old : List Query) (f : Query) (may : Bool) (p : Path) where
   pub no_mover : may ≡ false → is_of_path old p ≡ (is_of_path old p || (may && path_eq f.path p))
   no_mover e = or_none (is_of_path old p) ∙ ap (λ b. is_of_path old p || (b && path_eq f.path p)) (sym e)
 
-  pub has_mover : is_of_path old f.path ≡ true → is_of_path old p ≡ (is_of_path old p || (may && path_eq f.path p))
-  has_mover e = or_same (is_of_path old p) (may && path_eq f.path p) (λ t. ap (is_of_path old) (sym (path_eq-is f.path p (second may (path_eq f.path p) t))) ∙ e)
-
   pub more_mover : may ≡ true → is_of_path (old ++ f ∷ []) p ≡ (is_of_path old p || (may && path_eq f.path p))
   more_mover e =
       list_any-append (λ (x : Query). path_eq x.path p) old (f ∷ [])
       ∙ ap (λ b. is_of_path old p || b) (sym (or_none (path_eq f.path p)) ∙ ap (λ b. b && path_eq f.path p) (sym e))
+
+-- two forms of one path
+abbrev pub of_one_path : Query → Query → Bool
+of_one_path f g = path_eq f.path g.path
+
+-- of forms one behind one of its path goes, and so no path is lost
+of_path_from : (k : Query) (fs : List Query) (p : Path) → is_of_path (dedup_from of_one_path k fs) p ≡ (path_eq k.path p || is_of_path fs p)
+of_path_from k [] p = refl
+of_path_from k (f ∷ fs) p = at (path_eq f.path k.path) refl (of_path_from k fs p) (of_path_from f fs p)
+  where
+    twice : (a b : Bool) → (a || b) ≡ (a || (a || b))
+    twice true b = refl
+    twice false b = refl
+
+    at : (b : Bool) → path_eq f.path k.path ≡ b
+        → is_of_path (dedup_from of_one_path k fs) p ≡ (path_eq k.path p || is_of_path fs p)
+        → is_of_path (dedup_from of_one_path f fs) p ≡ (path_eq f.path p || is_of_path fs p)
+        → is_of_path (cond (path_eq f.path k.path) (dedup_from of_one_path k fs) (k ∷ dedup_from of_one_path f fs)) p ≡ (path_eq k.path p || (path_eq f.path p || is_of_path fs p))
+    at true e gone kept =
+        ap (λ b. is_of_path (cond b (dedup_from of_one_path k fs) (k ∷ dedup_from of_one_path f fs)) p) e
+        ∙ gone ∙ twice (path_eq k.path p) (is_of_path fs p)
+        ∙ ap (λ x. path_eq k.path p || (path_eq x p || is_of_path fs p)) (sym (path_eq-is f.path k.path e))
+    at false e gone kept =
+        ap (λ b. is_of_path (cond b (dedup_from of_one_path k fs) (k ∷ dedup_from of_one_path f fs)) p) e
+        ∙ ap (λ b. path_eq k.path p || b) kept
+
+pub one_of_each_path : (fs : List Query) (p : Path) → is_of_path (dedup of_one_path fs) p ≡ is_of_path fs p
+one_of_each_path [] p = refl
+one_of_each_path (f ∷ fs) p = of_path_from f fs p
 
 -- ---- what had another form's window
 

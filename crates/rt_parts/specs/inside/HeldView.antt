@@ -1,7 +1,7 @@
 -- What is held of the listeners, as the world has them.
 use Rattle.std.specs.Prelude.{◌≡◌, ℕ, ◌<◌, Bool, false, if◌then◌else◌, List, map}
 use Rattle.std.specs.Prelude.{Option, Some, None, is_some, ◌==◌}
-use Rattle.std.specs.List.{All, AllPairs, filter_map}
+use Rattle.std.specs.List.{All, AllPairs, filter_map, list_any}
 use Rattle.std.specs.Option.{option_map}
 use Rattle.rt_tree.specs.PathTree.{PathTree}
 use Rattle.rt_tree.specs.Assignments.{Assignment}
@@ -133,10 +133,19 @@ own_views test held = filter_map (own_view test) held
 abbrev pub own_number : ℕ → Held → Option ℕ
 own_number seat l = if l.seat == seat then Some l.number else None
 
--- the note of a listener that ends with its form
-abbrev pub ended_note : Query → Reason → Listener → Option Note
-ended_note listened why l =
-    if query_eq (form l.query) listened then Some (cancelled_note why l) else None
+-- the numbers are those of the listeners of the form, and others perhaps, which no listener has
+abbrev pub HaveForm : Query → List ℕ → List Held → Type 0
+HaveForm listened numbers held =
+    All (λ l. list_any (λ n. l.number == n) numbers ≡ query_eq (form l.query) listened) held
+
+-- the note of a listener that ends, if it has that number
+abbrev pub ended_at : ℕ → Reason → Listener → Option Note
+ended_at number why l = if l.number == number then Some (cancelled_note why l) else None
+
+-- the same, if its number is one of these
+abbrev pub ended_among : List ℕ → Reason → Listener → Option Note
+ended_among numbers why l =
+    if list_any (λ n. l.number == n) numbers then Some (cancelled_note why l) else None
 
 -- a view is of the listener's query, and has not failed
 abbrev pub IsViewOf : Query → Option View → Type 0

@@ -1,10 +1,14 @@
 -- Whose windows queries had before a change of the cover, and which of them it moves.
 use Rattle.std.specs.Prelude.{◌≡◌, Bool, false, ◌&&◌, not, List, Some}
 use Rattle.std.specs.List.{list_any, All}
+use Rattle.std.specs.List.Sorted.{IsSorted}
 use Rattle.std.specs.Option.{option_map_or}
+use Rattle.std.specs.Ordering.{ordering_then}
+use Rattle.std.specs.declared.cmp.Ordering.{Ordering}
 use Rattle.rt_tree.specs.PathTree.{Path, path_eq}
 use Rattle.rt_query.specs.Queries.{Query, is_filtered}
 use Rattle.rt_query.specs.QueryEq.{query_eq}
+use Rattle.rt_query.specs.QueryOrder.{query_cmp}
 use Rattle.rt_cache.specs.Brought.{Brought, source, may_move}
 use Rattle.rt_world.specs.World.{Listener}
 use Rattle.rt_sync.specs.declared.steps.moving.Had.{Had}
@@ -34,8 +38,17 @@ is_had had q = list_any (λ h. query_eq h.query q) had
 abbrev pub HaveSources : Brought → List Had → Type 0
 HaveSources b had = All (λ h. source b h.query ≡ Some h.source) had
 
--- these are the queries that are lent a window, of the paths where one of the forms may move others
+-- by query, then by source
+abbrev pub had_cmp : Had → Had → Ordering
+had_cmp h i = ordering_then (query_cmp h.query i.query) (query_cmp h.source i.source)
+
+-- the query with that source
+abbrev pub had_of : Query → Query → Had
+had_of q f = record { query = q; source = f }
+
+-- these are, in order, the queries that are lent a window, of the paths where one of the forms may move others
 pub record AreHad (b : Brought) (listeners : List Listener) (forms : List Query) (had : List Had) : Type 0 where
+  pub order : IsSorted had_cmp had
   pub those : (q : Query) → is_had had q ≡ (may_move_at b forms q.path && is_lent b listeners q)
   pub sources : HaveSources b had
 

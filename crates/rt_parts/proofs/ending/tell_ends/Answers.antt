@@ -1,23 +1,25 @@
-use Rattle.std.proofs.Common.{◌≡◌, ◌<◌, ◌++◌, suc, List, length, take, get_or, rules, ap, sym, ◌∙◌, append_assoc, add-one}
+use Rattle.std.proofs.Common.{◌≡◌, ◌<◌, ◌≤◌, ◌++◌, [], ℕ, List, length, drop, rules, refl, ap, sym, ◌∙◌, append-nil}
 use Rattle.std.specs.List.{filter_map}
-use Rattle.std.specs.Option.{option_to_list}
 use Rattle.rt_world.specs.declared.report.Note.{Note}
-use Rattle.rt_parts.specs.declared.held.Held.{Held}
-use Rattle.rt_parts.specs.inside.HeldView.{ended_note, listener_of}
-use Rattle.rt_parts.proofs.Loops.{gather_more}
+use Rattle.rt_parts.specs.inside.HeldView.{ended_among, listeners_of}
+use Rattle.rt_parts.proofs.EndingLaws.{none_told, told_more}
+use Rattle.rt_parts.proofs.RefreshLaws.{drop_past}
 use Rattle.rt_parts.proofs.ending.tell_ends.Goals as goal
 
-pub loop-listener-preserved : goal.loop-listener-preserved
-loop-listener-preserved c =
-    let xs : List Held = c.args.held.now in
-    let i = c.loop-listener.listener-index in
-    let within : i < length xs = search rules in
-    let one : List Note = option_to_list (ended_note c.args.listened.now c.args.why.now (listener_of (get_or xs i c.listener-item.result))) in
-    let gathered : filter_map (λ h. ended_note c.args.listened.now c.args.why.now (listener_of h)) (take (suc i) xs) ≡ filter_map (λ h. ended_note c.args.listened.now c.args.why.now (listener_of h)) (take i xs) ++ one =
-    gather_more (λ h. ended_note c.args.listened.now c.args.why.now (listener_of h)) xs i c.listener-item.result within in
-    let notes : c.tell_end.new.notes.items ≡ c.args.notes.now.items ++ filter_map (λ h. ended_note c.args.listened.now c.args.why.now (listener_of h)) (take (suc i) xs) =
-    c.in_ok-tell_end.ensures ∙ ap (λ h. c.loop-listener.notes.items ++ option_to_list (ended_note c.args.listened.now c.args.why.now (listener_of h))) c.listener-item.is
-    ∙ ap (λ z. z ++ one) c.loop-listener.invariant
-    ∙ append_assoc c.args.notes.now.items (filter_map (λ h. ended_note c.args.listened.now c.args.why.now (listener_of h)) (take i xs)) one
-    ∙ ap (λ z. c.args.notes.now.items ++ z) (sym gathered) in
-    rw add-one notes
+pub loop-number-init : goal.loop-number-init
+loop-number-init c = refl
+
+pub loop-number-preserved : goal.loop-number-preserved
+loop-number-preserved c =
+    let i : ℕ = c.loop-number.number-index in
+    let within : i < length c.args.numbers.now = search rules in
+    told_more c.args.why.now c.args.numbers.now i _ c.args.listeners.now c.loop-number.notes.items c.tell_number.new.notes.items (c.args.notes.now.items ++ filter_map (ended_among c.args.numbers.now c.args.why.now) (listeners_of c.args.listeners.now)) within (search rules) c.requires.rise c.requires.rising
+    c.in_ok-tell_number.ensures c.loop-number.invariant
+
+pub returns : goal.returns
+returns c =
+    let past : length c.args.numbers.now ≤ c.loop-number.number-index = search rules in
+    let none : filter_map (ended_among (drop c.loop-number.number-index c.args.numbers.now) c.args.why.now) (listeners_of c.args.listeners.now) ≡ [] =
+    ap (λ (ns : List ℕ). filter_map (ended_among ns c.args.why.now) (listeners_of c.args.listeners.now)) (drop_past c.loop-number.number-index c.args.numbers.now past)
+    ∙ none_told c.args.why.now (listeners_of c.args.listeners.now) in
+    sym (ap (λ (z : List Note). c.loop-number.notes.items ++ z) none ∙ append-nil c.loop-number.notes.items) ∙ c.loop-number.invariant

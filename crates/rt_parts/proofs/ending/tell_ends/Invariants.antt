@@ -1,8 +1,8 @@
-use Rattle.std.proofs.Common.{◌≡◌, ◌++◌, take}
+use Rattle.std.proofs.Common.{◌≡◌, ◌++◌, drop}
 use Rattle.std.specs.List.{filter_map}
-use Rattle.rt_parts.specs.inside.HeldView.{ended_note, listener_of}
+use Rattle.rt_parts.specs.inside.HeldView.{ended_among, listeners_of}
 use Rattle.rt_parts.proofs.ending.tell_ends.Given as goal
 
--- the seats of those so far are told
-abbrev pub invariant-loop-listener : goal.invariant-loop-listener
-invariant-loop-listener l = l.notes.items ≡ l.initial.notes.items ++ filter_map (λ h. ended_note l.listened l.why (listener_of h)) (take l.listener-index l.held)
+-- with those of the numbers that are left, all are told
+abbrev pub invariant-loop-number : goal.invariant-loop-number
+invariant-loop-number l = l.notes.items ++ filter_map (ended_among (drop l.number-index l.numbers) l.why) (listeners_of l.listeners) ≡ l.initial.notes.items ++ filter_map (ended_among l.numbers l.why) (listeners_of l.listeners)

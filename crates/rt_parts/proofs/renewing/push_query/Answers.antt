@@ -1,4 +1,4 @@
-use Rattle.std.proofs.Common.{◌≡◌, ◌==◌, ◌++◌, ◌∷◌, ◌||◌, ◌&&◌, [], List, get_or, not, true, false, Some, None, sym, ap, rules, ◌∙◌}
+use Rattle.std.proofs.Common.{◌≡◌, ◌==◌, ◌++◌, ◌∷◌, ◌||◌, ◌&&◌, [], List, get_or, true, false, Some, None, sym, ap, rules, ◌∙◌}
 use Rattle.std.specs.List.{position}
 use Rattle.rt_tree.specs.PathTree.{path_eq}
 use Rattle.rt_query.specs.Queries.{Query, is_filtered}
@@ -15,13 +15,13 @@ returns-in_default c = λ q.
     none_one c.args.queries.now.items q c.args.path.now q (has_of c.args.listeners.now q c.args.number)
     (any_none (λ (l : Held). l.number) (λ (l : Held). query_eq l.query q) c.args.listeners.now c.args.number none)
 
-pub returns-then-not-is_wanted : goal.returns-then-not-is_wanted
-returns-then-not-is_wanted c = λ q.
+pub returns-then-not-is_filtered_at : goal.returns-then-not-is_filtered_at
+returns-then-not-is_filtered_at c = λ q.
     let ls : List Held = c.args.listeners.now in
     let d : Held = c.index-listeners-at.result in
     let at : position (λ (l : Held). l.number == c.args.number) ls ≡ Some c.in-Some.at = search rules in
     let here : d ≡ get_or ls c.in-Some.at d = search rules in
-    let passed : (is_filtered d.query && path_eq (d.query).path c.args.path.now && not (is_among c.args.queries.now.items d.query)) ≡ false = search rules in
+    let passed : (is_filtered d.query && path_eq (d.query).path c.args.path.now) ≡ false = search rules in
     passed_one c.args.queries.now.items d.query c.args.path.now q passed
     ∙ ap (λ b. is_among c.args.queries.now.items q || (is_filtered q && path_eq q.path c.args.path.now && b))
     (ap (λ (x : Held). query_eq x.query q) here
@@ -34,7 +34,7 @@ returns c = λ q.
     let d : Held = c.index-listeners-at.result in
     let at : position (λ (l : Held). l.number == c.args.number) ls ≡ Some c.in-Some.at = search rules in
     let here : d ≡ get_or ls c.in-Some.at d = search rules in
-    let wanted : (is_filtered d.query && path_eq (d.query).path c.args.path.now && not (is_among c.args.queries.now.items d.query)) ≡ true = search rules in
+    let wanted : (is_filtered d.query && path_eq (d.query).path c.args.path.now) ≡ true = search rules in
     let pushed : c.push.new.self.items ≡ c.args.queries.now.items ++ d.query ∷ [] = search rules in
     ap (λ (qs : List Query). is_among qs q) pushed
     ∙ pushed_one c.args.queries.now.items d.query c.args.path.now q wanted

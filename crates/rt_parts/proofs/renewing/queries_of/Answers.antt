@@ -20,5 +20,6 @@ loop-number-preserved c = λ q.
 pub returns : goal.returns
 returns c = λ q.
     let past : length c.args.numbers.now ≤ c.loop-number.number-index = search rules in
-    c.loop-number.invariant q
+    c.sort_queries_once.ensures q
+    ∙ c.loop-number.invariant q
     ∙ ap (λ (ns : List ℕ). is_filtered q && path_eq q.path c.args.path.now && list_any (has_of c.args.listeners.now q) ns) (taken_all c.loop-number.number-index c.args.numbers.now past)

@@ -23,7 +23,7 @@ returns-in-Some-clause-pairs c =
     let at = position-Some (λ (l : Held). l.number == c.args.number) ls i d found in
     on_ok c.renew_one.result c.renew_one.ensures.pair (λ e.
     changed_one number_of (renewed_pair c.args.queries.now c.args.brought.now c.args.pending.now) (told_pair c.args.queries.now c.args.brought.now c.args.pending.now) pair_of c.args.number ls i d c.renew_one.new.listener at.0 at.1
-    (only_there (λ (l : Held). l.number) ls c.args.number i c.requires.rising found) e)
+    (only_there (λ (l : Held). l.number) ls c.args.number i c.requires.held.rising found) e)
 
 pub returns-in-Some-clause-held : goal.returns-in-Some-clause-held
 returns-in-Some-clause-held c =
@@ -31,8 +31,8 @@ returns-in-Some-clause-held c =
     let i : ℕ = c.in-Some.at in
     let d : Held = c.index-listeners-at.result in
     on_ok c.renew_one.result c.renew_one.ensures.held (λ e. record {
-      rising = rising_same (λ (h : Held). h.number) ls (set ls i c.renew_one.new.listener) (map-set_same (λ (h : Held). h.number) ls i c.renew_one.new.listener d c.renew_one.ensures.number) c.requires.rising;
-      each = all_set IsHeld ls i c.renew_one.new.listener c.requires.each e;
+      rising = rising_same (λ (h : Held). h.number) ls (set ls i c.renew_one.new.listener) (map-set_same (λ (h : Held). h.number) ls i c.renew_one.new.listener d c.renew_one.ensures.number) c.requires.held.rising;
+      each = all_set IsHeld ls i c.renew_one.new.listener c.requires.held.each e;
     })
 
 pub returns-in-Some-clause-notes : goal.returns-in-Some-clause-notes
@@ -44,7 +44,7 @@ returns-in-Some-clause-notes c =
     let at = position-Some (λ (l : Held). l.number == c.args.number) ls i d found in
     on_ok c.renew_one.result c.renew_one.ensures.notes (λ e. e ∙ ap (λ (z : List Note). c.args.notes.now.items ++ z)
     (sym (told_one number_of (renewed_pair c.args.queries.now c.args.brought.now c.args.pending.now) (told_pair c.args.queries.now c.args.brought.now c.args.pending.now) pair_of c.args.number ls i d at.0 at.1
-    (only_there (λ (l : Held). l.number) ls c.args.number i c.requires.rising found))))
+    (only_there (λ (l : Held). l.number) ls c.args.number i c.requires.held.rising found))))
 
 pub returns-in-None-clause-pairs : goal.returns-in-None-clause-pairs
 returns-in-None-clause-pairs c =
@@ -67,7 +67,7 @@ returns-in-Some-clause-counts c =
     let at = position-Some (λ (l : Held). l.number == c.args.number) ls i d found in
     on_both c.renew_one.result c.renew_one.ensures.pair c.renew_one.ensures.count (λ e n.
     changed_one counted_number (renewal_counted c.args.queries.now c.args.brought.now c.args.pending.now) untold counted_of c.args.number ls i d c.renew_one.new.listener at.0 at.1
-    (only_there (λ (l : Held). l.number) ls c.args.number i c.requires.rising found)
+    (only_there (λ (l : Held). l.number) ls c.args.number i c.requires.held.rising found)
     (changed_count (renewed_pair c.args.queries.now c.args.brought.now c.args.pending.now) (is_among c.args.queries.now (get_or ls i d).query) (get_or ls i d) c.renew_one.new.listener e n))
 
 pub returns-in-None-clause-counts : goal.returns-in-None-clause-counts

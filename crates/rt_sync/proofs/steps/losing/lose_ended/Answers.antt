@@ -1,3 +1,4 @@
+use Rattle.std.specs.List.Sorted.{IsSorted}
 use Rattle.std.proofs.Common.{rules, ◌≡◌, ◌∙◌, List, map, sym, ap, subst, IfOk, OnOk, Result, Ok, Err}
 use Rattle.rt_query.specs.Queries.{Query}
 use Rattle.rt_cache.specs.Brought.{Brought}
@@ -6,7 +7,7 @@ use Rattle.rt_cover.specs.Cover.{Tagged}
 use Rattle.rt_cover.specs.State.{Cover}
 use Rattle.rt_world.specs.World.{listening}
 use Rattle.rt_sync.specs.inside.Losing.{HasLost}
-use Rattle.rt_sync.specs.inside.Moving.{AreHad, is_moved_among}
+use Rattle.rt_sync.specs.inside.Moving.{AreHad, had_cmp, is_moved_among}
 use Rattle.rt_sync.proofs.Moved.{just_moved}
 use Rattle.rt_sync.proofs.steps.losing.lose_ended.Goals as goal
 
@@ -36,3 +37,6 @@ returns-clause-moved c =
     if_ok : {X E : Type 0} {P Q : X → Type 0} (r : Result X E) → IfOk r P → ((x : X) → P x → Q x) → IfOk r Q
     if_ok (Ok x) p f = f x p
     if_ok (Err e) p f = p
+
+pub moved-requires : goal.moved-requires
+moved-requires c = subst (IsSorted had_cmp) (sym c.deref-2.ensures.value) c.in_ok-had.ensures.order

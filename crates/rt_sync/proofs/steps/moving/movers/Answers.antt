@@ -23,4 +23,4 @@ loop-form-preserved c = λ p.
 pub returns : goal.returns
 returns c = λ p.
     let done : length c.args.ended.now ≤ c.loop-form.form-index = search rules in
-    c.loop-form.invariant p ∙ ap (λ fs. may_move_at c.args.brought.now fs p) (taken_all c.loop-form.form-index c.args.ended.now done)
+    c.take_one_of_each_path.ensures p ∙ c.loop-form.invariant p ∙ ap (λ fs. may_move_at c.args.brought.now fs p) (taken_all c.loop-form.form-index c.args.ended.now done)

@@ -1,18 +1,13 @@
 use Rattle.std.proofs.Common.{◌≡◌, ◌++◌, ◌∷◌, [], true, false, ap, rules, ◌∙◌}
 use Rattle.rt_cache.specs.Brought.{may_move}
 use Rattle.rt_sync.specs.inside.Moving.{is_of_path}
-use Rattle.rt_sync.proofs.MovingLaws.{has_mover, more_mover, no_mover}
+use Rattle.rt_sync.proofs.MovingLaws.{more_mover, no_mover}
 use Rattle.rt_sync.proofs.steps.moving.push_mover.Goals as goal
 
 pub returns-then-not-may_move : goal.returns-then-not-may_move
 returns-then-not-may_move c = λ p.
     let none : may_move c.args.brought.now c.args.form.now ≡ false = search rules in
     no_mover c.args.movers.now.items c.args.form.now (may_move c.args.brought.now c.args.form.now) p none
-
-pub returns-then-is_of_path : goal.returns-then-is_of_path
-returns-then-is_of_path c = λ p.
-    let there : is_of_path c.args.movers.now.items (c.args.form.now).path ≡ true = search rules in
-    has_mover c.args.movers.now.items c.args.form.now (may_move c.args.brought.now c.args.form.now) p there
 
 pub returns : goal.returns
 returns c = λ p.
