@@ -20,7 +20,7 @@ use Rattle.rt_peer.specs.Pushes.{is_changed, push_of, pushes, written}
 use Rattle.rt_peer.specs.declared.sent.Sent.{Sent}
 use Rattle.rt_peer.specs.declared.spots.Owner.{Owner}
 use Rattle.rt_peer.specs.inside.Spots.{owner_cmp, owners_total, owner_of, spot_of, has_owner, is_concerned}
-use Rattle.rt_peer.specs.inside.Standing.{stands}
+use Rattle.rt_peer.specs.inside.Standing.{leaves_part, stands}
 use Rattle.rt_peer.proofs.PlaceLaws.{Rise}
 use Rattle.rt_peer.proofs.Places.{pairs_head, pairs_tail}
 use Rattle.rt_peer.proofs.StandingLaws.{unchanged}
@@ -156,7 +156,7 @@ map_flat g f [] = refl
 map_flat g f (x ∷ xs) =
     ap (λ ys. map g (f x) ++ ys) (map_flat g f xs) ∙ sym (map-append g (f x) (flat_map f xs))
 
-pub within : (p q : Listen → Bool) (ls : List Listen) → All (λ l. p l ≡ true → q l ≡ true) ls
+pub within : {X : Type 0} (p q : X → Bool) (ls : List X) → All (λ l. p l ≡ true → q l ≡ true) ls
     → filter p (filter q ls) ≡ filter p ls
 within p q [] h = refl
 within p q (l ∷ ls) h =
@@ -214,13 +214,17 @@ all_stand t p (a ∷ es) e =
     ap (λ b. (not b || tree_eq (sub t a.0) a.1) && list_all (stands t p) es) here
     ∙ all_stand t p es (or_second (do_overlap a.0 p) others e)
 
+-- an entry that doesn't concern it leaves what it shows
+pub apart_stays : (t : PathTree) (es : List Assignment) (l : Listen) → is_concerned es (spot_of l) ≡ false
+    → leaves_part t l.query.path es ≡ true
+apart_stays t es l f = λ i. not (none_above l.query.path es f i) && all_stand t l.query.path es f i
+
 pub concerned_if : (t : PathTree) (es : List Assignment) (l : Listen) → is_changed t (written t es) l ≡ true
     → is_concerned es (spot_of l) ≡ true
 concerned_if t es l e =
     elim (is_concerned es (spot_of l)) as (λ b. is_concerned es (spot_of l) ≡ b → b ≡ true) [
       | true ↦ λ f. refl
-      | false ↦ λ f. absurd (true≢false (sym e ∙ unchanged t es l
-          (λ i. not (none_above l.query.path es f i) && all_stand t l.query.path es f i)))
+      | false ↦ λ f. absurd (true≢false (sym e ∙ unchanged t es l (apart_stays t es l f)))
     ] refl
 
 -- ---- owner by owner, as they are gone over

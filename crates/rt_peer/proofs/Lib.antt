@@ -1,4 +1,5 @@
 pub mod ActionLaws
+pub mod BoardLaws
 pub mod BundleLaws
 pub mod CountLaws
 pub mod CutLaws
@@ -7,6 +8,7 @@ pub mod FoundLaws
 pub mod KeptLaws
 pub mod ListenLaws
 pub mod LookedLaws
+pub mod MetLaws
 pub mod Numbers
 pub mod OrderLaws
 pub mod OwnedLaws
@@ -24,5 +26,8 @@ pub mod SpotLaws
 pub mod StandingLaws
 pub mod TakingLaws
 pub mod ToOne
+pub mod TouchLaws
 pub mod TurnLaws
 pub mod VersionLaws
+pub mod ViewsLaws
+pub mod WatchedLaws

@@ -8,10 +8,10 @@ use Rattle.std.proofs.lemmas.List.Elements.{All-head, All-tail}
 use Rattle.rt_tree.specs.PathTree.{Path}
 use Rattle.rt_tree.specs.Assignments.{Assignment}
 use Rattle.rt_peer.specs.Peers.{Listen, in_place, is_at, is_before}
-use Rattle.rt_peer.specs.declared.spots.Owner.{Owner}
 use Rattle.rt_peer.specs.declared.spots.Spot.{Spot}
-use Rattle.rt_peer.specs.inside.Spots.{owner_cmp, spot_cmp, owners_total, spots_total, owner_of, spot_of, has_owner, has_spot, is_concerned}
-use Rattle.rt_peer.specs.inside.Spots.{AllStand, AreFound, Stand}
+use Rattle.rt_peer.specs.inside.Spots.{owner_cmp, spot_cmp, owners_total, spots_total, owner_of, spot_of, has_spot}
+use Rattle.rt_peer.specs.inside.Spots.{AllStand, Stand}
+use Rattle.rt_peer.specs.inside.Met.{numbers_of, picked, AreHanded, AreMet, AreSameOver, Met}
 use Rattle.rt_peer.proofs.Places.{all-in_place, filter_with}
 use Rattle.rt_peer.proofs.FoundLaws.{own_is}
 use Rattle.rt_peer.proofs.SpotLaws.{spot_exact}
@@ -67,23 +67,18 @@ stand_taken n t ls old new e all =
 
 -- ---- what is found
 
-found_at : (test : Spot → Bool) (found : List Owner) (ks : List Spot) (s : Spot) → AreFound test ks found
-    → has_spot ks s ≡ true → test s ≡ true → has_owner found s.owner ≡ true
-found_at test found [] s all h e = absurd (true≢false (sym h))
-found_at test found (k ∷ ks) s all h e =
-    elim (is_eq (spot_cmp s k)) as (λ b. is_eq (spot_cmp s k) ≡ b → (b || has_spot ks s) ≡ true → has_owner found s.owner ≡ true) [
-      | true ↦ λ f g.
-          let P : Spot → Type 0 = λ z. test z ≡ true → has_owner found z.owner ≡ true in
-          subst P (sym (spot_exact s k f)) (All-head P k ks all) e
-      | false ↦ λ f g. found_at test found ks s
-          (All-tail (λ z. test z ≡ true → has_owner found z.owner ≡ true) k ks all) g e
+all_at : (P : Spot → Type 0) (ks : List Spot) (s : Spot) → All P ks → has_spot ks s ≡ true → P s
+all_at P [] s all h = absurd (true≢false (sym h))
+all_at P (k ∷ ks) s all h =
+    elim (is_eq (spot_cmp s k)) as (λ b. is_eq (spot_cmp s k) ≡ b → (b || has_spot ks s) ≡ true → P s) [
+      | true ↦ λ f g. subst P (sym (spot_exact s k f)) (All-head P k ks all)
+      | false ↦ λ f g. all_at P ks s (All-tail P k ks all) g
     ] refl h
 
-pub found_listens : (es : List Assignment) (spots : List Spot) (ls : List Listen) (found : List Owner)
-    → AllStand spots ls → AreFound (is_concerned es) spots found
-    → All (λ l. is_concerned es (spot_of l) ≡ true → has_owner found (owner_of l) ≡ true) ls
-found_listens es spots ls found stand all k d lt e =
-    found_at (is_concerned es) found spots (spot_of (get_or ls k d)) all (stand k d lt) e
+pub handed_listens : (es : List Assignment) (spots : List Spot) (ls : List Listen) (met : Met)
+    → AllStand spots ls → AreMet es es met spots → AreHanded es met ls
+handed_listens es spots ls met stand all k d lt =
+    all_at (λ s. AreSameOver s.path (picked es (numbers_of met s.owner)) es) spots (spot_of (get_or ls k d)) all (stand k d lt)
 
 -- ---- a listen that is put or taken out
 

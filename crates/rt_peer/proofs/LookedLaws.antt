@@ -1,10 +1,9 @@
 -- What is noted of queries that were looked at.
-use Rattle.std.proofs.Common.{◌≡◌, Bool, true, false, cond, List, [], Option, Some, None, refl, sym, ap, subst, ◌∙◌}
+use Rattle.std.proofs.Common.{◌≡◌, true, false, List, [], Option, Some, None, refl, sym, ap, subst, ◌∙◌}
 use Rattle.std.specs.Prelude.{IfSome, if◌then◌else◌}
 use Rattle.std.specs.Ordering.{is_eq}
 use Rattle.std.specs.Cmp.{Equal-is}
 use Rattle.rt_tree.specs.PathTree.{PathTree, sub}
-use Rattle.rt_tree.specs.Trees.{tree_eq}
 use Rattle.rt_tree.specs.TreeEq.{tree_eq_tells}
 use Rattle.rt_tree.specs.Assignments.{Assignment}
 use Rattle.rt_query.specs.Queries.{Query}
@@ -44,10 +43,10 @@ pub told_none : (t u : PathTree) (q : Query) → seen q t ≡ seen q u → None 
 told_none t u q e = sym (ap (λ b. if b then None else Some (seen q u)) ((tree_eq_tells (seen q t) (seen q u)).1 e))
 
 -- the part stays
-pub part_so : (t u : PathTree) (es : List Assignment) (q : Query) → u ≡ written t es → leaves_part t q.path es ≡ true
+pub part_so : (t u : PathTree) (es : List Assignment) (q : Query) → sub u q.path ≡ sub (written t es) q.path → leaves_part t q.path es ≡ true
     → sub u q.path ≡ sub t q.path
-part_so t u es q made e = ap (λ x. sub x q.path) made ∙ kept t q.path es e
+part_so t u es q made e = made ∙ kept t q.path es e
 
-pub still_none : (t u : PathTree) (es : List Assignment) (q : Query) → u ≡ written t es
+pub still_none : (t u : PathTree) (es : List Assignment) (q : Query) → sub u q.path ≡ sub (written t es) q.path
     → leaves_part t q.path es ≡ true → None ≡ told_of t u q
 still_none t u es q made e = told_none t u q (seen_so q t u (sym (part_so t u es q made e)))

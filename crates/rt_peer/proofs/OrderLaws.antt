@@ -246,7 +246,7 @@ not_left n (m ∷ ms) =
       | false ↦ λ e. ap (λ b. b || is_known (filter (λ k. not (k == n)) ms) n) e ∙ not_left n ms
     ] refl
 
-marked_rises : (b : Bool) (n : ℕ) (ms : List ℕ) → RisesFrom 0 ms → RisesFrom 0 (marked b n ms)
+pub marked_rises : (b : Bool) (n : ℕ) (ms : List ℕ) → RisesFrom 0 ms → RisesFrom 0 (marked b n ms)
 marked_rises true n ms h =
     rises-in_place 0 n (filter (λ m. not (m == n)) ms) (omega arith)
     (rises-filter (λ m. not (m == n)) 0 ms h) (not_left n ms)

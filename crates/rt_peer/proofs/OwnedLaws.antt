@@ -226,6 +226,12 @@ pub there_alone : (o : Owner) (q : Query) (es : Entries) → Sorted es → Some 
     → filter (is_at o.connection o.tag) (listens_of es) ≡ listen_of (o, q) ∷ []
 there_alone o q es s e = found o es s ∙ ap (λ r. option_map_or (λ q. listen_of (o, q) ∷ []) r []) (sym e)
 
+pub none_there : (o : Owner) (es : Entries) (now : List Listen) → Sorted es → listens_of es ≡ now
+    → None ≡ lookup (key_is (owner_cmp o)) es → filter (is_at o.connection o.tag) now ≡ []
+none_there o es now s view e =
+    ap (filter (is_at o.connection o.tag)) (sym view) ∙ found o es s
+    ∙ ap (λ r. option_map_or (λ q. listen_of (o, q) ∷ []) r []) (sym e)
+
 -- whose listens are none, has no key
 pub no_key : (o : Owner) (es : Entries) → Sorted es → filter (is_at o.connection o.tag) (listens_of es) ≡ []
     → lookup (key_is (owner_cmp o)) es ≡ None
@@ -416,7 +422,7 @@ pub others_stay : (n : ℕ) (o : Owner) (ls : List Listen) → o.connection ≡ 
     → filter (λ l. not (l.connection == n)) (filter (λ l. not (is_at o.connection o.tag l)) ls)
     ≡ filter (λ l. not (l.connection == n)) ls
 others_stay n o ls own =
-    within (λ l. not (l.connection == n)) (λ l. not (is_at o.connection o.tag l)) ls
+    within (λ (l : Listen). not (l.connection == n)) (λ (l : Listen). not (is_at o.connection o.tag l)) ls
     (λ k d lt e. other (get_or ls k d) (ap (λ m. not ((get_or ls k d).connection == m)) own ∙ e))
   where
     by_first : (a b : Bool) → not a ≡ true → not (a && b) ≡ true

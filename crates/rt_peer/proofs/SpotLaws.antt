@@ -13,10 +13,10 @@ use Rattle.std.proofs.lemmas.List.Kept.{IsStrictlySortedBy-filter}
 use Rattle.std.proofs.lemmas.Map.Views.{All-after_first}
 use Rattle.std.proofs.lemmas.Bool.Decides.{nat_tests}
 use Rattle.rt_tree.specs.PathTree.{Path, path_cmp, path_eq, path_eq-same, paths_total, exact_paths, key_eq, key_eq-is, strip}
-use Rattle.rt_tree.specs.Assignments.{Assignment, is_at_or_above}
+use Rattle.rt_tree.specs.Assignments.{is_at_or_above}
 use Rattle.rt_peer.specs.declared.spots.Owner.{Owner}
 use Rattle.rt_peer.specs.declared.spots.Spot.{Spot}
-use Rattle.rt_peer.specs.inside.Spots.{owner_cmp, owners_total, spot_cmp, has_owner, is_above, is_concerned, is_in, overlaps}
+use Rattle.rt_peer.specs.inside.Spots.{owner_cmp, owners_total, spot_cmp, has_owner, is_above, is_in, overlaps}
 use Rattle.rt_peer.specs.inside.Spots.{AreFound, AreKept}
 use Rattle.rt_peer.proofs.PathRuns.{above_first, above_itself, under_from, same_from}
 
@@ -311,24 +311,3 @@ overlaps_found p ks old new up kept under k d lt e =
                 (ap (is_at_or_above p) (same_length s.path p g h) ∙ above_itself p)
           ] refl
     ] refl e
-
--- ---- entry by entry
-
-abbrev pub FindsConcerned : List Spot → List Assignment → List Assignment → List Owner → Type 0
-FindsConcerned ks es left found = (all : List Owner) → AreKept found all → AreFound (is_concerned left) ks all
-    → AreFound (is_concerned es) ks all
-
-pub concerns_more : (ks : List Spot) (es rest : List Assignment) (a : Assignment) (old new : List Owner)
-    → AreKept old new → AreFound (overlaps a.0) ks new → FindsConcerned ks es (a ∷ rest) old
-    → FindsConcerned ks es rest new
-concerns_more ks es rest a old new kept here h all more found =
-    h all (kept_through old new all kept more) (λ k d lt e.
-    let s : Spot = get_or ks k d in
-    elim (overlaps a.0 s) as (λ b. overlaps a.0 s ≡ b → (b || is_concerned rest s) ≡ true → has_owner all s.owner ≡ true) [
-      | true ↦ λ f g. more s.owner (here k d lt f)
-      | false ↦ λ f g. found k d lt g
-    ] refl e)
-
-pub concerns_all : (ks : List Spot) (es : List Assignment) (found : List Owner) → FindsConcerned ks es [] found
-    → AreFound (is_concerned es) ks found
-concerns_all ks es found h = h found (kept_itself found) (λ k d lt e. absurd (true≢false (sym e)))

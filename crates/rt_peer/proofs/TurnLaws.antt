@@ -65,7 +65,7 @@ pairs-without R test (suc n) (x ∷ xs) h =
           (pairs-without R test (suc n) xs (pairs_tail R x xs h))
     ]
 
-twice : {X : Type 0} (p : X → Bool) (xs : List X) → filter p (filter p xs) ≡ filter p xs
+pub twice : {X : Type 0} (p : X → Bool) (xs : List X) → filter p (filter p xs) ≡ filter p xs
 twice p [] = refl
 twice p (x ∷ xs) =
     elim (p x) as (λ b. p x ≡ b → filter p (cond b (x ∷ filter p xs) (filter p xs)) ≡ cond b (x ∷ filter p xs) (filter p xs)) [

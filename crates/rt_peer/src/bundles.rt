@@ -2,6 +2,7 @@
 ghost use Rattle.std.specs.Prelude.{◌≡◌, ◌∷◌, [], IfOk};
 ghost use Rattle.rt_peer.specs.Pushes.{bundled, go_together, parts_in, together};
 
+use crate::rising::Rising;
 use crate::sent::Sent;
 use rt_tree::{Path, Tree};
 use rt_wire::{Part, Parts, ServerMessage};
@@ -44,10 +45,10 @@ fn parts_in(alloc: Global, message: ServerMessage) -> Result<Vec<Part>, AllocErr
 }
 
 // Whether two are for one connection, which reads version 2.
-fn go_together(newer: &[u64], first: &Sent, second: &Sent) -> bool
+fn go_together(newer: &Rising, first: &Sent, second: &Sent) -> bool
     ensures { result ≡ go_together newer.now first.now second.now }
 {
-    first.to == second.to && newer.contains(&first.to)
+    first.to == second.to && newer.has(first.to)
 }
 
 // One push with the parts of both.
@@ -68,7 +69,7 @@ fn together(alloc: Global, first: Sent, second: Sent) -> Result<Sent, AllocError
 // The pushes, by connection, as they are sent.
 pub(crate) fn bundle(
     alloc: Global,
-    newer: &[u64],
+    newer: &Rising,
     pushes: Vec<Sent>,
 ) -> Result<Vec<Sent>, AllocError>
     ensures { IfOk result (λ sent. sent.items ≡ bundled newer.now pushes.items) }

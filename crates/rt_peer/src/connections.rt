@@ -1,9 +1,10 @@
 // The known connections.
-ghost use Rattle.std.specs.Prelude.{◌≡◌, ◌<◌, ◌≤◌, ℕ, nat_lt, not, ◌==◌, [], true, false, IfOk, OnOk};
+ghost use Rattle.std.specs.Prelude.{◌≡◌, ◌<◌, ◌≤◌, ℕ, nat_lt, not, ◌==◌, [], true, false, IfOk, OnOk, OnErr};
 ghost use Rattle.std.specs.List.{filter};
 ghost use Rattle.rt_peer.specs.Peers.{in_place, is_known, least_free};
 ghost use Rattle.rt_peer.specs.Calls.{marked};
 
+use crate::rising::has_number;
 use std::alloc::{AllocError, Global};
 use std::marker::Model;
 
@@ -46,7 +47,7 @@ impl Connections {
     pub(crate) fn contains(&self, number: u64) -> bool
         ensures { result ≡ is_known self.now number }
     {
-        self.numbers.contains(&number)
+        has_number(&self.numbers, number)
     }
 
     // Adds the least number that is not known.
@@ -110,7 +111,8 @@ pub(crate) fn remove_number(numbers: &mut Vec<u64>, number: u64)
 
 // Puts a number in its place, or takes it out.
 pub(crate) fn mark(numbers: &mut Vec<u64>, number: u64, is_there: bool) -> Result<(), AllocError>
-    ensures { OnOk result (numbers.new.items ≡ marked is_there number numbers.old.items) }
+    ensures ok { OnOk result (numbers.new.items ≡ marked is_there number numbers.old.items) }
+    ensures err { OnErr result (numbers.new.items ≡ marked false number numbers.old.items) }
 {
     remove_number(numbers, number);
     if is_there {

@@ -12,6 +12,7 @@
 #![tactic(auto)]
 
 mod action_place;
+mod board;
 mod bundles;
 mod connections;
 mod counts;
@@ -23,14 +24,20 @@ mod held;
 mod laws;
 mod listen;
 mod looked;
+mod met;
+mod numbered;
 mod peer;
 mod placed;
 mod pushes;
+mod rising;
 mod sent;
 mod shown;
 mod spots;
 mod standing;
 mod state;
+mod views;
+mod watched;
+mod write;
 
 pub use error::PeerError;
 pub use examples::{

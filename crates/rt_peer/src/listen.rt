@@ -2,11 +2,14 @@
 ghost use Rattle.std.specs.Prelude.{◌≡◌, ◌==◌, ◌∷◌, true, false, not, length, [], IfOk, IfSome, IfNone, OnOk};
 ghost use Rattle.std.specs.List.{All, AllPairs, filter, list_any};
 ghost use Rattle.rt_peer.specs.Peers.{Listen, in_place, is_at, is_before};
-ghost use Rattle.rt_peer.specs.inside.Spots.{is_concerned, listen_of, owner_of, spot_of, has_owner, Stand};
+ghost use Rattle.rt_peer.specs.inside.Met.{AreHanded};
+ghost use Rattle.rt_peer.specs.inside.Spots.{listen_of, Stand};
 
 use crate::counts::{count_of, lower, raise};
 use crate::heard::Heard;
-use crate::spots::{Owner, Spot, concerned, spot_at};
+use crate::met::entries_met;
+use crate::numbered::Numbers;
+use crate::spots::{Owner, Spot, spot_at};
 use rt_tree::{Path, Tree};
 use std::alloc::{AllocError, Global};
 use std::collections::{BTreeMap, BTreeSet};
@@ -96,18 +99,17 @@ impl Listens {
         self.by_owner.get(owner)
     }
 
-    // The owners of the listens at, above and below the entries' paths, in order. Costs by the entries, the
-    // keys of their paths and what is found, each times a logarithm.
-    pub(crate) fn concerned(
+    // The owners of the listens at, above and below the entries' paths, in order, each with the numbers of these
+    // entries. Costs by the entries, the keys of their paths and what is found, each times a logarithm.
+    pub(crate) fn met(
         &self,
         alloc: Global,
         entries: &[(Path, Tree)],
-    ) -> Result<BTreeSet<Owner>, AllocError>
-        ensures all { IfOk result (λ found. All (λ l. is_concerned entries.now (spot_of l) ≡ true
-            → has_owner found.keys (owner_of l) ≡ true) self.now) }
+    ) -> Result<BTreeMap<Owner, Numbers>, AllocError>
+        ensures handed { IfOk result (λ met. AreHanded entries.now met.entries self.now) }
         ensures rise { AllPairs (λ l m. is_before l m ≡ true) self.now }
     {
-        concerned(alloc, &self.spots, entries)
+        entries_met(alloc, &self.spots, entries)
     }
 
     // Keeps a listen, in the place of the connection's older one with its tag.
@@ -127,16 +129,20 @@ impl Listens {
         }
     }
 
-    // Takes out the owner's listen, if there is one.
-    pub(crate) fn remove(&mut self, owner: Owner)
-        ensures { self.new ≡ filter (λ l. not (is_at owner.connection owner.tag l)) self.old }
+    // Takes out the owner's listen, if there is one, and gives its query.
+    pub(crate) fn remove(&mut self, owner: Owner) -> Option<Heard>
+        ensures left { self.new ≡ filter (λ l. not (is_at owner.connection owner.tag l)) self.old }
+        ensures some { IfSome result (λ q. filter (is_at owner.connection owner.tag) self.old
+            ≡ listen_of (owner, q) ∷ []) }
+        ensures none { IfNone result (filter (is_at owner.connection owner.tag) self.old ≡ []) }
     {
         match self.by_owner.remove(&owner) {
             Some(query) => {
                 take_spot(&mut self.spots, query.path(), owner);
                 lower(&mut self.counts, owner.connection);
+                Some(query)
             }
-            None => {}
+            None => None,
         }
     }
 
@@ -148,7 +154,7 @@ impl Listens {
     }
 
     // The first owner that is the connection, if there is one. Found by a search.
-    fn first_of(&self, connection: u64) -> Option<Owner>
+    pub(crate) fn first_of(&self, connection: u64) -> Option<Owner>
         ensures some { IfSome result (λ o. (o.connection ≡ connection)
             × (list_any (is_at o.connection o.tag) self.now ≡ true)) }
         ensures none { IfNone result (All (λ l. (l.connection == connection) ≡ false) self.now) }
@@ -158,15 +164,6 @@ impl Listens {
             Some((owner, _)) if owner.connection == connection => Some(*owner),
             Some(_) => None,
             None => None,
-        }
-    }
-
-    // Takes out the connection's listens. Costs by these.
-    pub(crate) fn remove_of(&mut self, connection: u64)
-        ensures { self.new ≡ filter (λ l. not (l.connection == connection)) self.old }
-    {
-        while let Some(first) = self.first_of(connection) {
-            self.remove(first);
         }
     }
 }

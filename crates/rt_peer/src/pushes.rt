@@ -7,15 +7,21 @@ ghost use Rattle.rt_query.specs.Queries.{is_filtered};
 ghost use Rattle.rt_peer.specs.Peers.{is_at};
 ghost use Rattle.rt_peer.specs.Pushes.{parts_below, parts_message, push_of, pushes, written};
 ghost use Rattle.rt_peer.specs.inside.Looked.{AreLooked};
+ghost use Rattle.rt_peer.specs.inside.Met.{picked, AreSameOver, IsHanded, IsMadeAt};
 ghost use Rattle.rt_peer.specs.inside.Spots.{listen_of};
+ghost use Rattle.rt_peer.specs.inside.Watched.{AreHeard, AreOf, AreTurned, GoesOn, IsVisited};
 
 use crate::heard::Heard;
 use crate::listen::Listens;
 use crate::looked::look;
+use crate::met::picked;
+use crate::numbered::Numbers;
 use crate::sent::Sent;
 use crate::shown::part_at;
 use crate::spots::Owner;
 use crate::standing::{differ_below, is_any_above, is_same_at, leaves_part};
+use crate::views::Views;
+use crate::write::Write;
 use rt_query::Query;
 use rt_tree::{Path, Tree};
 use rt_wire::ServerMessage;
@@ -25,17 +31,17 @@ use std::collections::BTreeMap;
 
 // Whether the part at the path is another one after a write than before. All of it is compared only where an
 // entry is above the path.
-fn is_changed(before: &Tree, after: &Tree, entries: &[(Path, Tree)], path: &Path) -> bool
-    requires { after.now ≡ written before.now entries.now }
-    ensures { result ≡ not (tree_eq (sub before.now path.now) (sub after.now path.now)) }
+fn is_changed(write: &Write, entries: &[(Path, Tree)], path: &Path) -> bool
+    requires { IsMadeAt path.now entries.now write.now }
+    ensures { result ≡ not (tree_eq (sub write.now.before path.now) (sub write.now.after path.now)) }
 {
-    if leaves_part(before, path, entries) {
+    if leaves_part(&write.before, path, entries) {
         return false;
     }
-    if differ_below(before, after, path, entries) {
+    if differ_below(&write.before, &write.after, path, entries) {
         return true;
     }
-    !is_same_at(before, after, path)
+    !is_same_at(&write.before, &write.after, path)
 }
 
 // The entries below the path, each with what stands there.
@@ -93,20 +99,19 @@ fn push_of(
 // Adds what the owner's listen of a plain query is sent, if it shows something else after the write than before.
 fn push_plain(
     alloc: Global,
-    before: &Tree,
-    after: &Tree,
+    write: &Write,
     entries: &[(Path, Tree)],
     owner: &Owner,
     query: &Query,
     sent: &mut Vec<Sent>,
 ) -> Result<(), AllocError>
-    requires made { after.now ≡ written before.now entries.now }
+    requires made { IsMadeAt query.now.path entries.now write.now }
     requires plain { is_filtered query.now ≡ false }
     ensures { OnOk result (sent.new.items ≡ sent.old.items
-        ++ pushes before.now after.now entries.now (listen_of (owner.now, query.now) ∷ [])) }
+        ++ pushes write.now.before write.now.after entries.now (listen_of (owner.now, query.now) ∷ [])) }
 {
-    if is_changed(before, after, entries, query.path()) {
-        let message = push_of(alloc, after, entries, owner, query)?;
+    if is_changed(write, entries, query.path()) {
+        let message = push_of(alloc, &write.after, entries, owner, query)?;
         sent.push(Sent {
             to: owner.connection,
             message,
@@ -115,33 +120,79 @@ fn push_plain(
     Ok(())
 }
 
+// What a write has brought so far: what filtered queries were told, the views, and what is sent.
+struct Round {
+    looked: BTreeMap<Heard, Option<Tree>>,
+    views: Views,
+    sent: Vec<Sent>,
+}
+
+impl Drop for Round {
+    fn drop(self) {
+        let Round {
+            looked: _,
+            views: _,
+            sent: _,
+        } = self;
+    }
+}
+
+impl Round {
+    // The allocator of its list.
+    fn alloc(&self) -> Global {
+        *self.sent.allocator()
+    }
+
+    // The views, and what is sent.
+    fn into_parts(self) -> (Views, Vec<Sent>)
+        ensures { result ≡ (self.views, self.sent) }
+    {
+        let Round {
+            looked: _,
+            views,
+            sent,
+        } = self;
+        (views, sent)
+    }
+}
+
 // Adds what the owner's listen of a filtered query is sent: all that it shows, if that is something else after
 // the write than before.
 fn push_filtered(
     alloc: Global,
-    before: &Tree,
-    after: &Tree,
+    write: &Write,
     entries: &[(Path, Tree)],
     owner: &Owner,
     heard: &Heard,
-    looked: &mut BTreeMap<Heard, Option<Tree>>,
-    sent: &mut Vec<Sent>,
+    round: &mut Round,
 ) -> Result<(), AllocError>
-    requires made { after.now ≡ written before.now entries.now }
-    requires looked { AreLooked before.now after.now looked.old.entries }
+    requires made { IsMadeAt heard.now.path entries.now write.now }
     requires filtered { is_filtered heard.now ≡ true }
-    ensures looked { OnOk result (AreLooked before.now after.now looked.new.entries) }
-    ensures sent { OnOk result (sent.new.items ≡ sent.old.items
-        ++ pushes before.now after.now entries.now (listen_of (owner.now, heard.now) ∷ [])) }
+    requires looked { AreLooked write.now.before write.now.after round.old.looked.entries }
+    requires turned { AreTurned write.now.before write.now.after round.old.looked.entries round.old.views }
+    ensures looked { OnOk result (AreLooked write.now.before write.now.after round.new.looked.entries) }
+    ensures turned { OnOk result
+        (AreTurned write.now.before write.now.after round.new.looked.entries round.new.views) }
+    ensures goes { OnOk result
+        (GoesOn heard.now round.old.looked.entries round.new.looked.entries round.old.views round.new.views) }
+    ensures sent { OnOk result (round.new.sent.items ≡ round.old.sent.items
+        ++ pushes write.now.before write.now.after entries.now (listen_of (owner.now, heard.now) ∷ [])) }
 {
-    match look(alloc, before, after, entries, heard, looked)? {
+    match look(
+        alloc,
+        write,
+        entries,
+        heard,
+        &mut round.looked,
+        &mut round.views,
+    )? {
         Some(tree) => {
             let message = ServerMessage::Data {
                 tag: owner.tag,
                 path: heard.path().copy()?,
                 tree,
             };
-            sent.push(Sent {
+            round.sent.push(Sent {
                 to: owner.connection,
                 message,
             })?;
@@ -154,77 +205,114 @@ fn push_filtered(
 // Adds what the owner's listen is sent, if it shows something else after the write than before.
 fn push_one(
     alloc: Global,
-    before: &Tree,
-    after: &Tree,
+    write: &Write,
     entries: &[(Path, Tree)],
     owner: &Owner,
     heard: &Heard,
-    looked: &mut BTreeMap<Heard, Option<Tree>>,
-    sent: &mut Vec<Sent>,
+    round: &mut Round,
 ) -> Result<(), AllocError>
-    requires made { after.now ≡ written before.now entries.now }
-    requires looked { AreLooked before.now after.now looked.old.entries }
-    ensures looked { OnOk result (AreLooked before.now after.now looked.new.entries) }
-    ensures sent { OnOk result (sent.new.items ≡ sent.old.items
-        ++ pushes before.now after.now entries.now (listen_of (owner.now, heard.now) ∷ [])) }
+    requires made { IsMadeAt heard.now.path entries.now write.now }
+    requires looked { AreLooked write.now.before write.now.after round.old.looked.entries }
+    requires turned { AreTurned write.now.before write.now.after round.old.looked.entries round.old.views }
+    ensures looked { OnOk result (AreLooked write.now.before write.now.after round.new.looked.entries) }
+    ensures turned { OnOk result
+        (AreTurned write.now.before write.now.after round.new.looked.entries round.new.views) }
+    ensures goes { OnOk result
+        (GoesOn heard.now round.old.looked.entries round.new.looked.entries round.old.views round.new.views) }
+    ensures sent { OnOk result (round.new.sent.items ≡ round.old.sent.items
+        ++ pushes write.now.before write.now.after entries.now (listen_of (owner.now, heard.now) ∷ [])) }
 {
     if heard.query().is_filtered() {
-        push_filtered(alloc, before, after, entries, owner, heard, looked, sent)
+        push_filtered(alloc, write, entries, owner, heard, round)
     } else {
-        push_plain(alloc, before, after, entries, owner, heard.query(), sent)
+        push_plain(alloc, write, entries, owner, heard.query(), &mut round.sent)
     }
+}
+
+// Adds what the owner's listen is sent, which is handed its own entries: those of the numbers. All of them are handed
+// on as they are.
+fn push_own(
+    write: &Write,
+    entries: &[(Path, Tree)],
+    owner: &Owner,
+    numbers: &Numbers,
+    heard: &Heard,
+    round: &mut Round,
+) -> Result<(), AllocError>
+    requires made { write.now.after ≡ written write.now.before entries.now }
+    requires own { AreSameOver heard.now.path (picked entries.now numbers.now) entries.now }
+    requires looked { AreLooked write.now.before write.now.after round.old.looked.entries }
+    requires turned { AreTurned write.now.before write.now.after round.old.looked.entries round.old.views }
+    ensures looked { OnOk result (AreLooked write.now.before write.now.after round.new.looked.entries) }
+    ensures turned { OnOk result
+        (AreTurned write.now.before write.now.after round.new.looked.entries round.new.views) }
+    ensures goes { OnOk result
+        (GoesOn heard.now round.old.looked.entries round.new.looked.entries round.old.views round.new.views) }
+    ensures sent { OnOk result (round.new.sent.items ≡ round.old.sent.items
+        ++ pushes write.now.before write.now.after entries.now (listen_of (owner.now, heard.now) ∷ [])) }
+{
+    let alloc = round.alloc();
+    if numbers.as_slice().len() == entries.len() {
+        return push_one(alloc, write, entries, owner, heard, round);
+    }
+    let own = picked(alloc, entries, numbers.as_slice())?;
+    push_one(alloc, write, &own, owner, heard, round)
 }
 
 // Adds what that owner's listen is sent, if there is one.
 fn push_owned(
-    alloc: Global,
-    before: &Tree,
-    after: &Tree,
+    write: &Write,
     entries: &[(Path, Tree)],
     listens: &Listens,
     owner: &Owner,
-    looked: &mut BTreeMap<Heard, Option<Tree>>,
-    sent: &mut Vec<Sent>,
+    numbers: &Numbers,
+    round: &mut Round,
 ) -> Result<(), AllocError>
-    requires made { after.now ≡ written before.now entries.now }
-    requires looked { AreLooked before.now after.now looked.old.entries }
-    ensures looked { OnOk result (AreLooked before.now after.now looked.new.entries) }
-    ensures sent { OnOk result (sent.new.items ≡ sent.old.items ++ pushes before.now after.now entries.now
+    requires made { write.now.after ≡ written write.now.before entries.now }
+    requires own { IsHanded entries.now owner.now numbers.now listens.now }
+    requires looked { AreLooked write.now.before write.now.after round.old.looked.entries }
+    requires turned { AreTurned write.now.before write.now.after round.old.looked.entries round.old.views }
+    ensures looked { OnOk result (AreLooked write.now.before write.now.after round.new.looked.entries) }
+    ensures turned { OnOk result
+        (AreTurned write.now.before write.now.after round.new.looked.entries round.new.views) }
+    ensures visited { OnOk result (IsVisited owner.now listens.now round.old.looked.entries
+        round.new.looked.entries round.old.views round.new.views) }
+    ensures sent { OnOk result (round.new.sent.items ≡ round.old.sent.items
+        ++ pushes write.now.before write.now.after entries.now
         (filter (is_at owner.now.connection owner.now.tag) listens.now)) }
 {
     match listens.get(owner) {
-        Some(heard) => push_one(alloc, before, after, entries, owner, heard, looked, sent),
+        Some(heard) => push_own(write, entries, owner, numbers, heard, round),
         None => Ok(()),
     }
 }
 
-// What the listens are sent once the entries have made one tree of the other. Only those are looked at that
-// stand at, above or below an entry's path, and of filtered ones each query once.
+// What the listens are sent once the entries have made one tree of the other, which the views take. Only those
+// are looked at that stand at, above or below an entry's path, each with these entries alone, and of filtered ones
+// each query once.
 pub(crate) fn push_all(
     alloc: Global,
-    before: &Tree,
-    after: &Tree,
+    write: &Write,
     entries: &[(Path, Tree)],
     listens: &Listens,
-) -> Result<Vec<Sent>, AllocError>
-    requires { after.now ≡ written before.now entries.now }
-    ensures { IfOk result (λ sent. sent.items
-        ≡ pushes before.now after.now entries.now listens.now) }
+    views: Views,
+) -> Result<(Views, Vec<Sent>), AllocError>
+    requires made { write.now.after ≡ written write.now.before entries.now }
+    requires of { AreOf write.now.before views }
+    requires heard { AreHeard listens.now views }
+    ensures of { IfOk result (λ all. AreOf write.now.after all.0) }
+    ensures heard { IfOk result (λ all. AreHeard listens.now all.0) }
+    ensures sent { IfOk result (λ all. all.1.items
+        ≡ pushes write.now.before write.now.after entries.now listens.now) }
 {
-    let mut sent = Vec::new(alloc);
-    let mut looked = BTreeMap::new(alloc);
-    let owners = listens.concerned(alloc, entries)?;
-    for owner in owners.iter() {
-        push_owned(
-            alloc,
-            before,
-            after,
-            entries,
-            listens,
-            owner,
-            &mut looked,
-            &mut sent,
-        )?;
+    let met = listens.met(alloc, entries)?;
+    let mut round = Round {
+        looked: BTreeMap::new(alloc),
+        views,
+        sent: Vec::new(alloc),
+    };
+    for (owner, numbers) in met.iter() {
+        push_owned(write, entries, listens, owner, numbers, &mut round)?;
     }
-    Ok(sent)
+    Ok(round.into_parts())
 }

@@ -5,9 +5,9 @@ ghost use Rattle.std.proofs.Common.{rules};
 ghost use Rattle.std.specs.Cmp.{eq_by_cmp_equiv, partial_order_from_total};
 ghost use Rattle.std.specs.Ordering.{eq_by_cmp};
 ghost use Rattle.rt_peer.specs.inside.Spots.{owner_cmp, owners_total, spot_cmp, spots_total};
-ghost use Rattle.rt_peer.specs.inside.Spots.{is_above, is_concerned, is_in, overlaps, AreFound, AreKept};
+ghost use Rattle.rt_peer.specs.inside.Spots.{is_above, is_in, overlaps, AreFound, AreKept};
 
-use rt_tree::{Key, Path, Tree};
+use rt_tree::{Key, Path};
 use std::alloc::{AllocError, Global};
 use std::cmp::Ordering;
 use std::collections::BTreeSet;
@@ -195,7 +195,7 @@ fn gather_above(
 }
 
 // Adds whose spots the path overlaps.
-fn gather(
+pub(crate) fn gather(
     alloc: Global,
     spots: &BTreeSet<Spot>,
     path: &Path,
@@ -207,19 +207,4 @@ fn gather(
     gather_above(alloc, spots, path, found)?;
     gather_in(spots, path, true, found)?;
     Ok(())
-}
-
-// Whose spots the entries concern, each once and in order.
-pub(crate) fn concerned(
-    alloc: Global,
-    spots: &BTreeSet<Spot>,
-    entries: &[(Path, Tree)],
-) -> Result<BTreeSet<Owner>, AllocError>
-    ensures { IfOk result (λ found. AreFound (is_concerned entries.now) spots.now.keys found.keys) }
-{
-    let mut found = BTreeSet::new(alloc);
-    for entry in entries {
-        gather(alloc, spots, &entry.0, &mut found)?;
-    }
-    Ok(found)
 }

@@ -14,15 +14,15 @@ ghost use Rattle.rt_peer.specs.Turns.{first_actions, is_last_turn, turn_begun, t
 ghost use Rattle.rt_wire.specs.declared.request.Asked.TheVariants as Asked;
 ghost use Rattle.rt_wire.specs.declared.request.Ending.TheVariants as Ending;
 
+use crate::board::Board;
 use crate::bundles::bundle;
-use crate::connections::{Connections, mark, remove_number};
+use crate::connections::Connections;
 use crate::deferred::{Actions, Deferred};
 use crate::heard::Heard;
 use crate::held::Held;
-use crate::listen::Listens;
-use crate::pushes::push_all;
+use crate::rising::Rising;
 use crate::sent::Sent;
-use crate::shown::{put_all, seen};
+use crate::shown::seen;
 use crate::spots::Owner;
 use rt_query::Query;
 use rt_tree::{Path, Tree};
@@ -31,25 +31,23 @@ use rt_writes::Entries;
 use std::alloc::{AllocError, Global};
 use std::marker::Model;
 
-// The tree, the denied paths, the known connections and those that read version 2, their listens by
-// connection and tag, and what is to be done when they end, by connection and number.
+// The tree with the listens to it, the denied paths, the known connections and those that read version 2, and what
+// is to be done when they end, by connection and number.
 pub(crate) struct State {
-    tree: Tree,
+    board: Board,
     denied: Vec<Path>,
     connections: Connections,
-    newer: Vec<u64>,
-    listens: Listens,
+    newer: Rising,
     actions: Actions,
 }
 
 impl Drop for State {
     fn drop(self) {
         let State {
-            tree: _,
+            board: _,
             denied: _,
             connections: _,
             newer: _,
-            listens: _,
             actions: _,
         } = self;
     }
@@ -61,11 +59,11 @@ impl Model for State {
     ghost Value = { Peer };
 
     ghost view = { λ a. record {
-      tree = a.tree;
+      tree = a.board.tree;
       denied = a.denied.items;
       connections = a.connections;
-      newer = a.newer.items;
-      listens = a.listens;
+      newer = a.newer;
+      listens = a.board.listens;
       actions = a.actions;
     } };
 }
@@ -76,11 +74,10 @@ impl State {
     {
         let alloc = *denied.allocator();
         State {
-            tree,
+            board: Board::new(alloc, tree),
             denied,
             connections: Connections::new(alloc),
-            newer: Vec::new(alloc),
-            listens: Listens::new(alloc),
+            newer: Rising::new(alloc),
             actions: Actions::new(alloc),
         }
     }
@@ -93,7 +90,7 @@ impl State {
     pub(crate) fn tree(&self) -> &Tree
         ensures { result.now ≡ self.now.tree }
     {
-        &self.tree
+        self.board.tree()
     }
 
     pub(crate) fn knows(&self, connection: u64) -> bool
@@ -109,7 +106,7 @@ impl State {
         ensures actions { result.actions ≡ length (actions_of self.now connection) }
     {
         Held {
-            listens: self.listens.count_of(connection),
+            listens: self.board.count_of(connection),
             actions: self.actions.count_of(connection),
         }
     }
@@ -155,7 +152,7 @@ impl State {
         ensures peer { OnOk result (self.new ≡ (greeted self.old connection version).0) }
         ensures sent { IfOk result (λ sent. sent.items ≡ (greeted self.old connection version).1) }
     {
-        mark(&mut self.newer, connection, version >= 2)?;
+        self.newer.mark(connection, version >= 2)?;
         Ok(Vec::new(self.alloc()))
     }
 
@@ -163,8 +160,9 @@ impl State {
     fn keep(&mut self, connection: u64, tag: u64, query: &Query) -> Result<(), AllocError>
         ensures { OnOk result (self.new ≡ kept self.old connection tag query.now) }
     {
+        let alloc = self.alloc();
         let query = Heard::new(query.copy()?);
-        self.listens.keep(Owner { connection, tag }, query)
+        self.board.keep(alloc, Owner { connection, tag }, query)
     }
 
     // A listen begins, or is revoked.
@@ -179,7 +177,7 @@ impl State {
         }
         self.keep(connection, tag, query)?;
         let path = query.path().copy()?;
-        let tree = seen(alloc, query, &self.tree)?;
+        let tree = seen(alloc, query, self.board.tree())?;
         one(alloc, connection, ServerMessage::Data { tag, path, tree })
     }
 
@@ -187,7 +185,7 @@ impl State {
     fn unlisten(&mut self, connection: u64, tag: u64)
         ensures { self.new ≡ (unlistened self.old connection tag).0 }
     {
-        self.listens.remove(Owner { connection, tag });
+        self.board.remove(Owner { connection, tag });
     }
 
     // Puts the entries into the tree, and adds what the listens are sent.
@@ -200,9 +198,7 @@ impl State {
             (pushes self.old.tree (written self.old.tree entries.now) entries.now self.old.listens)) }
     {
         let alloc = self.alloc();
-        let before = self.tree.copy(alloc)?;
-        put_all(alloc, &mut self.tree, entries)?;
-        let pushes = push_all(alloc, &before, &self.tree, entries, &self.listens)?;
+        let pushes = self.board.put(alloc, entries)?;
         let mut told = bundle(alloc, &self.newer, pushes)?;
         sent.append(&mut told)?;
         Ok(())
@@ -340,8 +336,8 @@ impl State {
           listens = filter (λ l. not (l.connection == connection)) self.old.listens;
         } }
     {
-        remove_number(&mut self.newer, connection);
-        self.listens.remove_of(connection);
+        self.newer.remove(connection);
+        self.board.remove_of(connection);
     }
 
     // Forgets a connection and its listens, and gives its actions.

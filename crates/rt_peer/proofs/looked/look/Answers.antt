@@ -1,10 +1,17 @@
-use Rattle.std.proofs.Common.{◌∙◌, ap}
-use Rattle.rt_peer.specs.inside.Looked.{told_of}
-use Rattle.rt_peer.proofs.LookedLaws.{looked_more}
+use Rattle.std.proofs.Common.{◌∙◌}
+use Rattle.std.proofs.lemmas.Result.{IfOk-weaker}
+use Rattle.rt_peer.proofs.LookedLaws.{noted_is}
+use Rattle.rt_peer.proofs.ViewsLaws.{goes_noted}
 use Rattle.rt_peer.proofs.looked.look.Goals as goal
 
-pub returns-in_ok-note-in-None-clause-looked : goal.returns-in_ok-note-in-None-clause-looked
-returns-in_ok-note-in-None-clause-looked c =
-    looked_more c.args.before.now c.args.after.now c.args.heard.now c.in_ok-told-in-None.told c.args.looked.now.entries
-    c.note.new.looked.entries c.in_ok-note-in-None.ensures
-    (c.in_ok-told-in-None.ensures ∙ ap (told_of c.args.before.now c.args.after.now) c.query.ensures) c.requires.looked
+pub returns-in-Some-clause-told : goal.returns-in-Some-clause-told
+returns-in-Some-clause-told c =
+    IfOk-weaker c.copied.result _ _ (λ told is. is
+    ∙ noted_is c.args.write.now.before c.args.write.now.after c.args.heard.now c.in-Some.told.now c.args.looked.now.entries
+    c.in-Some.ensures.value c.requires.looked) c.copied.ensures
+
+pub returns-in-Some-clause-goes : goal.returns-in-Some-clause-goes
+returns-in-Some-clause-goes c =
+    IfOk-weaker c.copied.result _ _ (λ copy is.
+    goes_noted c.args.heard.now c.args.looked.now.entries c.args.views.now c.in-Some.told.now c.in-Some.ensures.value)
+    c.copied.ensures

@@ -35,7 +35,7 @@ invariant_of-self-in-Ok c =
     let ls = listens_of c.self.inside.by_owner.entries in
     let all : listens_of c.insert.new.self.entries ≡ in_place is_before x ls =
     put_alone o c.args.query c.self.inside.by_owner.entries c.insert.new.self.entries ls c.self.invariant.0 refl
-    (none_now o ls _ c.args.self.now c.self.view_is c.remove.ensures) c.in-Ok.ensures.entries in (
+    (none_now o ls _ c.args.self.now c.self.view_is c.remove.ensures.left) c.in-Ok.ensures.entries in (
       c.insert.ensures.ordered,
       subst (AllStand c.add_spot.new.spots.keys) (sym all)
           (stand_put x ls c.self.inside.spots.keys c.add_spot.new.spots.keys c.add_spot.ensures.kept c.in_ok-add_spot.ensures.added c.self.invariant.1),
@@ -58,5 +58,5 @@ pub returns-in-Ok : goal.returns-in-Ok
 returns-in-Ok c =
     let o = c.args.owner in
     put_alone o c.args.query c.self.inside.by_owner.entries c.insert.new.self.entries _ c.self.invariant.0 c.self.view_is
-    (none_now o _ _ c.args.self.now refl c.remove.ensures) c.in-Ok.ensures.entries
-    ∙ ap (in_place is_before (listen_of (o, c.args.query))) c.remove.ensures
+    (none_now o _ _ c.args.self.now refl c.remove.ensures.left) c.in-Ok.ensures.entries
+    ∙ ap (in_place is_before (listen_of (o, c.args.query))) c.remove.ensures.left

@@ -5,7 +5,7 @@ use Rattle.rt_peer.specs.inside.Counts.{AreCounted}
 use Rattle.rt_peer.specs.inside.Spots.{AllStand, listen_of, listens_of}
 use Rattle.rt_peer.proofs.CountLaws.{counted_taken}
 use Rattle.rt_peer.proofs.ListenLaws.{stand_taken}
-use Rattle.rt_peer.proofs.OwnedLaws.{taken, there_alone}
+use Rattle.rt_peer.proofs.OwnedLaws.{none_there, taken, there_alone}
 use Rattle.rt_peer.proofs.listen.Listens.remove.Goals as goal
 
 pub invariant_of-self : goal.invariant_of-self
@@ -23,14 +23,24 @@ invariant_of-self c =
           c.self.invariant.2 (there_alone o c.in-Some.query es c.self.invariant.0 c.in-Some.ensures.value) refl c.lower.ensures),
     )
 
-pub returns-in-Some : goal.returns-in-Some
-returns-in-Some c =
+pub returns-in-Some-clause-left : goal.returns-in-Some-clause-left
+returns-in-Some-clause-left c =
     let o = c.args.owner in
     ap listens_of c.remove.ensures.entries ∙ taken o c.self.inside.by_owner.entries c.self.invariant.0
     ∙ ap (filter (λ l. not (is_at o.connection o.tag l))) c.self.view_is
 
-pub returns-in-None : goal.returns-in-None
-returns-in-None c =
+pub returns-in-Some-clause-some : goal.returns-in-Some-clause-some
+returns-in-Some-clause-some c =
+    let o = c.args.owner in
+    ap (filter (is_at o.connection o.tag)) (sym c.self.view_is)
+    ∙ there_alone o c.in-Some.query c.self.inside.by_owner.entries c.self.invariant.0 c.in-Some.ensures.value
+
+pub returns-in-None-clause-none : goal.returns-in-None-clause-none
+returns-in-None-clause-none c =
+    none_there c.args.owner c.self.inside.by_owner.entries c.args.self.now c.self.invariant.0 c.self.view_is c.in-None.ensures.value
+
+pub returns-in-None-clause-left : goal.returns-in-None-clause-left
+returns-in-None-clause-left c =
     let o = c.args.owner in
     ap listens_of c.remove.ensures.entries ∙ taken o c.self.inside.by_owner.entries c.self.invariant.0
     ∙ ap (filter (λ l. not (is_at o.connection o.tag l))) c.self.view_is
